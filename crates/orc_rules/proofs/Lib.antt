@@ -1,0 +1,15 @@
+pub mod Distinct
+pub mod Equations
+pub mod Explained
+pub mod Idle
+pub mod Late
+pub mod Lift
+pub mod Lookup
+pub mod Lost
+pub mod Owed
+pub mod Refusal
+pub mod Refused
+pub mod Rows
+pub mod Sites
+pub mod Sources
+pub mod Unfolding

@@ -1,0 +1,17 @@
+pub mod Idle
+pub mod Journal
+pub mod Lookup
+pub mod Lost
+pub mod Marked
+pub mod Nodes
+pub mod Program
+pub mod Programs
+pub mod Refusal
+pub mod Sites
+pub mod Step
+pub mod Tables
+pub mod Term
+pub mod Text
+pub mod Timed
+pub mod Trace
+pub mod Verdict

@@ -1,0 +1,164 @@
+//! A program's terms as numbered nodes, parts before wholes.
+
+ghost use Rattle.std.specs.Prelude.{◌≡◌, ◌≤◌, ◌++◌, ◌∷◌, [], List, length, map, IfOk, OnOk, OnErr, slice_get, slice_index_or, option_map};
+ghost use Rattle.orc_rules.specs.declared.param.Param.{Param as Parameter};
+ghost use Rattle.orc_rules.specs.Nodes.{node_of, HasParts, ArePartsFirst, Listing, Routine, Terms as Listed};
+ghost use Rattle.orc_rules.specs.Programs.{listing, routine_of};
+
+use crate::param::{Param, Params};
+use std::alloc::{AllocError, Global};
+use std::marker::Model;
+
+/// One node of a program's terms, which names its parts by their numbers, and its parameters by the number of their list.
+#[derive(Clone, Copy)]
+pub enum TermNode {
+    Stop,
+    Param(Param),
+    /// A call of a site, with its number.
+    Site(u32, usize),
+    /// A call of a definition, with its number.
+    Call(u32, usize),
+    /// `f | g`
+    Par(usize, usize),
+    /// `f >x> g`
+    Seq(usize, u32, usize),
+    /// `f <x< g`
+    Prune(usize, u32, usize),
+    /// `f ; g`
+    Other(usize, usize),
+}
+
+/// The nodes of terms, each behind its parts, and the lists of parameters that they name.
+#[derive(Drop)]
+pub struct Terms {
+    nodes: Vec<TermNode>,
+    lists: Vec<Params>,
+}
+
+impl Model for Terms {
+    ghost Value = { Listed };
+
+    ghost view = { λ t. record { nodes = t.nodes.items; lists = t.lists.items } };
+
+    ghost invariant = { λ t. ArePartsFirst t.nodes.items };
+}
+
+impl Terms {
+    /// No nodes.
+    pub fn new(alloc: Global) -> Terms
+        ensures { result ≡ record { nodes = []; lists = [] } }
+    {
+        Terms {
+            nodes: Vec::new(alloc),
+            lists: Vec::new(alloc),
+        }
+    }
+
+    /// How many nodes there are.
+    pub fn len(&self) -> usize
+        ensures { result ≡ length self.now.nodes }
+    {
+        self.nodes.len()
+    }
+
+    /// Adds a node, whose parts are there: its number. Where a growth is refused nothing changes.
+    pub fn push(&mut self, node: TermNode) -> Result<usize, AllocError>
+        requires { HasParts (length self.old.nodes) node }
+        ensures number { IfOk result (λ at. at ≡ length self.old.nodes) }
+        ensures added { OnOk result (self.new ≡ record { nodes = self.old.nodes ++ node ∷ []; lists = self.old.lists }) }
+        ensures refused { OnErr result (self.new ≡ self.old) }
+    {
+        let at = self.nodes.len();
+        self.nodes.push(node)?;
+        Ok(at)
+    }
+
+    /// Adds a list of parameters: its number. Where a growth is refused nothing changes.
+    pub fn push_list(&mut self, params: Params) -> Result<usize, AllocError>
+        ensures number { IfOk result (λ at. at ≡ length self.old.lists) }
+        ensures added { OnOk result (self.new ≡ record { nodes = self.old.nodes; lists = self.old.lists ++ params ∷ [] }) }
+        ensures refused { OnErr result (self.new ≡ self.old) }
+    {
+        let at = self.lists.len();
+        self.lists.push(params)?;
+        Ok(at)
+    }
+}
+
+/// A definition: the names of its parameters and the node of its body.
+#[derive(Drop)]
+pub struct Definition {
+    pub params: Vec<u32>,
+    pub body: usize,
+}
+
+/// A program: its terms, its definitions and the node of its main term.
+#[derive(Drop)]
+pub struct Program {
+    terms: Terms,
+    definitions: Vec<Definition>,
+    source: usize,
+}
+
+impl Model for Program {
+    ghost Value = { Listing };
+
+    ghost view = { λ p. listing p.terms p.definitions.items p.source };
+
+    ghost invariant = { λ p. ArePartsFirst p.terms.nodes };
+}
+
+impl Program {
+    /// The program of these terms, definitions and main term.
+    pub fn new(terms: Terms, definitions: Vec<Definition>, source: usize) -> Program
+        ensures { result ≡ listing terms definitions.items source }
+    {
+        Program {
+            terms,
+            definitions,
+            source,
+        }
+    }
+
+    /// The node of that number, `stop` where there is none.
+    pub fn node(&self, id: usize) -> TermNode
+        ensures { result ≡ node_of self.now.nodes id }
+    {
+        match self.terms.nodes.get(id) {
+            Some(node) => *node,
+            None => TermNode::Stop,
+        }
+    }
+
+    /// The parameters of that list, none where there is no such list.
+    pub fn params(&self, list: usize) -> &[Param]
+        ensures value { result.now ≡ slice_index_or self.now.lists list [] }
+        ensures len { length result.now ≤ 16 }
+    {
+        match self.terms.lists.get(list) {
+            Some(params) => params.as_slice(),
+            None => &[],
+        }
+    }
+
+    /// The node of the main term.
+    pub fn source(&self) -> usize
+        ensures { result ≡ self.now.root }
+    {
+        self.source
+    }
+
+    /// The definitions by their numbers.
+    pub fn definitions(&self) -> &[Definition]
+        ensures { map routine_of result.now ≡ self.now.routines }
+    {
+        &self.definitions
+    }
+
+    /// Each node stands behind its parts.
+    pub fn are_parts_first(&self)
+        ensures { ArePartsFirst self.now.nodes }
+    {
+        let _terms = &self.terms;
+    }
+}
