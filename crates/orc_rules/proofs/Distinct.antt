@@ -1,5 +1,5 @@
 -- Lists in which no element stands twice.
-use Rattle.std.proofs.Common.{◌≡◌, ℕ, List, [], ◌∷◌, ◌++◌, ◌⊎◌, ⊎_elim, inl, inr, refl, sym, subst}
+use Rattle.std.proofs.Common.{ℕ, List, [], ◌∷◌, ◌++◌, ◌⊎◌, ⊎_elim, inl, inr, refl, subst}
 use Rattle.orc_rules.specs.Timed.{IsIn}
 use Rattle.orc_rules.specs.Lookup.{IsDistinct}
 
@@ -34,5 +34,3 @@ pub distinct_append : (us vs : List ℕ) → IsDistinct us → IsDistinct vs →
 distinct_append [] vs a b off = b
 distinct_append (u ∷ us) vs a b off =
     (λ h. ⊎_elim (λ g. a.0 g) (λ g. off u (inl refl) g) (in_append u us vs h), distinct_append us vs a.1 b (λ w h g. off w (inr h) g))
-
--- what is spelled doesn't depend on other nodes

@@ -1,10 +1,10 @@
--- What the table of sites says, by computing: 04, section 3, and R15.
+-- What the table of sites says, and what substitution gives, by computing.
 use Rattle.std.proofs.Common.{◌≡◌, ℕ, List, [], ◌∷◌, refl, true, false, pos, Some, None}
 use Rattle.std.specs.Prelude.{negsuc}
 use Rattle.orc_rules.specs.declared.value.Value.{Value}
 use Rattle.orc_rules.specs.declared.value.Value.TheVariants.{Number, Truth, Signal}
-use Rattle.orc_rules.specs.declared.param.Param.TheVariants.{Name, Is, Cell, Void}
-use Rattle.orc_rules.specs.declared.value.Answer.TheVariants.{Value as Gives, Halt}
+use Rattle.orc_rules.specs.declared.param.Param.TheVariants.{Name, Cell, Void}
+use Rattle.orc_rules.specs.declared.value.Answer.TheVariants.{Value as Gives}
 use Rattle.orc_rules.specs.declared.value.Found.TheVariants.{After, Never}
 use Rattle.orc_rules.specs.declared.builtin.Builtin.TheVariants as builtins
 use Rattle.orc_rules.specs.Sites.{Site, built_in, scripted, find, halts, at_once}

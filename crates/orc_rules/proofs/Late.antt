@@ -67,17 +67,17 @@ abbrev pub all_either : List ℕ → List ℕ → List ℕ → Bool
 all_either [] after to_cancel = true
 all_either (k ∷ ks) after to_cancel = cond (is_among k after) true (is_among k to_cancel) && all_either ks after to_cancel
 
-pub owed_each : (before after to_cancel : List ℕ) → all_among to_cancel before after ≡ true → (k : ℕ) → IsIn k to_cancel → IsIn k before × (IsIn k after → ⊥)
-owed_each before after [] h k i = elim i [ ]
-owed_each before after (o ∷ os) h k (inl e) =
+pub each_dropped : (before after to_cancel : List ℕ) → all_among to_cancel before after ≡ true → (k : ℕ) → IsIn k to_cancel → IsIn k before × (IsIn k after → ⊥)
+each_dropped before after [] h k i = elim i [ ]
+each_dropped before after (o ∷ os) h k (inl e) =
     let t = both_true _ _ (both_true _ _ h).0 in
     (subst (λ w. IsIn w before) (sym e) (is_in o before t.0), λ j. cc (among o after (subst (λ w. IsIn w after) e j), t.1))
-owed_each before after (o ∷ os) h k (inr i) = owed_each before after os (both_true _ _ h).1 k i
+each_dropped before after (o ∷ os) h k (inr i) = each_dropped before after os (both_true _ _ h).1 k i
 
-pub owed_all : (before after to_cancel : List ℕ) → all_either before after to_cancel ≡ true → (k : ℕ) → IsIn k before → (IsIn k after → ⊥) → IsIn k to_cancel
-owed_all [] after to_cancel h k i out = elim i [ ]
-owed_all (o ∷ os) after to_cancel h k (inl e) out =
+pub all_dropped : (before after to_cancel : List ℕ) → all_either before after to_cancel ≡ true → (k : ℕ) → IsIn k before → (IsIn k after → ⊥) → IsIn k to_cancel
+all_dropped [] after to_cancel h k i out = elim i [ ]
+all_dropped (o ∷ os) after to_cancel h k (inl e) out =
     from_cond (is_among o after) (IsIn k to_cancel)
     (λ z. absurd (out (subst (λ w. IsIn w after) (sym e) (is_in o after z))))
     (λ z. subst (λ w. IsIn w to_cancel) (sym e) (is_in o to_cancel (subst (λ b. cond b true (is_among o to_cancel) ≡ true) z (both_true _ _ h).0)))
-owed_all (o ∷ os) after to_cancel h k (inr i) out = owed_all os after to_cancel (both_true _ _ h).1 k i out
+all_dropped (o ∷ os) after to_cancel h k (inr i) out = all_dropped os after to_cancel (both_true _ _ h).1 k i out

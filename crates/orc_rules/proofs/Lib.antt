@@ -1,4 +1,5 @@
 pub mod Distinct
+pub mod Dropped
 pub mod Equations
 pub mod Explained
 pub mod Idle
@@ -6,10 +7,13 @@ pub mod Late
 pub mod Lift
 pub mod Lookup
 pub mod Lost
-pub mod Owed
 pub mod Refusal
-pub mod Refused
-pub mod Rows
 pub mod Sites
 pub mod Sources
 pub mod Unfolding
+pub mod Worked
+pub mod WorkedOtherwises
+pub mod WorkedPrunings
+pub mod WorkedRefusals
+pub mod WorkedScripts
+pub mod WorkedWaits

@@ -354,7 +354,7 @@ module _ (x : Context) (p : Place) where
         moved = turns_journal o d.turns;
         leads = (inr o, final_enters q d.final refl (record { to_cancel = will'; same = refl }));
         term = d.term;
-        is_owed = refl;
+        leaves = refl;
         cancelled = cancels_journal q to_cancel refl;
       }
 

@@ -15,7 +15,7 @@ use Rattle.orc_rules.specs.Marked.{Marked, ended, token, in_call, in_par, in_seq
 use Rattle.orc_rules.specs.Timed.{Context, calls_after, cells_after}
 use Rattle.orc_rules.specs.Journal.{Place, moment, Enters, Leads}
 use Rattle.orc_rules.specs.Refusal.{Stands, IsThere, Fits, IsCounted, IsInTurn, IsAnswered, IsOnTime, IsOver, Meets, MeetsAndLeads}
-use Rattle.orc_rules.proofs.Owed.{owed_exists}
+use Rattle.orc_rules.proofs.Dropped.{cancels_exist}
 
 stands : {x y m m' : Marked} {cs : List ℕ} → Replaces x y m cs m' → Replaces x x m cs m
 stands here = here
@@ -198,7 +198,7 @@ module _ (x : Context) (p : Place) where
   leads (Call s k m args) c = let t = c Form in let r = replaced (in_call k) t.2.1 in (after r.0 p.mark (calls k m args t.2.0) [], (inr (c reason.Cancel), (t.0, t.2.0, c Number, t.1, r.1, record { to_cancel = refl; same = refl })))
   leads (Return k a v) c = let t = c Mark in let r = replaced (token a (param (Is v))) t.1 in (after r.0 (suc a) (returns k (Gives v)) [], (inr (c reason.Cancel), (t.0, c Number, c Time, r.1, record { to_cancel = refl; same = refl })))
   leads (ReturnHalt k) c = let t = c Mark in let r = replaced ended t.1 in (after r.0 p.mark (returns k Halt) [], (inr (c reason.Cancel), (t.0, c Time, r.1, record { to_cancel = refl; same = refl })))
-  leads (Bind s k v) c = let t = c Form in let o = owed_exists x (binds k v) (erase p.marked) (erase t.0) in (after t.0 p.mark (binds k v) o.0, (inr (c reason.Cancel), (t.1, record { to_cancel = o.1; same = refl })))
+  leads (Bind s k v) c = let t = c Form in let o = cancels_exist x (binds k v) (erase p.marked) (erase t.0) in (after t.0 p.mark (binds k v) o.0, (inr (c reason.Cancel), (t.1, record { to_cancel = o.1; same = refl })))
   leads (Lost k) c = let t = c reason.Halted in let r = replaced (fill_marked Void k t.0) t.2.1 in (after r.0 p.mark (loses k) [], (inr (c reason.Cancel), (t.0, t.1, t.2.0, t.3, r.1, record { to_cancel = refl; same = refl })))
   leads (Right s a) c = let t = c reason.Halted in let r = replaced (token a t.1) t.2.1 in (after r.0 (suc a) silent [], (inr (c reason.Cancel), (t.0, t.1, t.2.0, c Number, t.3, r.1, record { to_cancel = refl; same = refl })))
   leads (Publish s v) c = let t = c Form in (after t.0 p.mark (publishes v) [], (inr (c reason.Cancel), (t.1, record { to_cancel = refl; same = refl })))

@@ -1,5 +1,5 @@
 -- The answers of a line by their places, and names one after the other.
-use Rattle.std.proofs.Common.{◌≡◌, ℕ, zero, suc, ◌+◌, ◌<◌, ◌≤◌, ◌-◌, true, false, List, [], ◌∷◌, Option, Some, None, length, get_or, drop, refl, sym, ap, ◌∙◌, arith, slice_index_or}
+use Rattle.std.proofs.Common.{◌≡◌, ℕ, zero, suc, ◌+◌, ◌<◌, ◌≤◌, ◌-◌, true, false, List, [], ◌∷◌, Option, Some, None, length, get_or, drop, refl, ap, arith, slice_index_or}
 use Rattle.std.specs.Prelude.{option_map}
 use Rattle.orc_rules.specs.declared.value.Found.{Found}
 use Rattle.orc_rules.specs.Sites.{nth_answer, site_named, same_bytes}

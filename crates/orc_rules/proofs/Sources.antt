@@ -14,7 +14,7 @@ use Rattle.orc_rules.specs.Timed.{Context}
 use Rattle.orc_rules.specs.Journal.{Place, Enters, Journal, begin}
 use Rattle.orc_rules.specs.Lost.{IsSource, HoldsSource, AreSource, NothingLostFrom}
 use Rattle.orc_rules.proofs.Lost.{nothing_lost}
-use Rattle.orc_rules.proofs.Owed.{owed_exists}
+use Rattle.orc_rules.proofs.Dropped.{cancels_exist}
 
 cond_source : (b : Bool) (f g : Term) → IsSource f → IsSource g → IsSource (cond b f g)
 cond_source true f g a b = a
@@ -116,5 +116,5 @@ journal_source x p q (e ∷ es) ds (mid, lead, h) src = journal_source x mid q e
 
 pub nothing_lost_from : NothingLostFrom
 nothing_lost_from x t es p a u ds src h o next timely step =
-    let w = owed_exists x a (erase p.marked) u in
+    let w = cancels_exist x a (erase p.marked) u in
     (w.0, w.1, nothing_lost x p a u w.0 (journal_source x (begin t) p es ds h src) o next timely step w.1)

@@ -124,7 +124,7 @@ IsTimedRun x p es q = (events : List Event) × AreEventsOf es events × Run x (m
 abbrev pub JournalIsTimedRun : Type 0
 JournalIsTimedRun = (x : Context) (t : Term) (es : List Entry) (q : Place) → Journal x (begin t) es q → IsTimedRun x (begin t) es q
 
--- the rules that an entry may use, by 04's table
+-- the rule that an entry uses, whatever rules around it pass it on
 abbrev pub IsRuleOf : Entry → Rule → Type 0
 IsRuleOf (Def s a) r = r ≡ DefRule
 IsRuleOf (entry.Void s) r = (r ≡ VoidValue) ⊎ (r ≡ VoidCall)

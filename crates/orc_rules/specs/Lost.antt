@@ -61,7 +61,7 @@ pub record Makes (x : Context) (p : Place) (a : Act) (u : Term) (to_cancel : Lis
   pub moved : Journal x p moves mid
   pub leads : Leads x mid entry end
   pub term : erase end.marked ≡ u
-  pub is_owed : end.to_cancel ≡ to_cancel
+  pub leaves : end.to_cancel ≡ to_cancel
   pub cancelled : Journal x end (map Cancel to_cancel) (record end { to_cancel = [] })
 
 -- each timely step that takes the next numbers is made by entries, whatever calls it drops

@@ -45,12 +45,12 @@ pub record Routine : Type 0 where
   pub params : List ℕ
   pub body : ℕ
 
--- a program: its nodes, its lists of parameters, its definitions and the node of its main term
 -- the nodes of terms and their lists of parameters
 pub record Terms : Type 0 where
   pub nodes : List TermNode
   pub lists : List (List Param)
 
+-- a program: its nodes, its lists of parameters, its definitions and the node of its main term
 pub record Listing : Type 0 where
   pub nodes : List TermNode
   pub lists : List (List Param)

@@ -108,7 +108,7 @@ IsOver p (Lost c) = (f g : Marked) × Stands (in_opened f c g) p.marked × Halte
 IsOver p (Right s a) = (f : Marked) × (g : Term) × Stands (in_other s f g) p.marked × Halted (erase f)
 IsOver p _ = Unit {0}
 
--- the condition of an entry that each reason finds broken; Deep and Memory are no conditions of 04's table
+-- the condition of an entry that each reason finds broken; Deep and Memory are no conditions of an entry
 abbrev pub Meets : Context → Place → Entry → RuleFault → Type 0
 Meets x p e reason.Cancel = IsInTurn p e
 Meets x p e Mark = IsThere p e

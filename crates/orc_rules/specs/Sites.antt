@@ -1,5 +1,5 @@
 -- The table of sites: the built-in ones and those of a script.
-use Rattle.std.specs.Prelude.{ℕ, zero, suc, ◌-◌, ◌^◌, List, [], ◌∷◌, ◌≡◌, length, map, Bool, true, false, cond, not, ◌&&◌, Option, Some, None, slice_get, ℤ, pos, negsuc, ◌+ℤ◌, ◌-ℤ◌, int_lt, int_le, ◌==◌, ◌≢◌, ◌<◌, if◌then◌else◌, option_map}
+use Rattle.std.specs.Prelude.{ℕ, zero, suc, ◌-◌, ◌^◌, List, [], ◌∷◌, ◌≡◌, length, Bool, true, false, cond, not, ◌&&◌, Option, Some, None, slice_get, ℤ, pos, negsuc, ◌+ℤ◌, ◌-ℤ◌, int_lt, int_le, ◌==◌, ◌≢◌, ◌<◌, if◌then◌else◌, option_map}
 use Rattle.std.specs.List.{AllByRecursion}
 use Rattle.std.specs.Ordering.{int_eq}
 use Rattle.orc_rules.specs.declared.value.Value.{Value}

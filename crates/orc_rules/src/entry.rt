@@ -44,26 +44,42 @@ pub enum Entry {
 /// What a step shows.
 #[derive(Drop)]
 pub enum Label {
+    /// Call K of a site with these arguments, inside the right sides of these cells, the outermost first.
     Call(u64, u32, Args, Vec<u64>),
+    /// The answer to call K.
     Return(u64, Answer),
+    /// Cell C gets a value.
     Bind(u64, Value),
+    /// Cell C will never get one.
     Lost(u64),
+    /// The whole publishes a value.
     Publish(Value),
+    /// Nothing that can be seen.
     Silent,
+    /// Call K was dropped with a side.
     Cancel(u64),
 }
 
 /// Why an entry is refused, in the order in which the reasons are tested.
 #[derive(Clone, Copy, PartialEq, Eq, Debug)]
 pub enum RuleFault {
+    /// A cancel is due and the entry isn't that one, or the entry is a cancel and none is due.
     Cancel,
+    /// No such mark, pending call, cell or otherwise.
     Mark,
+    /// Another kind of term, name, argument, value or taker.
     Form,
+    /// A new number that isn't the next one.
     Number,
+    /// A return with another answer than the table's, or where it says never.
     Answer,
+    /// A return not at its due time, or a tick that isn't allowed.
     Time,
+    /// The side hasn't halted.
     Halted,
+    /// The term after the entry would nest over 10,000 levels.
     Deep,
+    /// A growth was refused.
     Memory,
 }
 

@@ -91,11 +91,11 @@ after_bind : (x : Context) (b : Bool) → Context.cancels x ≡ b → (c : ℕ) 
 after_bind x true e c v t u = (dropped (pending_of t) (pending_of u), (λ y. record { rising = dropped_rising (pending_of t) (pending_of u); each = dropped_each (pending_of t) (pending_of u); all = dropped_all (pending_of t) (pending_of u) }, λ n. cc (e, n)))
 after_bind x false e c v t u = ([], (λ y. cc (e, y), λ n. refl))
 
-pub owed_exists : CancelsExist
-owed_exists x (binds c v) t u = after_bind x (Context.cancels x) refl c v t u
-owed_exists x (calls k m args cs) t u = ([], refl)
-owed_exists x (returns k a) t u = ([], refl)
-owed_exists x (loses c) t u = ([], refl)
-owed_exists x (publishes v) t u = ([], refl)
-owed_exists x silent t u = ([], refl)
-owed_exists x (opens c) t u = ([], refl)
+pub cancels_exist : CancelsExist
+cancels_exist x (binds c v) t u = after_bind x (Context.cancels x) refl c v t u
+cancels_exist x (calls k m args cs) t u = ([], refl)
+cancels_exist x (returns k a) t u = ([], refl)
+cancels_exist x (loses c) t u = ([], refl)
+cancels_exist x (publishes v) t u = ([], refl)
+cancels_exist x silent t u = ([], refl)
+cancels_exist x (opens c) t u = ([], refl)
