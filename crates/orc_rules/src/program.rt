@@ -2,7 +2,7 @@
 
 ghost use Rattle.std.specs.Prelude.{◌≡◌, ◌≤◌, ◌++◌, ◌∷◌, [], List, length, map, IfOk, OnOk, OnErr, slice_get, slice_index_or, option_map};
 ghost use Rattle.orc_rules.specs.declared.param.Param.{Param as Parameter};
-ghost use Rattle.orc_rules.specs.Nodes.{node_of, HasParts, ArePartsFirst, Listing, Routine, Terms as Listed};
+ghost use Rattle.orc_rules.specs.Nodes.{node_of, unfold_node, code, HasParts, ArePartsFirst, Listing, Routine, Terms as Listed};
 ghost use Rattle.orc_rules.specs.Programs.{listing, routine_of};
 
 use crate::param::{Param, Params};
@@ -120,14 +120,23 @@ impl Program {
         }
     }
 
-    /// The node of that number, `stop` where there is none.
-    pub fn node(&self, id: usize) -> TermNode
+    // The node of that number, `stop` where there is none.
+    fn node_or_stop(&self, id: usize) -> TermNode
         ensures { result ≡ node_of self.now.nodes id }
     {
         match self.terms.nodes.get(id) {
             Some(node) => *node,
             None => TermNode::Stop,
         }
+    }
+
+    /// The node of that number, `stop` where there is none: its term is made of those of its parts.
+    pub fn node(&self, id: usize) -> TermNode
+        ensures node { result ≡ node_of self.now.nodes id }
+        ensures term { code self.now id ≡ unfold_node (code self.now) self.now.lists result }
+    {
+        self.are_parts_first();
+        self.node_or_stop(id)
     }
 
     /// The parameters of that list, none where there is no such list.
