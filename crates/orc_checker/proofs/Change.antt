@@ -1,0 +1,78 @@
+-- A token's node changes: what the state spells afterwards.
+use Rattle.std.proofs.Common.{◌≡◌, ◌+◌, ℕ, List, [], ◌∷◌, length, Some, refl, sym, ap, ◌∙◌, subst, arith}
+use Rattle.std.specs.Prelude.{slice_get}
+use Rattle.orc_checker.specs.declared.arena.Node.{Node}
+use Rattle.orc_checker.specs.declared.arena.Tip.{Tip}
+use Rattle.orc_checker.specs.declared.arena.Kind.TheVariants.{Leaf}
+use Rattle.orc_rules.specs.Term.{Term}
+use Rattle.orc_checker.specs.Arena.{Tree, leaf, one, two, place, count, hits, at, Holds, living, living_kind, StandOnce, spelled, env_of, Frame, on_one, on_left, on_right, plug}
+use Rattle.orc_checker.specs.Around.{above}
+use Rattle.orc_checker.specs.Rising.{Stands}
+use Rattle.orc_checker.specs.Checker.{State, Spells}
+use Rattle.orc_rules.specs.Journal.{Place}
+use Rattle.orc_checker.proofs.Trees.{holds-out, holds_replaced, once_replaced, spot, alone, hit}
+
+pub place-plug : (k : List Frame) (t t' : Tree) → place t ≡ place t' → place (plug k t) ≡ place (plug k t')
+place-plug [] t t' e = e
+place-plug (on_one i s ∷ k) t t' e = place-plug k (one i s t) (one i s t') refl
+place-plug (on_left i d u ∷ k) t t' e = place-plug k (two i d t u) (two i d t' u) refl
+place-plug (on_right i d u ∷ k) t t' e = place-plug k (two i d u t) (two i d u t') refl
+
+-- where a node without parts stands
+pub record Found (nodes : List Node) (n p i : ℕ) (k : Tip) (q : ℕ) (t : Tree) : Type 0 where
+  pub context : List Frame
+  pub is : plug context (leaf i k) ≡ t
+  pub holds : Holds nodes n p (plug context (leaf i k))
+  pub once : StandOnce nodes (plug context (leaf i k))
+  pub below : above p context ≡ q
+
+pub says_of : (nodes : List Node) (n p i q : ℕ) (k : Tip) (t : Tree) → Holds nodes n p t → StandOnce nodes t → at nodes q i (Leaf k) → living_kind (Leaf k) ≡ 1 → Found nodes n p i k q t
+says_of nodes n p i q k t h once a lives =
+    let s = spot i t [] (omega (arith, once i, lives, ap living a)) in
+    let o = holds-out nodes n p s.context s.part (subst (λ z. Holds nodes n p z) (sym s.is) h) in
+    let l = alone nodes n (above p s.context) i q k s.part o.1 s.there a in
+    let e : plug s.context (leaf i k) ≡ t = ap (plug s.context) (sym l.is) ∙ s.is in
+    record {
+      context = s.context;
+      is = e;
+      holds = subst (λ z. Holds nodes n p z) (sym e) h;
+      once = subst (λ z. StandOnce nodes z) (sym e) once;
+      below = l.below;
+    }
+
+-- the node of a part without parts becomes a tree, and the rest stays
+pub record Becomes (s s' : State) (i q : ℕ) (t' : Tree) : Type 0 where
+  pub scopes : s'.scopes ≡ s.scopes
+  pub cells : s'.cells ≡ s.cells
+  pub there : place t' ≡ i
+  pub same : (u : ℕ) (x : Node) → (u ≡ i → ⊥) → slice_get s.nodes u ≡ Some x → slice_get s'.nodes u ≡ Some x
+  pub holds : Holds s'.nodes (length s.scopes) q t'
+  pub counted : (u : ℕ) → count u t' + living (slice_get s.nodes u) ≡ hits u i + living (slice_get s'.nodes u)
+
+-- what the state spells then
+pub record Changed (code : ℕ → Term) (s s' : State) (p : Place) (tree : Tree) (i : ℕ) (k : Tip) (t' : Tree) : Type 0 where
+  pub context : List Frame
+  pub before : Stands s.nodes (length s.scopes) i context (leaf i k)
+  pub was : p.marked ≡ spelled code (env_of s.cells s.scopes) (plug context (leaf i k))
+  pub holds : Holds s'.nodes (length s'.scopes) 0 (plug context t')
+  pub once : StandOnce s'.nodes (plug context t')
+  pub root : place (plug context t') ≡ 0
+
+hits-off : (u i : ℕ) → hits u i ≡ 0 → u ≡ i → ⊥
+hits-off u i z e = omega (arith, z, hit i, ap (λ w. hits w i) e)
+
+pub changed : (code : ℕ → Term) (s s' : State) (p : Place) (sp : Spells code s p) (i q : ℕ) (k : Tip) (t' : Tree) → at s.nodes q i (Leaf k) → living_kind (Leaf k) ≡ 1 → Becomes s s' i q t' → Changed code s s' p sp.tree i k t'
+changed code s s' p sp i q k t' a lives b =
+    let f = says_of s.nodes (length s.scopes) 0 i q k sp.tree sp.holds sp.once a lives in
+    let h : Holds s'.nodes (length s.scopes) 0 (plug f.context t') =
+    holds_replaced s.nodes s'.nodes (length s.scopes) (length s.scopes) 0 (omega arith) f.context (leaf i k) t' f.once f.holds b.there
+    (λ u x z e. b.same u x (hits-off u i z) e)
+    (subst (λ z. Holds s'.nodes (length s.scopes) z t') (sym f.below) b.holds) in
+    record {
+      context = f.context;
+      before = record { holds = f.holds; once = f.once; there = refl; root = ap place f.is ∙ sp.root };
+      was = sp.marked ∙ ap (spelled code (env_of s.cells s.scopes)) (sym f.is);
+      holds = subst (λ z. Holds s'.nodes (length z) 0 (plug f.context t')) (sym b.scopes) h;
+      once = once_replaced s.nodes s'.nodes (length s.scopes) (length s.scopes) 0 (omega arith) f.context (leaf i k) t' f.once b.counted;
+      root = place-plug f.context t' (leaf i k) b.there ∙ ap place f.is ∙ sp.root;
+    }

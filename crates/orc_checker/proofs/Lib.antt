@@ -1,0 +1,11 @@
+pub mod Answering
+pub mod Beginning
+pub mod Change
+pub mod Closing
+pub mod Feeding
+pub mod Lists
+pub mod Moves
+pub mod Publishing
+pub mod Rising
+pub mod Spelling
+pub mod Trees

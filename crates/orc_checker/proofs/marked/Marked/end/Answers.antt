@@ -1,0 +1,20 @@
+use Rattle.std.proofs.Common.{ap, sym, ◌∙◌, length}
+use Rattle.std.specs.Prelude.{slice_set}
+use Rattle.orc_rules.specs.Nodes.{code, unfold_node}
+use Rattle.orc_checker.specs.declared.arena.Kind.TheVariants.{Leaf}
+use Rattle.orc_checker.specs.declared.arena.Tip.TheVariants.{Ended}
+use Rattle.orc_checker.specs.Checker.{State}
+use Rattle.orc_checker.proofs.Moves.{end-enters, node}
+use Rattle.orc_checker.proofs.marked.Marked.end.Goals as goal
+
+pub returns-clause-done : goal.returns-clause-done
+returns-clause-done c =
+    let terms = code c.args.program.now in
+    let t = c.in_ok-spot.spot in
+    let v = c.self.view_is in
+    end-enters terms c.args.self.now _ t.at t.parent c.args.s t.node t.scope c.in_ok-spot.ensures.there
+    (c.node.ensures.term ∙ ap (unfold_node terms c.args.program.now.lists) c.in-Stop.is)
+    (ap (λ (z : State). slice_set z.nodes t.at (node (Leaf Ended) t.parent)) v)
+    (ap State.scopes v)
+    (ap State.cells v)
+    (record { free = c.in_ok-spot.ensures.free; marks = ap (λ (z : State). length z.marks) v; time = ap State.time v; calls = ap State.calls v; to_cancel = ap State.to_cancel v })

@@ -1,0 +1,24 @@
+use Rattle.std.proofs.Common.{◌≡◌, ap, sym, ◌∙◌, length, suc, arith}
+use Rattle.orc_rules.specs.Nodes.{code, unfold_node}
+use Rattle.orc_checker.specs.Checker.{State}
+use Rattle.orc_checker.proofs.Moves.{fork-enters}
+use Rattle.orc_checker.proofs.Answering.{set_two, two_more}
+use Rattle.orc_checker.proofs.marked.Marked.fork.Goals as goal
+
+pub returns-clause-done : goal.returns-clause-done
+returns-clause-done c =
+    let terms = code c.args.program.now in
+    let t = c.in_ok-spot.spot in
+    let v = c.self.view_is in
+    let k = c.in-Par in
+    let next = c.in_ok-next_mark.ensures in
+    let b_is : c.args.b ≡ suc c.args.a = omega (arith, c.if-b-eq0.false, c.if-b-a.false) in
+    fork-enters terms c.args.self.now _ t.at t.parent c.args.s t.node t.scope c.in_ok-spot.ensures.there c.size-n.result c.args.a c.args.b k.f k.g
+    (c.node.ensures.term ∙ ap (unfold_node terms c.args.program.now.lists) k.is)
+    (c.size-n.ensures ∙ ap length (c.reserve.ensures.nodes ∙ ap State.nodes v))
+    next
+    b_is
+    (set_two c.args.self.now.nodes _ _ _ t.at _ _ _ _ _ (c.reserve.ensures.nodes ∙ ap State.nodes v) c.push_within.ensures.items c.push_within-2.ensures.items c.token_node.ensures c.token_node-2.ensures)
+    (ap State.scopes v)
+    (ap State.cells v)
+    (record { free = c.in_ok-spot.ensures.free; marks = two_more c.args.self.now.marks _ _ _ _ _ c.args.a c.args.b (c.reserve.ensures.marks ∙ ap State.marks v) c.push_within-3.ensures.items c.push_within-4.ensures.items next b_is; time = ap State.time v; calls = ap State.calls v; to_cancel = ap State.to_cancel v })

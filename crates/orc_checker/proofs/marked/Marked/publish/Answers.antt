@@ -1,0 +1,31 @@
+use Rattle.std.proofs.Common.{ap, ◌∙◌, subst}
+use Rattle.std.specs.Prelude.{slice_set}
+use Rattle.orc_checker.specs.declared.arena.Kind.TheVariants.{Leaf}
+use Rattle.orc_checker.specs.declared.arena.Tip.TheVariants.{Ended}
+use Rattle.orc_rules.specs.Nodes.{code, unfold_node}
+use Rattle.orc_checker.specs.Arena.{close, env_of}
+use Rattle.orc_checker.specs.Rising.{IsTaker, Rises}
+use Rattle.orc_checker.specs.Checker.{State}
+use Rattle.orc_checker.proofs.Closing.{close-value}
+use Rattle.orc_checker.proofs.Moves.{node}
+use Rattle.orc_checker.proofs.Publishing.{publish-enters}
+use Rattle.orc_checker.proofs.marked.Marked.publish.Goals as goal
+
+pub returns-clause-done : goal.returns-clause-done
+returns-clause-done c =
+    let terms = code c.args.program.now in
+    let t = c.in_ok-spot.spot in
+    let v = c.self.view_is in
+    let s = c.args.self.now in
+    let env = env_of s.cells s.scopes in
+    publish-enters terms s _ t.at t.parent c.args.s t.node t.scope c.in-Some.way.steps c.args.v c.in_ok-spot.ensures.there
+    (ap (close (env t.scope)) (c.in_ok-on_value.ensures) ∙ close-value (env t.scope) c.args.v)
+    (subst (λ z. IsTaker s.nodes t.at z c.in-Some.way.steps) c.in-Whole.is (subst (λ (z : State). IsTaker z.nodes t.at c.in-Some.way.taker c.in-Some.way.steps) v c.in-Some.ensures))
+    (subst (λ z. Rises z t.at c.in-Some.way.steps c.rise.new.nodes.items) (c.write_node.ensures.items ∙ ap (λ (z : State). slice_set z.nodes t.at (node (Leaf Ended) t.parent)) v) c.rise.ensures.rises)
+    c.in_ok-spot.ensures.free
+    (ap State.scopes v)
+    (ap State.cells v)
+    (ap State.marks v)
+    (ap State.time v)
+    (ap State.calls v)
+    (ap State.to_cancel v)

@@ -1,0 +1,22 @@
+use Rattle.std.proofs.Common.{ap, sym, ◌∙◌, length}
+use Rattle.orc_rules.specs.Nodes.{code, unfold_node}
+use Rattle.orc_checker.specs.Checker.{State}
+use Rattle.orc_checker.proofs.Moves.{seq-enters}
+use Rattle.orc_checker.proofs.Answering.{set_one, one_more}
+use Rattle.orc_checker.proofs.marked.Marked.seq.Goals as goal
+
+pub returns-clause-done : goal.returns-clause-done
+returns-clause-done c =
+    let terms = code c.args.program.now in
+    let t = c.in_ok-spot.spot in
+    let v = c.self.view_is in
+    let k = c.in-Seq in
+    let next = c.in_ok-next_mark.ensures in
+    seq-enters terms c.args.self.now _ t.at t.parent c.args.s t.node t.scope c.in_ok-spot.ensures.there c.size-n.result c.args.a k.f k.x k.g
+    (c.node.ensures.term ∙ ap (unfold_node terms c.args.program.now.lists) k.is)
+    (c.size-n.ensures ∙ ap length (c.reserve.ensures.nodes ∙ ap State.nodes v))
+    next
+    (set_one c.args.self.now.nodes _ _ t.at _ _ _ (c.reserve.ensures.nodes ∙ ap State.nodes v) c.push_within.ensures.items c.token_node.ensures)
+    (ap State.scopes v)
+    (ap State.cells v)
+    (record { free = c.in_ok-spot.ensures.free; marks = one_more c.args.self.now.marks _ _ _ c.args.a (c.reserve.ensures.marks ∙ ap State.marks v) c.push_within-2.ensures.items next; time = ap State.time v; calls = ap State.calls v; to_cancel = ap State.to_cancel v })

@@ -1,0 +1,4 @@
+pub mod Arena
+pub mod Around
+pub mod Checker
+pub mod Rising

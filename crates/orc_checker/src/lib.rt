@@ -1,0 +1,7 @@
+//! The checker: a marked term that takes a journal's entries, one after another.
+#![tactic(auto)]
+
+pub mod arena;
+pub mod marked;
+
+pub use marked::Marked;
