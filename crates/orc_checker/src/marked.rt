@@ -14,7 +14,7 @@ ghost use Rattle.orc_checker.specs.declared.arena.Tip.TheVariants.{Token as IsTo
 
 use crate::arena::{Bound, Double, Kind, Node, Scope, Single, Tip};
 use orc_rules::entry::{Entry, RuleFault};
-use orc_rules::param::Param;
+use orc_rules::param::Operand;
 use orc_rules::program::{Program, TermNode};
 use orc_rules::value::{Args, Value};
 use std::alloc::{AllocError, Global};
@@ -205,7 +205,7 @@ fn on_value(program: &Program, node: usize, v: Value) -> Result<(), RuleFault>
     ensures { IfOk result (λ _. code program.now node ≡ param (IsValue v)) }
 {
     match program.node(node) {
-        TermNode::Param(Param::Is(w)) if w == v => Ok(()),
+        TermNode::Operand(Operand::Is(w)) if w == v => Ok(()),
         _ => Err(RuleFault::Form),
     }
 }

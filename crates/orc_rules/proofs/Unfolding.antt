@@ -3,16 +3,16 @@ use Rattle.std.proofs.Common.{◌≡◌, ◌<◌, ◌≤◌, ◌+◌, ℕ, zero,
 use Rattle.std.proofs.lemmas.List.{get_or_append_left}
 use Rattle.std.proofs.Math.Seq.{get_or-append_seam}
 use Rattle.std.specs.Prelude.{slice_get}
-use Rattle.orc_rules.specs.declared.param.Param.{Param}
+use Rattle.orc_rules.specs.declared.param.Operand.{Operand}
 use Rattle.orc_rules.specs.declared.program.TermNode.{TermNode}
-use Rattle.orc_rules.specs.declared.program.TermNode.TheVariants.{Stop, Param as Is, Site, Call, Par, Seq, Prune, Other}
+use Rattle.orc_rules.specs.declared.program.TermNode.TheVariants.{Stop, Operand as On, Site, Call, Par, Seq, Prune, Other}
 use Rattle.orc_rules.specs.Term.{Term, stop, par, seq, prune, other}
 use Rattle.orc_rules.specs.Nodes.{node_of, unfold_node, terms_from, code_of, HasParts, ArePartsFirst}
 
-module _ (lists : List (List Param)) where
+module _ (lists : List (List Operand)) where
   alike : (code code' : ℕ → Term) (m : ℕ) (n : TermNode) → HasParts m n → ((i : ℕ) → i < m → code i ≡ code' i) → unfold_node code lists n ≡ unfold_node code' lists n
   alike code code' m Stop h same = refl
-  alike code code' m (Is p) h same = refl
+  alike code code' m (On p) h same = refl
   alike code code' m (Site s l) h same = refl
   alike code code' m (Call e l) h same = refl
   alike code code' m (Par f g) h same = λ j. par (same f h.0 j) (same g h.1 j)
@@ -66,7 +66,7 @@ get_or-none [] i h = refl
 get_or-none (m ∷ ns) zero h = cc h
 get_or-none (m ∷ ns) (suc i) h = get_or-none ns i h
 
-pub unfolds : (lists : List (List Param)) (nodes : List TermNode) (i : ℕ) → ArePartsFirst nodes → code_of lists nodes i ≡ unfold_node (code_of lists nodes) lists (node_of nodes i)
+pub unfolds : (lists : List (List Operand)) (nodes : List TermNode) (i : ℕ) → ArePartsFirst nodes → code_of lists nodes i ≡ unfold_node (code_of lists nodes) lists (node_of nodes i)
 unfolds lists nodes i first = go (slice_get nodes i) refl
   where
     go : (o : Option TermNode) → slice_get nodes i ≡ o → code_of lists nodes i ≡ unfold_node (code_of lists nodes) lists (node_of nodes i)

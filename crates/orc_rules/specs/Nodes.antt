@@ -1,32 +1,40 @@
 -- What a program's numbered nodes mean.
 use Rattle.std.specs.Prelude.{◌≡◌, ◌<◌, ℕ, List, [], ◌∷◌, ◌++◌, Some, slice_get, slice_index_or, map}
 use Rattle.orc_rules.specs.declared.param.Param.{Param}
+use Rattle.orc_rules.specs.declared.param.Param.TheVariants as param_is
+use Rattle.orc_rules.specs.declared.param.Operand.{Operand}
+use Rattle.orc_rules.specs.declared.param.Operand.TheVariants.{Name, Is}
 use Rattle.orc_rules.specs.declared.program.TermNode.{TermNode}
-use Rattle.orc_rules.specs.declared.program.TermNode.TheVariants.{Stop, Param as Is, Site, Call, Par, Seq, Prune, Other}
+use Rattle.orc_rules.specs.declared.program.TermNode.TheVariants.{Stop, Operand as On, Site, Call, Par, Seq, Prune, Other}
 use Rattle.orc_rules.specs.Term.{Term, Definition, stop, param, site, call, par, seq, prune, other}
 
 -- the node of a number, `stop` where there is none
 abbrev pub node_of : List TermNode → ℕ → TermNode
 node_of nodes i = slice_index_or nodes i Stop
 
--- a node's term, from the terms of its parts and the lists of parameters
-abbrev pub unfold_node : (ℕ → Term) → List (List Param) → TermNode → Term
+-- the parameter that an operand is
+abbrev pub param_of : Operand → Param
+param_of (Name x) = param_is.Name x
+param_of (Is v) = param_is.Is v
+
+-- a node's term, from the terms of its parts and the lists of operands
+abbrev pub unfold_node : (ℕ → Term) → List (List Operand) → TermNode → Term
 unfold_node code lists Stop = stop
-unfold_node code lists (Is p) = param p
-unfold_node code lists (Site m l) = site m (slice_index_or lists l [])
-unfold_node code lists (Call e l) = call e (slice_index_or lists l [])
+unfold_node code lists (On p) = param (param_of p)
+unfold_node code lists (Site m l) = site m (map param_of (slice_index_or lists l []))
+unfold_node code lists (Call e l) = call e (map param_of (slice_index_or lists l []))
 unfold_node code lists (Par f g) = par (code f) (code g)
 unfold_node code lists (Seq f x g) = seq (code f) x (code g)
 unfold_node code lists (Prune f x g) = prune (code f) x (code g)
 unfold_node code lists (Other f g) = other (code f) (code g)
 
 -- the nodes' terms, each from those before it
-abbrev pub terms_from : List (List Param) → List Term → List TermNode → List Term
+abbrev pub terms_from : List (List Operand) → List Term → List TermNode → List Term
 terms_from lists ts [] = ts
 terms_from lists ts (n ∷ ns) = terms_from lists (ts ++ unfold_node (λ i. slice_index_or ts i stop) lists n ∷ []) ns
 
 -- the term of a node
-abbrev pub code_of : List (List Param) → List TermNode → ℕ → Term
+abbrev pub code_of : List (List Operand) → List TermNode → ℕ → Term
 code_of lists nodes i = slice_index_or (terms_from lists [] nodes) i stop
 
 -- a node's parts stand before it
@@ -45,15 +53,15 @@ pub record Routine : Type 0 where
   pub params : List ℕ
   pub body : ℕ
 
--- the nodes of terms and their lists of parameters
+-- the nodes of terms and their lists of operands
 pub record Terms : Type 0 where
   pub nodes : List TermNode
-  pub lists : List (List Param)
+  pub lists : List (List Operand)
 
--- a program: its nodes, its lists of parameters, its definitions and the node of its main term
+-- a program: its nodes, its lists of operands, its definitions and the node of its main term
 pub record Listing : Type 0 where
   pub nodes : List TermNode
-  pub lists : List (List Param)
+  pub lists : List (List Operand)
   pub routines : List Routine
   pub root : ℕ
 

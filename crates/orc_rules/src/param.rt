@@ -1,7 +1,7 @@
-//! Parameters.
+//! Parameters, and the operands of a source.
 
 ghost use Rattle.std.specs.Prelude.{◌≡◌, ◌≤◌, ◌<◌, ◌++◌, ◌∷◌, [], List, length, take};
-ghost use Rattle.orc_rules.specs.declared.param.Param.{Param};
+ghost use Rattle.orc_rules.specs.declared.param.Operand.{Operand as Argument};
 
 use crate::value::Value;
 use std::marker::Model;
@@ -15,46 +15,53 @@ pub enum Param {
     Void,
 }
 
-/// At most 16 parameters, in place.
+/// What stands as an argument in a source: a variable or a value.
+#[derive(Clone, Copy, PartialEq, Eq, Debug)]
+pub enum Operand {
+    Name(u32),
+    Is(Value),
+}
+
+/// At most 16 operands, in place.
 #[derive(Drop)]
-pub struct Params {
-    params: [Param; 16],
+pub struct Operands {
+    operands: [Operand; 16],
     len: usize,
 }
 
-impl Model for Params {
-    ghost Value = { List Param };
+impl Model for Operands {
+    ghost Value = { List Argument };
 
-    ghost view = { λ p. take p.len p.params };
+    ghost view = { λ p. take p.len p.operands };
 
     ghost invariant = { λ p. p.len ≤ 16 };
 }
 
-impl Params {
-    /// No parameters.
-    pub fn new() -> Params
+impl Operands {
+    /// No operands.
+    pub fn new() -> Operands
         ensures { result ≡ [] }
     {
-        Params {
-            params: [Param::Void; 16],
+        Operands {
+            operands: [Operand::Is(Value::Signal); 16],
             len: 0,
         }
     }
 
-    /// Adds a parameter at the end.
-    pub fn push(&mut self, param: Param)
+    /// Adds an operand at the end.
+    pub fn push(&mut self, operand: Operand)
         requires { length self.old < 16 }
-        ensures { self.new ≡ self.old ++ param ∷ [] }
+        ensures { self.new ≡ self.old ++ operand ∷ [] }
     {
-        self.params[self.len] = param;
+        self.operands[self.len] = operand;
         self.len += 1;
     }
 
-    /// The parameters in their order.
-    pub fn as_slice(&self) -> &[Param]
+    /// The operands in their order.
+    pub fn as_slice(&self) -> &[Operand]
         ensures value { result.now ≡ self.now }
         ensures len { length result.now ≤ 16 }
     {
-        &self.params[..self.len]
+        &self.operands[..self.len]
     }
 }

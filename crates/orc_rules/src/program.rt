@@ -1,19 +1,19 @@
 //! A program's terms as numbered nodes, parts before wholes.
 
 ghost use Rattle.std.specs.Prelude.{◌≡◌, ◌≤◌, ◌++◌, ◌∷◌, [], List, length, map, IfOk, OnOk, OnErr, slice_get, slice_index_or, option_map};
-ghost use Rattle.orc_rules.specs.declared.param.Param.{Param as Parameter};
 ghost use Rattle.orc_rules.specs.Nodes.{node_of, unfold_node, code, HasParts, ArePartsFirst, Listing, Routine, Terms as Listed};
 ghost use Rattle.orc_rules.specs.Programs.{listing, routine_of};
 
-use crate::param::{Param, Params};
+use crate::param::{Operand, Operands};
 use std::alloc::{AllocError, Global};
 use std::marker::Model;
 
-/// One node of a program's terms, which names its parts by their numbers, and its parameters by the number of their list.
+/// One node of a program's terms, which names its parts by their numbers, and its operands by the number of their list.
 #[derive(Clone, Copy)]
 pub enum TermNode {
     Stop,
-    Param(Param),
+    /// A variable or a value.
+    Operand(Operand),
     /// A call of a site, with its number.
     Site(u32, usize),
     /// A call of a definition, with its number.
@@ -28,11 +28,11 @@ pub enum TermNode {
     Other(usize, usize),
 }
 
-/// The nodes of terms, each behind its parts, and the lists of parameters that they name.
+/// The nodes of terms, each behind its parts, and the lists of operands that they name.
 #[derive(Drop)]
 pub struct Terms {
     nodes: Vec<TermNode>,
-    lists: Vec<Params>,
+    lists: Vec<Operands>,
 }
 
 impl Model for Terms {
@@ -73,14 +73,14 @@ impl Terms {
         Ok(at)
     }
 
-    /// Adds a list of parameters: its number. Where a growth is refused nothing changes.
-    pub fn push_list(&mut self, params: Params) -> Result<usize, AllocError>
+    /// Adds a list of operands: its number. Where a growth is refused nothing changes.
+    pub fn push_list(&mut self, operands: Operands) -> Result<usize, AllocError>
         ensures number { IfOk result (λ at. at ≡ length self.old.lists) }
-        ensures added { OnOk result (self.new ≡ record { nodes = self.old.nodes; lists = self.old.lists ++ params ∷ [] }) }
+        ensures added { OnOk result (self.new ≡ record { nodes = self.old.nodes; lists = self.old.lists ++ operands ∷ [] }) }
         ensures refused { OnErr result (self.new ≡ self.old) }
     {
         let at = self.lists.len();
-        self.lists.push(params)?;
+        self.lists.push(operands)?;
         Ok(at)
     }
 }
@@ -139,13 +139,13 @@ impl Program {
         self.node_or_stop(id)
     }
 
-    /// The parameters of that list, none where there is no such list.
-    pub fn params(&self, list: usize) -> &[Param]
+    /// The operands of that list, none where there is no such list.
+    pub fn operands(&self, list: usize) -> &[Operand]
         ensures value { result.now ≡ slice_index_or self.now.lists list [] }
         ensures len { length result.now ≤ 16 }
     {
         match self.terms.lists.get(list) {
-            Some(params) => params.as_slice(),
+            Some(operands) => operands.as_slice(),
             None => &[],
         }
     }
