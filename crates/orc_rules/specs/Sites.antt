@@ -1,5 +1,5 @@
 -- The table of sites: the built-in ones and those of a script.
-use Rattle.std.specs.Prelude.{ℕ, zero, suc, ◌-◌, ◌^◌, List, [], ◌∷◌, ◌≡◌, length, Bool, true, false, cond, not, ◌&&◌, Option, Some, None, slice_get, ℤ, pos, negsuc, ◌+ℤ◌, ◌-ℤ◌, int_lt, int_le, ◌==◌, ◌≢◌, ◌<◌, if◌then◌else◌, option_map}
+use Rattle.std.specs.Prelude.{ℕ, zero, suc, ◌-◌, ◌^◌, List, [], ◌∷◌, ◌≡◌, length, map, Bool, true, false, cond, not, ◌&&◌, Option, Some, None, slice_get, ℤ, pos, negsuc, ◌+ℤ◌, ◌-ℤ◌, int_lt, int_le, ◌≢◌, ◌<◌, if◌then◌else◌, option_map, bytes_eq, codes}
 use Rattle.std.specs.List.{AllByRecursion}
 use Rattle.std.specs.Ordering.{int_eq}
 use Rattle.orc_rules.specs.declared.value.Value.{Value}
@@ -22,12 +22,6 @@ values_eq [] [] = true
 values_eq (v ∷ vs) (w ∷ ws) = value_eq v w && values_eq vs ws
 values_eq _ _ = false
 
--- whether two texts are the same
-abbrev pub same_bytes : List ℕ → List ℕ → Bool
-same_bytes [] [] = true
-same_bytes (x ∷ xs) (y ∷ ys) = (x == y) && same_bytes xs ys
-same_bytes _ _ = false
-
 -- a line of a script: a pattern is a value, or None for `_`; the answers are one or more, each with its delay, in their order
 pub record Line : Type 0 where
   pub patterns : List (Option Value)
@@ -46,7 +40,7 @@ pub record Table : Type 0 where
 -- the number of the first site with this name
 abbrev pub site_named : List (List ℕ) → List ℕ → Option ℕ
 site_named [] name = None
-site_named (n ∷ ns) name = if same_bytes n name then Some 0 else option_map suc (site_named ns name)
+site_named (n ∷ ns) name = if bytes_eq n name then Some 0 else option_map suc (site_named ns name)
 
 -- no byte of a name is an opening bracket
 abbrev pub IsBare : List ℕ → Type 0
@@ -59,6 +53,24 @@ AreNames (n ∷ ns) = IsBare n × (site_named ns n ≡ None) × AreNames ns
 
 abbrev pub IsTable : Table → Type 0
 IsTable t = AreNames t.names × (length t.names ≡ length t.sites) × (length t.names < 2 ^ 32)
+
+-- the name of a built-in site
+abbrev pub built_in_name : Builtin → List ℕ
+built_in_name builtins.Add = codes "Add"
+built_in_name builtins.Sub = codes "Sub"
+built_in_name builtins.Eq = codes "Eq"
+built_in_name builtins.Lt = codes "Lt"
+built_in_name builtins.Ift = codes "Ift"
+built_in_name builtins.Iff = codes "Iff"
+built_in_name builtins.Rwait = codes "Rwait"
+
+-- the built-in sites in the order of their numbers
+abbrev pub built_ins : List Builtin
+built_ins = builtins.Add ∷ builtins.Sub ∷ builtins.Eq ∷ builtins.Lt ∷ builtins.Ift ∷ builtins.Iff ∷ builtins.Rwait ∷ []
+
+-- the table that has these built-in sites alone
+abbrev pub built_in_table : List Builtin → Table
+built_in_table bs = record { names = map built_in_name bs; sites = map built_in bs }
 
 abbrev pub at_once : Value → Found
 at_once v = After (Gives v) 0
