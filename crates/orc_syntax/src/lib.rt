@@ -1,7 +1,13 @@
-//! The syntax of a program: its tree.
+//! The syntax of a program: its tree, and how a text is read as one.
 #![tactic(auto)]
 
+mod depth;
+pub mod fault;
+mod reader;
+mod source;
 pub mod tree;
 
+pub use fault::SyntaxFault;
 pub use orc_lex::token::{Plain, Span, What};
+pub use source::parse;
 pub use tree::{Ast, Definition, Expr, Name, Node, Operator, Part};
