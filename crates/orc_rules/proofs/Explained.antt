@@ -1,5 +1,5 @@
 -- A journal is a timed run.
-use Rattle.std.proofs.Common.{◌≡◌, ℕ, suc, ◌<◌, ◌≤◌, List, [], ◌∷◌, ◌++◌, length, Option, Some, None, refl, sym, ap, ◌∙◌, subst, inl, inr, ◌⊎◌, ⊎_elim, map, arith}
+use Rattle.std.proofs.Common.{◌≡◌, ℕ, ◌<◌, List, [], ◌∷◌, ◌++◌, length, Option, Some, None, refl, sym, ap, ◌∙◌, subst, inl, inr, ◌⊎◌, ⊎_elim, map, arith}
 use Rattle.std.specs.Option.{option_to_list}
 use Rattle.orc_rules.specs.declared.param.Param.TheVariants.{Void}
 use Rattle.orc_rules.specs.declared.value.Answer.TheVariants.{Value as Gives, Halt}
@@ -9,63 +9,32 @@ use Rattle.orc_rules.specs.declared.entry.Entry.TheVariants as entry
 use Rattle.orc_rules.specs.Term.{Term, stop, param, site, call, par, seq, prune, other, pending, opened, Halted}
 use Rattle.orc_rules.specs.Step.{Act, calls, returns, binds, loses, publishes, silent, opens, IsInner, IsNew, Rule, ValueRule, VoidValue, SiteCall, VoidCall, ReturnRule, DefRule, SeqValue, PruneOpen, PruneBind, PruneLost, OtherHalt, StepBy, void_value, site_call, void_call, return_rule, def_rule, prune_open, prune_lost, other_halt}
 use Rattle.orc_rules.specs.Marked.{Marked, erase, fill_marked, Replaces}
-use Rattle.orc_rules.specs.Timed.{Context, Moment, IsTimely, Event, does, ticks, cancels, Run, calls_after, cells_after, used, number_of}
+use Rattle.orc_rules.specs.Timed.{Context, Moment, IsTimely, Event, does, ticks, cancels, Run, used, number_of}
 use Rattle.orc_rules.specs.Journal.{Place, moment, next, Moves, Acts, IsVoid, Enters, IsCancel, Journal, event_of, begin, IsTimedRun, JournalIsTimedRun, IsRuleOf, Shows, EntryIsItsStep}
+use Rattle.std.proofs.lemmas.List.{length-map}
+use Rattle.orc_rules.specs.Numbered.{AreCounted, IsNumbered}
+use Rattle.orc_rules.proofs.Numbered.{entered_numbered, begin_numbered, journal_is_numbered}
 use Rattle.orc_rules.proofs.Lift.{within_all, within_silent, within_opens, within_loses, within_returns, within_calls, erase-fill, replaced_named, replaced_same, emits_named}
-
--- each number is below n
-abbrev AreBelow : ℕ → List ℕ → Type 0
-AreBelow n [] = Unit {0}
-AreBelow n (u ∷ us) = (u < n) × AreBelow n us
-
-AreBelow-more : (n m : ℕ) (us : List ℕ) → n ≤ m → AreBelow n us → AreBelow m us
-AreBelow-more n m [] le b = tt
-AreBelow-more n m (u ∷ us) le b = (omega (arith, b.0, le), AreBelow-more n m us le b.1)
-
-AreBelow-new : (n : ℕ) (us : List ℕ) → AreBelow n us → IsNew n us
-AreBelow-new n [] b = tt
-AreBelow-new n (u ∷ us) b = (λ e. omega (arith, b.0, e), AreBelow-new n us b.1)
-
--- the numbers of calls and cells are below the next ones
-record IsNumbered (p : Place) : Type 0 where
-  calls : AreBelow (next p.calls) (map number_of p.calls)
-  cells : AreBelow (next p.cells) p.cells
-
--- a step takes the next numbers
-abbrev TakesNext : Place → Act → Type 0
-TakesNext p (calls k m args cs) = k ≡ next p.calls
-TakesNext p (opens c) = c ≡ next p.cells
-TakesNext p _ = Unit {0}
-
-below_next : (n k : ℕ) (us : List ℕ) → k ≡ suc n → AreBelow (suc n) us → AreBelow (suc (suc n)) (k ∷ us)
-below_next n k us e b = (omega (arith, e), AreBelow-more _ _ us (omega arith) b)
-
-numbered_after : (p : Place) (a : Act) (q : Place) → TakesNext p a → q.calls ≡ calls_after (moment p) a → q.cells ≡ cells_after (moment p) a → IsNumbered p → IsNumbered q
-numbered_after p (calls k m args cs) q t em ec n = record {
-  calls = subst (λ l. AreBelow (next l) (map number_of l)) (sym em) (below_next (length p.calls) k (map number_of p.calls) t n.calls);
-  cells = subst (λ l. AreBelow (next l) l) (sym ec) n.cells;
-}
-numbered_after p (opens c) q t em ec n = record {
-  calls = subst (λ l. AreBelow (next l) (map number_of l)) (sym em) n.calls;
-  cells = subst (λ l. AreBelow (next l) l) (sym ec) (below_next (length p.cells) c p.cells t n.cells);
-}
-numbered_after p a q t em ec n = record {
-  calls = subst (λ l. AreBelow (next l) (map number_of l)) (sym em) n.calls;
-  cells = subst (λ l. AreBelow (next l) l) (sym ec) n.cells;
-}
 
 none_or : {A : Type 0} → ⊥ ⊎ A → A
 none_or o = ⊎_elim (λ h. absurd h) (λ a. a) o
 
-new_next : {X : Type 0} (n : ℕ) (us : List X) (ks : List ℕ) → n ≡ next us → AreBelow (next us) ks → IsNew n ks
-new_next n us ks e b = subst (λ m. IsNew m ks) (sym e) (AreBelow-new (next us) ks b)
+-- the next number is new
+counted_below : (n : ℕ) (us : List ℕ) → length us < n → AreCounted us → IsNew n us
+counted_below n [] lt c = tt
+counted_below n (u ∷ us) lt c = (λ e. omega (arith, lt, c.0, e), counted_below n us (omega (arith, lt)) c.1)
+
+new_call : (p : Place) (k : ℕ) → IsNumbered p → k ≡ next p.calls → IsNew k (map number_of p.calls)
+new_call p k n e = counted_below k (map number_of p.calls) (omega (arith, e, length-map p.calls number_of)) n.calls
+
+new_cell : (p : Place) (c : ℕ) → IsNumbered p → c ≡ next p.cells → IsNew c p.cells
+new_cell p c n e = counted_below c p.cells (omega (arith, e)) n.cells
 
 module _ (x : Context) where
   -- what one entry shows: its event, or that nothing changed
   record Explained (p : Place) (e : Entry) (q : Place) : Type 0 where
     inside : List ℕ
     shows : Shows x (moment p) e (event_of e inside) (moment q)
-    numbered : IsNumbered q
 
   run_of : (s s' : Moment) (e : Entry) (o : Option Event) → Shows x s e o s' → Run x s (option_to_list o) s'
   run_of s s' e None h = h
@@ -77,9 +46,6 @@ module _ (x : Context) where
   moved p q y z new e m =
       let t : erase p.marked ≡ erase q.marked = replaced_same x.definitions (used (moment p)) e m.part in
       (λ i. record (moment p) { term = t i }) ∙ ap moment (sym m.same)
-
-  moved_numbered : (p q : Place) (y z : Marked) (new : ℕ) → Moves p y z new q → IsNumbered p → IsNumbered q
-  moved_numbered p q y z new m n = numbered_after p silent q tt (ap (λ (r : Place). r.calls) m.same) (ap (λ (r : Place). r.cells) m.same) n
 
   acted : (p q : Place) (a : Act) (new : ℕ) → p.to_cancel ≡ [] → IsTimely x.sites (moment p) a → (e : Entry) (n : Rule) → IsRuleOf e n → StepBy x.definitions (used (moment p)) n (erase p.marked) a (erase q.marked) → Acts x p a new q → Shows x (moment p) e (Some (does a)) (moment q)
   acted p q a new free timely e n is s acts = (
@@ -94,9 +60,6 @@ module _ (x : Context) where
     },
     subst (IsRuleOf e) (sym s.1) is,
   )
-
-  acted_numbered : (p q : Place) (a : Act) (new : ℕ) → TakesNext p a → Acts x p a new q → IsNumbered p → IsNumbered q
-  acted_numbered p q a new t acts n = numbered_after p a q t (ap (λ (r : Place). r.calls) acts.same) (ap (λ (r : Place). r.cells) acts.same) n
 
   -- a step of one part, as a step of the whole that shows the act b
   whole : (p q : Place) (y z : Marked) (cs : List ℕ) (a b : Act) (n : Rule) → within_all cs a ≡ b → IsInner a → StepBy x.definitions (used (moment p)) n (erase y) a (erase z) → Replaces y z p.marked cs q.marked → StepBy x.definitions (used (moment p)) n (erase p.marked) b (erase q.marked)
@@ -121,77 +84,64 @@ module _ (x : Context) where
 
   entered_shows : (p : Place) (e : Entry) (q : Place) → IsCancel e ⊎ (p.to_cancel ≡ []) → IsNumbered p → Enters x p e q → Explained p e q
   entered_shows p (End s) q o n h =
-      record { inside = []; shows = moved p q _ _ _ refl h; numbered = moved_numbered p q _ _ _ h n }
+      record { inside = []; shows = moved p q _ _ _ refl h }
   entered_shows p (Fork s a b) q o n (f, g, ea, eb, h) =
-      record { inside = []; shows = moved p q _ _ _ refl h; numbered = moved_numbered p q _ _ _ h n }
+      record { inside = []; shows = moved p q _ _ _ refl h }
   entered_shows p (Seq s a) q o n (f, g, z, ea, h) =
-      record { inside = []; shows = moved p q _ _ _ refl h; numbered = moved_numbered p q _ _ _ h n }
+      record { inside = []; shows = moved p q _ _ _ refl h }
   entered_shows p (Other s a) q o n (f, g, ea, h) =
-      record { inside = []; shows = moved p q _ _ _ refl h; numbered = moved_numbered p q _ _ _ h n }
+      record { inside = []; shows = moved p q _ _ _ refl h }
   entered_shows p (Def s a) q o n (e, ps, d, cs, ea, is, r, h) = record {
     inside = [];
     shows = acted p q silent _ (none_or o) tt (Def s a) DefRule refl (whole p q _ _ cs silent silent DefRule (within_silent cs) tt ((def_rule is), refl) r) h;
-    numbered = acted_numbered p q silent _ tt h n;
   }
   entered_shows p (entry.Void s) q o n (t, cs, is, r, h) = record {
     inside = [];
     shows = (let v = void_steps p t is in acted p q silent _ (none_or o) tt (entry.Void s) v.0 v.1 (whole p q _ _ cs silent silent v.0 (within_silent cs) tt v.2 r) h);
-    numbered = acted_numbered p q silent _ tt h n;
   }
   entered_shows p (Open s c a b) q o n (f, g, z, cs, ec, ea, eb, r, h) = record {
     inside = [];
-    shows = acted p q (opens c) _ (none_or o) tt (Open s c a b) PruneOpen refl (whole p q _ _ cs (opens c) (opens c) PruneOpen (within_opens cs c) tt ((prune_open (new_next c p.cells p.cells ec n.cells)), refl) r) h;
-    numbered = acted_numbered p q (opens c) _ ec h n;
+    shows = acted p q (opens c) _ (none_or o) tt (Open s c a b) PruneOpen refl (whole p q _ _ cs (opens c) (opens c) PruneOpen (within_opens cs c) tt ((prune_open (new_cell p c n ec)), refl) r) h;
   }
   entered_shows p (Send s a v) q o n (ea, e, h) = record {
     inside = [];
     shows = acted p q silent _ (none_or o) tt (Send s a v) SeqValue refl (emits_named x.definitions (used (moment p)) e) h;
-    numbered = acted_numbered p q silent _ tt h n;
   }
   entered_shows p (Call s k m args) q o n (ps, cs, ek, is, r, h) = record {
     inside = cs;
-    shows = acted p q (calls k m args cs) _ (none_or o) tt (Call s k m args) SiteCall refl (whole p q _ _ cs (calls k m args []) (calls k m args cs) SiteCall (within_calls cs k m args) tt ((site_call is (new_next k p.calls (map number_of p.calls) ek n.calls)), refl) r) h;
-    numbered = acted_numbered p q (calls k m args cs) _ ek h n;
+    shows = acted p q (calls k m args cs) _ (none_or o) tt (Call s k m args) SiteCall refl (whole p q _ _ cs (calls k m args []) (calls k m args cs) SiteCall (within_calls cs k m args) tt ((site_call is (new_call p k n ek)), refl) r) h;
   }
   entered_shows p (Return k a v) q o n (cs, ea, due, r, h) = record {
     inside = [];
     shows = acted p q (returns k (Gives v)) _ (none_or o) due (Return k a v) ReturnRule refl (whole p q _ _ cs (returns k (Gives v)) (returns k (Gives v)) ReturnRule (within_returns cs k (Gives v)) tt (return_rule, refl) r) h;
-    numbered = acted_numbered p q (returns k (Gives v)) _ tt h n;
   }
   entered_shows p (ReturnHalt k) q o n (cs, due, r, h) = record {
     inside = [];
     shows = acted p q (returns k Halt) _ (none_or o) due (ReturnHalt k) ReturnRule refl (whole p q _ _ cs (returns k Halt) (returns k Halt) ReturnRule (within_returns cs k Halt) tt (return_rule, refl) r) h;
-    numbered = acted_numbered p q (returns k Halt) _ tt h n;
   }
   entered_shows p (Bind s c v) q o n (e, h) = record {
     inside = [];
     shows = acted p q (binds c v) _ (none_or o) tt (Bind s c v) PruneBind refl (emits_named x.definitions (used (moment p)) e) h;
-    numbered = acted_numbered p q (binds c v) _ tt h n;
   }
   entered_shows p (Lost c) q o n (f, g, cs, halted, r, h) = record {
     inside = [];
     shows = acted p q (loses c) _ (none_or o) tt (Lost c) PruneLost refl (whole p q _ _ cs (loses c) (loses c) PruneLost (within_loses cs c) tt (lost_step p f g c halted) r) h;
-    numbered = acted_numbered p q (loses c) _ tt h n;
   }
   entered_shows p (Right s a) q o n (f, g, cs, ea, halted, r, h) = record {
     inside = [];
     shows = acted p q silent _ (none_or o) tt (Right s a) OtherHalt refl (whole p q _ _ cs silent silent OtherHalt (within_silent cs) tt ((other_halt halted), refl) r) h;
-    numbered = acted_numbered p q silent _ tt h n;
   }
   entered_shows p (Publish s v) q o n (e, h) = record {
     inside = [];
     shows = acted p q (publishes v) _ (none_or o) tt (Publish s v) ValueRule refl (emits_named x.definitions (used (moment p)) e) h;
-    numbered = acted_numbered p q (publishes v) _ tt h n;
   }
   entered_shows p (Tick t) q o n (tick, same) = record {
     inside = [];
     shows = (none_or o, tick, ap moment same);
-    numbered = numbered_after p silent q tt (ap (λ (r : Place). r.calls) same) (ap (λ (r : Place). r.cells) same) n;
   }
   entered_shows p (Cancel k) q o n (due, same) = record {
     inside = [];
     shows = (due, ap moment same);
-    numbered = numbered_after p silent q tt (ap (λ (r : Place). r.calls) same) (ap (λ (r : Place). r.cells) same) n;
   }
 
   run_append : (s mid t : Moment) (es fs : List Event) → Run x s es mid → Run x mid fs t → Run x s (es ++ fs) t
@@ -202,20 +152,15 @@ module _ (x : Context) where
   journal_run p q [] n h = ([], refl, ap moment h)
   journal_run p q (e ∷ es) n (mid, lead, h) =
       let here = entered_shows p e mid lead.0 n lead.1 in
-      let rest = journal_run mid q es here.numbered h in
+      let rest = journal_run mid q es (entered_numbered x p e mid lead.1 n) h in
       (option_to_list (event_of e here.inside) ++ rest.0, (here.inside, rest.0, refl, rest.1), run_append (moment p) (moment mid) (moment q) _ rest.0 (run_of (moment p) (moment mid) e (event_of e here.inside) here.shows) rest.2)
-
-  journal_numbered : (p q : Place) (es : List Entry) → IsNumbered p → Journal x p es q → IsNumbered q
-  journal_numbered p q [] n h = subst IsNumbered h n
-  journal_numbered p q (e ∷ es) n (mid, lead, h) = journal_numbered mid q es (entered_shows p e mid lead.0 n lead.1).numbered h
 
 -- from a program's term on, each entry is its step
 pub entry_is_its_step : EntryIsItsStep
 entry_is_its_step x t es p e q h lead =
-    let n = journal_numbered x (begin t) p es (record { calls = tt; cells = tt }) h in
-    let s = entered_shows x p e q lead.0 n lead.1 in
+    let s = entered_shows x p e q lead.0 (journal_is_numbered x t es p h) lead.1 in
     (s.inside, s.shows)
 
 -- from a program's term on, each journal is a timed run
 pub journal_is_timed_run : JournalIsTimedRun
-journal_is_timed_run x t es q h = journal_run x (begin t) q es (record { calls = tt; cells = tt }) h
+journal_is_timed_run x t es q h = journal_run x (begin t) q es (begin_numbered t) h

@@ -1,5 +1,6 @@
-pub mod Distinct
+pub mod Determined
 pub mod Dropped
+pub mod Emitted
 pub mod Equations
 pub mod Explained
 pub mod Idle
@@ -7,6 +8,7 @@ pub mod Late
 pub mod Lift
 pub mod Lookup
 pub mod Lost
+pub mod Numbered
 pub mod Refusal
 pub mod Sites
 pub mod Sources

@@ -150,6 +150,6 @@ Shows x s e (Some (cancels k)) s' = Happens x s (cancels k) s'
 abbrev pub EntryIsItsStep : Type 0
 EntryIsItsStep = (x : Context) (t : Term) (es : List Entry) (p : Place) (e : Entry) (q : Place) → Journal x (begin t) es p → Leads x p e q → (cs : List ℕ) × Shows x (moment p) e (event_of e cs) (moment q)
 
--- from a place to which a journal of a program leads, an entry leads to one place at most: still to be proved
+-- from a place to which a journal of a program leads, an entry leads to one place at most: the marked term is a function of the journal
 abbrev pub LeadsToOne : Type 0
 LeadsToOne = (x : Context) (t : Term) (es : List Entry) (p : Place) (e : Entry) (q r : Place) → Journal x (begin t) es p → Leads x p e q → Leads x p e r → q ≡ r

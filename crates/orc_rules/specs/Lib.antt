@@ -1,9 +1,9 @@
 pub mod Idle
 pub mod Journal
-pub mod Lookup
 pub mod Lost
 pub mod Marked
 pub mod Nodes
+pub mod Numbered
 pub mod Program
 pub mod Programs
 pub mod Refusal
