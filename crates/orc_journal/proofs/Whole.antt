@@ -1,0 +1,20 @@
+-- Reading one entry, as its contract says it.
+use Rattle.std.proofs.Common.{◌≡◌, ℕ, List, ◌++◌, Option, Some, None, Bor, ap, subst, ◌∙◌}
+use Rattle.std.specs.Prelude.{IfSome}
+use Rattle.orc_rules.specs.declared.entry.Entry.{Entry}
+use Rattle.orc_rules.specs.Sites.{AreNames}
+use Rattle.orc_journal.specs.Reading.{Gives, entry_at}
+use Rattle.orc_rules.specs.Text.{line, Fits}
+use Rattle.orc_journal.proofs.Entries.{AreCodes, entry_takes, entry_again}
+use Rattle.orc_journal.proofs.Names.{call_code}
+
+codes_of : (names : List (List ℕ)) → AreNames names → AreCodes names
+codes_of names are = record { call = call_code names are }
+
+pub is_found : (names : List (List ℕ)) (are : AreNames names) (bytes : List ℕ) (r : Option (Entry × Bor (List ℕ))) → Gives (λ x. (x.0, x.1.now)) r (entry_at names bytes) → IfSome r (λ x. (bytes ≡ line names x.0 ++ x.1.now) × Fits names x.0)
+is_found names are bytes (Some x) given = entry_takes names (codes_of names are) bytes x.0 x.1.now given
+is_found names are bytes None given = tt
+
+pub is_only : (names : List (List ℕ)) (are : AreNames names) (bytes : List ℕ) (r : Option (Entry × Bor (List ℕ))) → Gives (λ x. (x.0, x.1.now)) r (entry_at names bytes)
+    → (e : Entry) (rest : List ℕ) → Fits names e → bytes ≡ line names e ++ rest → Gives {Y = Entry × List ℕ} (λ x. (x.0, x.1.now)) r (Some (e, rest))
+is_only names are bytes r given e rest fits text = subst (λ (o : Option (Entry × List ℕ)). Gives {Y = Entry × List ℕ} (λ x. (x.0, x.1.now)) r o) (ap (entry_at names) text ∙ entry_again names (codes_of names are) e rest fits) given

@@ -1,0 +1,337 @@
+//! Reading entries from lines.
+
+ghost use Rattle.std.specs.Prelude.{◌≡◌, ◌++◌, List, length, option_map, ℕ, IfSome, Some, ◌<◌, ◌≤◌, ◌^◌, ◌-◌, negsuc};
+ghost use Rattle.orc_journal.specs.Reading.{Gives, after, digits_from, is_plain, digits_at, number_at, value_at, number_field, value_field, pair_field, sent_field, outcome_field, split_name, name_at, values_at, arguments_at, call_field, all_kinds, kind_from, fields_at, entry_at};
+ghost use Rattle.orc_rules.specs.Text.{line, Fits};
+ghost use Rattle.orc_rules.specs.declared.entry.Entry.{Entry as EntryOf};
+
+use crate::kind::Kind;
+use orc_rules::answers::Answers;
+use orc_rules::entry::Entry;
+use orc_rules::value::{Args, Value};
+
+// The bytes after a text.
+fn after<'a>(text: &[u8], bytes: &'a [u8]) -> Option<&'a [u8]>
+    ensures { Gives (λ r. r.now) result (after text.now bytes.now) }
+{
+    match text {
+        [] => Some(bytes),
+        [c, text @ ..] => match bytes {
+            [] => None,
+            [b, bytes @ ..] => if *b == *c { after(text, bytes) } else { None },
+        },
+    }
+}
+
+// Whether a digit stands first, and no second one after a zero.
+fn is_plain(bytes: &[u8]) -> bool
+    ensures { result ≡ is_plain bytes.now }
+{
+    match bytes {
+        [] => false,
+        [c] => c.is_ascii_digit(),
+        [c, d, ..] => c.is_ascii_digit() && !(*c == b'0' && d.is_ascii_digit()),
+    }
+}
+
+// The number of the digits that stand first.
+fn digits_at(bytes: &[u8]) -> Option<(u64, &[u8])>
+    ensures { Gives (λ x. (x.0, x.1.now)) result (digits_at bytes.now) }
+{
+    let mut number: u64 = 0;
+    let mut rest = bytes;
+    while let [c, behind @ ..] = rest {
+        if !c.is_ascii_digit() {
+            return Some((number, rest));
+        }
+        number = number.checked_mul(10)?.checked_add((*c - b'0') as u64)?;
+        rest = behind;
+    }
+    Some((number, rest))
+}
+
+// The number in decimal that stands first, with no leading zeros.
+#[tactic(auto, unfolding(crate::specs::Reading::number_at))]
+fn number_at(bytes: &[u8]) -> Option<(u64, &[u8])>
+    ensures { Gives (λ x. (x.0, x.1.now)) result (number_at bytes.now) }
+{
+    if is_plain(bytes) {
+        digits_at(bytes)
+    } else {
+        None
+    }
+}
+
+fn negated(number: u64) -> i64
+    requires some { 0 < number }
+    requires fits { number - 1 < 2 ^ 63 }
+    ensures { result ≡ negsuc (number - 1) }
+{
+    let below = (number - 1) as i64;
+    -1 - below
+}
+
+#[tactic(auto, unfolding(crate::specs::Reading::value_at))]
+fn value_at(bytes: &[u8]) -> Option<(Value, &[u8])>
+    ensures { Gives (λ x. (x.0, x.1.now)) result (value_at bytes.now) }
+{
+    if let Some(rest) = after(b"true", bytes) {
+        return Some((Value::Truth(true), rest));
+    }
+    if let Some(rest) = after(b"false", bytes) {
+        return Some((Value::Truth(false), rest));
+    }
+    if let Some(rest) = after(b"signal", bytes) {
+        return Some((Value::Signal, rest));
+    }
+    if let Some(rest) = after(b"-", bytes) {
+        let (number, rest) = number_at(rest)?;
+        if number > 0 && number - 1 < 1 << 63 {
+            return Some((Value::Number(negated(number)), rest));
+        }
+        return None;
+    }
+    let (number, rest) = number_at(bytes)?;
+    if number < 1 << 63 {
+        return Some((Value::Number(number as i64), rest));
+    }
+    None
+}
+
+#[tactic(auto, unfolding(crate::specs::Reading::number_field))]
+fn number_field(bytes: &[u8]) -> Option<(u64, &[u8])>
+    ensures { Gives (λ x. (x.0, x.1.now)) result (number_field bytes.now) }
+{
+    number_at(after(b" ", bytes)?)
+}
+
+#[tactic(auto, unfolding(crate::specs::Reading::value_field))]
+fn value_field(bytes: &[u8]) -> Option<(Value, &[u8])>
+    ensures { Gives (λ x. (x.0, x.1.now)) result (value_field bytes.now) }
+{
+    value_at(after(b" ", bytes)?)
+}
+
+#[tactic(auto, unfolding(crate::specs::Reading::pair_field))]
+fn pair_field(bytes: &[u8]) -> Option<((u64, u64), &[u8])>
+    ensures { Gives (λ x. (x.0, x.1.now)) result (pair_field bytes.now) }
+{
+    let (first, rest) = number_field(bytes)?;
+    let (second, rest) = number_field(rest)?;
+    Some(((first, second), rest))
+}
+
+#[tactic(auto, unfolding(crate::specs::Reading::sent_field))]
+fn sent_field(bytes: &[u8]) -> Option<((u64, Value), &[u8])>
+    ensures { Gives (λ x. (x.0, x.1.now)) result (sent_field bytes.now) }
+{
+    let (mark, rest) = number_field(bytes)?;
+    let (value, rest) = value_field(rest)?;
+    Some(((mark, value), rest))
+}
+
+// ` halt`, or a mark and a value.
+#[tactic(auto, unfolding(crate::specs::Reading::outcome_field))]
+fn outcome_field(bytes: &[u8]) -> Option<(Option<(u64, Value)>, &[u8])>
+    ensures { Gives (λ x. (x.0, x.1.now)) result (outcome_field bytes.now) }
+{
+    if let Some(rest) = after(b" halt", bytes) {
+        return Some((None, rest));
+    }
+    let (sent, rest) = sent_field(bytes)?;
+    Some((Some(sent), rest))
+}
+
+// The bytes before the first bracket, and the others.
+fn split_name(bytes: &[u8]) -> (&[u8], &[u8])
+    ensures { (result.0.now, result.1.now) ≡ split_name bytes.now }
+{
+    let mut end = 0;
+    while end < bytes.len() && bytes[end] != b'(' {
+        end += 1;
+    }
+    bytes.split_at(end)
+}
+
+// A site's number by its name.
+#[tactic(auto, unfolding(crate::specs::Reading::name_at))]
+fn name_at<'a>(bytes: &'a [u8], answers: &Answers) -> Option<(u32, &'a [u8])>
+    ensures { Gives (λ x. (x.0, x.1.now)) result (name_at answers.now.names bytes.now) }
+{
+    let (name, rest) = split_name(bytes);
+    let site = answers.site_named(name)?;
+    Some((site, rest))
+}
+
+#[tactic(auto, unfolding(crate::specs::Reading::arguments_at))]
+fn arguments_at(bytes: &[u8]) -> Option<(Args, &[u8])>
+    ensures { Gives (λ x. (x.0, x.1.now)) result (arguments_at bytes.now) }
+{
+    let rest = after(b"(", bytes)?;
+    if let Some(rest) = after(b")", rest) {
+        return Some((Args::new(), rest));
+    }
+    values_at(rest)
+}
+
+// One to 16 values with commas between them, and the bracket.
+fn values_at(bytes: &[u8]) -> Option<(Args, &[u8])>
+    ensures { Gives (λ x. (x.0, x.1.now)) result (values_at 16 bytes.now) }
+{
+    let mut args = Args::new();
+    let mut rest = bytes;
+    for _ in 0..16usize {
+        let (value, behind) = value_at(rest)?;
+        args.push(value);
+        if let Some(behind) = after(b")", behind) {
+            return Some((args, behind));
+        }
+        rest = after(b", ", behind)?;
+    }
+    None
+}
+
+#[tactic(auto, unfolding(crate::specs::Reading::call_field))]
+fn call_field<'a>(bytes: &'a [u8], answers: &Answers) -> Option<((u32, Args), &'a [u8])>
+    ensures { Gives (λ x. (x.0, x.1.now)) result (call_field answers.now.names bytes.now) }
+{
+    let (site, rest) = name_at(after(b" ", bytes)?, answers)?;
+    let (args, rest) = arguments_at(rest)?;
+    Some(((site, args), rest))
+}
+
+const KINDS: [Kind; 16] = [
+    Kind::Call,
+    Kind::Return,
+    Kind::Send,
+    Kind::Fork,
+    Kind::Publish,
+    Kind::Seq,
+    Kind::End,
+    Kind::Open,
+    Kind::Bind,
+    Kind::Def,
+    Kind::Void,
+    Kind::Other,
+    Kind::Lost,
+    Kind::Right,
+    Kind::Tick,
+    Kind::Cancel,
+];
+
+// The word with which a line begins.
+fn kind_at(bytes: &[u8]) -> Option<(Kind, &[u8])>
+    ensures { Gives (λ x. (x.0, x.1.now)) result (kind_from all_kinds bytes.now) }
+{
+    for kind in &KINDS {
+        if let Some(rest) = after(kind.word(), bytes) {
+            return Some((*kind, rest));
+        }
+    }
+    None
+}
+
+#[tactic(auto, unfolding(crate::specs::Reading::fields_at))]
+fn fields_at<'a>(kind: Kind, bytes: &'a [u8], answers: &Answers) -> Option<(Entry, &'a [u8])>
+    ensures { Gives (λ x. (x.0, x.1.now)) result (fields_at answers.now.names kind bytes.now) }
+{
+    match kind {
+        Kind::End => {
+            let (s, rest) = number_field(bytes)?;
+            Some((Entry::End(s), rest))
+        }
+        Kind::Fork => {
+            let (s, rest) = number_field(bytes)?;
+            let ((a, b), rest) = pair_field(rest)?;
+            Some((Entry::Fork(s, a, b), rest))
+        }
+        Kind::Seq => {
+            let ((s, a), rest) = pair_field(bytes)?;
+            Some((Entry::Seq(s, a), rest))
+        }
+        Kind::Other => {
+            let ((s, a), rest) = pair_field(bytes)?;
+            Some((Entry::Other(s, a), rest))
+        }
+        Kind::Def => {
+            let ((s, a), rest) = pair_field(bytes)?;
+            Some((Entry::Def(s, a), rest))
+        }
+        Kind::Void => {
+            let (s, rest) = number_field(bytes)?;
+            Some((Entry::Void(s), rest))
+        }
+        Kind::Open => {
+            let (s, rest) = number_field(bytes)?;
+            let (c, rest) = number_field(rest)?;
+            let ((a, b), rest) = pair_field(rest)?;
+            Some((Entry::Open(s, c, a, b), rest))
+        }
+        Kind::Send => {
+            let (s, rest) = number_field(bytes)?;
+            let ((a, v), rest) = sent_field(rest)?;
+            Some((Entry::Send(s, a, v), rest))
+        }
+        Kind::Call => {
+            let (s, rest) = number_field(bytes)?;
+            let (k, rest) = number_field(rest)?;
+            let ((site, args), rest) = call_field(rest, answers)?;
+            Some((Entry::Call(s, k, site, args), rest))
+        }
+        Kind::Return => {
+            let (k, rest) = number_field(bytes)?;
+            let (outcome, rest) = outcome_field(rest)?;
+            match outcome {
+                None => Some((Entry::ReturnHalt(k), rest)),
+                Some((a, v)) => Some((Entry::Return(k, a, v), rest)),
+            }
+        }
+        Kind::Bind => {
+            let (s, rest) = number_field(bytes)?;
+            let ((c, v), rest) = sent_field(rest)?;
+            Some((Entry::Bind(s, c, v), rest))
+        }
+        Kind::Lost => {
+            let (c, rest) = number_field(bytes)?;
+            Some((Entry::Lost(c), rest))
+        }
+        Kind::Right => {
+            let ((s, a), rest) = pair_field(bytes)?;
+            Some((Entry::Right(s, a), rest))
+        }
+        Kind::Publish => {
+            let ((s, v), rest) = sent_field(bytes)?;
+            Some((Entry::Publish(s, v), rest))
+        }
+        Kind::Tick => {
+            let (t, rest) = number_field(bytes)?;
+            Some((Entry::Tick(t), rest))
+        }
+        Kind::Cancel => {
+            let (k, rest) = number_field(bytes)?;
+            Some((Entry::Cancel(k), rest))
+        }
+    }
+}
+
+// The entry whose line stands first.
+#[tactic(auto, unfolding(crate::specs::Reading::entry_at))]
+fn entry_at<'a>(bytes: &'a [u8], answers: &Answers) -> Option<(Entry, &'a [u8])>
+    ensures { Gives (λ x. (x.0, x.1.now)) result (entry_at answers.now.names bytes.now) }
+{
+    let (kind, rest) = kind_at(bytes)?;
+    let (entry, rest) = fields_at(kind, rest, answers)?;
+    let rest = after(b"\n", rest)?;
+    Some((entry, rest))
+}
+
+/// The entry whose line stands first, and the bytes after the line. None exactly where no line of an entry stands first.
+pub fn read_entry<'a>(bytes: &'a [u8], answers: &Answers) -> Option<(Entry, &'a [u8])>
+    // What is read was written so.
+    ensures found { IfSome result (λ x. (bytes.now ≡ line answers.now.names x.0 ++ x.1.now) × Fits answers.now.names x.0) }
+    // What is written so is read, whatever follows it.
+    ensures only { (e : EntryOf) (rest : List ℕ) → Fits answers.now.names e → bytes.now ≡ line answers.now.names e ++ rest → Gives {Y = EntryOf × List ℕ} (λ x. (x.0, x.1.now)) result (Some (e, rest)) }
+{
+    answers.are_apart();
+    entry_at(bytes, answers)
+}
