@@ -1,6 +1,6 @@
 //! A program's terms as numbered nodes, parts before wholes.
 
-ghost use Rattle.std.specs.Prelude.{◌≡◌, ◌≤◌, ◌++◌, ◌∷◌, [], List, length, map, IfOk, OnOk, OnErr, slice_get, slice_index_or, option_map};
+ghost use Rattle.std.specs.Prelude.{◌≡◌, ℕ, ◌≤◌, ◌++◌, ◌∷◌, [], List, length, map, IfOk, OnOk, OnErr, slice_get, slice_index_or, option_map};
 ghost use Rattle.orc_rules.specs.Nodes.{node_of, unfold_node, code, HasParts, ArePartsFirst, Listing, Routine, Terms as Listed};
 ghost use Rattle.orc_rules.specs.Programs.{listing, routine_of};
 
@@ -169,5 +169,19 @@ impl Program {
         ensures { ArePartsFirst self.now.nodes }
     {
         let _terms = &self.terms;
+    }
+
+    /// How many nodes the terms have.
+    pub fn len(&self) -> usize
+        ensures { result ≡ length self.now.nodes }
+    {
+        self.terms.nodes.len()
+    }
+
+    /// Each node's term is made of those of its parts, and is `stop` where there is no node.
+    pub fn are_unfolded(&self)
+        ensures { (i : ℕ) → code self.now i ≡ unfold_node (code self.now) self.now.lists (node_of self.now.nodes i) }
+    {
+        self.are_parts_first();
     }
 }
