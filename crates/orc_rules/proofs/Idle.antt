@@ -9,12 +9,13 @@ use Rattle.orc_rules.specs.Term.{Term, stop, param, site, call, par, seq, prune,
 use Rattle.orc_rules.specs.Step.{Act, calls, returns, binds, loses, publishes, silent, opens, within, Used, IsNew, Step, value_rule, void_value, site_call, void_call, return_rule, def_rule, par_left, par_right, seq_other, seq_value, prune_open, prune_left, prune_right, prune_bind, prune_lost, other_step, other_value, other_halt}
 use Rattle.orc_rules.specs.Timed.{Context, Moment, IsIn, IsDue, IsLater, IsIdle, used}
 use Rattle.orc_rules.specs.Idle.{has_halted, has_void, can_move}
+use Rattle.orc_rules.specs.Tests.{IsOwn}
 
-or_false : (a b : Bool) → (a || b) ≡ false → (a ≡ false) × (b ≡ false)
+pub or_false : (a b : Bool) → (a || b) ≡ false → (a ≡ false) × (b ≡ false)
 or_false true b h = cc h
 or_false false b h = (refl, h)
 
-halted_test : (f : Term) → Halted f → has_halted f ≡ true
+pub halted_test : (f : Term) → Halted f → has_halted f ≡ true
 halted_test stop h = refl
 halted_test (par f g) h = λ i. halted_test f h.0 i && halted_test g h.1 i
 halted_test (opened f c g) h = λ i. halted_test f h.0 i && halted_test g h.1 i
@@ -37,18 +38,18 @@ void_test (Name x ∷ ps) (inr h) = void_test ps h
 void_test (Cell c ∷ ps) (inr h) = void_test ps h
 
 -- the act is a return of one of these calls
-record IsReturn (a : Act) (ks : List ℕ) : Type 0 where
-  call : ℕ
-  answer : Answer
-  is : a ≡ returns call answer
-  pends : IsIn call ks
+pub record IsReturn (a : Act) (ks : List ℕ) : Type 0 where
+  pub call : ℕ
+  pub answer : Answer
+  pub is : a ≡ returns call answer
+  pub pends : IsIn call ks
 
-in_front : (u : ℕ) (us vs : List ℕ) → IsIn u us → IsIn u (us ++ vs)
+pub in_front : (u : ℕ) (us vs : List ℕ) → IsIn u us → IsIn u (us ++ vs)
 in_front u (w ∷ us) vs (inl e) = inl e
 in_front u (w ∷ us) vs (inr h) = inr (in_front u us vs h)
 in_front u [] vs h = elim h [ ]
 
-in_back : (u : ℕ) (us vs : List ℕ) → IsIn u vs → IsIn u (us ++ vs)
+pub in_back : (u : ℕ) (us vs : List ℕ) → IsIn u vs → IsIn u (us ++ vs)
 in_back u [] vs h = h
 in_back u (w ∷ us) vs h = inr (in_back u us vs h)
 
@@ -65,7 +66,7 @@ no_publication : {v : Value} {ks : List ℕ} {A : Type 0} → IsReturn (publishe
 no_publication r = cc r.is
 
 module _ (defs : List Definition) (used : Used) where
-  idle_returns : {t u : Term} {a : Act} → Step defs used t a u → can_move defs t ≡ false → IsReturn a (pending_of t)
+  pub idle_returns : {t u : Term} {a : Act} → Step defs used t a u → can_move defs t ≡ false → IsReturn a (pending_of t)
   idle_returns value_rule h = cc h
   idle_returns void_value h = cc h
   idle_returns (site_call {ps = ps} is new) h = cc (ap is_some is, (or_false (is_some (values_of ps)) (has_void ps) h).0)
@@ -98,7 +99,7 @@ idle_by_test x s h later a u d =
     let r = idle_returns x.definitions (used s) d h in
     subst (λ w. IsLater x.sites s w) (sym r.is) (λ b t due. later r.call b t r.pends due)
 
-or_true : (a b : Bool) → (a || b) ≡ true → (a ≡ true) ⊎ (b ≡ true)
+pub or_true : (a b : Bool) → (a || b) ≡ true → (a ≡ true) ⊎ (b ≡ true)
 or_true true b h = inl refl
 or_true false b h = inr h
 
@@ -106,7 +107,7 @@ both_true : (a b : Bool) → (a && b) ≡ true → (a ≡ true) × (b ≡ true)
 both_true true b h = (refl, h)
 both_true false b h = cc h
 
-test_halted : (f : Term) → has_halted f ≡ true → Halted f
+pub test_halted : (f : Term) → has_halted f ≡ true → Halted f
 test_halted stop h = tt
 test_halted (par f g) h = let k = both_true (has_halted f) (has_halted g) h in (test_halted f k.0, test_halted g k.1)
 test_halted (opened f c g) h = let k = both_true (has_halted f) (has_halted g) h in (test_halted f k.0, test_halted g k.1)
@@ -124,11 +125,6 @@ test_void (Void ∷ ps) h = inl refl
 test_void (Is v ∷ ps) h = inr (test_void ps h)
 test_void (Name x ∷ ps) h = inr (test_void ps h)
 test_void (Cell c ∷ ps) h = inr (test_void ps h)
-
--- an act that is no return
-abbrev pub IsOwn : Act → Type 0
-IsOwn (returns k a) = ⊥
-IsOwn _ = Unit {0}
 
 module _ (defs : List Definition) (used : Used) (k c : ℕ) (new_k : IsNew k used.calls) (new_c : IsNew c used.cells) where
   pub record CanStep (t : Term) : Type 0 where

@@ -1,3 +1,4 @@
+pub mod Counts
 pub mod Determined
 pub mod Dropped
 pub mod Emitted
@@ -12,6 +13,7 @@ pub mod Numbered
 pub mod Refusal
 pub mod Sites
 pub mod Sources
+pub mod Tests
 pub mod Unfolding
 pub mod Worked
 pub mod WorkedOtherwises

@@ -12,7 +12,7 @@ use Rattle.orc_rules.specs.Step.{Act}
 use Rattle.orc_rules.specs.Marked.{Marked, ended, token, in_call, in_par, in_seq, in_opened, in_other, erase, fill_marked, Replaces, here, in_left, in_right, in_feeding, in_main, in_side, in_entered, Emits, emits, on_left, on_right, on_feeding, is_fed, on_main, on_side, is_bound, on_entered, passes}
 use Rattle.orc_rules.specs.Timed.{Context}
 use Rattle.orc_rules.specs.Journal.{Place, Enters, Journal, begin}
-use Rattle.orc_rules.specs.Lost.{IsSource, HoldsSource, AreSource, NothingLostFrom}
+use Rattle.orc_rules.specs.Lost.{IsSource, HoldsSource, AreSource, NothingLostFrom, JournalHoldsSource}
 use Rattle.orc_rules.proofs.Lost.{nothing_lost}
 use Rattle.orc_rules.proofs.Dropped.{cancels_exist}
 
@@ -91,7 +91,7 @@ body_source (b ∷ ds) zero d s h = let is : b ≡ d = some_is b d h in subst (�
     some_is b d h = ap (or_that b) h
 body_source (b ∷ ds) (suc e) d s h = body_source ds e d s.1 h
 
-entered_source : (x : Context) (p : Place) (e : Entry) (q : Place) → AreSource x.definitions → Enters x p e q → HoldsSource p.marked → HoldsSource q.marked
+pub entered_source : (x : Context) (p : Place) (e : Entry) (q : Place) → AreSource x.definitions → Enters x p e q → HoldsSource p.marked → HoldsSource q.marked
 entered_source x p (End s) q ds h src = replaced_source (λ k. tt) h.part src
 entered_source x p (Fork s a b) q ds (f, g, ea, eb, h) src = replaced_source (λ k. k) h.part src
 entered_source x p (Seq s a) q ds (f, g, z, ea, h) src = replaced_source (λ k. k) h.part src
@@ -110,7 +110,7 @@ entered_source x p (Publish s v) q ds (e, h) src = emits_source e src
 entered_source x p (Tick t) q ds (tick, same) src = subst (λ (w : Place). HoldsSource w.marked) (sym same) src
 entered_source x p (Cancel k) q ds (due, same) src = subst HoldsSource (sym (ap (λ (w : Place). w.marked) same)) src
 
-journal_source : (x : Context) (p q : Place) (es : List Entry) → AreSource x.definitions → Journal x p es q → HoldsSource p.marked → HoldsSource q.marked
+pub journal_source : (x : Context) (p q : Place) (es : List Entry) → AreSource x.definitions → Journal x p es q → HoldsSource p.marked → HoldsSource q.marked
 journal_source x p q [] ds h src = subst (λ (w : Place). HoldsSource w.marked) h src
 journal_source x p q (e ∷ es) ds (mid, lead, h) src = journal_source x mid q es ds h (entered_source x p e mid ds lead.1 src)
 
@@ -118,3 +118,6 @@ pub nothing_lost_from : NothingLostFrom
 nothing_lost_from x t es p a u ds src h o next timely step =
     let w = cancels_exist x a (erase p.marked) u in
     (w.0, w.1, nothing_lost x p a u w.0 (journal_source x (begin t) p es ds h src) o next timely step w.1)
+
+pub journal_holds_source : JournalHoldsSource
+journal_holds_source x t es p ds src h = journal_source x (begin t) p es ds h src

@@ -1,8 +1,9 @@
--- Tests on terms: whether one has halted, and whether a rule other than a return can be used.
-use Rattle.std.specs.Prelude.{List, [], ◌∷◌, Bool, true, false, ◌&&◌, ◌||◌, is_some, slice_get}
+-- Tests on terms: whether one has halted, and whether a rule other than a return can be used; the same on marked terms, as counts and lists.
+use Rattle.std.specs.Prelude.{ℕ, ◌+◌, List, [], ◌∷◌, ◌++◌, Bool, true, false, ◌&&◌, ◌||◌, is_some, slice_get}
 use Rattle.orc_rules.specs.declared.param.Param.{Param}
 use Rattle.orc_rules.specs.declared.param.Param.TheVariants.{Is, Void}
 use Rattle.orc_rules.specs.Term.{Term, stop, param, site, call, par, seq, prune, other, pending, opened, Definition, values_of}
+use Rattle.orc_rules.specs.Marked.{Marked, ended, token, in_call, in_par, in_seq, in_opened, in_other, erase}
 
 -- whether a term has halted
 abbrev pub has_halted : Term → Bool
@@ -34,3 +35,28 @@ can_move defs (prune f x g) = true
 can_move defs (other f g) = can_move defs f || has_halted f
 can_move defs (pending k) = false
 can_move defs (opened f c g) = can_move defs f || (can_move defs g || has_halted g)
+
+-- 1 for true
+abbrev pub one : Bool → ℕ
+one true = 1
+one false = 0
+
+-- how many tokens can move, and how many sides have halted that hold up a cell or an otherwise
+abbrev pub movable : List Definition → Marked → ℕ
+movable defs ended = 0
+movable defs (token s t) = one (can_move defs t)
+movable defs (in_call k) = 0
+movable defs (in_par f g) = movable defs f + movable defs g
+movable defs (in_seq f x g) = movable defs f
+movable defs (in_opened f c g) = movable defs f + (movable defs g + one (has_halted (erase g)))
+movable defs (in_other n f g) = movable defs f + one (has_halted (erase f))
+
+-- the calls that marks show as pending, in the term's order
+abbrev pub calls_of : Marked → List ℕ
+calls_of ended = []
+calls_of (token s t) = []
+calls_of (in_call k) = k ∷ []
+calls_of (in_par f g) = calls_of f ++ calls_of g
+calls_of (in_seq f x g) = calls_of f
+calls_of (in_opened f c g) = calls_of f ++ calls_of g
+calls_of (in_other n f g) = calls_of f

@@ -11,6 +11,7 @@ pub mod Sites
 pub mod Step
 pub mod Tables
 pub mod Term
+pub mod Tests
 pub mod Text
 pub mod Timed
 pub mod Trace

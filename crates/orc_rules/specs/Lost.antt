@@ -84,3 +84,7 @@ NoTickLost = (x : Context) (p : Place) (t : ℕ) → p.to_cancel ≡ [] → IsTi
 -- from each place to which a journal of a program leads, no step is lost
 abbrev pub NothingLostFrom : Type 0
 NothingLostFrom = (x : Context) (t : Term) (es : List Entry) (p : Place) (a : Act) (u : Term) → AreSource x.definitions → IsSource t → Journal x (begin t) es p → p.to_cancel ≡ [] → TakesNext p a → IsTimely x.sites (moment p) a → Step x.definitions (used (moment p)) (erase p.marked) a u → (to_cancel : List ℕ) × CancelsAfter x a (erase p.marked) u to_cancel × Makes x p a u to_cancel
+
+-- in each place to which a journal of a program leads, what stands under marks and on right sides is a source's
+abbrev pub JournalHoldsSource : Type 0
+JournalHoldsSource = (x : Context) (t : Term) (es : List Entry) (p : Place) → AreSource x.definitions → IsSource t → Journal x (begin t) es p → HoldsSource p.marked

@@ -1,5 +1,4 @@
-use Rattle.std.proofs.Common.{◌≡◌, ℕ, List, Option, Some, None, ap, sym, subst, ◌∙◌}
-use Rattle.std.specs.Prelude.{slice_get}
+use Rattle.std.proofs.Common.{◌≡◌, ℕ, ap, sym, ◌∙◌}
 use Rattle.orc_rules.specs.declared.program.TermNode.{TermNode}
 use Rattle.orc_rules.specs.Nodes.{Listing, ArePartsFirst, node_of, unfold_node, code}
 use Rattle.orc_rules.proofs.Unfolding.{unfolds}
