@@ -2,7 +2,9 @@ pub mod Answering
 pub mod Beginning
 pub mod Change
 pub mod Closing
+pub mod DueCalls
 pub mod Feeding
+pub mod Halting
 pub mod Lists
 pub mod Moves
 pub mod Publishing

@@ -2,6 +2,8 @@
 #![tactic(auto)]
 
 pub mod arena;
+pub mod due;
+pub mod halts;
 pub mod marked;
 
 pub use marked::Marked;

@@ -1,0 +1,65 @@
+//! Which of a program's terms have halted.
+
+ghost use Rattle.std.specs.Prelude.{◌≡◌, ◌++◌, ◌∷◌, [], List, Bool, length, IfOk};
+ghost use Rattle.orc_rules.specs.Nodes.{code, node_of};
+ghost use Rattle.orc_checker.specs.Halting.{halt_flag, node_flag, AreHalts};
+
+use orc_rules::program::{Program, TermNode};
+use std::alloc::{AllocError, Global};
+use std::marker::Model;
+
+/// For each node of a program whether its term has halted.
+#[derive(Drop)]
+pub struct Halts {
+    flags: Vec<bool>,
+}
+
+impl Model for Halts {
+    ghost Value = { List Bool };
+
+    ghost view = { λ h. h.flags.items };
+}
+
+// The flag of that number, true where there is none.
+fn flag_at(flags: &Vec<bool>, i: usize) -> bool
+    ensures { result ≡ halt_flag flags.now.items i }
+{
+    match flags.get(i) {
+        Some(flag) => *flag,
+        None => true,
+    }
+}
+
+// Whether a node's term has halted, by the flags of its parts.
+fn flag_of(flags: &Vec<bool>, node: TermNode) -> bool
+    ensures { result ≡ node_flag flags.now.items node }
+{
+    match node {
+        TermNode::Stop => true,
+        TermNode::Par(f, g) => flag_at(flags, f) && flag_at(flags, g),
+        TermNode::Seq(f, _, _) => flag_at(flags, f),
+        _ => false,
+    }
+}
+
+impl Halts {
+    /// The flags of a program's nodes. The error is refused memory.
+    pub fn new(alloc: Global, program: &Program) -> Result<Halts, AllocError>
+        ensures { IfOk result (λ h. AreHalts (code program.now) h) }
+    {
+        let mut flags = Vec::new(alloc);
+        program.are_unfolded();
+        program.are_parts_first();
+        for i in 0..program.len() {
+            flags.push(flag_of(&flags, program.node(i)))?;
+        }
+        Ok(Halts { flags })
+    }
+
+    /// Whether the term of that node has halted.
+    pub fn at(&self, node: usize) -> bool
+        ensures { result ≡ halt_flag self.now node }
+    {
+        flag_at(&self.flags, node)
+    }
+}
