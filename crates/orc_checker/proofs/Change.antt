@@ -1,16 +1,18 @@
 -- A token's node changes: what the state spells afterwards.
-use Rattle.std.proofs.Common.{◌≡◌, ◌+◌, ℕ, List, [], ◌∷◌, length, Some, refl, sym, ap, ◌∙◌, subst, arith}
+use Rattle.std.proofs.Common.{◌≡◌, ◌≤◌, ◌+◌, ℕ, List, [], ◌∷◌, length, Some, refl, sym, ap, ◌∙◌, subst, arith}
 use Rattle.std.specs.Prelude.{slice_get}
 use Rattle.orc_checker.specs.declared.arena.Node.{Node}
 use Rattle.orc_checker.specs.declared.arena.Tip.{Tip}
-use Rattle.orc_checker.specs.declared.arena.Kind.TheVariants.{Leaf}
+use Rattle.orc_checker.specs.declared.arena.Kind.TheVariants.{Leaf, One}
+use Rattle.orc_checker.specs.declared.arena.Single.TheVariants.{Passed}
 use Rattle.orc_rules.specs.Term.{Term}
 use Rattle.orc_checker.specs.Arena.{Tree, leaf, one, two, place, count, hits, at, Holds, living, living_kind, StandOnce, spelled, env_of, Frame, on_one, on_left, on_right, plug}
 use Rattle.orc_checker.specs.Around.{above}
 use Rattle.orc_checker.specs.Rising.{Stands}
-use Rattle.orc_checker.specs.Checker.{State, Spells}
-use Rattle.orc_rules.specs.Journal.{Place}
-use Rattle.orc_checker.proofs.Trees.{holds-out, holds_replaced, once_replaced, spot, alone, hit}
+use Rattle.orc_checker.specs.Checker.{State, Draws}
+use Rattle.orc_rules.specs.Marked.{Marked}
+use Rattle.orc_checker.proofs.Trees.{holds-out, holds_replaced, once_replaced, spot, alone, hit, one_kind}
+use Rattle.orc_checker.proofs.Spelling.{spelled-kept}
 
 pub place-plug : (k : List Frame) (t t' : Tree) → place t ≡ place t' → place (plug k t) ≡ place (plug k t')
 place-plug [] t t' e = e
@@ -42,37 +44,42 @@ says_of nodes n p i q k t h once a lives =
 
 -- the node of a part without parts becomes a tree, and the rest stays
 pub record Becomes (s s' : State) (i q : ℕ) (t' : Tree) : Type 0 where
-  pub scopes : s'.scopes ≡ s.scopes
-  pub cells : s'.cells ≡ s.cells
+  pub grows : length s.scopes ≤ length s'.scopes
+  pub kept : (e : ℕ) → e ≤ length s.scopes → env_of s.cells s.scopes e ≡ env_of s'.cells s'.scopes e
   pub there : place t' ≡ i
   pub same : (u : ℕ) (x : Node) → (u ≡ i → ⊥) → slice_get s.nodes u ≡ Some x → slice_get s'.nodes u ≡ Some x
-  pub holds : Holds s'.nodes (length s.scopes) q t'
+  pub holds : Holds s'.nodes (length s'.scopes) q t'
   pub counted : (u : ℕ) → count u t' + living (slice_get s.nodes u) ≡ hits u i + living (slice_get s'.nodes u)
 
--- what the state spells then
-pub record Changed (code : ℕ → Term) (s s' : State) (p : Place) (tree : Tree) (i : ℕ) (k : Tip) (t' : Tree) : Type 0 where
+-- what the nodes draw then
+pub record Changed (code : ℕ → Term) (s s' : State) (m : Marked) (tree : Tree) (i : ℕ) (k : Tip) (t' : Tree) : Type 0 where
   pub context : List Frame
   pub before : Stands s.nodes (length s.scopes) i context (leaf i k)
-  pub was : p.marked ≡ spelled code (env_of s.cells s.scopes) (plug context (leaf i k))
+  pub was : m ≡ spelled code (env_of s'.cells s'.scopes) (plug context (leaf i k))
   pub holds : Holds s'.nodes (length s'.scopes) 0 (plug context t')
   pub once : StandOnce s'.nodes (plug context t')
   pub root : place (plug context t') ≡ 0
+  pub top : at s'.nodes 0 0 (One Passed 1)
 
 hits-off : (u i : ℕ) → hits u i ≡ 0 → u ≡ i → ⊥
 hits-off u i z e = omega (arith, z, hit i, ap (λ w. hits w i) e)
 
-pub changed : (code : ℕ → Term) (s s' : State) (p : Place) (sp : Spells code s p) (i q : ℕ) (k : Tip) (t' : Tree) → at s.nodes q i (Leaf k) → living_kind (Leaf k) ≡ 1 → Becomes s s' i q t' → Changed code s s' p sp.tree i k t'
-changed code s s' p sp i q k t' a lives b =
-    let f = says_of s.nodes (length s.scopes) 0 i q k sp.tree sp.holds sp.once a lives in
-    let h : Holds s'.nodes (length s.scopes) 0 (plug f.context t') =
-    holds_replaced s.nodes s'.nodes (length s.scopes) (length s.scopes) 0 (omega arith) f.context (leaf i k) t' f.once f.holds b.there
-    (λ u x z e. b.same u x (hits-off u i z) e)
-    (subst (λ z. Holds s'.nodes (length s.scopes) z t') (sym f.below) b.holds) in
+-- a node without parts isn't the one above the root
+pub below_top : (nodes : List Node) (i q : ℕ) (k : Tip) → at nodes 0 0 (One Passed 1) → at nodes q i (Leaf k) → 0 ≡ i → ⊥
+below_top nodes i q k a b e = let same : One Passed 1 ≡ Leaf k = one_kind nodes 0 0 q _ _ a (subst (λ z. at nodes q z (Leaf k)) (sym e) b) in absurd (cc same)
+
+pub changed : (code : ℕ → Term) (s s' : State) (m : Marked) (d : Draws code s m) (i q : ℕ) (k : Tip) (t' : Tree) → at s.nodes q i (Leaf k) → living_kind (Leaf k) ≡ 1 → Becomes s s' i q t' → Changed code s s' m d.tree i k t'
+changed code s s' m d i q k t' a lives b =
+    let f = says_of s.nodes (length s.scopes) 0 i q k d.tree d.holds d.once a lives in
     record {
       context = f.context;
-      before = record { holds = f.holds; once = f.once; there = refl; root = ap place f.is ∙ sp.root };
-      was = sp.marked ∙ ap (spelled code (env_of s.cells s.scopes)) (sym f.is);
-      holds = subst (λ z. Holds s'.nodes (length z) 0 (plug f.context t')) (sym b.scopes) h;
-      once = once_replaced s.nodes s'.nodes (length s.scopes) (length s.scopes) 0 (omega arith) f.context (leaf i k) t' f.once b.counted;
-      root = place-plug f.context t' (leaf i k) b.there ∙ ap place f.is ∙ sp.root;
+      before = record { holds = f.holds; once = f.once; there = refl; root = ap place f.is ∙ d.root };
+      was = d.marked ∙ spelled-kept code (env_of s.cells s.scopes) (env_of s'.cells s'.scopes) (length s.scopes) b.kept s.nodes 0 d.tree d.holds ∙ ap (spelled code (env_of s'.cells s'.scopes)) (sym f.is);
+      holds =
+          holds_replaced s.nodes s'.nodes (length s.scopes) (length s'.scopes) 0 b.grows f.context (leaf i k) t' f.once f.holds b.there
+          (λ u x z e. b.same u x (hits-off u i z) e)
+          (subst (λ z. Holds s'.nodes (length s'.scopes) z t') (sym f.below) b.holds);
+      once = once_replaced s.nodes s'.nodes (length s.scopes) (length s'.scopes) 0 b.grows f.context (leaf i k) t' f.once b.counted;
+      root = place-plug f.context t' (leaf i k) b.there ∙ ap place f.is ∙ d.root;
+      top = b.same 0 _ (below_top s.nodes i q k d.top a) d.top;
     }

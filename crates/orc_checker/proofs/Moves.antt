@@ -14,7 +14,8 @@ use Rattle.orc_checker.specs.declared.arena.Kind.TheVariants.{Leaf, One, Two}
 use Rattle.orc_rules.specs.Term.{Term, stop, par, seq, other}
 use Rattle.orc_rules.specs.Marked.{Marked, ended, token, in_par, in_seq, in_other, Replaces, here}
 use Rattle.orc_checker.specs.Arena.{Env, Tree, leaf, one, two, hits, at, TipIn, SingleIn, living, living_kind, spelled, env_of, plug, close, without}
-use Rattle.orc_checker.specs.Checker.{State, Spells, Enters, numbers}
+use Rattle.orc_checker.specs.Checker.{State, Draws, Spells, Enters, AreOrdered, AreCells}
+use Rattle.orc_checker.specs.Calls.{Keeps}
 use Rattle.orc_rules.specs.Journal.{Place, Moves}
 use Rattle.orc_rules.specs.Timed.{Context}
 use Rattle.orc_checker.proofs.Trees.{holds-out}
@@ -26,27 +27,32 @@ use Rattle.orc_checker.proofs.Closing.{close-stop, close-par, close-seq, close-o
 abbrev pub node : Kind → ℕ → Node
 node k p = record { kind = k; parent = p }
 
+-- the scopes that are there stay
+pub record Grows (s s' : State) : Type 0 where
+  pub grows : length s.scopes ≤ length s'.scopes
+  pub kept : (e : ℕ) → e ≤ length s.scopes → env_of s.cells s.scopes e ≡ env_of s'.cells s'.scopes e
+
 -- one node is written
-pub written : (s s' : State) (i q : ℕ) (k l : Tip) → at s.nodes q i (Leaf k) → living_kind (Leaf k) ≡ 1 → living_kind (Leaf l) ≡ 1 → TipIn (length s.scopes) l → s'.scopes ≡ s.scopes → s'.cells ≡ s.cells → s'.nodes ≡ slice_set s.nodes i (node (Leaf l) q) → Becomes s s' i q (leaf i l)
-written s s' i q k l a lives lives' inside scopes cells nodes =
+pub written : (s s' : State) (i q : ℕ) (k l : Tip) → at s.nodes q i (Leaf k) → living_kind (Leaf k) ≡ 1 → living_kind (Leaf l) ≡ 1 → Grows s s' → TipIn (length s'.scopes) l → s'.nodes ≡ slice_set s.nodes i (node (Leaf l) q) → Becomes s s' i q (leaf i l)
+written s s' i q k l a lives lives' g inside nodes =
     record {
-      scopes = scopes;
-      cells = cells;
+      grows = g.grows;
+      kept = g.kept;
       there = refl;
       same = λ u x off e. ap (λ z. slice_get z u) nodes ∙ get-set_other s.nodes i u (node (Leaf l) q) off ∙ e;
       holds = (ap (λ z. slice_get z i) nodes ∙ get-set_same s.nodes i (node (Leaf l) q) (node (Leaf k) q) a, inside);
       counted = λ u. omega (arith, living-set s.nodes i u (node (Leaf l) q) (node (Leaf k) q) a (lives' ∙ sym lives), ap (λ z. living (slice_get z u)) nodes);
     }
 
-module _ (s s' : State) (i q n : ℕ) (k l : Tip) (a : at s.nodes q i (Leaf k)) (lives : living_kind (Leaf k) ≡ 1) (lives' : living_kind (Leaf l) ≡ 1) (is_n : n ≡ length s.nodes) (l_in : TipIn (length s.scopes) l) (scopes : s'.scopes ≡ s.scopes) (cells : s'.cells ≡ s.cells) where
+module _ (s s' : State) (i q n : ℕ) (k l : Tip) (a : at s.nodes q i (Leaf k)) (lives : living_kind (Leaf k) ≡ 1) (lives' : living_kind (Leaf l) ≡ 1) (is_n : n ≡ length s.nodes) (g : Grows s s') (l_in : TipIn (length s'.scopes) l) where
   -- one node is written, and one comes below it
-  pub over_one : (d : Single) → SingleIn (length s.scopes) d → s'.nodes ≡ slice_set s.nodes i (node (One d n) q) ++ node (Leaf l) i ∷ [] → Becomes s s' i q (one i d (leaf n l))
+  pub over_one : (d : Single) → SingleIn (length s'.scopes) d → s'.nodes ≡ slice_set s.nodes i (node (One d n) q) ++ node (Leaf l) i ∷ [] → Becomes s s' i q (one i d (leaf n l))
   over_one d inside nodes =
       let first = slice_set s.nodes i (node (One d n) q) in
       let len : length first ≡ length s.nodes = length-set s.nodes i (node (One d n) q) in
       record {
-        scopes = scopes;
-        cells = cells;
+        grows = g.grows;
+        kept = g.kept;
         there = refl;
         same = λ u x off e. ap (λ z. slice_get z u) nodes ∙ get-append first (node (Leaf l) i ∷ []) u x (get-set_other s.nodes i u (node (One d n) q) off ∙ e);
         holds = (
@@ -66,15 +72,15 @@ module _ (s s' : State) (i q n : ℕ) (k l : Tip) (a : at s.nodes q i (Leaf k)) 
       }
 
   -- one node is written, and two come below it
-  pub over_two : (d : Double) (m : Tip) → living_kind (Leaf m) ≡ 1 → TipIn (length s.scopes) m → s'.nodes ≡ (slice_set s.nodes i (node (Two d n (n + 1)) q) ++ node (Leaf l) i ∷ []) ++ node (Leaf m) i ∷ [] → Becomes s s' i q (two i d (leaf n l) (leaf (n + 1) m))
+  pub over_two : (d : Double) (m : Tip) → living_kind (Leaf m) ≡ 1 → TipIn (length s'.scopes) m → s'.nodes ≡ (slice_set s.nodes i (node (Two d n (n + 1)) q) ++ node (Leaf l) i ∷ []) ++ node (Leaf m) i ∷ [] → Becomes s s' i q (two i d (leaf n l) (leaf (n + 1) m))
   over_two d m lives_m m_in nodes =
       let first = slice_set s.nodes i (node (Two d n (n + 1)) q) in
       let second = first ++ node (Leaf l) i ∷ [] in
       let len : length first ≡ length s.nodes = length-set s.nodes i (node (Two d n (n + 1)) q) in
       let len' : n + 1 ≡ length second = omega (arith, is_n, len, length-append first (node (Leaf l) i ∷ [])) in
       record {
-        scopes = scopes;
-        cells = cells;
+        grows = g.grows;
+        kept = g.kept;
         there = refl;
         same = λ u x off e. ap (λ z. slice_get z u) nodes ∙ get-append second (node (Leaf m) i ∷ []) u x (get-append first (node (Leaf l) i ∷ []) u x (get-set_other s.nodes i u (node (Two d n (n + 1)) q) off ∙ e));
         holds = (
@@ -100,58 +106,41 @@ module _ (s s' : State) (i q n : ℕ) (k l : Tip) (a : at s.nodes q i (Leaf k)) 
       }
 
 -- the scope of a token is there
-pub scope_there : (code : ℕ → Term) (s : State) (p : Place) → Spells code s p → (i q m f e : ℕ) → at s.nodes q i (Leaf (Token m f e)) → e ≤ length s.scopes
-scope_there code s p sp i q m f e a =
-    let w = says_of s.nodes (length s.scopes) 0 i q (Token m f e) sp.tree sp.holds sp.once a refl in
+pub scope_there : (code : ℕ → Term) (s : State) (o : Marked) → Draws code s o → (i q m f e : ℕ) → at s.nodes q i (Leaf (Token m f e)) → e ≤ length s.scopes
+scope_there code s o d i q m f e a =
+    let w = says_of s.nodes (length s.scopes) 0 i q (Token m f e) d.tree d.holds d.once a refl in
     (holds-out s.nodes (length s.scopes) 0 w.context (leaf i (Token m f e)) w.holds).1.1
 
--- one part changes, and the state spells what that leaves
-pub record Turn (code : ℕ → Term) (s' : State) (p : Place) (x y : Marked) : Type 0 where
+-- one part changes, and the state draws what that leaves
+pub record Turn (code : ℕ → Term) (s' : State) (m x y : Marked) : Type 0 where
   pub after : Marked
   pub inside : List ℕ
-  pub part : Replaces x y p.marked inside after
-  pub spells : Spells code s' (record { marked = after; mark = length s'.marks; now = s'.time; calls = s'.calls; cells = p.cells; to_cancel = s'.to_cancel })
+  pub part : Replaces x y m inside after
+  pub drawn : Draws code s' after
 
-pub turn : (code : ℕ → Term) (s s' : State) (p : Place) → Spells code s p → (i q : ℕ) (k : Tip) (t' : Tree) → at s.nodes q i (Leaf k) → living_kind (Leaf k) ≡ 1 → Becomes s s' i q t' → Turn code s' p (spelled code (env_of s.cells s.scopes) (leaf i k)) (spelled code (env_of s.cells s.scopes) t')
-turn code s s' p sp i q k t' a lives b =
-    let env = env_of s.cells s.scopes in
-    let ch = changed code s s' p sp i q k t' a lives b in
+pub turn : (code : ℕ → Term) (s s' : State) (m : Marked) → Draws code s m → (i q : ℕ) (k : Tip) (t' : Tree) → at s.nodes q i (Leaf k) → living_kind (Leaf k) ≡ 1 → Becomes s s' i q t' → Turn code s' m (spelled code (env_of s'.cells s'.scopes) (leaf i k)) (spelled code (env_of s'.cells s'.scopes) t')
+turn code s s' m d i q k t' a lives b =
+    let env = env_of s'.cells s'.scopes in
+    let ch = changed code s s' m d i q k t' a lives b in
     let h : Replaces (spelled code env (leaf i k)) (spelled code env t') (spelled code env (leaf i k)) [] (spelled code env t') = here in
     let r = replaces code env ch.context (leaf i k) t' h in
     record {
       after = spelled code env (plug ch.context t');
       inside = r.0;
       part = subst (λ z. Replaces (spelled code env (leaf i k)) (spelled code env t') z r.0 (spelled code env (plug ch.context t'))) (sym ch.was) r.1;
-      spells = record {
-        tree = plug ch.context t';
-        holds = ch.holds;
-        root = ch.root;
-        once = ch.once;
-        marked = sym (λ j. spelled code (env_of (b.cells j) (b.scopes j)) (plug ch.context t'));
-        mark = refl;
-        now = refl;
-        calls = refl;
-        cells = subst (λ z. (n : ℕ) × (length z ≡ suc n) × (p.cells ≡ numbers n)) (sym b.cells) sp.cells;
-        to_cancel = refl;
-      };
-    }
-
--- a move of marks leads on
-pub moves : (code : ℕ → Term) (s s' : State) (p : Place) → Spells code s p → (x y : Marked) (new : ℕ) → length s'.marks ≡ new → s'.time ≡ s.time → s'.calls ≡ s.calls → s'.to_cancel ≡ s.to_cancel → (t : Turn code s' p x y) → Moves p x y new (record { marked = t.after; mark = length s'.marks; now = s'.time; calls = s'.calls; cells = p.cells; to_cancel = s'.to_cancel })
-moves code s s' p sp x y new marks time made to_cancel t =
-    record {
-      inside = t.inside;
-      part = t.part;
-      same = λ j. record { marked = t.after; mark = marks j; now = (time ∙ sym sp.now) j; calls = (made ∙ sym sp.calls) j; cells = p.cells; to_cancel = (to_cancel ∙ sym sp.to_cancel) j };
+      drawn = record { tree = plug ch.context t'; holds = ch.holds; root = ch.root; once = ch.once; top = ch.top; marked = refl };
     }
 
 -- what stays where one part changes
 pub record Stays (s s' : State) (new : ℕ) : Type 0 where
-  pub free : s.to_cancel ≡ []
+  pub free : s.rest.to_cancel ≡ []
+  pub scopes : s'.scopes ≡ s.scopes
+  pub cells : s'.cells ≡ s.cells
   pub marks : length s'.marks ≡ new
-  pub time : s'.time ≡ s.time
-  pub calls : s'.calls ≡ s.calls
-  pub to_cancel : s'.to_cancel ≡ s.to_cancel
+  pub rest : s'.rest ≡ s.rest
+
+pub staying : (s s' : State) → s'.scopes ≡ s.scopes → s'.cells ≡ s.cells → Grows s s'
+staying s s' scopes cells = record { grows = omega (arith, ap length scopes); kept = λ e h. sym (λ j. env_of (cells j) (scopes j) e) }
 
 module _ (code : ℕ → Term) (s s' : State) (i q m f e : ℕ) (a : at s.nodes q i (Leaf (Token m f e))) where
   abbrev env : ℕ → Env
@@ -161,30 +150,43 @@ module _ (code : ℕ → Term) (s s' : State) (i q m f e : ℕ) (a : at s.nodes 
   its t = token m (close (env e) t)
 
   -- a token's node becomes a tree
-  token_moves : (t' : Tree) (c : Term) (y : Marked) (new : ℕ) (x : Context) (p : Place) → Spells code s p → Becomes s s' i q t' → Stays s s' new → code f ≡ c → spelled code env t' ≡ y → (r : Place) × Moves p (its c) y new r × Spells code s' r
+  token_moves : (t' : Tree) (c : Term) (y : Marked) (new : ℕ) (x : Context) (p : Place) → Spells x code s p → Becomes s s' i q t' → Stays s s' new → code f ≡ c → spelled code env t' ≡ y → (r : Place) × Moves p (its c) y new r × Spells x code s' r
   token_moves t' c y new x p sp b st is its_y =
-      let t = turn code s s' p sp i q (Token m f e) t' a refl b in (
-        _,
-        moves code s s' p sp (its c) y new st.marks st.time st.calls st.to_cancel
-            (record { after = t.after; inside = t.inside; part = subst (λ z. Replaces z y p.marked t.inside t.after) (ap its is) (subst (λ z. Replaces (its (code f)) z p.marked t.inside t.after) its_y t.part); spells = t.spells }),
-        t.spells,
+      let t = turn code s s' p.marked sp.drawn i q (Token m f e) t' a refl b in
+      let at_env : (n : ℕ) → env_of s'.cells s'.scopes n ≡ env n = λ n j. env_of (st.cells j) (st.scopes j) n in
+      let is_x : spelled code (env_of s'.cells s'.scopes) (leaf i (Token m f e)) ≡ its c = λ j. token m (close (at_env e j) (is j)) in
+      let is_y : spelled code (env_of s'.cells s'.scopes) t' ≡ y = (λ j. spelled code (env_of (st.cells j) (st.scopes j)) t') ∙ its_y in (
+        record p { marked = t.after; mark = new },
+        record { inside = t.inside; part = subst (λ z. Replaces z y p.marked t.inside t.after) is_x (subst (λ z. Replaces (spelled code (env_of s'.cells s'.scopes) (leaf i (Token m f e))) z p.marked t.inside t.after) is_y t.part); same = refl },
+        record {
+          drawn = t.drawn;
+          mark = sym st.marks;
+          scopes = subst AreOrdered (sym st.scopes) sp.scopes;
+          cells = subst (AreCells p.cells) (sym st.cells) sp.cells;
+          rest = subst (Keeps x p.now p.calls p.to_cancel) (sym st.rest) sp.rest;
+        },
       )
 
-  pub end-enters : code f ≡ stop → s'.nodes ≡ slice_set s.nodes i (node (Leaf Ended) q) → s'.scopes ≡ s.scopes → s'.cells ≡ s.cells → Stays s s' (length s.marks) → Enters code (entry.End m) s s'
-  end-enters is nodes scopes cells st x p sp =
-      let r = token_moves (leaf i Ended) stop ended p.mark x p sp (written s s' i q (Token m f e) Ended a refl refl tt scopes cells nodes) (record { free = st.free; marks = st.marks ∙ sym sp.mark; time = st.time; calls = st.calls; to_cancel = st.to_cancel }) is refl in
-      (r.0, (inr (sp.to_cancel ∙ st.free), subst (λ z. Moves p (token m z) ended p.mark r.0) (close-stop (env e)) r.1), r.2)
+  -- its scope is there afterwards
+  its_scope : {new : ℕ} (x : Context) (p : Place) → Spells x code s p → Stays s s' new → e ≤ length s'.scopes
+  its_scope x p sp st = omega (arith, scope_there code s p.marked sp.drawn i q m f e a, ap length st.scopes)
+
+  pub end-enters : code f ≡ stop → s'.nodes ≡ slice_set s.nodes i (node (Leaf Ended) q) → Stays s s' (length s.marks) → Enters code (entry.End m) s s'
+  end-enters is nodes st x p sp =
+      let b = written s s' i q (Token m f e) Ended a refl refl (staying s s' st.scopes st.cells) tt nodes in
+      let r = token_moves (leaf i Ended) stop ended p.mark x p sp b (record { free = st.free; scopes = st.scopes; cells = st.cells; marks = st.marks ∙ sym sp.mark; rest = st.rest }) is refl in
+      (r.0, (inr (sp.rest.due ∙ st.free), subst (λ z. Moves p (token m z) ended p.mark r.0) (close-stop (env e)) r.1), r.2)
 
   pub fork-enters : (n b1 b2 g h : ℕ) → code f ≡ par (code g) (code h) → n ≡ length s.nodes → b1 ≡ length s.marks → b2 ≡ suc b1
       → s'.nodes ≡ (slice_set s.nodes i (node (Two Both n (n + 1)) q) ++ node (Leaf (Token b1 g e)) i ∷ []) ++ node (Leaf (Token b2 h e)) i ∷ []
-      → s'.scopes ≡ s.scopes → s'.cells ≡ s.cells → Stays s s' (suc b2) → Enters code (entry.Fork m b1 b2) s s'
-  fork-enters n b1 b2 g h is is_n is1 is2 nodes scopes cells st x p sp =
-      let inside = scope_there code s p sp i q m f e a in
-      let b = over_two s s' i q n (Token m f e) (Token b1 g e) a refl refl is_n inside scopes cells Both (Token b2 h e) refl inside nodes in
+      → Stays s s' (suc b2) → Enters code (entry.Fork m b1 b2) s s'
+  fork-enters n b1 b2 g h is is_n is1 is2 nodes st x p sp =
+      let inside = its_scope x p sp st in
+      let b = over_two s s' i q n (Token m f e) (Token b1 g e) a refl refl is_n (staying s s' st.scopes st.cells) inside Both (Token b2 h e) refl inside nodes in
       let r = token_moves (two i Both (leaf n (Token b1 g e)) (leaf (n + 1) (Token b2 h e))) (par (code g) (code h)) _ (suc b2) x p sp b st is refl in (
         r.0,
         (
-          inr (sp.to_cancel ∙ st.free),
+          inr (sp.rest.due ∙ st.free),
           (
             close (env e) (code g),
             close (env e) (code h),
@@ -198,14 +200,14 @@ module _ (code : ℕ → Term) (s s' : State) (i q m f e : ℕ) (a : at s.nodes 
 
   pub seq-enters : (n b g x h : ℕ) → code f ≡ seq (code g) x (code h) → n ≡ length s.nodes → b ≡ length s.marks
       → s'.nodes ≡ slice_set s.nodes i (node (One (Feeds x h e) n) q) ++ node (Leaf (Token b g e)) i ∷ []
-      → s'.scopes ≡ s.scopes → s'.cells ≡ s.cells → Stays s s' (suc b) → Enters code (entry.Seq m b) s s'
-  seq-enters n b g z h is is_n is1 nodes scopes cells st x p sp =
-      let inside = scope_there code s p sp i q m f e a in
-      let c = over_one s s' i q n (Token m f e) (Token b g e) a refl refl is_n inside scopes cells (Feeds z h e) inside nodes in
+      → Stays s s' (suc b) → Enters code (entry.Seq m b) s s'
+  seq-enters n b g z h is is_n is1 nodes st x p sp =
+      let inside = its_scope x p sp st in
+      let c = over_one s s' i q n (Token m f e) (Token b g e) a refl refl is_n (staying s s' st.scopes st.cells) inside (Feeds z h e) inside nodes in
       let r = token_moves (one i (Feeds z h e) (leaf n (Token b g e))) (seq (code g) z (code h)) _ (suc b) x p sp c st is refl in (
         r.0,
         (
-          inr (sp.to_cancel ∙ st.free),
+          inr (sp.rest.due ∙ st.free),
           (
             close (env e) (code g),
             close (without z (env e)) (code h),
@@ -219,14 +221,14 @@ module _ (code : ℕ → Term) (s s' : State) (i q m f e : ℕ) (a : at s.nodes 
 
   pub other-enters : (n b g h : ℕ) → code f ≡ other (code g) (code h) → n ≡ length s.nodes → b ≡ length s.marks
       → s'.nodes ≡ slice_set s.nodes i (node (One (Entered m h e) n) q) ++ node (Leaf (Token b g e)) i ∷ []
-      → s'.scopes ≡ s.scopes → s'.cells ≡ s.cells → Stays s s' (suc b) → Enters code (entry.Other m b) s s'
-  other-enters n b g h is is_n is1 nodes scopes cells st x p sp =
-      let inside = scope_there code s p sp i q m f e a in
-      let c = over_one s s' i q n (Token m f e) (Token b g e) a refl refl is_n inside scopes cells (Entered m h e) inside nodes in
+      → Stays s s' (suc b) → Enters code (entry.Other m b) s s'
+  other-enters n b g h is is_n is1 nodes st x p sp =
+      let inside = its_scope x p sp st in
+      let c = over_one s s' i q n (Token m f e) (Token b g e) a refl refl is_n (staying s s' st.scopes st.cells) inside (Entered m h e) inside nodes in
       let r = token_moves (one i (Entered m h e) (leaf n (Token b g e))) (other (code g) (code h)) _ (suc b) x p sp c st is refl in (
         r.0,
         (
-          inr (sp.to_cancel ∙ st.free),
+          inr (sp.rest.due ∙ st.free),
           (
             close (env e) (code g),
             close (env e) (code h),

@@ -1,17 +1,17 @@
 -- The walk of a publication, node by node.
-use Rattle.std.proofs.Common.{◌≡◌, ◌≤◌, ◌<◌, ◌+◌, ℕ, zero, suc, List, [], ◌∷◌, get_or, Option, Some, None, refl, sym, ap, ◌∙◌, subst, arith, true, false, cond, nat_eq, eq-eqb}
-use Rattle.std.proofs.lemmas.Bool.{ne_eqb}
-use Rattle.std.specs.Prelude.{slice_get, slice_set}
+use Rattle.std.proofs.Common.{◌≡◌, ◌≤◌, ◌<◌, ◌+◌, ℕ, zero, suc, List, [], ◌∷◌, get_or, Option, Some, None, refl, sym, ap, ◌∙◌, subst, arith, Bool, true, false, cond, nat_eq, eq-eqb, inl, inr, ⊎_elim, ◌⊎◌}
+use Rattle.std.proofs.lemmas.Bool.{ne_eqb, eqb-true}
+use Rattle.std.specs.Prelude.{slice_get, slice_set, option_map}
 use Rattle.orc_checker.specs.declared.arena.Node.{Node}
 use Rattle.orc_checker.specs.declared.arena.Kind.{Kind}
-use Rattle.orc_checker.specs.declared.arena.Kind.TheVariants.{One, Two}
+use Rattle.orc_checker.specs.declared.arena.Kind.TheVariants.{Leaf, One, Two}
 use Rattle.orc_checker.specs.declared.arena.Single.TheVariants.{Feeds, Entered, Passed}
 use Rattle.orc_checker.specs.declared.arena.Double.TheVariants.{Both, Side}
-use Rattle.orc_checker.specs.declared.marked.Taker.{Taker}
-use Rattle.orc_checker.specs.declared.marked.Taker.TheVariants.{Whole, Fed, Bound}
+use Rattle.orc_checker.specs.declared.walk.Taker.{Taker}
+use Rattle.orc_checker.specs.declared.walk.Taker.TheVariants.{Whole, Fed, Bound}
 use Rattle.orc_checker.specs.Arena.{Tree, leaf, one, two, place, count, hits, at, Holds, StandOnce, Frame, on_one, on_left, on_right, fit, plug}
 use Rattle.orc_checker.specs.Around.{place_of, above, around}
-use Rattle.orc_checker.specs.Rising.{takes, far, rest, under, risen, pass_node, nowhere, up, Stands, IsTaker, Rises}
+use Rattle.orc_checker.specs.Rising.{takes, far, rest, under, risen, pass_kind, pass_node, nowhere, up, Stands, IsTaker, Rises, Passes}
 use Rattle.orc_checker.proofs.Trees.{hit, count-plug, holds-out, holds_kept, holds_replaced, once_replaced, living-most}
 use Rattle.orc_checker.proofs.Lists.{get-set_same, get-set_other, living-set}
 use Rattle.orc_checker.proofs.Change.{place-plug}
@@ -287,3 +287,38 @@ climbs_all nodes nodes' i all at steps climbs is n k t s e =
     let w = near c.0 c.1 z in
     let p : plug c.0 c.1 ≡ plug (rest k) (risen k t) = λ j. plug ((sym w.0 ∙ c.4) j) ((sym w.1 ∙ c.5) j) in
     (subst (λ y. Holds nodes' n 0 y) p c.2.holds, subst (λ y. StandOnce nodes' y) p c.2.once)
+
+pass-twice : (x : Node) → pass_node (pass_node x) ≡ pass_node x
+pass-twice x = λ j. record { kind = go x.kind j; parent = x.parent }
+  where
+    go : (k : Kind) → pass_kind (pass_kind k) ≡ pass_kind k
+    go (Leaf t) = refl
+    go (One (Entered n g e) i) = refl
+    go (One (Feeds x g e) i) = refl
+    go (One Passed i) = refl
+    go (Two d i j) = refl
+
+set-at : (xs : List Node) (i : ℕ) → slice_get (slice_set xs i (pass_node (get_or xs i nowhere))) i ≡ option_map pass_node (slice_get xs i)
+set-at [] i = refl
+set-at (y ∷ xs) zero = refl
+set-at (y ∷ xs) (suc i) = set-at xs i
+
+-- one more node is passed
+pub passes_on : (nodes nodes' nodes'' : List Node) (j : ℕ) → Passes nodes nodes' → nodes'' ≡ slice_set nodes' j (pass_node (get_or nodes' j nowhere)) → Passes nodes nodes''
+passes_on nodes nodes' nodes'' j by is u = ⊎_elim here_is (λ off. subst (λ z. (z ≡ slice_get nodes u) ⊎ (z ≡ option_map pass_node (slice_get nodes u))) (sym (ap (λ z. slice_get z u) is ∙ get-set_other nodes' j u _ off)) (by u)) (same_or u j)
+  where
+    twice : (o : Option Node) → option_map pass_node (option_map pass_node o) ≡ option_map pass_node o
+    twice None = refl
+    twice (Some x) = ap Some (pass-twice x)
+
+    same_or : (a b : ℕ) → (a ≡ b) ⊎ (a ≡ b → ⊥)
+    same_or a b = go (nat_eq a b) refl
+      where
+        go : (c : Bool) → nat_eq a b ≡ c → (a ≡ b) ⊎ (a ≡ b → ⊥)
+        go true e = inl (eqb-true a b e)
+        go false e = inr (λ h. absurd (cc (sym e ∙ eq-eqb a b h)))
+
+    here_is : u ≡ j → (slice_get nodes'' u ≡ slice_get nodes u) ⊎ (slice_get nodes'' u ≡ option_map pass_node (slice_get nodes u))
+    here_is e =
+        let w : slice_get nodes'' u ≡ option_map pass_node (slice_get nodes' u) = ap (λ z. slice_get z u) is ∙ ap (λ z. slice_get (slice_set nodes' z (pass_node (get_or nodes' z nowhere))) u) (sym e) ∙ set-at nodes' u in
+        inr (w ∙ ⊎_elim (λ b. ap (option_map pass_node) b) (λ b. ap (option_map pass_node) b ∙ twice (slice_get nodes u)) (by u))

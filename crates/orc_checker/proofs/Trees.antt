@@ -157,3 +157,8 @@ alone nodes n p i q k (one j s t) h e a =
 alone nodes n p i q k (two j d t v) h e a =
     let same : Two d (place t) (place v) ≡ Leaf k = ap (λ o. of_node Node.kind (Leaf Gone) o) (sym h.0 ∙ ap (slice_get nodes) e ∙ a) in
     absurd (cc same)
+
+-- a node has one kind
+pub one_kind : (nodes : List Node) (i q p : ℕ) (k l : Kind) → at nodes q i k → at nodes p i l → k ≡ l
+unfolding of_node
+one_kind nodes i q p k l a b = ap (λ o. of_node Node.kind (Leaf Gone) o) (sym a ∙ b)

@@ -1,51 +1,74 @@
 -- The state of the checker, and the places that it spells.
-use Rattle.std.specs.Prelude.{◌≡◌, ℕ, zero, suc, List, [], ◌∷◌, length}
+use Rattle.std.specs.Prelude.{◌≡◌, ◌≤◌, ℕ, zero, suc, Bool, List, [], ◌∷◌, length, Some, slice_get}
 use Rattle.orc_checker.specs.declared.arena.Node.{Node}
 use Rattle.orc_checker.specs.declared.arena.Bound.{Bound}
 use Rattle.orc_checker.specs.declared.arena.Scope.{Scope}
+use Rattle.orc_checker.specs.declared.arena.Kind.TheVariants.{One}
+use Rattle.orc_checker.specs.declared.arena.Single.TheVariants.{Passed}
 use Rattle.orc_rules.specs.declared.entry.Entry.{Entry}
-use Rattle.orc_checker.specs.declared.marked.Record.{Record}
 use Rattle.orc_rules.specs.Term.{Term}
-use Rattle.orc_rules.specs.Timed.{Context, CallMade}
+use Rattle.orc_rules.specs.Nodes.{Listing, code, definitions}
+use Rattle.orc_rules.specs.Sites.{Table}
+use Rattle.orc_rules.specs.Marked.{Marked}
+use Rattle.orc_rules.specs.Timed.{Context}
 use Rattle.orc_rules.specs.Journal.{Place, Leads}
-use Rattle.orc_checker.specs.Arena.{Tree, Holds, StandOnce, spelled, env_of, place}
+use Rattle.orc_checker.specs.Arena.{Tree, Holds, StandOnce, spelled, env_of, place, at}
+use Rattle.orc_checker.specs.Calls.{Rest, Keeps}
 
 -- what callers of the checker see
 pub record State : Type 0 where
-  pub nodes : List Node
+  pub nodes : List Node  -- node 0 is above the term's root, which is node 1
   pub scopes : List Scope
   pub cells : List Bound  -- by number; there is no cell 0
   pub marks : List ℕ  -- the node on which each mark was put; there is no mark 0
-  pub calls : List CallMade  -- the newest first
-  pub time : ℕ
-  pub to_cancel : List ℕ
+  pub rest : Rest
 
 -- the numbers from 1 to n, the greatest first
 abbrev pub numbers : ℕ → List ℕ
 numbers zero = []
 numbers (suc n) = suc n ∷ numbers n
 
--- the state spells a place of a journal, over the program's terms
-pub record Spells (code : ℕ → Term) (s : State) (p : Place) : Type 0 where
+-- each scope's outer is before it
+abbrev pub AreOrdered : List Scope → Type 0
+AreOrdered scopes = (i : ℕ) (s : Scope) → slice_get scopes i ≡ Some s → s.outer ≤ i
+
+-- the cells opened are those that the table has
+abbrev pub AreCells : List ℕ → List Bound → Type 0
+AreCells opened cells = (n : ℕ) × (length cells ≡ suc n) × (opened ≡ numbers n)
+
+-- the nodes, the scopes and the cells draw a marked term
+pub record Draws (code : ℕ → Term) (s : State) (m : Marked) : Type 0 where
   pub tree : Tree
   pub holds : Holds s.nodes (length s.scopes) 0 tree
   pub root : place tree ≡ 0
   pub once : StandOnce s.nodes tree
-  pub marked : p.marked ≡ spelled code (env_of s.cells s.scopes) tree
+  pub top : at s.nodes 0 0 (One Passed 1)
+  pub marked : m ≡ spelled code (env_of s.cells s.scopes) tree
+
+-- the state spells a place of a journal, over the program's terms
+pub record Spells (x : Context) (code : ℕ → Term) (s : State) (p : Place) : Type 0 where
+  pub drawn : Draws code s p.marked
   pub mark : p.mark ≡ length s.marks
-  pub now : p.now ≡ s.time
-  pub calls : p.calls ≡ s.calls
-  pub cells : (n : ℕ) × (length s.cells ≡ suc n) × (p.cells ≡ numbers n)
-  pub to_cancel : p.to_cancel ≡ s.to_cancel
+  pub scopes : AreOrdered s.scopes
+  pub cells : AreCells p.cells s.cells
+  pub rest : Keeps x p.now p.calls p.to_cancel s.rest
 
--- the calls, the newest first
-abbrev pub calls_from : List CallMade → List Record → List CallMade
-calls_from made [] = made
-calls_from made (r ∷ rs) = calls_from (record { number = r.number; site = r.site; args = r.args; nth = r.nth; at = r.at } ∷ made) rs
-
-abbrev pub calls_of : List Record → List CallMade
-calls_of rs = calls_from [] rs
+-- what a run of the program goes by
+abbrev pub context : Listing → Table → Bool → Context
+context l t cancels = record { definitions = definitions l; sites = t.sites; cancels = cancels }
 
 -- the entry leads from each place that s spells to one that s' spells
+abbrev pub Follows : Context → (ℕ → Term) → Entry → State → State → Type 0
+Follows x code e s s' = (p : Place) → Spells x code s p → (q : Place) × Leads x p e q × Spells x code s' q
+
+-- the same whatever the definitions and sites
 abbrev pub Enters : (ℕ → Term) → Entry → State → State → Type 0
-Enters code e s s' = (x : Context) (p : Place) → Spells code s p → (q : Place) × Leads x p e q × Spells code s' q
+Enters code e s s' = (x : Context) → Follows x code e s s'
+
+-- the same for the program and its sites
+abbrev pub Applies : Listing → Table → Entry → State → State → Type 0
+Applies l t e s s' = (cancels : Bool) → Follows (context l t cancels) (code l) e s s'
+
+-- the state spells the beginning of the program's journals, with or without cancels
+abbrev pub Begins : Listing → Bool → State → Place → Type 0
+Begins l cancels s p = (x : Context) → x.cancels ≡ cancels → Spells x (code l) s p

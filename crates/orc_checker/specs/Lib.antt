@@ -1,5 +1,6 @@
 pub mod Arena
 pub mod Around
+pub mod Calls
 pub mod Checker
 pub mod DueTimes
 pub mod Halting

@@ -1,13 +1,13 @@
 -- How a publication goes up from a part to what takes it.
-use Rattle.std.specs.Prelude.{◌≡◌, ℕ, suc, List, [], ◌∷◌, Option, Some, None, cond, nat_eq}
+use Rattle.std.specs.Prelude.{◌≡◌, ℕ, suc, List, [], ◌∷◌, Option, Some, None, cond, nat_eq, slice_get, option_map, ◌⊎◌}
 use Rattle.orc_checker.specs.declared.arena.Node.{Node}
 use Rattle.orc_checker.specs.declared.arena.Kind.{Kind}
 use Rattle.orc_checker.specs.declared.arena.Kind.TheVariants.{Leaf, One, Two}
 use Rattle.orc_checker.specs.declared.arena.Tip.TheVariants.{Gone}
 use Rattle.orc_checker.specs.declared.arena.Single.TheVariants.{Feeds, Entered, Passed}
 use Rattle.orc_checker.specs.declared.arena.Double.TheVariants.{Both, Side}
-use Rattle.orc_checker.specs.declared.marked.Taker.{Taker}
-use Rattle.orc_checker.specs.declared.marked.Taker.TheVariants.{Whole, Fed, Bound}
+use Rattle.orc_checker.specs.declared.walk.Taker.{Taker}
+use Rattle.orc_checker.specs.declared.walk.Taker.TheVariants.{Whole, Fed, Bound}
 use Rattle.orc_checker.specs.Arena.{Tree, one, two, place, Holds, StandOnce, Frame, on_one, on_left, on_right, plug}
 
 -- what takes a publication from the hole
@@ -91,3 +91,7 @@ IsTaker nodes i taker steps = (n : ℕ) (k : List Frame) (t : Tree) → Stands n
 -- a publication has gone up from the place
 abbrev pub Rises : List Node → ℕ → ℕ → List Node → Type 0
 Rises nodes i steps nodes' = (n : ℕ) (k : List Frame) (t : Tree) → Stands nodes n i k t → steps ≡ far k → Holds nodes' n 0 (plug (rest k) (risen k t)) × StandOnce nodes' (plug (rest k) (risen k t))
+
+-- each node stays, or is an otherwise that is left
+abbrev pub Passes : List Node → List Node → Type 0
+Passes nodes nodes' = (u : ℕ) → (slice_get nodes' u ≡ slice_get nodes u) ⊎ (slice_get nodes' u ≡ option_map pass_node (slice_get nodes u))

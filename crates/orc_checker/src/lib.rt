@@ -5,5 +5,10 @@ pub mod arena;
 pub mod due;
 pub mod halts;
 pub mod marked;
+mod marks;
+mod publish;
+pub mod rest;
+mod room;
+pub mod walk;
 
 pub use marked::Marked;

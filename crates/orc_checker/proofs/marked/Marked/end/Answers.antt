@@ -1,4 +1,4 @@
-use Rattle.std.proofs.Common.{ap, sym, ◌∙◌, length}
+use Rattle.std.proofs.Common.{ap, ◌∙◌, length}
 use Rattle.std.specs.Prelude.{slice_set}
 use Rattle.orc_rules.specs.Nodes.{code, unfold_node}
 use Rattle.orc_checker.specs.declared.arena.Kind.TheVariants.{Leaf}
@@ -15,6 +15,4 @@ returns-clause-done c =
     end-enters terms c.args.self.now _ t.at t.parent c.args.s t.node t.scope c.in_ok-spot.ensures.there
     (c.node.ensures.term ∙ ap (unfold_node terms c.args.program.now.lists) c.in-Stop.is)
     (ap (λ (z : State). slice_set z.nodes t.at (node (Leaf Ended) t.parent)) v)
-    (ap State.scopes v)
-    (ap State.cells v)
-    (record { free = c.in_ok-spot.ensures.free; marks = ap (λ (z : State). length z.marks) v; time = ap State.time v; calls = ap State.calls v; to_cancel = ap State.to_cancel v })
+    (record { free = c.in_ok-spot.ensures.free; scopes = ap State.scopes v; cells = ap State.cells v; marks = ap (λ (z : State). length z.marks) v; rest = ap State.rest v })

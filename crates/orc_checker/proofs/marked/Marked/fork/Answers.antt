@@ -1,4 +1,4 @@
-use Rattle.std.proofs.Common.{◌≡◌, ap, sym, ◌∙◌, length, suc, arith}
+use Rattle.std.proofs.Common.{◌≡◌, ap, ◌∙◌, length, suc, arith}
 use Rattle.orc_rules.specs.Nodes.{code, unfold_node}
 use Rattle.orc_checker.specs.Checker.{State}
 use Rattle.orc_checker.proofs.Moves.{fork-enters}
@@ -19,6 +19,4 @@ returns-clause-done c =
     next
     b_is
     (set_two c.args.self.now.nodes _ _ _ t.at _ _ _ _ _ (c.reserve.ensures.nodes ∙ ap State.nodes v) c.push_within.ensures.items c.push_within-2.ensures.items c.token_node.ensures c.token_node-2.ensures)
-    (ap State.scopes v)
-    (ap State.cells v)
-    (record { free = c.in_ok-spot.ensures.free; marks = two_more c.args.self.now.marks _ _ _ _ _ c.args.a c.args.b (c.reserve.ensures.marks ∙ ap State.marks v) c.push_within-3.ensures.items c.push_within-4.ensures.items next b_is; time = ap State.time v; calls = ap State.calls v; to_cancel = ap State.to_cancel v })
+    (record { free = c.in_ok-spot.ensures.free; scopes = ap State.scopes v; cells = ap State.cells v; marks = two_more c.args.self.now.marks _ _ _ _ _ c.args.a c.args.b (c.reserve.ensures.marks ∙ ap State.marks v) c.push_within-3.ensures.items c.push_within-4.ensures.items next b_is; rest = ap State.rest v })

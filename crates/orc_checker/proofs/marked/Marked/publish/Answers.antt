@@ -1,10 +1,10 @@
-use Rattle.std.proofs.Common.{ap, ◌∙◌, subst}
+use Rattle.std.proofs.Common.{ap, ◌∙◌, subst, length}
 use Rattle.std.specs.Prelude.{slice_set}
 use Rattle.orc_checker.specs.declared.arena.Kind.TheVariants.{Leaf}
 use Rattle.orc_checker.specs.declared.arena.Tip.TheVariants.{Ended}
-use Rattle.orc_rules.specs.Nodes.{code, unfold_node}
+use Rattle.orc_rules.specs.Nodes.{code}
 use Rattle.orc_checker.specs.Arena.{close, env_of}
-use Rattle.orc_checker.specs.Rising.{IsTaker, Rises}
+use Rattle.orc_checker.specs.Rising.{IsTaker, Rises, Passes}
 use Rattle.orc_checker.specs.Checker.{State}
 use Rattle.orc_checker.proofs.Closing.{close-value}
 use Rattle.orc_checker.proofs.Moves.{node}
@@ -22,10 +22,5 @@ returns-clause-done c =
     (ap (close (env t.scope)) (c.in_ok-on_value.ensures) ∙ close-value (env t.scope) c.args.v)
     (subst (λ z. IsTaker s.nodes t.at z c.in-Some.way.steps) c.in-Whole.is (subst (λ (z : State). IsTaker z.nodes t.at c.in-Some.way.taker c.in-Some.way.steps) v c.in-Some.ensures))
     (subst (λ z. Rises z t.at c.in-Some.way.steps c.rise.new.nodes.items) (c.write_node.ensures.items ∙ ap (λ (z : State). slice_set z.nodes t.at (node (Leaf Ended) t.parent)) v) c.rise.ensures.rises)
-    c.in_ok-spot.ensures.free
-    (ap State.scopes v)
-    (ap State.cells v)
-    (ap State.marks v)
-    (ap State.time v)
-    (ap State.calls v)
-    (ap State.to_cancel v)
+    (subst (λ z. Passes z c.rise.new.nodes.items) (c.write_node.ensures.items ∙ ap (λ (z : State). slice_set z.nodes t.at (node (Leaf Ended) t.parent)) v) c.rise.ensures.passes)
+    (record { free = c.in_ok-spot.ensures.free; scopes = ap State.scopes v; cells = ap State.cells v; marks = ap (λ (z : State). length z.marks) v; rest = ap State.rest v })

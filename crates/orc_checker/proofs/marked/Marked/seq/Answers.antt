@@ -1,4 +1,4 @@
-use Rattle.std.proofs.Common.{ap, sym, ◌∙◌, length}
+use Rattle.std.proofs.Common.{ap, ◌∙◌, length}
 use Rattle.orc_rules.specs.Nodes.{code, unfold_node}
 use Rattle.orc_checker.specs.Checker.{State}
 use Rattle.orc_checker.proofs.Moves.{seq-enters}
@@ -17,6 +17,4 @@ returns-clause-done c =
     (c.size-n.ensures ∙ ap length (c.reserve.ensures.nodes ∙ ap State.nodes v))
     next
     (set_one c.args.self.now.nodes _ _ t.at _ _ _ (c.reserve.ensures.nodes ∙ ap State.nodes v) c.push_within.ensures.items c.token_node.ensures)
-    (ap State.scopes v)
-    (ap State.cells v)
-    (record { free = c.in_ok-spot.ensures.free; marks = one_more c.args.self.now.marks _ _ _ c.args.a (c.reserve.ensures.marks ∙ ap State.marks v) c.push_within-2.ensures.items next; time = ap State.time v; calls = ap State.calls v; to_cancel = ap State.to_cancel v })
+    (record { free = c.in_ok-spot.ensures.free; scopes = ap State.scopes v; cells = ap State.cells v; marks = one_more c.args.self.now.marks _ _ _ c.args.a (c.reserve.ensures.marks ∙ ap State.marks v) c.push_within-2.ensures.items next; rest = ap State.rest v })

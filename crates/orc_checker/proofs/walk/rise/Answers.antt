@@ -2,8 +2,8 @@ use Rattle.std.proofs.Common.{◌+◌, ◌∙◌, ap, sym, subst, get_or, arith,
 use Rattle.std.specs.Prelude.{slice_set}
 use Rattle.orc_checker.specs.declared.arena.Node.{Node}
 use Rattle.orc_checker.specs.Rising.{nowhere, pass_node}
-use Rattle.orc_checker.proofs.Rising.{Climbs, climbs_on, climbs_all}
-use Rattle.orc_checker.proofs.marked.rise.Goals as goal
+use Rattle.orc_checker.proofs.Rising.{Climbs, climbs_on, climbs_all, passes_on}
+use Rattle.orc_checker.proofs.walk.rise.Goals as goal
 
 pub loop-steps-preserved : goal.loop-steps-preserved
 loop-steps-preserved c =
@@ -15,6 +15,8 @@ loop-steps-preserved c =
           (climbs_on old nodes c.write_node.new.nodes.items c.args.from c.args.all c.loop-steps.place c.loop-steps._steps c.loop-steps.invariant.0 c.loop-steps-test.true
           (c.write_node.ensures.items ∙ (λ j. slice_set nodes (Node.parent (p j)) (b j)))),
       ap length c.write_node.ensures.items ∙ length-set nodes _ _ ∙ c.loop-steps.invariant.1,
+      passes_on old nodes c.write_node.new.nodes.items (Node.parent (get_or nodes c.loop-steps.place nowhere)) c.loop-steps.invariant.2 (c.write_node.ensures.items ∙ (λ j. slice_set nodes (Node.parent (p j)) (b j))),
+      c.write_node.ensures.capacity ∙ c.loop-steps.invariant.3,
     )
 
 pub returns-clause-rises : goal.returns-clause-rises

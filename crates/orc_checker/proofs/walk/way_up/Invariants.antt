@@ -1,5 +1,5 @@
 use Rattle.orc_checker.proofs.Rising.{Came}
-use Rattle.orc_checker.proofs.marked.way_up.Given as goal
+use Rattle.orc_checker.proofs.walk.way_up.Given as goal
 
 abbrev pub invariant-loop-steps : goal.invariant-loop-steps
 invariant-loop-steps l = Came l.nodes.items l.from l.place l.steps

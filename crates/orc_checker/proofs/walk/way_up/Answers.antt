@@ -2,7 +2,7 @@ use Rattle.std.proofs.Common.{◌+◌, ◌∙◌, ap, sym, subst, get_or}
 use Rattle.orc_checker.specs.declared.arena.Node.{Node}
 use Rattle.orc_checker.specs.Rising.{nowhere, up}
 use Rattle.orc_checker.proofs.Rising.{Came, came_whole, came_up, came_on}
-use Rattle.orc_checker.proofs.marked.way_up.Goals as goal
+use Rattle.orc_checker.proofs.walk.way_up.Goals as goal
 
 pub returns-then-place-eq0 : goal.returns-then-place-eq0
 returns-then-place-eq0 c = came_whole c.args.nodes.now.items c.args.from c.loop-steps.place c.loop-steps.steps c.loop-steps.invariant c.if-place-eq0.true

@@ -1,0 +1,17 @@
+use Rattle.orc_checker.proofs.Answering.{for_all}
+use Rattle.orc_checker.proofs.marked.Marked.step.Goals as goal
+
+pub returns-in-End-clause-done : goal.returns-in-End-clause-done
+returns-in-End-clause-done c = for_all c.args.program.now c.args.answers.now _ _ c.args.self.now c.end.new.self c.end.result c.in-End.is c.end.ensures.done
+
+pub returns-in-Fork-clause-done : goal.returns-in-Fork-clause-done
+returns-in-Fork-clause-done c = for_all c.args.program.now c.args.answers.now _ _ c.args.self.now c.fork.new.self c.fork.result c.in-Fork.is c.fork.ensures.done
+
+pub returns-in-Seq-clause-done : goal.returns-in-Seq-clause-done
+returns-in-Seq-clause-done c = for_all c.args.program.now c.args.answers.now _ _ c.args.self.now c.seq.new.self c.seq.result c.in-Seq.is c.seq.ensures.done
+
+pub returns-in-Other-clause-done : goal.returns-in-Other-clause-done
+returns-in-Other-clause-done c = for_all c.args.program.now c.args.answers.now _ _ c.args.self.now c.other.new.self c.other.result c.in-Other.is c.other.ensures.done
+
+pub returns-in-Publish-clause-done : goal.returns-in-Publish-clause-done
+returns-in-Publish-clause-done c = for_all c.args.program.now c.args.answers.now _ _ c.args.self.now c.publish.new.self c.publish.result c.in-Publish.is c.publish.ensures.done

@@ -1,6 +1,0 @@
-use Rattle.std.proofs.Common.{◌≡◌, length}
-use Rattle.orc_checker.proofs.Rising.{Climbs}
-use Rattle.orc_checker.proofs.marked.rise.Given as goal
-
-abbrev pub invariant-loop-steps : goal.invariant-loop-steps
-invariant-loop-steps l = Climbs l.initial.nodes.items l.from l.all l.nodes.items l.place l._steps × (length l.nodes.items ≡ length l.initial.nodes.items)

@@ -1,0 +1,104 @@
+// The moves of marks.
+
+ghost use Rattle.std.specs.Prelude.{◌≡◌, IfOk, OnErr};
+ghost use Rattle.orc_rules.specs.Nodes.{code};
+ghost use Rattle.orc_checker.specs.Checker.{Enters};
+ghost use Rattle.orc_rules.specs.declared.entry.Entry.TheVariants as entry;
+
+use crate::arena::{Double, Kind, Node, Single, Tip};
+use crate::marked::{Marked, token_node};
+use crate::room::{push_within, reserve, size};
+use orc_rules::entry::RuleFault;
+use orc_rules::program::{Program, TermNode};
+
+impl Marked {
+    /// `end S`.
+    pub(crate) fn end(&mut self, program: &Program, s: u64) -> Result<(), RuleFault>
+        ensures done { IfOk result (λ _. Enters (code program.now) (entry.End s) self.old self.new) }
+        ensures refused { OnErr result (self.new ≡ self.old) }
+    {
+        let spot = self.spot(s)?;
+        let TermNode::Stop = program.node(spot.node) else {
+            return Err(RuleFault::Form);
+        };
+        self.nodes[spot.at] = Node {
+            kind: Kind::Leaf(Tip::Ended),
+            parent: spot.parent,
+        };
+        Ok(())
+    }
+
+    /// `fork S A B`.
+    pub(crate) fn fork(
+        &mut self,
+        program: &Program,
+        s: u64,
+        a: u64,
+        b: u64,
+    ) -> Result<(), RuleFault>
+        ensures done { IfOk result (λ _. Enters (code program.now) (entry.Fork s a b) self.old self.new) }
+        ensures refused { OnErr result (self.new ≡ self.old) }
+    {
+        let spot = self.spot(s)?;
+        let TermNode::Par(f, g) = program.node(spot.node) else {
+            return Err(RuleFault::Form);
+        };
+        self.next_mark(a)?;
+        if b == 0 || b - 1 != a {
+            return Err(RuleFault::Number);
+        }
+        reserve(&mut self.nodes, &mut self.marks).map_err(|_| RuleFault::Memory)?;
+        let n = size(&self.nodes);
+        self.nodes[spot.at] = Node {
+            kind: Kind::Two(Double::Both, n, n + 1),
+            parent: spot.parent,
+        };
+        push_within(&mut self.nodes, token_node(a, f, spot));
+        push_within(&mut self.nodes, token_node(b, g, spot));
+        push_within(&mut self.marks, n);
+        push_within(&mut self.marks, n + 1);
+        Ok(())
+    }
+
+    /// `seq S A`.
+    pub(crate) fn seq(&mut self, program: &Program, s: u64, a: u64) -> Result<(), RuleFault>
+        ensures done { IfOk result (λ _. Enters (code program.now) (entry.Seq s a) self.old self.new) }
+        ensures refused { OnErr result (self.new ≡ self.old) }
+    {
+        let spot = self.spot(s)?;
+        let TermNode::Seq(f, x, g) = program.node(spot.node) else {
+            return Err(RuleFault::Form);
+        };
+        self.next_mark(a)?;
+        reserve(&mut self.nodes, &mut self.marks).map_err(|_| RuleFault::Memory)?;
+        let n = size(&self.nodes);
+        self.nodes[spot.at] = Node {
+            kind: Kind::One(Single::Feeds(x, g, spot.scope), n),
+            parent: spot.parent,
+        };
+        push_within(&mut self.nodes, token_node(a, f, spot));
+        push_within(&mut self.marks, n);
+        Ok(())
+    }
+
+    /// `other S A`.
+    pub(crate) fn other(&mut self, program: &Program, s: u64, a: u64) -> Result<(), RuleFault>
+        ensures done { IfOk result (λ _. Enters (code program.now) (entry.Other s a) self.old self.new) }
+        ensures refused { OnErr result (self.new ≡ self.old) }
+    {
+        let spot = self.spot(s)?;
+        let TermNode::Other(f, g) = program.node(spot.node) else {
+            return Err(RuleFault::Form);
+        };
+        self.next_mark(a)?;
+        reserve(&mut self.nodes, &mut self.marks).map_err(|_| RuleFault::Memory)?;
+        let n = size(&self.nodes);
+        self.nodes[spot.at] = Node {
+            kind: Kind::One(Single::Entered(s, g, spot.scope), n),
+            parent: spot.parent,
+        };
+        push_within(&mut self.nodes, token_node(a, f, spot));
+        push_within(&mut self.marks, n);
+        Ok(())
+    }
+}
