@@ -5,12 +5,14 @@ pub mod Emitted
 pub mod Equations
 pub mod Explained
 pub mod Idle
+pub mod Inside
 pub mod Late
 pub mod Lift
 pub mod Lookup
 pub mod Lost
 pub mod Numbered
 pub mod Refusal
+pub mod Settled
 pub mod Sites
 pub mod Sources
 pub mod Tests

@@ -123,7 +123,7 @@ two_new : (p q : Place) (n m o : Name) → times n q.marked ≤ times n p.marked
 two_new p q n m o le apart gm nm go out =
     ⊎_elim (λ y. inr (omega (arith, le, once_apart n m o apart), subst (IsGiven q) (sym y.0) gm, λ i. nm (subst (IsGiven p) y.0 i))) (λ y. one_new p q n o (omega (arith, le, once_other n m y.0)) go out) (name_is n m)
 
-abbrev index : Name → ℕ
+abbrev pub index : Name → ℕ
 index (mark s) = s
 index (call k) = k
 index (cell c) = c

@@ -20,7 +20,7 @@ cond_source : (b : Bool) (f g : Term) → IsSource f → IsSource g → IsSource
 cond_source true f g a b = a
 cond_source false f g a b = b
 
-put_source : (q : Param) (x : ℕ) (f : Term) → IsSource f → IsSource (put q x f)
+pub put_source : (q : Param) (x : ℕ) (f : Term) → IsSource f → IsSource (put q x f)
 put_source q x stop s = tt
 put_source q x (param p) s = tt
 put_source q x (site m ps) s = tt
@@ -32,7 +32,7 @@ put_source q x (other f g) s = (put_source q x f s.0, put_source q x g s.1)
 put_source q x (pending k) s = s
 put_source q x (opened f c g) s = elim s [ ]
 
-fill_source : (w : Param) (c : ℕ) (f : Term) → IsSource f → IsSource (fill w c f)
+pub fill_source : (w : Param) (c : ℕ) (f : Term) → IsSource f → IsSource (fill w c f)
 fill_source w c stop s = tt
 fill_source w c (param p) s = tt
 fill_source w c (site m ps) s = tt
@@ -44,12 +44,12 @@ fill_source w c (other f g) s = (fill_source w c f s.0, fill_source w c g s.1)
 fill_source w c (pending k) s = s
 fill_source w c (opened f d g) s = elim s [ ]
 
-put_all_source : (xs : List ℕ) (ps : List Param) (f : Term) → IsSource f → IsSource (put_all xs ps f)
+pub put_all_source : (xs : List ℕ) (ps : List Param) (f : Term) → IsSource f → IsSource (put_all xs ps f)
 put_all_source [] ps f s = s
 put_all_source (x ∷ xs) [] f s = s
 put_all_source (x ∷ xs) (p ∷ ps) f s = put_all_source xs ps (put p x f) (put_source p x f s)
 
-fill_marked_source : (w : Param) (c : ℕ) (m : Marked) → HoldsSource m → HoldsSource (fill_marked w c m)
+pub fill_marked_source : (w : Param) (c : ℕ) (m : Marked) → HoldsSource m → HoldsSource (fill_marked w c m)
 fill_marked_source w c ended s = tt
 fill_marked_source w c (token k t) s = fill_source w c t s
 fill_marked_source w c (in_call k) s = tt
@@ -79,7 +79,7 @@ emits_source {v = v} (is_bound {f = f} {c = c} e) s = fill_marked_source (Is v) 
 emits_source (on_entered i e) s = (emits_source e s.0, s.1)
 emits_source (passes e) s = emits_source e s.0
 
-body_source : (ds : List Definition) (e : ℕ) (d : Definition) → AreSource ds → slice_get ds e ≡ Some d → IsSource d.body
+pub body_source : (ds : List Definition) (e : ℕ) (d : Definition) → AreSource ds → slice_get ds e ≡ Some d → IsSource d.body
 body_source [] e d s h = cc h
 body_source (b ∷ ds) zero d s h = let is : b ≡ d = some_is b d h in subst (λ (w : Definition). IsSource w.body) is s.0
   where

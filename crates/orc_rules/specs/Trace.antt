@@ -6,6 +6,7 @@ use Rattle.orc_rules.specs.declared.entry.Entry.TheVariants.{Publish}
 use Rattle.orc_rules.specs.Term.{Term}
 use Rattle.orc_rules.specs.Step.{Act, calls, binds, loses, publishes, silent, opens}
 use Rattle.orc_rules.specs.Timed.{Context, Moment, IsIn, Event, does, ticks, Run, start}
+use Rattle.orc_rules.specs.Journal.{Place, moment, Journal, begin, AreEventsOf}
 use Rattle.orc_rules.specs.Lost.{IsSource, AreSource}
 
 -- the label of an act: an opening's is silent
@@ -46,13 +47,17 @@ IsSettled c (does (binds d v) ∷ es) = (c ≢ d) × IsSettled c es
 IsSettled c (does (loses d) ∷ es) = (c ≢ d) × IsSettled c es
 IsSettled c (e ∷ es) = IsSettled c es
 
--- after a cell is bound no later call stands inside its right side, and each cell is bound or lost at most once
+-- after a cell is bound or lost no later call stands inside its right side, and each cell is bound or lost at most once
 abbrev pub AreInside : List Event → Type 0
 AreInside [] = Unit {0}
 AreInside (does (binds c v) ∷ es) = IsOutside c es × IsSettled c es × AreInside es
-AreInside (does (loses c) ∷ es) = IsSettled c es × AreInside es
+AreInside (does (loses c) ∷ es) = IsOutside c es × IsSettled c es × AreInside es
 AreInside (e ∷ es) = AreInside es
 
--- every run of a source's term is so: still to be proved
+-- every run of a source's term is so
 abbrev pub RunsAreInside : Type 0
 RunsAreInside = (x : Context) (t : Term) (es : List Event) (s : Moment) → AreSource x.definitions → IsSource t → Run x (start t) es s → AreInside es
+
+-- a journal of a program is a timed run in which cells are settled so
+abbrev pub JournalIsInside : Type 0
+JournalIsInside = (x : Context) (t : Term) (es : List Entry) (q : Place) → AreSource x.definitions → IsSource t → Journal x (begin t) es q → (events : List Event) × AreEventsOf es events × Run x (start t) events (moment q) × AreInside events
