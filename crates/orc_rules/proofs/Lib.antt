@@ -17,6 +17,7 @@ pub mod Sites
 pub mod Sources
 pub mod Tests
 pub mod Unfolding
+pub mod Unique
 pub mod Worked
 pub mod WorkedOtherwises
 pub mod WorkedPrunings

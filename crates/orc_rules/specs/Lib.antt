@@ -15,4 +15,5 @@ pub mod Tests
 pub mod Text
 pub mod Timed
 pub mod Trace
+pub mod Unique
 pub mod Verdict
