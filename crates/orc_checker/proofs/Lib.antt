@@ -5,6 +5,8 @@ pub mod Closing
 pub mod DueCalls
 pub mod Feeding
 pub mod Halting
+pub mod Filling
+pub mod Inside
 pub mod Lists
 pub mod Moves
 pub mod Publishing
