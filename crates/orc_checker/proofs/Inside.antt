@@ -1,11 +1,13 @@
 -- A cell stands in the left side of its own pruning alone.
-use Rattle.std.proofs.Common.{◌≡◌, ℕ, List, [], ◌∷◌, map, refl, sym, ap, ◌∙◌, subst, Bool, true, false, cond, nat_eq, eq-eqb}
+use Rattle.std.proofs.Common.{◌≡◌, ◌≤◌, ◌+◌, ℕ, List, [], ◌∷◌, map, refl, sym, ap, ◌∙◌, subst, Bool, true, false, cond, nat_eq, eq-eqb, arith}
 use Rattle.std.proofs.lemmas.Bool.{ne_eqb, eqb-true}
 use Rattle.orc_rules.specs.declared.value.Value.{Value}
 use Rattle.orc_rules.specs.declared.param.Param.{Param}
 use Rattle.orc_rules.specs.declared.param.Param.TheVariants.{Name, Is, Cell, Void}
 use Rattle.orc_rules.specs.Term.{Term, stop, param, site, call, par, seq, prune, other, pending, opened, put, put_param, put_all, fill, fill_param}
-use Rattle.orc_rules.specs.Step.{Act, publishes, binds}
+use Rattle.orc_rules.specs.Step.{Act}
+use Rattle.orc_rules.specs.Numbered.{cell, once, times}
+use Rattle.orc_rules.proofs.Numbered.{once_same}
 use Rattle.orc_rules.specs.Marked.{Marked, ended, token, in_call, in_par, in_seq, in_opened, in_other, fill_marked, Replaces, here, in_left, in_right, in_feeding, in_main, in_side, in_entered, Emits, emits, on_left, on_right, on_feeding, is_fed, on_main, on_side, is_bound, on_entered, passes}
 
 -- the cell doesn't stand there
@@ -30,14 +32,14 @@ Lacks c (pending k) = Unit {0}
 Lacks c (opened f d g) = Lacks c f × Lacks c g
 
 -- it stands in the left side of its own pruning alone
-abbrev pub Keeps : ℕ → Marked → Type 0
-Keeps c ended = Unit {0}
-Keeps c (token s t) = Lacks c t
-Keeps c (in_call k) = Unit {0}
-Keeps c (in_par f g) = Keeps c f × Keeps c g
-Keeps c (in_seq f x g) = Keeps c f × Lacks c g
-Keeps c (in_opened f d g) = ((c ≡ d → ⊥) → Keeps c f) × Keeps c g
-Keeps c (in_other n f g) = Keeps c f × Lacks c g
+abbrev pub Confined : ℕ → Marked → Type 0
+Confined c ended = Unit {0}
+Confined c (token s t) = Lacks c t
+Confined c (in_call k) = Unit {0}
+Confined c (in_par f g) = Confined c f × Confined c g
+Confined c (in_seq f x g) = Confined c f × Lacks c g
+Confined c (in_opened f d g) = ((c ≡ d → ⊥) → Confined c f) × Confined c g
+Confined c (in_other n f g) = Confined c f × Lacks c g
 
 module _ (c : ℕ) (q : Param) (lacks : LacksParam c q) where
   param-put : (x : ℕ) (p : Param) → LacksParam c p → LacksParam c (put_param q x p)
@@ -123,31 +125,31 @@ module _ (c : ℕ) (q : Param) (lacks : LacksParam c q) where
   lacks-gone (pending k) = tt
   lacks-gone (opened f e g) = (lacks-gone f, lacks-gone g)
 
-  keeps-fill : (d : ℕ) (m : Marked) → Keeps c m → Keeps c (fill_marked q d m)
-  keeps-fill d ended h = tt
-  keeps-fill d (token s t) h = lacks-fill d t h
-  keeps-fill d (in_call k) h = tt
-  keeps-fill d (in_par f g) h = (keeps-fill d f h.0, keeps-fill d g h.1)
-  keeps-fill d (in_seq f x g) h = (keeps-fill d f h.0, lacks-fill d g h.1)
-  keeps-fill d (in_opened f e g) h = (λ off. keeps-fill d f (h.0 off), keeps-fill d g h.1)
-  keeps-fill d (in_other n f g) h = (keeps-fill d f h.0, lacks-fill d g h.1)
+  confined-fill : (d : ℕ) (m : Marked) → Confined c m → Confined c (fill_marked q d m)
+  confined-fill d ended h = tt
+  confined-fill d (token s t) h = lacks-fill d t h
+  confined-fill d (in_call k) h = tt
+  confined-fill d (in_par f g) h = (confined-fill d f h.0, confined-fill d g h.1)
+  confined-fill d (in_seq f x g) h = (confined-fill d f h.0, lacks-fill d g h.1)
+  confined-fill d (in_opened f e g) h = (λ off. confined-fill d f (h.0 off), confined-fill d g h.1)
+  confined-fill d (in_other n f g) h = (confined-fill d f h.0, lacks-fill d g h.1)
 
-  keeps-gone : (m : Marked) → Keeps c (fill_marked q c m)
-  keeps-gone ended = tt
-  keeps-gone (token s t) = lacks-gone t
-  keeps-gone (in_call k) = tt
-  keeps-gone (in_par f g) = (keeps-gone f, keeps-gone g)
-  keeps-gone (in_seq f x g) = (keeps-gone f, lacks-gone g)
-  keeps-gone (in_opened f e g) = (λ off. keeps-gone f, keeps-gone g)
-  keeps-gone (in_other n f g) = (keeps-gone f, lacks-gone g)
+  confined-gone : (m : Marked) → Confined c (fill_marked q c m)
+  confined-gone ended = tt
+  confined-gone (token s t) = lacks-gone t
+  confined-gone (in_call k) = tt
+  confined-gone (in_par f g) = (confined-gone f, confined-gone g)
+  confined-gone (in_seq f x g) = (confined-gone f, lacks-gone g)
+  confined-gone (in_opened f e g) = (λ off. confined-gone f, confined-gone g)
+  confined-gone (in_other n f g) = (confined-gone f, lacks-gone g)
 
   -- the left side of a pruning whose cell is filled
-  pub keeps-left : (d : ℕ) (f : Marked) → ((c ≡ d → ⊥) → Keeps c f) → Keeps c (fill_marked q d f)
-  keeps-left d f h = go (nat_eq c d) refl
+  pub confined-left : (d : ℕ) (f : Marked) → ((c ≡ d → ⊥) → Confined c f) → Confined c (fill_marked q d f)
+  confined-left d f h = go (nat_eq c d) refl
     where
-      go : (b : Bool) → nat_eq c d ≡ b → Keeps c (fill_marked q d f)
-      go true e = subst (λ z. Keeps c (fill_marked q z f)) (eqb-true c d e) (keeps-gone f)
-      go false e = keeps-fill d f (h (λ s. cc (eq-eqb c d s, e)))
+      go : (b : Bool) → nat_eq c d ≡ b → Confined c (fill_marked q d f)
+      go true e = subst (λ z. Confined c (fill_marked q z f)) (eqb-true c d e) (confined-gone f)
+      go false e = confined-fill d f (h (λ s. cc (eq-eqb c d s, e)))
 
 -- parameters for names, one after another
 pub lacks-put_all : (c : ℕ) (xs : List ℕ) (ps : List Param) (f : Term) → LacksAll c ps → Lacks c f → Lacks c (put_all xs ps f)
@@ -157,27 +159,27 @@ lacks-put_all c (x ∷ xs) (p ∷ ps) f h k = lacks-put_all c xs ps (put p x f) 
 
 module _ (c : ℕ) where
   -- one part changes
-  pub keeps-replaced : {x y m m' : Marked} {cs : List ℕ} → (Keeps c x → Keeps c y) → Replaces x y m cs m' → Keeps c m → Keeps c m'
-  keeps-replaced k here h = k h
-  keeps-replaced k (in_left r) h = (keeps-replaced k r h.0, h.1)
-  keeps-replaced k (in_right r) h = (h.0, keeps-replaced k r h.1)
-  keeps-replaced k (in_feeding r) h = (keeps-replaced k r h.0, h.1)
-  keeps-replaced k (in_main r) h = (λ off. keeps-replaced k r (h.0 off), h.1)
-  keeps-replaced k (in_side r) h = (h.0, keeps-replaced k r h.1)
-  keeps-replaced k (in_entered r) h = (keeps-replaced k r h.0, h.1)
+  pub confined-replaced : {x y m m' : Marked} {cs : List ℕ} → (Confined c x → Confined c y) → Replaces x y m cs m' → Confined c m → Confined c m'
+  confined-replaced k here h = k h
+  confined-replaced k (in_left r) h = (confined-replaced k r h.0, h.1)
+  confined-replaced k (in_right r) h = (h.0, confined-replaced k r h.1)
+  confined-replaced k (in_feeding r) h = (confined-replaced k r h.0, h.1)
+  confined-replaced k (in_main r) h = (λ off. confined-replaced k r (h.0 off), h.1)
+  confined-replaced k (in_side r) h = (h.0, confined-replaced k r h.1)
+  confined-replaced k (in_entered r) h = (confined-replaced k r h.0, h.1)
 
   -- a token publishes
-  pub keeps-emitted : {s a : ℕ} {v : Value} {m m' : Marked} {b : Act} → Emits s a v m b m' → Keeps c m → Keeps c m'
-  keeps-emitted emits h = tt
-  keeps-emitted (on_left e) h = (keeps-emitted e h.0, h.1)
-  keeps-emitted (on_right e) h = (h.0, keeps-emitted e h.1)
-  keeps-emitted (on_feeding i e) h = (keeps-emitted e h.0, h.1)
-  keeps-emitted {v = v} (is_fed {z = z} {g = g} e) h = ((keeps-emitted e h.0, h.1), lacks-put c (Is v) tt z g h.1)
-  keeps-emitted (on_main e) h = (λ off. keeps-emitted e (h.0 off), h.1)
-  keeps-emitted (on_side i e) h = (h.0, keeps-emitted e h.1)
-  keeps-emitted {v = v} (is_bound {f = f} {c = d} e) h = keeps-left c (Is v) tt d f h.0
-  keeps-emitted (on_entered i e) h = (keeps-emitted e h.0, h.1)
-  keeps-emitted (passes e) h = keeps-emitted e h.0
+  pub confined-emitted : {s a : ℕ} {v : Value} {m m' : Marked} {b : Act} → Emits s a v m b m' → Confined c m → Confined c m'
+  confined-emitted emits h = tt
+  confined-emitted (on_left e) h = (confined-emitted e h.0, h.1)
+  confined-emitted (on_right e) h = (h.0, confined-emitted e h.1)
+  confined-emitted (on_feeding i e) h = (confined-emitted e h.0, h.1)
+  confined-emitted {v = v} (is_fed {z = z} {g = g} e) h = ((confined-emitted e h.0, h.1), lacks-put c (Is v) tt z g h.1)
+  confined-emitted (on_main e) h = (λ off. confined-emitted e (h.0 off), h.1)
+  confined-emitted (on_side i e) h = (h.0, confined-emitted e h.1)
+  confined-emitted {v = v} (is_bound {f = f} {c = d} e) h = confined-left c (Is v) tt d f h.0
+  confined-emitted (on_entered i e) h = (confined-emitted e h.0, h.1)
+  confined-emitted (passes e) h = confined-emitted e h.0
 
 -- where it doesn't stand, nothing is filled
 module _ (c : ℕ) (w : Param) where
@@ -202,3 +204,15 @@ module _ (c : ℕ) (w : Param) where
   lacks-stays (other f g) h = λ i. other (lacks-stays f h.0 i) (lacks-stays g h.1 i)
   lacks-stays (pending k) h = refl
   lacks-stays (opened f d g) h = λ i. opened (lacks-stays f h.0 i) d (lacks-stays g h.1 i)
+
+  -- a marked term in which its pruning doesn't stand
+  pub marked-stays : (m : Marked) → Confined c m → times (cell c) m ≡ 0 → fill_marked w c m ≡ m
+  marked-stays ended h z = refl
+  marked-stays (token s t) h z = ap (token s) (lacks-stays t h)
+  marked-stays (in_call k) h z = refl
+  marked-stays (in_par f g) h z = λ i. in_par (marked-stays f h.0 (omega (arith, z)) i) (marked-stays g h.1 (omega (arith, z)) i)
+  marked-stays (in_seq f x g) h z = λ i. in_seq (marked-stays f h.0 z i) x (lacks-stays g h.1 i)
+  marked-stays (in_opened f d g) h z =
+      let off : c ≡ d → ⊥ = λ e. omega (arith, z, once_same (cell c) (cell d) (ap cell e)) in
+      λ i. in_opened (marked-stays f (h.0 off) (omega (arith, z)) i) d (marked-stays g h.1 (omega (arith, z)) i)
+  marked-stays (in_other n f g) h z = λ i. in_other n (marked-stays f h.0 (omega (arith, z)) i) (lacks-stays g h.1 i)

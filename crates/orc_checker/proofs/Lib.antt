@@ -1,11 +1,13 @@
 pub mod Answering
 pub mod Beginning
+pub mod Binding
 pub mod Change
 pub mod Closing
 pub mod DueCalls
 pub mod Feeding
 pub mod Halting
 pub mod Filling
+pub mod Growth
 pub mod Inside
 pub mod Lists
 pub mod Moves
