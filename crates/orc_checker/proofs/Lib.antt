@@ -4,6 +4,7 @@ pub mod Binding
 pub mod Change
 pub mod Closing
 pub mod DueCalls
+pub mod Dropping
 pub mod Feeding
 pub mod Halting
 pub mod Filling

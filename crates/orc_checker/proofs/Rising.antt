@@ -65,11 +65,11 @@ module _ (nodes : List Node) (n : ℕ) where
   slot (one i k t) h = (_, h.0)
   slot (two i k t u) h = (_, h.0)
 
-  of_some : {X Y : Type 0} → (X → Y) → Y → Option X → Y
+  pub of_some : {X Y : Type 0} → (X → Y) → Y → Option X → Y
   of_some f d (Some x) = f x
   of_some f d None = d
 
-  get_or-some : {X : Type 0} (xs : List X) (i : ℕ) (d x : X) → slice_get xs i ≡ Some x → get_or xs i d ≡ x
+  pub get_or-some : {X : Type 0} (xs : List X) (i : ℕ) (d x : X) → slice_get xs i ≡ Some x → get_or xs i d ≡ x
   unfolding of_some
   get_or-some [] i d x h = cc h
   get_or-some (y ∷ xs) zero d x h = ap (of_some (λ z. z) d) h

@@ -4,4 +4,5 @@ pub mod Calls
 pub mod Checker
 pub mod DueTimes
 pub mod Halting
+pub mod Dropping
 pub mod Rising

@@ -10,5 +10,6 @@ mod publish;
 pub mod rest;
 mod room;
 pub mod walk;
+mod side;
 
 pub use marked::Marked;

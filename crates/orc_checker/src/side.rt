@@ -1,0 +1,61 @@
+// The nodes of a part, and what dropping a part does.
+
+ghost use Rattle.std.specs.Prelude.{◌≡◌, ◌++◌, IfOk, OnOk, length};
+ghost use Rattle.orc_checker.specs.Dropping.{parts_of, AreNodesOf, IsDropped};
+
+use crate::arena::{Kind, Node, Tip};
+use crate::walk::{node_at, write_node};
+use std::alloc::{AllocError, Global};
+
+/// Adds the parts of a node. The error is refused memory.
+fn push_parts(found: &mut Vec<usize>, kind: Kind) -> Result<(), AllocError>
+    ensures { OnOk result (found.new.items ≡ found.old.items ++ parts_of kind) }
+{
+    match kind {
+        Kind::Leaf(_) => {}
+        Kind::One(_, part) => found.push(part)?,
+        Kind::Two(_, left, right) => {
+            found.push(left)?;
+            found.push(right)?;
+        }
+    }
+    Ok(())
+}
+
+/// The nodes of the part at `root`: itself, and then those below it. The error is refused memory.
+pub(crate) fn nodes_of(
+    alloc: Global,
+    nodes: &Vec<Node>,
+    root: usize,
+) -> Result<Vec<usize>, AllocError>
+    ensures { IfOk result (λ found. AreNodesOf nodes.now.items root found.items) }
+{
+    let mut found = Vec::new(alloc);
+    found.push(root)?;
+    for next in 0..nodes.len() {
+        if next == found.len() {
+            return Ok(found);
+        }
+        let node = node_at(nodes, found[next]);
+        push_parts(&mut found, node.kind)?;
+    }
+    // Each node stands once below another, so that there are less than `nodes.len()` of them.
+    Err(AllocError)
+}
+
+/// The nodes of the list are gone.
+pub(crate) fn drop_nodes(nodes: &mut Vec<Node>, found: &Vec<usize>)
+    ensures dropped { IsDropped nodes.old.items found.now.items nodes.new.items }
+    ensures len { length nodes.new.items ≡ length nodes.old.items }
+{
+    for next in 0..found.len() {
+        write_node(
+            nodes,
+            found[next],
+            Node {
+                kind: Kind::Leaf(Tip::Gone),
+                parent: 0,
+            },
+        );
+    }
+}
