@@ -3,12 +3,12 @@ pub mod Beginning
 pub mod Binding
 pub mod Change
 pub mod Closing
-pub mod DueCalls
 pub mod Dropping
+pub mod DueCalls
 pub mod Feeding
-pub mod Halting
 pub mod Filling
 pub mod Growth
+pub mod Halting
 pub mod Inside
 pub mod Lists
 pub mod Moves

@@ -9,7 +9,7 @@ mod marks;
 mod publish;
 pub mod rest;
 mod room;
-pub mod walk;
 mod side;
+pub mod walk;
 
 pub use marked::Marked;
