@@ -12,7 +12,8 @@ use Rattle.orc_rules.specs.declared.value.Value.{Value}
 use Rattle.orc_rules.specs.declared.value.Value.TheVariants.{Number, Truth, Signal}
 use Rattle.orc_journal.specs.Reading.{◌>>=◌, or_else, both, made, after, number_at, number_field, positive, negative, signed_from, constant, value_at, value_field}
 use Rattle.orc_rules.specs.Text.{number, value, value_text, IsValue}
-use Rattle.orc_journal.proofs.Digits.{Stops, Begins, decimal_begins, and_parts, number_takes, number_again}
+use Rattle.orc_rules.proofs.Numerals.{Stops, and_parts}
+use Rattle.orc_journal.proofs.Digits.{Begins, decimal_begins, number_takes, number_again}
 
 pub record IsCode {A : Type 0} (text : A → List ℕ) (Fits : A → Type 0) (read : List ℕ → Option (A × List ℕ)) : Type 0 where
   pub takes : (bytes : List ℕ) (x : A) (rest : List ℕ) → read bytes ≡ Some (x, rest) → (bytes ≡ text x ++ rest) × Fits x

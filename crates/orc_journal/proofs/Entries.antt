@@ -9,7 +9,8 @@ use Rattle.orc_journal.specs.declared.kind.Kind.TheVariants as kinds
 use Rattle.orc_journal.specs.Reading.{◌>>=◌, or_else, made, after, pair_field, sent_field, outcome_field, call_field, kind_from, all_kinds, fields_at, entry_at, returned}
 use Rattle.orc_journal.specs.Kinds.{kind, kind_word}
 use Rattle.orc_rules.specs.Text.{number, value, call, word, fields, line, IsValue, AreValues, Fits}
-use Rattle.orc_journal.proofs.Digits.{Stops, decimal_begins}
+use Rattle.orc_rules.proofs.Numerals.{Stops}
+use Rattle.orc_journal.proofs.Digits.{decimal_begins}
 use Rattle.orc_journal.proofs.Codes.{IsCode, bind_some, same_some, both-code, made_takes, made_again, number_code, value_code, after_takes, or_else_some, not_digit}
 
 pub pair_code : IsCode (λ (p : ℕ × ℕ). number p.0 ++ number p.1) (λ p. (p.0 < 2 ^ 64) × (p.1 < 2 ^ 64)) pair_field

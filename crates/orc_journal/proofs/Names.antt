@@ -6,7 +6,8 @@ use Rattle.orc_rules.specs.declared.value.Value.{Value}
 use Rattle.orc_rules.specs.Sites.{site_named, IsBare, AreNames}
 use Rattle.orc_journal.specs.Reading.{◌>>=◌, after, split_name, name_at, arguments_at, call_field}
 use Rattle.orc_rules.specs.Text.{call, arguments, AreValues}
-use Rattle.orc_journal.proofs.Digits.{and_parts, eqb-false_of}
+use Rattle.orc_rules.proofs.Numerals.{and_parts}
+use Rattle.orc_journal.proofs.Digits.{eqb-false_of}
 use Rattle.orc_journal.proofs.Codes.{IsCode, bind_some, same_some, after_takes, same_self}
 use Rattle.orc_journal.proofs.Calls.{arguments_take, arguments_again}
 

@@ -3,7 +3,8 @@ use Rattle.std.proofs.Common.{◌≡◌, ℕ, List, ◌++◌, Option, Some, None
 use Rattle.std.specs.Prelude.{IfSome}
 use Rattle.orc_rules.specs.declared.entry.Entry.{Entry}
 use Rattle.orc_rules.specs.Sites.{AreNames}
-use Rattle.orc_journal.specs.Reading.{Gives, entry_at}
+use Rattle.orc_rules.specs.Digits.{Gives}
+use Rattle.orc_journal.specs.Reading.{entry_at}
 use Rattle.orc_rules.specs.Text.{line, Fits}
 use Rattle.orc_journal.proofs.Entries.{AreCodes, entry_takes, entry_again}
 use Rattle.orc_journal.proofs.Names.{call_code}

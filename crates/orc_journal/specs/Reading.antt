@@ -1,6 +1,7 @@
 -- Reading a journal from left to right: what stands first, and the bytes after it.
-use Rattle.std.specs.Prelude.{◌≡◌, ℕ, zero, suc, ◌+◌, ◌*◌, ◌-◌, ◌^◌, List, [], ◌∷◌, Bool, true, false, not, ◌&&◌, ◌==◌, nat_lt, if◌then◌else◌, Option, Some, None, option_map, codes, pos, negsuc}
+use Rattle.std.specs.Prelude.{ℕ, zero, suc, ◌-◌, ◌^◌, List, [], ◌∷◌, Bool, true, false, not, ◌&&◌, ◌==◌, nat_lt, if◌then◌else◌, Option, Some, None, option_map, codes, pos, negsuc}
 use Rattle.std.specs.Char.{is_ascii_digit}
+use Rattle.orc_rules.specs.Digits.{digits_at}
 use Rattle.orc_rules.specs.declared.value.Value.{Value}
 use Rattle.orc_rules.specs.declared.value.Value.TheVariants.{Number, Truth, Signal}
 use Rattle.orc_rules.specs.declared.entry.Entry.{Entry}
@@ -14,11 +15,6 @@ infixl 10 ◌>>=◌
 abbrev pub ◌>>=◌ : {A B : Type 0} → Option A → (A → Option B) → Option B
 (Some x) >>= f = f x
 None >>= f = None
-
--- what a function of the code returned, seen by view, is what reading gives
-abbrev pub Gives : {X Y : Type 0} → (X → Y) → Option X → Option Y → Type 0
-Gives view (Some x) read = read ≡ Some (view x)
-Gives view None read = read ≡ None
 
 abbrev pub or_else : {A : Type 0} → Option A → Option A → Option A
 or_else (Some x) other = Some x
@@ -39,15 +35,6 @@ abbrev pub after : List ℕ → List ℕ → Option (List ℕ)
 after [] bytes = Some bytes
 after (c ∷ cs) [] = None
 after (c ∷ cs) (b ∷ bytes) = if b == c then after cs bytes else None
-
--- the number after the digits that stand first, and the bytes after them
-abbrev pub digits_from : ℕ → List ℕ → ℕ × List ℕ
-digits_from n [] = (n, [])
-digits_from n (c ∷ cs) = if is_ascii_digit c then digits_from (n * 10 + (c - 48)) cs else (n, c ∷ cs)
-
--- the number of the digits that stand first, perhaps of none
-unfoldable pub digits_at : List ℕ → Option (ℕ × List ℕ)
-digits_at bytes = if nat_lt (digits_from 0 bytes).0 (2 ^ 64) then Some (digits_from 0 bytes) else None
 
 -- a digit stands first, and no second one after a zero
 abbrev pub is_plain : List ℕ → Bool

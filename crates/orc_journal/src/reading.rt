@@ -1,12 +1,14 @@
 //! Reading entries from lines.
 
 ghost use Rattle.std.specs.Prelude.{◌≡◌, ◌++◌, List, length, option_map, ℕ, IfSome, Some, ◌<◌, ◌≤◌, ◌^◌, ◌-◌, negsuc};
-ghost use Rattle.orc_journal.specs.Reading.{Gives, after, digits_from, is_plain, digits_at, number_at, value_at, number_field, value_field, pair_field, sent_field, outcome_field, split_name, name_at, values_at, arguments_at, call_field, all_kinds, kind_from, fields_at, entry_at};
+ghost use Rattle.orc_rules.specs.Digits.{Gives, digits_at};
+ghost use Rattle.orc_journal.specs.Reading.{after, is_plain, number_at, value_at, number_field, value_field, pair_field, sent_field, outcome_field, split_name, name_at, values_at, arguments_at, call_field, all_kinds, kind_from, fields_at, entry_at};
 ghost use Rattle.orc_rules.specs.Text.{line, Fits};
 ghost use Rattle.orc_rules.specs.declared.entry.Entry.{Entry as EntryOf};
 
 use crate::kind::Kind;
 use orc_rules::answers::Answers;
+use orc_rules::digits::digits_at;
 use orc_rules::entry::Entry;
 use orc_rules::value::{Args, Value};
 
@@ -32,22 +34,6 @@ fn is_plain(bytes: &[u8]) -> bool
         [c] => c.is_ascii_digit(),
         [c, d, ..] => c.is_ascii_digit() && !(*c == b'0' && d.is_ascii_digit()),
     }
-}
-
-// The number of the digits that stand first.
-fn digits_at(bytes: &[u8]) -> Option<(u64, &[u8])>
-    ensures { Gives (λ x. (x.0, x.1.now)) result (digits_at bytes.now) }
-{
-    let mut number: u64 = 0;
-    let mut rest = bytes;
-    while let [c, behind @ ..] = rest {
-        if !c.is_ascii_digit() {
-            return Some((number, rest));
-        }
-        number = number.checked_mul(10)?.checked_add((*c - b'0') as u64)?;
-        rest = behind;
-    }
-    Some((number, rest))
 }
 
 // The number in decimal that stands first, with no leading zeros.

@@ -1,3 +1,4 @@
+pub mod Adding
 pub mod Counts
 pub mod Determined
 pub mod Dropped
@@ -11,6 +12,7 @@ pub mod Lift
 pub mod Lookup
 pub mod Lost
 pub mod Numbered
+pub mod Numerals
 pub mod Refusal
 pub mod Settled
 pub mod Sites

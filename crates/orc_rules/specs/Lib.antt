@@ -1,3 +1,4 @@
+pub mod Digits
 pub mod Idle
 pub mod Journal
 pub mod Lost

@@ -1,5 +1,5 @@
 -- The table of sites: the built-in ones and those of a script.
-use Rattle.std.specs.Prelude.{ℕ, zero, suc, ◌-◌, ◌^◌, List, [], ◌∷◌, ◌≡◌, length, map, Bool, true, false, cond, not, ◌&&◌, Option, Some, None, slice_get, ℤ, pos, negsuc, ◌+ℤ◌, ◌-ℤ◌, int_lt, int_le, ◌≢◌, ◌<◌, if◌then◌else◌, option_map, bytes_eq, codes}
+use Rattle.std.specs.Prelude.{ℕ, zero, suc, ◌-◌, ◌^◌, List, [], ◌∷◌, ◌++◌, ◌≡◌, length, map, Bool, true, false, cond, not, ◌&&◌, Option, Some, None, slice_get, ℤ, pos, negsuc, ◌+ℤ◌, ◌-ℤ◌, int_lt, int_le, ◌≢◌, ◌<◌, if◌then◌else◌, option_map, bytes_eq, codes}
 use Rattle.std.specs.List.{AllByRecursion}
 use Rattle.std.specs.Ordering.{int_eq}
 use Rattle.orc_rules.specs.declared.value.Value.{Value}
@@ -71,6 +71,26 @@ built_ins = builtins.Add ∷ builtins.Sub ∷ builtins.Eq ∷ builtins.Lt ∷ bu
 -- the table that has these built-in sites alone
 abbrev pub built_in_table : List Builtin → Table
 built_in_table bs = record { names = map built_in_name bs; sites = map built_in bs }
+
+-- a site with one more line behind those that it has; a built-in site stays as it is
+abbrev pub site_with : Site → Line → Site
+site_with (built_in b) l = built_in b
+site_with (scripted ls) l = scripted (ls ++ l ∷ [])
+
+-- the names with one more behind them, where it is new
+abbrev pub names_with : List (List ℕ) → List ℕ → List (List ℕ)
+names_with [] name = name ∷ []
+names_with (n ∷ ns) name = if bytes_eq n name then n ∷ ns else n ∷ names_with ns name
+
+-- the sites of these names, where the line is one of the site of that name
+abbrev pub sites_with : List (List ℕ) → List Site → List ℕ → Line → List Site
+sites_with [] ss name l = ss ++ scripted (l ∷ []) ∷ []
+sites_with (n ∷ ns) [] name l = []
+sites_with (n ∷ ns) (s ∷ ss) name l = if bytes_eq n name then site_with s l ∷ ss else s ∷ sites_with ns ss name l
+
+-- the table with one more line for the calls of that name
+abbrev pub with_line : Table → List ℕ → Line → Table
+with_line t name l = record { names = names_with t.names name; sites = sites_with t.names t.sites name l }
 
 abbrev pub at_once : Value → Found
 at_once v = After (Gives v) 0

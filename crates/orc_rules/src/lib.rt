@@ -3,6 +3,7 @@
 
 pub mod answers;
 pub mod builtin;
+pub mod digits;
 pub mod entry;
 pub mod laws;
 pub mod param;

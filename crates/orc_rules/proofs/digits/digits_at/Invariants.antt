@@ -1,6 +1,6 @@
 use Rattle.std.proofs.Common.{◌≡◌, ◌<◌, ◌^◌, length}
-use Rattle.orc_journal.specs.Reading.{digits_from}
-use Rattle.orc_journal.proofs.reading.digits_at.Given as goal
+use Rattle.orc_rules.specs.Digits.{digits_from}
+use Rattle.orc_rules.proofs.digits.digits_at.Given as goal
 
 abbrev pub invariant-loop-rest : goal.invariant-loop-rest
 invariant-loop-rest l = record { same : digits_from l.number l.rest ≡ digits_from 0 l.bytes; small : l.number < 2 ^ 64 }

@@ -1,6 +1,6 @@
 use Rattle.std.proofs.Common.{arith, sym}
-use Rattle.orc_journal.proofs.Digits.{too_great, ended, all_read}
-use Rattle.orc_journal.proofs.reading.digits_at.Goals as goal
+use Rattle.orc_rules.proofs.Numerals.{too_great, ended, all_read}
+use Rattle.orc_rules.proofs.digits.digits_at.Goals as goal
 
 pub returns-then-not-is_ascii_digit : goal.returns-then-not-is_ascii_digit
 returns-then-not-is_ascii_digit c = ended c.loop-rest.number c.loop-rest.rest.now c.args.bytes.now c.in-len1-up.len_at_least (sym c.if-not-is_ascii_digit.ensures.value) c.loop-rest.invariant.same c.loop-rest.invariant.small

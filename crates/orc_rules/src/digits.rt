@@ -1,0 +1,20 @@
+//! Numbers in decimal digits.
+
+ghost use Rattle.std.specs.Prelude.{◌≡◌};
+ghost use Rattle.orc_rules.specs.Digits.{Gives, digits_at};
+
+/// The number of the digits that stand first, 0 where there is none, and the bytes behind them. None where the number has more than 64 bits.
+pub fn digits_at(bytes: &[u8]) -> Option<(u64, &[u8])>
+    ensures { Gives (λ x. (x.0, x.1.now)) result (digits_at bytes.now) }
+{
+    let mut number: u64 = 0;
+    let mut rest = bytes;
+    while let [c, behind @ ..] = rest {
+        if !c.is_ascii_digit() {
+            return Some((number, rest));
+        }
+        number = number.checked_mul(10)?.checked_add((*c - b'0') as u64)?;
+        rest = behind;
+    }
+    Some((number, rest))
+}
