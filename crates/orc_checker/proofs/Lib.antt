@@ -14,5 +14,6 @@ pub mod Lists
 pub mod Moves
 pub mod Publishing
 pub mod Rising
+pub mod Settling
 pub mod Spelling
 pub mod Trees

@@ -6,3 +6,4 @@ pub mod Dropping
 pub mod DueTimes
 pub mod Halting
 pub mod Rising
+pub mod Settling

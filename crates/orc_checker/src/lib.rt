@@ -3,6 +3,7 @@
 
 pub mod arena;
 pub mod due;
+mod flags;
 pub mod halts;
 pub mod marked;
 mod marks;

@@ -1,0 +1,40 @@
+use Rattle.std.proofs.Common.{◌≡◌, ◌∙◌, ap, sym, subst, true, false, length, length-set, slice_set}
+use Rattle.orc_checker.specs.Settling.{flag, Settles}
+use Rattle.orc_checker.proofs.Settling.{Settled, unflagged, fewer, settled_none, settled_on, settled_all, settled_not}
+use Rattle.orc_checker.proofs.flags.settle.Goals as goal
+
+pub loop-above-init : goal.loop-above-init
+loop-above-init c =
+    let nodes = c.args.nodes.now.items in
+    let flags = c.args.flags.now.items in (
+      subst (λ z. Settled nodes flags c.args.from z c.args.from) (sym c.write_flag.ensures.items) (settled_none nodes flags c.args.from),
+      ap length c.write_flag.ensures.items ∙ length-set flags c.args.from true,
+      c.write_flag.ensures.capacity,
+    )
+
+pub loop-above-smaller : goal.loop-above-smaller
+loop-above-smaller c =
+    let flags = c.loop-above.flags.items in
+    rw c.write_flag-in-Some.ensures.items (fewer flags c.in-Some.above c.in-Some.ensures.next.1)
+
+pub loop-above-preserved : goal.loop-above-preserved
+loop-above-preserved c =
+    let nodes = c.args.nodes.now.items in
+    let old = c.args.flags.now.items in
+    let flags = c.loop-above.flags.items in (
+      subst (λ z. Settled nodes old c.args.from z c.in-Some.above) (sym c.write_flag-in-Some.ensures.items) (settled_on nodes old c.args.from flags c.loop-above.place c.in-Some.above c.loop-above.invariant.0 c.in-Some.ensures.next),
+      ap length c.write_flag-in-Some.ensures.items ∙ length-set flags c.in-Some.above true ∙ c.loop-above.invariant.1,
+      c.write_flag-in-Some.ensures.capacity ∙ c.loop-above.invariant.2,
+    )
+
+pub returns-in_default-clause-settles : goal.returns-in_default-clause-settles
+returns-in_default-clause-settles c =
+    let nodes = c.args.nodes.now.items in
+    let old = c.args.flags.now.items in
+    subst (λ z. Settles nodes old c.args.from z c.loop-above.flags.items) (sym c.if-halted.true)
+    (settled_all nodes old c.args.from c.loop-above.flags.items c.loop-above.place c.loop-above.invariant.0 (c.in_default.ensures.last))
+
+pub returns-else-halted-clause-settles : goal.returns-else-halted-clause-settles
+returns-else-halted-clause-settles c =
+    subst (λ z. Settles c.args.nodes.now.items c.args.flags.now.items c.args.from z c.args.flags.now.items) (sym c.if-halted.false)
+    (settled_not c.args.nodes.now.items c.args.flags.now.items c.args.from)

@@ -1,0 +1,73 @@
+//! Flags of the nodes that have halted.
+
+ghost use Rattle.std.specs.Prelude.{◌≡◌, ◌⊎◌, true, false, List, Bool, length, slice_set, vec_capacity, IfSome, IfNone, slice_index_or};
+ghost use Rattle.orc_checker.specs.Settling.{flag, inner_flag, HaltsNext, EndsAt, Settles};
+ghost use Rattle.orc_checker.specs.Rising.{nowhere};
+
+use crate::arena::{Kind, Node, Single};
+use crate::walk::node_at;
+
+/// A node's flag, true where there is none.
+pub(crate) fn flag_at(flags: &Vec<bool>, i: usize) -> bool
+    ensures { result ≡ flag flags.now.items i }
+{
+    match flags.get(i) {
+        Some(flag) => *flag,
+        None => true,
+    }
+}
+
+/// Writes a flag that is there.
+fn write_flag(flags: &mut Vec<bool>, i: usize, flag: bool)
+    ensures items { flags.new.items ≡ slice_set flags.old.items i flag }
+    ensures capacity { vec_capacity flags.new ≡ vec_capacity flags.old }
+{
+    if let Some(slot) = flags.get_mut(i) {
+        *slot = flag;
+    }
+}
+
+/// Whether a node with parts has halted, by the flags of its parts.
+fn inner_halts(flags: &Vec<bool>, kind: Kind) -> bool
+    ensures { result ≡ inner_flag flags.now.items kind }
+{
+    match kind {
+        Kind::Leaf(_) => false,
+        Kind::One(Single::Entered(_, _, _), _) => false,
+        Kind::One(_, part) => flag_at(flags, part),
+        Kind::Two(_, left, right) => flag_at(flags, left) && flag_at(flags, right),
+    }
+}
+
+/// The node above, where it halts with its parts and has no flag yet.
+fn halts_next(nodes: &Vec<Node>, flags: &Vec<bool>, place: usize) -> Option<usize>
+    ensures next { IfSome result (λ p. HaltsNext nodes.now.items flags.now.items place p) }
+    ensures last { IfNone result (EndsAt nodes.now.items flags.now.items place) }
+{
+    let parent = node_at(nodes, place).parent;
+    if flag_at(flags, parent) {
+        return None;
+    }
+    let kind = node_at(nodes, parent).kind;
+    if inner_halts(flags, kind) {
+        Some(parent)
+    } else {
+        None
+    }
+}
+
+/// Flags a node that hadn't halted, where `halted` is true, and each node above it that halts with it.
+pub(crate) fn settle(nodes: &Vec<Node>, flags: &mut Vec<bool>, from: usize, halted: bool)
+    ensures settles { Settles nodes.now.items flags.old.items from halted flags.new.items }
+    ensures len { length flags.new.items ≡ length flags.old.items }
+    ensures capacity { vec_capacity flags.new ≡ vec_capacity flags.old }
+{
+    if halted {
+        write_flag(flags, from, true);
+        let mut place = from;
+        while let Some(above) = halts_next(nodes, flags, place) {
+            write_flag(flags, above, true);
+            place = above;
+        }
+    }
+}
