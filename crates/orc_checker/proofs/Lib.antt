@@ -5,6 +5,7 @@ pub mod Change
 pub mod Closing
 pub mod Dropping
 pub mod DueCalls
+pub mod Ended
 pub mod Feeding
 pub mod Filling
 pub mod Growth

@@ -4,6 +4,7 @@ pub mod Calls
 pub mod Checker
 pub mod Dropping
 pub mod DueTimes
+pub mod Ended
 pub mod Halting
 pub mod Rising
 pub mod Settling

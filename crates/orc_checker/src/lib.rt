@@ -5,6 +5,7 @@ pub mod arena;
 pub mod due;
 mod flags;
 pub mod halts;
+pub mod looking;
 pub mod marked;
 mod marks;
 mod publish;
@@ -13,4 +14,5 @@ mod room;
 mod side;
 pub mod walk;
 
+pub use looking::Next;
 pub use marked::Marked;

@@ -1,0 +1,198 @@
+// What an engine asks of a marked term: what a token can do next, when a call is due, whether all has ended.
+
+ghost use Rattle.std.specs.Prelude.{◌≡◌, ◌≤◌, IsTrue, List, length, true};
+ghost use Rattle.orc_rules.specs.Journal.{Place};
+ghost use Rattle.orc_rules.specs.Marked.{erase};
+ghost use Rattle.orc_rules.specs.Term.{Halted};
+ghost use Rattle.orc_rules.specs.Timed.{Context};
+ghost use Rattle.orc_rules.specs.Nodes.{Listing, code};
+ghost use Rattle.orc_checker.specs.Checker.{Spells};
+ghost use Rattle.orc_checker.specs.Ended.{is_over, AreOver};
+
+use crate::arena::{Bound, Kind, Node, Single, Tip};
+use crate::marked::{Marked, Spot};
+use crate::walk::{Taker, way_up};
+use orc_rules::param::Operand;
+use orc_rules::program::{Program, TermNode};
+use orc_rules::value::{Answer, Args, Found, Value};
+
+/// What a token can do next.
+#[derive(Drop)]
+pub enum Next {
+    End,
+    Fork,
+    Seq,
+    Other,
+    Def,
+    Void,
+    Open,
+    /// It publishes to a `>x>`.
+    Send(Value),
+    /// It publishes to the right side of this cell.
+    Bind(u64, Value),
+    /// Nothing takes its publication.
+    Publish(Value),
+    Call(u32, Args),
+    /// It waits for this cell.
+    Wait(u64),
+}
+
+/// The arguments of a call.
+#[derive(Drop)]
+enum Arguments {
+    Values(Args),
+    HasVoid,
+    /// The first cell that isn't bound.
+    Wait(u64),
+}
+
+// Whether a node is neither a token nor a pending call nor an otherwise that has been entered.
+fn is_over(node: Node) -> bool
+    ensures { result ≡ is_over node.kind }
+{
+    match node.kind {
+        Kind::Leaf(Tip::Token(_, _, _)) | Kind::Leaf(Tip::Waits(_)) => false,
+        Kind::One(Single::Entered(_, _, _), _) => false,
+        _ => true,
+    }
+}
+
+// Whether all nodes are.
+fn are_over(nodes: &Vec<Node>) -> bool
+    ensures { IsTrue result → AreOver nodes.now.items }
+{
+    for node in nodes {
+        if !is_over(*node) {
+            return false;
+        }
+    }
+    true
+}
+
+impl Marked {
+    /// The next mark.
+    pub fn new_mark(&self) -> u64 {
+        self.marks.len() as u64
+    }
+
+    /// The next cell.
+    pub fn new_cell(&self) -> u64 {
+        self.cells.len() as u64
+    }
+
+    /// The next call.
+    pub fn new_call(&self) -> u64 {
+        self.rest.calls.len() as u64 + 1
+    }
+
+    /// The call whose cancel is due.
+    pub fn next_cancel(&self) -> Option<u64> {
+        self.rest.to_cancel.first().copied()
+    }
+
+    /// The time.
+    pub fn now(&self) -> u64
+        ensures { (x : Context) (l : Listing) (p : Place) → Spells x (code l) self.now p → result ≡ p.now }
+    {
+        self.rest.time
+    }
+
+    /// The answer of a call and the time at which it is due, in units of logical time. None where it pends no more or is never due.
+    pub fn due(&self, call: u64) -> Option<(Answer, u64)> {
+        let made = *self.rest.calls.get((call as usize).checked_sub(1)?)?;
+        match self.nodes.get(made.node)?.kind {
+            Kind::Leaf(Tip::Waits(k)) if k == call => {}
+            _ => return None,
+        }
+        match made.found {
+            Found::After(answer, delay) => Some((answer, made.at.checked_add(delay)?)),
+            Found::Never => None,
+        }
+    }
+
+    /// Whether no token, no pending call and no entered otherwise is left: then the term has halted.
+    pub fn has_ended(&self) -> bool
+        ensures { (x : Context) (l : Listing) (p : Place) → Spells x (code l) self.now p → IsTrue result → Halted (erase p.marked) }
+    {
+        are_over(&self.nodes)
+    }
+
+    /// What a token can do next. None where there is no such token, or a cancel is due.
+    pub fn next(&self, program: &Program, token: u64) -> Option<Next> {
+        let spot = self.spot(token).ok()?;
+        Some(match program.node(spot.node) {
+            TermNode::Stop => Next::End,
+            TermNode::Par(_, _) => Next::Fork,
+            TermNode::Seq(_, _, _) => Next::Seq,
+            TermNode::Other(_, _) => Next::Other,
+            TermNode::Prune(_, _, _) => Next::Open,
+            TermNode::Call(_, _) => Next::Def,
+            TermNode::Operand(operand) => match self.bound_to(spot, operand)? {
+                Bound::Is(value) => self.publication(spot, value)?,
+                Bound::Cell(cell) => Next::Wait(cell),
+                Bound::Void => Next::Void,
+            },
+            TermNode::Site(site, list) => match self.arguments(spot, program.operands(list))? {
+                Arguments::Values(args) => Next::Call(site, args),
+                Arguments::HasVoid => Next::Void,
+                Arguments::Wait(cell) => Next::Wait(cell),
+            },
+        })
+    }
+
+    // What a token's value does.
+    fn publication(&self, spot: Spot, value: Value) -> Option<Next> {
+        Some(match way_up(&self.nodes, spot.at)?.taker {
+            Taker::Whole => Next::Publish(value),
+            Taker::Fed(_) => Next::Send(value),
+            Taker::Bound(cell) => Next::Bind(cell, value),
+        })
+    }
+
+    // What is put for an operand where a token stands. None for a name that isn't in scope.
+    fn bound_to(&self, spot: Spot, operand: Operand) -> Option<Bound> {
+        let name = match operand {
+            Operand::Is(value) => return Some(Bound::Is(value)),
+            Operand::Name(name) => name,
+        };
+        let mut place = spot.scope;
+        for _ in 0..self.scopes.len() {
+            let scope = *self.scopes.get(place.checked_sub(1)?)?;
+            if scope.name == name {
+                return Some(self.current(scope.bound));
+            }
+            place = scope.outer;
+        }
+        None
+    }
+
+    // What a cell has become, itself where it isn't bound.
+    fn current(&self, bound: Bound) -> Bound {
+        match bound {
+            Bound::Cell(cell) => match self.cells.get(cell as usize) {
+                Some(became) => *became,
+                None => bound,
+            },
+            _ => bound,
+        }
+    }
+
+    // A call's arguments: one that is void, else the first one that isn't bound, else the values.
+    fn arguments(&self, spot: Spot, operands: &[Operand]) -> Option<Arguments>
+        requires { length operands.now ≤ 16 }
+    {
+        let mut args = Args::new();
+        let mut waits = None;
+        for operand in operands {
+            match self.bound_to(spot, *operand)? {
+                Bound::Void => return Some(Arguments::HasVoid),
+                Bound::Cell(cell) => waits = waits.or(Some(cell)),
+                Bound::Is(value) => args.push(value),
+            }
+        }
+        Some(match waits {
+            Some(cell) => Arguments::Wait(cell),
+            None => Arguments::Values(args),
+        })
+    }
+}
