@@ -13,6 +13,7 @@ pub mod Halting
 pub mod Inside
 pub mod Lists
 pub mod Moves
+pub mod Opening
 pub mod Publishing
 pub mod Rising
 pub mod Settling

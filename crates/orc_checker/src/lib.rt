@@ -8,6 +8,7 @@ pub mod halts;
 pub mod looking;
 pub mod marked;
 mod marks;
+mod pruning;
 mod publish;
 pub mod rest;
 mod room;

@@ -103,6 +103,7 @@ impl Marked {
             Entry::Fork(s, a, b) => self.fork(program, *s, *a, *b),
             Entry::Seq(s, a) => self.seq(program, *s, *a),
             Entry::Other(s, a) => self.other(program, *s, *a),
+            Entry::Open(s, c, a, b) => self.open(program, *s, *c, *a, *b),
             Entry::Publish(s, v) => self.publish(program, *s, *v),
             _ => Err(RuleFault::Memory),
         }

@@ -15,3 +15,6 @@ returns-in-Other-clause-done c = for_all c.args.program.now c.args.answers.now _
 
 pub returns-in-Publish-clause-done : goal.returns-in-Publish-clause-done
 returns-in-Publish-clause-done c = for_all c.args.program.now c.args.answers.now _ _ c.args.self.now c.publish.new.self c.publish.result c.in-Publish.is c.publish.ensures.done
+
+pub returns-in-Open-clause-done : goal.returns-in-Open-clause-done
+returns-in-Open-clause-done c = for_all c.args.program.now c.args.answers.now _ _ c.args.self.now c.open.new.self c.open.result c.in-Open.is c.open.ensures.done

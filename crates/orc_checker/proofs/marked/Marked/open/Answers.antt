@@ -1,0 +1,34 @@
+use Rattle.std.proofs.Common.{◌≡◌, ◌∷◌, ◌++◌, [], ap, ◌∙◌, length, suc, arith, length-append}
+use Rattle.orc_rules.specs.Nodes.{code, unfold_node}
+use Rattle.orc_checker.specs.declared.arena.Bound.TheVariants.{Cell}
+use Rattle.orc_checker.specs.declared.arena.Tip.TheVariants.{Token}
+use Rattle.orc_checker.specs.declared.arena.Kind.TheVariants.{Leaf}
+use Rattle.orc_checker.specs.Checker.{State}
+use Rattle.orc_checker.proofs.Moves.{node}
+use Rattle.orc_checker.proofs.Opening.{open-enters}
+use Rattle.orc_checker.proofs.Answering.{set_two, two_more}
+use Rattle.orc_checker.proofs.marked.Marked.open.Goals as goal
+
+pub returns-clause-done : goal.returns-clause-done
+returns-clause-done c =
+    let terms = code c.args.program.now in
+    let t = c.in_ok-spot.spot in
+    let v = c.self.view_is in
+    let k = c.in-Prune in
+    let next = c.in_ok-next_mark.ensures in
+    let b_is : c.args.b ≡ suc c.args.a = omega (arith, c.if-b-eq0.false, c.if-b-a.false) in
+    let s = c.args.self.now in
+    let scopes = c.push_within.ensures.items ∙ ap (λ z. z ++ record { name = k.x; bound = Cell c.args.c; outer = t.scope } ∷ []) (c.reserve_cell.ensures.scopes ∙ ap State.scopes v) in
+    let inner : c.scope_count.result ≡ suc (length s.scopes) = omega (arith, c.scope_count.ensures, ap length scopes, length-append s.scopes (record { name = k.x; bound = Cell c.args.c; outer = t.scope } ∷ [])) in
+    open-enters terms s _ t.at t.parent c.args.s t.node t.scope c.in_ok-spot.ensures.there c.size-n.result c.args.c c.args.a c.args.b k.f k.x k.g
+    (c.node.ensures.term ∙ ap (unfold_node terms c.args.program.now.lists) k.is)
+    (c.size-n.ensures ∙ ap length (c.reserve.ensures.nodes ∙ ap State.nodes v))
+    c.in_ok-next_cell.ensures
+    next
+    b_is
+    (set_two s.nodes _ _ _ t.at _ _ _ _ _ (c.reserve.ensures.nodes ∙ ap State.nodes v) c.push_within-3.ensures.items c.push_within-4.ensures.items (c.token_node.ensures ∙ ap (λ z. node (Leaf (Token c.args.a k.f z)) t.at) inner) c.token_node-2.ensures)
+    scopes
+    (c.push_within-2.ensures.items ∙ ap (λ z. z ++ Cell c.args.c ∷ []) (c.reserve_cell.ensures.cells ∙ ap State.cells v))
+    (two_more s.marks _ _ _ _ _ c.args.a c.args.b (c.reserve.ensures.marks ∙ ap State.marks v) c.push_within-5.ensures.items c.push_within-6.ensures.items next b_is)
+    (ap State.rest v)
+    c.in_ok-spot.ensures.free
