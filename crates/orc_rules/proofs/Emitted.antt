@@ -53,7 +53,7 @@ mute s a v (in_opened f c g) h =
 mute s a v (in_other n f g) h = ap (option_map (λ o. passed n g (Outcome.act o) (Outcome.after o))) (mute s a v f (omega (arith, h)))
 
 -- the token is there
-stands : {s a : ℕ} {v : Value} {m m' : Marked} {b : Act} → Emits s a v m b m' → 0 < times (mark s) m
+pub stands : {s a : ℕ} {v : Value} {m m' : Marked} {b : Act} → Emits s a v m b m' → 0 < times (mark s) m
 stands {s} emits = omega (arith, once_same (mark s) (mark s) refl)
 stands (on_left e) = omega (arith, stands e)
 stands (on_right e) = omega (arith, stands e)

@@ -20,6 +20,7 @@ pub mod Sources
 pub mod Tests
 pub mod Unfolding
 pub mod Unique
+pub mod UsedUp
 pub mod Worked
 pub mod WorkedOtherwises
 pub mod WorkedPrunings

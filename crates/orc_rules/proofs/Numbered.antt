@@ -99,20 +99,35 @@ brings_within n a c (publishes v) = refl
 brings_within n a c silent = refl
 brings_within n a c (opens d) = refl
 
-pub times_emitted : {s a : ℕ} {v : Value} {m m' : Marked} {b : Act} (n : Name) → Emits s a v m b m' → times n m' ≤ times n m + brings n a b
+-- the cell that it settles
+abbrev settles : Name → Act → ℕ
+settles n (binds c v) = once n (cell c)
+settles n _ = 0
+
+settles_within : (n : Name) (c : ℕ) (b : Act) → settles n (within c b) ≡ settles n b
+settles_within n c (calls k m args cs) = refl
+settles_within n c (returns k v) = refl
+settles_within n c (binds d v) = refl
+settles_within n c (loses d) = refl
+settles_within n c (publishes v) = refl
+settles_within n c silent = refl
+settles_within n c (opens d) = refl
+
+-- a publication uses up its token, and the cell that it settles
+pub times_emitted : {s a : ℕ} {v : Value} {m m' : Marked} {b : Act} (n : Name) → Emits s a v m b m' → times n m' + (once n (mark s) + settles n b) ≤ times n m + brings n a b
 times_emitted n emits = omega arith
 times_emitted n (on_left e) = omega (arith, times_emitted n e)
 times_emitted n (on_right e) = omega (arith, times_emitted n e)
 times_emitted n (on_feeding i e) = times_emitted n e
 times_emitted n (is_fed e) = omega (arith, times_emitted n e)
 times_emitted n (on_main e) = omega (arith, times_emitted n e)
-times_emitted {a = a} n (on_side {c = c} {b = b} i e) = omega (arith, times_emitted n e, brings_within n a c b)
-times_emitted {v = v} n (is_bound {f = f} {c = c} e) = omega (arith, times_filled n (Is v) c f)
+times_emitted {a = a} n (on_side {c = c} {b = b} i e) = omega (arith, times_emitted n e, brings_within n a c b, settles_within n c b)
+times_emitted {v = v} n (is_bound {f = f} {c = c} e) = omega (arith, times_emitted n e, times_filled n (Is v) c f)
 times_emitted n (on_entered i e) = omega (arith, times_emitted n e)
 times_emitted n (passes e) = omega (arith, times_emitted n e)
 
 -- a name stands no more often than before, or it is a new one
-abbrev Grows : Place → Place → Name → Type 0
+abbrev pub Grows : Place → Place → Name → Type 0
 Grows p q n = (times n q.marked ≤ times n p.marked) ⊎ ((times n q.marked ≤ suc (times n p.marked)) × IsGiven q n × (IsGiven p n → ⊥))
 
 one_new : (p q : Place) (n m : Name) → times n q.marked ≤ times n p.marked + once n m → IsGiven q m → (IsGiven p m → ⊥) → Grows p q n
@@ -178,13 +193,13 @@ cells_kept p (publishes v) c h = h
 cells_kept p silent c h = h
 
 -- the numbers after an act
-record Counts (p : Place) (a : Act) (q : Place) : Type 0 where
+pub record Counts (p : Place) (a : Act) (q : Place) : Type 0 where
   marks : p.mark ≤ q.mark
   next : TakesNext p a
   calls : q.calls ≡ calls_after (moment p) a
   cells : q.cells ≡ cells_after (moment p) a
 
-given_later : (p q : Place) (a : Act) → Counts p a q → (n : Name) → IsGiven p n → IsGiven q n
+pub given_later : (p q : Place) (a : Act) → Counts p a q → (n : Name) → IsGiven p n → IsGiven q n
 given_later p q a c (mark s) g = omega (arith, g, c.marks)
 given_later p q a c (call k) g = subst (λ l. IsIn k (map number_of l)) (sym c.calls) (calls_kept p a k g)
 given_later p q a c (cell d) g = subst (IsIn d) (sym c.cells) (cells_kept p a d g)
@@ -223,46 +238,61 @@ next_not us (m ∷ ms) n e c (inr i) = below ms n (omega (arith, e)) c.1 i
     below (m ∷ ms) n lt c (inl s) = omega (arith, s, lt, c.0)
     below (m ∷ ms) n lt c (inr i) = below ms n (omega (arith, lt)) c.1 i
 
--- an entry keeps the numbers in order
-pub entered_numbered : (x : Context) (p : Place) (e : Entry) (q : Place) → Enters x p e q → IsNumbered p → IsNumbered q
-entered_numbered x p (End s) q h num =
-    numbered_by p q silent (moves_counts p q _ _ _ (omega arith) h) (λ n. inl (omega (arith, times_replaced n h.part))) num
-entered_numbered x p (Fork s a b) q (f, g, ea, eb, h) num =
-    numbered_by p q silent (moves_counts p q _ _ _ (omega (arith, ea, eb)) h) (λ n. two_marks p q n a b ea eb (ap mark_of h.same) (omega (arith, times_replaced n h.part))) num
-entered_numbered x p (Seq s a) q (f, g, z, ea, h) num =
-    numbered_by p q silent (moves_counts p q _ _ _ (omega (arith, ea)) h) (λ n. one_mark p q n a ea (ap mark_of h.same) (omega (arith, times_replaced n h.part))) num
-entered_numbered x p (Other s a) q (f, g, ea, h) num =
-    numbered_by p q silent (moves_counts p q _ _ _ (omega (arith, ea)) h) (λ n. one_mark p q n a ea (ap mark_of h.same) (omega (arith, times_replaced n h.part))) num
-entered_numbered x p (Def s a) q (e, ps, d, cs, ea, is, r, h) num =
-    numbered_by p q silent (acts_counts x p q _ _ (omega (arith, ea)) tt h) (λ n. one_mark p q n a ea (ap mark_of h.same) (omega (arith, times_replaced n r))) num
-entered_numbered x p (entry.Void s) q (t, cs, is, r, h) num =
-    numbered_by p q silent (acts_counts x p q _ _ (omega arith) tt h) (λ n. inl (omega (arith, times_replaced n r))) num
-entered_numbered x p (Open s c a b) q (f, g, z, cs, ec, ea, eb, r, h) num =
-    numbered_by p q (opens c) (acts_counts x p q _ _ (omega (arith, ea, eb)) ec h) (λ n. opened_grows n (omega (arith, times_replaced n r))) num
+-- what an entry does to the numbers
+pub record Steps (p q : Place) : Type 0 where
+  pub act : Act
+  pub counts : Counts p act q
+  pub grows : (n : Name) → Grows p q n
+
+steps : (p q : Place) (a : Act) → Counts p a q → ((n : Name) → Grows p q n) → Steps p q
+steps p q a c g = record { act = a; counts = c; grows = g }
+
+still : (p q : Place) → q.mark ≡ p.mark → q.calls ≡ p.calls → q.cells ≡ p.cells → q.marked ≡ p.marked → Steps p q
+still p q em ec el same = steps p q silent (record { marks = omega (arith, em); next = tt; calls = ec; cells = el }) (λ n. inl (omega (arith, ap (times n) same)))
+
+pub entered_steps : (x : Context) (p : Place) (e : Entry) (q : Place) → Enters x p e q → IsNumbered p → Steps p q
+entered_steps x p (End s) q h num =
+    steps p q silent (moves_counts p q _ _ _ (omega arith) h) (λ n. inl (omega (arith, times_replaced n h.part)))
+entered_steps x p (Fork s a b) q (f, g, ea, eb, h) num =
+    steps p q silent (moves_counts p q _ _ _ (omega (arith, ea, eb)) h) (λ n. two_marks p q n a b ea eb (ap mark_of h.same) (omega (arith, times_replaced n h.part)))
+entered_steps x p (Seq s a) q (f, g, z, ea, h) num =
+    steps p q silent (moves_counts p q _ _ _ (omega (arith, ea)) h) (λ n. one_mark p q n a ea (ap mark_of h.same) (omega (arith, times_replaced n h.part)))
+entered_steps x p (Other s a) q (f, g, ea, h) num =
+    steps p q silent (moves_counts p q _ _ _ (omega (arith, ea)) h) (λ n. one_mark p q n a ea (ap mark_of h.same) (omega (arith, times_replaced n h.part)))
+entered_steps x p (Def s a) q (e, ps, d, cs, ea, is, r, h) num =
+    steps p q silent (acts_counts x p q _ _ (omega (arith, ea)) tt h) (λ n. one_mark p q n a ea (ap mark_of h.same) (omega (arith, times_replaced n r)))
+entered_steps x p (entry.Void s) q (t, cs, is, r, h) num =
+    steps p q silent (acts_counts x p q _ _ (omega arith) tt h) (λ n. inl (omega (arith, times_replaced n r)))
+entered_steps x p (Open s c a b) q (f, g, z, cs, ec, ea, eb, r, h) num =
+    steps p q (opens c) (acts_counts x p q _ _ (omega (arith, ea, eb)) ec h) (λ n. opened_grows n (omega (arith, times_replaced n r)))
   where
     opened_grows : (n : Name) → times n q.marked ≤ times n p.marked + (once n (cell c) + (once n (mark a) + once n (mark b))) → Grows p q n
     opened_grows (mark s) le = two_marks p q (mark s) a b ea eb (ap mark_of h.same) (omega (arith, le))
     opened_grows (cell d) le = one_new p q (cell d) (cell c) (omega (arith, le)) (subst (IsIn c) (sym (ap (λ (r : Place). r.cells) h.same)) (inl refl)) (λ i. next_not p.cells p.cells c ec num.cells i)
     opened_grows (call k) le = inl (omega (arith, le))
-entered_numbered x p (Send s a v) q (ea, e, h) num =
-    numbered_by p q silent (acts_counts x p q _ _ (omega (arith, ea)) tt h) (λ n. one_mark p q n a ea (ap mark_of h.same) (times_emitted n e)) num
-entered_numbered x p (Call s k m args) q (ps, cs, ek, is, r, h) num =
-    numbered_by p q (calls k m args cs) (acts_counts x p q _ _ (omega arith) ek h)
-    (λ n. one_new p q n (call k) (omega (arith, times_replaced n r)) (subst (λ l. IsIn k (map number_of l)) (sym (ap (λ (r : Place). r.calls) h.same)) (inl refl)) (λ i. next_not p.calls (map number_of p.calls) k (omega (arith, ek, length-map p.calls number_of)) num.calls i)) num
-entered_numbered x p (Return k a v) q (cs, ea, due, r, h) num =
-    numbered_by p q (returns k (Gives v)) (acts_counts x p q _ _ (omega (arith, ea)) tt h) (λ n. one_mark p q n a ea (ap mark_of h.same) (omega (arith, times_replaced n r))) num
-entered_numbered x p (ReturnHalt k) q (cs, due, r, h) num =
-    numbered_by p q (returns k Halt) (acts_counts x p q _ _ (omega arith) tt h) (λ n. inl (omega (arith, times_replaced n r))) num
-entered_numbered x p (Bind s c v) q (e, h) num =
-    numbered_by p q (binds c v) (acts_counts x p q _ _ (omega arith) tt h) (λ n. inl (omega (arith, times_emitted n e))) num
-entered_numbered x p (Lost c) q (f, g, cs, halted, r, h) num =
-    numbered_by p q (loses c) (acts_counts x p q _ _ (omega arith) tt h) (λ n. inl (omega (arith, times_replaced n r, times_filled n Void c f))) num
-entered_numbered x p (Right s a) q (f, g, cs, ea, halted, r, h) num =
-    numbered_by p q silent (acts_counts x p q _ _ (omega (arith, ea)) tt h) (λ n. one_mark p q n a ea (ap mark_of h.same) (omega (arith, times_replaced n r))) num
-entered_numbered x p (Publish s v) q (e, h) num =
-    numbered_by p q (publishes v) (acts_counts x p q _ _ (omega arith) tt h) (λ n. inl (omega (arith, times_emitted n e))) num
-entered_numbered x p (Tick t) q (tick, same) num = subst IsNumbered (sym same) (record { single = num.single; given = num.given; calls = num.calls; cells = num.cells })
-entered_numbered x p (Cancel k) q (due, same) num = subst IsNumbered (sym same) (record { single = num.single; given = num.given; calls = num.calls; cells = num.cells })
+entered_steps x p (Send s a v) q (ea, e, h) num =
+    steps p q silent (acts_counts x p q _ _ (omega (arith, ea)) tt h) (λ n. one_mark p q n a ea (ap mark_of h.same) (omega (arith, times_emitted n e)))
+entered_steps x p (Call s k m args) q (ps, cs, ek, is, r, h) num =
+    steps p q (calls k m args cs) (acts_counts x p q _ _ (omega arith) ek h)
+    (λ n. one_new p q n (call k) (omega (arith, times_replaced n r)) (subst (λ l. IsIn k (map number_of l)) (sym (ap (λ (r : Place). r.calls) h.same)) (inl refl)) (λ i. next_not p.calls (map number_of p.calls) k (omega (arith, ek, length-map p.calls number_of)) num.calls i))
+entered_steps x p (Return k a v) q (cs, ea, due, r, h) num =
+    steps p q (returns k (Gives v)) (acts_counts x p q _ _ (omega (arith, ea)) tt h) (λ n. one_mark p q n a ea (ap mark_of h.same) (omega (arith, times_replaced n r)))
+entered_steps x p (ReturnHalt k) q (cs, due, r, h) num =
+    steps p q (returns k Halt) (acts_counts x p q _ _ (omega arith) tt h) (λ n. inl (omega (arith, times_replaced n r)))
+entered_steps x p (Bind s c v) q (e, h) num =
+    steps p q (binds c v) (acts_counts x p q _ _ (omega arith) tt h) (λ n. inl (omega (arith, times_emitted n e)))
+entered_steps x p (Lost c) q (f, g, cs, halted, r, h) num =
+    steps p q (loses c) (acts_counts x p q _ _ (omega arith) tt h) (λ n. inl (omega (arith, times_replaced n r, times_filled n Void c f)))
+entered_steps x p (Right s a) q (f, g, cs, ea, halted, r, h) num =
+    steps p q silent (acts_counts x p q _ _ (omega (arith, ea)) tt h) (λ n. one_mark p q n a ea (ap mark_of h.same) (omega (arith, times_replaced n r)))
+entered_steps x p (Publish s v) q (e, h) num =
+    steps p q (publishes v) (acts_counts x p q _ _ (omega arith) tt h) (λ n. inl (omega (arith, times_emitted n e)))
+entered_steps x p (Tick t) q (tick, same) num = still p q (ap mark_of same) (ap (λ (r : Place). r.calls) same) (ap (λ (r : Place). r.cells) same) (ap (λ (r : Place). r.marked) same)
+entered_steps x p (Cancel k) q (due, same) num = still p q (ap mark_of same) (ap (λ (r : Place). r.calls) same) (ap (λ (r : Place). r.cells) same) (ap (λ (r : Place). r.marked) same)
+
+-- an entry keeps the numbers in order
+pub entered_numbered : (x : Context) (p : Place) (e : Entry) (q : Place) → Enters x p e q → IsNumbered p → IsNumbered q
+entered_numbered x p e q h num = let s = entered_steps x p e q h num in numbered_by p q s.act s.counts s.grows num
 
 -- at the start
 pub begin_numbered : (t : Term) → IsNumbered (begin t)

@@ -1,10 +1,12 @@
 -- The numbers of marks, calls and cells: each was given out, and stands once.
 use Rattle.std.specs.Prelude.{◌≡◌, ◌<◌, ◌≤◌, ◌+◌, ℕ, suc, List, [], ◌∷◌, length, map, Bool, false, cond, nat_eq}
 use Rattle.orc_rules.specs.declared.entry.Entry.{Entry}
+use Rattle.orc_rules.specs.declared.entry.Entry.TheVariants.{End, Fork, Seq, Other, Def, Open, Send, Call, Return, ReturnHalt, Bind, Lost, Right, Publish, Tick, Cancel}
+use Rattle.orc_rules.specs.declared.entry.Entry.TheVariants as entry
 use Rattle.orc_rules.specs.Term.{Term}
 use Rattle.orc_rules.specs.Marked.{Marked, ended, token, in_call, in_par, in_seq, in_opened, in_other}
 use Rattle.orc_rules.specs.Timed.{Context, IsIn, number_of}
-use Rattle.orc_rules.specs.Journal.{Place, Journal, begin}
+use Rattle.orc_rules.specs.Journal.{Place, Leads, Journal, begin}
 
 -- what an entry can name: the mark of a token or of an entered otherwise, a pending call, or a cell
 pub data Name : Type 0 where
@@ -53,3 +55,27 @@ pub record IsNumbered (p : Place) : Type 0 where
 -- each place to which a journal of a program leads is numbered so
 abbrev pub JournalIsNumbered : Type 0
 JournalIsNumbered = (x : Context) (t : Term) (es : List Entry) (p : Place) → Journal x (begin t) es p → IsNumbered p
+
+-- what an entry uses up; `other` keeps its mark, as the number of the otherwise
+abbrev pub used_up : Entry → List Name
+used_up (End s) = mark s ∷ []
+used_up (Fork s a b) = mark s ∷ []
+used_up (Seq s a) = mark s ∷ []
+used_up (Other s a) = []
+used_up (Def s a) = mark s ∷ []
+used_up (entry.Void s) = mark s ∷ []
+used_up (Open s c a b) = mark s ∷ []
+used_up (Send s a v) = mark s ∷ []
+used_up (Call s k m args) = mark s ∷ []
+used_up (Return k a v) = call k ∷ []
+used_up (ReturnHalt k) = call k ∷ []
+used_up (Bind s c v) = mark s ∷ cell c ∷ []
+used_up (Lost c) = cell c ∷ []
+used_up (Right s a) = mark s ∷ []
+used_up (Publish s v) = mark s ∷ []
+used_up (Tick t) = []
+used_up (Cancel k) = []
+
+-- what an entry uses up never stands again: so a call returns once at most, a cell is bound or lost once at most, and a right side starts once at most
+abbrev pub UsedUpForGood : Type 0
+UsedUpForGood = (x : Context) (p q r : Place) (e : Entry) (es : List Entry) (n : Name) → IsNumbered p → Leads x p e q → IsIn n (used_up e) → Journal x q es r → times n r.marked ≡ 0
