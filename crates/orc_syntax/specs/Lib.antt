@@ -1,2 +1,4 @@
 pub mod Tree
 pub mod Ast
+pub mod Printing
+pub mod Backward

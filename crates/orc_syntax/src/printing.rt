@@ -1,0 +1,367 @@
+//! Printing programs.
+
+ghost use Rattle.std.specs.Prelude.{◌≡◌, ◌∷◌, ◌++◌, [], ℕ, List, map, reverse, codes, IfOk, OnOk, OnErr};
+ghost use Rattle.std.specs.Fmt.{signed_decimal};
+ghost use Rattle.orc_syntax.specs.Tree.{Tree, Source, Define, operation, val, call};
+ghost use Rattle.orc_syntax.specs.Ast.{IsExpr, IsAst, AreDefinitions, sort, item, label, link};
+ghost use Rattle.orc_syntax.specs.Printing.{plain_text, printed, definition, definitions, names, other_names, text, level, left_level, right_level};
+ghost use Rattle.orc_syntax.specs.Backward.{parts, given, more, signs, opening, closing, back, says, visits, waiting, said, piece_text, visit, say, IfNext, OnNone};
+
+use crate::tree::{Ast, Definition, Name, Node, Operator, Part};
+use orc_lex::token::Plain;
+use std::alloc::{AllocError, Global};
+
+/// A text that is printed as it stands, or a number.
+#[derive(Clone, Copy)]
+pub enum Piece<'a> {
+    Text(&'a [u8]),
+    Number(i64),
+}
+
+/// What is still to be printed: an expression where one of this level is wanted, or a piece.
+#[derive(Clone, Copy)]
+pub enum Task<'a> {
+    Visit(usize),
+    Say(Piece<'a>),
+}
+
+/// The tasks, the next one last, and the pieces that are said, the last one of the text first.
+#[derive(Drop)]
+pub struct Printer<'a> {
+    pub tasks: Vec<Task<'a>>,
+    pub pieces: Vec<Piece<'a>>,
+}
+
+fn plain_piece(plain: Plain) -> Piece<'static>
+    ensures { piece_text result ≡ plain_text plain }
+{
+    match plain {
+        Plain::Number(n) => Piece::Number(n),
+        Plain::Truth(true) => Piece::Text(b"true"),
+        Plain::Truth(false) => Piece::Text(b"false"),
+        Plain::Signal => Piece::Text(b"signal"),
+        Plain::Stop => Piece::Text(b"stop"),
+    }
+}
+
+/// How tightly an operator binds, and its left and its right side have to.
+#[derive(Clone, Copy)]
+struct Levels {
+    own: usize,
+    left: usize,
+    right: usize,
+}
+
+fn levels_of(operator: Operator) -> Levels
+    ensures own { result.own ≡ level (link operator.entry) }
+    ensures left { result.left ≡ left_level (link operator.entry) }
+    ensures right { result.right ≡ right_level (link operator.entry) }
+{
+    match operator {
+        Operator::Other => Levels {
+            own: 1,
+            left: 1,
+            right: 2,
+        },
+        Operator::Prune(_) => Levels {
+            own: 2,
+            left: 2,
+            right: 3,
+        },
+        Operator::Par => Levels {
+            own: 3,
+            left: 3,
+            right: 4,
+        },
+        Operator::Seq(_) => Levels {
+            own: 4,
+            left: 5,
+            right: 4,
+        },
+    }
+}
+
+impl<'a> Printer<'a> {
+    // Lets a text wait, which is then printed next.
+    fn say(&mut self, text: &'a [u8]) -> Result<(), AllocError>
+        ensures tasks { OnOk result (waiting self.new.tasks.items ≡ say text.now ∷ waiting self.old.tasks.items) }
+        ensures pieces { self.new.pieces ≡ self.old.pieces }
+    {
+        self.tasks.push(Task::Say(Piece::Text(text)))?;
+        Ok(())
+    }
+
+    // Lets an expression wait, which is then printed next.
+    fn visit(&mut self, level: usize) -> Result<(), AllocError>
+        ensures tasks { OnOk result (waiting self.new.tasks.items ≡ visit level ∷ waiting self.old.tasks.items) }
+        ensures pieces { self.new.pieces ≡ self.old.pieces }
+    {
+        self.tasks.push(Task::Visit(level))?;
+        Ok(())
+    }
+
+    // Lets so many arguments wait in front of the first one, with commas between them.
+    fn others(&mut self, count: usize) -> Result<(), AllocError>
+        ensures tasks { OnOk result (waiting self.new.tasks.items ≡ more count (waiting self.old.tasks.items)) }
+        ensures pieces { self.new.pieces ≡ self.old.pieces }
+    {
+        for _done in 0..count {
+            self.say(b", ")?;
+            self.visit(0)?;
+        }
+        Ok(())
+    }
+
+    // Lets so many arguments wait, with commas between them.
+    fn arguments(&mut self, count: usize) -> Result<(), AllocError>
+        ensures tasks { OnOk result (waiting self.new.tasks.items ≡ given count (waiting self.old.tasks.items)) }
+        ensures pieces { self.new.pieces ≡ self.old.pieces }
+    {
+        if count == 0 {
+            return Ok(());
+        }
+        self.visit(0)?;
+        self.others(count - 1)
+    }
+
+    // Lets the variable of an operator wait with its two signs.
+    fn arrow(
+        &mut self,
+        before: &'a [u8],
+        name: Name<'a>,
+        behind: &'a [u8],
+    ) -> Result<(), AllocError>
+        ensures tasks { OnOk result (waiting self.new.tasks.items ≡ say behind.now ∷ say name.entry.text.now ∷ say before.now ∷ waiting self.old.tasks.items) }
+        ensures pieces { self.new.pieces ≡ self.old.pieces }
+    {
+        self.say(before)?;
+        self.say(name.text)?;
+        self.say(behind)
+    }
+
+    // Lets an operator wait.
+    fn sign(&mut self, operator: Operator<'a>) -> Result<(), AllocError>
+        ensures tasks { OnOk result (waiting self.new.tasks.items ≡ signs (link operator.entry) (waiting self.old.tasks.items)) }
+        ensures pieces { self.new.pieces ≡ self.old.pieces }
+    {
+        match operator {
+            Operator::Other => self.say(b" ; "),
+            Operator::Par => self.say(b" | "),
+            Operator::Seq(None) => self.say(b" >> "),
+            Operator::Prune(None) => self.say(b" << "),
+            Operator::Seq(Some(name)) => self.arrow(b" >", name, b"> "),
+            Operator::Prune(Some(name)) => self.arrow(b" <", name, b"< "),
+        }
+    }
+
+    // Lets an opening bracket wait, where there is one.
+    fn opening(&mut self, inner: bool) -> Result<(), AllocError>
+        ensures tasks { OnOk result (waiting self.new.tasks.items ≡ opening inner (waiting self.old.tasks.items)) }
+        ensures pieces { self.new.pieces ≡ self.old.pieces }
+    {
+        if inner { self.say(b"(") } else { Ok(()) }
+    }
+
+    // Lets a closing bracket wait, where there is one.
+    fn closing(&mut self, inner: bool) -> Result<(), AllocError>
+        ensures tasks { OnOk result (waiting self.new.tasks.items ≡ closing inner (waiting self.old.tasks.items)) }
+        ensures pieces { self.new.pieces ≡ self.old.pieces }
+    {
+        if inner { self.say(b")") } else { Ok(()) }
+    }
+
+    // Lets an operator wait with its sides, where this level is wanted.
+    fn operation(&mut self, operator: Operator<'a>, wanted: usize) -> Result<(), AllocError>
+        ensures tasks { OnOk result (waiting self.new.tasks.items ≡ parts wanted (operation (link operator.entry)) (waiting self.old.tasks.items)) }
+        ensures pieces { self.new.pieces ≡ self.old.pieces }
+    {
+        let levels = levels_of(operator);
+        let inner = levels.own < wanted;
+        self.opening(inner)?;
+        self.visit(levels.left)?;
+        self.sign(operator)?;
+        self.visit(levels.right)?;
+        self.closing(inner)
+    }
+
+    // Lets a `val` wait with its sides, where this level is wanted.
+    fn val(&mut self, name: Name<'a>, wanted: usize) -> Result<(), AllocError>
+        ensures tasks { OnOk result (waiting self.new.tasks.items ≡ parts wanted (val (label name.entry)) (waiting self.old.tasks.items)) }
+        ensures pieces { self.new.pieces ≡ self.old.pieces }
+    {
+        let inner = 0 < wanted;
+        self.opening(inner)?;
+        self.say(b"val ")?;
+        self.say(name.text)?;
+        self.say(b" = (")?;
+        self.visit(0)?;
+        self.say(b") ")?;
+        self.visit(0)?;
+        self.closing(inner)
+    }
+
+    // Lets a call wait with its arguments.
+    fn call(&mut self, name: Name<'a>, count: usize) -> Result<(), AllocError>
+        ensures tasks { (n : ℕ) → OnOk result (waiting self.new.tasks.items ≡ parts n (call (label name.entry) count) (waiting self.old.tasks.items)) }
+        ensures pieces { self.new.pieces ≡ self.old.pieces }
+    {
+        self.say(name.text)?;
+        self.say(b"(")?;
+        self.arguments(count)?;
+        self.say(b")")
+    }
+
+    // Lets the parts of a node wait, where this level is wanted.
+    fn parts(&mut self, part: Part<'a>, wanted: usize) -> Result<(), AllocError>
+        ensures tasks { OnOk result (waiting self.new.tasks.items ≡ parts wanted (sort part.entry) (waiting self.old.tasks.items)) }
+        ensures pieces { self.new.pieces ≡ self.old.pieces }
+    {
+        match part {
+            Part::Plain(plain) => {
+                self.tasks.push(Task::Say(plain_piece(plain)))?;
+                Ok(())
+            }
+            Part::Variable(name) => self.say(name.text),
+            Part::Call(name, count) => self.call(name, count),
+            Part::Operation(operator) => self.operation(operator, wanted),
+            Part::Val(name) => self.val(name, wanted),
+        }
+    }
+
+    // Says the pieces that wait before the next expression: its level.
+    fn next(&mut self) -> Result<Option<usize>, AllocError>
+        ensures some { IfOk result (IfNext (λ n. visits (waiting self.old.tasks.items) ≡ visit n ∷ waiting self.new.tasks.items)) }
+        ensures none { IfOk result (OnNone (visits (waiting self.old.tasks.items) ≡ [])) }
+        ensures pieces { OnOk result (said self.new.pieces.items ≡ says (waiting self.old.tasks.items) ++ said self.old.pieces.items) }
+    {
+        while let Some(task) = self.tasks.pop() {
+            match task {
+                Task::Visit(level) => return Ok(Some(level)),
+                Task::Say(piece) => self.pieces.push(piece)?,
+            }
+        }
+        Ok(None)
+    }
+
+    // Prints the expressions that wait, whose nodes these are.
+    fn print(&mut self, nodes: &[Node<'a>]) -> Result<(), AllocError>
+        ensures { OnOk result (said self.new.pieces.items ≡ back (waiting self.old.tasks.items) (reverse (map item nodes.now)) ++ said self.old.pieces.items) }
+    {
+        let mut count = nodes.len();
+        while count > 0 {
+            let Some(level) = self.next()? else {
+                return Ok(());
+            };
+            count -= 1;
+            self.parts(nodes[count].part, level)?;
+        }
+        self.next()?;
+        Ok(())
+    }
+}
+
+fn push_number(out: &mut Vec<u8>, number: i64) -> Result<(), AllocError>
+    ensures { OnOk result (out.new.items ≡ out.old.items ++ signed_decimal number) }
+{
+    let mut buffer = itoa::Buffer::new();
+    out.extend_from_slice(buffer.format(number).as_bytes())
+}
+
+fn push_piece(out: &mut Vec<u8>, piece: Piece) -> Result<(), AllocError>
+    ensures { OnOk result (out.new.items ≡ out.old.items ++ piece_text piece.entry) }
+{
+    match piece {
+        Piece::Text(text) => out.extend_from_slice(text),
+        Piece::Number(number) => push_number(out, number),
+    }
+}
+
+// Prints pieces, the last one first.
+fn push_pieces(out: &mut Vec<u8>, pieces: &[Piece]) -> Result<(), AllocError>
+    ensures { OnOk result (out.new.items ≡ out.old.items ++ said pieces.now) }
+{
+    let mut count = pieces.len();
+    while count > 0 {
+        count -= 1;
+        push_piece(out, pieces[count])?;
+    }
+    Ok(())
+}
+
+fn print_expression(alloc: Global, nodes: &[Node], out: &mut Vec<u8>) -> Result<(), AllocError>
+    ensures { (t : Tree) → IsExpr nodes.now t → OnOk result (out.new.items ≡ out.old.items ++ text 0 t) }
+{
+    let mut printer = Printer {
+        tasks: Vec::new(alloc),
+        pieces: Vec::new(alloc),
+    };
+    printer.visit(0)?;
+    printer.print(nodes)?;
+    push_pieces(out, &printer.pieces)
+}
+
+// Prints names behind the first one, each after a comma.
+fn print_other_names(xs: &[Name], out: &mut Vec<u8>) -> Result<(), AllocError>
+    ensures { OnOk result (out.new.items ≡ out.old.items ++ other_names (map label xs.now)) }
+{
+    for x in xs {
+        out.extend_from_slice(b", ")?;
+        out.extend_from_slice(x.text)?;
+    }
+    Ok(())
+}
+
+fn print_names(xs: &[Name], out: &mut Vec<u8>) -> Result<(), AllocError>
+    ensures { OnOk result (out.new.items ≡ out.old.items ++ names (map label xs.now)) }
+{
+    match xs {
+        [] => Ok(()),
+        [x, others @ ..] => {
+            out.extend_from_slice(x.text)?;
+            print_other_names(others, out)
+        }
+    }
+}
+
+fn print_definition(alloc: Global, d: &Definition, out: &mut Vec<u8>) -> Result<(), AllocError>
+    ensures { (t : Tree) → IsExpr d.now.body.nodes.items t → OnOk result (out.new.items ≡ out.old.items ++ definition (record { name = label d.now.name; parameters = map label d.now.parameters.items; body = t })) }
+{
+    out.extend_from_slice(b"def ")?;
+    out.extend_from_slice(d.name.text)?;
+    out.push(b'(')?;
+    print_names(&d.parameters, out)?;
+    out.extend_from_slice(b") = (")?;
+    print_expression(alloc, &d.body.nodes, out)?;
+    out.extend_from_slice(b")\n")?;
+    Ok(())
+}
+
+fn print_definitions(alloc: Global, ds: &[Definition], out: &mut Vec<u8>) -> Result<(), AllocError>
+    ensures { (es : List Define) → AreDefinitions ds.now es → OnOk result (out.new.items ≡ out.old.items ++ definitions es) }
+{
+    for d in ds {
+        print_definition(alloc, d, out)?;
+    }
+    Ok(())
+}
+
+fn print_text(alloc: Global, ast: &Ast, out: &mut Vec<u8>) -> Result<(), AllocError>
+    ensures { (s : Source) → IsAst ast.now s → OnOk result (out.new.items ≡ out.old.items ++ printed s) }
+{
+    print_definitions(alloc, &ast.definitions, out)?;
+    print_expression(alloc, &ast.main.nodes, out)?;
+    out.push(b'\n')?;
+    Ok(())
+}
+
+/// Appends the text of a program: a line for each definition, and the main expression in a line.
+///
+/// An operand is in brackets exactly where its place wants a tighter form. Where a growth is refused, nothing is appended.
+pub fn print(alloc: Global, ast: &Ast, out: &mut Vec<u8>) -> Result<(), AllocError>
+    ensures printed { (s : Source) → IsAst ast.now s → OnOk result (out.new.items ≡ out.old.items ++ printed s) }
+    ensures refused { OnErr result (out.new.items ≡ out.old.items) }
+{
+    let mut text = Vec::new(alloc);
+    print_text(alloc, ast, &mut text)?;
+    out.extend_from_slice(&text)
+}
