@@ -1,0 +1,10 @@
+pub mod Arguments
+pub mod Build
+pub mod Cuts
+pub mod Least
+pub mod Listed
+pub mod Pieces
+pub mod Places
+pub mod Tasks
+pub mod Walk
+pub mod Weight

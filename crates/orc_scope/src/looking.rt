@@ -1,0 +1,261 @@
+//! Looking for the least fault of an expression.
+
+ghost use Rattle.std.specs.Prelude.{◌≡◌, ◌-◌, ◌++◌, ◌∷◌, [], ℕ, List, map, reverse, IfOk, OnOk, IfSome};
+ghost use Rattle.orc_syntax.specs.Tree.{Tree};
+ghost use Rattle.orc_syntax.specs.Ast.{sort, item, label_if, IsExpr};
+ghost use Rattle.orc_scope.specs.Scope.{Known as Outside, IsLeast, bound, fault, name_faults, call_faults, meaning, number_faults, faults, text_if as text_if_of};
+ghost use Rattle.orc_scope.specs.Looking.{looks, weight as weight_of, weighs, task, pending, parts_of, node_faults, known_of, bind_of, waiting, IsFit, IfTaken, OnNothing};
+ghost use Rattle.orc_scope.specs.Written.{written, size};
+
+use crate::fault::{FaultKind, ScopeFault, lesser};
+use crate::known::Known;
+use crate::names::Names;
+use orc_syntax::{Name, Node, Operator, Part, Plain, Span};
+use std::alloc::{AllocError, Global};
+
+/// A part that is to be looked at.
+#[derive(Clone, Copy)]
+pub struct Task<'a> {
+    /// How many of the names in scope it keeps.
+    pub depth: usize,
+    /// A name that it gains.
+    pub bind: Option<&'a [u8]>,
+    /// The number of the argument that it is, from 1, or 0.
+    pub number: usize,
+}
+
+/// The parts that are still to be looked at, the next one last, and the names in scope, the innermost last.
+/// `room` is how many more nodes the written-out terms may have, down to 0.
+#[derive(Drop)]
+pub struct Looking<'a> {
+    pub tasks: Vec<Task<'a>>,
+    pub scope: Names<'a>,
+    pub room: usize,
+}
+
+/// The only fault of a place.
+pub fn one(kind: FaultKind, span: Span) -> Option<ScopeFault>
+    ensures { IsLeast result (fault kind span ∷ []) }
+{
+    Some(ScopeFault { kind, span })
+}
+
+// The fault of a called name.
+fn call_fault(
+    known: &Known,
+    scope: &Names,
+    text: &[u8],
+    arguments: usize,
+    span: Span,
+) -> Option<ScopeFault>
+    ensures { IsLeast result (call_faults (known_of known.now) (meaning (known_of known.now) scope.now text.now) arguments span) }
+{
+    if scope.find(text).is_some() {
+        return one(FaultKind::CallOfVariable, span);
+    }
+    let Some(number) = known.definitions.find(text) else {
+        if known.sites.find(text).is_some() {
+            return None;
+        }
+        return one(FaultKind::NoSite, span);
+    };
+    match known.arities.get(number) {
+        Some(want) if *want != arguments => one(
+            FaultKind::Arity {
+                want: *want,
+                got: arguments,
+            },
+            span,
+        ),
+        _ => None,
+    }
+}
+
+// The fault of a name without a bracket.
+fn name_fault(known: &Known, scope: &Names, text: &[u8], span: Span) -> Option<ScopeFault>
+    ensures { IsLeast result (name_faults (meaning (known_of known.now) scope.now text.now) span) }
+{
+    if scope.find(text).is_some() {
+        return None;
+    }
+    if known.definitions.find(text).is_some() || known.sites.find(text).is_some() {
+        return one(FaultKind::NotValue, span);
+    }
+    one(FaultKind::Unbound, span)
+}
+
+// The fault of a node itself.
+fn node_fault(known: &Known, scope: &Names, part: Part) -> Option<ScopeFault>
+    ensures { IsLeast result (node_faults (known_of known.now) scope.now (sort part.entry)) }
+{
+    match part {
+        Part::Variable(name) => name_fault(known, scope, name.text, name.span),
+        Part::Call(name, arguments) => call_fault(known, scope, name.text, arguments, name.span),
+        Part::Plain(_) | Part::Operation(_) | Part::Val(_) => None,
+    }
+}
+
+/// The fault of a 17th parameter or argument.
+pub fn number_fault(number: usize, span: Span) -> Option<ScopeFault>
+    ensures { IsLeast result (number_faults number span) }
+{
+    if number == 17 {
+        one(FaultKind::TooMany, span)
+    } else {
+        None
+    }
+}
+
+// How many nodes of the written-out term a node makes, as an argument of that number or, at 0, as no argument.
+fn weight(number: usize, part: Part) -> usize
+    ensures value { result ≡ weight_of number (sort part.entry) }
+{
+    if number == 0 {
+        return 1;
+    }
+    match part {
+        Part::Plain(Plain::Number(_) | Plain::Truth(_) | Plain::Signal) | Part::Variable(_) => 0,
+        _ => 2,
+    }
+}
+
+impl<'a> Looking<'a> {
+    /// Nothing to look at yet, no name in scope, and room for so many nodes.
+    pub fn new(alloc: Global, room: usize) -> Looking<'a>
+        ensures scope { result.scope ≡ [] }
+        ensures room { result.room ≡ room }
+    {
+        Looking {
+            tasks: Vec::new(alloc),
+            scope: Names::new(alloc),
+            room,
+        }
+    }
+
+    // Lets a part wait, which is then looked at next.
+    fn wait(&mut self, bind: Option<&'a [u8]>, number: usize) -> Result<(), AllocError>
+        requires { IsFit self.old }
+        ensures scope { self.new.scope ≡ self.old.scope }
+        ensures room { self.new.room ≡ self.old.room }
+        ensures tasks { OnOk result (waiting self.new ≡ task (bound (bind_of bind.entry) self.old.scope) number ∷ waiting self.old) }
+        ensures fit { OnOk result (IsFit self.new) }
+    {
+        self.tasks.push(Task {
+            depth: self.scope.len(),
+            bind,
+            number,
+        })?;
+        Ok(())
+    }
+
+    // Takes the part that is looked at next, and makes its scope: its number.
+    fn next(&mut self) -> Result<Option<usize>, AllocError>
+        requires { IsFit self.old }
+        ensures some { IfOk result (IfTaken (λ n. waiting self.old ≡ task self.new.scope n ∷ waiting self.new)) }
+        ensures none { IfOk result (OnNothing (waiting self.old ≡ [])) }
+        ensures room { self.new.room ≡ self.old.room }
+        ensures fit { OnOk result (IsFit self.new) }
+    {
+        let Some(task) = self.tasks.pop() else {
+            return Ok(None);
+        };
+        self.scope.truncate(task.depth);
+        if let Some(text) = task.bind {
+            self.scope.push(text)?;
+        }
+        Ok(Some(task.number))
+    }
+
+    // Lets so many arguments wait.
+    fn arguments(&mut self, count: usize) -> Result<(), AllocError>
+        requires { IsFit self.old }
+        ensures scope { self.new.scope ≡ self.old.scope }
+        ensures room { self.new.room ≡ self.old.room }
+        ensures tasks { OnOk result (waiting self.new ≡ pending count self.old.scope (waiting self.old)) }
+        ensures fit { OnOk result (IsFit self.new) }
+    {
+        if count > 0 {
+            self.wait(None, count)?;
+        }
+        Ok(())
+    }
+
+    // Lets two parts wait, each with a name that comes into scope in it.
+    fn both(&mut self, left: Option<&'a [u8]>, right: Option<&'a [u8]>) -> Result<(), AllocError>
+        requires { IsFit self.old }
+        ensures scope { self.new.scope ≡ self.old.scope }
+        ensures room { self.new.room ≡ self.old.room }
+        ensures tasks { OnOk result (waiting self.new ≡ task (bound (bind_of right.entry) self.old.scope) 0 ∷ task (bound (bind_of left.entry) self.old.scope) 0 ∷ waiting self.old) }
+        ensures fit { OnOk result (IsFit self.new) }
+    {
+        self.wait(left, 0)?;
+        self.wait(right, 0)
+    }
+
+    // Lets the parts of a node wait.
+    fn parts(&mut self, part: Part<'a>) -> Result<(), AllocError>
+        requires { IsFit self.old }
+        ensures scope { self.new.scope ≡ self.old.scope }
+        ensures room { self.new.room ≡ self.old.room }
+        ensures tasks { OnOk result (waiting self.new ≡ parts_of (sort part.entry) self.old.scope (waiting self.old)) }
+        ensures fit { OnOk result (IsFit self.new) }
+    {
+        match part {
+            Part::Plain(_) | Part::Variable(_) => Ok(()),
+            Part::Call(_, count) => self.arguments(count),
+            Part::Operation(Operator::Seq(name)) => self.both(None, text_if(name)),
+            Part::Operation(Operator::Prune(name)) => self.both(text_if(name), None),
+            Part::Operation(Operator::Par | Operator::Other) => self.both(None, None),
+            Part::Val(name) => self.both(None, Some(name.text)),
+        }
+    }
+
+    // The least fault of the parts that wait, whose nodes these are.
+    fn find(&mut self, known: &Known, nodes: &[Node<'a>]) -> Result<Option<ScopeFault>, AllocError>
+        requires { IsFit self.old }
+        ensures least { IfOk result (λ least. IsLeast least (looks (known_of known.now) (waiting self.old) (reverse (map item nodes.now)))) }
+        ensures room { OnOk result (self.new.room ≡ self.old.room - weighs (waiting self.old) (reverse (map item nodes.now))) }
+    {
+        let mut least = None;
+        let mut count = nodes.len();
+        while count > 0 {
+            let Some(number) = self.next()? else {
+                return Ok(least);
+            };
+            count -= 1;
+            let node = nodes[count];
+            let own = lesser(
+                number_fault(number, node.span),
+                node_fault(known, &self.scope, node.part),
+            );
+            least = lesser(least, own);
+            self.room = self.room.saturating_sub(weight(number, node.part));
+            self.arguments(number.saturating_sub(1))?;
+            self.parts(node.part)?;
+        }
+        Ok(least)
+    }
+
+    /// The least fault of an expression in which the names of `scope` are variables, and the room that its term leaves.
+    pub fn expression(
+        &mut self,
+        known: &Known,
+        nodes: &[Node<'a>],
+    ) -> Result<Option<ScopeFault>, AllocError>
+        ensures least { (t : Tree) → IsExpr nodes.now t → IfOk result (λ least. IsLeast least (faults (known_of known.now) self.old.scope t)) }
+        ensures room { (t : Tree) (k : Outside) (names : List (List ℕ)) → IsExpr nodes.now t → OnOk result (self.new.room ≡ self.old.room - size (written k names t)) }
+    {
+        self.tasks.clear();
+        self.wait(None, 0)?;
+        self.find(known, nodes)
+    }
+}
+
+fn text_if(name: Option<Name<'_>>) -> Option<&[u8]>
+    ensures { bind_of result ≡ text_if_of (label_if name.entry) }
+{
+    match name {
+        Some(name) => Some(name.text),
+        None => None,
+    }
+}

@@ -1,0 +1,79 @@
+//! The nodes of terms, each with its list of operands.
+
+ghost use Rattle.std.specs.Prelude.{◌≡◌, ◌++◌, ◌∷◌, [], List, length, map, IfOk, OnOk, OnErr};
+ghost use Rattle.orc_rules.specs.Nodes.{HasParts, param_of, Terms as Listed};
+ghost use Rattle.orc_scope.specs.Listed.{terms, term_of, HasList, HaveLists};
+ghost use Rattle.orc_scope.specs.Scope.{outer_meaning, position};
+ghost use Rattle.orc_scope.specs.Written.{called};
+
+use crate::numbers::Numbers;
+use orc_rules::param::{Operand, Operands};
+use orc_rules::program::{TermNode, Terms};
+use std::alloc::{AllocError, Global};
+use std::marker::Model;
+
+/// Terms in which each call has its list of operands.
+#[derive(Drop)]
+pub struct Nodes {
+    terms: Terms,
+}
+
+impl Model for Nodes {
+    ghost Value = { Listed };
+
+    ghost view = { λ n. n.terms };
+
+    ghost invariant = { λ n. HaveLists (length n.terms.lists) n.terms.nodes };
+}
+
+impl Nodes {
+    /// No nodes.
+    pub fn new(alloc: Global) -> Nodes
+        ensures { result ≡ record { nodes = []; lists = [] } }
+    {
+        Nodes {
+            terms: Terms::new(alloc),
+        }
+    }
+
+    /// The nodes as terms.
+    pub fn finish(self) -> Terms
+        ensures { result ≡ self }
+    {
+        self.terms
+    }
+
+    /// Adds a node, whose parts and list of operands are there: its number.
+    pub fn add(&mut self, node: TermNode) -> Result<usize, AllocError>
+        requires parts { HasParts (length (terms self.old)) node }
+        requires list { HasList (length self.old.lists) node }
+        ensures number { IfOk result (λ at. at ≡ length (terms self.old)) }
+        ensures added { OnOk result (terms self.new ≡ terms self.old ++ term_of self.old node ∷ []) }
+        ensures refused { OnErr result (self.new ≡ self.old) }
+    {
+        let at = self.terms.push(node)?;
+        Ok(at)
+    }
+
+    /// Adds a call with these operands: its number.
+    pub fn add_call(
+        &mut self,
+        numbers: &Numbers,
+        text: &[u8],
+        operands: Operands,
+    ) -> Result<usize, AllocError>
+        ensures number { IfOk result (λ at. at ≡ length (terms self.old)) }
+        ensures added { OnOk result (terms self.new ≡ terms self.old ++ called (outer_meaning (position numbers.now.known.definitions text.now) (position numbers.now.known.sites text.now)) (map param_of operands) ∷ []) }
+    {
+        let list = self.terms.push_list(operands)?;
+        let at = self.add(numbers.called(text, list))?;
+        Ok(at)
+    }
+}
+
+/// A part that is written out: an operand, which has no node yet, or a node.
+#[derive(Clone, Copy)]
+pub enum Piece {
+    Operand(Operand),
+    Node(usize),
+}

@@ -1,0 +1,95 @@
+//! The numbers of names.
+
+ghost use Rattle.std.specs.Prelude.{◌≡◌, ◌<◌, ◌+◌, [], ℕ, List, length, map, slice_index_or, IfSome, IfNone};
+ghost use Rattle.orc_rules.specs.declared.param.Operand.{Operand};
+ghost use Rattle.orc_rules.specs.Nodes.{unfold_node, HasParts, param_of};
+ghost use Rattle.orc_rules.specs.Term.{Term};
+ghost use Rattle.orc_syntax.specs.Ast.{label_if};
+ghost use Rattle.orc_scope.specs.Looking.{known_of};
+ghost use Rattle.orc_scope.specs.Numbers.{Numbering, AreSmall};
+ghost use Rattle.orc_scope.specs.Listed.{HasList};
+ghost use Rattle.orc_scope.specs.Scope.{outer_meaning, position};
+ghost use Rattle.orc_scope.specs.Written.{number, variable_of, called};
+
+use crate::known::Known;
+use crate::names::Names;
+use orc_rules::program::TermNode;
+use orc_syntax::Name;
+use std::marker::Model;
+
+/// The names of definitions, sites and variables. Their numbers have 32 bits, and so have those of 16 new variables.
+#[derive(Drop)]
+pub struct Numbers<'a, 's> {
+    known: Known<'a, 's>,
+    variables: Names<'a>,
+}
+
+impl<'a, 's> Model for Numbers<'a, 's> {
+    ghost Value = { Numbering };
+
+    ghost view = { λ n. record { known = known_of n.known; names = n.variables } };
+
+    ghost invariant = { λ n. AreSmall (record { known = known_of n.known; names = n.variables }) };
+}
+
+impl<'a, 's> Numbers<'a, 's> {
+    /// The numbers of these names; None where there are too many.
+    pub fn new(known: Known<'a, 's>, variables: Names<'a>) -> Option<Numbers<'a, 's>>
+        ensures some { IfSome result (λ n. n ≡ record { known = known_of known.entry; names = variables.entry }) }
+        ensures none { IfNone result (AreSmall (record { known = known_of known.entry; names = variables.entry }) → ⊥) }
+    {
+        let most = 1 << 32;
+        if known.definitions.len() > most
+            || known.sites.len() > most
+            || variables.len() > most - 16
+        {
+            return None;
+        }
+        Some(Numbers { known, variables })
+    }
+
+    /// The number of a variable, that of a new one where no variable has this name.
+    #[tactic(auto, using(crate::proofs::Places::position_within))]
+    pub fn variable(&self, text: &[u8]) -> u32
+        ensures { result ≡ number self.now.names text.now }
+    {
+        match self.variables.find(text) {
+            Some(at) => at as u32,
+            None => self.variables.len() as u32,
+        }
+    }
+
+    /// The number of an operator's variable, a new one where it has none.
+    pub fn operator(&self, name: Option<Name>) -> u32
+        ensures { result ≡ variable_of self.now.names (label_if name.entry) }
+    {
+        match name {
+            Some(name) => self.variable(name.text),
+            None => self.variables.len() as u32,
+        }
+    }
+
+    /// The number of a new variable.
+    pub fn fresh(&self, place: usize) -> u32
+        requires { place < 16 }
+        ensures { result ≡ length self.now.names + place }
+    {
+        (self.variables.len() + place) as u32
+    }
+
+    /// A call of what this name means where it means no variable.
+    #[tactic(auto, using(crate::proofs::Places::position_within))]
+    pub fn called(&self, text: &[u8], list: usize) -> TermNode
+        ensures term { (code : ℕ → Term) (lists : List (List Operand)) → unfold_node code lists result ≡ called (outer_meaning (position self.now.known.definitions text.now) (position self.now.known.sites text.now)) (map param_of (slice_index_or lists list [])) }
+        ensures parts { (n : ℕ) → HasParts n result }
+        ensures list { (n : ℕ) → list < n → HasList n result }
+    {
+        if let Some(definition) = self.known.definitions.find(text) {
+            return TermNode::Call(definition as u32, list);
+        }
+        match self.known.sites.find(text) {
+            Some(site) => TermNode::Site(site as u32, list),
+            None => TermNode::Stop,
+        }
+    }
+}

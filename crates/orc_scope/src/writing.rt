@@ -1,0 +1,266 @@
+//! Writing out expressions as nodes of terms.
+
+ghost use Rattle.std.specs.Prelude.{◌≡◌, ◌<◌, ◌≤◌, ◌+◌, drop, ◌∷◌, [], ℕ, List, length, map, None, IfOk, OnOk};
+ghost use Rattle.orc_lex.specs.declared.token.Span.{Span};
+ghost use Rattle.orc_rules.specs.Nodes.{HasParts, param_of};
+ghost use Rattle.orc_rules.specs.Term.{Term, param};
+ghost use Rattle.orc_syntax.specs.Tree.{Tree, post, operation, val, call};
+ghost use Rattle.orc_syntax.specs.Ast.{label, link, sort, item};
+ghost use Rattle.orc_scope.specs.Written.{written, plain_term, as_param, param_or, pruned, params as params_of, prunings as prunings_of};
+ghost use Rattle.orc_scope.specs.Building.{built, builds, IsSmall, AreSmall};
+ghost use Rattle.orc_scope.specs.Listed.{terms, term_at, term_of, HasList};
+ghost use Rattle.orc_scope.specs.Pieces.{piece_term, IsFine, parts, IsReady, Keeps, IfSides, OnNoSides, AreFew};
+
+use crate::nodes::{Nodes, Piece};
+use crate::numbers::Numbers;
+use orc_rules::param::{Operand, Operands};
+use orc_rules::program::TermNode;
+use orc_rules::value::Value;
+use orc_syntax::{Name, Node, Operator, Part, Plain};
+use std::alloc::AllocError;
+
+/// The nodes so far, and the parts that are in no other part yet.
+#[derive(Drop)]
+pub struct Writing {
+    pub nodes: Nodes,
+    pub pieces: Vec<Piece>,
+}
+
+impl Writing {
+    // Adds a node as a part.
+    fn join(&mut self, node: TermNode) -> Result<(), AllocError>
+        requires ready { IsReady self.old }
+        requires parts { HasParts (length (terms self.old.nodes)) node }
+        requires list { HasList (length self.old.nodes.lists) node }
+        requires whole { as_param (term_of self.old.nodes node) ≡ None }
+        ensures parts { OnOk result (parts self.new ≡ term_of self.old.nodes node ∷ parts self.old) }
+        ensures ready { OnOk result (IsReady self.new) }
+        ensures keeps { OnOk result (Keeps (terms self.old.nodes) (terms self.new.nodes)) }
+    {
+        let at = self.nodes.add(node)?;
+        self.pieces.push(Piece::Node(at))?;
+        Ok(())
+    }
+
+    // Adds an operand as a part.
+    fn operand(&mut self, operand: Operand) -> Result<(), AllocError>
+        requires { IsReady self.old }
+        ensures parts { OnOk result (parts self.new ≡ param (param_of operand) ∷ parts self.old) }
+        ensures ready { OnOk result (IsReady self.new) }
+        ensures nodes { self.new.nodes ≡ self.old.nodes }
+    {
+        self.pieces.push(Piece::Operand(operand))?;
+        Ok(())
+    }
+
+    // The node of a part, which an operand gets now.
+    fn place(&mut self, piece: Piece) -> Result<usize, AllocError>
+        requires { IsFine (terms self.old.nodes) piece }
+        ensures within { IfOk result (λ at. at < length (terms self.new.nodes)) }
+        ensures term { IfOk result (λ at. term_at (terms self.new.nodes) at ≡ piece_term (terms self.old.nodes) piece) }
+        ensures keeps { OnOk result (Keeps (terms self.old.nodes) (terms self.new.nodes)) }
+        ensures pieces { self.new.pieces ≡ self.old.pieces }
+    {
+        match piece {
+            Piece::Operand(operand) => self.nodes.add(TermNode::Operand(operand)),
+            Piece::Node(at) => Ok(at),
+        }
+    }
+
+    // Takes the last two parts: their nodes.
+    fn sides(&mut self) -> Result<Option<(usize, usize)>, AllocError>
+        requires { IsReady self.old }
+        ensures some { IfOk result (IfSides (λ i j. parts self.old ≡ term_at (terms self.new.nodes) j ∷ term_at (terms self.new.nodes) i ∷ parts self.new)) }
+        ensures within { IfOk result (IfSides (λ i j. (i < length (terms self.new.nodes)) × (j < length (terms self.new.nodes)))) }
+        ensures none { IfOk result (OnNoSides (AreFew (parts self.old) × (parts self.new ≡ []))) }
+        ensures ready { OnOk result (IsReady self.new) }
+        ensures keeps { OnOk result (Keeps (terms self.old.nodes) (terms self.new.nodes)) }
+    {
+        let Some(right) = self.pieces.pop() else {
+            return Ok(None);
+        };
+        let Some(left) = self.pieces.pop() else {
+            return Ok(None);
+        };
+        let i = self.place(left)?;
+        let j = self.place(right)?;
+        Ok(Some((i, j)))
+    }
+
+    // Joins the last two parts by an operator.
+    fn operate(&mut self, numbers: &Numbers, operator: Operator) -> Result<(), AllocError>
+        requires { IsReady self.old }
+        ensures parts { OnOk result (parts self.new ≡ built numbers.now.known numbers.now.names (operation (link operator.entry)) (parts self.old)) }
+        ensures ready { OnOk result (IsReady self.new) }
+        ensures keeps { OnOk result (Keeps (terms self.old.nodes) (terms self.new.nodes)) }
+    {
+        let Some((i, j)) = self.sides()? else {
+            return Ok(());
+        };
+        self.join(match operator {
+            Operator::Seq(name) => TermNode::Seq(i, numbers.operator(name), j),
+            Operator::Par => TermNode::Par(i, j),
+            Operator::Prune(name) => TermNode::Prune(i, numbers.operator(name), j),
+            Operator::Other => TermNode::Other(i, j),
+        })
+    }
+
+    // The arguments of a call, which are the pieces from `base` on, as operands.
+    fn operands(&self, numbers: &Numbers, base: usize) -> Operands
+        requires ready { IsReady self.now }
+        requires base { base ≤ length self.now.pieces.items }
+        requires few { length self.now.pieces.items ≤ base + 16 }
+        ensures { map param_of result ≡ params_of (length numbers.now.names) (map (piece_term (terms self.now.nodes)) (drop base self.now.pieces.items)) }
+    {
+        let mut operands = Operands::new();
+        let mut at = base;
+        while at < self.pieces.len() {
+            operands.push(argument(self.pieces[at], numbers.fresh(at - base)));
+            at += 1;
+        }
+        operands
+    }
+
+    // Puts a node into a pruning, where the argument isn't an operand.
+    fn pruning(&mut self, root: usize, name: u32, piece: Piece) -> Result<usize, AllocError>
+        requires fine { IsFine (terms self.old.nodes) piece }
+        requires within { root < length (terms self.old.nodes) }
+        ensures within { IfOk result (λ at. at < length (terms self.new.nodes)) }
+        ensures term { IfOk result (λ at. term_at (terms self.new.nodes) at ≡ pruned (term_at (terms self.old.nodes) root) name (piece_term (terms self.old.nodes) piece) (as_param (piece_term (terms self.old.nodes) piece))) }
+        ensures keeps { OnOk result (Keeps (terms self.old.nodes) (terms self.new.nodes)) }
+        ensures pieces { self.new.pieces ≡ self.old.pieces }
+    {
+        match piece {
+            Piece::Operand(_) => Ok(root),
+            Piece::Node(side) => self.nodes.add(TermNode::Prune(root, name, side)),
+        }
+    }
+
+    // Puts a call into the prunings of its arguments, which are the pieces from `base` on.
+    fn prunings(&mut self, call: usize, numbers: &Numbers, base: usize) -> Result<usize, AllocError>
+        requires ready { IsReady self.old }
+        requires base { base ≤ length self.old.pieces.items }
+        requires few { length self.old.pieces.items ≤ base + 16 }
+        requires within { call < length (terms self.old.nodes) }
+        ensures within { IfOk result (λ at. at < length (terms self.new.nodes)) }
+        ensures term { IfOk result (λ at. term_at (terms self.new.nodes) at ≡ prunings_of (length numbers.now.names) (term_at (terms self.old.nodes) call) (map (piece_term (terms self.old.nodes)) (drop base self.old.pieces.items))) }
+        ensures keeps { OnOk result (Keeps (terms self.old.nodes) (terms self.new.nodes)) }
+        ensures pieces { OnOk result (self.new.pieces ≡ self.old.pieces) }
+    {
+        let mut root = call;
+        let mut at = base;
+        while at < self.pieces.len() {
+            let piece = self.pieces[at];
+            root = self.pruning(root, numbers.fresh(at - base), piece)?;
+            at += 1;
+        }
+        Ok(root)
+    }
+
+    // Joins the last `count` parts to a call.
+    fn call(&mut self, numbers: &Numbers, text: &[u8], count: usize) -> Result<(), AllocError>
+        requires ready { IsReady self.old }
+        requires few { count ≤ 16 }
+        ensures parts { (span : Span) → OnOk result (parts self.new ≡ built numbers.now.known numbers.now.names (call (record { text = text.now; span = span }) count) (parts self.old)) }
+        ensures ready { OnOk result (IsReady self.new) }
+        ensures keeps { OnOk result (Keeps (terms self.old.nodes) (terms self.new.nodes)) }
+    {
+        let base = self.pieces.len().saturating_sub(count);
+        let operands = self.operands(numbers, base);
+        let at = self.nodes.add_call(numbers, text, operands)?;
+        let root = self.prunings(at, numbers, base)?;
+        self.pieces.truncate(base);
+        self.pieces.push(Piece::Node(root))?;
+        Ok(())
+    }
+
+    // Joins the last two parts, G and F, by `val`.
+    fn bind(&mut self, numbers: &Numbers, name: Name) -> Result<(), AllocError>
+        requires { IsReady self.old }
+        ensures parts { OnOk result (parts self.new ≡ built numbers.now.known numbers.now.names (val (label name.entry)) (parts self.old)) }
+        ensures ready { OnOk result (IsReady self.new) }
+        ensures keeps { OnOk result (Keeps (terms self.old.nodes) (terms self.new.nodes)) }
+    {
+        let Some((bound, body)) = self.sides()? else {
+            return Ok(());
+        };
+        self.join(TermNode::Prune(body, numbers.variable(name.text), bound))
+    }
+
+    // Adds a literal, `stop` or a truth value as a part.
+    fn plain(&mut self, plain: Plain) -> Result<(), AllocError>
+        requires { IsReady self.old }
+        ensures parts { OnOk result (parts self.new ≡ plain_term plain ∷ parts self.old) }
+        ensures ready { OnOk result (IsReady self.new) }
+        ensures keeps { OnOk result (Keeps (terms self.old.nodes) (terms self.new.nodes)) }
+    {
+        match plain {
+            Plain::Number(number) => self.operand(Operand::Is(Value::Number(number))),
+            Plain::Truth(truth) => self.operand(Operand::Is(Value::Truth(truth))),
+            Plain::Signal => self.operand(Operand::Is(Value::Signal)),
+            Plain::Stop => self.join(TermNode::Stop),
+        }
+    }
+
+    // Writes out one node; a call of over 16 arguments is left out.
+    fn write(&mut self, numbers: &Numbers, part: Part) -> Result<(), AllocError>
+        requires { IsReady self.old }
+        ensures parts { IsSmall (sort part.entry) → OnOk result (parts self.new ≡ built numbers.now.known numbers.now.names (sort part.entry) (parts self.old)) }
+        ensures ready { OnOk result (IsReady self.new) }
+        ensures keeps { OnOk result (Keeps (terms self.old.nodes) (terms self.new.nodes)) }
+    {
+        match part {
+            Part::Plain(plain) => self.plain(plain),
+            Part::Variable(name) => self.operand(Operand::Name(numbers.variable(name.text))),
+            Part::Call(name, count) if count <= 16 => self.call(numbers, name.text, count),
+            Part::Call(_, _) => Ok(()),
+            Part::Operation(operator) => self.operate(numbers, operator),
+            Part::Val(name) => self.bind(numbers, name),
+        }
+    }
+
+    // Writes out nodes one after another.
+    fn write_all(&mut self, numbers: &Numbers, nodes: &[Node]) -> Result<(), AllocError>
+        requires { IsReady self.old }
+        ensures parts { AreSmall (map item nodes.now) → OnOk result (parts self.new ≡ builds numbers.now.known numbers.now.names (parts self.old) (map item nodes.now)) }
+        ensures ready { OnOk result (IsReady self.new) }
+        ensures keeps { OnOk result (Keeps (terms self.old.nodes) (terms self.new.nodes)) }
+    {
+        for node in nodes {
+            self.write(numbers, node.part)?;
+        }
+        Ok(())
+    }
+
+    // The node of the last part.
+    fn root(&mut self) -> Result<usize, AllocError>
+        requires { IsReady self.old }
+        ensures term { (f : Term) → parts self.old ≡ f ∷ [] → IfOk result (λ at. (term_at (terms self.new.nodes) at ≡ f) × (at < length (terms self.new.nodes))) }
+        ensures keeps { OnOk result (Keeps (terms self.old.nodes) (terms self.new.nodes)) }
+    {
+        match self.pieces.pop() {
+            Some(piece) => self.place(piece),
+            None => Ok(0),
+        }
+    }
+
+    /// Writes out an expression: its node.
+    pub fn expression(&mut self, numbers: &Numbers, nodes: &[Node]) -> Result<usize, AllocError>
+        ensures term { (t : Tree) → map item nodes.now ≡ post t → AreSmall (post t) → IfOk result (λ at. (term_at (terms self.new.nodes) at ≡ written numbers.now.known numbers.now.names t) × (at < length (terms self.new.nodes))) }
+        ensures keeps { OnOk result (Keeps (terms self.old.nodes) (terms self.new.nodes)) }
+    {
+        self.pieces.clear();
+        self.write_all(numbers, nodes)?;
+        self.root()
+    }
+}
+
+// A piece as an operand: its own, or the name.
+fn argument(piece: Piece, name: u32) -> Operand
+    ensures { (fs : List Term) → IsFine fs piece → param_of result ≡ param_or name (as_param (piece_term fs piece)) }
+{
+    match piece {
+        Piece::Operand(operand) => operand,
+        Piece::Node(_) => Operand::Name(name),
+    }
+}
