@@ -8,6 +8,7 @@ pub mod DueCalls
 pub mod Ended
 pub mod Feeding
 pub mod Filling
+pub mod Flagging
 pub mod Growth
 pub mod Halting
 pub mod Inside

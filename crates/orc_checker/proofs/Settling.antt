@@ -6,7 +6,14 @@ use Rattle.orc_checker.specs.declared.arena.Kind.{Kind}
 use Rattle.orc_checker.specs.declared.arena.Kind.TheVariants.{Leaf, One, Two}
 use Rattle.orc_checker.specs.declared.arena.Single.{Single}
 use Rattle.orc_checker.specs.declared.arena.Single.TheVariants.{Feeds, Entered, Passed}
-use Rattle.orc_checker.specs.Arena.{Tree, leaf, one, two, place, count, at, Holds, StandOnce, Frame, on_one, on_left, on_right, plug}
+use Rattle.orc_checker.specs.declared.arena.Tip.TheVariants.{Gone, Ended, Token, Waits}
+use Rattle.orc_checker.specs.declared.arena.Double.TheVariants.{Both, Side}
+use Rattle.orc_rules.specs.declared.param.Param.{Param}
+use Rattle.orc_rules.specs.Term.{Term, stop, param, site, call, par, seq, prune, other, pending, opened, put}
+use Rattle.orc_rules.specs.Marked.{erase}
+use Rattle.orc_rules.specs.Idle.{has_halted}
+use Rattle.orc_checker.specs.Arena.{Env, given, close, Tree, leaf, one, two, place, count, at, Holds, StandOnce, spelled, Frame, on_one, on_left, on_right, plug}
+use Rattle.orc_checker.specs.Halting.{AreHalts}
 use Rattle.orc_checker.specs.Around.{above, around, HoldsAround}
 use Rattle.orc_checker.specs.Rising.{Stands, nowhere}
 use Rattle.orc_checker.specs.Settling.{flag, one_flag, inner_flag, tip_flag, Flagged, FlaggedAround, Settles, parent_at, kind_at, HaltsNext, EndsAt}
@@ -300,3 +307,33 @@ settled_all nodes flags from flags' i f x halts n k t s a g off =
 pub settled_not : (nodes : List Node) (flags : List Bool) (from : ℕ) → Settles nodes flags from false flags
 settled_not nodes flags from halts n k t s a g off =
     flagged-in halts flags k t (subst (FlaggedAround halts flags k) (sym (ap (flag flags) s.there ∙ off)) a) (subst (λ z. Flagged halts z t) (set_false flags from off) g)
+
+-- what is put in leaves a term as halted as it was
+pub put_halted : (q : Param) (x : ℕ) (f : Term) → has_halted (put q x f) ≡ has_halted f
+put_halted q x stop = refl
+put_halted q x (param p) = refl
+put_halted q x (site m ps) = refl
+put_halted q x (call e ps) = refl
+put_halted q x (par f g) = λ i. put_halted q x f i && put_halted q x g i
+put_halted q x (seq f y g) = put_halted q x f
+put_halted q x (prune f y g) = refl
+put_halted q x (other f g) = refl
+put_halted q x (pending k) = refl
+put_halted q x (opened f c g) = λ i. put_halted q x f i && put_halted q x g i
+
+pub close_halted : (e : Env) (f : Term) → has_halted (close e f) ≡ has_halted f
+close_halted [] f = refl
+close_halted (b ∷ e) f = close_halted e (put (given b.1) b.0 f) ∙ put_halted (given b.1) b.0 f
+
+-- a part's flag says whether what it spells has halted
+module _ (code : ℕ → Term) (env : ℕ → Env) (halts : List Bool) (are : AreHalts code halts) where
+  pub flag_says : (flags : List Bool) (t : Tree) → Flagged halts flags t → flag flags (place t) ≡ has_halted (erase (spelled code env t))
+  flag_says flags (leaf i Gone) h = h
+  flag_says flags (leaf i Ended) h = h
+  flag_says flags (leaf i (Token s f e)) h = h ∙ are f ∙ sym (close_halted (env e) (code f))
+  flag_says flags (leaf i (Waits k)) h = h
+  flag_says flags (one i (Feeds x g e) t) h = h.0 ∙ flag_says flags t h.1
+  flag_says flags (one i (Entered m g e) t) h = h.0
+  flag_says flags (one i Passed t) h = h.0 ∙ flag_says flags t h.1
+  flag_says flags (two i Both t u) h = h.0 ∙ (λ j. flag_says flags t h.1 j && flag_says flags u h.2 j)
+  flag_says flags (two i (Side c) t u) h = h.0 ∙ (λ j. flag_says flags t h.1 j && flag_says flags u h.2 j)

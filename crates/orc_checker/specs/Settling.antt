@@ -1,5 +1,5 @@
 -- Which parts of a marked term have halted, by a flag for each node.
-use Rattle.std.specs.Prelude.{◌≡◌, ℕ, List, [], ◌∷◌, Bool, true, false, ◌&&◌, slice_index_or, slice_set, ◌⊎◌}
+use Rattle.std.specs.Prelude.{◌≡◌, ℕ, length, List, [], ◌∷◌, Bool, true, false, ◌&&◌, slice_index_or, slice_set, ◌⊎◌}
 use Rattle.orc_checker.specs.declared.arena.Node.{Node}
 use Rattle.orc_checker.specs.declared.arena.Kind.{Kind}
 use Rattle.orc_checker.specs.declared.arena.Kind.TheVariants.{Leaf, One, Two}
@@ -9,7 +9,8 @@ use Rattle.orc_checker.specs.declared.arena.Single.{Single}
 use Rattle.orc_checker.specs.declared.arena.Single.TheVariants.{Feeds, Entered, Passed}
 use Rattle.orc_checker.specs.Arena.{Tree, leaf, one, two, place, Frame, on_one, on_left, on_right, plug}
 use Rattle.orc_checker.specs.Rising.{Stands, nowhere}
-use Rattle.orc_checker.specs.Halting.{halt_flag}
+use Rattle.orc_rules.specs.Term.{Term}
+use Rattle.orc_checker.specs.Halting.{halt_flag, AreHalts}
 
 -- a node's flag, true where there is none
 abbrev pub flag : List Bool → ℕ → Bool
@@ -67,3 +68,13 @@ HaltsNext nodes flags i p = (p ≡ parent_at nodes i) × (flag flags p ≡ false
 -- the node above has a flag already, or doesn't halt
 abbrev pub EndsAt : List Node → List Bool → ℕ → Type 0
 EndsAt nodes flags i = (flag flags (parent_at nodes i) ≡ true) ⊎ (inner_flag flags (kind_at nodes (parent_at nodes i)) ≡ false)
+
+-- each node of the tree has its flag, over the program's terms
+pub record HasFlags (code : ℕ → Term) (nodes : List Node) (halts flags : List Bool) (tree : Tree) : Type 0 where
+  pub are_halts : AreHalts code halts
+  pub len : length flags ≡ length nodes
+  pub each : Flagged halts flags tree
+
+-- the flags are right again where a part at place i becomes another
+abbrev pub Reflags : (ℕ → Term) → List Node → List Bool → List Bool → List Node → List Bool → List Bool → ℕ → Tree → Tree → Type 0
+Reflags code nodes halts flags nodes' halts' flags' i t t' = (n m : ℕ) (k : List Frame) → Stands nodes n i k t → Stands nodes' m i k t' → HasFlags code nodes halts flags (plug k t) → HasFlags code nodes' halts' flags' (plug k t')
