@@ -76,3 +76,40 @@ module _ (code : ℕ → Term) (nodes nodes' : List Node) (halts : List Bool) (f
             w.1
             (more i lt ∙ w.0);
       }
+
+-- what is around a hole after a publication from it: each otherwise up to the taker is left
+abbrev pub raise : List Frame → List Frame
+raise [] = []
+raise (on_one i (Feeds x g e) ∷ k) = on_one i (Feeds x g e) ∷ k
+raise (on_one i (Entered n g e) ∷ k) = on_one i Passed ∷ raise k
+raise (on_one i Passed ∷ k) = on_one i Passed ∷ raise k
+raise (on_left i d u ∷ k) = on_left i d u ∷ raise k
+raise (on_right i Both u ∷ k) = on_right i Both u ∷ raise k
+raise (on_right i (Side c) u ∷ k) = on_right i (Side c) u ∷ k
+
+pub plug-raise : (k : List Frame) (t : Tree) → plug (raise k) t ≡ plug (rest k) (risen k t)
+plug-raise [] t = refl
+plug-raise (on_one i (Feeds x g e) ∷ k) t = refl
+plug-raise (on_one i (Entered n g e) ∷ k) t = plug-raise k (one i Passed t)
+plug-raise (on_one i Passed ∷ k) t = plug-raise k (one i Passed t)
+plug-raise (on_left i d u ∷ k) t = plug-raise k (two i d t u)
+plug-raise (on_right i Both u ∷ k) t = plug-raise k (two i Both u t)
+plug-raise (on_right i (Side c) u ∷ k) t = refl
+
+and_false : (b : Bool) → (b && false) ≡ false
+and_false true = refl
+and_false false = refl
+
+module _ (halts flags : List Bool) where
+  raised : (b : Bool) (k l : List Frame) → b ≡ false → (FlaggedAround halts flags k false → FlaggedAround halts flags l false) → FlaggedAround halts flags k b → FlaggedAround halts flags l b
+  raised b k l e f h = subst (FlaggedAround halts flags l) (sym e) (f (subst (FlaggedAround halts flags k) e h))
+
+  -- a part that hadn't halted leaves no flag above it
+  pub around-raise : (k : List Frame) → FlaggedAround halts flags k false → FlaggedAround halts flags (raise k) false
+  around-raise [] h = tt
+  around-raise (on_one i (Feeds x g e) ∷ k) h = h
+  around-raise (on_one i (Entered n g e) ∷ k) h = (h.0, raised (flag flags i) k (raise k) h.0 (around-raise k) h.1)
+  around-raise (on_one i Passed ∷ k) h = (h.0, raised (flag flags i) k (raise k) h.0 (around-raise k) h.1)
+  around-raise (on_left i d u ∷ k) h = (h.0, h.1, raised (flag flags i) k (raise k) h.0 (around-raise k) h.2)
+  around-raise (on_right i Both u ∷ k) h = (h.0, h.1, raised (flag flags i) k (raise k) (h.0 ∙ and_false (flag flags (place u))) (around-raise k) h.2)
+  around-raise (on_right i (Side c) u ∷ k) h = h
