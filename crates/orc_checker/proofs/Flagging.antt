@@ -14,6 +14,7 @@ use Rattle.orc_checker.specs.Rising.{Stands, rest, risen}
 use Rattle.orc_checker.specs.Halting.{AreHalts}
 use Rattle.orc_checker.specs.Settling.{flag, one_flag, tip_flag, Flagged, FlaggedAround, Settles, HasFlags, Reflags}
 use Rattle.orc_checker.proofs.Trees.{count-plug}
+use Rattle.orc_checker.proofs.Rising.{itself}
 use Rattle.orc_checker.proofs.Settling.{flag-set_other, around_flags_kept, flagged-out, flagged-in}
 
 -- flags that are there stay
@@ -49,33 +50,113 @@ module _ (code : ℕ → Term) (nodes nodes' : List Node) (halts : List Bool) (f
   around_extends mid n k b s len more a =
       around_flags_kept halts flags mid k b (λ u c. more u (omega (arith, len, stands_there nodes n i k t s u (omega (arith, c))))) a
 
+  its_place : (n : ℕ) (k : List Frame) → Stands nodes n i k t → length flags ≡ length nodes → i < length flags
+  its_place n k s len = omega (arith, len, stands_there nodes n i k t s i (omega (arith, itself t, ap (λ z. count z t) s.there)))
+
   -- a part that keeps its flag
-  pub reflag : Extends flags flags' → length flags' ≡ length nodes' → place t ≡ i → i < length flags → (AreHalts code halts → Flagged halts flags t → Flagged halts flags' t') → Reflags code nodes halts flags nodes' halts flags' i t t'
-  reflag more len e lt inner n m k s s' h =
+  pub reflag : Extends flags flags' → (length flags ≡ length nodes → length flags' ≡ length nodes') → (i < length flags → HasFlags code nodes halts flags t → Flagged halts flags' t') → Reflags code nodes halts flags nodes' halts flags' i t t'
+  reflag more len inner n m k s s' h =
       let o = flagged-out halts flags k t h.each in
+      let lt = its_place n k s h.len in
       record {
         are_halts = h.are_halts;
-        len = len;
+        len = len h.len;
         each =
             flagged-in halts flags' k t'
-            (subst (FlaggedAround halts flags' k) (ap (flag flags) e ∙ sym (more i lt) ∙ ap (flag flags') (sym s'.there)) (around_extends flags' n k (flag flags (place t)) s h.len more o.0))
-            (inner h.are_halts o.1);
+            (subst (FlaggedAround halts flags' k) (ap (flag flags) s.there ∙ sym (more i lt) ∙ ap (flag flags') (sym s'.there)) (around_extends flags' n k (flag flags (place t)) s h.len more o.0))
+            (inner lt (record { are_halts = h.are_halts; len = h.len; each = o.1 }));
       }
 
   -- a part that hadn't halted
-  pub reflag_settled : (mid : List Bool) (b : Bool) → Extends flags mid → length flags' ≡ length nodes' → (AreHalts code halts → Flagged halts flags t → (flag flags i ≡ false) × Flagged halts (slice_set mid i b) t') → Settles nodes' mid i b flags' → place t ≡ i → i < length flags → Reflags code nodes halts flags nodes' halts flags' i t t'
-  reflag_settled mid b more len inner settles e lt n m k s s' h =
+  pub reflag_settled : (mid : List Bool) (b : Bool) → Extends flags mid → (length flags ≡ length nodes → length flags' ≡ length nodes') → (i < length flags → HasFlags code nodes halts flags t → (flag flags i ≡ false) × Flagged halts (slice_set mid i b) t') → Settles nodes' mid i b flags' → Reflags code nodes halts flags nodes' halts flags' i t t'
+  reflag_settled mid b more len inner settles n m k s s' h =
       let o = flagged-out halts flags k t h.each in
-      let w = inner h.are_halts o.1 in
+      let lt = its_place n k s h.len in
+      let w = inner lt (record { are_halts = h.are_halts; len = h.len; each = o.1 }) in
       record {
         are_halts = h.are_halts;
-        len = len;
+        len = len h.len;
         each =
             settles halts m k t' s'
-            (around_extends mid n k false s h.len more (subst (FlaggedAround halts flags k) (ap (flag flags) e ∙ w.0) o.0))
+            (around_extends mid n k false s h.len more (subst (FlaggedAround halts flags k) (ap (flag flags) s.there ∙ w.0) o.0))
             w.1
             (more i lt ∙ w.0);
       }
+
+pub flag-set_at : (flags : List Bool) (i : ℕ) (b : Bool) → i < length flags → flag (slice_set flags i b) i ≡ b
+flag-set_at [] i b lt = absurd (omega (arith, lt))
+flag-set_at (c ∷ flags) zero b lt = refl
+flag-set_at (c ∷ flags) (suc i) b lt = flag-set_at flags i b (omega (arith, lt))
+
+-- a node without parts
+module _ (code : ℕ → Term) (nodes nodes' : List Node) (halts flags halts' flags' : List Bool) (i : ℕ) (k : Tip) (same_halts : halts' ≡ halts) where
+  -- it becomes another with its flag
+  pub reflag_leaf : (l : Tip) → flags' ≡ flags → length nodes' ≡ length nodes → (AreHalts code halts → tip_flag halts k ≡ tip_flag halts l) → Reflags code nodes halts flags nodes' halts' flags' i (leaf i k) (leaf i l)
+  reflag_leaf l same len e =
+      subst (λ z. Reflags code nodes halts flags nodes' z flags' i (leaf i k) (leaf i l)) (sym same_halts)
+      (subst (λ z. Reflags code nodes halts flags nodes' halts z i (leaf i k) (leaf i l)) (sym same)
+      (reflag code nodes nodes' halts flags flags i (leaf i k) (leaf i l) (λ u lt. refl) (λ h. h ∙ sym len) (λ lt h. h.each ∙ e h.are_halts)))
+
+  -- it hadn't halted, and becomes another
+  pub reflag_leaf_settled : (l : Tip) (b : Bool) → length flags' ≡ length flags → length nodes' ≡ length nodes → (AreHalts code halts → tip_flag halts k ≡ false) → b ≡ tip_flag halts l → Settles nodes' flags i b flags' → Reflags code nodes halts flags nodes' halts' flags' i (leaf i k) (leaf i l)
+  reflag_leaf_settled l b same len off is settles =
+      subst (λ z. Reflags code nodes halts flags nodes' z flags' i (leaf i k) (leaf i l)) (sym same_halts)
+      (reflag_settled code nodes nodes' halts flags flags' i (leaf i k) (leaf i l) flags b (λ u lt. refl) (λ h. same ∙ h ∙ sym len)
+      (λ lt h. (h.each ∙ off h.are_halts, flag-set_at flags i b lt ∙ is)) settles)
+
+  -- one node comes below it
+  pub reflag_one : (d : Single) (n : ℕ) (l : Tip) (b : Bool) → flags' ≡ flags ++ b ∷ [] → n ≡ length nodes → length nodes' ≡ suc n → (AreHalts code halts → tip_flag halts k ≡ one_flag d b) → b ≡ tip_flag halts l → Reflags code nodes halts flags nodes' halts' flags' i (leaf i k) (one i d (leaf n l))
+  reflag_one d n l b same is_n len e is =
+      subst (λ z. Reflags code nodes halts flags nodes' z flags' i (leaf i k) (one i d (leaf n l))) (sym same_halts)
+      (subst (λ z. Reflags code nodes halts flags nodes' halts z i (leaf i k) (one i d (leaf n l))) (sym same)
+      (reflag code nodes nodes' halts flags (flags ++ b ∷ []) i (leaf i k) (one i d (leaf n l)) (extends-append flags (b ∷ []))
+      (λ h. omega (arith, h, is_n, len, length-append flags (b ∷ [])))
+      (λ lt h.
+      let w : flag (flags ++ b ∷ []) n ≡ b = flag-end flags b [] n (is_n ∙ sym h.len) in
+      (extends-append flags (b ∷ []) i lt ∙ h.each ∙ e h.are_halts ∙ ap (one_flag d) (sym w), w ∙ is))))
+
+  -- two nodes come below it
+  abbrev pub two_more : Bool → Bool → List Bool
+  two_more b c = (flags ++ b ∷ []) ++ c ∷ []
+
+  more_two : (b c : Bool) → Extends flags (two_more b c)
+  more_two b c u lt = extends-append (flags ++ b ∷ []) (c ∷ []) u (omega (arith, lt, length-append flags (b ∷ []))) ∙ extends-append flags (b ∷ []) u lt
+
+  first_is : (b c : Bool) (n : ℕ) → n ≡ length flags → flag (two_more b c) n ≡ b
+  first_is b c n e = extends-append (flags ++ b ∷ []) (c ∷ []) n (omega (arith, e, length-append flags (b ∷ []))) ∙ flag-end flags b [] n e
+
+  second_is : (b c : Bool) (n : ℕ) → n ≡ length flags → flag (two_more b c) (n + 1) ≡ c
+  second_is b c n e = flag-end (flags ++ b ∷ []) c [] (n + 1) (omega (arith, e, length-append flags (b ∷ [])))
+
+  two_len : (b c : Bool) (n : ℕ) → length flags ≡ n → length (two_more b c) ≡ suc (suc n)
+  two_len b c n e = omega (arith, e, length-append flags (b ∷ []), length-append (flags ++ b ∷ []) (c ∷ []))
+
+  pub reflag_two : (d : Double) (n : ℕ) (l m : Tip) (b c : Bool) → flags' ≡ two_more b c → n ≡ length nodes → length nodes' ≡ suc (suc n) → (AreHalts code halts → tip_flag halts k ≡ (b && c)) → b ≡ tip_flag halts l → c ≡ tip_flag halts m → Reflags code nodes halts flags nodes' halts' flags' i (leaf i k) (two i d (leaf n l) (leaf (n + 1) m))
+  reflag_two d n l m b c same is_n len e is is' =
+      let t' = two i d (leaf n l) (leaf (n + 1) m) in
+      subst (λ z. Reflags code nodes halts flags nodes' z flags' i (leaf i k) t') (sym same_halts)
+      (subst (λ z. Reflags code nodes halts flags nodes' halts z i (leaf i k) t') (sym same)
+      (reflag code nodes nodes' halts flags (two_more b c) i (leaf i k) t' (more_two b c)
+      (λ h. two_len b c n (h ∙ sym is_n) ∙ sym len)
+      (λ lt h.
+      let v : flag (two_more b c) n ≡ b = first_is b c n (is_n ∙ sym h.len) in
+      let w : flag (two_more b c) (n + 1) ≡ c = second_is b c n (is_n ∙ sym h.len) in
+      (more_two b c i lt ∙ h.each ∙ e h.are_halts ∙ (λ j. sym v j && sym w j), v ∙ is, w ∙ is'))))
+
+  pub reflag_two_settled : (d : Double) (n : ℕ) (l m : Tip) (b c : Bool) → length flags' ≡ length (two_more b c) → n ≡ length nodes → length nodes' ≡ suc (suc n) → (AreHalts code halts → tip_flag halts k ≡ false) → b ≡ tip_flag halts l → c ≡ tip_flag halts m → Settles nodes' (two_more b c) i (b && c) flags' → Reflags code nodes halts flags nodes' halts' flags' i (leaf i k) (two i d (leaf n l) (leaf (n + 1) m))
+  reflag_two_settled d n l m b c same is_n len off is is' settles =
+      let t' = two i d (leaf n l) (leaf (n + 1) m) in
+      let mid = two_more b c in
+      subst (λ z. Reflags code nodes halts flags nodes' z flags' i (leaf i k) t') (sym same_halts)
+      (reflag_settled code nodes nodes' halts flags flags' i (leaf i k) t' mid (b && c) (more_two b c)
+      (λ h. same ∙ two_len b c n (h ∙ sym is_n) ∙ sym len)
+      (λ lt h.
+      let e : n ≡ length flags = is_n ∙ sym h.len in
+      let v : flag (slice_set mid i (b && c)) n ≡ b = flag-set_other mid i n (b && c) (λ z. omega (arith, z, lt, e)) ∙ first_is b c n e in
+      let w : flag (slice_set mid i (b && c)) (n + 1) ≡ c = flag-set_other mid i (n + 1) (b && c) (λ z. omega (arith, z, lt, e)) ∙ second_is b c n e in
+      let x : flag (slice_set mid i (b && c)) i ≡ (b && c) = flag-set_at mid i (b && c) (omega (arith, lt, two_len b c (length flags) refl)) in
+      (h.each ∙ off h.are_halts, (x ∙ (λ j. sym v j && sym w j), v ∙ is, w ∙ is')))
+      settles)
 
 -- what is around a hole after a publication from it: each otherwise up to the taker is left
 abbrev pub raise : List Frame → List Frame
