@@ -11,23 +11,29 @@ use Rattle.orc_checker.specs.declared.arena.Single.{Single}
 use Rattle.orc_checker.specs.declared.arena.Double.{Double}
 use Rattle.orc_checker.specs.Arena.{Tree, leaf, one, two, place, hits, count, at, Holds, living}
 use Rattle.orc_checker.specs.Rising.{nowhere}
-use Rattle.orc_checker.specs.Dropping.{occurs, parts_of, AreNodesOf, IsDropped}
+use Rattle.orc_checker.specs.Dropping.{weight, weigh, occurs, parts_of, AreNodesOf, IsDropped}
 use Rattle.orc_checker.proofs.Trees.{hit, hits-both}
 use Rattle.orc_checker.proofs.Lists.{get-set_other}
 use Rattle.orc_checker.proofs.Feeding.{own, own_kind}
 use Rattle.orc_checker.proofs.Rising.{get_or-some}
 
-occurs-append : (u : ℕ) (is js : List ℕ) → occurs u (is ++ js) ≡ occurs u is + occurs u js
-occurs-append u [] js = omega arith
-occurs-append u (i ∷ is) js = omega (arith, occurs-append u is js)
+pub weight-append : (w : ℕ → ℕ) (is js : List ℕ) → weight w (is ++ js) ≡ weight w is + weight w js
+weight-append w [] js = omega arith
+weight-append w (i ∷ is) js = omega (arith, weight-append w is js)
 
-abbrev pub counts : ℕ → List Tree → ℕ
-counts u [] = 0
-counts u (t ∷ ts) = count u t + counts u ts
+abbrev pub weighs : (ℕ → ℕ) → List Tree → ℕ
+weighs w [] = 0
+weighs w (t ∷ ts) = weigh w t + weighs w ts
 
-counts-append : (u : ℕ) (ts vs : List Tree) → counts u (ts ++ vs) ≡ counts u ts + counts u vs
-counts-append u [] vs = omega arith
-counts-append u (t ∷ ts) vs = omega (arith, counts-append u ts vs)
+weighs-append : (w : ℕ → ℕ) (ts vs : List Tree) → weighs w (ts ++ vs) ≡ weighs w ts + weighs w vs
+weighs-append w [] vs = omega arith
+weighs-append w (t ∷ ts) vs = omega (arith, weighs-append w ts vs)
+
+-- how often a place stands in a tree is such a sum
+pub count-weigh : (u : ℕ) (t : Tree) → count u t ≡ weigh (hits u) t
+count-weigh u (leaf i k) = refl
+count-weigh u (one i k t) = omega (arith, count-weigh u t)
+count-weigh u (two i k t v) = omega (arith, count-weigh u t, count-weigh u v)
 
 places-append : (ts vs : List Tree) → map place (ts ++ vs) ≡ map place ts ++ map place vs
 places-append [] vs = refl
@@ -53,20 +59,20 @@ pub record Spread (nodes : List Node) (n : ℕ) (t : Tree) (found : List ℕ) (n
   pub hang : Hang nodes n open_parts
   pub is : found ≡ done ++ map place open_parts
   pub far : next ≡ length done
-  pub counted : (u : ℕ) → occurs u done + counts u open_parts ≡ count u t
+  pub counted : (w : ℕ → ℕ) → weight w done + weighs w open_parts ≡ weigh w t
 
 abbrev pub Spreads : List Node → ℕ → List ℕ → ℕ → Type 0
 Spreads nodes root found next = (n p : ℕ) (t : Tree) → Holds nodes n p t → place t ≡ root → Spread nodes n t found next
 
 pub spreads_none : (nodes : List Node) (root : ℕ) → Spreads nodes root (root ∷ []) 0
-spreads_none nodes root n p t h e = record { done = []; open_parts = t ∷ []; hang = ((p, h), tt); is = λ i. sym e i ∷ []; far = refl; counted = λ u. omega arith }
+spreads_none nodes root n p t h e = record { done = []; open_parts = t ∷ []; hang = ((p, h), tt); is = λ i. sym e i ∷ []; far = refl; counted = λ w. omega arith }
 
 -- all parts are in it
 pub spreads_all : (nodes : List Node) (root : ℕ) (found : List ℕ) (next : ℕ) → Spreads nodes root found next → next ≡ length found → AreNodesOf nodes root found
-spreads_all nodes root found next s e n p t h r u = let w = s n p t h r in over w.done w.open_parts w.is (omega (arith, e, w.far)) (w.counted u)
+spreads_all nodes root found next s e n p t h r w = let z = s n p t h r in over z.done z.open_parts z.is (omega (arith, e, z.far)) (z.counted w)
   where
-    over : (done : List ℕ) (ts : List Tree) → found ≡ done ++ map place ts → length found ≡ length done → occurs u done + counts u ts ≡ count u t → occurs u found ≡ count u t
-    over done [] is l c = omega (arith, ap (occurs u) (is ∙ append-nil done), c)
+    over : (done : List ℕ) (ts : List Tree) → found ≡ done ++ map place ts → length found ≡ length done → weight w done + weighs w ts ≡ weigh w t → weight w found ≡ weigh w t
+    over done [] is l c = omega (arith, ap (weight w) (is ∙ append-nil done), c)
     over done (v ∷ ts) is l c = absurd (omega (arith, l, ap length is, length-append done (map place (v ∷ ts))))
 
 abbrev children : Tree → List Tree
@@ -79,10 +85,10 @@ children-places (leaf i k) = refl
 children-places (one i s t) = refl
 children-places (two i d t u) = refl
 
-children-counted : (u : ℕ) (t : Tree) → count u t ≡ hits u (place t) + counts u (children t)
-children-counted u (leaf i k) = omega arith
-children-counted u (one i s t) = omega arith
-children-counted u (two i d t v) = omega arith
+children-weigh : (w : ℕ → ℕ) (t : Tree) → weigh w t ≡ w (place t) + weighs w (children t)
+children-weigh w (leaf i k) = omega arith
+children-weigh w (one i s t) = omega arith
+children-weigh w (two i d t v) = omega arith
 
 children-hang : (nodes : List Node) (n p : ℕ) (t : Tree) → Holds nodes n p t → Hang nodes n (children t)
 children-hang nodes n p (leaf i k) h = tt
@@ -93,7 +99,7 @@ children-hang nodes n p (two i d t u) h = ((i, h.1), ((i, h.2), tt))
 pub spreads_on : (nodes : List Node) (root : ℕ) (found found' : List ℕ) (next at : ℕ) (k : Kind) → Spreads nodes root found next → next < length found → at ≡ get_or found next at → k ≡ Node.kind (get_or nodes at nowhere) → found' ≡ found ++ parts_of k → Spreads nodes root found' (next + 1)
 spreads_on nodes root found found' next at k s lt is_at is_k more n p t h r = let w = s n p t h r in go w.done w.open_parts w.hang w.is w.far w.counted
   where
-    go : (done : List ℕ) (ts : List Tree) → Hang nodes n ts → found ≡ done ++ map place ts → next ≡ length done → ((u : ℕ) → occurs u done + counts u ts ≡ count u t) → Spread nodes n t found' (next + 1)
+    go : (done : List ℕ) (ts : List Tree) → Hang nodes n ts → found ≡ done ++ map place ts → next ≡ length done → ((w : ℕ → ℕ) → weight w done + weighs w ts ≡ weigh w t) → Spread nodes n t found' (next + 1)
     go done [] hang is far counted = absurd (omega (arith, lt, far, ap length is, length-append done []))
     go done (v ∷ ts) hang is far counted =
         let there : at ≡ place v = is_at ∙ (λ i. get_or (is i) (far i) at) ∙ get_or-append_seam done (place v) (map place ts) at in
@@ -108,7 +114,7 @@ spreads_on nodes root found found' next at k s lt is_at is_k more n p t h r = le
               ∙ sym (append-append done (place v ∷ []) (map place ts ++ map place (children v)))
               ∙ ap (λ z. (done ++ place v ∷ []) ++ z) (sym (places-append ts (children v)));
           far = omega (arith, far, length-append done (place v ∷ []));
-          counted = λ u. omega (arith, counted u, occurs-append u done (place v ∷ []), counts-append u ts (children v), children-counted u v);
+          counted = λ w. omega (arith, counted w, weight-append w done (place v ∷ []), weighs-append w ts (children v), children-weigh w v);
         }
 
 -- no node is gone yet
@@ -123,7 +129,7 @@ gone_there (x ∷ nodes) (suc i) = gone_there nodes i
 -- one more is gone
 pub dropped_on : (nodes nodes' nodes'' : List Node) (done done' : List ℕ) (i : ℕ) → IsDropped nodes done nodes' → nodes'' ≡ slice_set nodes' i nowhere → done' ≡ done ++ i ∷ [] → IsDropped nodes done' nodes''
 dropped_on nodes nodes' nodes'' done done' i d is more u =
-    let o : occurs u done' ≡ occurs u done + hits u i = omega (arith, ap (occurs u) more, occurs-append u done (i ∷ [])) in
+    let o : occurs u done' ≡ occurs u done + hits u i = omega (arith, ap (occurs u) more, weight-append (hits u) done (i ∷ [])) in
     let w = d u in
     ⊎_elim
     (λ e. (

@@ -154,7 +154,7 @@ module _ (nodes : List Node) (n : ℕ) where
       let w : above_kind i ≡ Two (Side c) (place v) (place u) = ap (λ z. Node.kind (get_or nodes z nowhere)) (parent_of i (on_right j (Side c) v) k u s) ∙ kind_of j (Two (Side c) (place v) (place u)) (above 0 k) h.0.0 in
       let b : nat_eq (place v) i ≡ false = ne_eqb (place v) i (λ e. differ i j (Side c) v u k s e) in
       subst (λ z. Goes (up z i (Node.parent (get_or nodes i nowhere))) i (on_right j (Side c) v ∷ k) u) (sym w)
-      (subst (λ z. Goes (cond z None (Some (Bound c))) i (on_right j (Side c) v ∷ k) u) (sym b) (refl, refl))
+      (subst (λ z. Goes (cond z None (Some (Bound c (Node.parent (get_or nodes i nowhere))))) i (on_right j (Side c) v ∷ k) u) (sym b) (ap (λ z. Bound c z) (parent_of i (on_right j (Side c) v) k u s), refl))
 
 set-same : {X : Type 0} (xs : List X) (i : ℕ) (x : X) → slice_get xs i ≡ Some x → slice_set xs i x ≡ xs
 set-same [] i x h = refl

@@ -18,7 +18,7 @@ takes (on_one i (Entered n g e) ∷ k) = takes k
 takes (on_one i Passed ∷ k) = takes k
 takes (on_left i d t ∷ k) = takes k
 takes (on_right i Both t ∷ k) = takes k
-takes (on_right i (Side c) t ∷ k) = Bound c
+takes (on_right i (Side c) t ∷ k) = Bound c i
 
 -- how many nodes it goes past
 abbrev pub far : List Frame → ℕ
@@ -74,7 +74,7 @@ nowhere = record { kind = Leaf Gone; parent = 0 }
 -- whether the node above takes what node i publishes
 abbrev pub up : Kind → ℕ → ℕ → Option Taker
 up (One (Feeds x g e) p) i j = Some (Fed j)
-up (Two (Side c) l r) i j = cond (nat_eq l i) None (Some (Bound c))
+up (Two (Side c) l r) i j = cond (nat_eq l i) None (Some (Bound c j))
 up _ i j = None
 
 -- the nodes hang together around a part at this place

@@ -145,7 +145,7 @@ impl Marked {
         Some(match way_up(&self.nodes, spot.at)?.taker {
             Taker::Whole => Next::Publish(value),
             Taker::Fed(_) => Next::Send(value),
-            Taker::Bound(cell) => Next::Bind(cell, value),
+            Taker::Bound(cell, _) => Next::Bind(cell, value),
         })
     }
 

@@ -5,12 +5,12 @@ ghost use Rattle.orc_checker.specs.Rising.{nowhere, pass_node, up, IsTaker, Rise
 
 use crate::arena::{Double, Kind, Node, Single, Tip};
 
-/// What takes a publication: nothing, the `>x>` at a node, or the right side of a cell.
+/// What takes a publication: nothing, the `>x>` at a node, or the right side of a cell's pruning at a node.
 #[derive(Clone, Copy)]
 pub enum Taker {
     Whole,
     Fed(usize),
-    Bound(u64),
+    Bound(u64, usize),
 }
 
 /// What takes a publication, and how many nodes it goes past on its way there.
@@ -66,7 +66,7 @@ pub(crate) fn taker_here(above: Kind, place: usize, parent: usize) -> Option<Tak
             if left == place {
                 None
             } else {
-                Some(Taker::Bound(cell))
+                Some(Taker::Bound(cell, parent))
             }
         }
         _ => None,
