@@ -144,7 +144,7 @@ module _ (nodes : List Node) (n : ℕ) where
       let w : above_kind i ≡ Two (Side c) (place u) (place v) = ap (λ z. Node.kind (get_or nodes z nowhere)) (parent_of i (on_left j (Side c) v) k u s) ∙ kind_of j (Two (Side c) (place u) (place v)) (above 0 k) h.0.0 in
       let b : nat_eq (place u) i ≡ true = eq-eqb (place u) i s.there in
       subst (λ z. Goes (up z i (Node.parent (get_or nodes i nowhere))) i (on_left j (Side c) v ∷ k) u) (sym w)
-      (subst (λ z. Goes (cond z None (Some (Bound c))) i (on_left j (Side c) v ∷ k) u) (sym b) (goes i (on_left j (Side c) v) k u s refl refl))
+      (subst (λ z. Goes (cond z None (Some (Bound c (Node.parent (get_or nodes i nowhere))))) i (on_left j (Side c) v ∷ k) u) (sym b) (goes i (on_left j (Side c) v) k u s refl refl))
   upward i (on_right j Both v ∷ k) u s off =
       let h = holds-out nodes n 0 (on_right j Both v ∷ k) u s.holds in
       let w : above_kind i ≡ Two Both (place v) (place u) = ap (λ z. Node.kind (get_or nodes z nowhere)) (parent_of i (on_right j Both v) k u s) ∙ kind_of j (Two Both (place v) (place u)) (above 0 k) h.0.0 in
