@@ -4,7 +4,8 @@ use Rattle.orc_rules.specs.Term.{Term, stop, param, site, call, par, seq, prune,
 use Rattle.orc_rules.specs.Marked.{Marked, ended, token, in_call, in_par, in_seq, in_opened, in_other, erase}
 use Rattle.orc_rules.specs.Lost.{IsSource}
 use Rattle.orc_rules.specs.Idle.{has_halted, can_move, movable, one}
-use Rattle.orc_rules.specs.Tests.{MovesByCount, PendingByMarks}
+use Rattle.orc_rules.specs.Tests.{MovesByCount}
+use Rattle.orc_rules.specs.Pending.{PendingByMarks}
 use Rattle.orc_rules.proofs.Idle.{or_false}
 
 or_none : (a b : Bool) → (a ≡ false) → (b ≡ false) → (a || b) ≡ false

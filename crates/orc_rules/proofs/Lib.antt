@@ -2,6 +2,7 @@ pub mod Adding
 pub mod Counts
 pub mod Determined
 pub mod Dropped
+pub mod DueTimes
 pub mod Emitted
 pub mod Equations
 pub mod Explained
@@ -13,6 +14,7 @@ pub mod Lookup
 pub mod Lost
 pub mod Numbered
 pub mod Numerals
+pub mod Pending
 pub mod Refusal
 pub mod Settled
 pub mod Sites

@@ -228,7 +228,7 @@ acts_counts x p q a new le t m = record { marks = subst (λ w. p.mark ≤ w) (sy
 abbrev mark_of : Place → ℕ
 mark_of r = r.mark
 
-next_not : {X : Type 0} (us : List X) (ns : List ℕ) (n : ℕ) → n ≡ suc (length ns) → AreCounted ns → IsIn n ns → ⊥
+pub next_not : {X : Type 0} (us : List X) (ns : List ℕ) (n : ℕ) → n ≡ suc (length ns) → AreCounted ns → IsIn n ns → ⊥
 next_not us [] n e c i = elim i [ ]
 next_not us (m ∷ ms) n e c (inl s) = omega (arith, s, e, c.0)
 next_not us (m ∷ ms) n e c (inr i) = below ms n (omega (arith, e)) c.1 i

@@ -10,7 +10,8 @@ use Rattle.orc_rules.specs.Timed.{Context, Moment, IsIn, IsLater, IsIdle, IsTick
 use Rattle.orc_rules.specs.Journal.{Place, moment}
 use Rattle.orc_rules.specs.Verdict.{IsAt}
 use Rattle.orc_rules.specs.Idle.{has_halted, can_move}
-use Rattle.orc_rules.specs.Tests.{IsOwn, CanMove, PendsDue, IsNextDue, state_by, HaltedByTest, CanMoveByTest, IdleByTest, TickByTest, QuietByTest, StateByTest}
+use Rattle.orc_rules.specs.Tests.{IsOwn, CanMove, state_by, HaltedByTest, CanMoveByTest, IdleByTest, TickByTest, QuietByTest, StateByTest}
+use Rattle.orc_rules.specs.Pending.{PendsDue, IsNextDue}
 use Rattle.orc_rules.proofs.Idle.{halted_test, test_halted, idle_returns, idle_by_test, can_step, IsReturn}
 
 true_or : (b : Bool) → (b ≡ true) ⊎ (b ≡ false)

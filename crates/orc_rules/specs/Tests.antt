@@ -1,16 +1,15 @@
 -- What the tests decide: halted, idle, a tick, quiet.
-use Rattle.std.specs.Prelude.{◌≡◌, ◌<◌, ◌≤◌, ◌↔◌, ℕ, List, Bool, true, false, Option, Some, None}
-use Rattle.orc_rules.specs.declared.value.Answer.{Answer}
+use Rattle.std.specs.Prelude.{◌≡◌, ◌<◌, ◌↔◌, ℕ, List, Bool, true, false, Option, Some, None}
 use Rattle.orc_rules.specs.declared.entry.State.{State}
 use Rattle.orc_rules.specs.declared.entry.State.TheVariants.{Halted as HasHalted, Quiet, Running}
-use Rattle.orc_rules.specs.Term.{Term, Definition, Halted, pending_of}
+use Rattle.orc_rules.specs.Term.{Term, Definition, Halted}
 use Rattle.orc_rules.specs.Step.{Act, returns, Step}
 use Rattle.orc_rules.specs.Marked.{Marked, erase}
-use Rattle.orc_rules.specs.Timed.{Context, Moment, IsIn, IsDue, IsIdle, IsTick, IsQuiet, used}
+use Rattle.orc_rules.specs.Timed.{Context, Moment, IsIdle, IsTick, IsQuiet, used}
 use Rattle.orc_rules.specs.Journal.{Place, moment}
-use Rattle.orc_rules.specs.Lost.{HoldsSource}
 use Rattle.orc_rules.specs.Verdict.{IsAt}
-use Rattle.orc_rules.specs.Idle.{has_halted, can_move, movable, calls_of}
+use Rattle.orc_rules.specs.Idle.{has_halted, can_move, movable}
+use Rattle.orc_rules.specs.Pending.{PendsDue, IsNextDue}
 
 -- every act but a return
 abbrev pub IsOwn : Act → Type 0
@@ -20,15 +19,6 @@ IsOwn _ = Unit {0}
 -- a rule that is no return can be used
 abbrev pub CanMove : Context → Moment → Type 0
 CanMove x s = (a : Act) × (u : Term) × IsOwn a × Step x.definitions (used s) s.term a u
-
--- some pending call is due at t
-abbrev pub PendsDue : Context → Moment → ℕ → Type 0
-PendsDue x s t = (k : ℕ) × (a : Answer) × IsIn k (pending_of s.term) × IsDue x.sites s.calls k a t
-
--- the least due time of the pending calls, or none where none of them is ever due
-abbrev pub IsNextDue : Context → Moment → Option ℕ → Type 0
-IsNextDue x s None = (t : ℕ) → PendsDue x s t → ⊥
-IsNextDue x s (Some t) = PendsDue x s t × ((u : ℕ) → PendsDue x s u → t ≤ u)
 
 -- the state, from whether the term has halted, whether it can move, and the next due time
 abbrev pub state_by : Bool → Bool → Option ℕ → State
@@ -62,7 +52,3 @@ StateByTest = (x : Context) (p : Place) (due : Option ℕ) → IsNextDue x (mome
 -- a marked term can move where its count isn't 0
 abbrev pub MovesByCount : Type 0
 MovesByCount = (defs : List Definition) (m : Marked) → (can_move defs (erase m) ≡ false) ↔ (movable defs m ≡ 0)
-
--- the pending calls are those that marks show
-abbrev pub PendingByMarks : Type 0
-PendingByMarks = (m : Marked) → HoldsSource m → pending_of (erase m) ≡ calls_of m
