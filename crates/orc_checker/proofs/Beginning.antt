@@ -22,7 +22,7 @@ spells_first l cancels x is =
         holds = (refl, tt, (refl, omega arith));
         root = refl;
         once = λ u. omega (arith, living-push (node (One Passed 1) 0 ∷ []) u (node (Leaf (Token 1 l.root 0)) 0) refl, living-push [] u (node (One Passed 1) 0) refl);
-        top = refl;
+        top = tt;
         marked = refl;
       };
       mark = refl;

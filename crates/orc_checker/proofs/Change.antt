@@ -3,15 +3,14 @@ use Rattle.std.proofs.Common.{◌≡◌, ◌≤◌, ◌+◌, ℕ, List, [], ◌�
 use Rattle.std.specs.Prelude.{slice_get}
 use Rattle.orc_checker.specs.declared.arena.Node.{Node}
 use Rattle.orc_checker.specs.declared.arena.Tip.{Tip}
-use Rattle.orc_checker.specs.declared.arena.Kind.TheVariants.{Leaf, One}
-use Rattle.orc_checker.specs.declared.arena.Single.TheVariants.{Passed}
+use Rattle.orc_checker.specs.declared.arena.Kind.TheVariants.{Leaf}
 use Rattle.orc_rules.specs.Term.{Term}
-use Rattle.orc_checker.specs.Arena.{Tree, leaf, one, two, place, count, hits, at, Holds, living, living_kind, StandOnce, spelled, env_of, Frame, on_one, on_left, on_right, plug}
+use Rattle.orc_checker.specs.Arena.{Tree, leaf, one, two, place, count, hits, at, Holds, living, living_kind, StandOnce, spelled, env_of, IsTopped, Frame, on_one, on_left, on_right, plug}
 use Rattle.orc_checker.specs.Around.{above}
 use Rattle.orc_checker.specs.Rising.{Stands}
 use Rattle.orc_checker.specs.Checker.{State, Draws}
 use Rattle.orc_rules.specs.Marked.{Marked}
-use Rattle.orc_checker.proofs.Trees.{holds-out, holds_replaced, once_replaced, spot, alone, hit, one_kind}
+use Rattle.orc_checker.proofs.Trees.{holds-out, holds_replaced, once_replaced, spot, alone, hit, topped-plug}
 use Rattle.orc_checker.proofs.Spelling.{spelled-kept}
 
 pub place-plug : (k : List Frame) (t t' : Tree) → place t ≡ place t' → place (plug k t) ≡ place (plug k t')
@@ -59,14 +58,15 @@ pub record Changed (code : ℕ → Term) (s s' : State) (m : Marked) (tree : Tre
   pub holds : Holds s'.nodes (length s'.scopes) 0 (plug context t')
   pub once : StandOnce s'.nodes (plug context t')
   pub root : place (plug context t') ≡ 0
-  pub top : at s'.nodes 0 0 (One Passed 1)
+  pub top : IsTopped (plug context t')
 
 hits-off : (u i : ℕ) → hits u i ≡ 0 → u ≡ i → ⊥
 hits-off u i z e = omega (arith, z, hit i, ap (λ w. hits w i) e)
 
 -- a node without parts isn't the one above the root
-pub below_top : (nodes : List Node) (i q : ℕ) (k : Tip) → at nodes 0 0 (One Passed 1) → at nodes q i (Leaf k) → 0 ≡ i → ⊥
-below_top nodes i q k a b e = let same : One Passed 1 ≡ Leaf k = one_kind nodes 0 0 q _ _ a (subst (λ z. at nodes q z (Leaf k)) (sym e) b) in absurd (cc same)
+topped-leaf : (k : List Frame) (i : ℕ) (l : Tip) (t' : Tree) → IsTopped (plug k (leaf i l)) → IsTopped (plug k t')
+topped-leaf [] i l t' h = absurd h
+topped-leaf (f ∷ k) i l t' h = topped-plug f k (leaf i l) t' h
 
 pub changed : (code : ℕ → Term) (s s' : State) (m : Marked) (d : Draws code s m) (i q : ℕ) (k : Tip) (t' : Tree) → at s.nodes q i (Leaf k) → living_kind (Leaf k) ≡ 1 → Becomes s s' i q t' → Changed code s s' m d.tree i k t'
 changed code s s' m d i q k t' a lives b =
@@ -81,5 +81,5 @@ changed code s s' m d i q k t' a lives b =
           (subst (λ z. Holds s'.nodes (length s'.scopes) z t') (sym f.below) b.holds);
       once = once_replaced s.nodes s'.nodes (length s.scopes) (length s'.scopes) 0 b.grows f.context (leaf i k) t' f.once b.counted;
       root = place-plug f.context t' (leaf i k) b.there ∙ ap place f.is ∙ d.root;
-      top = b.same 0 _ (below_top s.nodes i q k d.top a) d.top;
+      top = topped-leaf f.context i k t' (subst IsTopped (sym f.is) d.top);
     }

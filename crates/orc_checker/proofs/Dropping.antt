@@ -1,14 +1,9 @@
 -- A part's nodes in a list, and what is left when they are gone.
-use Rattle.std.proofs.Common.{◌≡◌, ◌≤◌, ◌+◌, ◌<◌, ℕ, zero, suc, List, [], ◌∷◌, ◌++◌, length, map, get_or, take, Option, Some, None, refl, sym, ap, ◌∙◌, subst, arith, length-append, append-nil, ⊎_elim}
+use Rattle.std.proofs.Common.{◌≡◌, ◌+◌, ◌<◌, ℕ, zero, suc, List, [], ◌∷◌, ◌++◌, length, map, get_or, refl, sym, ap, ◌∙◌, arith, length-append, append-nil, ⊎_elim}
 use Rattle.std.proofs.Math.Seq.{get_or-append_seam}
 use Rattle.std.specs.Prelude.{slice_get, slice_set}
 use Rattle.orc_checker.specs.declared.arena.Node.{Node}
-use Rattle.orc_checker.specs.declared.arena.Tip.{Tip}
 use Rattle.orc_checker.specs.declared.arena.Kind.{Kind}
-use Rattle.orc_checker.specs.declared.arena.Kind.TheVariants.{Leaf, One, Two}
-use Rattle.orc_checker.specs.declared.arena.Tip.TheVariants.{Gone}
-use Rattle.orc_checker.specs.declared.arena.Single.{Single}
-use Rattle.orc_checker.specs.declared.arena.Double.{Double}
 use Rattle.orc_checker.specs.Arena.{Tree, leaf, one, two, place, hits, count, at, Holds, living}
 use Rattle.orc_checker.specs.Rising.{nowhere}
 use Rattle.orc_checker.specs.Dropping.{weight, weigh, occurs, parts_of, AreNodesOf, IsDropped}

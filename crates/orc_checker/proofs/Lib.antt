@@ -18,5 +18,7 @@ pub mod Opening
 pub mod Publishing
 pub mod Rising
 pub mod Settling
+pub mod Scopes
+pub mod Sending
 pub mod Spelling
 pub mod Trees

@@ -14,7 +14,8 @@ use Rattle.orc_checker.specs.declared.arena.Kind.TheVariants.{Leaf, One, Two}
 use Rattle.orc_rules.specs.Term.{Term, stop, par, seq, other}
 use Rattle.orc_rules.specs.Marked.{Marked, ended, token, in_par, in_seq, in_other, Replaces, here}
 use Rattle.orc_checker.specs.Arena.{Env, Tree, leaf, one, two, hits, at, TipIn, SingleIn, living, living_kind, spelled, env_of, plug, close, without}
-use Rattle.orc_checker.specs.Checker.{State, Draws, Spells, Enters, AreOrdered, AreCells}
+use Rattle.orc_checker.specs.Checker.{State, Draws, Spells, Enters, AreCells}
+use Rattle.orc_checker.specs.Names.{AreOrdered}
 use Rattle.orc_checker.specs.Calls.{Keeps}
 use Rattle.orc_rules.specs.Journal.{Place, Moves}
 use Rattle.orc_rules.specs.Timed.{Context}

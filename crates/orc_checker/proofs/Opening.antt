@@ -1,7 +1,6 @@
 -- A pruning is opened.
 use Rattle.std.proofs.Common.{◌≡◌, ◌≤◌, ◌+◌, ℕ, zero, suc, List, [], ◌∷◌, ◌++◌, length, refl, sym, ap, ◌∙◌, subst, inr, arith, length-append, Some, Option, get_or}
 use Rattle.std.specs.Prelude.{slice_get, slice_set}
-use Rattle.std.proofs.Math.Seq.{get_or-append_seam}
 use Rattle.orc_rules.specs.declared.entry.Entry.TheVariants as entry
 use Rattle.orc_rules.specs.declared.param.Param.TheVariants as is
 use Rattle.orc_checker.specs.declared.arena.Bound.{Bound}
@@ -11,15 +10,16 @@ use Rattle.orc_checker.specs.declared.arena.Tip.TheVariants.{Token}
 use Rattle.orc_checker.specs.declared.arena.Double.TheVariants.{Side}
 use Rattle.orc_checker.specs.declared.arena.Kind.TheVariants.{Leaf, Two}
 use Rattle.orc_rules.specs.Term.{Term, prune, put}
-use Rattle.orc_rules.specs.Marked.{Marked, token, in_opened, Replaces}
-use Rattle.orc_rules.specs.Timed.{Context, CallMade}
+use Rattle.orc_rules.specs.Marked.{token, in_opened, Replaces}
+use Rattle.orc_rules.specs.Timed.{Context}
 use Rattle.orc_rules.specs.Journal.{Place, next}
 use Rattle.orc_checker.specs.Arena.{Env, current, leaf, two, at, spelled, env_of, close, without}
-use Rattle.orc_checker.specs.Checker.{State, Spells, Enters, AreOrdered, AreCells, numbers}
+use Rattle.orc_checker.specs.Checker.{State, Enters, AreCells, numbers}
+use Rattle.orc_checker.specs.Names.{AreOrdered}
 use Rattle.orc_checker.specs.Calls.{Rest, Keeps}
 use Rattle.orc_checker.proofs.Closing.{close-prune, close-more}
 use Rattle.orc_checker.proofs.Growth.{env-kept, env-new, current-push, env-current}
-use Rattle.orc_checker.proofs.Moves.{node, Grows, over_two, turn, scope_there}
+use Rattle.orc_checker.proofs.Moves.{node, over_two, turn, scope_there}
 
 -- what is kept besides the term stays where no cancel comes due
 pub keeps_free : (x : Context) (p : Place) (r r' : Rest) → Keeps x p.now p.calls p.to_cancel r → r.to_cancel ≡ [] → r' ≡ r → Keeps x p.now p.calls [] r'

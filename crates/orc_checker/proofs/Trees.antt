@@ -7,9 +7,9 @@ use Rattle.orc_checker.specs.declared.arena.Tip.{Tip}
 use Rattle.orc_checker.specs.declared.arena.Single.{Single}
 use Rattle.orc_checker.specs.declared.arena.Kind.{Kind}
 use Rattle.orc_checker.specs.declared.arena.Kind.TheVariants.{Leaf, One, Two}
-use Rattle.orc_checker.specs.declared.arena.Tip.TheVariants.{Gone, Ended, Token, Waits}
+use Rattle.orc_checker.specs.declared.arena.Tip.TheVariants.{Gone, Ended, Token, Bears, Waits}
 use Rattle.orc_checker.specs.declared.arena.Single.TheVariants.{Feeds, Entered, Passed}
-use Rattle.orc_checker.specs.Arena.{Tree, leaf, one, two, place, hits, count, at, TipIn, SingleIn, Holds, living, living_kind, StandOnce, Frame, on_one, on_left, on_right, plug}
+use Rattle.orc_checker.specs.Arena.{Tree, leaf, one, two, place, hits, count, at, TipIn, SingleIn, Holds, living, living_kind, StandOnce, IsTopped, Frame, on_one, on_left, on_right, plug}
 use Rattle.orc_checker.specs.Around.{above, around, HoldsAround}
 
 pub hit : (i : ℕ) → hits i i ≡ 1
@@ -46,6 +46,7 @@ module _ (nodes nodes' : List Node) (n n' : ℕ) (grows : n ≤ n') where
   tip_in (Token s f e) h = omega (arith, h, grows)
   tip_in Gone h = tt
   tip_in Ended h = tt
+  tip_in (Bears s v) h = tt
   tip_in (Waits k) h = tt
 
   pub single_in : (k : Single) → SingleIn n k → SingleIn n' k
@@ -75,6 +76,7 @@ living-most (Some x) = go x.kind
     go (Leaf Gone) = omega arith
     go (Leaf Ended) = omega arith
     go (Leaf (Token s f e)) = omega arith
+    go (Leaf (Bears s v)) = omega arith
     go (Leaf (Waits k)) = omega arith
     go (One s i) = omega arith
     go (Two d i j) = omega arith
@@ -158,7 +160,13 @@ alone nodes n p i q k (two j d t v) h e a =
     let same : Two d (place t) (place v) ≡ Leaf k = ap (λ o. of_node Node.kind (Leaf Gone) o) (sym h.0 ∙ ap (slice_get nodes) e ∙ a) in
     absurd (cc same)
 
--- a node has one kind
-pub one_kind : (nodes : List Node) (i q p : ℕ) (k l : Kind) → at nodes q i k → at nodes p i l → k ≡ l
-unfolding of_node
-one_kind nodes i q p k l a b = ap (λ o. of_node Node.kind (Leaf Gone) o) (sym a ∙ b)
+-- the outermost node stays where a part changes
+pub topped-plug : (f : Frame) (k : List Frame) (t t' : Tree) → IsTopped (plug (f ∷ k) t) → IsTopped (plug (f ∷ k) t')
+topped-plug (on_one i (Feeds x g e)) [] t t' h = h
+topped-plug (on_one i (Entered n g e)) [] t t' h = h
+topped-plug (on_one i Passed) [] t t' h = h
+topped-plug (on_left i d u) [] t t' h = h
+topped-plug (on_right i d u) [] t t' h = h
+topped-plug (on_one i s) (f ∷ k) t t' h = topped-plug f k (one i s t) (one i s t') h
+topped-plug (on_left i d u) (f ∷ k) t t' h = topped-plug f k (two i d t u) (two i d t' u) h
+topped-plug (on_right i d u) (f ∷ k) t t' h = topped-plug f k (two i d u t) (two i d u t') h

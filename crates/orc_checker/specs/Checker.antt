@@ -1,10 +1,8 @@
 -- The state of the checker, and the places that it spells.
-use Rattle.std.specs.Prelude.{◌≡◌, ◌≤◌, ℕ, zero, suc, Bool, List, [], ◌∷◌, length, Some, slice_get}
+use Rattle.std.specs.Prelude.{◌≡◌, ℕ, zero, suc, Bool, List, [], ◌∷◌, length}
 use Rattle.orc_checker.specs.declared.arena.Node.{Node}
 use Rattle.orc_checker.specs.declared.arena.Bound.{Bound}
 use Rattle.orc_checker.specs.declared.arena.Scope.{Scope}
-use Rattle.orc_checker.specs.declared.arena.Kind.TheVariants.{One}
-use Rattle.orc_checker.specs.declared.arena.Single.TheVariants.{Passed}
 use Rattle.orc_rules.specs.declared.entry.Entry.{Entry}
 use Rattle.orc_rules.specs.Term.{Term}
 use Rattle.orc_rules.specs.Nodes.{Listing, code, definitions}
@@ -12,12 +10,13 @@ use Rattle.orc_rules.specs.Sites.{Table}
 use Rattle.orc_rules.specs.Marked.{Marked}
 use Rattle.orc_rules.specs.Timed.{Context}
 use Rattle.orc_rules.specs.Journal.{Place, Leads}
-use Rattle.orc_checker.specs.Arena.{Tree, Holds, StandOnce, spelled, env_of, place, at}
+use Rattle.orc_checker.specs.Arena.{Tree, Holds, StandOnce, IsTopped, spelled, env_of, place}
+use Rattle.orc_checker.specs.Names.{AreOrdered}
 use Rattle.orc_checker.specs.Calls.{Rest, Keeps}
 
 -- what callers of the checker see
 pub record State : Type 0 where
-  pub nodes : List Node  -- node 0 is above the term's root, which is node 1
+  pub nodes : List Node  -- node 0 is above the term's root
   pub scopes : List Scope
   pub cells : List Bound  -- by number; there is no cell 0
   pub marks : List ℕ  -- the node on which each mark was put; there is no mark 0
@@ -27,10 +26,6 @@ pub record State : Type 0 where
 abbrev pub numbers : ℕ → List ℕ
 numbers zero = []
 numbers (suc n) = suc n ∷ numbers n
-
--- each scope's outer is before it
-abbrev pub AreOrdered : List Scope → Type 0
-AreOrdered scopes = (i : ℕ) (s : Scope) → slice_get scopes i ≡ Some s → s.outer ≤ i
 
 -- the cells opened are those that the table has
 abbrev pub AreCells : List ℕ → List Bound → Type 0
@@ -42,7 +37,7 @@ pub record Draws (code : ℕ → Term) (s : State) (m : Marked) : Type 0 where
   pub holds : Holds s.nodes (length s.scopes) 0 tree
   pub root : place tree ≡ 0
   pub once : StandOnce s.nodes tree
-  pub top : at s.nodes 0 0 (One Passed 1)
+  pub top : IsTopped tree
   pub marked : m ≡ spelled code (env_of s.cells s.scopes) tree
 
 -- the state spells a place of a journal, over the program's terms

@@ -5,6 +5,8 @@ pub mod Checker
 pub mod Dropping
 pub mod DueTimes
 pub mod Ended
+pub mod Grafting
 pub mod Halting
+pub mod Names
 pub mod Rising
 pub mod Settling

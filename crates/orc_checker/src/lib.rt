@@ -3,11 +3,13 @@
 
 pub mod arena;
 pub mod due;
+mod feed;
 mod flags;
 pub mod halts;
 pub mod looking;
 pub mod marked;
 mod marks;
+mod names;
 mod pruning;
 mod publish;
 pub mod rest;

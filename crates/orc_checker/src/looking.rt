@@ -51,7 +51,9 @@ fn is_over(node: Node) -> bool
     ensures { result ≡ is_over node.kind }
 {
     match node.kind {
-        Kind::Leaf(Tip::Token(_, _, _)) | Kind::Leaf(Tip::Waits(_)) => false,
+        Kind::Leaf(Tip::Token(_, _, _))
+        | Kind::Leaf(Tip::Bears(_, _))
+        | Kind::Leaf(Tip::Waits(_)) => false,
         Kind::One(Single::Entered(_, _, _), _) => false,
         _ => true,
     }
@@ -119,6 +121,10 @@ impl Marked {
 
     /// What a token can do next. None where there is no such token, or a cancel is due.
     pub fn next(&self, program: &Program, token: u64) -> Option<Next> {
+        let holder = self.holder(token).ok()?;
+        if let Tip::Bears(_, value) = holder.tip {
+            return self.publication(holder.at, value);
+        }
         let spot = self.spot(token).ok()?;
         Some(match program.node(spot.node) {
             TermNode::Stop => Next::End,
@@ -128,7 +134,7 @@ impl Marked {
             TermNode::Prune(_, _, _) => Next::Open,
             TermNode::Call(_, _) => Next::Def,
             TermNode::Operand(operand) => match self.bound_to(spot, operand)? {
-                Bound::Is(value) => self.publication(spot, value)?,
+                Bound::Is(value) => self.publication(spot.at, value)?,
                 Bound::Cell(cell) => Next::Wait(cell),
                 Bound::Void => Next::Void,
             },
@@ -141,8 +147,8 @@ impl Marked {
     }
 
     // What a token's value does.
-    fn publication(&self, spot: Spot, value: Value) -> Option<Next> {
-        Some(match way_up(&self.nodes, spot.at)?.taker {
+    fn publication(&self, at: usize, value: Value) -> Option<Next> {
+        Some(match way_up(&self.nodes, at)?.taker {
             Taker::Whole => Next::Publish(value),
             Taker::Fed(_) => Next::Send(value),
             Taker::Bound(cell, _) => Next::Bind(cell, value),

@@ -1,19 +1,22 @@
 // The checker: a marked term that takes a journal's entries.
 
-ghost use Rattle.std.specs.Prelude.{◌≡◌, [], length, IfOk, IfSome, OnErr};
+ghost use Rattle.std.specs.Prelude.{◌≡◌, ℕ, [], length, IfOk, IfSome, OnErr};
 ghost use Rattle.orc_rules.specs.Journal.{begin};
-ghost use Rattle.orc_rules.specs.Nodes.{source};
-ghost use Rattle.orc_checker.specs.Arena.{at};
+ghost use Rattle.orc_rules.specs.Nodes.{code, source};
+ghost use Rattle.orc_checker.specs.Arena.{at, living_kind};
 ghost use Rattle.orc_checker.specs.Checker.{Applies, Begins};
+ghost use Rattle.orc_checker.specs.Names.{BearsValue, Carries};
 ghost use Rattle.orc_checker.specs.declared.arena.Kind.TheVariants.{Leaf as AtLeaf};
 ghost use Rattle.orc_checker.specs.declared.arena.Tip.TheVariants.{Token as IsToken};
 
 use crate::arena::{Bound, Kind, Node, Scope, Single, Tip};
+use crate::names::meaning;
 use crate::rest::Rest;
 use crate::room::push_within;
 use orc_rules::answers::Answers;
 use orc_rules::entry::{Entry, RuleFault};
-use orc_rules::program::Program;
+use orc_rules::program::{Program, TermNode};
+use orc_rules::value::Value;
 use std::alloc::{AllocError, Global};
 use std::marker::Model;
 
@@ -42,6 +45,14 @@ pub(crate) struct Spot {
     pub parent: usize,
     pub node: usize,
     pub scope: usize,
+}
+
+/// Where a token stands: its node in the marked term with the one above it, and what it stands on.
+#[derive(Clone, Copy)]
+pub(crate) struct Holder {
+    pub at: usize,
+    pub parent: usize,
+    pub tip: Tip,
 }
 
 /// A token's node below that of `spot`, in its scope.
@@ -104,39 +115,94 @@ impl Marked {
             Entry::Seq(s, a) => self.seq(program, *s, *a),
             Entry::Other(s, a) => self.other(program, *s, *a),
             Entry::Open(s, c, a, b) => self.open(program, *s, *c, *a, *b),
+            Entry::Send(s, a, v) => self.send(program, *s, *a, *v),
             Entry::Publish(s, v) => self.publish(program, *s, *v),
             _ => Err(RuleFault::Memory),
         }
     }
 
     /// Where token `s` stands.
-    fn token(&self, s: u64) -> Option<Spot>
-        ensures { IfSome result (λ t. at self.now.nodes t.parent t.at (AtLeaf (IsToken s t.node t.scope))) }
+    fn token(&self, s: u64) -> Option<Holder>
+        ensures there { IfSome result (λ t. at self.now.nodes t.parent t.at (AtLeaf t.tip)) }
+        ensures carries { IfSome result (λ t. Carries s t.tip) }
     {
         let place = *self.marks.get(s as usize)?;
         let node = *self.nodes.get(place)?;
-        match node.kind {
-            Kind::Leaf(Tip::Token(mark, code, scope)) if mark == s => Some(Spot {
-                at: place,
-                parent: node.parent,
-                node: code,
-                scope,
-            }),
-            _ => None,
+        let Kind::Leaf(tip) = node.kind else {
+            return None;
+        };
+        match tip {
+            Tip::Token(mark, _, _) if mark == s => {}
+            Tip::Bears(mark, _) if mark == s => {}
+            _ => return None,
         }
+        Some(Holder {
+            at: place,
+            parent: node.parent,
+            tip,
+        })
     }
 
     /// Where token `s` stands, while no cancel is due.
-    pub(crate) fn spot(&self, s: u64) -> Result<Spot, RuleFault>
+    pub(crate) fn holder(&self, s: u64) -> Result<Holder, RuleFault>
         ensures free { IfOk result (λ _. self.now.rest.to_cancel ≡ []) }
-        ensures there { IfOk result (λ t. at self.now.nodes t.parent t.at (AtLeaf (IsToken s t.node t.scope))) }
+        ensures there { IfOk result (λ t. at self.now.nodes t.parent t.at (AtLeaf t.tip)) }
+        ensures carries { IfOk result (λ t. Carries s t.tip) }
     {
         if self.rest.is_due() {
             return Err(RuleFault::Cancel);
         }
-        match self.token(s) {
-            Some(spot) => Ok(spot),
-            None => Err(RuleFault::Mark),
+        self.token(s).ok_or(RuleFault::Mark)
+    }
+
+    /// Where token `s` stands on a node of the program, while no cancel is due.
+    pub(crate) fn spot(&self, s: u64) -> Result<Spot, RuleFault>
+        ensures free { IfOk result (λ _. self.now.rest.to_cancel ≡ []) }
+        ensures there { IfOk result (λ t. at self.now.nodes t.parent t.at (AtLeaf (IsToken s t.node t.scope))) }
+    {
+        let holder = self.holder(s)?;
+        match holder.tip {
+            Tip::Token(_, node, scope) => Ok(Spot {
+                at: holder.at,
+                parent: holder.parent,
+                node,
+                scope,
+            }),
+            _ => Err(RuleFault::Form),
+        }
+    }
+
+    /// Where token `s` stands on the value `v`, while no cancel is due.
+    pub(crate) fn bearer(&self, program: &Program, s: u64, v: Value) -> Result<Holder, RuleFault>
+        ensures free { IfOk result (λ _. self.now.rest.to_cancel ≡ []) }
+        ensures there { IfOk result (λ t. at self.now.nodes t.parent t.at (AtLeaf t.tip)) }
+        ensures lives { IfOk result (λ t. living_kind (AtLeaf t.tip) ≡ 1) }
+        ensures bears { IfOk result (λ t. BearsValue (code program.now) self.now.cells self.now.scopes s t.tip v) }
+    {
+        let holder = self.holder(s)?;
+        match self.value_under(program, holder.tip) {
+            Some(w) if w == v => Ok(holder),
+            _ => Err(RuleFault::Form),
+        }
+    }
+
+    /// The value on which a token stands.
+    fn value_under(&self, program: &Program, tip: Tip) -> Option<Value>
+        ensures lives { IfSome result (λ v. living_kind (AtLeaf tip) ≡ 1) }
+        ensures bears { IfSome result (λ v. (s : ℕ) → Carries s tip → BearsValue (code program.now) self.now.cells self.now.scopes s tip v) }
+    {
+        match tip {
+            Tip::Bears(_, v) => Some(v),
+            Tip::Token(_, node, scope) => {
+                let TermNode::Operand(operand) = program.node(node) else {
+                    return None;
+                };
+                match meaning(&self.scopes, &self.cells, operand, scope)? {
+                    Bound::Is(v) => Some(v),
+                    _ => None,
+                }
+            }
+            _ => None,
         }
     }
 

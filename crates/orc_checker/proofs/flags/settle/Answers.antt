@@ -1,6 +1,6 @@
-use Rattle.std.proofs.Common.{◌≡◌, ◌∙◌, ap, sym, subst, true, false, length, length-set, slice_set}
-use Rattle.orc_checker.specs.Settling.{flag, Settles}
-use Rattle.orc_checker.proofs.Settling.{Settled, unflagged, fewer, settled_none, settled_on, settled_all, settled_not}
+use Rattle.std.proofs.Common.{◌∙◌, ap, sym, subst, true, length, length-set}
+use Rattle.orc_checker.specs.Settling.{Settles}
+use Rattle.orc_checker.proofs.Settling.{Settled, fewer, settled_none, settled_on, settled_all, settled_not}
 use Rattle.orc_checker.proofs.flags.settle.Goals as goal
 
 pub loop-above-init : goal.loop-above-init

@@ -1,4 +1,4 @@
-use Rattle.std.proofs.Common.{◌≡◌, ap, subst, sym, length}
+use Rattle.std.proofs.Common.{ap, subst, sym, length}
 use Rattle.orc_rules.specs.Nodes.{code}
 use Rattle.orc_rules.specs.Marked.{erase}
 use Rattle.orc_rules.specs.Term.{Halted}

@@ -3,10 +3,8 @@ use Rattle.std.specs.Prelude.{slice_set}
 use Rattle.orc_checker.specs.declared.arena.Kind.TheVariants.{Leaf}
 use Rattle.orc_checker.specs.declared.arena.Tip.TheVariants.{Ended}
 use Rattle.orc_rules.specs.Nodes.{code}
-use Rattle.orc_checker.specs.Arena.{close, env_of}
-use Rattle.orc_checker.specs.Rising.{IsTaker, Rises, Passes}
+use Rattle.orc_checker.specs.Rising.{IsTaker, Rises}
 use Rattle.orc_checker.specs.Checker.{State}
-use Rattle.orc_checker.proofs.Closing.{close-value}
 use Rattle.orc_checker.proofs.Moves.{node}
 use Rattle.orc_checker.proofs.Publishing.{publish-enters}
 use Rattle.orc_checker.proofs.marked.Marked.publish.Goals as goal
@@ -14,13 +12,10 @@ use Rattle.orc_checker.proofs.marked.Marked.publish.Goals as goal
 pub returns-clause-done : goal.returns-clause-done
 returns-clause-done c =
     let terms = code c.args.program.now in
-    let t = c.in_ok-spot.spot in
+    let t = c.in_ok-bearer.bearer in
     let v = c.self.view_is in
     let s = c.args.self.now in
-    let env = env_of s.cells s.scopes in
-    publish-enters terms s _ t.at t.parent c.args.s t.node t.scope c.in-Some.way.steps c.args.v c.in_ok-spot.ensures.there
-    (ap (close (env t.scope)) (c.in_ok-on_value.ensures) ∙ close-value (env t.scope) c.args.v)
+    publish-enters terms s _ t.at t.parent c.args.s c.in-Some.way.steps t.tip c.args.v c.in_ok-bearer.ensures.there c.in_ok-bearer.ensures.lives c.in_ok-bearer.ensures.bears
     (subst (λ z. IsTaker s.nodes t.at z c.in-Some.way.steps) c.in-Whole.is (subst (λ (z : State). IsTaker z.nodes t.at c.in-Some.way.taker c.in-Some.way.steps) v c.in-Some.ensures))
     (subst (λ z. Rises z t.at c.in-Some.way.steps c.rise.new.nodes.items) (c.write_node.ensures.items ∙ ap (λ (z : State). slice_set z.nodes t.at (node (Leaf Ended) t.parent)) v) c.rise.ensures.rises)
-    (subst (λ z. Passes z c.rise.new.nodes.items) (c.write_node.ensures.items ∙ ap (λ (z : State). slice_set z.nodes t.at (node (Leaf Ended) t.parent)) v) c.rise.ensures.passes)
-    (record { free = c.in_ok-spot.ensures.free; scopes = ap State.scopes v; cells = ap State.cells v; marks = ap (λ (z : State). length z.marks) v; rest = ap State.rest v })
+    (record { free = c.in_ok-bearer.ensures.free; scopes = ap State.scopes v; cells = ap State.cells v; marks = ap (λ (z : State). length z.marks) v; rest = ap State.rest v })

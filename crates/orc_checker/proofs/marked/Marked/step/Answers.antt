@@ -18,3 +18,6 @@ returns-in-Publish-clause-done c = for_all c.args.program.now c.args.answers.now
 
 pub returns-in-Open-clause-done : goal.returns-in-Open-clause-done
 returns-in-Open-clause-done c = for_all c.args.program.now c.args.answers.now _ _ c.args.self.now c.open.new.self c.open.result c.in-Open.is c.open.ensures.done
+
+pub returns-in-Send-clause-done : goal.returns-in-Send-clause-done
+returns-in-Send-clause-done c = for_all c.args.program.now c.args.answers.now _ _ c.args.self.now c.send.new.self c.send.result c.in-Send.is c.send.ensures.done

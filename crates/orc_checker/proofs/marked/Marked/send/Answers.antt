@@ -1,0 +1,41 @@
+use Rattle.std.proofs.Common.{◌≡◌, ◌+◌, ◌∷◌, ◌++◌, [], ap, sym, ◌∙◌, subst, length, get_or, length-append}
+use Rattle.std.specs.Prelude.{slice_set}
+use Rattle.orc_checker.specs.declared.arena.Node.{Node}
+use Rattle.orc_checker.specs.declared.arena.Scope.{Scope}
+use Rattle.orc_checker.specs.declared.arena.Bound.TheVariants.{Is}
+use Rattle.orc_checker.specs.declared.arena.Kind.TheVariants.{Leaf, One}
+use Rattle.orc_checker.specs.declared.arena.Tip.TheVariants.{Ended, Token}
+use Rattle.orc_rules.specs.Nodes.{code}
+use Rattle.orc_checker.specs.Rising.{IsTaker, Rises, nowhere}
+use Rattle.orc_checker.specs.Grafting.{Grafts}
+use Rattle.orc_checker.specs.Checker.{State}
+use Rattle.orc_checker.proofs.Moves.{node}
+use Rattle.orc_checker.proofs.Answering.{one_more}
+use Rattle.orc_checker.proofs.Sending.{send-enters}
+use Rattle.orc_checker.proofs.marked.Marked.send.Goals as goal
+
+pub returns-clause-done : goal.returns-clause-done
+returns-clause-done c =
+    let terms = code c.args.program.now in
+    let t = c.in_ok-bearer.bearer in
+    let v = c.self.view_is in
+    let s = c.args.self.now in
+    let w = c.in-Some.way in
+    let f = c.in-Feeds in
+    let scope : Scope = record { name = f.x; bound = Is c.args.v; outer = f.outer } in
+    let scopes = c.push_within.ensures.items ∙ ap (λ z. z ++ scope ∷ []) (c.try_reserve.ensures.items ∙ ap State.scopes v) in
+    let count : c.scope_count.result ≡ length s.scopes + 1 = c.scope_count.ensures ∙ ap length scopes ∙ length-append s.scopes (scope ∷ []) in
+    send-enters terms s _ t.at t.parent c.args.s w.steps c.in-Fed.at f.x f.g f.outer c.in-One.field-1 c.args.a t.tip c.args.v c.rise.new.nodes.items
+    c.in_ok-bearer.ensures.there c.in_ok-bearer.ensures.lives c.in_ok-bearer.ensures.bears
+    (subst (λ z. IsTaker s.nodes t.at z w.steps) c.in-Fed.is (subst (λ (z : State). IsTaker z.nodes t.at w.taker w.steps) v c.in-Some.ensures))
+    (sym (ap (λ (z : State). Node.kind (get_or z.nodes c.in-Fed.at nowhere)) v) ∙ sym (ap Node.kind c.node_at.ensures) ∙ c.in-One.is ∙ ap (λ z. One z c.in-One.field-1) f.is)
+    (subst (λ z. Rises z t.at w.steps c.rise.new.nodes.items) (c.write_node.ensures.items ∙ ap (λ z. slice_set z t.at (node (Leaf Ended) t.parent)) (c.reserve.ensures.nodes ∙ ap State.nodes v)) c.rise.ensures.rises)
+    (record {
+      free = c.in_ok-bearer.ensures.free;
+      grafts = subst (λ z. Grafts c.rise.new.nodes.items c.in-Fed.at (Token c.args.a f.g z) c.graft.new.nodes.items) count c.graft.ensures;
+      scopes = scopes;
+      cells = ap State.cells v;
+      marks = one_more s.marks _ _ _ c.args.a (c.reserve.ensures.marks ∙ ap State.marks v) c.push_within-2.ensures.items c.in_ok-next_mark.ensures;
+      next = c.in_ok-next_mark.ensures;
+      rest = ap State.rest v;
+    })
