@@ -26,6 +26,7 @@ pub mod UsedUp
 pub mod Worked
 pub mod WorkedOtherwises
 pub mod WorkedPrunings
+pub mod WorkedReasons
 pub mod WorkedRefusals
 pub mod WorkedScripts
 pub mod WorkedWaits

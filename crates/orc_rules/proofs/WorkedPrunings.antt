@@ -305,3 +305,87 @@ lost_before_end = (
 
 lost_before_end_halted : Halted (erase (token 2 stop))
 lost_before_end_halted = tt
+
+-- `x <x< (1 | (Rwait(1) | Rwait(2)))`, the second call made first: both are cancelled, the lesser number first
+abbrev cancels_in_order_world : Context
+cancels_in_order_world = world [] [] true
+
+cancels_in_order : Journal cancels_in_order_world (begin (prune (param (Name 0)) 0 (par (param (Is (Number (pos 1)))) (par (site 6 ((Is (Number (pos 1))) ∷ [])) (site 6 ((Is (Number (pos 2))) ∷ [])))))) (Open 1 1 2 3 ∷ Fork 3 4 5 ∷ Fork 5 6 7 ∷ Call 7 1 6 ((Number (pos 2)) ∷ []) ∷ Call 6 2 6 ((Number (pos 1)) ∷ []) ∷ Bind 4 1 (Number (pos 1)) ∷ Cancel 1 ∷ Cancel 2 ∷ Publish 2 (Number (pos 1)) ∷ []) (record { marked = ended; mark = 8; now = 0; calls = (record { number = 2; site = 6; args = ((Number (pos 1)) ∷ []); nth = 1; at = 0 } ∷ record { number = 1; site = 6; args = ((Number (pos 2)) ∷ []); nth = 1; at = 0 } ∷ []); cells = (1 ∷ []); to_cancel = [] })
+cancels_in_order = (
+  record { marked = (in_opened (token 2 (param (Cell 1))) 1 (token 3 (par (param (Is (Number (pos 1)))) (par (site 6 ((Is (Number (pos 1))) ∷ [])) (site 6 ((Is (Number (pos 2))) ∷ [])))))); mark = 4; now = 0; calls = []; cells = (1 ∷ []); to_cancel = [] },
+  (inr refl, ((param (Name 0)), (par (param (Is (Number (pos 1)))) (par (site 6 ((Is (Number (pos 1))) ∷ [])) (site 6 ((Is (Number (pos 2))) ∷ [])))), 0, [], refl, refl, refl, here, record { to_cancel = refl; same = refl })),
+  (
+    record { marked = (in_opened (token 2 (param (Cell 1))) 1 (in_par (token 4 (param (Is (Number (pos 1))))) (token 5 (par (site 6 ((Is (Number (pos 1))) ∷ [])) (site 6 ((Is (Number (pos 2))) ∷ [])))))); mark = 6; now = 0; calls = []; cells = (1 ∷ []); to_cancel = [] },
+    (inr refl, ((param (Is (Number (pos 1)))), (par (site 6 ((Is (Number (pos 1))) ∷ [])) (site 6 ((Is (Number (pos 2))) ∷ []))), refl, refl, record { inside = (1 ∷ []); part = (in_side here); same = refl })),
+    (
+      record { marked = (in_opened (token 2 (param (Cell 1))) 1 (in_par (token 4 (param (Is (Number (pos 1))))) (in_par (token 6 (site 6 ((Is (Number (pos 1))) ∷ []))) (token 7 (site 6 ((Is (Number (pos 2))) ∷ [])))))); mark = 8; now = 0; calls = []; cells = (1 ∷ []); to_cancel = [] },
+      (inr refl, ((site 6 ((Is (Number (pos 1))) ∷ [])), (site 6 ((Is (Number (pos 2))) ∷ [])), refl, refl, record { inside = (1 ∷ []); part = (in_side (in_right here)); same = refl })),
+      (
+        record { marked = (in_opened (token 2 (param (Cell 1))) 1 (in_par (token 4 (param (Is (Number (pos 1))))) (in_par (token 6 (site 6 ((Is (Number (pos 1))) ∷ []))) (in_call 1)))); mark = 8; now = 0; calls = (record { number = 1; site = 6; args = ((Number (pos 2)) ∷ []); nth = 1; at = 0 } ∷ []); cells = (1 ∷ []); to_cancel = [] },
+        (inr refl, (((Is (Number (pos 2))) ∷ []), (1 ∷ []), refl, refl, (in_side (in_right (in_right here))), record { to_cancel = refl; same = refl })),
+        (
+          record { marked = (in_opened (token 2 (param (Cell 1))) 1 (in_par (token 4 (param (Is (Number (pos 1))))) (in_par (in_call 2) (in_call 1)))); mark = 8; now = 0; calls = (record { number = 2; site = 6; args = ((Number (pos 1)) ∷ []); nth = 1; at = 0 } ∷ record { number = 1; site = 6; args = ((Number (pos 2)) ∷ []); nth = 1; at = 0 } ∷ []); cells = (1 ∷ []); to_cancel = [] },
+          (inr refl, (((Is (Number (pos 1))) ∷ []), (1 ∷ []), refl, refl, (in_side (in_right (in_left here))), record { to_cancel = refl; same = refl })),
+          (
+            record { marked = (token 2 (param (Is (Number (pos 1))))); mark = 8; now = 0; calls = (record { number = 2; site = 6; args = ((Number (pos 1)) ∷ []); nth = 1; at = 0 } ∷ record { number = 1; site = 6; args = ((Number (pos 2)) ∷ []); nth = 1; at = 0 } ∷ []); cells = (1 ∷ []); to_cancel = (1 ∷ 2 ∷ []) },
+            (inr refl, ((is_bound (on_left emits)), record { to_cancel = (λ e. record { rising = (omega arith, tt); each = λ k h. each_dropped (2 ∷ 1 ∷ []) [] (1 ∷ 2 ∷ []) refl k h; all = λ k h out. all_dropped (2 ∷ 1 ∷ []) [] (1 ∷ 2 ∷ []) refl k h out }, λ e. cc e); same = refl })),
+            (
+              record { marked = (token 2 (param (Is (Number (pos 1))))); mark = 8; now = 0; calls = (record { number = 2; site = 6; args = ((Number (pos 1)) ∷ []); nth = 1; at = 0 } ∷ record { number = 1; site = 6; args = ((Number (pos 2)) ∷ []); nth = 1; at = 0 } ∷ []); cells = (1 ∷ []); to_cancel = (2 ∷ []) },
+              (inl tt, (refl, refl)),
+              (
+                record { marked = (token 2 (param (Is (Number (pos 1))))); mark = 8; now = 0; calls = (record { number = 2; site = 6; args = ((Number (pos 1)) ∷ []); nth = 1; at = 0 } ∷ record { number = 1; site = 6; args = ((Number (pos 2)) ∷ []); nth = 1; at = 0 } ∷ []); cells = (1 ∷ []); to_cancel = [] },
+                (inl tt, (refl, refl)),
+                (
+                  record { marked = ended; mark = 8; now = 0; calls = (record { number = 2; site = 6; args = ((Number (pos 1)) ∷ []); nth = 1; at = 0 } ∷ record { number = 1; site = 6; args = ((Number (pos 2)) ∷ []); nth = 1; at = 0 } ∷ []); cells = (1 ∷ []); to_cancel = [] },
+                  (inr refl, (emits, record { to_cancel = refl; same = refl })),
+                  refl,
+                ),
+              ),
+            ),
+          ),
+        ),
+      ),
+    ),
+  ),
+)
+
+cancels_in_order_halted : Halted (erase ended)
+cancels_in_order_halted = tt
+
+-- `x <x< ((y <y< Rwait(2)) | 1)`: the call stands inside two right sides, and goes with the outer one
+abbrev side_within_side_world : Context
+side_within_side_world = world [] [] true
+
+side_within_side : Journal side_within_side_world (begin (prune (param (Name 0)) 0 (par (prune (param (Name 1)) 1 (site 6 ((Is (Number (pos 2))) ∷ []))) (param (Is (Number (pos 1))))))) (Open 1 1 2 3 ∷ Fork 3 4 5 ∷ Open 4 2 6 7 ∷ Call 7 1 6 ((Number (pos 2)) ∷ []) ∷ Bind 5 1 (Number (pos 1)) ∷ Cancel 1 ∷ Publish 2 (Number (pos 1)) ∷ []) (record { marked = ended; mark = 8; now = 0; calls = (record { number = 1; site = 6; args = ((Number (pos 2)) ∷ []); nth = 1; at = 0 } ∷ []); cells = (2 ∷ 1 ∷ []); to_cancel = [] })
+side_within_side = (
+  record { marked = (in_opened (token 2 (param (Cell 1))) 1 (token 3 (par (prune (param (Name 1)) 1 (site 6 ((Is (Number (pos 2))) ∷ []))) (param (Is (Number (pos 1))))))); mark = 4; now = 0; calls = []; cells = (1 ∷ []); to_cancel = [] },
+  (inr refl, ((param (Name 0)), (par (prune (param (Name 1)) 1 (site 6 ((Is (Number (pos 2))) ∷ []))) (param (Is (Number (pos 1))))), 0, [], refl, refl, refl, here, record { to_cancel = refl; same = refl })),
+  (
+    record { marked = (in_opened (token 2 (param (Cell 1))) 1 (in_par (token 4 (prune (param (Name 1)) 1 (site 6 ((Is (Number (pos 2))) ∷ [])))) (token 5 (param (Is (Number (pos 1))))))); mark = 6; now = 0; calls = []; cells = (1 ∷ []); to_cancel = [] },
+    (inr refl, ((prune (param (Name 1)) 1 (site 6 ((Is (Number (pos 2))) ∷ []))), (param (Is (Number (pos 1)))), refl, refl, record { inside = (1 ∷ []); part = (in_side here); same = refl })),
+    (
+      record { marked = (in_opened (token 2 (param (Cell 1))) 1 (in_par (in_opened (token 6 (param (Cell 2))) 2 (token 7 (site 6 ((Is (Number (pos 2))) ∷ [])))) (token 5 (param (Is (Number (pos 1))))))); mark = 8; now = 0; calls = []; cells = (2 ∷ 1 ∷ []); to_cancel = [] },
+      (inr refl, ((param (Name 1)), (site 6 ((Is (Number (pos 2))) ∷ [])), 1, (1 ∷ []), refl, refl, refl, (in_side (in_left here)), record { to_cancel = refl; same = refl })),
+      (
+        record { marked = (in_opened (token 2 (param (Cell 1))) 1 (in_par (in_opened (token 6 (param (Cell 2))) 2 (in_call 1)) (token 5 (param (Is (Number (pos 1))))))); mark = 8; now = 0; calls = (record { number = 1; site = 6; args = ((Number (pos 2)) ∷ []); nth = 1; at = 0 } ∷ []); cells = (2 ∷ 1 ∷ []); to_cancel = [] },
+        (inr refl, (((Is (Number (pos 2))) ∷ []), (1 ∷ 2 ∷ []), refl, refl, (in_side (in_left (in_side here))), record { to_cancel = refl; same = refl })),
+        (
+          record { marked = (token 2 (param (Is (Number (pos 1))))); mark = 8; now = 0; calls = (record { number = 1; site = 6; args = ((Number (pos 2)) ∷ []); nth = 1; at = 0 } ∷ []); cells = (2 ∷ 1 ∷ []); to_cancel = (1 ∷ []) },
+          (inr refl, ((is_bound (on_right emits)), record { to_cancel = (λ e. record { rising = tt; each = λ k h. each_dropped (1 ∷ []) [] (1 ∷ []) refl k h; all = λ k h out. all_dropped (1 ∷ []) [] (1 ∷ []) refl k h out }, λ e. cc e); same = refl })),
+          (
+            record { marked = (token 2 (param (Is (Number (pos 1))))); mark = 8; now = 0; calls = (record { number = 1; site = 6; args = ((Number (pos 2)) ∷ []); nth = 1; at = 0 } ∷ []); cells = (2 ∷ 1 ∷ []); to_cancel = [] },
+            (inl tt, (refl, refl)),
+            (
+              record { marked = ended; mark = 8; now = 0; calls = (record { number = 1; site = 6; args = ((Number (pos 2)) ∷ []); nth = 1; at = 0 } ∷ []); cells = (2 ∷ 1 ∷ []); to_cancel = [] },
+              (inr refl, (emits, record { to_cancel = refl; same = refl })),
+              refl,
+            ),
+          ),
+        ),
+      ),
+    ),
+  ),
+)
+
+side_within_side_halted : Halted (erase ended)
+side_within_side_halted = tt

@@ -3,8 +3,8 @@ use Rattle.std.proofs.Common.{[], ◌∷◌, refl, inl, inr, true, false, pos, a
 use Rattle.orc_rules.specs.declared.value.Value.TheVariants.{Number, Truth, Signal}
 use Rattle.orc_rules.specs.declared.param.Param.TheVariants.{Name, Is, Cell}
 use Rattle.orc_rules.specs.declared.value.Answer.TheVariants.{Value as Gives}
-use Rattle.orc_rules.specs.declared.entry.Entry.TheVariants.{Fork, Seq, Open, Send, Call, Return, Bind, Publish, Tick}
-use Rattle.orc_rules.specs.Term.{param, site, par, seq, prune, Halted}
+use Rattle.orc_rules.specs.declared.entry.Entry.TheVariants.{Def, Fork, Seq, Open, Send, Call, Return, Bind, Publish, Tick}
+use Rattle.orc_rules.specs.Term.{call, param, site, par, seq, prune, Halted}
 use Rattle.orc_rules.specs.Marked.{ended, token, in_call, in_par, in_seq, in_opened, erase, here, in_left, in_right, in_feeding, in_side, emits, on_left, on_right, is_fed, on_side, is_bound}
 use Rattle.orc_rules.specs.Timed.{Context}
 use Rattle.orc_rules.specs.Journal.{Journal, begin, moment}
@@ -217,3 +217,54 @@ killed_call_due_first = (
 
 killed_call_due_first_halted : Halted (erase (in_par ended (in_par (in_seq ended 2 (param (Is (Number (pos 2))))) ended)))
 killed_call_due_first_halted = (tt, (tt, tt))
+
+-- `def m() = signal | Rwait(1) >> m()`, `m()`: the second round begins at time 1
+abbrev loop_of_signals_world : Context
+loop_of_signals_world = world (record { params = []; body = (par (param (Is Signal)) (seq (site 6 ((Is (Number (pos 1))) ∷ [])) 0 (call 0 []))) } ∷ []) [] true
+
+loop_of_signals : Journal loop_of_signals_world (begin (call 0 [])) (Def 1 2 ∷ Fork 2 3 4 ∷ Publish 3 Signal ∷ Seq 4 5 ∷ Call 5 1 6 ((Number (pos 1)) ∷ []) ∷ Tick 1 ∷ Return 1 6 Signal ∷ Send 6 7 Signal ∷ Def 7 8 ∷ Fork 8 9 10 ∷ Publish 9 Signal ∷ []) (record { marked = (in_par ended (in_par (in_seq ended 0 (call 0 [])) (in_par ended (token 10 (seq (site 6 ((Is (Number (pos 1))) ∷ [])) 0 (call 0 [])))))); mark = 11; now = 1; calls = (record { number = 1; site = 6; args = ((Number (pos 1)) ∷ []); nth = 1; at = 0 } ∷ []); cells = []; to_cancel = [] })
+loop_of_signals = (
+  record { marked = (token 2 (par (param (Is Signal)) (seq (site 6 ((Is (Number (pos 1))) ∷ [])) 0 (call 0 [])))); mark = 3; now = 0; calls = []; cells = []; to_cancel = [] },
+  (inr refl, (0, [], _, [], refl, refl, here, record { to_cancel = refl; same = refl })),
+  (
+    record { marked = (in_par (token 3 (param (Is Signal))) (token 4 (seq (site 6 ((Is (Number (pos 1))) ∷ [])) 0 (call 0 [])))); mark = 5; now = 0; calls = []; cells = []; to_cancel = [] },
+    (inr refl, ((param (Is Signal)), (seq (site 6 ((Is (Number (pos 1))) ∷ [])) 0 (call 0 [])), refl, refl, record { inside = []; part = here; same = refl })),
+    (
+      record { marked = (in_par ended (token 4 (seq (site 6 ((Is (Number (pos 1))) ∷ [])) 0 (call 0 [])))); mark = 5; now = 0; calls = []; cells = []; to_cancel = [] },
+      (inr refl, ((on_left emits), record { to_cancel = refl; same = refl })),
+      (
+        record { marked = (in_par ended (in_seq (token 5 (site 6 ((Is (Number (pos 1))) ∷ []))) 0 (call 0 []))); mark = 6; now = 0; calls = []; cells = []; to_cancel = [] },
+        (inr refl, ((site 6 ((Is (Number (pos 1))) ∷ [])), (call 0 []), 0, refl, record { inside = []; part = (in_right here); same = refl })),
+        (
+          record { marked = (in_par ended (in_seq (in_call 1) 0 (call 0 []))); mark = 6; now = 0; calls = (record { number = 1; site = 6; args = ((Number (pos 1)) ∷ []); nth = 1; at = 0 } ∷ []); cells = []; to_cancel = [] },
+          (inr refl, (((Is (Number (pos 1))) ∷ []), [], refl, refl, (in_right (in_feeding here)), record { to_cancel = refl; same = refl })),
+          (
+            record { marked = (in_par ended (in_seq (in_call 1) 0 (call 0 []))); mark = 6; now = 1; calls = (record { number = 1; site = 6; args = ((Number (pos 1)) ∷ []); nth = 1; at = 0 } ∷ []); cells = []; to_cancel = [] },
+            (inr refl, (record { idle = idle_by_test loop_of_signals_world (moment (record { marked = (in_par ended (in_seq (in_call 1) 0 (call 0 []))); mark = 6; now = 0; calls = (record { number = 1; site = 6; args = ((Number (pos 1)) ∷ []); nth = 1; at = 0 } ∷ []); cells = []; to_cancel = [] })) refl (λ k b t i due. late 0 loop_of_signals_world.sites (1 ∷ []) (record { number = 1; site = 6; args = ((Number (pos 1)) ∷ []); nth = 1; at = 0 } ∷ []) k b t refl i due); later = omega arith; reached = (1, (Gives Signal), inl refl, record { by = record { number = 1; site = 6; args = ((Number (pos 1)) ∷ []); nth = 1; at = 0 }; is_made = inl refl; is_k = refl; delay = 1; says = refl; sum = refl; fits = omega arith }); least = λ k a u i due. omega (arith, late 0 loop_of_signals_world.sites (1 ∷ []) (record { number = 1; site = 6; args = ((Number (pos 1)) ∷ []); nth = 1; at = 0 } ∷ []) k a u refl i due) }, refl)),
+            (
+              record { marked = (in_par ended (in_seq (token 6 (param (Is Signal))) 0 (call 0 []))); mark = 7; now = 1; calls = (record { number = 1; site = 6; args = ((Number (pos 1)) ∷ []); nth = 1; at = 0 } ∷ []); cells = []; to_cancel = [] },
+              (inr refl, ([], refl, record { by = record { number = 1; site = 6; args = ((Number (pos 1)) ∷ []); nth = 1; at = 0 }; is_made = inl refl; is_k = refl; delay = 1; says = refl; sum = refl; fits = omega arith }, (in_right (in_feeding here)), record { to_cancel = refl; same = refl })),
+              (
+                record { marked = (in_par ended (in_par (in_seq ended 0 (call 0 [])) (token 7 (call 0 [])))); mark = 8; now = 1; calls = (record { number = 1; site = 6; args = ((Number (pos 1)) ∷ []); nth = 1; at = 0 } ∷ []); cells = []; to_cancel = [] },
+                (inr refl, (refl, (on_right (is_fed emits)), record { to_cancel = refl; same = refl })),
+                (
+                  record { marked = (in_par ended (in_par (in_seq ended 0 (call 0 [])) (token 8 (par (param (Is Signal)) (seq (site 6 ((Is (Number (pos 1))) ∷ [])) 0 (call 0 [])))))); mark = 9; now = 1; calls = (record { number = 1; site = 6; args = ((Number (pos 1)) ∷ []); nth = 1; at = 0 } ∷ []); cells = []; to_cancel = [] },
+                  (inr refl, (0, [], _, [], refl, refl, (in_right (in_right here)), record { to_cancel = refl; same = refl })),
+                  (
+                    record { marked = (in_par ended (in_par (in_seq ended 0 (call 0 [])) (in_par (token 9 (param (Is Signal))) (token 10 (seq (site 6 ((Is (Number (pos 1))) ∷ [])) 0 (call 0 [])))))); mark = 11; now = 1; calls = (record { number = 1; site = 6; args = ((Number (pos 1)) ∷ []); nth = 1; at = 0 } ∷ []); cells = []; to_cancel = [] },
+                    (inr refl, ((param (Is Signal)), (seq (site 6 ((Is (Number (pos 1))) ∷ [])) 0 (call 0 [])), refl, refl, record { inside = []; part = (in_right (in_right here)); same = refl })),
+                    (
+                      record { marked = (in_par ended (in_par (in_seq ended 0 (call 0 [])) (in_par ended (token 10 (seq (site 6 ((Is (Number (pos 1))) ∷ [])) 0 (call 0 [])))))); mark = 11; now = 1; calls = (record { number = 1; site = 6; args = ((Number (pos 1)) ∷ []); nth = 1; at = 0 } ∷ []); cells = []; to_cancel = [] },
+                      (inr refl, ((on_right (on_right (on_left emits))), record { to_cancel = refl; same = refl })),
+                      refl,
+                    ),
+                  ),
+                ),
+              ),
+            ),
+          ),
+        ),
+      ),
+    ),
+  ),
+)

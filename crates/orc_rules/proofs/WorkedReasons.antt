@@ -1,0 +1,108 @@
+-- Worked refusals, one for each reason, on small terms.
+use Rattle.std.proofs.Common.{◌≡◌, ◌≤◌, ℕ, zero, suc, List, [], ◌∷◌, refl, inr, true, pos, arith}
+use Rattle.orc_rules.specs.declared.value.Value.TheVariants.{Number}
+use Rattle.orc_rules.specs.declared.param.Param.TheVariants.{Is, Cell}
+use Rattle.orc_rules.specs.declared.entry.Entry.TheVariants.{End, Fork, Publish, Call, Lost, Right, Tick, Cancel}
+use Rattle.orc_rules.specs.declared.entry.RuleFault.TheVariants.{Mark, Form, Number as Counted, Time, Deep}
+use Rattle.orc_rules.specs.declared.entry.RuleFault.TheVariants as reason
+use Rattle.orc_rules.specs.Term.{Term, stop, param, site, par, Halted}
+use Rattle.orc_rules.specs.Step.{publishes, value_rule, par_left}
+use Rattle.orc_rules.specs.Marked.{Marked, ended, token, in_call, in_par, in_seq, in_opened, in_other, erase, Replaces, here, in_feeding, in_main, in_side, in_entered, Emits, on_feeding}
+use Rattle.orc_rules.specs.Journal.{Place, begin}
+use Rattle.orc_rules.specs.Refusal.{IsRefused, depth, most_levels}
+use Rattle.orc_rules.proofs.Worked.{world}
+
+-- a place at time 0 with one call of `Rwait(3)` and one cell
+abbrev at_start : Marked → Place
+at_start m = record {
+  marked = m;
+  mark = 6;
+  now = 0;
+  calls = record { number = 1; site = 6; args = Number (pos 3) ∷ []; nth = 1; at = 0 } ∷ [];
+  cells = 1 ∷ [];
+  to_cancel = [];
+}
+
+abbrev one : Term
+one = param (Is (Number (pos 1)))
+
+-- a cancel where none is due
+no_cancel : IsRefused (world [] [] true) (at_start (in_call 1)) (Cancel 1) reason.Cancel
+no_cancel = (tt, λ h. cc h.1)
+
+-- the right side of an otherwise whose left side has published: the otherwise is gone
+no_otherwise : IsRefused (world [] [] true) (at_start ended) (Right 1 6) Mark
+no_otherwise = (refl, λ h. not_there h.0 h.1 h.2.0 h.2.1)
+  where
+    not_there : (f : Marked) (g : Term) (cs : List ℕ) → Replaces (in_other 1 f g) (in_other 1 f g) ended cs ended → ⊥
+    not_there f g cs r = elim r [ ]
+
+-- a cell that is lost twice
+lost_twice : IsRefused (world [] [] true) (at_start (token 2 stop)) (Lost 1) Mark
+lost_twice = (refl, λ h. not_there h.0 h.1 h.2.0 h.2.1)
+  where
+    not_there : (f g : Marked) (cs : List ℕ) → Replaces (in_opened f 1 g) (in_opened f 1 g) (token 2 stop) cs (token 2 stop) → ⊥
+    not_there f g cs r = elim r [ ]
+
+-- `end` on a value
+not_stop : IsRefused (world [] [] true) (at_start (token 2 one)) (End 2) Form
+not_stop = ((refl, (one, ([], here))), λ h. not_there h.0 h.1)
+  where
+    not_there : (cs : List ℕ) → Replaces (token 2 stop) (token 2 stop) (token 2 one) cs (token 2 one) → ⊥
+    not_there cs r = elim r [ ]
+
+-- `publish` of another value than the token's
+other_value : IsRefused (world [] [] true) (at_start (token 2 one)) (Publish 2 (Number (pos 2))) Form
+other_value = ((refl, (one, ([], here))), λ h. not_emitted h.0 h.1)
+  where
+    not_emitted : (m : Marked) → Emits 2 6 (Number (pos 2)) (token 2 one) (publishes (Number (pos 2))) m → ⊥
+    not_emitted m e = elim e [ ]
+
+-- `publish` where a `>x>` takes the publication
+taken_by_feeding : IsRefused (world [] [] true) (at_start (in_seq (token 2 one) 0 stop)) (Publish 2 (Number (pos 1))) Form
+taken_by_feeding = ((refl, (one, ([], in_feeding here))), λ h. not_emitted h.0 h.1)
+  where
+    not_emitted : (m : Marked) → Emits 2 6 (Number (pos 1)) (in_seq (token 2 one) 0 stop) (publishes (Number (pos 1))) m → ⊥
+    not_emitted m (on_feeding i e) = i
+
+-- a call with a number that isn't the next one
+call_out_of_count : IsRefused (world [] [] true) (at_start (token 2 (site 6 (Is (Number (pos 1)) ∷ [])))) (Call 2 3 6 (Number (pos 1) ∷ [])) Counted
+call_out_of_count = ((refl, (_, ([], here)), (Is (Number (pos 1)) ∷ [], refl, ([], here))), λ h. omega (arith, h))
+
+-- a tick while a token can publish
+tick_too_soon : IsRefused (world [] [] true) (at_start (in_par (token 2 one) (in_call 1))) (Tick 3) Time
+tick_too_soon = ((refl, tt, tt, tt, tt), λ tick. tick.idle (publishes (Number (pos 1))) (par stop (erase (in_call 1))) (par_left value_rule))
+
+-- `lost` while a call pends in the right side
+side_goes_on : IsRefused (world [] [] true) (at_start (in_opened (token 2 (param (Cell 1))) 1 (in_call 1))) (Lost 1) reason.Halted
+side_goes_on = ((refl, (_, _, ([], here)), tt, tt, tt, tt), λ h. not_over h.0 h.1 h.2.0 h.2.1 h.3)
+  where
+    not_over : (f g : Marked) (cs : List ℕ) → Replaces (in_opened f 1 g) (in_opened f 1 g) (in_opened (token 2 (param (Cell 1))) 1 (in_call 1)) cs (in_opened (token 2 (param (Cell 1))) 1 (in_call 1)) → Halted (erase g) → ⊥
+    not_over f g cs here h = h
+    not_over f g cs (in_main r) h = elim r [ ]
+    not_over f g cs (in_side r) h = elim r [ ]
+
+-- the right side of an otherwise while a call pends in the left one
+left_goes_on : IsRefused (world [] [] true) (at_start (in_other 2 (in_call 1) stop)) (Right 2 6) reason.Halted
+left_goes_on = ((refl, (_, _, ([], here)), tt, refl, tt, tt), λ h. not_over h.0 h.1 h.2.0 h.2.1 h.3)
+  where
+    not_over : (f : Marked) (g : Term) (cs : List ℕ) → Replaces (in_other 2 f g) (in_other 2 f g) (in_other 2 (in_call 1) stop) cs (in_other 2 (in_call 1) stop) → Halted (erase f) → ⊥
+    not_over f g cs here h = h
+    not_over f g cs (in_entered r) h = elim r [ ]
+
+-- `stop | (stop | ..)`, n times
+abbrev nested : ℕ → Term
+nested zero = stop
+nested (suc n) = par stop (nested n)
+
+nested_depth : (n : ℕ) → depth (nested n) ≡ suc n
+nested_depth zero = refl
+nested_depth (suc n) = omega (arith, nested_depth n)
+
+-- a `fork` in a term that nests over 10,000 levels
+too_deep : (n : ℕ) → most_levels ≤ suc n → IsRefused (world [] [] true) (begin (par stop (nested n))) (Fork 1 2 3) Deep
+too_deep n le = (
+  record (begin (par stop (nested n))) { marked = in_par (token 2 stop) (token 3 (nested n)); mark = 4 },
+  (inr refl, (stop, nested n, refl, refl, record { inside = []; part = here; same = refl })),
+  omega (arith, le, nested_depth n),
+)
