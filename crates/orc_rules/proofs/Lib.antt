@@ -10,6 +10,7 @@ pub mod Idle
 pub mod Inside
 pub mod Late
 pub mod Lift
+pub mod Listed
 pub mod Lookup
 pub mod Lost
 pub mod Numbered

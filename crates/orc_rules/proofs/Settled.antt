@@ -1,12 +1,16 @@
 -- After a cell is bound or lost, a run never comes back to it.
-use Rattle.std.proofs.Common.{◌≡◌, ◌≢◌, ◌<◌, ◌≤◌, ◌+◌, ℕ, zero, suc, List, [], ◌∷◌, refl, sym, ap, subst, inl, inr, ◌⊎◌, ⊎_elim, arith}
+use Rattle.std.proofs.Common.{◌≡◌, ◌≢◌, ◌<◌, ◌≤◌, ◌+◌, ℕ, zero, suc, List, [], ◌∷◌, ◌++◌, ◌∙◌, refl, sym, ap, subst, inl, inr, ◌⊎◌, ⊎_elim, arith}
 use Rattle.orc_rules.specs.Term.{Term}
 use Rattle.orc_rules.specs.Step.{Act, calls, returns, binds, loses, publishes, silent, opens}
 use Rattle.orc_rules.specs.Timed.{Context, Moment, IsIn, Event, does, ticks, cancels, Does, Happens, Run, start, used, cells_after}
-use Rattle.orc_rules.specs.Journal.{moment}
+use Rattle.std.specs.Option.{option_to_list}
+use Rattle.orc_rules.specs.declared.entry.Entry.{Entry}
+use Rattle.orc_rules.specs.declared.entry.Entry.TheVariants.{End, Fork, Seq, Other, Def, Open, Send, Call, Return, ReturnHalt, Bind, Lost, Right, Publish, Tick, Cancel}
+use Rattle.orc_rules.specs.declared.entry.Entry.TheVariants as entry
+use Rattle.orc_rules.specs.Journal.{moment, event_of, AreEventsOf}
 use Rattle.orc_rules.specs.Lost.{IsSource, AreSource}
 use Rattle.orc_rules.specs.Numbered.{cell, once}
-use Rattle.orc_rules.specs.Trace.{IsOutside, IsSettled, AreInside, RunsAreInside, JournalIsInside}
+use Rattle.orc_rules.specs.Trace.{IsOutside, IsSettled, AreInside, RunsAreInside, publications, published, JournalIsExplained}
 use Rattle.orc_rules.proofs.Numbered.{index, name_is, once_same, once_other, once_least}
 use Rattle.orc_rules.proofs.Explained.{journal_is_timed_run}
 use Rattle.orc_rules.proofs.Inside.{IsRunning, open_times, source_runs, source_opens, gains, sheds, IsWithin, step_runs, step_opens, step_within, step_new}
@@ -167,5 +171,31 @@ start_held t s = record { runs = source_runs t s; single = λ c. omega (arith, s
 pub runs_are_inside : RunsAreInside
 runs_are_inside x t es s ds src r = run_inside x ds (start t) s es (start_held t src) r
 
-pub journal_is_inside : JournalIsInside
-journal_is_inside x t es q ds src h = let run = journal_is_timed_run x t es q h in (run.0, run.1, run.2, runs_are_inside x t run.0 (moment q) ds src run.2)
+-- the entries publish what their events do
+published_events : (es : List Entry) (events : List Event) → AreEventsOf es events → published es ≡ publications events
+published_events [] events h = sym (ap publications h)
+published_events (e ∷ es) events (cs, rest, h, more) = shown e (published_events es rest more) ∙ sym (ap publications h)
+  where
+    shown : (e : Entry) → published es ≡ publications rest → published (e ∷ es) ≡ publications (option_to_list (event_of e cs) ++ rest)
+    shown (End s) h = h
+    shown (Fork s a b) h = h
+    shown (Seq s a) h = h
+    shown (Other s a) h = h
+    shown (Def s a) h = h
+    shown (entry.Void s) h = h
+    shown (Open s c a b) h = h
+    shown (Send s a v) h = h
+    shown (Call s k m args) h = h
+    shown (Return k a v) h = h
+    shown (ReturnHalt k) h = h
+    shown (Bind s c v) h = h
+    shown (Lost c) h = h
+    shown (Right s a) h = h
+    shown (Publish s v) h = ap (λ l. v ∷ l) h
+    shown (Tick u) h = h
+    shown (Cancel k) h = h
+
+pub journal_is_explained : JournalIsExplained
+journal_is_explained x t es q ds src h =
+    let run = journal_is_timed_run x t es q h in
+    record { events = run.0; named = run.1; run = run.2; shown = published_events es run.0 run.1; inside = runs_are_inside x t run.0 (moment q) ds src run.2 }

@@ -3,6 +3,7 @@ use Rattle.std.specs.Prelude.{◌≡◌, ℕ, List, [], ◌∷◌, map, Some}
 use Rattle.orc_rules.specs.declared.entry.Entry.{Entry}
 use Rattle.orc_rules.specs.declared.entry.Entry.TheVariants.{End, Fork, Seq, Other, Tick, Cancel}
 use Rattle.orc_rules.specs.Term.{Term, stop, param, site, call, par, seq, prune, other, pending, opened, Definition}
+use Rattle.orc_rules.specs.Nodes.{Listing, code, definitions}
 use Rattle.orc_rules.specs.Step.{Act, calls, opens, Step}
 use Rattle.orc_rules.specs.Marked.{Marked, ended, token, in_call, in_par, in_seq, in_opened, in_other, erase}
 use Rattle.orc_rules.specs.Timed.{Context, IsTimely, IsTick, CancelsAfter, does, used}
@@ -88,3 +89,7 @@ NothingLostFrom = (x : Context) (t : Term) (es : List Entry) (p : Place) (a : Ac
 -- in each place to which a journal of a program leads, what stands under marks and on right sides is a source's
 abbrev pub JournalHoldsSource : Type 0
 JournalHoldsSource = (x : Context) (t : Term) (es : List Entry) (p : Place) → AreSource x.definitions → IsSource t → Journal x (begin t) es p → HoldsSource p.marked
+
+-- every term of a program's nodes is a source's, and so are the bodies of its definitions
+abbrev pub ProgramIsSource : Type 0
+ProgramIsSource = (l : Listing) → ((i : ℕ) → IsSource (code l i)) × AreSource (definitions l)

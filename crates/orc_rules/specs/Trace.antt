@@ -1,5 +1,5 @@
 -- What a run shows: its trace, its publications, and where its calls stand.
-use Rattle.std.specs.Prelude.{◌≢◌, ℕ, List, [], ◌∷◌}
+use Rattle.std.specs.Prelude.{◌≡◌, ◌≢◌, ℕ, List, [], ◌∷◌}
 use Rattle.orc_rules.specs.declared.value.Value.{Value}
 use Rattle.orc_rules.specs.declared.entry.Entry.{Entry}
 use Rattle.orc_rules.specs.declared.entry.Entry.TheVariants.{Publish}
@@ -58,6 +58,14 @@ AreInside (e ∷ es) = AreInside es
 abbrev pub RunsAreInside : Type 0
 RunsAreInside = (x : Context) (t : Term) (es : List Event) (s : Moment) → AreSource x.definitions → IsSource t → Run x (start t) es s → AreInside es
 
--- a journal of a program is a timed run in which cells are settled so
-abbrev pub JournalIsInside : Type 0
-JournalIsInside = (x : Context) (t : Term) (es : List Entry) (q : Place) → AreSource x.definitions → IsSource t → Journal x (begin t) es q → (events : List Event) × AreEventsOf es events × Run x (start t) events (moment q) × AreInside events
+-- the run that a journal is: its entries' events, in order, the values that they publish, and no cell settled twice
+pub record IsExplained (x : Context) (t : Term) (es : List Entry) (q : Place) : Type 0 where
+  pub events : List Event
+  pub named : AreEventsOf es events
+  pub run : Run x (start t) events (moment q)
+  pub shown : published es ≡ publications events
+  pub inside : AreInside events
+
+-- every journal of a program is explained so
+abbrev pub JournalIsExplained : Type 0
+JournalIsExplained = (x : Context) (t : Term) (es : List Entry) (q : Place) → AreSource x.definitions → IsSource t → Journal x (begin t) es q → IsExplained x t es q

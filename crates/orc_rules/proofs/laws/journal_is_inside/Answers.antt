@@ -1,5 +1,0 @@
-use Rattle.orc_rules.proofs.Settled.{journal_is_inside}
-use Rattle.orc_rules.proofs.laws.journal_is_inside.Goals as goal
-
-pub returns : goal.returns
-returns c = journal_is_inside
