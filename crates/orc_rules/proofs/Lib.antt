@@ -15,6 +15,7 @@ pub mod Lookup
 pub mod Lost
 pub mod Numbered
 pub mod Numerals
+pub mod Passed
 pub mod Pending
 pub mod Refusal
 pub mod Settled

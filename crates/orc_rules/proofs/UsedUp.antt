@@ -79,7 +79,7 @@ entered_used x p (Tick t) q n h num i = elim i [ ]
 entered_used x p (Cancel k) q n h num i = elim i [ ]
 
 -- a name that was given out and doesn't stand
-stays_gone : (x : Context) (p q : Place) (es : List Entry) (n : Name) → IsNumbered p → IsGiven p n → times n p.marked ≡ 0 → Journal x p es q → times n q.marked ≡ 0
+pub stays_gone : (x : Context) (p q : Place) (es : List Entry) (n : Name) → IsNumbered p → IsGiven p n → times n p.marked ≡ 0 → Journal x p es q → times n q.marked ≡ 0
 stays_gone x p q [] n num g gone h = subst (λ (w : Place). times n w.marked ≡ 0) h gone
 stays_gone x p q (e ∷ es) n num g gone (mid, lead, h) =
     let s = entered_steps x p e mid lead.1 num in

@@ -5,6 +5,7 @@ pub mod Lost
 pub mod Marked
 pub mod Nodes
 pub mod Numbered
+pub mod Otherwise
 pub mod Pending
 pub mod Program
 pub mod Programs
