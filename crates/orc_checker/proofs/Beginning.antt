@@ -1,21 +1,22 @@
 -- The state at the start.
-use Rattle.std.proofs.Common.{Bool, ℕ, [], ◌∷◌, refl, arith}
+use Rattle.std.proofs.Common.{◌≡◌, Bool, ℕ, List, [], ◌∷◌, refl, arith}
 use Rattle.orc_checker.specs.declared.arena.Tip.TheVariants.{Token}
 use Rattle.orc_checker.specs.declared.arena.Kind.TheVariants.{Leaf, One}
 use Rattle.orc_checker.specs.declared.arena.Single.TheVariants.{Passed}
 use Rattle.orc_checker.specs.declared.arena.Bound.TheVariants.{Void}
-use Rattle.orc_rules.specs.Nodes.{Listing, source}
+use Rattle.orc_rules.specs.Nodes.{Listing, code, source}
+use Rattle.orc_checker.specs.Halting.{halt_flag, AreHalts}
 use Rattle.orc_checker.specs.Arena.{leaf, one}
 use Rattle.orc_checker.specs.Checker.{State, Begins}
 use Rattle.orc_rules.specs.Journal.{begin}
 use Rattle.orc_checker.proofs.Lists.{living-push}
 use Rattle.orc_checker.proofs.Moves.{node}
 
-abbrev pub first : Bool → ℕ → State
-first cancels root = record { nodes = node (One Passed 1) 0 ∷ node (Leaf (Token 1 root 0)) 0 ∷ []; scopes = []; cells = Void ∷ []; marks = 0 ∷ 1 ∷ []; rest = record { calls = []; keys = []; time = 0; to_cancel = []; cancels = cancels } }
+abbrev pub first : Bool → ℕ → List Bool → Bool → State
+first cancels root halts halted = record { nodes = node (One Passed 1) 0 ∷ node (Leaf (Token 1 root 0)) 0 ∷ []; scopes = []; cells = Void ∷ []; marks = 0 ∷ 1 ∷ []; halts = halts; flags = halted ∷ halted ∷ []; rest = record { calls = []; keys = []; time = 0; to_cancel = []; cancels = cancels } }
 
-pub spells_first : (l : Listing) (cancels : Bool) → Begins l cancels (first cancels l.root) (begin (source l))
-spells_first l cancels x is =
+pub spells_first : (l : Listing) (cancels : Bool) (halts : List Bool) (halted : Bool) → AreHalts (code l) halts → halted ≡ halt_flag halts l.root → Begins l cancels (first cancels l.root halts halted) (begin (source l))
+spells_first l cancels halts halted are is_h x is =
     record {
       drawn = record {
         tree = one 0 Passed (leaf 1 (Token 1 l.root 0));
@@ -24,6 +25,7 @@ spells_first l cancels x is =
         once = λ u. omega (arith, living-push (node (One Passed 1) 0 ∷ []) u (node (Leaf (Token 1 l.root 0)) 0) refl, living-push [] u (node (One Passed 1) 0) refl);
         top = tt;
         marked = refl;
+        flags = record { are_halts = are; len = refl; each = (refl, is_h) };
       };
       mark = refl;
       scopes = λ i s h. absurd (cc h);

@@ -53,6 +53,7 @@ pub record Becomes (s s' : State) (i q : ℕ) (t' : Tree) : Type 0 where
 -- what the nodes draw then
 pub record Changed (code : ℕ → Term) (s s' : State) (m : Marked) (tree : Tree) (i : ℕ) (k : Tip) (t' : Tree) : Type 0 where
   pub context : List Frame
+  pub is : plug context (leaf i k) ≡ tree
   pub before : Stands s.nodes (length s.scopes) i context (leaf i k)
   pub was : m ≡ spelled code (env_of s'.cells s'.scopes) (plug context (leaf i k))
   pub holds : Holds s'.nodes (length s'.scopes) 0 (plug context t')
@@ -73,6 +74,7 @@ changed code s s' m d i q k t' a lives b =
     let f = says_of s.nodes (length s.scopes) 0 i q k d.tree d.holds d.once a lives in
     record {
       context = f.context;
+      is = f.is;
       before = record { holds = f.holds; once = f.once; there = refl; root = ap place f.is ∙ d.root };
       was = d.marked ∙ spelled-kept code (env_of s.cells s.scopes) (env_of s'.cells s'.scopes) (length s.scopes) b.kept s.nodes 0 d.tree d.holds ∙ ap (spelled code (env_of s'.cells s'.scopes)) (sym f.is);
       holds =

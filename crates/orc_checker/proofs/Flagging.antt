@@ -8,7 +8,7 @@ use Rattle.orc_checker.specs.declared.arena.Double.{Double}
 use Rattle.orc_checker.specs.declared.arena.Single.TheVariants.{Feeds, Entered, Passed}
 use Rattle.orc_checker.specs.declared.arena.Double.TheVariants.{Both, Side}
 use Rattle.orc_rules.specs.Term.{Term}
-use Rattle.orc_checker.specs.Arena.{Tree, leaf, one, two, place, count, living, Frame, on_one, on_left, on_right, plug}
+use Rattle.orc_checker.specs.Arena.{Tree, leaf, one, two, place, count, living, Holds, StandOnce, Frame, on_one, on_left, on_right, plug}
 use Rattle.orc_checker.specs.Around.{around}
 use Rattle.orc_checker.specs.Rising.{Stands, rest, risen}
 use Rattle.orc_checker.specs.Halting.{AreHalts}
@@ -194,3 +194,79 @@ module _ (halts flags : List Bool) where
   around-raise (on_left i d u ∷ k) h = (h.0, h.1, raised (flag flags i) k (raise k) h.0 (around-raise k) h.2)
   around-raise (on_right i Both u ∷ k) h = (h.0, h.1, raised (flag flags i) k (raise k) (h.0 ∙ and_false (flag flags (place u))) (around-raise k) h.2)
   around-raise (on_right i (Side c) u ∷ k) h = h
+
+-- a part that hadn't halted publishes and ends
+pub risen_flags : (code : ℕ → Term) (nodes nodes' : List Node) (halts flags halts' flags' : List Bool) (n i : ℕ) (k : List Frame) (t t' : Tree) → Stands nodes n i k t → HasFlags code nodes halts flags (plug k t) → flag flags i ≡ false
+    → place t' ≡ i → Holds nodes' n 0 (plug (rest k) (risen k t')) → StandOnce nodes' (plug (rest k) (risen k t')) → place (plug (rest k) (risen k t')) ≡ 0
+    → halts' ≡ halts → length nodes' ≡ length nodes → length flags' ≡ length flags → (b : Bool) → Flagged halts (slice_set flags i b) t' → Settles nodes' flags i b flags' → HasFlags code nodes' halts' flags' (plug (rest k) (risen k t'))
+risen_flags code nodes nodes' halts flags halts' flags' n i k t t' s h off there holds once root same len flags_len b inner settles =
+    let o = flagged-out halts flags k t h.each in
+    let e = plug-raise k t' in
+    let s' : Stands nodes' n i (raise k) t' =
+    record { holds = subst (Holds nodes' n 0) (sym e) holds; once = subst (StandOnce nodes') (sym e) once; there = there; root = ap place e ∙ root } in
+    let a = around-raise halts flags k (subst (FlaggedAround halts flags k) (ap (flag flags) s.there ∙ off) o.0) in
+    record {
+      are_halts = subst (AreHalts code) (sym same) h.are_halts;
+      len = flags_len ∙ h.len ∙ sym len;
+      each = subst (λ z. Flagged z flags' (plug (rest k) (risen k t'))) (sym same) (subst (Flagged halts flags') e (settles halts n (raise k) t' s' a inner off));
+    }
+
+-- what is between a hole and the taker after a publication
+abbrev pub passed : List Frame → List Frame
+passed [] = []
+passed (on_one i (Feeds x g e) ∷ k) = []
+passed (on_one i (Entered n g e) ∷ k) = on_one i Passed ∷ passed k
+passed (on_one i Passed ∷ k) = on_one i Passed ∷ passed k
+passed (on_left i d u ∷ k) = on_left i d u ∷ passed k
+passed (on_right i Both u ∷ k) = on_right i Both u ∷ passed k
+passed (on_right i (Side c) u ∷ k) = []
+
+pub plug-passed : (k r : List Frame) (t : Tree) → plug (passed k ++ r) t ≡ plug r (risen k t)
+plug-passed [] r t = refl
+plug-passed (on_one i (Feeds x g e) ∷ k) r t = refl
+plug-passed (on_one i (Entered n g e) ∷ k) r t = plug-passed k r (one i Passed t)
+plug-passed (on_one i Passed ∷ k) r t = plug-passed k r (one i Passed t)
+plug-passed (on_left i d u ∷ k) r t = plug-passed k r (two i d t u)
+plug-passed (on_right i Both u ∷ k) r t = plug-passed k r (two i Both u t)
+plug-passed (on_right i (Side c) u ∷ k) r t = refl
+
+module _ (halts flags : List Bool) (r : List Frame) where
+  -- the same where what is around the taker changes too
+  pub around-passed : (k : List Frame) → FlaggedAround halts flags k false → (FlaggedAround halts flags (rest k) false → FlaggedAround halts flags r false) → FlaggedAround halts flags (passed k ++ r) false
+  around-passed [] h f = f h
+  around-passed (on_one i (Feeds x g e) ∷ k) h f = f h
+  around-passed (on_one i (Entered n g e) ∷ k) h f = (h.0, raised halts flags (flag flags i) k (passed k ++ r) h.0 (λ w. around-passed k w f) h.1)
+  around-passed (on_one i Passed ∷ k) h f = (h.0, raised halts flags (flag flags i) k (passed k ++ r) h.0 (λ w. around-passed k w f) h.1)
+  around-passed (on_left i d u ∷ k) h f = (h.0, h.1, raised halts flags (flag flags i) k (passed k ++ r) h.0 (λ w. around-passed k w f) h.2)
+  around-passed (on_right i Both u ∷ k) h f = (h.0, h.1, raised halts flags (flag flags i) k (passed k ++ r) (h.0 ∙ and_false (flag flags (place u))) (λ w. around-passed k w f) h.2)
+  around-passed (on_right i (Side c) u ∷ k) h f = f h
+
+-- a `>x>` takes the publication of a part that hadn't halted, and its right side starts
+pub sent_flags : (code : ℕ → Term) (nodes nodes' : List Node) (halts flags halts' flags' : List Bool) (n n' i : ℕ) (k : List Frame) (t t' : Tree) → Stands nodes n i k t → HasFlags code nodes halts flags (plug k t) → flag flags i ≡ false
+    → (fed x g e m : ℕ) (f : Frame) (o : List Frame) (l : Tip) (b : Bool) → rest k ≡ on_one fed (Feeds x g e) ∷ f ∷ o → m ≡ length nodes → b ≡ tip_flag halts l → place t' ≡ i
+    → Holds nodes' n' 0 (plug (f ∷ o) (two m Both (one fed (Feeds x g e) (risen k t')) (leaf (m + 1) l))) → StandOnce nodes' (plug (f ∷ o) (two m Both (one fed (Feeds x g e) (risen k t')) (leaf (m + 1) l))) → place (plug (f ∷ o) (two m Both (one fed (Feeds x g e) (risen k t')) (leaf (m + 1) l))) ≡ 0
+    → halts' ≡ halts → length nodes' ≡ suc (suc m) → length flags' ≡ length ((flags ++ false ∷ []) ++ b ∷ []) → Flagged halts (slice_set ((flags ++ false ∷ []) ++ b ∷ []) i true) t' → Settles nodes' ((flags ++ false ∷ []) ++ b ∷ []) i true flags'
+    → HasFlags code nodes' halts' flags' (plug (f ∷ o) (two m Both (one fed (Feeds x g e) (risen k t')) (leaf (m + 1) l)))
+sent_flags code nodes nodes' halts flags halts' flags' n n' i k t t' s h off fed x g e m f o l b is is_m is_b there holds once root same len flags_len inner settles =
+    let mid = (flags ++ false ∷ []) ++ b ∷ [] in
+    let is_n : m ≡ length flags = is_m ∙ sym h.len in
+    let more : Extends flags mid = λ u lt. extends-append (flags ++ false ∷ []) (b ∷ []) u (omega (arith, lt, length-append flags (false ∷ []))) ∙ extends-append flags (false ∷ []) u lt in
+    let at_m : flag mid m ≡ false = extends-append (flags ++ false ∷ []) (b ∷ []) m (omega (arith, is_n, length-append flags (false ∷ []))) ∙ flag-end flags false [] m is_n in
+    let at_new : flag mid (m + 1) ≡ b = flag-end (flags ++ false ∷ []) b [] (m + 1) (omega (arith, is_n, length-append flags (false ∷ []))) in
+    let r = on_one fed (Feeds x g e) ∷ on_left m Both (leaf (m + 1) l) ∷ f ∷ o in
+    let q = flagged-out halts flags k t h.each in
+    let a : FlaggedAround halts mid k false =
+    around_flags_kept halts flags mid k false (λ u c. more u (omega (arith, h.len, stands_there nodes n i k t s u (omega (arith, c))))) (subst (FlaggedAround halts flags k) (ap (flag flags) s.there ∙ off) q.0) in
+    let turn : FlaggedAround halts mid (rest k) false → FlaggedAround halts mid r false =
+    λ w. let v : FlaggedAround halts mid (on_one fed (Feeds x g e) ∷ f ∷ o) false = subst (λ z. FlaggedAround halts mid z false) is w in
+    (v.0, (at_m ∙ ap (λ z. z && flag mid (m + 1)) (sym v.0), at_new ∙ is_b, subst (FlaggedAround halts mid (f ∷ o)) (v.0 ∙ sym at_m) v.1)) in
+    let whole = plug-passed k r t' in
+    let s' : Stands nodes' n' i (passed k ++ r) t' =
+    record { holds = subst (Holds nodes' n' 0) (sym whole) holds; once = subst (StandOnce nodes') (sym whole) once; there = there; root = ap place whole ∙ root } in
+    let lt : i < length flags = omega (arith, h.len, stands_there nodes n i k t s i (omega (arith, itself t, ap (λ z. count z t) s.there))) in
+    let each = settles halts n' (passed k ++ r) t' s' (around-passed halts mid r k a turn) inner (more i lt ∙ off) in
+    record {
+      are_halts = subst (AreHalts code) (sym same) h.are_halts;
+      len = omega (arith, flags_len, len, is_n, length-append flags (false ∷ []), length-append (flags ++ false ∷ []) (b ∷ []));
+      each = subst (λ z. Flagged z flags' (plug r (risen k t'))) (sym same) (subst (Flagged halts flags') whole each);
+    }

@@ -1,6 +1,6 @@
 -- The moves of marks.
 use Rattle.std.proofs.Common.{◌≡◌, ◌≤◌, ◌+◌, ℕ, suc, List, [], ◌∷◌, ◌++◌, length, refl, sym, ap, ◌∙◌, subst, inr, arith, length-append, length-set}
-use Rattle.std.specs.Prelude.{slice_get, slice_set}
+use Rattle.std.specs.Prelude.{slice_get, slice_set, ◌&&◌}
 use Rattle.orc_rules.specs.declared.entry.Entry.TheVariants as entry
 use Rattle.orc_checker.specs.declared.arena.Node.{Node}
 use Rattle.orc_checker.specs.declared.arena.Tip.{Tip}
@@ -17,6 +17,10 @@ use Rattle.orc_checker.specs.Arena.{Env, Tree, leaf, one, two, hits, at, TipIn, 
 use Rattle.orc_checker.specs.Checker.{State, Draws, Spells, Enters, AreCells}
 use Rattle.orc_checker.specs.Names.{AreOrdered}
 use Rattle.orc_checker.specs.Calls.{Keeps}
+use Rattle.orc_checker.specs.Halting.{halt_flag}
+use Rattle.orc_checker.specs.Settling.{HasFlags, Reflags}
+use Rattle.orc_checker.proofs.Flagging.{reflag_leaf, reflag_one, reflag_two}
+use Rattle.orc_rules.specs.Idle.{has_halted}
 use Rattle.orc_rules.specs.Journal.{Place, Moves}
 use Rattle.orc_rules.specs.Timed.{Context}
 use Rattle.orc_checker.proofs.Trees.{holds-out}
@@ -119,8 +123,8 @@ pub record Turn (code : ℕ → Term) (s' : State) (m x y : Marked) : Type 0 whe
   pub part : Replaces x y m inside after
   pub drawn : Draws code s' after
 
-pub turn : (code : ℕ → Term) (s s' : State) (m : Marked) → Draws code s m → (i q : ℕ) (k : Tip) (t' : Tree) → at s.nodes q i (Leaf k) → living_kind (Leaf k) ≡ 1 → Becomes s s' i q t' → Turn code s' m (spelled code (env_of s'.cells s'.scopes) (leaf i k)) (spelled code (env_of s'.cells s'.scopes) t')
-turn code s s' m d i q k t' a lives b =
+pub turn : (code : ℕ → Term) (s s' : State) (m : Marked) → Draws code s m → (i q : ℕ) (k : Tip) (t' : Tree) → at s.nodes q i (Leaf k) → living_kind (Leaf k) ≡ 1 → Becomes s s' i q t' → Reflags code s.nodes s.halts s.flags s'.nodes s'.halts s'.flags i (leaf i k) t' → Turn code s' m (spelled code (env_of s'.cells s'.scopes) (leaf i k)) (spelled code (env_of s'.cells s'.scopes) t')
+turn code s s' m d i q k t' a lives b fl =
     let env = env_of s'.cells s'.scopes in
     let ch = changed code s s' m d i q k t' a lives b in
     let h : Replaces (spelled code env (leaf i k)) (spelled code env t') (spelled code env (leaf i k)) [] (spelled code env t') = here in
@@ -129,7 +133,7 @@ turn code s s' m d i q k t' a lives b =
       after = spelled code env (plug ch.context t');
       inside = r.0;
       part = subst (λ z. Replaces (spelled code env (leaf i k)) (spelled code env t') z r.0 (spelled code env (plug ch.context t'))) (sym ch.was) r.1;
-      drawn = record { tree = plug ch.context t'; holds = ch.holds; root = ch.root; once = ch.once; top = ch.top; marked = refl };
+      drawn = record { tree = plug ch.context t'; holds = ch.holds; root = ch.root; once = ch.once; top = ch.top; marked = refl; flags = fl (length s.scopes) (length s'.scopes) ch.context ch.before (record { holds = ch.holds; once = ch.once; there = b.there; root = ch.root }) (subst (λ z. HasFlags code s.nodes s.halts s.flags z) (sym ch.is) d.flags) };
     }
 
 -- what stays where one part changes
@@ -139,6 +143,7 @@ pub record Stays (s s' : State) (new : ℕ) : Type 0 where
   pub cells : s'.cells ≡ s.cells
   pub marks : length s'.marks ≡ new
   pub rest : s'.rest ≡ s.rest
+  pub halts : s'.halts ≡ s.halts
 
 pub staying : (s s' : State) → s'.scopes ≡ s.scopes → s'.cells ≡ s.cells → Grows s s'
 staying s s' scopes cells = record { grows = omega (arith, ap length scopes); kept = λ e h. sym (λ j. env_of (cells j) (scopes j) e) }
@@ -151,9 +156,9 @@ module _ (code : ℕ → Term) (s s' : State) (i q m f e : ℕ) (a : at s.nodes 
   its t = token m (close (env e) t)
 
   -- a token's node becomes a tree
-  token_moves : (t' : Tree) (c : Term) (y : Marked) (new : ℕ) (x : Context) (p : Place) → Spells x code s p → Becomes s s' i q t' → Stays s s' new → code f ≡ c → spelled code env t' ≡ y → (r : Place) × Moves p (its c) y new r × Spells x code s' r
-  token_moves t' c y new x p sp b st is its_y =
-      let t = turn code s s' p.marked sp.drawn i q (Token m f e) t' a refl b in
+  token_moves : (t' : Tree) (c : Term) (y : Marked) (new : ℕ) (x : Context) (p : Place) → Spells x code s p → Becomes s s' i q t' → Reflags code s.nodes s.halts s.flags s'.nodes s'.halts s'.flags i (leaf i (Token m f e)) t' → Stays s s' new → code f ≡ c → spelled code env t' ≡ y → (r : Place) × Moves p (its c) y new r × Spells x code s' r
+  token_moves t' c y new x p sp b fl st is its_y =
+      let t = turn code s s' p.marked sp.drawn i q (Token m f e) t' a refl b fl in
       let at_env : (n : ℕ) → env_of s'.cells s'.scopes n ≡ env n = λ n j. env_of (st.cells j) (st.scopes j) n in
       let is_x : spelled code (env_of s'.cells s'.scopes) (leaf i (Token m f e)) ≡ its c = λ j. token m (close (at_env e j) (is j)) in
       let is_y : spelled code (env_of s'.cells s'.scopes) t' ≡ y = (λ j. spelled code (env_of (st.cells j) (st.scopes j)) t') ∙ its_y in (
@@ -172,19 +177,28 @@ module _ (code : ℕ → Term) (s s' : State) (i q m f e : ℕ) (a : at s.nodes 
   its_scope : {new : ℕ} (x : Context) (p : Place) → Spells x code s p → Stays s s' new → e ≤ length s'.scopes
   its_scope x p sp st = omega (arith, scope_there code s p.marked sp.drawn i q m f e a, ap length st.scopes)
 
-  pub end-enters : code f ≡ stop → s'.nodes ≡ slice_set s.nodes i (node (Leaf Ended) q) → Stays s s' (length s.marks) → Enters code (entry.End m) s s'
-  end-enters is nodes st x p sp =
+  -- one more node
+  grown : (k : Kind) (n : ℕ) (l : Tip) → n ≡ length s.nodes → s'.nodes ≡ slice_set s.nodes i (node k q) ++ node (Leaf l) i ∷ [] → length s'.nodes ≡ suc n
+  grown k n l is_n nodes = omega (arith, is_n, ap length nodes, length-append (slice_set s.nodes i (node k q)) (node (Leaf l) i ∷ []), length-set s.nodes i (node k q))
+
+  pub end-enters : code f ≡ stop → s'.nodes ≡ slice_set s.nodes i (node (Leaf Ended) q) → s'.flags ≡ s.flags → Stays s s' (length s.marks) → Enters code (entry.End m) s s'
+  end-enters is nodes flags st x p sp =
       let b = written s s' i q (Token m f e) Ended a refl refl (staying s s' st.scopes st.cells) tt nodes in
-      let r = token_moves (leaf i Ended) stop ended p.mark x p sp b (record { free = st.free; scopes = st.scopes; cells = st.cells; marks = st.marks ∙ sym sp.mark; rest = st.rest }) is refl in
+      let new = ap length nodes ∙ length-set s.nodes i (node (Leaf Ended) q) in
+      let fl = reflag_leaf code s.nodes s'.nodes s.halts s.flags s'.halts s'.flags i (Token m f e) st.halts Ended flags new (λ h. h f ∙ ap has_halted is) in
+      let r = token_moves (leaf i Ended) stop ended p.mark x p sp b fl (record { free = st.free; scopes = st.scopes; cells = st.cells; marks = st.marks ∙ sym sp.mark; rest = st.rest; halts = st.halts }) is refl in
       (r.0, (inr (sp.rest.due ∙ st.free), subst (λ z. Moves p (token m z) ended p.mark r.0) (close-stop (env e)) r.1), r.2)
 
   pub fork-enters : (n b1 b2 g h : ℕ) → code f ≡ par (code g) (code h) → n ≡ length s.nodes → b1 ≡ length s.marks → b2 ≡ suc b1
       → s'.nodes ≡ (slice_set s.nodes i (node (Two Both n (n + 1)) q) ++ node (Leaf (Token b1 g e)) i ∷ []) ++ node (Leaf (Token b2 h e)) i ∷ []
-      → Stays s s' (suc b2) → Enters code (entry.Fork m b1 b2) s s'
-  fork-enters n b1 b2 g h is is_n is1 is2 nodes st x p sp =
+      → s'.flags ≡ (s.flags ++ halt_flag s.halts g ∷ []) ++ halt_flag s.halts h ∷ [] → Stays s s' (suc b2) → Enters code (entry.Fork m b1 b2) s s'
+  fork-enters n b1 b2 g h is is_n is1 is2 nodes flags st x p sp =
       let inside = its_scope x p sp st in
       let b = over_two s s' i q n (Token m f e) (Token b1 g e) a refl refl is_n (staying s s' st.scopes st.cells) inside Both (Token b2 h e) refl inside nodes in
-      let r = token_moves (two i Both (leaf n (Token b1 g e)) (leaf (n + 1) (Token b2 h e))) (par (code g) (code h)) _ (suc b2) x p sp b st is refl in (
+      let first = slice_set s.nodes i (node (Two Both n (n + 1)) q) in
+      let new : length s'.nodes ≡ suc (suc n) = omega (arith, is_n, ap length nodes, length-append (first ++ node (Leaf (Token b1 g e)) i ∷ []) (node (Leaf (Token b2 h e)) i ∷ []), length-append first (node (Leaf (Token b1 g e)) i ∷ []), length-set s.nodes i (node (Two Both n (n + 1)) q)) in
+      let fl = reflag_two code s.nodes s'.nodes s.halts s.flags s'.halts s'.flags i (Token m f e) st.halts Both n (Token b1 g e) (Token b2 h e) (halt_flag s.halts g) (halt_flag s.halts h) flags is_n new (λ w. w f ∙ ap has_halted is ∙ (λ j. sym (w g) j && sym (w h) j)) refl refl in
+      let r = token_moves (two i Both (leaf n (Token b1 g e)) (leaf (n + 1) (Token b2 h e))) (par (code g) (code h)) _ (suc b2) x p sp b fl st is refl in (
         r.0,
         (
           inr (sp.rest.due ∙ st.free),
@@ -201,11 +215,13 @@ module _ (code : ℕ → Term) (s s' : State) (i q m f e : ℕ) (a : at s.nodes 
 
   pub seq-enters : (n b g x h : ℕ) → code f ≡ seq (code g) x (code h) → n ≡ length s.nodes → b ≡ length s.marks
       → s'.nodes ≡ slice_set s.nodes i (node (One (Feeds x h e) n) q) ++ node (Leaf (Token b g e)) i ∷ []
-      → Stays s s' (suc b) → Enters code (entry.Seq m b) s s'
-  seq-enters n b g z h is is_n is1 nodes st x p sp =
+      → s'.flags ≡ s.flags ++ halt_flag s.halts g ∷ [] → Stays s s' (suc b) → Enters code (entry.Seq m b) s s'
+  seq-enters n b g z h is is_n is1 nodes flags st x p sp =
       let inside = its_scope x p sp st in
       let c = over_one s s' i q n (Token m f e) (Token b g e) a refl refl is_n (staying s s' st.scopes st.cells) inside (Feeds z h e) inside nodes in
-      let r = token_moves (one i (Feeds z h e) (leaf n (Token b g e))) (seq (code g) z (code h)) _ (suc b) x p sp c st is refl in (
+      let new = grown (One (Feeds z h e) n) n (Token b g e) is_n nodes in
+      let fl = reflag_one code s.nodes s'.nodes s.halts s.flags s'.halts s'.flags i (Token m f e) st.halts (Feeds z h e) n (Token b g e) (halt_flag s.halts g) flags is_n new (λ w. w f ∙ ap has_halted is ∙ sym (w g)) refl in
+      let r = token_moves (one i (Feeds z h e) (leaf n (Token b g e))) (seq (code g) z (code h)) _ (suc b) x p sp c fl st is refl in (
         r.0,
         (
           inr (sp.rest.due ∙ st.free),
@@ -222,11 +238,13 @@ module _ (code : ℕ → Term) (s s' : State) (i q m f e : ℕ) (a : at s.nodes 
 
   pub other-enters : (n b g h : ℕ) → code f ≡ other (code g) (code h) → n ≡ length s.nodes → b ≡ length s.marks
       → s'.nodes ≡ slice_set s.nodes i (node (One (Entered m h e) n) q) ++ node (Leaf (Token b g e)) i ∷ []
-      → Stays s s' (suc b) → Enters code (entry.Other m b) s s'
-  other-enters n b g h is is_n is1 nodes st x p sp =
+      → s'.flags ≡ s.flags ++ halt_flag s.halts g ∷ [] → Stays s s' (suc b) → Enters code (entry.Other m b) s s'
+  other-enters n b g h is is_n is1 nodes flags st x p sp =
       let inside = its_scope x p sp st in
       let c = over_one s s' i q n (Token m f e) (Token b g e) a refl refl is_n (staying s s' st.scopes st.cells) inside (Entered m h e) inside nodes in
-      let r = token_moves (one i (Entered m h e) (leaf n (Token b g e))) (other (code g) (code h)) _ (suc b) x p sp c st is refl in (
+      let new = grown (One (Entered m h e) n) n (Token b g e) is_n nodes in
+      let fl = reflag_one code s.nodes s'.nodes s.halts s.flags s'.halts s'.flags i (Token m f e) st.halts (Entered m h e) n (Token b g e) (halt_flag s.halts g) flags is_n new (λ w. w f ∙ ap has_halted is) refl in
+      let r = token_moves (one i (Entered m h e) (leaf n (Token b g e))) (other (code g) (code h)) _ (suc b) x p sp c fl st is refl in (
         r.0,
         (
           inr (sp.rest.due ∙ st.free),

@@ -1,6 +1,6 @@
 -- A pruning is opened.
-use Rattle.std.proofs.Common.{◌≡◌, ◌≤◌, ◌+◌, ℕ, zero, suc, List, [], ◌∷◌, ◌++◌, length, refl, sym, ap, ◌∙◌, subst, inr, arith, length-append, Some, Option, get_or}
-use Rattle.std.specs.Prelude.{slice_get, slice_set}
+use Rattle.std.proofs.Common.{◌≡◌, ◌≤◌, ◌+◌, ℕ, zero, suc, List, [], ◌∷◌, ◌++◌, length, refl, sym, ap, ◌∙◌, subst, inr, arith, length-append, length-set, Some, Option, get_or}
+use Rattle.std.specs.Prelude.{slice_get, slice_set, ◌&&◌}
 use Rattle.orc_rules.specs.declared.entry.Entry.TheVariants as entry
 use Rattle.orc_rules.specs.declared.param.Param.TheVariants as is
 use Rattle.orc_checker.specs.declared.arena.Bound.{Bound}
@@ -17,6 +17,10 @@ use Rattle.orc_checker.specs.Arena.{Env, current, leaf, two, at, spelled, env_of
 use Rattle.orc_checker.specs.Checker.{State, Enters, AreCells, numbers}
 use Rattle.orc_checker.specs.Names.{AreOrdered}
 use Rattle.orc_checker.specs.Calls.{Rest, Keeps}
+use Rattle.orc_checker.specs.Halting.{halt_flag}
+use Rattle.orc_checker.specs.Settling.{Settles}
+use Rattle.orc_checker.proofs.Flagging.{reflag_two_settled}
+use Rattle.orc_rules.specs.Idle.{has_halted}
 use Rattle.orc_checker.proofs.Closing.{close-prune, close-more}
 use Rattle.orc_checker.proofs.Growth.{env-kept, env-new, current-push, env-current}
 use Rattle.orc_checker.proofs.Moves.{node, over_two, turn, scope_there}
@@ -63,8 +67,10 @@ module _ (code : ℕ → Term) (s s' : State) (i q m f e : ℕ) (a : at s.nodes 
   pub open-enters : (n c b1 b2 g z h : ℕ) → code f ≡ prune (code g) z (code h) → n ≡ length s.nodes → c ≡ length s.cells → b1 ≡ length s.marks → b2 ≡ suc b1
       → s'.nodes ≡ (slice_set s.nodes i (node (Two (Side c) n (n + 1)) q) ++ node (Leaf (Token b1 g (suc (length s.scopes)))) i ∷ []) ++ node (Leaf (Token b2 h e)) i ∷ []
       → s'.scopes ≡ s.scopes ++ record { name = z; bound = Cell c; outer = e } ∷ [] → s'.cells ≡ s.cells ++ Cell c ∷ []
+      → s'.halts ≡ s.halts → length s'.flags ≡ length ((s.flags ++ halt_flag s.halts g ∷ []) ++ halt_flag s.halts h ∷ [])
+      → Settles s'.nodes ((s.flags ++ halt_flag s.halts g ∷ []) ++ halt_flag s.halts h ∷ []) i (halt_flag s.halts g && halt_flag s.halts h) s'.flags
       → length s'.marks ≡ suc b2 → s'.rest ≡ s.rest → s.rest.to_cancel ≡ [] → Enters code (entry.Open m c b1 b2) s s'
-  open-enters n c b1 b2 g z h is_f is_n is_c is1 is2 nodes scopes cells marks rest free x p sp =
+  open-enters n c b1 b2 g z h is_f is_n is_c is1 is2 nodes scopes cells halts flags_len settles marks rest free x p sp =
       let there : e ≤ length s.scopes = scope_there code s p.marked sp.drawn i q m f e a in
       let new : Scope = record { name = z; bound = Cell c; outer = e } in
       let pushed : s'.cells ≡ s.cells ++ Cell (length s.cells) ∷ [] = cells ∙ ap (λ y. s.cells ++ Cell y ∷ []) is_c in
@@ -79,7 +85,10 @@ module _ (code : ℕ → Term) (s s' : State) (i q m f e : ℕ) (a : at s.nodes 
       let right = close (env e) (code h) in
       let t' = two i (Side c) (leaf n (Token b1 g inner)) (leaf (n + 1) (Token b2 h e)) in
       let b = over_two s s' i q n (Token m f e) (Token b1 g inner) a refl refl is_n (record { grows = omega (arith, longer); kept = kept }) (omega (arith, longer)) (Side c) (Token b2 h e) refl (omega (arith, longer, there)) nodes in
-      let t = turn code s s' p.marked sp.drawn i q (Token m f e) t' a refl b in
+      let first = slice_set s.nodes i (node (Two (Side c) n (n + 1)) q) in
+      let more : length s'.nodes ≡ suc (suc n) = omega (arith, is_n, ap length nodes, length-append (first ++ node (Leaf (Token b1 g inner)) i ∷ []) (node (Leaf (Token b2 h e)) i ∷ []), length-append first (node (Leaf (Token b1 g inner)) i ∷ []), length-set s.nodes i (node (Two (Side c) n (n + 1)) q)) in
+      let fl = reflag_two_settled code s.nodes s'.nodes s.halts s.flags s'.halts s'.flags i (Token m f e) halts (Side c) n (Token b1 g inner) (Token b2 h e) (halt_flag s.halts g) (halt_flag s.halts h) flags_len is_n more (λ w. w f ∙ ap has_halted is_f) refl refl settles in
+      let t = turn code s s' p.marked sp.drawn i q (Token m f e) t' a refl b fl in
       let is_x : spelled code env' (leaf i (Token m f e)) ≡ token m (prune left z right) = ap (token m) ((λ j. close (sym (kept e there) j) (is_f j)) ∙ close-prune (env e) (code g) z (code h)) in
       let is_left : close (env' inner) (code g) ≡ put (is.Cell c) z left = ap (λ y. close y (code g)) env_inner ∙ sym (close-more (env e) z (Cell c) (code g)) in
       let is_right : close (env' e) (code h) ≡ right = ap (λ y. close y (code h)) (sym (kept e there)) in

@@ -1,5 +1,5 @@
 -- What is published goes up, and leaves each otherwise between.
-use Rattle.std.proofs.Common.{◌≡◌, ℕ, List, [], ◌∷◌, length, refl, sym, ap, ◌∙◌, subst, inr}
+use Rattle.std.proofs.Common.{◌≡◌, ℕ, List, [], ◌∷◌, length, refl, sym, ap, ◌∙◌, subst, inr, true, false}
 use Rattle.std.specs.Prelude.{slice_set}
 use Rattle.orc_rules.specs.declared.value.Value.{Value}
 use Rattle.orc_rules.specs.declared.entry.Entry.TheVariants as entry
@@ -11,7 +11,7 @@ use Rattle.orc_checker.specs.declared.arena.Double.TheVariants.{Both, Side}
 use Rattle.orc_checker.specs.declared.walk.Taker.TheVariants.{Whole}
 use Rattle.orc_rules.specs.Term.{Term}
 use Rattle.orc_rules.specs.Step.{publishes}
-use Rattle.orc_rules.specs.Marked.{ended, Emits, emits, passes, on_main}
+use Rattle.orc_rules.specs.Marked.{erase, ended, Emits, emits, passes, on_main}
 use Rattle.orc_rules.specs.Marked.{on_left as emits_left, on_right as emits_right}
 use Rattle.orc_checker.specs.Arena.{Env, Tree, leaf, one, two, place, Holds, StandOnce, IsTopped, at, living_kind, spelled, env_of, Frame, on_one, on_left, on_right, plug}
 use Rattle.orc_checker.specs.Rising.{takes, rest, under, risen, IsTaker, Rises}
@@ -19,6 +19,10 @@ use Rattle.orc_checker.specs.Checker.{State, Enters, AreCells}
 use Rattle.orc_checker.specs.Names.{AreOrdered, BearsValue}
 use Rattle.orc_checker.specs.Calls.{Keeps}
 use Rattle.orc_checker.proofs.Trees.{topped-plug}
+use Rattle.orc_checker.specs.Settling.{flag, HasFlags, Settles}
+use Rattle.orc_checker.proofs.Settling.{flag_says, flagged-out, flag-set_same}
+use Rattle.orc_checker.proofs.Flagging.{risen_flags}
+use Rattle.orc_rules.specs.Idle.{has_halted}
 use Rattle.orc_checker.proofs.Change.{place-plug, changed}
 use Rattle.orc_checker.proofs.Moves.{node, written, Stays, staying}
 use Rattle.orc_checker.proofs.Rising.{plug-under}
@@ -66,8 +70,9 @@ topped-risen (on_right i (Side c) u ∷ k) t t' h a = topped-plug (on_right i (S
 
 pub publish-enters : (code : ℕ → Term) (s s' : State) (i q m steps : ℕ) (l : Tip) (v : Value) → at s.nodes q i (Leaf l) → living_kind (Leaf l) ≡ 1 → BearsValue code s.cells s.scopes m l v
     → IsTaker s.nodes i Whole steps → Rises (slice_set s.nodes i (node (Leaf Ended) q)) i steps s'.nodes
+    → length s'.nodes ≡ length s.nodes → length s'.flags ≡ length s.flags → Settles s'.nodes s.flags i true s'.flags
     → Stays s s' (length s.marks) → Enters code (entry.Publish m v) s s'
-publish-enters code s s' i q m steps l v a lives bears taker rises st x p sp =
+publish-enters code s s' i q m steps l v a lives bears taker rises nodes_len flags_len settles st x p sp =
     let env = env_of s.cells s.scopes in
     let mid : State = record s { nodes = slice_set s.nodes i (node (Leaf Ended) q) } in
     let ch = changed code s mid p.marked sp.drawn i q l (leaf i Ended) a lives (written s mid i q l Ended a lives refl (staying s mid refl refl) tt refl) in
@@ -76,6 +81,10 @@ publish-enters code s s' i q m steps l v a lives bears taker rises st x p sp =
     let by = taker n k (leaf i l) ch.before in
     let r = rises n k (leaf i Ended) (record { holds = ch.holds; once = ch.once; there = refl; root = ch.root }) by.1 in
     let none : rest k ≡ [] = free k by.0 in
+    let flags = subst (λ z. HasFlags code s.nodes s.halts s.flags z) (sym ch.is) sp.drawn.flags in
+    let its = (flagged-out s.halts s.flags k (leaf i l) flags.each).1 in
+    let off : flag s.flags i ≡ false = flag_says code env s.halts flags.are_halts s.flags (leaf i l) its ∙ ap (λ z. has_halted (erase z)) (bears sp.scopes) in
+    let now_flags = risen_flags code s.nodes s'.nodes s.halts s.flags s'.halts s'.flags n i k (leaf i l) (leaf i Ended) ch.before flags off refl r.0 r.1 (place-risen k (leaf i Ended) ∙ ch.root) st.halts nodes_len flags_len true (flag-set_same s.flags i) settles in
     let after = spelled code env (risen k (leaf i Ended)) in
     let first : Emits m p.mark v (spelled code env (leaf i l)) (publishes v) (spelled code env (leaf i Ended)) =
     subst (λ z. Emits m p.mark v z (publishes v) ended) (sym (bears sp.scopes)) emits in
@@ -93,6 +102,7 @@ publish-enters code s s' i q m steps l v a lives bears taker rises st x p sp =
           once = subst (λ z. StandOnce s'.nodes (plug z (risen k (leaf i Ended)))) none r.1;
           top = subst (λ z. IsTopped (plug z (risen k (leaf i Ended)))) none (topped-risen k (leaf i Ended) (leaf i Ended) (λ z. z) ch.top);
           marked = sym (λ j. spelled code (env_of (st.cells j) (st.scopes j)) (risen k (leaf i Ended)));
+          flags = subst (λ z. HasFlags code s'.nodes s'.halts s'.flags (plug z (risen k (leaf i Ended)))) none now_flags;
         };
         mark = sp.mark ∙ sym st.marks;
         scopes = subst AreOrdered (sym st.scopes) sp.scopes;

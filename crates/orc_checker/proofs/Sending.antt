@@ -1,5 +1,5 @@
 -- What is published goes up to a `>x>`, and its right side starts.
-use Rattle.std.proofs.Common.{◌≡◌, ◌≤◌, ◌+◌, ℕ, suc, List, [], ◌∷◌, ◌++◌, length, get_or, refl, sym, ap, ◌∙◌, subst, inr, ⊎_elim, arith, length-append}
+use Rattle.std.proofs.Common.{◌≡◌, ◌≤◌, ◌+◌, ℕ, suc, List, [], ◌∷◌, ◌++◌, length, get_or, refl, sym, ap, ◌∙◌, subst, inr, ⊎_elim, arith, length-append, true, false}
 use Rattle.std.specs.Prelude.{slice_set}
 use Rattle.orc_rules.specs.declared.value.Value.{Value}
 use Rattle.orc_rules.specs.declared.param.Param.TheVariants.{Is}
@@ -19,7 +19,7 @@ use Rattle.orc_checker.specs.declared.walk.Taker.TheVariants.{Whole, Fed}
 use Rattle.orc_checker.specs.declared.walk.Taker.TheVariants as taker
 use Rattle.orc_rules.specs.Term.{Term, param, put}
 use Rattle.orc_rules.specs.Step.{publishes, silent}
-use Rattle.orc_rules.specs.Marked.{token, ended, in_seq, in_par, Emits, emits, is_fed}
+use Rattle.orc_rules.specs.Marked.{erase, token, ended, in_seq, in_par, Emits, emits, is_fed}
 use Rattle.orc_checker.specs.Arena.{Env, Tree, leaf, one, place, Holds, StandOnce, IsTopped, at, SingleIn, living_kind, spelled, env_of, close, without, Frame, on_one, on_left, on_right, fit, plug}
 use Rattle.orc_checker.specs.Around.{above}
 use Rattle.orc_checker.proofs.Feeding.{place-fit}
@@ -28,6 +28,11 @@ use Rattle.orc_checker.specs.Grafting.{grafted, Grafts}
 use Rattle.orc_checker.specs.Checker.{State, Enters, AreCells}
 use Rattle.orc_checker.specs.Names.{AreOrdered, BearsValue}
 use Rattle.orc_checker.specs.Calls.{Keeps}
+use Rattle.orc_rules.specs.Idle.{has_halted}
+use Rattle.orc_checker.specs.Halting.{halt_flag}
+use Rattle.orc_checker.specs.Settling.{flag, HasFlags, Settles}
+use Rattle.orc_checker.proofs.Settling.{flag_says, flagged-out, flag-set_same}
+use Rattle.orc_checker.proofs.Flagging.{sent_flags}
 use Rattle.orc_checker.proofs.Trees.{holds-out, topped-plug}
 use Rattle.orc_checker.proofs.Lists.{get-more}
 use Rattle.orc_checker.proofs.Change.{place-plug, changed}
@@ -86,7 +91,7 @@ around_feeds [] i x g e t h = absurd h
 around_feeds (f ∷ k) i x g e t h = (f, k, refl)
 
 -- the state after it
-pub record Sent (s s' : State) (at x g outer a : ℕ) (v : Value) (between : List Node) : Type 0 where
+pub record Sent (s s' : State) (i at x g outer a : ℕ) (v : Value) (between : List Node) : Type 0 where
   pub free : s.rest.to_cancel ≡ []
   pub grafts : Grafts between at (Token a g (length s.scopes + 1)) s'.nodes
   pub scopes : s'.scopes ≡ s.scopes ++ (record { name = x; bound = bound.Is v; outer = outer }) ∷ []
@@ -94,11 +99,16 @@ pub record Sent (s s' : State) (at x g outer a : ℕ) (v : Value) (between : Lis
   pub marks : length s'.marks ≡ suc a
   pub next : a ≡ length s.marks
   pub rest : s'.rest ≡ s.rest
+  pub halts : s'.halts ≡ s.halts
+  pub same_len : length between ≡ length s.nodes
+  pub len : length s'.nodes ≡ length between + 2
+  pub flags_len : length s'.flags ≡ length ((s.flags ++ false ∷ []) ++ halt_flag s.halts g ∷ [])
+  pub settles : Settles s'.nodes ((s.flags ++ false ∷ []) ++ halt_flag s.halts g ∷ []) i true s'.flags
 
 pub send-enters : (code : ℕ → Term) (s s' : State) (i q m steps fed x g outer part a : ℕ) (l : Tip) (v : Value) (between : List Node) → at s.nodes q i (Leaf l) → living_kind (Leaf l) ≡ 1 → BearsValue code s.cells s.scopes m l v
     → IsTaker s.nodes i (Fed fed) steps → Node.kind (get_or s.nodes fed nowhere) ≡ One (Feeds x g outer) part
     → Rises (slice_set s.nodes i (node (Leaf Ended) q)) i steps between
-    → Sent s s' fed x g outer a v between → Enters code (entry.Send m a v) s s'
+    → Sent s s' i fed x g outer a v between → Enters code (entry.Send m a v) s s'
 send-enters code s s' i q m steps fed x g outer part a l v between is_at lives bears taker_is feeds rises st con p sp =
     let new : Scope = record { name = x; bound = bound.Is v; outer = outer } in
     let n = length s.scopes in
@@ -107,7 +117,7 @@ send-enters code s s' i q m steps fed x g outer part a l v between is_at lives b
     let env' = env_of s'.cells s'.scopes in
     let len : n' ≡ n + 1 = omega (arith, ap length st.scopes, length-append s.scopes (new ∷ [])) in
     let kept : (e : ℕ) → e ≤ n → env e ≡ env' e = λ e h. env-kept s.cells s.scopes (new ∷ []) e h ∙ sym (λ j. env_of (st.cells j) (st.scopes j) e) in
-    let mid : State = record { nodes = slice_set s.nodes i (node (Leaf Ended) q); scopes = s'.scopes; cells = s'.cells; marks = s.marks; rest = s.rest } in
+    let mid : State = record { nodes = slice_set s.nodes i (node (Leaf Ended) q); scopes = s'.scopes; cells = s'.cells; marks = s.marks; halts = s.halts; flags = s.flags; rest = s.rest } in
     let gr : Grows s mid = record { grows = omega (arith, len); kept = kept } in
     let ch = changed code s mid p.marked sp.drawn i q l (leaf i Ended) is_at lives (written s mid i q l Ended is_at lives refl gr tt refl) in
     let k = ch.context in
@@ -127,6 +137,13 @@ send-enters code s s' i q m steps fed x g outer part a l v between is_at lives b
     let t : Tree = risen k (leaf i Ended) in
     let t' : Tree = grafted between fed its t (Token a g (n + 1)) in
     let gh = st.grafts n' n' its fr.0 fr.1 t (omega arith) refl (omega (arith, len)) (subst (λ z. Holds between n' 0 (plug z t)) whole r.0) (subst (λ z. StandOnce between (plug z t)) whole r.1) in
+    let root = place-over fr.0 fr.1 t' (one fed its t) ∙ sym (ap (λ z. place (plug z t)) whole) ∙ place-risen k (leaf i Ended) ∙ ch.root in
+    let flags = subst (λ z. HasFlags code s.nodes s.halts s.flags z) (sym ch.is) sp.drawn.flags in
+    let was_flagged = (flagged-out s.halts s.flags k (leaf i l) flags.each).1 in
+    let off : flag s.flags i ≡ false = flag_says code env s.halts flags.are_halts s.flags (leaf i l) was_flagged ∙ ap (λ z. has_halted (erase z)) (bears sp.scopes) in
+    let now_flags =
+    sent_flags code s.nodes s'.nodes s.halts s.flags s'.halts s'.flags n n' i k (leaf i l) (leaf i Ended) ch.before flags off fed x g outer (length between) fr.0 fr.1 (Token a g (n + 1)) (halt_flag s.halts g) whole st.same_len refl refl gh.0 gh.1 root
+    st.halts (omega (arith, st.len)) st.flags_len (flag-set_same ((s.flags ++ false ∷ []) ++ halt_flag s.halts g ∷ []) i) st.settles in
     let leaf_holds = (holds-out s.nodes n 0 k (leaf i l) ch.before.holds).1 in
     let bears' : spelled code env' (leaf i l) ≡ token m (param (Is v)) = sym (spelled-kept code env env' n kept s.nodes (above 0 k) (leaf i l) leaf_holds) ∙ bears sp.scopes in
     let first : Emits m a v (spelled code env' (leaf i l)) (publishes v) (spelled code env' (leaf i Ended)) = subst (λ z. Emits m a v z (publishes v) ended) (sym bears') emits in
@@ -146,10 +163,11 @@ send-enters code s s' i q m steps fed x g outer part a l v between is_at lives b
         drawn = record {
           tree = plug (fr.0 ∷ fr.1) t';
           holds = gh.0;
-          root = place-over fr.0 fr.1 t' (one fed its t) ∙ sym (ap (λ z. place (plug z t)) whole) ∙ place-risen k (leaf i Ended) ∙ ch.root;
+          root = root;
           once = gh.1;
           top = topped-plug fr.0 fr.1 (one fed its t) t' (subst (λ z. IsTopped (plug z t)) whole top);
           marked = refl;
+          flags = now_flags;
         };
         mark = sym st.marks;
         scopes = subst AreOrdered (sym st.scopes) (ordered-more s.scopes new sp.scopes below);

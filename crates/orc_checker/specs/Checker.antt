@@ -13,6 +13,7 @@ use Rattle.orc_rules.specs.Journal.{Place, Leads}
 use Rattle.orc_checker.specs.Arena.{Tree, Holds, StandOnce, IsTopped, spelled, env_of, place}
 use Rattle.orc_checker.specs.Names.{AreOrdered}
 use Rattle.orc_checker.specs.Calls.{Rest, Keeps}
+use Rattle.orc_checker.specs.Settling.{HasFlags}
 
 -- what callers of the checker see
 pub record State : Type 0 where
@@ -20,6 +21,8 @@ pub record State : Type 0 where
   pub scopes : List Scope
   pub cells : List Bound  -- by number; there is no cell 0
   pub marks : List ℕ  -- the node on which each mark was put; there is no mark 0
+  pub halts : List Bool  -- for each node of the program, whether its term has halted
+  pub flags : List Bool  -- for each node, whether it has halted
   pub rest : Rest
 
 -- the numbers from 1 to n, the greatest first
@@ -39,6 +42,7 @@ pub record Draws (code : ℕ → Term) (s : State) (m : Marked) : Type 0 where
   pub once : StandOnce s.nodes tree
   pub top : IsTopped tree
   pub marked : m ≡ spelled code (env_of s.cells s.scopes) tree
+  pub flags : HasFlags code s.nodes s.halts s.flags tree
 
 -- the state spells a place of a journal, over the program's terms
 pub record Spells (x : Context) (code : ℕ → Term) (s : State) (p : Place) : Type 0 where

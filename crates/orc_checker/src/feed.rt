@@ -7,6 +7,7 @@ ghost use Rattle.orc_checker.specs.Checker.{Enters};
 ghost use Rattle.orc_checker.specs.Grafting.{Grafts, relink};
 
 use crate::arena::{Bound, Double, Kind, Node, Scope, Single, Tip};
+use crate::flags::settle;
 use crate::marked::Marked;
 use crate::room::{push_within, reserve, size};
 use crate::walk::{Taker, node_at, rise, way_up, write_node};
@@ -41,7 +42,8 @@ pub(crate) fn scope_count(scopes: &Vec<Scope>) -> usize
 /// Puts a new `|` above the node `at`, which is on its left, and a new node on its right. The node keeps its number.
 fn graft(nodes: &mut Vec<Node>, at: usize, tip: Tip)
     requires { vec_len nodes.old + 2 ≤ vec_capacity nodes.old }
-    ensures { Grafts nodes.old.items at tip nodes.new.items }
+    ensures grafts { Grafts nodes.old.items at tip nodes.new.items }
+    ensures len { length nodes.new.items ≡ length nodes.old.items + 2 }
 {
     let taker = node_at(nodes, at);
     let above = node_at(nodes, taker.parent);
@@ -104,7 +106,7 @@ impl Marked {
             return Err(RuleFault::Form);
         };
         self.next_mark(a)?;
-        reserve(&mut self.nodes, &mut self.marks).map_err(|_| RuleFault::Memory)?;
+        reserve(&mut self.nodes, &mut self.flags, &mut self.marks).map_err(|_| RuleFault::Memory)?;
         self.scopes.try_reserve(1).map_err(|_| RuleFault::Memory)?;
         write_node(
             &mut self.nodes,
@@ -128,6 +130,9 @@ impl Marked {
             Tip::Token(a, g, scope_count(&self.scopes)),
         );
         push_within(&mut self.marks, token);
+        push_within(&mut self.flags, false);
+        push_within(&mut self.flags, self.halts.at(g));
+        settle(&self.nodes, &mut self.flags, bearer.at, true);
         Ok(())
     }
 }

@@ -1,6 +1,6 @@
 //! Flags of the nodes that have halted.
 
-ghost use Rattle.std.specs.Prelude.{◌≡◌, ◌⊎◌, true, false, List, Bool, length, slice_set, vec_capacity, IfSome, IfNone, slice_index_or};
+ghost use Rattle.std.specs.Prelude.{◌≡◌, ◌&&◌, ◌⊎◌, true, false, List, Bool, length, slice_set, vec_capacity, IfSome, IfNone, slice_index_or};
 ghost use Rattle.orc_checker.specs.Settling.{flag, inner_flag, HaltsNext, EndsAt, Settles};
 ghost use Rattle.orc_checker.specs.Rising.{nowhere};
 
@@ -37,6 +37,13 @@ fn inner_halts(flags: &Vec<bool>, kind: Kind) -> bool
         Kind::One(_, part) => flag_at(flags, part),
         Kind::Two(_, left, right) => flag_at(flags, left) && flag_at(flags, right),
     }
+}
+
+/// Whether both parts have halted.
+pub(crate) fn both(left: bool, right: bool) -> bool
+    ensures { result ≡ (left && right) }
+{
+    left && right
 }
 
 /// The node above, where it halts with its parts and has no flag yet.

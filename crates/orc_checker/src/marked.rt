@@ -10,6 +10,7 @@ ghost use Rattle.orc_checker.specs.declared.arena.Kind.TheVariants.{Leaf as AtLe
 ghost use Rattle.orc_checker.specs.declared.arena.Tip.TheVariants.{Token as IsToken};
 
 use crate::arena::{Bound, Kind, Node, Scope, Single, Tip};
+use crate::halts::Halts;
 use crate::names::meaning;
 use crate::rest::Rest;
 use crate::room::push_within;
@@ -27,6 +28,8 @@ pub struct Marked {
     pub(crate) scopes: Vec<Scope>,
     pub(crate) cells: Vec<Bound>,
     pub(crate) marks: Vec<usize>,
+    pub(crate) halts: Halts,
+    pub(crate) flags: Vec<bool>,
     pub(crate) rest: Rest,
 }
 
@@ -35,7 +38,7 @@ impl Model for Marked {
 
     ghost Value = { State };
 
-    ghost view = { λ m. record { nodes = m.nodes.items; scopes = m.scopes.items; cells = m.cells.items; marks = m.marks.items; rest = m.rest } };
+    ghost view = { λ m. record { nodes = m.nodes.items; scopes = m.scopes.items; cells = m.cells.items; marks = m.marks.items; halts = m.halts; flags = m.flags.items; rest = m.rest } };
 }
 
 /// Where a token stands: its node in the marked term with the one above it, the program's node under it, and its scope.
@@ -73,6 +76,10 @@ impl Marked {
         let mut nodes = Vec::with_capacity(alloc, 2)?;
         let mut marks = Vec::with_capacity(alloc, 2)?;
         let mut cells = Vec::with_capacity(alloc, 1)?;
+        let mut flags = Vec::with_capacity(alloc, 2)?;
+        let halts = Halts::new(alloc, program)?;
+        let root = program.source();
+        let halted = halts.at(root);
         push_within(
             &mut nodes,
             Node {
@@ -83,18 +90,22 @@ impl Marked {
         push_within(
             &mut nodes,
             Node {
-                kind: Kind::Leaf(Tip::Token(1, program.source(), 0)),
+                kind: Kind::Leaf(Tip::Token(1, root, 0)),
                 parent: 0,
             },
         );
         push_within(&mut marks, 0);
         push_within(&mut marks, 1);
         push_within(&mut cells, Bound::Void);
+        push_within(&mut flags, halted);
+        push_within(&mut flags, halted);
         Ok(Marked {
             nodes,
             scopes: Vec::new(alloc),
             cells,
             marks,
+            halts,
+            flags,
             rest: Rest::new(alloc, cancels),
         })
     }

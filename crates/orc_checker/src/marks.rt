@@ -47,7 +47,7 @@ impl Marked {
         if b == 0 || b - 1 != a {
             return Err(RuleFault::Number);
         }
-        reserve(&mut self.nodes, &mut self.marks).map_err(|_| RuleFault::Memory)?;
+        reserve(&mut self.nodes, &mut self.flags, &mut self.marks).map_err(|_| RuleFault::Memory)?;
         let n = size(&self.nodes);
         self.nodes[spot.at] = Node {
             kind: Kind::Two(Double::Both, n, n + 1),
@@ -57,6 +57,8 @@ impl Marked {
         push_within(&mut self.nodes, token_node(b, g, spot));
         push_within(&mut self.marks, n);
         push_within(&mut self.marks, n + 1);
+        push_within(&mut self.flags, self.halts.at(f));
+        push_within(&mut self.flags, self.halts.at(g));
         Ok(())
     }
 
@@ -70,7 +72,7 @@ impl Marked {
             return Err(RuleFault::Form);
         };
         self.next_mark(a)?;
-        reserve(&mut self.nodes, &mut self.marks).map_err(|_| RuleFault::Memory)?;
+        reserve(&mut self.nodes, &mut self.flags, &mut self.marks).map_err(|_| RuleFault::Memory)?;
         let n = size(&self.nodes);
         self.nodes[spot.at] = Node {
             kind: Kind::One(Single::Feeds(x, g, spot.scope), n),
@@ -78,6 +80,7 @@ impl Marked {
         };
         push_within(&mut self.nodes, token_node(a, f, spot));
         push_within(&mut self.marks, n);
+        push_within(&mut self.flags, self.halts.at(f));
         Ok(())
     }
 
@@ -91,7 +94,7 @@ impl Marked {
             return Err(RuleFault::Form);
         };
         self.next_mark(a)?;
-        reserve(&mut self.nodes, &mut self.marks).map_err(|_| RuleFault::Memory)?;
+        reserve(&mut self.nodes, &mut self.flags, &mut self.marks).map_err(|_| RuleFault::Memory)?;
         let n = size(&self.nodes);
         self.nodes[spot.at] = Node {
             kind: Kind::One(Single::Entered(s, g, spot.scope), n),
@@ -99,6 +102,7 @@ impl Marked {
         };
         push_within(&mut self.nodes, token_node(a, f, spot));
         push_within(&mut self.marks, n);
+        push_within(&mut self.flags, self.halts.at(f));
         Ok(())
     }
 }

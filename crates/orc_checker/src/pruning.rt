@@ -6,6 +6,7 @@ ghost use Rattle.orc_checker.specs.Checker.{Enters};
 ghost use Rattle.orc_rules.specs.declared.entry.Entry.TheVariants as entry;
 
 use crate::arena::{Bound, Double, Kind, Node, Scope};
+use crate::flags::{both, settle};
 use crate::marked::{Marked, Spot, token_node};
 use crate::room::{push_within, reserve, size};
 use orc_rules::entry::RuleFault;
@@ -64,7 +65,7 @@ impl Marked {
             return Err(RuleFault::Number);
         }
         reserve_cell(&mut self.scopes, &mut self.cells).map_err(|_| RuleFault::Memory)?;
-        reserve(&mut self.nodes, &mut self.marks).map_err(|_| RuleFault::Memory)?;
+        reserve(&mut self.nodes, &mut self.flags, &mut self.marks).map_err(|_| RuleFault::Memory)?;
         let n = size(&self.nodes);
         push_within(
             &mut self.scopes,
@@ -87,6 +88,11 @@ impl Marked {
         push_within(&mut self.nodes, token_node(b, g, spot));
         push_within(&mut self.marks, n);
         push_within(&mut self.marks, n + 1);
+        let left = self.halts.at(f);
+        let right = self.halts.at(g);
+        push_within(&mut self.flags, left);
+        push_within(&mut self.flags, right);
+        settle(&self.nodes, &mut self.flags, spot.at, both(left, right));
         Ok(())
     }
 }

@@ -6,6 +6,7 @@ ghost use Rattle.orc_checker.specs.Checker.{Enters};
 ghost use Rattle.orc_rules.specs.declared.entry.Entry.TheVariants as entry;
 
 use crate::arena::{Kind, Node, Tip};
+use crate::flags::settle;
 use crate::marked::Marked;
 use crate::walk::{Taker, rise, way_up, write_node};
 use orc_rules::entry::RuleFault;
@@ -34,6 +35,7 @@ impl Marked {
             },
         );
         rise(&mut self.nodes, bearer.at, way.steps);
+        settle(&self.nodes, &mut self.flags, bearer.at, true);
         Ok(())
     }
 }

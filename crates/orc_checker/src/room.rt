@@ -22,13 +22,19 @@ pub(crate) fn size(nodes: &Vec<Node>) -> usize
     nodes.len()
 }
 
-/// Memory for two more nodes and two more marks.
-pub(crate) fn reserve(nodes: &mut Vec<Node>, marks: &mut Vec<usize>) -> Result<(), AllocError>
+/// Memory for two more nodes with their flags and two more marks.
+pub(crate) fn reserve(
+    nodes: &mut Vec<Node>,
+    flags: &mut Vec<bool>,
+    marks: &mut Vec<usize>,
+) -> Result<(), AllocError>
     ensures nodes { nodes.new.items ≡ nodes.old.items }
+    ensures flags { flags.new.items ≡ flags.old.items }
     ensures marks { marks.new.items ≡ marks.old.items }
-    ensures room { IfOk result (λ _. (vec_len nodes.new + 2 ≤ vec_capacity nodes.new) × (vec_len marks.new + 2 ≤ vec_capacity marks.new)) }
+    ensures room { IfOk result (λ _. (vec_len nodes.new + 2 ≤ vec_capacity nodes.new) × (vec_len flags.new + 2 ≤ vec_capacity flags.new) × (vec_len marks.new + 2 ≤ vec_capacity marks.new)) }
 {
     nodes.try_reserve(2)?;
+    flags.try_reserve(2)?;
     marks.try_reserve(2)?;
     Ok(())
 }

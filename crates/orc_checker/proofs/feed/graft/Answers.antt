@@ -9,8 +9,8 @@ use Rattle.orc_checker.proofs.Moves.{node}
 use Rattle.orc_checker.proofs.Feeding.{graft_by, grafts}
 use Rattle.orc_checker.proofs.feed.graft.Goals as goal
 
-pub returns : goal.returns
-returns c =
+pub returns-clause-grafts : goal.returns-clause-grafts
+returns-clause-grafts c =
     let nodes = c.args.nodes.now.items in
     let at = c.args.at in
     let tip = c.args.tip in

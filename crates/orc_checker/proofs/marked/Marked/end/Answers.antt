@@ -15,4 +15,5 @@ returns-clause-done c =
     end-enters terms c.args.self.now _ t.at t.parent c.args.s t.node t.scope c.in_ok-spot.ensures.there
     (c.node.ensures.term ∙ ap (unfold_node terms c.args.program.now.lists) c.in-Stop.is)
     (ap (λ (z : State). slice_set z.nodes t.at (node (Leaf Ended) t.parent)) v)
-    (record { free = c.in_ok-spot.ensures.free; scopes = ap State.scopes v; cells = ap State.cells v; marks = ap (λ (z : State). length z.marks) v; rest = ap State.rest v })
+    (ap State.flags v)
+    (record { free = c.in_ok-spot.ensures.free; scopes = ap State.scopes v; cells = ap State.cells v; marks = ap (λ (z : State). length z.marks) v; rest = ap State.rest v; halts = ap State.halts v })

@@ -1,6 +1,7 @@
-use Rattle.std.proofs.Common.{◌≡◌, ap, ◌∙◌, length, suc, arith}
+use Rattle.std.proofs.Common.{◌≡◌, ap, ◌∙◌, ◌++◌, ◌∷◌, [], length, suc, arith}
 use Rattle.orc_rules.specs.Nodes.{code, unfold_node}
 use Rattle.orc_checker.specs.Checker.{State}
+use Rattle.orc_checker.specs.Halting.{halt_flag}
 use Rattle.orc_checker.proofs.Moves.{fork-enters}
 use Rattle.orc_checker.proofs.Answering.{set_two, two_more}
 use Rattle.orc_checker.proofs.marked.Marked.fork.Goals as goal
@@ -19,4 +20,5 @@ returns-clause-done c =
     next
     b_is
     (set_two c.args.self.now.nodes _ _ _ t.at _ _ _ _ _ (c.reserve.ensures.nodes ∙ ap State.nodes v) c.push_within.ensures.items c.push_within-2.ensures.items c.token_node.ensures c.token_node-2.ensures)
-    (record { free = c.in_ok-spot.ensures.free; scopes = ap State.scopes v; cells = ap State.cells v; marks = two_more c.args.self.now.marks _ _ _ _ _ c.args.a c.args.b (c.reserve.ensures.marks ∙ ap State.marks v) c.push_within-3.ensures.items c.push_within-4.ensures.items next b_is; rest = ap State.rest v })
+    (c.push_within-6.ensures.items ∙ (λ j. (c.push_within-5.ensures.items ∙ (λ j. (c.reserve.ensures.flags ∙ ap State.flags v) j ++ (c.at.ensures ∙ ap (λ (z : State). halt_flag z.halts k.f) v) j ∷ [])) j ++ (c.at-2.ensures ∙ ap (λ (z : State). halt_flag z.halts k.g) v) j ∷ []))
+    (record { free = c.in_ok-spot.ensures.free; scopes = ap State.scopes v; cells = ap State.cells v; marks = two_more c.args.self.now.marks _ _ _ _ _ c.args.a c.args.b (c.reserve.ensures.marks ∙ ap State.marks v) c.push_within-3.ensures.items c.push_within-4.ensures.items next b_is; rest = ap State.rest v; halts = ap State.halts v })

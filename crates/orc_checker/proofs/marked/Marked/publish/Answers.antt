@@ -1,10 +1,11 @@
-use Rattle.std.proofs.Common.{ap, ◌∙◌, subst, length}
+use Rattle.std.proofs.Common.{ap, ◌∙◌, subst, length, length-set, true}
 use Rattle.std.specs.Prelude.{slice_set}
 use Rattle.orc_checker.specs.declared.arena.Kind.TheVariants.{Leaf}
 use Rattle.orc_checker.specs.declared.arena.Tip.TheVariants.{Ended}
 use Rattle.orc_rules.specs.Nodes.{code}
 use Rattle.orc_checker.specs.Rising.{IsTaker, Rises}
 use Rattle.orc_checker.specs.Checker.{State}
+use Rattle.orc_checker.specs.Settling.{Settles}
 use Rattle.orc_checker.proofs.Moves.{node}
 use Rattle.orc_checker.proofs.Publishing.{publish-enters}
 use Rattle.orc_checker.proofs.marked.Marked.publish.Goals as goal
@@ -18,4 +19,7 @@ returns-clause-done c =
     publish-enters terms s _ t.at t.parent c.args.s c.in-Some.way.steps t.tip c.args.v c.in_ok-bearer.ensures.there c.in_ok-bearer.ensures.lives c.in_ok-bearer.ensures.bears
     (subst (λ z. IsTaker s.nodes t.at z c.in-Some.way.steps) c.in-Whole.is (subst (λ (z : State). IsTaker z.nodes t.at c.in-Some.way.taker c.in-Some.way.steps) v c.in-Some.ensures))
     (subst (λ z. Rises z t.at c.in-Some.way.steps c.rise.new.nodes.items) (c.write_node.ensures.items ∙ ap (λ (z : State). slice_set z.nodes t.at (node (Leaf Ended) t.parent)) v) c.rise.ensures.rises)
-    (record { free = c.in_ok-bearer.ensures.free; scopes = ap State.scopes v; cells = ap State.cells v; marks = ap (λ (z : State). length z.marks) v; rest = ap State.rest v })
+    (c.rise.ensures.len ∙ ap length c.write_node.ensures.items ∙ length-set c.self.inside.nodes.items t.at (node (Leaf Ended) t.parent) ∙ ap (λ (z : State). length z.nodes) v)
+    (c.settle.ensures.len ∙ ap (λ (z : State). length z.flags) v)
+    (subst (λ z. Settles c.rise.new.nodes.items z t.at true c.settle.new.flags.items) (ap State.flags v) c.settle.ensures.settles)
+    (record { free = c.in_ok-bearer.ensures.free; scopes = ap State.scopes v; cells = ap State.cells v; marks = ap (λ (z : State). length z.marks) v; rest = ap State.rest v; halts = ap State.halts v })

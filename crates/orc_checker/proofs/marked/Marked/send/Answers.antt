@@ -1,4 +1,4 @@
-use Rattle.std.proofs.Common.{◌≡◌, ◌+◌, ◌∷◌, ◌++◌, [], ap, sym, ◌∙◌, subst, length, get_or, length-append}
+use Rattle.std.proofs.Common.{◌≡◌, ◌+◌, ◌∷◌, ◌++◌, [], ap, sym, ◌∙◌, subst, length, get_or, length-append, length-set, true, false}
 use Rattle.std.specs.Prelude.{slice_set}
 use Rattle.orc_checker.specs.declared.arena.Node.{Node}
 use Rattle.orc_checker.specs.declared.arena.Scope.{Scope}
@@ -9,6 +9,8 @@ use Rattle.orc_rules.specs.Nodes.{code}
 use Rattle.orc_checker.specs.Rising.{IsTaker, Rises, nowhere}
 use Rattle.orc_checker.specs.Grafting.{Grafts}
 use Rattle.orc_checker.specs.Checker.{State}
+use Rattle.orc_checker.specs.Halting.{halt_flag}
+use Rattle.orc_checker.specs.Settling.{Settles}
 use Rattle.orc_checker.proofs.Moves.{node}
 use Rattle.orc_checker.proofs.Answering.{one_more}
 use Rattle.orc_checker.proofs.Sending.{send-enters}
@@ -25,6 +27,8 @@ returns-clause-done c =
     let scope : Scope = record { name = f.x; bound = Is c.args.v; outer = f.outer } in
     let scopes = c.push_within.ensures.items ∙ ap (λ z. z ++ scope ∷ []) (c.try_reserve.ensures.items ∙ ap State.scopes v) in
     let count : c.scope_count.result ≡ length s.scopes + 1 = c.scope_count.ensures ∙ ap length scopes ∙ length-append s.scopes (scope ∷ []) in
+    let flags : c.push_within-4.new.items.items ≡ (s.flags ++ false ∷ []) ++ halt_flag s.halts f.g ∷ [] =
+    c.push_within-4.ensures.items ∙ (λ j. (c.push_within-3.ensures.items ∙ (λ j. (c.reserve.ensures.flags ∙ ap State.flags v) j ++ false ∷ [])) j ++ (c.at.ensures ∙ ap (λ (z : State). halt_flag z.halts f.g) v) j ∷ []) in
     send-enters terms s _ t.at t.parent c.args.s w.steps c.in-Fed.at f.x f.g f.outer c.in-One.field-1 c.args.a t.tip c.args.v c.rise.new.nodes.items
     c.in_ok-bearer.ensures.there c.in_ok-bearer.ensures.lives c.in_ok-bearer.ensures.bears
     (subst (λ z. IsTaker s.nodes t.at z w.steps) c.in-Fed.is (subst (λ (z : State). IsTaker z.nodes t.at w.taker w.steps) v c.in-Some.ensures))
@@ -32,10 +36,15 @@ returns-clause-done c =
     (subst (λ z. Rises z t.at w.steps c.rise.new.nodes.items) (c.write_node.ensures.items ∙ ap (λ z. slice_set z t.at (node (Leaf Ended) t.parent)) (c.reserve.ensures.nodes ∙ ap State.nodes v)) c.rise.ensures.rises)
     (record {
       free = c.in_ok-bearer.ensures.free;
-      grafts = subst (λ z. Grafts c.rise.new.nodes.items c.in-Fed.at (Token c.args.a f.g z) c.graft.new.nodes.items) count c.graft.ensures;
+      grafts = subst (λ z. Grafts c.rise.new.nodes.items c.in-Fed.at (Token c.args.a f.g z) c.graft.new.nodes.items) count c.graft.ensures.grafts;
       scopes = scopes;
       cells = ap State.cells v;
       marks = one_more s.marks _ _ _ c.args.a (c.reserve.ensures.marks ∙ ap State.marks v) c.push_within-2.ensures.items c.in_ok-next_mark.ensures;
       next = c.in_ok-next_mark.ensures;
       rest = ap State.rest v;
+      halts = ap State.halts v;
+      same_len = c.rise.ensures.len ∙ ap length c.write_node.ensures.items ∙ length-set c.reserve.new.nodes.items t.at (node (Leaf Ended) t.parent) ∙ ap length (c.reserve.ensures.nodes ∙ ap State.nodes v);
+      len = c.graft.ensures.len;
+      flags_len = c.settle.ensures.len ∙ ap length flags;
+      settles = subst (λ z. Settles c.graft.new.nodes.items z t.at true c.settle.new.flags.items) flags c.settle.ensures.settles;
     })

@@ -1,6 +1,7 @@
-use Rattle.std.proofs.Common.{ap, ◌∙◌, length}
+use Rattle.std.proofs.Common.{ap, ◌∙◌, ◌++◌, ◌∷◌, [], length}
 use Rattle.orc_rules.specs.Nodes.{code, unfold_node}
 use Rattle.orc_checker.specs.Checker.{State}
+use Rattle.orc_checker.specs.Halting.{halt_flag}
 use Rattle.orc_checker.proofs.Moves.{seq-enters}
 use Rattle.orc_checker.proofs.Answering.{set_one, one_more}
 use Rattle.orc_checker.proofs.marked.Marked.seq.Goals as goal
@@ -17,4 +18,5 @@ returns-clause-done c =
     (c.size-n.ensures ∙ ap length (c.reserve.ensures.nodes ∙ ap State.nodes v))
     next
     (set_one c.args.self.now.nodes _ _ t.at _ _ _ (c.reserve.ensures.nodes ∙ ap State.nodes v) c.push_within.ensures.items c.token_node.ensures)
-    (record { free = c.in_ok-spot.ensures.free; scopes = ap State.scopes v; cells = ap State.cells v; marks = one_more c.args.self.now.marks _ _ _ c.args.a (c.reserve.ensures.marks ∙ ap State.marks v) c.push_within-2.ensures.items next; rest = ap State.rest v })
+    (c.push_within-3.ensures.items ∙ (λ j. (c.reserve.ensures.flags ∙ ap State.flags v) j ++ (c.at.ensures ∙ ap (λ (z : State). halt_flag z.halts k.f) v) j ∷ []))
+    (record { free = c.in_ok-spot.ensures.free; scopes = ap State.scopes v; cells = ap State.cells v; marks = one_more c.args.self.now.marks _ _ _ c.args.a (c.reserve.ensures.marks ∙ ap State.marks v) c.push_within-2.ensures.items next; rest = ap State.rest v; halts = ap State.halts v })
