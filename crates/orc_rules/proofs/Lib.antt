@@ -6,6 +6,7 @@ pub mod DueTimes
 pub mod Emitted
 pub mod Equations
 pub mod Explained
+pub mod Final
 pub mod Idle
 pub mod Inside
 pub mod Late

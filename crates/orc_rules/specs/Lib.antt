@@ -1,6 +1,8 @@
 pub mod Digits
+pub mod Final
 pub mod Idle
 pub mod Journal
+pub mod Labels
 pub mod Lost
 pub mod Marked
 pub mod Nodes

@@ -83,10 +83,13 @@ pub enum RuleFault {
     Memory,
 }
 
-/// What a checked journal has reached: no part of the term can ever do anything, nothing can happen any more though the term hasn't halted, or neither.
+/// Where a journal has brought a run.
 #[derive(Clone, Copy, PartialEq, Eq, Debug)]
 pub enum State {
+    /// The term has halted: nothing can come any more but that cells are lost.
     Halted,
+    /// The term hasn't halted, but no rule can be used, and no tick is possible.
     Quiet,
+    /// A rule can be used, now or after a tick.
     Running,
 }
