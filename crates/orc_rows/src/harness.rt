@@ -61,7 +61,7 @@ impl Write for ShortWriter {
 }
 
 /// What a command line did.
-#[derive(Drop)]
+#[derive(Debug, Drop)]
 pub struct Done {
     pub status: u8,
     pub out: String,
@@ -79,4 +79,50 @@ pub fn orc(alloc: Global, words: &[&str], files: &[(&str, &[u8])]) -> Result<Don
         out: String::from_utf8(out)?,
         err: String::from_utf8(err)?,
     })
+}
+
+/// A program, and all that its run may do: the status, standard error, and standard output, which is one of `outs`.
+#[derive(Clone, Copy)]
+pub struct Row<'a> {
+    pub source: &'a [u8],
+    /// Words of the command line behind `orc run FILE`.
+    pub words: &'a [&'a str],
+    pub status: u8,
+    pub outs: &'a [&'a str],
+    pub err: &'a str,
+}
+
+/// A row of a program that is run without options and is no fault.
+pub fn runs<'a>(source: &'a [u8], status: u8, outs: &'a [&'a str]) -> Row<'a> {
+    Row {
+        source,
+        words: &[],
+        status,
+        outs,
+        err: "",
+    }
+}
+
+/// A row of a program that is refused, with this line on standard error.
+pub fn refused<'a>(source: &'a [u8], err: &'a str) -> Row<'a> {
+    Row {
+        source,
+        words: &[],
+        status: 1,
+        outs: &[""],
+        err,
+    }
+}
+
+/// Runs a row's program: what it did, and whether it may.
+pub fn run_row(alloc: Global, row: &Row) -> Result<(Done, bool), Fail> {
+    let mut words = Vec::from_slice(alloc, &["orc", "run", "a.orc"])?;
+    words.extend_from_slice(row.words)?;
+    let done = orc(alloc, words.as_slice(), &[("a.orc", row.source)])?;
+    let mut listed = false;
+    for out in row.outs {
+        listed = listed || *out == done.out.as_str();
+    }
+    let may = listed && done.status == row.status && done.err.as_str() == row.err;
+    Ok((done, may))
 }

@@ -5,3 +5,5 @@
 mod command_lines;
 #[cfg(test)]
 mod harness;
+#[cfg(test)]
+mod programs;

@@ -1,1 +1,5 @@
+pub mod Faults
 pub mod Output
+pub mod Running
+pub mod Runs
+pub mod Status

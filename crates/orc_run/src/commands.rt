@@ -1,7 +1,9 @@
-ghost use Rattle.std.specs.Prelude.{◌<◌};
+ghost use Rattle.std.specs.Prelude.{◌≡◌, ◌<◌};
+ghost use Rattle.orc_run.specs.Status.{read_status_of};
 
-use crate::arguments::read_words;
-use crate::inputs::Files;
+use crate::arguments::{Job, read_words};
+use crate::inputs::{Files, ReadFault};
+use crate::running::{Options, run_text};
 use clap::error::ErrorKind;
 use std::alloc::Global;
 use std::convert::AsStr;
@@ -28,11 +30,48 @@ fn refuse<W: Write, V: Write>(error: &clap::Error, out: &mut W, err: &mut V) -> 
     }
 }
 
+/// Reports a file that could not be read: the status.
+fn unread<V: Write>(path: &str, fault: ReadFault, err: &mut V) -> u8
+    ensures { result ≡ read_status_of fault }
+{
+    let _ = match fault {
+        ReadFault::Memory => writeln!(err, "orc: memory"),
+        ReadFault::Failed => writeln!(err, "orc: read {path}"),
+    };
+    fault.status()
+}
+
+/// Runs the program in a file: the status.
+fn run_file<F: Files, W: Write, V: Write>(
+    alloc: Global,
+    file: &str,
+    options: &Options,
+    files: &mut F,
+    out: &mut W,
+    err: &mut V,
+) -> u8
+    ensures { result < 8 }
+{
+    let source = match files.read(file) {
+        Ok(source) => source,
+        Err(fault) => return unread(file, fault, err),
+    };
+    match run_text(alloc, source.as_slice(), options, out) {
+        Ok(summary) => summary.end.status(),
+        Err(fault) => {
+            let _ = writeln!(err, "{fault}");
+            fault.status()
+        }
+    }
+}
+
 /// Does one command line, whose first word is the program's name, and gives the process's status.
+///
+/// Standard output is `out`, standard error `err`; what standard error doesn't take changes no status.
 pub fn command<S, F, W, V>(
     alloc: Global,
     words: &[S],
-    _files: &mut F,
+    files: &mut F,
     out: &mut W,
     err: &mut V,
 ) -> u8
@@ -45,6 +84,7 @@ where
 {
     match read_words(alloc, words) {
         Err(error) => refuse(&error, out, err),
-        Ok(()) => 0,
+        Ok(None) => 2,
+        Ok(Some(Job::Run { file, options })) => run_file(alloc, file, &options, files, out, err),
     }
 }

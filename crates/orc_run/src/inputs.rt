@@ -1,3 +1,8 @@
+//! The files that a command line names.
+
+ghost use Rattle.std.specs.Prelude.{◌≡◌};
+ghost use Rattle.orc_run.specs.Status.{read_status_of};
+
 use thiserror::Error;
 
 /// Why a file could not be read.
@@ -14,4 +19,16 @@ pub enum ReadFault {
 pub trait Files {
     /// All bytes of the file at this path.
     fn read(&mut self, path: &str) -> Result<Vec<u8>, ReadFault>;
+}
+
+impl ReadFault {
+    /// The process's status where a file could not be read.
+    pub fn status(self) -> u8
+        ensures { result ≡ read_status_of self }
+    {
+        match self {
+            ReadFault::Memory => 5,
+            ReadFault::Failed => 6,
+        }
+    }
 }

@@ -1,0 +1,7 @@
+-- Each turn so far has added an entry.
+use Rattle.std.proofs.Common.{◌≡◌, ◌≤◌}
+use Rattle.orc_run.specs.Runs.{IsReached}
+use Rattle.orc_run.proofs.plain.play.Given as goal
+
+abbrev pub invariant-loop-turn : goal.invariant-loop-turn
+invariant-loop-turn l = IsReached l.program l.answers l.history × (l.history.entries ≡ l._turn)

@@ -1,0 +1,80 @@
+-- The line and the status of each fault.
+use Rattle.std.specs.Prelude.{ℕ, List, ◌++◌, codes, decimal}
+use Rattle.orc_lex.specs.declared.token.What.{What}
+use Rattle.orc_lex.specs.declared.token.What.TheVariants as what
+use Rattle.orc_syntax.specs.declared.fault.SyntaxFault.{SyntaxFault}
+use Rattle.orc_syntax.specs.declared.fault.SyntaxFault.TheVariants as syntax_fault
+use Rattle.orc_scope.specs.declared.fault.ScopeFault.{ScopeFault}
+use Rattle.orc_scope.specs.declared.fault.FaultKind.{FaultKind}
+use Rattle.orc_scope.specs.declared.fault.FaultKind.TheVariants as kind
+use Rattle.orc_run.specs.declared.faults.RunFault.{RunFault}
+use Rattle.orc_run.specs.declared.faults.RunFault.TheVariants as fault
+
+-- a code with a place in bytes
+abbrev pub at_place : List ℕ → ℕ → List ℕ
+at_place code place = code ++ (codes " at " ++ decimal place)
+
+abbrev pub what_word : What → List ℕ
+what_word what.Expression = codes "Expression"
+what_word what.Name = codes "Name"
+what_word what.Paren = codes "Paren"
+what_word what.Close = codes "Close"
+what_word what.CommaOrClose = codes "CommaOrClose"
+what_word what.Assign = codes "Assign"
+what_word what.Arrow = codes "Arrow"
+what_word what.End = codes "End"
+
+abbrev pub syntax_line : SyntaxFault → List ℕ
+syntax_line (syntax_fault.Encoding at) = at_place (codes "S1") at
+syntax_line (syntax_fault.Character at) = at_place (codes "S2") at
+syntax_line (syntax_fault.Number span) = at_place (codes "S3") span.start
+syntax_line (syntax_fault.Expected at what) = at_place (codes "S4") at ++ (codes ": " ++ what_word what)
+syntax_line (syntax_fault.Deep at) = at_place (codes "S5") at
+syntax_line syntax_fault.Long = codes "S6"
+syntax_line (syntax_fault.Comment at) = at_place (codes "S7") at
+syntax_line syntax_fault.Memory = codes "S8"
+
+abbrev pub kind_code : FaultKind → List ℕ
+kind_code kind.Unbound = codes "C1"
+kind_code kind.NotValue = codes "C2"
+kind_code (kind.Arity want got) = codes "C3"
+kind_code kind.DefinedTwice = codes "C4"
+kind_code kind.ParameterTwice = codes "C5"
+kind_code kind.CallOfVariable = codes "C6"
+kind_code kind.NoSite = codes "C7"
+kind_code kind.TooMany = codes "C8"
+kind_code kind.Memory = codes "C9"
+
+-- all but want of memory have a place
+abbrev pub scope_text : FaultKind → ℕ → List ℕ
+scope_text kind.Memory start = codes "C9"
+scope_text k start = at_place (kind_code k) start
+
+abbrev pub scope_line : ScopeFault → List ℕ
+scope_line f = scope_text f.kind f.span.start
+
+-- the line on standard error, without its LF
+abbrev pub line : RunFault → List ℕ
+line (fault.Syntax f) = codes "orc: " ++ syntax_line f
+line (fault.Scope f) = codes "orc: " ++ scope_line f
+line fault.Memory = codes "orc: E2"
+line fault.Broken = codes "orc: E4"
+line fault.Later = codes "orc: later"
+line (fault.Write w) = codes "orc: write"
+
+-- 5 where memory was refused, else 1 for what is wrong with the program, 6 for the output, 7 for the engine
+abbrev pub syntax_status : SyntaxFault → ℕ
+syntax_status syntax_fault.Memory = 5
+syntax_status f = 1
+
+abbrev pub scope_status : FaultKind → ℕ
+scope_status kind.Memory = 5
+scope_status k = 1
+
+abbrev pub status : RunFault → ℕ
+status (fault.Syntax f) = syntax_status f
+status (fault.Scope f) = scope_status f.kind
+status fault.Memory = 5
+status fault.Broken = 7
+status fault.Later = 1
+status (fault.Write w) = 6

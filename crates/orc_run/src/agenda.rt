@@ -1,0 +1,165 @@
+//! What can come next in a run: the tokens that can move, in the order of their turns, and the calls by their due times.
+
+use orc_checker::{Marked, Next};
+use orc_rules::entry::Entry;
+use orc_rules::program::Program;
+use orc_rules::value::Answer;
+use std::alloc::{AllocError, Global};
+use std::cmp::Reverse;
+use std::collections::{BTreeMap, BinaryHeap, VecDeque};
+
+/// Tokens take their turns one after another, so none is starved. A token that waits for a cell stands in that cell's list.
+#[derive(Drop)]
+pub struct Agenda {
+    tokens: VecDeque<u64>,
+    waiting: BTreeMap<u64, Vec<u64>>,
+    /// The due time and the number of each call that has one, the least first.
+    due: BinaryHeap<Reverse<(u64, u64)>>,
+}
+
+/// What comes next in a run.
+#[derive(Drop)]
+pub enum Choice {
+    Entry(Entry),
+    /// No token can move, and no call will ever be due.
+    Nothing,
+    /// Something that the checker doesn't take yet.
+    Later,
+}
+
+// Whether the checker takes such an entry.
+fn is_taken(next: &Next) -> bool {
+    matches!(
+        next,
+        Next::End
+            | Next::Fork
+            | Next::Seq
+            | Next::Other
+            | Next::Open
+            | Next::Send(_)
+            | Next::Publish(_)
+    )
+}
+
+impl Agenda {
+    /// The agenda of a run's beginning: token 1.
+    pub fn new(alloc: Global) -> Result<Agenda, AllocError> {
+        let mut tokens = VecDeque::new(alloc);
+        tokens.push_back(1)?;
+        Ok(Agenda {
+            tokens,
+            waiting: BTreeMap::new(alloc),
+            due: BinaryHeap::new(alloc),
+        })
+    }
+
+    /// An entry that can come next: a cancel that is due, else what can move, else a return that is due now, else a tick.
+    pub fn choose(&mut self, program: &Program, marked: &Marked) -> Result<Choice, AllocError> {
+        if let Some(call) = marked.next_cancel() {
+            return Ok(Choice::Entry(Entry::Cancel(call)));
+        }
+        for _ in 0..self.tokens.len() {
+            let Some(token) = self.tokens.pop_front() else {
+                break;
+            };
+            match marked.next(program, token) {
+                None => {}
+                Some(Next::Wait(cell)) => self.wait(token, cell)?,
+                Some(next) if !is_taken(&next) => return Ok(Choice::Later),
+                Some(next) => return Ok(Choice::Entry(token_entry(marked, token, next))),
+            }
+        }
+        Ok(self.choose_call(marked))
+    }
+
+    // Takes note of a token that waits for a cell.
+    fn wait(&mut self, token: u64, cell: u64) -> Result<(), AllocError> {
+        let alloc = *self.tokens.allocator();
+        let tokens = self.waiting.entry(cell)?.or_insert(Vec::new(alloc));
+        tokens.push(token)?;
+        Ok(())
+    }
+
+    // The return of a call that is due now, else a tick to the least due time.
+    fn choose_call(&mut self, marked: &Marked) -> Choice {
+        for _ in 0..self.due.len() {
+            let Some(&Reverse((at, call))) = self.due.peek() else {
+                break;
+            };
+            let answer = marked.due(call);
+            if answer.is_some() && marked.now() < at {
+                return Choice::Entry(Entry::Tick(at));
+            }
+            self.due.pop();
+            if let Some((answer, _)) = answer {
+                return Choice::Entry(return_entry(marked, call, answer));
+            }
+        }
+        Choice::Nothing
+    }
+
+    /// Takes note of what an entry has made: new tokens, a call, or tokens that wait no more.
+    pub fn note(&mut self, entry: &Entry, marked: &Marked) -> Result<(), AllocError> {
+        match entry {
+            Entry::Fork(_, a, b) | Entry::Open(_, _, a, b) => {
+                self.tokens.push_back(*a)?;
+                self.tokens.push_back(*b)?;
+            }
+            Entry::Seq(_, a)
+            | Entry::Other(_, a)
+            | Entry::Def(_, a)
+            | Entry::Send(_, a, _)
+            | Entry::Return(_, a, _)
+            | Entry::Right(_, a) => self.tokens.push_back(*a)?,
+            Entry::Call(_, call, _, _) => {
+                if let Some((_, at)) = marked.due(*call) {
+                    self.due.push(Reverse((at, *call)))?;
+                }
+            }
+            Entry::Bind(_, cell, _) | Entry::Lost(cell) => self.wake(*cell)?,
+            Entry::End(_)
+            | Entry::Void(_)
+            | Entry::ReturnHalt(_)
+            | Entry::Publish(_, _)
+            | Entry::Tick(_)
+            | Entry::Cancel(_) => {}
+        }
+        Ok(())
+    }
+
+    // The tokens that waited for a cell can move.
+    fn wake(&mut self, cell: u64) -> Result<(), AllocError> {
+        if let Some(tokens) = self.waiting.remove(&cell) {
+            for token in tokens {
+                self.tokens.push_back(token)?;
+            }
+        }
+        Ok(())
+    }
+}
+
+// The entry of a token's next move, with the next numbers.
+fn token_entry(marked: &Marked, token: u64, next: Next) -> Entry {
+    let mark = marked.new_mark();
+    match next {
+        Next::End => Entry::End(token),
+        Next::Fork => Entry::Fork(token, mark, mark.saturating_add(1)),
+        Next::Seq => Entry::Seq(token, mark),
+        Next::Other => Entry::Other(token, mark),
+        Next::Def => Entry::Def(token, mark),
+        Next::Void | Next::Wait(_) => Entry::Void(token),
+        Next::Open => Entry::Open(token, marked.new_cell(), mark, mark.saturating_add(1)),
+        Next::Send(value) => Entry::Send(token, mark, value),
+        Next::Call(site, args) => Entry::Call(token, marked.new_call(), site, args),
+        Next::Bind(cell, value) => Entry::Bind(token, cell, value),
+        Next::Publish(value) => Entry::Publish(token, value),
+    }
+}
+
+// The entry of a call's return.
+fn return_entry(marked: &Marked, call: u64, answer: Answer) -> Entry {
+    match answer {
+        Answer::Value(value) => Entry::Return(call, marked.new_mark(), value),
+        Answer::Halt => Entry::ReturnHalt(call),
+    }
+}

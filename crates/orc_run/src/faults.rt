@@ -1,0 +1,142 @@
+//! Why a program is not run, and the line and the status of each cause.
+
+ghost use Rattle.std.specs.Prelude.{◌≡◌, Some};
+ghost use Rattle.orc_run.specs.Faults.{syntax_line, what_word, scope_line, line, status};
+
+use crate::output::WriteFault;
+use orc_scope::{FaultKind, ScopeFault};
+use orc_syntax::{SyntaxFault, What};
+use std::error::Error;
+use std::fmt;
+
+/// Why a program was not run, or its output not written.
+#[derive(Clone, Copy, Debug, PartialEq, Eq)]
+pub enum RunFault {
+    /// The source is no program.
+    Syntax(SyntaxFault),
+    /// A name of the source means nothing that fits.
+    Scope(ScopeFault),
+    /// E2: memory was refused before the run began.
+    Memory,
+    /// E4: the engine chose an entry that the rules refuse. No run is known to end so.
+    Broken,
+    /// The program needs what isn't there yet.
+    Later,
+    /// The output was not taken whole, or memory for its text was refused.
+    Write(WriteFault),
+}
+
+/// The wanted thing of an S4.
+#[derive(Clone, Copy)]
+struct WhatWord(What);
+
+impl fmt::Display for WhatWord {
+    ghost output = { λ w. Some (what_word w.0) };
+
+    fn fmt<W: fmt::Write>(&self, f: &mut fmt::Formatter<W>) -> fmt::Result {
+        let word = match self.0 {
+            What::Expression => "Expression",
+            What::Name => "Name",
+            What::Paren => "Paren",
+            What::Close => "Close",
+            What::CommaOrClose => "CommaOrClose",
+            What::Assign => "Assign",
+            What::Arrow => "Arrow",
+            What::End => "End",
+        };
+        write!(f, "{word}")
+    }
+}
+
+/// A syntax fault's code and place.
+#[derive(Clone, Copy)]
+struct SyntaxLine(SyntaxFault);
+
+impl fmt::Display for SyntaxLine {
+    ghost output = { λ s. Some (syntax_line s.0) };
+
+    fn fmt<W: fmt::Write>(&self, f: &mut fmt::Formatter<W>) -> fmt::Result {
+        match self.0 {
+            SyntaxFault::Encoding(at) => write!(f, "S1 at {at}"),
+            SyntaxFault::Character(at) => write!(f, "S2 at {at}"),
+            SyntaxFault::Number(span) => {
+                let start = span.start;
+                write!(f, "S3 at {start}")
+            }
+            SyntaxFault::Expected(at, what) => {
+                let what = WhatWord(what);
+                write!(f, "S4 at {at}: {what}")
+            }
+            SyntaxFault::Deep(at) => write!(f, "S5 at {at}"),
+            SyntaxFault::Long => write!(f, "S6"),
+            SyntaxFault::Comment(at) => write!(f, "S7 at {at}"),
+            SyntaxFault::Memory => write!(f, "S8"),
+        }
+    }
+}
+
+/// A scope fault's code and place.
+#[derive(Clone, Copy)]
+struct ScopeLine(ScopeFault);
+
+impl fmt::Display for ScopeLine {
+    ghost output = { λ s. Some (scope_line s.0) };
+
+    fn fmt<W: fmt::Write>(&self, f: &mut fmt::Formatter<W>) -> fmt::Result {
+        let start = self.0.span.start;
+        match self.0.kind {
+            FaultKind::Unbound => write!(f, "C1 at {start}"),
+            FaultKind::NotValue => write!(f, "C2 at {start}"),
+            FaultKind::Arity { want: _, got: _ } => write!(f, "C3 at {start}"),
+            FaultKind::DefinedTwice => write!(f, "C4 at {start}"),
+            FaultKind::ParameterTwice => write!(f, "C5 at {start}"),
+            FaultKind::CallOfVariable => write!(f, "C6 at {start}"),
+            FaultKind::NoSite => write!(f, "C7 at {start}"),
+            FaultKind::TooMany => write!(f, "C8 at {start}"),
+            FaultKind::Memory => write!(f, "C9"),
+        }
+    }
+}
+
+impl fmt::Display for RunFault {
+    ghost output = { λ f. Some (line f) };
+
+    fn fmt<W: fmt::Write>(&self, f: &mut fmt::Formatter<W>) -> fmt::Result {
+        match *self {
+            RunFault::Syntax(fault) => {
+                let fault = SyntaxLine(fault);
+                write!(f, "orc: {fault}")
+            }
+            RunFault::Scope(fault) => {
+                let fault = ScopeLine(fault);
+                write!(f, "orc: {fault}")
+            }
+            RunFault::Memory => write!(f, "orc: E2"),
+            RunFault::Broken => write!(f, "orc: E4"),
+            RunFault::Later => write!(f, "orc: later"),
+            RunFault::Write(_) => write!(f, "orc: write"),
+        }
+    }
+}
+
+impl Error for RunFault {}
+
+impl RunFault {
+    /// The process's status at this fault.
+    pub fn status(&self) -> u8
+        ensures { result ≡ status self.now }
+    {
+        match self {
+            RunFault::Syntax(SyntaxFault::Memory) | RunFault::Memory => 5,
+            RunFault::Scope(
+                ScopeFault {
+                    kind: FaultKind::Memory,
+                    span: _,
+                },
+            ) => 5,
+            RunFault::Syntax(_) | RunFault::Scope(_) | RunFault::Later => 1,
+            RunFault::Broken => 7,
+            RunFault::Write(_) => 6,
+        }
+    }
+}

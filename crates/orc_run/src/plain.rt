@@ -1,0 +1,112 @@
+//! The plain engine: a run, entry by entry, each applied to the marked term by the rules.
+
+ghost use Rattle.std.specs.Prelude.{◌≡◌, ◌+◌, ◌<◌, ◌≤◌, ◌^◌, ℕ, IfOk};
+ghost use Rattle.orc_rules.specs.Sites.{Table};
+ghost use Rattle.orc_rules.specs.Nodes.{Listing};
+ghost use Rattle.orc_run.specs.Runs.{IsReached, IsPlayed};
+
+use crate::agenda::{Agenda, Choice};
+use crate::ending::End;
+use crate::history::History;
+use orc_rules::answers::Answers;
+use orc_rules::entry::RuleFault;
+use orc_rules::program::Program;
+use std::alloc::Global;
+
+/// A run that has ended.
+#[derive(Drop)]
+pub struct Played {
+    pub history: History,
+    pub end: End,
+}
+
+/// Why a program was not run to an end.
+#[derive(Clone, Copy, PartialEq, Eq, Debug)]
+pub enum PlayFault {
+    /// Memory for the beginning was refused.
+    Memory,
+    /// The rules refused an entry that was to come next.
+    Broken,
+    /// A construct that isn't there yet.
+    Later,
+}
+
+// What an entry that was not applied ends.
+fn refusal(history: History, fault: RuleFault) -> Result<Played, PlayFault>
+    ensures { (l : Listing) (t : Table) (limit : ℕ) → IsReached l t history → IfOk result (λ p. IsPlayed l t limit p.history p.end) }
+{
+    match fault {
+        RuleFault::Memory => Ok(Played {
+            history,
+            end: End::Memory,
+        }),
+        RuleFault::Deep => Ok(Played {
+            history,
+            end: End::Full,
+        }),
+        _ => Err(PlayFault::Broken),
+    }
+}
+
+// How a run ends where nothing can come next.
+fn rest(history: History) -> Result<Played, PlayFault>
+    ensures { (l : Listing) (t : Table) (limit : ℕ) → IsReached l t history → IfOk result (λ p. IsPlayed l t limit p.history p.end) }
+{
+    if history.marked().has_ended() {
+        Ok(Played {
+            history,
+            end: End::Halted,
+        })
+    } else {
+        Err(PlayFault::Later)
+    }
+}
+
+/// Runs a program: entries that the rules allow, one after another, until nothing can come next or the journal has `limit` of them.
+pub fn play(
+    alloc: Global,
+    program: &Program,
+    answers: &Answers,
+    limit: u64,
+) -> Result<Played, PlayFault>
+    ensures { IfOk result (λ p. IsPlayed program.now answers.now limit p.history p.end) }
+{
+    let Ok(mut history) = History::new(alloc, program) else {
+        return Err(PlayFault::Memory);
+    };
+    let Ok(mut agenda) = Agenda::new(alloc) else {
+        return Err(PlayFault::Memory);
+    };
+    for _turn in 0..limit {
+        let entry = match agenda.choose(program, history.marked()) {
+            Ok(Choice::Entry(entry)) => entry,
+            Ok(Choice::Nothing) => return rest(history),
+            Ok(Choice::Later) => return Err(PlayFault::Later),
+            Err(_) => return Ok(Played {
+                history,
+                end: End::Memory,
+            }),
+        };
+        if let Err(fault) = history.record(program, answers, &entry) {
+            return refusal(history, fault);
+        }
+        if agenda.note(&entry, history.marked()).is_err() {
+            return Ok(Played {
+                history,
+                end: End::Memory,
+            });
+        }
+    }
+    match agenda.choose(program, history.marked()) {
+        Ok(Choice::Entry(_)) => Ok(Played {
+            history,
+            end: End::Limit,
+        }),
+        Ok(Choice::Nothing) => rest(history),
+        Ok(Choice::Later) => Err(PlayFault::Later),
+        Err(_) => Ok(Played {
+            history,
+            end: End::Memory,
+        }),
+    }
+}
