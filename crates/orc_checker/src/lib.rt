@@ -15,6 +15,7 @@ mod publish;
 pub mod rest;
 mod room;
 mod side;
+mod status;
 pub mod walk;
 
 pub use looking::Next;

@@ -1,0 +1,29 @@
+// What has halted.
+
+ghost use Rattle.std.specs.Prelude.{◌≡◌};
+ghost use Rattle.orc_rules.specs.Journal.{Place};
+ghost use Rattle.orc_rules.specs.Marked.{erase};
+ghost use Rattle.orc_rules.specs.Timed.{Context};
+ghost use Rattle.orc_rules.specs.Idle.{has_halted};
+ghost use Rattle.orc_rules.specs.Nodes.{Listing, code};
+ghost use Rattle.orc_checker.specs.Checker.{Spells};
+ghost use Rattle.orc_checker.specs.Settling.{flag};
+
+use crate::flags::flag_at;
+use crate::marked::Marked;
+
+impl Marked {
+    /// Whether the term has halted.
+    pub fn has_halted(&self) -> bool
+        ensures { (x : Context) (l : Listing) (p : Place) → Spells x (code l) self.now p → result ≡ has_halted (erase p.marked) }
+    {
+        flag_at(&self.flags, 0)
+    }
+
+    /// Whether the part at a node has halted.
+    pub(crate) fn part_has_halted(&self, node: usize) -> bool
+        ensures { result ≡ flag self.now.flags node }
+    {
+        flag_at(&self.flags, node)
+    }
+}
