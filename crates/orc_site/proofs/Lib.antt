@@ -1,0 +1,5 @@
+pub mod Cutting
+pub mod Growing
+pub mod Loops
+pub mod Splitting
+pub mod Walking

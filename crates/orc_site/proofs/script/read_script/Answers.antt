@@ -1,0 +1,12 @@
+use Rattle.std.proofs.Common.{arith}
+use Rattle.orc_site.proofs.Growing.{line_grows}
+use Rattle.orc_site.proofs.script.read_script.Goals as goal
+
+pub loop-answers-preserved : goal.loop-answers-preserved
+loop-answers-preserved c =
+    let done = rw c.in-Ok-true.field-0-test at c.in-Ok-true.ensures in
+    let behind = rw c.in-Some.is at c.split_line.ensures.shorter in
+    record {
+      names = omega (arith, line_grows c.split_line.result.0.now c.loop-answers.answers c.add_line.new.answers done, c.loop-answers.invariant.names);
+      left = omega (arith, behind, c.loop-answers.invariant.left);
+    }
