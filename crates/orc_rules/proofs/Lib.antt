@@ -22,6 +22,7 @@ pub mod Refusal
 pub mod Settled
 pub mod Sites
 pub mod Sources
+pub mod Standing
 pub mod Tests
 pub mod Unfolding
 pub mod Unique
