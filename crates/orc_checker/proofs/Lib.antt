@@ -12,6 +12,7 @@ pub mod Flagging
 pub mod Growth
 pub mod Halting
 pub mod Inside
+pub mod Leaving
 pub mod Lists
 pub mod Moves
 pub mod Opening
