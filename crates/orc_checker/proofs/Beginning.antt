@@ -1,5 +1,5 @@
 -- The state at the start.
-use Rattle.std.proofs.Common.{◌≡◌, Bool, ℕ, List, [], ◌∷◌, refl, arith}
+use Rattle.std.proofs.Common.{◌≡◌, Bool, ℕ, zero, suc, List, [], ◌∷◌, refl, arith}
 use Rattle.orc_checker.specs.declared.arena.Tip.TheVariants.{Token}
 use Rattle.orc_checker.specs.declared.arena.Kind.TheVariants.{Leaf, One}
 use Rattle.orc_checker.specs.declared.arena.Single.TheVariants.{Passed}
@@ -7,13 +7,17 @@ use Rattle.orc_checker.specs.declared.arena.Bound.TheVariants.{Void}
 use Rattle.orc_rules.specs.Nodes.{Listing, code, source}
 use Rattle.orc_checker.specs.Halting.{halt_flag, AreHalts}
 use Rattle.orc_checker.specs.Arena.{leaf, one}
-use Rattle.orc_checker.specs.Checker.{State, Begins}
+use Rattle.orc_checker.specs.Checker.{State, Begins, AreOwn}
 use Rattle.orc_rules.specs.Journal.{begin}
 use Rattle.orc_checker.proofs.Lists.{living-push}
 use Rattle.orc_checker.proofs.Moves.{node}
 
 abbrev pub first : Bool → ℕ → List Bool → Bool → State
 first cancels root halts halted = record { nodes = node (One Passed 1) 0 ∷ node (Leaf (Token 1 root 0)) 0 ∷ []; scopes = []; cells = Void ∷ []; marks = 0 ∷ 1 ∷ []; halts = halts; flags = halted ∷ halted ∷ []; rest = record { calls = []; keys = []; time = 0; to_cancel = []; cancels = cancels } }
+
+none_own : AreOwn (Void ∷ [])
+none_own zero d h = absurd (cc h)
+none_own (suc c) d h = cc h
 
 pub spells_first : (l : Listing) (cancels : Bool) (halts : List Bool) (halted : Bool) → AreHalts (code l) halts → halted ≡ halt_flag halts l.root → Begins l cancels (first cancels l.root halts halted) (begin (source l))
 spells_first l cancels halts halted are is_h x is =
@@ -29,6 +33,6 @@ spells_first l cancels halts halted are is_h x is =
       };
       mark = refl;
       scopes = λ i s h. absurd (cc h);
-      cells = (0, refl, refl);
+      cells = (0, refl, refl, none_own);
       rest = record { time = refl; calls_are = refl; keys_are = refl; numbered = tt; due = refl; cancels_are = is };
     }

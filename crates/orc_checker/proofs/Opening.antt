@@ -14,7 +14,7 @@ use Rattle.orc_rules.specs.Marked.{token, in_opened, Replaces}
 use Rattle.orc_rules.specs.Timed.{Context}
 use Rattle.orc_rules.specs.Journal.{Place, next}
 use Rattle.orc_checker.specs.Arena.{Env, current, leaf, two, at, spelled, env_of, close, without}
-use Rattle.orc_checker.specs.Checker.{State, Enters, AreCells, numbers}
+use Rattle.orc_checker.specs.Checker.{State, Enters, AreOwn, AreCells, numbers}
 use Rattle.orc_checker.specs.Names.{AreOrdered}
 use Rattle.orc_checker.specs.Calls.{Rest, Keeps}
 use Rattle.orc_checker.specs.Halting.{halt_flag}
@@ -50,11 +50,24 @@ length-numbers : (n : ℕ) → length (numbers n) ≡ n
 length-numbers zero = refl
 length-numbers (suc n) = ap suc (length-numbers n)
 
+own_more : (cells : List Bound) (c : ℕ) → AreOwn cells → c ≡ length cells → AreOwn (cells ++ Cell c ∷ [])
+own_more cells c own is d e h = go cells d (λ k. own d e k) (λ z. z ∙ sym is) h
+  where
+    cell_or : ℕ → Option Bound → ℕ
+    cell_or d (Some (Cell z)) = z
+    cell_or d _ = d
+
+    go : (xs : List Bound) (j : ℕ) → (slice_get xs j ≡ Some (Cell e) → d ≡ e) → (j ≡ length xs → d ≡ c) → slice_get (xs ++ Cell c ∷ []) j ≡ Some (Cell e) → d ≡ e
+    go [] zero k l h = l refl ∙ ap (cell_or c) h
+    go [] (suc j) k l h = cc h
+    go (x ∷ xs) zero k l h = k h
+    go (x ∷ xs) (suc j) k l h = go xs j k (λ z. l (ap suc z)) h
+
 -- a cell that comes is the next one
-pub cells_more : (opened : List ℕ) (cells cells' : List Bound) (c : ℕ) (b : Bound) → AreCells opened cells → c ≡ length cells → cells' ≡ cells ++ b ∷ [] → (c ≡ next opened) × AreCells (c ∷ opened) cells'
-cells_more opened cells cells' c b (n, len, is) is_c more = (
+pub cells_more : (opened : List ℕ) (cells cells' : List Bound) (c : ℕ) → AreCells opened cells → c ≡ length cells → cells' ≡ cells ++ Cell c ∷ [] → (c ≡ next opened) × AreCells (c ∷ opened) cells'
+cells_more opened cells cells' c (n, len, is, own) is_c more = (
   omega (arith, is_c, len, ap length is, length-numbers n),
-  (suc n, omega (arith, ap length more, length-append cells (b ∷ []), len), (λ j. (is_c ∙ len) j ∷ is j)),
+  (suc n, omega (arith, ap length more, length-append cells (Cell c ∷ []), len), (λ j. (is_c ∙ len) j ∷ is j), subst AreOwn (sym more) (own_more cells c own is_c)),
 )
 
 module _ (code : ℕ → Term) (s s' : State) (i q m f e : ℕ) (a : at s.nodes q i (Leaf (Token m f e))) where
@@ -93,7 +106,7 @@ module _ (code : ℕ → Term) (s s' : State) (i q m f e : ℕ) (a : at s.nodes 
       let is_left : close (env' inner) (code g) ≡ put (is.Cell c) z left = ap (λ y. close y (code g)) env_inner ∙ sym (close-more (env e) z (Cell c) (code g)) in
       let is_right : close (env' e) (code h) ≡ right = ap (λ y. close y (code h)) (sym (kept e there)) in
       let is_y : spelled code env' t' ≡ in_opened (token b1 (put (is.Cell c) z left)) c (token b2 right) = λ j. in_opened (token b1 (is_left j)) c (token b2 (is_right j)) in
-      let cell = cells_more p.cells s.cells s'.cells c (Cell c) sp.cells is_c cells in (
+      let cell = cells_more p.cells s.cells s'.cells c sp.cells is_c cells in (
         record { marked = t.after; mark = suc b2; now = p.now; calls = p.calls; cells = c ∷ p.cells; to_cancel = [] },
         (
           inr (sp.rest.due ∙ free),

@@ -1,15 +1,16 @@
 -- The state of the checker, and the places that it spells.
-use Rattle.std.specs.Prelude.{◌≡◌, ℕ, zero, suc, Bool, List, [], ◌∷◌, length}
+use Rattle.std.specs.Prelude.{◌≡◌, ℕ, zero, suc, Bool, List, [], ◌∷◌, length, Some, slice_get}
 use Rattle.orc_checker.specs.declared.arena.Node.{Node}
 use Rattle.orc_checker.specs.declared.arena.Bound.{Bound}
+use Rattle.orc_checker.specs.declared.arena.Bound.TheVariants.{Cell}
 use Rattle.orc_checker.specs.declared.arena.Scope.{Scope}
 use Rattle.orc_rules.specs.declared.entry.Entry.{Entry}
 use Rattle.orc_rules.specs.Term.{Term}
-use Rattle.orc_rules.specs.Nodes.{Listing, code, definitions}
+use Rattle.orc_rules.specs.Nodes.{Listing, code, source, definitions}
 use Rattle.orc_rules.specs.Sites.{Table}
 use Rattle.orc_rules.specs.Marked.{Marked}
 use Rattle.orc_rules.specs.Timed.{Context}
-use Rattle.orc_rules.specs.Journal.{Place, Leads}
+use Rattle.orc_rules.specs.Journal.{Place, Leads, Journal, begin}
 use Rattle.orc_checker.specs.Arena.{Tree, Holds, StandOnce, IsTopped, spelled, env_of, place}
 use Rattle.orc_checker.specs.Names.{AreOrdered}
 use Rattle.orc_checker.specs.Calls.{Rest, Keeps}
@@ -30,9 +31,13 @@ abbrev pub numbers : ℕ → List ℕ
 numbers zero = []
 numbers (suc n) = suc n ∷ numbers n
 
+-- a cell that isn't bound stands for itself
+abbrev pub AreOwn : List Bound → Type 0
+AreOwn cells = (c d : ℕ) → slice_get cells c ≡ Some (Cell d) → c ≡ d
+
 -- the cells opened are those that the table has
 abbrev pub AreCells : List ℕ → List Bound → Type 0
-AreCells opened cells = (n : ℕ) × (length cells ≡ suc n) × (opened ≡ numbers n)
+AreCells opened cells = (n : ℕ) × (length cells ≡ suc n) × (opened ≡ numbers n) × AreOwn cells
 
 -- the nodes, the scopes and the cells draw a marked term
 pub record Draws (code : ℕ → Term) (s : State) (m : Marked) : Type 0 where
@@ -64,9 +69,13 @@ Follows x code e s s' = (p : Place) → Spells x code s p → (q : Place) × Lea
 abbrev pub Enters : (ℕ → Term) → Entry → State → State → Type 0
 Enters code e s s' = (x : Context) → Follows x code e s s'
 
--- the same for the program and its sites
+-- a journal of the term leads to the place
+abbrev pub IsReached : Context → Term → Place → Type 0
+IsReached x t p = (es : List Entry) × Journal x (begin t) es p
+
+-- the entry leads on from each place that s spells and that a journal of the program and its sites leads to
 abbrev pub Applies : Listing → Table → Entry → State → State → Type 0
-Applies l t e s s' = (cancels : Bool) → Follows (context l t cancels) (code l) e s s'
+Applies l t e s s' = (cancels : Bool) (p : Place) → IsReached (context l t cancels) (source l) p → Spells (context l t cancels) (code l) s p → (q : Place) × Leads (context l t cancels) p e q × Spells (context l t cancels) (code l) s' q
 
 -- the state spells the beginning of the program's journals, with or without cancels
 abbrev pub Begins : Listing → Bool → State → Place → Type 0

@@ -1,6 +1,6 @@
 // What of a journal isn't in its term: the time, the calls made, and the cancels due.
 
-ghost use Rattle.std.specs.Prelude.{◌≡◌, List, [], map, false};
+ghost use Rattle.std.specs.Prelude.{◌≡◌, List, [], map, false, reverse};
 ghost use Rattle.orc_checker.specs.Calls.{Rest as Aside, key_of};
 
 use orc_rules::value::{Args, Found};
@@ -22,7 +22,7 @@ pub struct Key {
     pub args: Args,
 }
 
-/// The calls by their numbers, the time, and the calls whose cancel is due. Cancels come due where they are recorded.
+/// The calls by their numbers, the time, and the calls whose cancel is due, the next one last. Cancels come due where they are recorded.
 #[derive(Drop)]
 pub struct Rest {
     pub(crate) calls: Vec<Called>,
@@ -35,7 +35,7 @@ pub struct Rest {
 impl Model for Rest {
     ghost Value = { Aside };
 
-    ghost view = { λ r. record { calls = r.calls.items; keys = map key_of r.keys.items; time = r.time; to_cancel = r.to_cancel.items; cancels = r.cancels } };
+    ghost view = { λ r. record { calls = r.calls.items; keys = map key_of r.keys.items; time = r.time; to_cancel = reverse r.to_cancel.items; cancels = r.cancels } };
 }
 
 impl Rest {
