@@ -1,11 +1,11 @@
 -- A side is dropped, and the node above it changes.
-use Rattle.std.proofs.Common.{◌≡◌, ◌≤◌, ◌+◌, ◌⊎◌, ◌∙◌, ℕ, zero, suc, List, [], ◌∷◌, Some, refl, sym, ap, arith, inl, inr, ⊎_elim}
+use Rattle.std.proofs.Common.{◌≡◌, ◌≤◌, ◌+◌, ◌⊎◌, ◌∙◌, ℕ, zero, suc, List, [], ◌∷◌, ◌++◌, get_or, append-nil, append_assoc, Some, refl, sym, ap, arith, inl, inr, ⊎_elim}
 use Rattle.std.specs.Prelude.{slice_get, slice_set}
 use Rattle.orc_checker.specs.declared.arena.Node.{Node}
 use Rattle.orc_checker.specs.declared.arena.Kind.TheVariants.{Leaf, One, Two}
 use Rattle.orc_checker.specs.declared.arena.Tip.{Tip}
 use Rattle.orc_checker.specs.declared.arena.Single.{Single}
-use Rattle.orc_checker.specs.declared.arena.Tip.TheVariants.{Gone, Ended, Token, Waits}
+use Rattle.orc_checker.specs.declared.arena.Tip.TheVariants.{Gone, Ended, Token, Bears, Waits}
 use Rattle.orc_checker.specs.declared.arena.Single.TheVariants.{Feeds, Entered, Passed}
 use Rattle.orc_checker.specs.declared.arena.Double.{Double}
 use Rattle.orc_checker.specs.declared.arena.Double.TheVariants.{Both, Side}
@@ -13,7 +13,8 @@ use Rattle.orc_rules.specs.Term.{Term}
 use Rattle.orc_rules.specs.Numbered.{call, times}
 use Rattle.orc_checker.specs.Arena.{Env, Tree, leaf, one, two, place, hits, count, TipIn, Holds, living, living_kind, StandOnce, spelled, Frame, plug}
 use Rattle.orc_checker.specs.Around.{above}
-use Rattle.orc_checker.specs.Dropping.{weight, weigh, occurs, IsDropped, AreNodesOf, call_at, calls_at}
+use Rattle.orc_checker.specs.Rising.{nowhere}
+use Rattle.orc_checker.specs.Dropping.{weight, weigh, occurs, IsDropped, AreNodesOf, call_of, call_at, calls_at}
 use Rattle.orc_checker.proofs.Trees.{hit, hits-both, missed, count-plug, holds-out, holds_kept, holds_replaced, once_replaced, living-most}
 use Rattle.orc_checker.proofs.Lists.{get-set_same, get-set_other}
 use Rattle.orc_checker.proofs.Dropping.{count-weigh, weight-append}
@@ -109,6 +110,7 @@ module _ (nodes : List Node) (n : ℕ) (code : ℕ → Term) (env : ℕ → Env)
   calls_weigh p (leaf i Gone) h = sym (at_node i _ h.0)
   calls_weigh p (leaf i Ended) h = sym (at_node i _ h.0)
   calls_weigh p (leaf i (Token s f e)) h = sym (at_node i _ h.0)
+  calls_weigh p (leaf i (Bears s v)) h = sym (at_node i _ h.0)
   calls_weigh p (leaf i (Waits j)) h = omega (arith, at_node i _ h.0)
   calls_weigh p (one i (Feeds x g e) t) h = omega (arith, at_node i _ h.0, calls_weigh i t h.2)
   calls_weigh p (one i (Entered m g e) t) h = omega (arith, at_node i _ h.0, calls_weigh i t h.2)
@@ -123,3 +125,13 @@ module _ (nodes : List Node) (n : ℕ) (code : ℕ → Term) (env : ℕ → Env)
   -- the calls at a part's nodes are those that pend in it
   pub calls_counted : (p : ℕ) (t : Tree) (side : List ℕ) → Holds nodes n p t → AreNodesOf nodes (place t) side → occurs k (calls_at nodes side) ≡ times (call k) (spelled code env t)
   calls_counted p t side h all = calls_weight side ∙ all n p t h refl calls_of_node ∙ sym (calls_weigh p t h)
+
+-- one node more
+pub calls_more : (nodes : List Node) (is : List ℕ) (i : ℕ) → calls_at nodes (is ++ i ∷ []) ≡ calls_at nodes is ++ call_of (Node.kind (get_or nodes i nowhere))
+calls_more nodes [] i = append-nil (call_at (slice_get nodes i)) ∙ there nodes i
+  where
+    there : (xs : List Node) (j : ℕ) → call_at (slice_get xs j) ≡ call_of (Node.kind (get_or xs j nowhere))
+    there [] j = refl
+    there (x ∷ xs) zero = refl
+    there (x ∷ xs) (suc j) = there xs j
+calls_more nodes (u ∷ is) i = ap (λ z. call_at (slice_get nodes u) ++ z) (calls_more nodes is i) ∙ sym (append_assoc (call_at (slice_get nodes u)) (calls_at nodes is) (call_of (Node.kind (get_or nodes i nowhere))))

@@ -1,6 +1,7 @@
 pub mod Answering
 pub mod Beginning
 pub mod Binding
+pub mod Cancelling
 pub mod Change
 pub mod Closing
 pub mod Dropping
@@ -18,8 +19,9 @@ pub mod Moves
 pub mod Opening
 pub mod Publishing
 pub mod Rising
-pub mod Settling
 pub mod Scopes
 pub mod Sending
+pub mod Settling
+pub mod Sorting
 pub mod Spelling
 pub mod Trees

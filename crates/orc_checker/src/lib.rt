@@ -2,6 +2,7 @@
 #![tactic(auto)]
 
 pub mod arena;
+mod cancel;
 pub mod due;
 mod feed;
 mod flags;

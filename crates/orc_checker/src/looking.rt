@@ -89,7 +89,7 @@ impl Marked {
 
     /// The call whose cancel is due.
     pub fn next_cancel(&self) -> Option<u64> {
-        self.rest.to_cancel.first().copied()
+        self.rest.to_cancel.last().copied()
     }
 
     /// The time.

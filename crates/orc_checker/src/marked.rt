@@ -128,6 +128,7 @@ impl Marked {
             Entry::Open(s, c, a, b) => self.open(program, *s, *c, *a, *b),
             Entry::Send(s, a, v) => self.send(program, *s, *a, *v),
             Entry::Publish(s, v) => self.publish(program, *s, *v),
+            Entry::Cancel(k) => self.cancel(program, *k),
             _ => Err(RuleFault::Memory),
         }
     }

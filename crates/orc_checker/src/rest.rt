@@ -1,8 +1,9 @@
 // What of a journal isn't in its term: the time, the calls made, and the cancels due.
 
-ghost use Rattle.std.specs.Prelude.{◌≡◌, List, [], map, false, reverse};
+ghost use Rattle.std.specs.Prelude.{◌≡◌, ◌∷◌, List, [], map, OnOk, OnErr, false, reverse};
 ghost use Rattle.orc_checker.specs.Calls.{Rest as Aside, key_of};
 
+use orc_rules::entry::RuleFault;
 use orc_rules::value::{Args, Found};
 use std::alloc::Global;
 use std::marker::Model;
@@ -57,5 +58,18 @@ impl Rest {
         ensures { result ≡ false → self.now.to_cancel ≡ [] }
     {
         !self.to_cancel.is_empty()
+    }
+
+    /// The cancel of call `k` is done. The error is Cancel: it isn't the next one.
+    pub(crate) fn cancel(&mut self, k: u64) -> Result<(), RuleFault>
+        ensures done { OnOk result (self.old ≡ record self.new { to_cancel = k ∷ self.new.to_cancel }) }
+        ensures refused { OnErr result (self.new ≡ self.old) }
+    {
+        match self.to_cancel.last() {
+            Some(next) if *next == k => {}
+            _ => return Err(RuleFault::Cancel),
+        }
+        let _cancelled = self.to_cancel.pop();
+        Ok(())
     }
 }

@@ -1,7 +1,7 @@
 // The nodes of a part, and what dropping a part does.
 
-ghost use Rattle.std.specs.Prelude.{◌≡◌, ◌++◌, IfOk, OnOk, length};
-ghost use Rattle.orc_checker.specs.Dropping.{parts_of, AreNodesOf, IsDropped};
+ghost use Rattle.std.specs.Prelude.{◌≡◌, ◌++◌, IfOk, OnOk, length, reverse};
+ghost use Rattle.orc_checker.specs.Dropping.{parts_of, call_of, calls_at, AreNodesOf, AreRising, IsDropped};
 
 use crate::arena::{Kind, Node, Tip};
 use crate::walk::{node_at, write_node};
@@ -41,6 +41,42 @@ pub(crate) fn nodes_of(
     }
     // Each node stands once below another, so that there are less than `nodes.len()` of them.
     Err(AllocError)
+}
+
+/// Adds the call that pends at a node, if any. The error is refused memory.
+fn push_call(calls: &mut Vec<u64>, kind: Kind) -> Result<(), AllocError>
+    ensures { OnOk result (calls.new.items ≡ calls.old.items ++ call_of kind) }
+{
+    if let Kind::Leaf(Tip::Waits(call)) = kind {
+        calls.push(call)?;
+    }
+    Ok(())
+}
+
+/// The calls that pend at these nodes. The error is refused memory.
+fn pending_at(alloc: Global, nodes: &Vec<Node>, side: &Vec<usize>) -> Result<Vec<u64>, AllocError>
+    ensures { IfOk result (λ calls. calls.items ≡ calls_at nodes.now.items side.now.items) }
+{
+    let mut calls = Vec::new(alloc);
+    for next in 0..side.len() {
+        let node = node_at(nodes, side[next]);
+        push_call(&mut calls, node.kind)?;
+    }
+    Ok(calls)
+}
+
+/// The same in falling order.
+pub(crate) fn falling_calls(
+    alloc: Global,
+    nodes: &Vec<Node>,
+    side: &Vec<usize>,
+) -> Result<Vec<u64>, AllocError>
+    ensures { IfOk result (λ calls. AreRising (calls_at nodes.now.items side.now.items) (reverse calls.items)) }
+{
+    let mut calls = pending_at(alloc, nodes, side)?;
+    calls.sort_unstable();
+    calls.reverse();
+    Ok(calls)
 }
 
 /// The nodes of the list are gone.

@@ -21,3 +21,6 @@ returns-in-Open-clause-done c = for_all c.args.program.now c.args.answers.now _ 
 
 pub returns-in-Send-clause-done : goal.returns-in-Send-clause-done
 returns-in-Send-clause-done c = for_all c.args.program.now c.args.answers.now _ _ c.args.self.now c.send.new.self c.send.result c.in-Send.is c.send.ensures.done
+
+pub returns-in-Cancel-clause-done : goal.returns-in-Cancel-clause-done
+returns-in-Cancel-clause-done c = for_all c.args.program.now c.args.answers.now _ _ c.args.self.now c.cancel.new.self c.cancel.result c.in-Cancel.is c.cancel.ensures.done

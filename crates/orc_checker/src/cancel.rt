@@ -1,0 +1,20 @@
+// The cancels that are due.
+
+ghost use Rattle.std.specs.Prelude.{◌≡◌, IfOk, OnErr};
+ghost use Rattle.orc_rules.specs.Nodes.{code};
+ghost use Rattle.orc_checker.specs.Checker.{Enters};
+ghost use Rattle.orc_rules.specs.declared.entry.Entry.TheVariants as entry;
+
+use crate::marked::Marked;
+use orc_rules::entry::RuleFault;
+use orc_rules::program::Program;
+
+impl Marked {
+    /// `cancel K`.
+    pub(crate) fn cancel(&mut self, program: &Program, k: u64) -> Result<(), RuleFault>
+        ensures done { IfOk result (λ _. Enters (code program.now) (entry.Cancel k) self.old self.new) }
+        ensures refused { OnErr result (self.new ≡ self.old) }
+    {
+        self.rest.cancel(k)
+    }
+}
