@@ -31,19 +31,20 @@ last_popped old new popped n k len last pop is =
     found (x ∷ xs) (suc i) h = found xs i h
 
 -- the same nodes, scopes and cells draw the same
-pub draws_same : (code : ℕ → Term) (s s' : State) (m : Marked) → Draws code s m → s'.nodes ≡ s.nodes → s'.scopes ≡ s.scopes → s'.cells ≡ s.cells → Draws code s' m
-draws_same code s s' m d nodes scopes cells =
-    let so : Draws code (record s' { nodes = s.nodes; scopes = s.scopes; cells = s.cells }) m = record { tree = d.tree; holds = d.holds; root = d.root; once = d.once; top = d.top; marked = d.marked } in
-    subst (λ z. Draws code z m) (λ j. record s' { nodes = (sym nodes) j; scopes = (sym scopes) j; cells = (sym cells) j }) so
+pub draws_same : (code : ℕ → Term) (s s' : State) (m : Marked) → Draws code s m → s'.nodes ≡ s.nodes → s'.scopes ≡ s.scopes → s'.cells ≡ s.cells → s'.halts ≡ s.halts → s'.flags ≡ s.flags → Draws code s' m
+draws_same code s s' m d nodes scopes cells halts flags =
+    let so : Draws code (record s' { nodes = s.nodes; scopes = s.scopes; cells = s.cells; halts = s.halts; flags = s.flags }) m =
+    record { tree = d.tree; holds = d.holds; root = d.root; once = d.once; top = d.top; marked = d.marked; flags = d.flags } in
+    subst (λ z. Draws code z m) (λ j. record s' { nodes = (sym nodes) j; scopes = (sym scopes) j; cells = (sym cells) j; halts = (sym halts) j; flags = (sym flags) j }) so
 
 -- the next cancel is done
-pub cancel-enters : (code : ℕ → Term) (s s' : State) (k : ℕ) → s'.nodes ≡ s.nodes → s'.scopes ≡ s.scopes → s'.cells ≡ s.cells → s'.marks ≡ s.marks → s.rest ≡ record s'.rest { to_cancel = k ∷ s'.rest.to_cancel } → Enters code (entry.Cancel k) s s'
-cancel-enters code s s' k nodes scopes cells marks rest x p sp =
+pub cancel-enters : (code : ℕ → Term) (s s' : State) (k : ℕ) → s'.nodes ≡ s.nodes → s'.scopes ≡ s.scopes → s'.cells ≡ s.cells → s'.marks ≡ s.marks → s'.halts ≡ s.halts → s'.flags ≡ s.flags → s.rest ≡ record s'.rest { to_cancel = k ∷ s'.rest.to_cancel } → Enters code (entry.Cancel k) s s'
+cancel-enters code s s' k nodes scopes cells marks halts flags rest x p sp =
     let kept = sp.rest in (
       record p { to_cancel = s'.rest.to_cancel },
       (inl tt, (kept.due ∙ ap Rest.to_cancel rest, refl)),
       record {
-        drawn = draws_same code s s' p.marked sp.drawn nodes scopes cells;
+        drawn = draws_same code s s' p.marked sp.drawn nodes scopes cells halts flags;
         mark = sp.mark ∙ ap length (sym marks);
         scopes = subst AreOrdered (sym scopes) sp.scopes;
         cells = subst (AreCells p.cells) (sym cells) sp.cells;
