@@ -1,10 +1,15 @@
 pub mod Arguments
+pub mod Bound
 pub mod Build
 pub mod Cuts
 pub mod Least
 pub mod Listed
+pub mod Output
 pub mod Pieces
 pub mod Places
+pub mod Programs
+pub mod Refused
+pub mod Small
 pub mod Tasks
 pub mod Walk
 pub mod Weight

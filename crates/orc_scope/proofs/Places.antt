@@ -1,5 +1,5 @@
 -- The first places of names, as names come and go.
-use Rattle.std.proofs.Common.{◌≡◌, ℕ, suc, ◌+◌, ◌<◌, Bool, true, false, cond, List, [], ◌∷◌, ◌++◌, length, Option, Some, None, refl, sym, ap, ◌∙◌, arith, bytes_eq}
+use Rattle.std.proofs.Common.{◌≡◌, ℕ, zero, suc, ◌+◌, ◌<◌, ◌≤◌, take, Bool, true, false, cond, List, [], ◌∷◌, ◌++◌, length, Option, Some, None, refl, sym, ap, ◌∙◌, arith, bytes_eq}
 use Rattle.std.specs.Option.{is_some}
 use Rattle.std.specs.Borrow.{Bor}
 use Rattle.std.specs.HashMap.{HashMap, get_by, UpdatesBy}
@@ -108,3 +108,57 @@ popped_twin ts us x text u other = go (bytes_eq x text) refl
     go : (b : Bool) → bytes_eq x text ≡ b → position us text ≡ position ts text
     go true b = let e = ap (λ (l : List ℕ). position ts l) (same_text x text b) in is text ∙ ap (λ (p : Option ℕ). first p (cond (bytes_eq x text) (Some (length ts)) None)) (sym e) ∙ some (position ts x) refl (cond (bytes_eq x text) (Some (length ts)) None) ∙ e
     go false b = is text ∙ ap (λ (p : Option ℕ). first (position ts text) p) (cond-false (bytes_eq x text) (Some (length ts)) None b) ∙ first_none (position ts text)
+
+-- among the first n names
+
+position_from_low : (k : ℕ) (ts : List (List ℕ)) (x : List ℕ) (m : ℕ) → position_from k ts x ≡ Some m → k ≤ m
+position_from_low k [] x m e = cc e
+position_from_low k (t ∷ ts) x m e = go (λ later. position_from_low (suc k) ts x m later) (bytes_eq t x) refl
+  where
+    value : Option ℕ → ℕ → ℕ
+    value (Some k) d = k
+    value None d = d
+
+    go : (position_from (suc k) ts x ≡ Some m → suc k ≤ m) → (b : Bool) → bytes_eq t x ≡ b → k ≤ m
+    go later true b = let is : k ≡ m = ap (λ (o : Option ℕ). value o m) (sym (cond-true (bytes_eq t x) (Some k) (position_from (suc k) ts x) b) ∙ e) in omega (arith, is)
+    go later false b = let le = later (sym (cond-false (bytes_eq t x) (Some k) (position_from (suc k) ts x) b) ∙ e) in omega (arith, le)
+
+take_some : (k n : ℕ) (ts : List (List ℕ)) (x : List ℕ) (m : ℕ) → position_from k ts x ≡ Some m → m < k + n → position_from k (take n ts) x ≡ Some m
+take_some k n [] x m e lt = cc e
+take_some k zero (t ∷ ts) x m e lt = let low = position_from_low k (t ∷ ts) x m e in absurd (omega (arith, lt, low))
+take_some k (suc n) (t ∷ ts) x m e lt = go (λ later. take_some (suc k) n ts x m later (omega (arith, lt))) (bytes_eq t x) refl
+  where
+    go : (position_from (suc k) ts x ≡ Some m → position_from (suc k) (take n ts) x ≡ Some m) → (b : Bool) → bytes_eq t x ≡ b → cond (bytes_eq t x) (Some k) (position_from (suc k) (take n ts) x) ≡ Some m
+    go later true b = cond-true (bytes_eq t x) (Some k) (position_from (suc k) (take n ts) x) b ∙ sym (cond-true (bytes_eq t x) (Some k) (position_from (suc k) ts x) b) ∙ e
+    go later false b = cond-false (bytes_eq t x) (Some k) (position_from (suc k) (take n ts) x) b ∙ later (sym (cond-false (bytes_eq t x) (Some k) (position_from (suc k) ts x) b) ∙ e)
+
+take_none : (k n : ℕ) (ts : List (List ℕ)) (x : List ℕ) → position_from k ts x ≡ None → position_from k (take n ts) x ≡ None
+take_none k zero ts x e = refl
+take_none k (suc n) [] x e = refl
+take_none k (suc n) (t ∷ ts) x e = go (λ later. take_none (suc k) n ts x later) (bytes_eq t x) refl
+  where
+    go : (position_from (suc k) ts x ≡ None → position_from (suc k) (take n ts) x ≡ None) → (b : Bool) → bytes_eq t x ≡ b → cond (bytes_eq t x) (Some k) (position_from (suc k) (take n ts) x) ≡ None
+    go later true b = cc (sym (cond-true (bytes_eq t x) (Some k) (position_from (suc k) ts x) b) ∙ e)
+    go later false b = cond-false (bytes_eq t x) (Some k) (position_from (suc k) (take n ts) x) b ∙ later (sym (cond-false (bytes_eq t x) (Some k) (position_from (suc k) ts x) b) ∙ e)
+
+take_past : (k n : ℕ) (ts : List (List ℕ)) (x : List ℕ) (m : ℕ) → position_from k ts x ≡ Some m → k + n ≤ m → position_from k (take n ts) x ≡ None
+take_past k zero ts x m e le = refl
+take_past k (suc n) [] x m e le = refl
+take_past k (suc n) (t ∷ ts) x m e le = go (λ later. take_past (suc k) n ts x m later (omega (arith, le))) (bytes_eq t x) refl
+  where
+    value : Option ℕ → ℕ → ℕ
+    value (Some k) d = k
+    value None d = d
+
+    go : (position_from (suc k) ts x ≡ Some m → position_from (suc k) (take n ts) x ≡ None) → (b : Bool) → bytes_eq t x ≡ b → cond (bytes_eq t x) (Some k) (position_from (suc k) (take n ts) x) ≡ None
+    go later true b = let is : k ≡ m = ap (λ (o : Option ℕ). value o m) (sym (cond-true (bytes_eq t x) (Some k) (position_from (suc k) ts x) b) ∙ e) in absurd (omega (arith, is, le))
+    go later false b = cond-false (bytes_eq t x) (Some k) (position_from (suc k) (take n ts) x) b ∙ later (sym (cond-false (bytes_eq t x) (Some k) (position_from (suc k) ts x) b) ∙ e)
+
+pub among_some : (n : ℕ) (ts : List (List ℕ)) (x : List ℕ) (m : ℕ) → position ts x ≡ Some m → m < n → position (take n ts) x ≡ Some m
+among_some n ts x m e lt = take_some 0 n ts x m e (omega (arith, lt))
+
+pub among_none : (n : ℕ) (ts : List (List ℕ)) (x : List ℕ) → position ts x ≡ None → position (take n ts) x ≡ None
+among_none n ts x e = take_none 0 n ts x e
+
+pub among_past : (n : ℕ) (ts : List (List ℕ)) (x : List ℕ) (m : ℕ) → position ts x ≡ Some m → n ≤ m → position (take n ts) x ≡ None
+among_past n ts x m e le = take_past 0 n ts x m e (omega (arith, le))

@@ -1,7 +1,7 @@
 -- Writing out the nodes of an expression from the first to the last.
 use Rattle.std.specs.Prelude.{◌≤◌, ℕ, List, [], ◌∷◌, take, drop, reverse}
 use Rattle.orc_rules.specs.Term.{Term, param, prune}
-use Rattle.orc_syntax.specs.Tree.{Sort, leaf, variable, call, operation, val, Item}
+use Rattle.orc_syntax.specs.Tree.{Sort, leaf, variable, call, operation, val, Item, Define, Source, post}
 use Rattle.orc_scope.specs.Scope.{Known}
 use Rattle.orc_scope.specs.Written.{plain_term, number, call_term, operated}
 use Rattle.orc_rules.specs.declared.param.Param.TheVariants.{Name}
@@ -34,3 +34,11 @@ IsSmall (val x) = Unit {0}
 abbrev pub AreSmall : List Item → Type 0
 AreSmall [] = Unit {0}
 AreSmall (i ∷ is) = IsSmall i.sort × AreSmall is
+
+-- no call of a program has over 16 arguments
+abbrev pub HaveSmallBodies : List Define → Type 0
+HaveSmallBodies [] = Unit {0}
+HaveSmallBodies (d ∷ ds) = AreSmall (post d.body) × HaveSmallBodies ds
+
+abbrev pub HaveSmallCalls : Source → Type 0
+HaveSmallCalls s = HaveSmallBodies s.definitions × AreSmall (post s.main)

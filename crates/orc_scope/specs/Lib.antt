@@ -1,7 +1,9 @@
 pub mod Building
+pub mod Checking
 pub mod Listed
 pub mod Looking
 pub mod Numbers
 pub mod Pieces
+pub mod Program
 pub mod Scope
 pub mod Written

@@ -1,5 +1,12 @@
 //! The check of a program.
 
+ghost use Rattle.std.specs.Prelude.{◌≡◌, List, map, IfOk};
+ghost use Rattle.orc_syntax.specs.Ast.{label, text_of, IsAst};
+ghost use Rattle.orc_syntax.specs.Tree.{Source, span_of};
+ghost use Rattle.orc_scope.specs.Building.{HaveSmallCalls};
+ghost use Rattle.orc_scope.specs.Checking.{IsWrittenOut, Checks};
+ghost use Rattle.orc_scope.specs.Written.{number};
+
 use crate::definitions::{program_fault, variables};
 use crate::fault::{FaultKind, ScopeFault};
 use crate::known::Known;
@@ -19,7 +26,9 @@ fn parameter_numbers(
     alloc: Global,
     numbers: &Numbers,
     parameters: &[Name],
-) -> Result<Vec<u32>, AllocError> {
+) -> Result<Vec<u32>, AllocError>
+    ensures { IfOk result (λ params. params.items ≡ map (λ x. number numbers.now.names x.text) (map label parameters.now)) }
+{
     let mut params = Vec::new(alloc);
     for parameter in parameters {
         params.push(numbers.variable(parameter.text))?;
@@ -28,7 +37,9 @@ fn parameter_numbers(
 }
 
 // The program with all terms written out.
-fn write_out(alloc: Global, numbers: &Numbers, ast: &Ast) -> Result<Program, AllocError> {
+fn write_out(alloc: Global, numbers: &Numbers, ast: &Ast) -> Result<Program, AllocError>
+    ensures { (s : Source) → IsAst ast.now s → HaveSmallCalls s → IfOk result (IsWrittenOut numbers.now.known numbers.now.names s) }
+{
     let mut writing = Writing {
         nodes: Nodes::new(alloc),
         pieces: Vec::new(alloc),
@@ -44,7 +55,9 @@ fn write_out(alloc: Global, numbers: &Numbers, ast: &Ast) -> Result<Program, All
 }
 
 // The main expression's place.
-fn main_span(ast: &Ast) -> Span {
+fn main_span(ast: &Ast) -> Span
+    ensures { (s : Source) → IsAst ast.now s → result ≡ span_of s.main }
+{
     match ast.main.nodes.last() {
         Some(node) => node.span,
         None => Span { start: 0, end: 0 },
@@ -57,7 +70,9 @@ fn main_span(ast: &Ast) -> Span {
 /// Else the fault that stands first, of two at one place the one of the lower number (`Unbound` to `TooMany` are C1 to C8);
 /// `TooMany` at the main expression where there is no other fault and all terms together have over 65,535 nodes; `Memory` (C9),
 /// placed at 0, where a growth was refused.
-pub fn check<'a>(alloc: Global, ast: &Ast<'a>, sites: &[&[u8]]) -> Result<Program, ScopeFault> {
+pub fn check<'a>(alloc: Global, ast: &Ast<'a>, sites: &[&[u8]]) -> Result<Program, ScopeFault>
+    ensures { (s : Source) → IsAst ast.now s → Checks (map text_of sites.now) s result }
+{
     let known = Known::new(alloc, &ast.definitions, sites)?;
     let mut looking = Looking::new(alloc, MOST_NODES + 1);
     if let Some(fault) = program_fault(&mut looking, &known, ast)? {

@@ -1,5 +1,12 @@
 //! The least fault of a program, and the names of its variables.
 
+ghost use Rattle.std.specs.Prelude.{◌≡◌, ◌-◌, ◌++◌, ◌∷◌, [], ℕ, List, map, take, IfOk, OnOk};
+ghost use Rattle.orc_syntax.specs.Ast.{label, sort, IsExpr, IsDefinition, AreDefinitions, IsAst};
+ghost use Rattle.orc_syntax.specs.Tree.{Define, Source, Tree};
+ghost use Rattle.orc_scope.specs.Scope.{Known as Outside, IsLeast, position, bound};
+ghost use Rattle.orc_scope.specs.Looking.{known_of, bind_of};
+ghost use Rattle.orc_scope.specs.Program.{repeated as repeated_of, text, name_of, parameter_faults, definition_faults, definitions_faults, faults_with, bound_names as names_bound, sort_names, variables as variables_of, size_of_define, sizes, sizes_of};
+
 use crate::fault::{FaultKind, ScopeFault, lesser};
 use crate::known::Known;
 use crate::looking::{Looking, number_fault, one};
@@ -8,7 +15,9 @@ use orc_syntax::{Ast, Definition, Name, Node, Operator, Part, Span};
 use std::alloc::{AllocError, Global};
 
 // The place of a name among the first so many.
-fn earlier(names: &Names, number: usize, text: &[u8]) -> Option<usize> {
+fn earlier(names: &Names, number: usize, text: &[u8]) -> Option<usize>
+    ensures { result ≡ position (take number names.now) text.now }
+{
     match names.find(text) {
         Some(at) if at < number => Some(at),
         _ => None,
@@ -16,7 +25,9 @@ fn earlier(names: &Names, number: usize, text: &[u8]) -> Option<usize> {
 }
 
 // The fault of a name that has come before.
-fn repeated(kind: FaultKind, before: Option<usize>, span: Span) -> Option<ScopeFault> {
+fn repeated(kind: FaultKind, before: Option<usize>, span: Span) -> Option<ScopeFault>
+    ensures { IsLeast result (repeated_of kind before span) }
+{
     match before {
         Some(_) => one(kind, span),
         None => None,
@@ -27,7 +38,11 @@ fn repeated(kind: FaultKind, before: Option<usize>, span: Span) -> Option<ScopeF
 fn parameters_fault<'a>(
     looking: &mut Looking<'a>,
     parameters: &[Name<'a>],
-) -> Result<Option<ScopeFault>, AllocError> {
+) -> Result<Option<ScopeFault>, AllocError>
+    ensures least { IfOk result (λ least. IsLeast least (parameter_faults [] 1 (map label parameters.now))) }
+    ensures scope { OnOk result (looking.new.scope ≡ map text (map label parameters.now)) }
+    ensures room { looking.new.room ≡ looking.old.room }
+{
     looking.scope.truncate(0);
     let mut least = None;
     let mut at = 0;
@@ -51,7 +66,10 @@ fn definition_fault<'a>(
     known: &Known,
     number: usize,
     definition: &Definition<'a>,
-) -> Result<Option<ScopeFault>, AllocError> {
+) -> Result<Option<ScopeFault>, AllocError>
+    ensures least { (e : Define) → IsDefinition definition.now e → IfOk result (λ least. IsLeast least (definition_faults (known_of known.now) (take number known.now.definitions) e)) }
+    ensures room { (e : Define) (k : Outside) (names : List (List ℕ)) → IsDefinition definition.now e → OnOk result (looking.new.room ≡ looking.old.room - size_of_define k names e) }
+{
     let before = earlier(&known.definitions, number, definition.name.text);
     let own = repeated(FaultKind::DefinedTwice, before, definition.name.span);
     let parameters = parameters_fault(looking, &definition.parameters)?;
@@ -64,7 +82,10 @@ fn definitions_fault<'a>(
     looking: &mut Looking<'a>,
     known: &Known,
     definitions: &[Definition<'a>],
-) -> Result<Option<ScopeFault>, AllocError> {
+) -> Result<Option<ScopeFault>, AllocError>
+    ensures least { (es : List Define) → AreDefinitions definitions.now es → known.now.definitions ≡ map name_of es → IfOk result (λ least. IsLeast least (definitions_faults (known_of known.now) [] es)) }
+    ensures room { (es : List Define) (k : Outside) (names : List (List ℕ)) → AreDefinitions definitions.now es → OnOk result (looking.new.room ≡ looking.old.room - sizes_of k names es) }
+{
     let mut least = None;
     let mut number = 0;
     while number < definitions.len() {
@@ -80,32 +101,56 @@ pub fn program_fault<'a>(
     looking: &mut Looking<'a>,
     known: &Known,
     ast: &Ast<'a>,
-) -> Result<Option<ScopeFault>, AllocError> {
+) -> Result<Option<ScopeFault>, AllocError>
+    ensures least { (s : Source) → IsAst ast.now s → known.now.definitions ≡ map name_of s.definitions → IfOk result (λ least. IsLeast least (faults_with (known_of known.now) s)) }
+    ensures room { (s : Source) (k : Outside) (names : List (List ℕ)) → IsAst ast.now s → OnOk result (looking.new.room ≡ looking.old.room - sizes k names s) }
+{
     let definitions = definitions_fault(looking, known, &ast.definitions)?;
     looking.scope.truncate(0);
     let main = looking.expression(known, &ast.main.nodes)?;
     Ok(lesser(definitions, main))
 }
 
+// Adds the names of parameters.
+fn parameter_names<'a>(names: &mut Names<'a>, parameters: &[Name<'a>]) -> Result<(), AllocError>
+    ensures { OnOk result (names.new ≡ names.old ++ map text (map label parameters.now)) }
+{
+    for parameter in parameters {
+        names.push(parameter.text)?;
+    }
+    Ok(())
+}
+
+// The name that a node binds.
+fn bound_name(part: Part<'_>) -> Option<&[u8]>
+    ensures { bound (bind_of result) [] ≡ sort_names (sort part.entry) }
+{
+    match part {
+        Part::Operation(Operator::Seq(Some(name)) | Operator::Prune(Some(name)))
+        | Part::Val(name) => Some(name.text),
+        _ => None,
+    }
+}
+
 // Adds the names that an expression binds.
-fn bound_names<'a>(names: &mut Names<'a>, nodes: &[Node<'a>]) -> Result<(), AllocError> {
+fn bound_names<'a>(names: &mut Names<'a>, nodes: &[Node<'a>]) -> Result<(), AllocError>
+    ensures { (t : Tree) → IsExpr nodes.now t → OnOk result (names.new ≡ names.old ++ names_bound t) }
+{
     for node in nodes {
-        match node.part {
-            Part::Operation(Operator::Seq(Some(name)) | Operator::Prune(Some(name)))
-            | Part::Val(name) => names.push(name.text)?,
-            _ => {}
+        if let Some(text) = bound_name(node.part) {
+            names.push(text)?;
         }
     }
     Ok(())
 }
 
 /// The names of a program's variables: each definition's parameters and those that its body binds, then those of the main expression.
-pub fn variables<'a>(alloc: Global, ast: &Ast<'a>) -> Result<Names<'a>, AllocError> {
+pub fn variables<'a>(alloc: Global, ast: &Ast<'a>) -> Result<Names<'a>, AllocError>
+    ensures { (s : Source) → IsAst ast.now s → IfOk result (λ names. names ≡ variables_of s) }
+{
     let mut names = Names::new(alloc);
     for definition in &ast.definitions {
-        for parameter in &definition.parameters {
-            names.push(parameter.text)?;
-        }
+        parameter_names(&mut names, &definition.parameters)?;
         bound_names(&mut names, &definition.body.nodes)?;
     }
     bound_names(&mut names, &ast.main.nodes)?;

@@ -39,9 +39,9 @@ pub struct ScopeFault {
 }
 
 impl From<AllocError> for ScopeFault {
-    fn from(_error: AllocError) -> ScopeFault
-        ensures { result.kind ≡ Memory }
-    {
+    ghost from_gives = { λ _ f. f.kind ≡ Memory };
+
+    fn from(_error: AllocError) -> ScopeFault {
         ScopeFault {
             kind: FaultKind::Memory,
             span: Span { start: 0, end: 0 },
