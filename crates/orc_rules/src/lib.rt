@@ -1,4 +1,9 @@
-//! Orc's terms, their rules, and what a journal's entries do to a marked term.
+//! Orc's definitions, their laws, and what all other crates share.
+//!
+//! `specs/` says what a term and its rules are, what a timed run is, what each entry of a journal asks and does, why one
+//! is refused, and what a journal's verdict is. `laws` proves what follows from them: every journal of a program is a
+//! timed run, nothing that the rules allow is lost, a journal has one verdict. The other modules are values, operands,
+//! programs as numbered nodes, entries, and the table of sites, each as the definitions have it.
 #![tactic(auto)]
 
 pub mod answers;
