@@ -1,15 +1,18 @@
--- Worked refusals, one for each reason, on small terms.
-use Rattle.std.proofs.Common.{◌≡◌, ◌≤◌, ℕ, zero, suc, List, [], ◌∷◌, refl, inr, true, pos, arith}
-use Rattle.orc_rules.specs.declared.value.Value.TheVariants.{Number}
+-- Worked refusals, one and more for each reason, and verdicts, on small terms.
+use Rattle.std.proofs.Common.{◌≡◌, ◌≤◌, ℕ, zero, suc, List, [], ◌∷◌, refl, inl, inr, true, pos, arith}
+use Rattle.orc_rules.specs.declared.value.Value.TheVariants.{Number, Signal}
 use Rattle.orc_rules.specs.declared.param.Param.TheVariants.{Is, Cell}
-use Rattle.orc_rules.specs.declared.entry.Entry.TheVariants.{End, Fork, Publish, Call, Lost, Right, Tick, Cancel}
+use Rattle.orc_rules.specs.declared.entry.Entry.TheVariants.{Return, End, Fork, Publish, Call, Lost, Right, Tick, Cancel}
 use Rattle.orc_rules.specs.declared.entry.RuleFault.TheVariants.{Mark, Form, Number as Counted, Time, Deep}
 use Rattle.orc_rules.specs.declared.entry.RuleFault.TheVariants as reason
 use Rattle.orc_rules.specs.Term.{Term, stop, param, site, par, Halted}
 use Rattle.orc_rules.specs.Step.{publishes, value_rule, par_left}
 use Rattle.orc_rules.specs.Marked.{Marked, ended, token, in_call, in_par, in_seq, in_opened, in_other, erase, Replaces, here, in_feeding, in_main, in_side, in_entered, Emits, on_feeding}
 use Rattle.orc_rules.specs.Journal.{Place, begin}
-use Rattle.orc_rules.specs.Refusal.{IsRefused, depth, most_levels}
+use Rattle.orc_rules.specs.Refusal.{IsTaken, IsRefused, depth, most_levels}
+use Rattle.orc_rules.specs.declared.value.Answer.TheVariants.{Value as Gives}
+use Rattle.orc_rules.specs.declared.entry.State.TheVariants.{Halted as HasHalted, Running}
+use Rattle.orc_rules.specs.Verdict.{IsVerdict}
 use Rattle.orc_rules.proofs.Worked.{world}
 
 -- a place at time 0 with one call of `Rwait(3)` and one cell
@@ -44,6 +47,20 @@ lost_twice = (refl, λ h. not_there h.0 h.1 h.2.0 h.2.1)
     not_there : (f g : Marked) (cs : List ℕ) → Replaces (in_opened f 1 g) (in_opened f 1 g) (token 2 stop) cs (token 2 stop) → ⊥
     not_there f g cs r = elim r [ ]
 
+-- a return of a call that was dropped with a side
+dropped_call : IsRefused (world [] [] true) (at_start (token 2 one)) (Return 1 6 Signal) Mark
+dropped_call = (refl, λ h. not_there h.0 h.1)
+  where
+    not_there : (cs : List ℕ) → Replaces (in_call 1) (in_call 1) (token 2 one) cs (token 2 one) → ⊥
+    not_there cs r = elim r [ ]
+
+-- a token where a call of that number pends, and none of that mark
+call_for_token : IsRefused (world [] [] true) (at_start (in_call 1)) (End 1) Mark
+call_for_token = (refl, λ h. not_there h.0 h.1.0 h.1.1)
+  where
+    not_there : (t : Term) (cs : List ℕ) → Replaces (token 1 t) (token 1 t) (in_call 1) cs (in_call 1) → ⊥
+    not_there t cs r = elim r [ ]
+
 -- `end` on a value
 not_stop : IsRefused (world [] [] true) (at_start (token 2 one)) (End 2) Form
 not_stop = ((refl, (one, ([], here))), λ h. not_there h.0 h.1)
@@ -72,6 +89,14 @@ call_out_of_count = ((refl, (_, ([], here)), (Is (Number (pos 1)) ∷ [], refl, 
 -- a tick while a token can publish
 tick_too_soon : IsRefused (world [] [] true) (at_start (in_par (token 2 one) (in_call 1))) (Tick 3) Time
 tick_too_soon = ((refl, tt, tt, tt, tt), λ tick. tick.idle (publishes (Number (pos 1))) (par stop (erase (in_call 1))) (par_left value_rule))
+
+-- a tick beyond the least due time
+tick_too_far : IsRefused (world [] [] true) (at_start (in_call 1)) (Tick 4) Time
+tick_too_far = ((refl, tt, tt, tt, tt), λ tick. omega (arith, tick.least 1 (Gives Signal) 3 (inl refl) (record { by = record { number = 1; site = 6; args = Number (pos 3) ∷ []; nth = 1; at = 0 }; is_made = inl refl; is_k = refl; delay = 3; says = refl; sum = refl; fits = omega arith })))
+
+-- a tick where nothing pends
+tick_for_nothing : IsRefused (world [] [] true) (at_start ended) (Tick 3) Time
+tick_for_nothing = ((refl, tt, tt, tt, tt), λ tick. tick.reached.2)
 
 -- `lost` while a call pends in the right side
 side_goes_on : IsRefused (world [] [] true) (at_start (in_opened (token 2 (param (Cell 1))) 1 (in_call 1))) (Lost 1) reason.Halted
@@ -106,3 +131,15 @@ too_deep n le = (
   (inr refl, (stop, nested n, refl, refl, record { inside = []; part = here; same = refl })),
   omega (arith, le, nested_depth n),
 )
+
+-- the same in a term of 10,000 levels and less
+not_too_deep : (n : ℕ) → suc (suc n) ≤ most_levels → IsTaken (world [] [] true) (begin (par stop (nested n))) (Fork 1 2 3) (record (begin (par stop (nested n))) { marked = in_par (token 2 stop) (token 3 (nested n)); mark = 4 })
+not_too_deep n le = ((inr refl, (stop, nested n, refl, refl, record { inside = []; part = here; same = refl })), omega (arith, le, nested_depth n))
+
+-- no entries, for `1`: running at time 0
+running_at_start : IsVerdict (world [] [] true) one [] Running 0
+running_at_start = record { end = begin one; taken = refl; paid = refl; reached = (λ h. h, λ q. q.idle (publishes (Number (pos 1))) stop value_rule); time = refl }
+
+-- no entries, for `stop`: halted before its `end`
+halted_at_start : IsVerdict (world [] [] true) stop [] HasHalted 0
+halted_at_start = record { end = begin stop; taken = refl; paid = refl; reached = tt; time = refl }
