@@ -2,6 +2,8 @@ pub mod Answering
 pub mod Beginning
 pub mod Binding
 pub mod Cancelling
+pub mod CallEntries
+pub mod CallsMade
 pub mod Change
 pub mod Closing
 pub mod Dropping

@@ -1,9 +1,11 @@
 -- What is kept of a journal besides its term.
-use Rattle.std.specs.Prelude.{◌≡◌, ℕ, suc, List, [], ◌∷◌, ◌++◌, length, map, Bool, true, false, cond, Option, Some, slice_get}
+use Rattle.std.specs.Prelude.{◌≡◌, ◌<◌, ◌+◌, ◌-◌, ◌^◌, ℕ, suc, List, [], ◌∷◌, ◌++◌, length, map, Bool, cond, Some, slice_get, nat_eq, ◌&&◌}
 use Rattle.orc_rules.specs.declared.value.Value.{Value}
 use Rattle.orc_rules.specs.declared.value.Found.{Found}
-use Rattle.orc_rules.specs.Sites.{Site, scripted}
-use Rattle.orc_rules.specs.Timed.{Context, CallMade, says_of}
+use Rattle.orc_rules.specs.declared.value.Found.TheVariants.{After}
+use Rattle.orc_rules.specs.declared.value.Answer.{Answer}
+use Rattle.orc_rules.specs.Sites.{Site, find, is_scripted, values_eq}
+use Rattle.orc_rules.specs.Timed.{Context, CallMade, nth_of, says_of}
 use Rattle.orc_checker.specs.declared.rest.Called.{Called}
 use Rattle.orc_checker.specs.declared.rest.Key.{Key}
 
@@ -27,14 +29,6 @@ abbrev pub told_of : List Site → List CallMade → List (Found × ℕ)
 told_of sites [] = []
 told_of sites (c ∷ cs) = told_of sites cs ++ (says_of sites c, c.at) ∷ []
 
-abbrev pub is_script : Option Site → Bool
-is_script (Some (scripted ls)) = true
-is_script _ = false
-
--- whether a script answers the calls of a site
-abbrev pub is_scripted : List Site → ℕ → Bool
-is_scripted sites m = is_script (slice_get sites m)
-
 -- the sites and arguments of the calls that scripts answer, the first one first
 abbrev pub keys_of : List Site → List CallMade → List (ℕ × List Value)
 keys_of sites [] = []
@@ -53,3 +47,26 @@ pub record Keeps (x : Context) (now : ℕ) (calls : List CallMade) (to_cancel : 
   pub numbered : AreNumbered calls
   pub due : to_cancel ≡ r.to_cancel
   pub cancels_are : x.cancels ≡ r.cancels
+
+-- whether these are the site and the arguments
+abbrev pub is_key : ℕ → List Value → ℕ × List Value → Bool
+is_key m args k = nat_eq m k.0 && values_eq args k.1
+
+-- one more call
+abbrev pub after_call : Rest → Called → Bool → ℕ → List Value → Rest
+after_call r c counts m args = record r { calls = r.calls ++ c ∷ []; keys = cond counts (r.keys ++ (m, args) ∷ []) r.keys }
+
+-- the table's word on the next call of a site with these arguments, after the calls that are kept
+abbrev pub NextFound : List Site → Rest → ℕ → List Value → Found → Type 0
+NextFound sites r m args found = (calls : List CallMade) → r.keys ≡ keys_of sites calls → found ≡ find sites m args (nth_of m args calls)
+
+-- call k of those that are kept
+abbrev pub IsCall : Rest → ℕ → Called → Type 0
+IsCall r k c = (0 < k) × (slice_get r.calls (k - 1) ≡ Some c)
+
+-- a call's answer is this one, and is due at this time
+pub record DueNow (c : Called) (a : Answer) (time : ℕ) : Type 0 where
+  pub delay : ℕ
+  pub found : c.found ≡ After a delay
+  pub sum : time ≡ c.at + delay
+  pub fits : time < 2 ^ 64

@@ -7,7 +7,7 @@ use Rattle.orc_checker.specs.declared.arena.Scope.{Scope}
 use Rattle.orc_rules.specs.declared.entry.Entry.{Entry}
 use Rattle.orc_rules.specs.Term.{Term}
 use Rattle.orc_rules.specs.Nodes.{Listing, code, source, definitions}
-use Rattle.orc_rules.specs.Sites.{Table}
+use Rattle.orc_rules.specs.Sites.{Site, Table}
 use Rattle.orc_rules.specs.Marked.{Marked}
 use Rattle.orc_rules.specs.Timed.{Context}
 use Rattle.orc_rules.specs.Journal.{Place, Leads, Journal, begin}
@@ -68,6 +68,10 @@ Follows x code e s s' = (p : Place) → Spells x code s p → (q : Place) × Lea
 -- the same whatever the definitions and sites
 abbrev pub Enters : (ℕ → Term) → Entry → State → State → Type 0
 Enters code e s s' = (x : Context) → Follows x code e s s'
+
+-- the same whatever the definitions
+abbrev pub EntersBy : List Site → (ℕ → Term) → Entry → State → State → Type 0
+EntersBy sites code e s s' = (x : Context) → x.sites ≡ sites → Follows x code e s s'
 
 -- a journal of the term leads to the place
 abbrev pub IsReached : Context → Term → Place → Type 0

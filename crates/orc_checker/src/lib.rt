@@ -3,6 +3,7 @@
 
 pub mod arena;
 mod cancel;
+mod calling;
 pub mod due;
 mod feed;
 mod flags;

@@ -1,10 +1,14 @@
 // What of a journal isn't in its term: the time, the calls made, and the cancels due.
 
-ghost use Rattle.std.specs.Prelude.{◌≡◌, ◌∷◌, List, [], map, OnOk, OnErr, false, reverse};
-ghost use Rattle.orc_checker.specs.Calls.{Rest as Aside, key_of};
+ghost use Rattle.std.specs.Prelude.{◌≡◌, ◌∷◌, List, [], map, false, reverse, suc, length, IfOk, IfSome, OnOk, OnErr};
+ghost use Rattle.std.specs.List.{count_by};
+ghost use Rattle.orc_checker.specs.Calls.{Rest as Aside, key_of, is_key, after_call, NextFound, IsCall, DueNow};
 
+use crate::room::push_within;
+use orc_rules::answers::Answers;
+use orc_rules::builtin::are_same;
 use orc_rules::entry::RuleFault;
-use orc_rules::value::{Args, Found};
+use orc_rules::value::{Answer, Args, Found};
 use std::alloc::Global;
 use std::marker::Model;
 
@@ -53,6 +57,77 @@ impl Rest {
         }
     }
 
+    /// Which call with this site and these arguments the next one is, from 1.
+    fn nth(&self, site: u32, args: &Args) -> u64
+        ensures { result ≡ suc (count_by (is_key site args.now) self.now.keys) }
+    {
+        let mut nth = 1;
+        for key in &self.keys {
+            if key.site == site && are_same(args.as_slice(), key.args.as_slice()) {
+                nth += 1;
+            }
+        }
+        nth
+    }
+
+    /// What the table says of the next call of a site with these arguments.
+    pub(crate) fn found(&self, answers: &Answers, site: u32, args: &Args) -> Found
+        ensures { NextFound answers.now.sites self.now site args.now result }
+    {
+        if answers.is_scripted(site) {
+            answers.find(site, args, self.nth(site, args))
+        } else {
+            answers.find(site, args, 1)
+        }
+    }
+
+    /// Adds a call; where its site `counts` its calls, its key too. Where a growth is refused nothing changes.
+    pub(crate) fn add(
+        &mut self,
+        called: Called,
+        counts: bool,
+        site: u32,
+        args: &Args,
+    ) -> Result<(), RuleFault>
+        ensures added { OnOk result (self.new ≡ after_call self.old called counts site args.now) }
+        ensures refused { OnErr result (self.new ≡ self.old) }
+    {
+        self.calls.try_reserve(1).map_err(|_| RuleFault::Memory)?;
+        if counts {
+            let key = Key {
+                site,
+                args: args.copied(),
+            };
+            self.keys.push(key).map_err(|_| RuleFault::Memory)?;
+        }
+        push_within(&mut self.calls, called);
+        Ok(())
+    }
+
+    /// The call of that number.
+    pub(crate) fn call(&self, k: u64) -> Option<Called>
+        ensures { IfSome result (λ c. IsCall self.now k c) }
+    {
+        if k == 0 {
+            return None;
+        }
+        Some(*self.calls.get((k - 1) as usize)?)
+    }
+
+    /// How many calls were made.
+    pub(crate) fn calls_made(&self) -> usize
+        ensures { result ≡ length self.now.calls }
+    {
+        self.calls.len()
+    }
+
+    /// The time.
+    pub(crate) fn time(&self) -> u64
+        ensures { result ≡ self.now.time }
+    {
+        self.time
+    }
+
     /// Whether a cancel is due.
     pub(crate) fn is_due(&self) -> bool
         ensures { result ≡ false → self.now.to_cancel ≡ [] }
@@ -71,5 +146,21 @@ impl Rest {
         }
         let _cancelled = self.to_cancel.pop();
         Ok(())
+    }
+}
+
+/// Whether a call's answer is this one and is due at this time.
+pub(crate) fn is_due_now(called: Called, answer: Answer, time: u64) -> Result<(), RuleFault>
+    ensures { IfOk result (λ _. DueNow called answer time) }
+{
+    match called.found {
+        Found::After(given, delay) if given == answer => {
+            if called.at.checked_add(delay) == Some(time) {
+                Ok(())
+            } else {
+                Err(RuleFault::Time)
+            }
+        }
+        _ => Err(RuleFault::Answer),
     }
 }

@@ -145,3 +145,11 @@ site_answer (Some (scripted ls)) args nth = line_answer ls args (nth - 1)
 -- what the table says of the nth call, from 1, of a site with these arguments
 abbrev pub find : List Site → ℕ → List Value → ℕ → Found
 find sites site args nth = site_answer (slice_get sites site) args nth
+
+abbrev pub is_script : Option Site → Bool
+is_script (Some (scripted ls)) = true
+is_script _ = false
+
+-- whether a script answers the calls of a site: only there the table's answer depends on how many such calls there were
+abbrev pub is_scripted : List Site → ℕ → Bool
+is_scripted sites m = is_script (slice_get sites m)

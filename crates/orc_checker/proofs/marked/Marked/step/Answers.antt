@@ -1,4 +1,4 @@
-use Rattle.orc_checker.proofs.Answering.{for_all}
+use Rattle.orc_checker.proofs.Answering.{for_all, for_sites, for_code}
 use Rattle.orc_checker.proofs.marked.Marked.step.Goals as goal
 
 pub returns-in-End-clause-done : goal.returns-in-End-clause-done
@@ -24,3 +24,12 @@ returns-in-Send-clause-done c = for_all c.args.program.now c.args.answers.now _ 
 
 pub returns-in-Cancel-clause-done : goal.returns-in-Cancel-clause-done
 returns-in-Cancel-clause-done c = for_all c.args.program.now c.args.answers.now _ _ c.args.self.now c.cancel.new.self c.cancel.result c.in-Cancel.is c.cancel.ensures.done
+
+pub returns-in-Call-clause-done : goal.returns-in-Call-clause-done
+returns-in-Call-clause-done c = for_sites c.args.program.now c.args.answers.now _ _ c.args.self.now c.call.new.self c.call.result c.in-Call.is c.call.ensures.done
+
+pub returns-in-Return-clause-done : goal.returns-in-Return-clause-done
+returns-in-Return-clause-done c = for_code c.args.program.now c.args.answers.now _ _ c.args.self.now c.answered.new.self c.answered.result c.in-Return.is c.answered.ensures.done
+
+pub returns-in-ReturnHalt-clause-done : goal.returns-in-ReturnHalt-clause-done
+returns-in-ReturnHalt-clause-done c = for_code c.args.program.now c.args.answers.now _ _ c.args.self.now c.given_up.new.self c.given_up.result c.in-ReturnHalt.is c.given_up.ensures.done

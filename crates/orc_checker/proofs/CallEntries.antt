@@ -1,0 +1,104 @@
+-- The entries of calls and of their answers.
+use Rattle.std.proofs.Common.{◌≡◌, ℕ, suc, List, [], ◌∷◌, ◌++◌, length, map, Some, refl, sym, ap, ◌∙◌, subst, inr, cond}
+use Rattle.std.specs.Prelude.{slice_set}
+use Rattle.orc_rules.specs.declared.value.Value.{Value}
+use Rattle.orc_rules.specs.declared.value.Answer.{Answer}
+use Rattle.orc_rules.specs.declared.value.Answer.TheVariants.{Value as Gives, Halt}
+use Rattle.orc_rules.specs.declared.param.Param.{Param}
+use Rattle.orc_rules.specs.declared.entry.Entry.TheVariants as entry
+use Rattle.orc_checker.specs.declared.arena.Tip.TheVariants.{Token, Bears, Waits, Ended}
+use Rattle.orc_checker.specs.declared.arena.Kind.TheVariants.{Leaf}
+use Rattle.orc_checker.specs.declared.rest.Called.{Called}
+use Rattle.orc_rules.specs.Term.{Term, site, values_of}
+use Rattle.orc_rules.specs.Sites.{Site, is_scripted}
+use Rattle.orc_rules.specs.Step.{calls}
+use Rattle.orc_rules.specs.Marked.{token, in_call, Replaces}
+use Rattle.orc_rules.specs.Timed.{Context, CallMade, nth_of, calls_after}
+use Rattle.orc_rules.specs.Journal.{Place, moment}
+use Rattle.orc_checker.specs.Arena.{leaf, at, close, close_param, env_of}
+use Rattle.orc_checker.specs.Names.{AreOrdered}
+use Rattle.orc_checker.specs.Calls.{Rest, Keeps, told, after_call, NextFound, IsCall, DueNow}
+use Rattle.orc_checker.specs.Checker.{State, EntersBy, AreCells}
+use Rattle.orc_checker.proofs.Moves.{node, written, turn, staying, Stays}
+use Rattle.orc_checker.proofs.Scopes.{close-site}
+use Rattle.orc_checker.proofs.CallsMade.{kept_length, map-more, is_due}
+
+-- what is kept after one more call
+pub keeps_call : (x : Context) (p : Place) (r : Rest) (k m : ℕ) (args : List Value) (cs : List ℕ) (c : Called) → Keeps x p.now p.calls p.to_cancel r → r.to_cancel ≡ [] → k ≡ suc (length r.calls) → NextFound x.sites r m args c.found → c.at ≡ r.time
+    → Keeps x p.now (calls_after (moment p) (calls k m args cs)) [] (after_call r c (is_scripted x.sites m) m args)
+keeps_call x p r k m args cs c keeps free is_k found time =
+    let made : CallMade = record { number = k; site = m; args = args; nth = nth_of m args p.calls; at = p.now } in
+    record {
+      time = keeps.time;
+      calls_are = map-more told r.calls c ∙ (λ j. keeps.calls_are j ++ (found p.calls keeps.keys_are j, (time ∙ sym keeps.time) j) ∷ []);
+      keys_are = ap (λ z. cond (is_scripted x.sites m) (z ++ (m, args) ∷ []) z) keeps.keys_are;
+      numbered = (is_k ∙ ap suc (kept_length x p.now p.calls p.to_cancel r keeps), keeps.numbered);
+      due = sym free;
+      cancels_are = keeps.cancels_are;
+    }
+
+pub call-enters : (code : ℕ → Term) (sites : List Site) (s s' : State) (i q m k w f e : ℕ) (ps : List Param) (args : List Value) (c : Called) → at s.nodes q i (Leaf (Token m f e)) → code f ≡ site w ps
+    → (AreOrdered s.scopes → values_of (map (close_param (env_of s.cells s.scopes e)) ps) ≡ Some args)
+    → s'.nodes ≡ slice_set s.nodes i (node (Leaf (Waits k)) q) → s'.scopes ≡ s.scopes → s'.cells ≡ s.cells → s'.marks ≡ s.marks → k ≡ suc (length s.rest.calls)
+    → NextFound sites s.rest w args c.found → c.at ≡ s.rest.time → s'.rest ≡ after_call s.rest c (is_scripted sites w) w args → s.rest.to_cancel ≡ [] → EntersBy sites code (entry.Call m k w args) s s'
+call-enters code sites s s' i q m k w f e ps args c a is values nodes scopes cells marks is_k found time rest free x of_sites p sp =
+    let env = env_of s.cells s.scopes in
+    let b = written s s' i q (Token m f e) (Waits k) a refl refl (staying s s' scopes cells) tt nodes in
+    let t = turn code s s' p.marked sp.drawn i q (Token m f e) (leaf i (Waits k)) a refl b in
+    let its : List Param = map (close_param (env e)) ps in
+    let part : Replaces (token m (site w its)) (in_call k) p.marked t.inside t.after =
+    subst (λ z. Replaces (token m z) (in_call k) p.marked t.inside t.after) ((λ j. close (env_of (cells j) (scopes j) e) (is j)) ∙ close-site (env e) w ps) t.part in
+    let act = calls k w args t.inside in (
+      record { marked = t.after; mark = p.mark; now = p.now; calls = calls_after (moment p) act; cells = p.cells; to_cancel = [] },
+      (
+        inr (sp.rest.due ∙ free),
+        (its, t.inside, is_k ∙ ap suc (kept_length x p.now p.calls p.to_cancel s.rest sp.rest), values sp.scopes, part, record { to_cancel = refl; same = refl }),
+      ),
+      record {
+        drawn = t.drawn;
+        mark = sp.mark ∙ sym (ap length marks);
+        scopes = subst AreOrdered (sym scopes) sp.scopes;
+        cells = subst (AreCells p.cells) (sym cells) sp.cells;
+        rest =
+            subst (λ z. Keeps x p.now (calls_after (moment p) act) [] z) (sym (rest ∙ ap (λ z. after_call s.rest c (is_scripted z w) w args) (sym of_sites)))
+            (keeps_call x p s.rest k w args t.inside c sp.rest free is_k (subst (λ z. NextFound z s.rest w args c.found) (sym of_sites) found) time);
+      },
+    )
+
+pub return-enters : (code : ℕ → Term) (sites : List Site) (s s' : State) (i q k a : ℕ) (v : Value) (c : Called) → at s.nodes q i (Leaf (Waits k)) → IsCall s.rest k c → DueNow c (Gives v) s.rest.time
+    → s'.nodes ≡ slice_set s.nodes i (node (Leaf (Bears a v)) q) → a ≡ length s.marks → Stays s s' (suc a) → EntersBy sites code (entry.Return k a v) s s'
+return-enters code sites s s' i q k a v c is_at call due nodes next st x of_sites p sp =
+    let b = written s s' i q (Waits k) (Bears a v) is_at refl refl (staying s s' st.scopes st.cells) tt nodes in
+    let t = turn code s s' p.marked sp.drawn i q (Waits k) (leaf i (Bears a v)) is_at refl b in
+    let free : p.to_cancel ≡ [] = sp.rest.due ∙ st.free in (
+      record p { marked = t.after; mark = suc a },
+      (inr free, (t.inside, next ∙ sym sp.mark, is_due x p.now p.calls p.to_cancel s.rest k c (Gives v) sp.rest call due, t.part, record { to_cancel = free; same = refl })),
+      record {
+        drawn = t.drawn;
+        mark = sym st.marks;
+        scopes = subst AreOrdered (sym st.scopes) sp.scopes;
+        cells = subst (AreCells p.cells) (sym st.cells) sp.cells;
+        rest = subst (Keeps x p.now p.calls p.to_cancel) (sym st.rest) sp.rest;
+      },
+    )
+
+pub halt-enters : (code : ℕ → Term) (sites : List Site) (s s' : State) (i q k : ℕ) (c : Called) → at s.nodes q i (Leaf (Waits k)) → IsCall s.rest k c → DueNow c Halt s.rest.time
+    → s'.nodes ≡ slice_set s.nodes i (node (Leaf Ended) q) → Stays s s' (length s.marks) → EntersBy sites code (entry.ReturnHalt k) s s'
+halt-enters code sites s s' i q k c is_at call due nodes st x of_sites p sp =
+    let b = written s s' i q (Waits k) Ended is_at refl refl (staying s s' st.scopes st.cells) tt nodes in
+    let t = turn code s s' p.marked sp.drawn i q (Waits k) (leaf i Ended) is_at refl b in
+    let free : p.to_cancel ≡ [] = sp.rest.due ∙ st.free in (
+      record p { marked = t.after },
+      (inr free, (t.inside, is_due x p.now p.calls p.to_cancel s.rest k c Halt sp.rest call due, t.part, record { to_cancel = free; same = refl })),
+      record {
+        drawn = t.drawn;
+        mark = sp.mark ∙ sym st.marks;
+        scopes = subst AreOrdered (sym st.scopes) sp.scopes;
+        cells = subst (AreCells p.cells) (sym st.cells) sp.cells;
+        rest = subst (Keeps x p.now p.calls p.to_cancel) (sym st.rest) sp.rest;
+      },
+    )
+
+-- the same time, said otherwise
+pub due_at : (c : Called) (a : Answer) (t u : ℕ) → t ≡ u → DueNow c a t → DueNow c a u
+due_at c a t u e d = subst (DueNow c a) e d

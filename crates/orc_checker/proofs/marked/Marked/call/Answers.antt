@@ -1,0 +1,36 @@
+use Rattle.std.proofs.Common.{◌∙◌, ap, subst, map, []}
+use Rattle.std.specs.Prelude.{slice_set, slice_index_or}
+use Rattle.orc_checker.specs.declared.arena.Kind.TheVariants.{Leaf}
+use Rattle.orc_checker.specs.declared.arena.Tip.TheVariants.{Waits}
+use Rattle.orc_checker.specs.declared.rest.Called.{Called}
+use Rattle.orc_rules.specs.Nodes.{code, unfold_node, param_of}
+use Rattle.orc_rules.specs.Term.{site}
+use Rattle.orc_checker.specs.Names.{AreArguments}
+use Rattle.orc_checker.specs.Checker.{State}
+use Rattle.orc_checker.specs.Calls.{Rest, NextFound, after_call}
+use Rattle.orc_checker.proofs.Moves.{node}
+use Rattle.orc_checker.proofs.CallEntries.{call-enters}
+use Rattle.orc_checker.proofs.marked.Marked.call.Goals as goal
+
+pub returns-clause-done : goal.returns-clause-done
+returns-clause-done c =
+    let l = c.args.program.now in
+    let t = c.in_ok-spot.spot in
+    let v = c.self.view_is in
+    let s = c.args.self.now in
+    let sites = c.args.answers.now.sites in
+    let called : Called = record { found = c.found.result; at = c.time.result; node = t.at } in
+    let ps = map param_of (slice_index_or l.lists c.in-Site.list []) in
+    call-enters (code l) sites s _ t.at t.parent c.args.s c.args.k c.args.site t.node t.scope ps c.args.args.now called c.in_ok-spot.ensures.there
+    (c.node.ensures.term ∙ ap (unfold_node (code l) l.lists) c.in-Site.is ∙ ap (λ z. site z ps) c.if-named-site.false)
+    (subst (λ z. AreArguments s.cells s.scopes t.scope z c.args.args.now) c.operands-operands.ensures.value
+    (subst (λ (z : State). AreArguments z.cells z.scopes t.scope c.operands-operands.result.now c.args.args.now) v (subst (λ z. AreArguments c.self.inside.cells.items c.self.inside.scopes.items t.scope c.operands-operands.result.now z) c.as_slice.ensures.value (c.are_arguments.ensures c.if-not-are_arguments.false))))
+    (c.write_node.ensures.items ∙ ap (λ (z : State). slice_set z.nodes t.at (node (Leaf (Waits c.args.k)) t.parent)) v)
+    (ap State.scopes v)
+    (ap State.cells v)
+    (ap State.marks v)
+    c.in_ok-next_call.ensures
+    (subst (λ (z : State). NextFound sites z.rest c.args.site c.args.args.now c.found.result) v c.found.ensures)
+    (c.time.ensures ∙ ap (λ (z : State). Rest.time z.rest) v)
+    (c.in_ok-add.ensures.added ∙ (λ j. after_call (State.rest (v j)) called (c.is_scripted.ensures j) c.args.site c.args.args.now))
+    c.in_ok-spot.ensures.free

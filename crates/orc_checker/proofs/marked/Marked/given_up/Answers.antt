@@ -1,0 +1,19 @@
+use Rattle.std.proofs.Common.{◌∙◌, ap, length}
+use Rattle.std.specs.Prelude.{slice_set}
+use Rattle.orc_checker.specs.declared.arena.Kind.TheVariants.{Leaf}
+use Rattle.orc_checker.specs.declared.arena.Tip.TheVariants.{Ended}
+use Rattle.orc_checker.specs.Checker.{State}
+use Rattle.orc_checker.specs.Calls.{Rest}
+use Rattle.orc_checker.proofs.Moves.{node}
+use Rattle.orc_checker.proofs.CallEntries.{halt-enters, due_at}
+use Rattle.orc_checker.proofs.marked.Marked.given_up.Goals as goal
+
+pub returns-clause-done : goal.returns-clause-done
+returns-clause-done c code =
+    let t = c.in_ok-pending.pending in
+    let v = c.self.view_is in
+    let s = c.args.self.now in
+    halt-enters code c.args.answers.now.sites s _ t.at t.parent c.args.k t.called c.in_ok-pending.ensures.there c.in_ok-pending.ensures.call
+    (due_at t.called _ _ _ (c.time.ensures ∙ ap (λ (z : State). Rest.time z.rest) v) c.in_ok-is_due_now.ensures)
+    (c.write_node.ensures.items ∙ ap (λ (z : State). slice_set z.nodes t.at (node (Leaf Ended) t.parent)) v)
+    (record { free = c.in_ok-pending.ensures.free; scopes = ap State.scopes v; cells = ap State.cells v; marks = ap (λ (z : State). length z.marks) v; rest = ap State.rest v })

@@ -1,0 +1,161 @@
+// Calls of sites, and their answers.
+
+ghost use Rattle.std.specs.Prelude.{◌≡◌, ℕ, [], length, suc, IfOk, OnErr};
+ghost use Rattle.orc_rules.specs.Term.{Term};
+ghost use Rattle.orc_rules.specs.Nodes.{code};
+ghost use Rattle.orc_rules.specs.declared.entry.Entry.TheVariants as entry;
+ghost use Rattle.orc_checker.specs.Arena.{at};
+ghost use Rattle.orc_checker.specs.Calls.{IsCall};
+ghost use Rattle.orc_checker.specs.Checker.{EntersBy};
+ghost use Rattle.orc_checker.specs.declared.arena.Kind.TheVariants.{Leaf as AtLeaf};
+ghost use Rattle.orc_checker.specs.declared.arena.Tip.TheVariants.{Waits};
+
+use crate::arena::{Kind, Node, Tip};
+use crate::marked::Marked;
+use crate::names::are_arguments;
+use crate::rest::{Called, is_due_now};
+use crate::room::push_within;
+use crate::walk::write_node;
+use orc_rules::answers::Answers;
+use orc_rules::entry::RuleFault;
+use orc_rules::program::{Program, TermNode};
+use orc_rules::value::{Answer, Args, Value};
+
+/// A call that pends: its node, the one above it, and what is known of it.
+#[derive(Clone, Copy)]
+struct Pending {
+    at: usize,
+    parent: usize,
+    called: Called,
+}
+
+impl Marked {
+    /// `call S K M(args)`.
+    pub(crate) fn call(
+        &mut self,
+        program: &Program,
+        answers: &Answers,
+        s: u64,
+        k: u64,
+        site: u32,
+        args: &Args,
+    ) -> Result<(), RuleFault>
+        ensures done { IfOk result (λ _. EntersBy answers.now.sites (code program.now) (entry.Call s k site args.now) self.old self.new) }
+        ensures refused { OnErr result (self.new ≡ self.old) }
+    {
+        let spot = self.spot(s)?;
+        let TermNode::Site(named, list) = program.node(spot.node) else {
+            return Err(RuleFault::Form);
+        };
+        let operands = program.operands(list);
+        if named != site
+            || !are_arguments(
+                &self.scopes,
+                &self.cells,
+                operands,
+                args.as_slice(),
+                spot.scope,
+            )
+        {
+            return Err(RuleFault::Form);
+        }
+        self.next_call(k)?;
+        let called = Called {
+            found: self.rest.found(answers, site, args),
+            at: self.rest.time(),
+            node: spot.at,
+        };
+        self.rest
+            .add(called, answers.is_scripted(site), site, args)?;
+        write_node(
+            &mut self.nodes,
+            spot.at,
+            Node {
+                kind: Kind::Leaf(Tip::Waits(k)),
+                parent: spot.parent,
+            },
+        );
+        Ok(())
+    }
+
+    /// Whether `k` is the next call.
+    fn next_call(&self, k: u64) -> Result<(), RuleFault>
+        ensures { IfOk result (λ _. k ≡ suc (length self.now.rest.calls)) }
+    {
+        if k != 0 && k - 1 == self.rest.calls_made() as u64 {
+            Ok(())
+        } else {
+            Err(RuleFault::Number)
+        }
+    }
+
+    /// Where call `k` pends, while no cancel is due.
+    fn pending(&self, k: u64) -> Result<Pending, RuleFault>
+        ensures free { IfOk result (λ _. self.now.rest.to_cancel ≡ []) }
+        ensures there { IfOk result (λ w. at self.now.nodes w.parent w.at (AtLeaf (Waits k))) }
+        ensures call { IfOk result (λ w. IsCall self.now.rest k w.called) }
+    {
+        if self.rest.is_due() {
+            return Err(RuleFault::Cancel);
+        }
+        let Some(called) = self.rest.call(k) else {
+            return Err(RuleFault::Mark);
+        };
+        let Some(node) = self.nodes.get(called.node) else {
+            return Err(RuleFault::Mark);
+        };
+        match node.kind {
+            Kind::Leaf(Tip::Waits(call)) if call == k => Ok(Pending {
+                at: called.node,
+                parent: node.parent,
+                called,
+            }),
+            _ => Err(RuleFault::Mark),
+        }
+    }
+
+    /// `return K A V`.
+    pub(crate) fn answered(
+        &mut self,
+        answers: &Answers,
+        k: u64,
+        a: u64,
+        v: Value,
+    ) -> Result<(), RuleFault>
+        ensures done { IfOk result (λ _. (c : ℕ → Term) → EntersBy answers.now.sites c (entry.Return k a v) self.old self.new) }
+        ensures refused { OnErr result (self.new ≡ self.old) }
+    {
+        let pending = self.pending(k)?;
+        self.next_mark(a)?;
+        is_due_now(pending.called, Answer::Value(v), self.rest.time())?;
+        self.marks.try_reserve(1).map_err(|_| RuleFault::Memory)?;
+        write_node(
+            &mut self.nodes,
+            pending.at,
+            Node {
+                kind: Kind::Leaf(Tip::Bears(a, v)),
+                parent: pending.parent,
+            },
+        );
+        push_within(&mut self.marks, pending.at);
+        Ok(())
+    }
+
+    /// `return K halt`.
+    pub(crate) fn given_up(&mut self, answers: &Answers, k: u64) -> Result<(), RuleFault>
+        ensures done { IfOk result (λ _. (c : ℕ → Term) → EntersBy answers.now.sites c (entry.ReturnHalt k) self.old self.new) }
+        ensures refused { OnErr result (self.new ≡ self.old) }
+    {
+        let pending = self.pending(k)?;
+        is_due_now(pending.called, Answer::Halt, self.rest.time())?;
+        write_node(
+            &mut self.nodes,
+            pending.at,
+            Node {
+                kind: Kind::Leaf(Tip::Ended),
+                parent: pending.parent,
+            },
+        );
+        Ok(())
+    }
+}
