@@ -1,5 +1,8 @@
 -- The entries of calls and of their answers.
-use Rattle.std.proofs.Common.{◌≡◌, ℕ, suc, List, [], ◌∷◌, ◌++◌, length, map, Some, refl, sym, ap, ◌∙◌, subst, inr, cond}
+use Rattle.orc_checker.proofs.Flagging.{reflag_leaf, reflag_leaf_settled}
+use Rattle.orc_rules.specs.Idle.{has_halted}
+use Rattle.orc_checker.specs.Settling.{Settles}
+use Rattle.std.proofs.Common.{◌≡◌, ℕ, suc, List, [], ◌∷◌, ◌++◌, length, map, Some, refl, sym, ap, ◌∙◌, subst, inr, cond, length-set, true}
 use Rattle.std.specs.Prelude.{slice_set}
 use Rattle.orc_rules.specs.declared.value.Value.{Value}
 use Rattle.orc_rules.specs.declared.value.Answer.{Answer}
@@ -39,12 +42,14 @@ keeps_call x p r k m args cs c keeps free is_k found time =
 
 pub call-enters : (code : ℕ → Term) (sites : List Site) (s s' : State) (i q m k w f e : ℕ) (ps : List Param) (args : List Value) (c : Called) → at s.nodes q i (Leaf (Token m f e)) → code f ≡ site w ps
     → (AreOrdered s.scopes → values_of (map (close_param (env_of s.cells s.scopes e)) ps) ≡ Some args)
-    → s'.nodes ≡ slice_set s.nodes i (node (Leaf (Waits k)) q) → s'.scopes ≡ s.scopes → s'.cells ≡ s.cells → s'.marks ≡ s.marks → k ≡ suc (length s.rest.calls)
+    → s'.nodes ≡ slice_set s.nodes i (node (Leaf (Waits k)) q) → s'.flags ≡ s.flags → s'.halts ≡ s.halts → s'.scopes ≡ s.scopes → s'.cells ≡ s.cells → s'.marks ≡ s.marks → k ≡ suc (length s.rest.calls)
     → NextFound sites s.rest w args c.found → c.at ≡ s.rest.time → s'.rest ≡ after_call s.rest c (is_scripted sites w) w args → s.rest.to_cancel ≡ [] → EntersBy sites code (entry.Call m k w args) s s'
-call-enters code sites s s' i q m k w f e ps args c a is values nodes scopes cells marks is_k found time rest free x of_sites p sp =
+call-enters code sites s s' i q m k w f e ps args c a is values nodes flags halts scopes cells marks is_k found time rest free x of_sites p sp =
     let env = env_of s.cells s.scopes in
     let b = written s s' i q (Token m f e) (Waits k) a refl refl (staying s s' scopes cells) tt nodes in
-    let t = turn code s s' p.marked sp.drawn i q (Token m f e) (leaf i (Waits k)) a refl b in
+    let new = ap length nodes ∙ length-set s.nodes i (node (Leaf (Waits k)) q) in
+    let fl = reflag_leaf code s.nodes s'.nodes s.halts s.flags s'.halts s'.flags i (Token m f e) halts (Waits k) flags new (λ h. h f ∙ ap has_halted is) in
+    let t = turn code s s' p.marked sp.drawn i q (Token m f e) (leaf i (Waits k)) a refl b fl in
     let its : List Param = map (close_param (env e)) ps in
     let part : Replaces (token m (site w its)) (in_call k) p.marked t.inside t.after =
     subst (λ z. Replaces (token m z) (in_call k) p.marked t.inside t.after) ((λ j. close (env_of (cells j) (scopes j) e) (is j)) ∙ close-site (env e) w ps) t.part in
@@ -66,10 +71,12 @@ call-enters code sites s s' i q m k w f e ps args c a is values nodes scopes cel
     )
 
 pub return-enters : (code : ℕ → Term) (sites : List Site) (s s' : State) (i q k a : ℕ) (v : Value) (c : Called) → at s.nodes q i (Leaf (Waits k)) → IsCall s.rest k c → DueNow c (Gives v) s.rest.time
-    → s'.nodes ≡ slice_set s.nodes i (node (Leaf (Bears a v)) q) → a ≡ length s.marks → Stays s s' (suc a) → EntersBy sites code (entry.Return k a v) s s'
-return-enters code sites s s' i q k a v c is_at call due nodes next st x of_sites p sp =
+    → s'.nodes ≡ slice_set s.nodes i (node (Leaf (Bears a v)) q) → s'.flags ≡ s.flags → a ≡ length s.marks → Stays s s' (suc a) → EntersBy sites code (entry.Return k a v) s s'
+return-enters code sites s s' i q k a v c is_at call due nodes flags next st x of_sites p sp =
     let b = written s s' i q (Waits k) (Bears a v) is_at refl refl (staying s s' st.scopes st.cells) tt nodes in
-    let t = turn code s s' p.marked sp.drawn i q (Waits k) (leaf i (Bears a v)) is_at refl b in
+    let new = ap length nodes ∙ length-set s.nodes i (node (Leaf (Bears a v)) q) in
+    let fl = reflag_leaf code s.nodes s'.nodes s.halts s.flags s'.halts s'.flags i (Waits k) st.halts (Bears a v) flags new (λ h. refl) in
+    let t = turn code s s' p.marked sp.drawn i q (Waits k) (leaf i (Bears a v)) is_at refl b fl in
     let free : p.to_cancel ≡ [] = sp.rest.due ∙ st.free in (
       record p { marked = t.after; mark = suc a },
       (inr free, (t.inside, next ∙ sym sp.mark, is_due x p.now p.calls p.to_cancel s.rest k c (Gives v) sp.rest call due, t.part, record { to_cancel = free; same = refl })),
@@ -83,10 +90,12 @@ return-enters code sites s s' i q k a v c is_at call due nodes next st x of_site
     )
 
 pub halt-enters : (code : ℕ → Term) (sites : List Site) (s s' : State) (i q k : ℕ) (c : Called) → at s.nodes q i (Leaf (Waits k)) → IsCall s.rest k c → DueNow c Halt s.rest.time
-    → s'.nodes ≡ slice_set s.nodes i (node (Leaf Ended) q) → Stays s s' (length s.marks) → EntersBy sites code (entry.ReturnHalt k) s s'
-halt-enters code sites s s' i q k c is_at call due nodes st x of_sites p sp =
+    → s'.nodes ≡ slice_set s.nodes i (node (Leaf Ended) q) → length s'.flags ≡ length s.flags → Settles s'.nodes s.flags i true s'.flags → Stays s s' (length s.marks) → EntersBy sites code (entry.ReturnHalt k) s s'
+halt-enters code sites s s' i q k c is_at call due nodes len settles st x of_sites p sp =
     let b = written s s' i q (Waits k) Ended is_at refl refl (staying s s' st.scopes st.cells) tt nodes in
-    let t = turn code s s' p.marked sp.drawn i q (Waits k) (leaf i Ended) is_at refl b in
+    let new = ap length nodes ∙ length-set s.nodes i (node (Leaf Ended) q) in
+    let fl = reflag_leaf_settled code s.nodes s'.nodes s.halts s.flags s'.halts s'.flags i (Waits k) st.halts Ended true len new (λ h. refl) refl settles in
+    let t = turn code s s' p.marked sp.drawn i q (Waits k) (leaf i Ended) is_at refl b fl in
     let free : p.to_cancel ≡ [] = sp.rest.due ∙ st.free in (
       record p { marked = t.after },
       (inr free, (t.inside, is_due x p.now p.calls p.to_cancel s.rest k c Halt sp.rest call due, t.part, record { to_cancel = free; same = refl })),

@@ -11,6 +11,7 @@ ghost use Rattle.orc_checker.specs.declared.arena.Kind.TheVariants.{Leaf as AtLe
 ghost use Rattle.orc_checker.specs.declared.arena.Tip.TheVariants.{Waits};
 
 use crate::arena::{Kind, Node, Tip};
+use crate::flags::settle;
 use crate::marked::Marked;
 use crate::names::are_arguments;
 use crate::rest::{Called, is_due_now};
@@ -156,6 +157,7 @@ impl Marked {
                 parent: pending.parent,
             },
         );
+        settle(&self.nodes, &mut self.flags, pending.at, true);
         Ok(())
     }
 }

@@ -17,5 +17,6 @@ returns-clause-done c code =
     return-enters code c.args.answers.now.sites s _ t.at t.parent c.args.k c.args.a c.args.v t.called c.in_ok-pending.ensures.there c.in_ok-pending.ensures.call
     (due_at t.called _ _ _ (c.time.ensures ∙ ap (λ (z : State). Rest.time z.rest) v) c.in_ok-is_due_now.ensures)
     (c.write_node.ensures.items ∙ ap (λ (z : State). slice_set z.nodes t.at (node (Leaf (Bears c.args.a c.args.v)) t.parent)) v)
+    (ap State.flags v)
     c.in_ok-next_mark.ensures
-    (record { free = c.in_ok-pending.ensures.free; scopes = ap State.scopes v; cells = ap State.cells v; marks = one_more s.marks _ _ _ c.args.a (c.try_reserve.ensures.items ∙ ap State.marks v) c.push_within.ensures.items c.in_ok-next_mark.ensures; rest = ap State.rest v })
+    (record { free = c.in_ok-pending.ensures.free; scopes = ap State.scopes v; cells = ap State.cells v; marks = one_more s.marks _ _ _ c.args.a (c.try_reserve.ensures.items ∙ ap State.marks v) c.push_within.ensures.items c.in_ok-next_mark.ensures; rest = ap State.rest v; halts = ap State.halts v })

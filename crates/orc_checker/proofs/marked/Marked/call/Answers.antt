@@ -26,6 +26,8 @@ returns-clause-done c =
     (subst (λ z. AreArguments s.cells s.scopes t.scope z c.args.args.now) c.operands-operands.ensures.value
     (subst (λ (z : State). AreArguments z.cells z.scopes t.scope c.operands-operands.result.now c.args.args.now) v (subst (λ z. AreArguments c.self.inside.cells.items c.self.inside.scopes.items t.scope c.operands-operands.result.now z) c.as_slice.ensures.value (c.are_arguments.ensures c.if-not-are_arguments.false))))
     (c.write_node.ensures.items ∙ ap (λ (z : State). slice_set z.nodes t.at (node (Leaf (Waits c.args.k)) t.parent)) v)
+    (ap State.flags v)
+    (ap State.halts v)
     (ap State.scopes v)
     (ap State.cells v)
     (ap State.marks v)

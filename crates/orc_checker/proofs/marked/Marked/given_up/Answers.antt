@@ -1,4 +1,5 @@
-use Rattle.std.proofs.Common.{◌∙◌, ap, length}
+use Rattle.orc_checker.specs.Settling.{Settles}
+use Rattle.std.proofs.Common.{◌∙◌, ap, length, subst, true}
 use Rattle.std.specs.Prelude.{slice_set}
 use Rattle.orc_checker.specs.declared.arena.Kind.TheVariants.{Leaf}
 use Rattle.orc_checker.specs.declared.arena.Tip.TheVariants.{Ended}
@@ -16,4 +17,6 @@ returns-clause-done c code =
     halt-enters code c.args.answers.now.sites s _ t.at t.parent c.args.k t.called c.in_ok-pending.ensures.there c.in_ok-pending.ensures.call
     (due_at t.called _ _ _ (c.time.ensures ∙ ap (λ (z : State). Rest.time z.rest) v) c.in_ok-is_due_now.ensures)
     (c.write_node.ensures.items ∙ ap (λ (z : State). slice_set z.nodes t.at (node (Leaf Ended) t.parent)) v)
-    (record { free = c.in_ok-pending.ensures.free; scopes = ap State.scopes v; cells = ap State.cells v; marks = ap (λ (z : State). length z.marks) v; rest = ap State.rest v })
+    (c.settle.ensures.len ∙ ap (λ (z : State). length z.flags) v)
+    (subst (λ z. Settles c.write_node.new.nodes.items z t.at true c.settle.new.flags.items) (ap State.flags v) c.settle.ensures.settles)
+    (record { free = c.in_ok-pending.ensures.free; scopes = ap State.scopes v; cells = ap State.cells v; marks = ap (λ (z : State). length z.marks) v; rest = ap State.rest v; halts = ap State.halts v })
