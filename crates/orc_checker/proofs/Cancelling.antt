@@ -1,12 +1,11 @@
 -- The cancels that are due, one after another.
-use Rattle.std.proofs.Common.{◌≡◌, ◌<◌, ◌-◌, ◌+◌, ℕ, zero, suc, List, [], ◌∷◌, ◌++◌, length, map, reverse, get_or, Option, Some, None, refl, sym, ap, ◌∙◌, arith, inl, subst}
+use Rattle.std.proofs.Common.{◌≡◌, ◌<◌, ◌-◌, ℕ, zero, suc, List, [], ◌∷◌, ◌++◌, length, map, reverse, get_or, Option, Some, None, refl, sym, ap, ◌∙◌, arith, inl, subst}
 use Rattle.std.specs.Prelude.{slice_get}
 use Rattle.std.specs.Option.{option_to_list}
 use Rattle.std.proofs.lemmas.List.{reverse-append}
 use Rattle.orc_rules.specs.declared.entry.Entry.TheVariants as entry
 use Rattle.orc_rules.specs.Term.{Term}
 use Rattle.orc_rules.specs.Marked.{Marked}
-use Rattle.orc_rules.specs.Journal.{Place}
 use Rattle.orc_checker.specs.Calls.{Rest, told}
 use Rattle.orc_checker.specs.Checker.{State, Draws, Enters, AreCells}
 use Rattle.orc_checker.specs.Names.{AreOrdered}

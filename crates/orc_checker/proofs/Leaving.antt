@@ -2,7 +2,7 @@
 use Rattle.std.proofs.Common.{◌≡◌, ◌≤◌, ◌+◌, ◌⊎◌, ◌∙◌, ℕ, zero, suc, List, [], ◌∷◌, ◌++◌, get_or, append-nil, append_assoc, Some, refl, sym, ap, arith, inl, inr, ⊎_elim}
 use Rattle.std.specs.Prelude.{slice_get, slice_set}
 use Rattle.orc_checker.specs.declared.arena.Node.{Node}
-use Rattle.orc_checker.specs.declared.arena.Kind.TheVariants.{Leaf, One, Two}
+use Rattle.orc_checker.specs.declared.arena.Kind.TheVariants.{Leaf, One}
 use Rattle.orc_checker.specs.declared.arena.Tip.{Tip}
 use Rattle.orc_checker.specs.declared.arena.Single.{Single}
 use Rattle.orc_checker.specs.declared.arena.Tip.TheVariants.{Gone, Ended, Token, Bears, Waits}
@@ -15,7 +15,7 @@ use Rattle.orc_checker.specs.Arena.{Env, Tree, leaf, one, two, place, hits, coun
 use Rattle.orc_checker.specs.Around.{above}
 use Rattle.orc_checker.specs.Rising.{nowhere}
 use Rattle.orc_checker.specs.Dropping.{weight, weigh, occurs, IsDropped, AreNodesOf, call_of, call_at, calls_at}
-use Rattle.orc_checker.proofs.Trees.{hit, hits-both, missed, count-plug, holds-out, holds_kept, holds_replaced, once_replaced, living-most}
+use Rattle.orc_checker.proofs.Trees.{hit, hits-both, count-plug, holds-out, holds_kept, holds_replaced, once_replaced, living-most}
 use Rattle.orc_checker.proofs.Lists.{get-set_same, get-set_other}
 use Rattle.orc_checker.proofs.Dropping.{count-weigh, weight-append}
 use Rattle.orc_checker.proofs.Moves.{node}

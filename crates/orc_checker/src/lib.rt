@@ -2,8 +2,8 @@
 #![tactic(auto)]
 
 pub mod arena;
-mod cancel;
 mod calling;
+mod cancel;
 pub mod due;
 mod feed;
 mod flags;
