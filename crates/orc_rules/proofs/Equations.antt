@@ -3,12 +3,13 @@ use Rattle.std.proofs.Common.{◌≡◌, ℕ, List, [], ◌∷◌, refl, true, f
 use Rattle.std.specs.Prelude.{negsuc}
 use Rattle.orc_rules.specs.declared.value.Value.{Value}
 use Rattle.orc_rules.specs.declared.value.Value.TheVariants.{Number, Truth, Signal}
-use Rattle.orc_rules.specs.declared.param.Param.TheVariants.{Name, Cell, Void}
+use Rattle.orc_rules.specs.declared.param.Param.{Param}
+use Rattle.orc_rules.specs.declared.param.Param.TheVariants.{Is, Name, Cell, Void}
 use Rattle.orc_rules.specs.declared.value.Answer.TheVariants.{Value as Gives}
 use Rattle.orc_rules.specs.declared.value.Found.TheVariants.{After, Never}
 use Rattle.orc_rules.specs.declared.builtin.Builtin.TheVariants as builtins
 use Rattle.orc_rules.specs.Sites.{Site, built_in, scripted, find, halts, at_once}
-use Rattle.orc_rules.specs.Term.{param, site, seq, prune, call, put, fill, put_all}
+use Rattle.orc_rules.specs.Term.{Term, stop, param, site, call, par, seq, prune, other, pending, opened, put, fill, put_all, pending_of, values_of}
 use Rattle.orc_rules.specs.Refusal.{depth}
 
 abbrev number : ℕ → Value
@@ -111,3 +112,44 @@ parameters = refl
 
 levels : depth (seq (param Void) 0 (site 0 [])) ≡ 2
 levels = refl
+
+-- a term with the same parameter at each place where one can stand free
+abbrev everywhere : Param → Term
+everywhere p =
+    par (other (param p) (site 0 (p ∷ Is (number 7) ∷ p ∷ []))) (prune (seq (call 0 (p ∷ [])) 1 (param p)) 2 (opened (other (pending 4) (param p)) 3 (param p)))
+
+put_everywhere : put (Is (number 5)) 0 (everywhere (Name 0)) ≡ everywhere (Is (number 5))
+put_everywhere = refl
+
+put_elsewhere : put (Is (number 5)) 0 (everywhere (Name 3)) ≡ everywhere (Name 3)
+put_elsewhere = refl
+
+put_leaves_cells : put (Is (number 5)) 1 (everywhere (Cell 1)) ≡ everywhere (Cell 1)
+put_leaves_cells = refl
+
+fill_everywhere : fill (Is (number 5)) 1 (everywhere (Cell 1)) ≡ everywhere (Is (number 5))
+fill_everywhere = refl
+
+fill_elsewhere : fill Void 1 (everywhere (Cell 2)) ≡ everywhere (Cell 2)
+fill_elsewhere = refl
+
+fill_leaves_names : fill Void 1 (everywhere (Name 1)) ≡ everywhere (Name 1)
+fill_leaves_names = refl
+
+-- the deepest part counts, left or right
+levels_left : depth (par (seq (prune (other (opened stop 1 stop) stop) 0 stop) 0 stop) stop) ≡ 6
+levels_left = refl
+
+levels_right : depth (par stop (seq stop 0 (prune stop 0 (other stop (opened stop 1 (pending 1)))))) ≡ 6
+levels_right = refl
+
+-- what pends: never on a right side of `>x>` or `;`
+pending_everywhere : pending_of (par (pending 1) (opened (seq (pending 2) 0 (pending 9)) 1 (other (pending 3) (pending 8)))) ≡ 1 ∷ 2 ∷ 3 ∷ []
+pending_everywhere = refl
+
+-- all parameters are values, or they give none
+values_all : values_of (Is (number 1) ∷ Is Signal ∷ []) ≡ Some (number 1 ∷ Signal ∷ [])
+values_all = refl
+
+values_cell : values_of (Is (number 1) ∷ Cell 1 ∷ []) ≡ None
+values_cell = refl

@@ -33,4 +33,5 @@ pub mod WorkedPrunings
 pub mod WorkedReasons
 pub mod WorkedRefusals
 pub mod WorkedScripts
+pub mod WorkedTraces
 pub mod WorkedWaits

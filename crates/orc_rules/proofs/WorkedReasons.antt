@@ -1,13 +1,18 @@
 -- Worked refusals, one and more for each reason, and verdicts, on small terms.
-use Rattle.std.proofs.Common.{◌≡◌, ◌≤◌, ℕ, zero, suc, List, [], ◌∷◌, refl, inl, inr, true, pos, arith}
+use Rattle.std.proofs.Common.{◌≡◌, ◌≤◌, ℕ, zero, suc, List, [], ◌∷◌, refl, inl, inr, true, pos, None, ap, arith}
 use Rattle.orc_rules.specs.declared.value.Value.TheVariants.{Number, Signal}
 use Rattle.orc_rules.specs.declared.param.Param.TheVariants.{Is, Cell}
 use Rattle.orc_rules.specs.declared.entry.Entry.TheVariants.{Return, End, Fork, Publish, Call, Lost, Right, Tick, Cancel}
 use Rattle.orc_rules.specs.declared.entry.RuleFault.TheVariants.{Mark, Form, Number as Counted, Time, Deep}
 use Rattle.orc_rules.specs.declared.entry.RuleFault.TheVariants as reason
-use Rattle.orc_rules.specs.Term.{Term, stop, param, site, par, Halted}
+use Rattle.orc_rules.specs.Term.{pending, Term, stop, param, site, par, Halted}
 use Rattle.orc_rules.specs.Step.{publishes, value_rule, par_left}
 use Rattle.orc_rules.specs.Marked.{Marked, ended, token, in_call, in_par, in_seq, in_opened, in_other, erase, Replaces, here, in_feeding, in_main, in_side, in_entered, Emits, on_feeding}
+use Rattle.orc_rules.specs.declared.value.Answer.{Answer}
+use Rattle.orc_rules.specs.declared.value.Found.{Found}
+use Rattle.orc_rules.specs.declared.value.Found.TheVariants.{After, Never}
+use Rattle.orc_rules.specs.Timed.{Context, Moment, CallMade, IsIn, IsDue, IsQuiet, says_of}
+use Rattle.orc_rules.proofs.Tests.{quiet_by_test}
 use Rattle.orc_rules.specs.Journal.{Place, begin}
 use Rattle.orc_rules.specs.Refusal.{IsTaken, IsRefused, depth, most_levels}
 use Rattle.orc_rules.specs.declared.value.Answer.TheVariants.{Value as Gives}
@@ -143,3 +148,36 @@ running_at_start = record { end = begin one; taken = refl; paid = refl; reached 
 -- no entries, for `stop`: halted before its `end`
 halted_at_start : IsVerdict (world [] [] true) stop [] HasHalted 0
 halted_at_start = record { end = begin stop; taken = refl; paid = refl; reached = tt; time = refl }
+
+-- `Rwait(2)`, called two units before the end of time: never due
+abbrev at_end : Moment
+at_end = record {
+  term = pending 1;
+  now = 18446744073709551614;
+  calls = record { number = 1; site = 6; args = Number (pos 2) ∷ []; nth = 1; at = 18446744073709551614 } ∷ [];
+  cells = [];
+  to_cancel = [];
+}
+
+abbrev delay_of : Found → ℕ
+delay_of (After a d) = d
+delay_of Never = 0
+
+never_due : (k : ℕ) (a : Answer) (t : ℕ) → IsDue (Context.sites (world [] [] true)) at_end.calls k a t → ⊥
+never_due k a t due = from_place due.is_made
+  where
+    from_place : IsIn due.by at_end.calls → ⊥
+    from_place (inl e) =
+        omega (arith, due.sum, due.fits, ap (λ (c : CallMade). c.at) e, ap (λ (c : CallMade). delay_of (says_of (Context.sites (world [] [] true)) c)) e, ap delay_of due.says)
+    from_place (inr i) = i
+
+-- so the run is quiet
+quiet_at_end : IsQuiet (world [] [] true) at_end
+quiet_at_end = (quiet_by_test (world [] [] true) at_end None (λ t p. never_due p.0 p.1 t p.3)).1 (refl, refl, refl)
+
+-- and `Rwait(1)` there is due at the last time that there is
+abbrev last_call : CallMade
+last_call = record { number = 1; site = 6; args = Number (pos 1) ∷ []; nth = 1; at = 18446744073709551614 }
+
+due_at_last : IsDue (Context.sites (world [] [] true)) (last_call ∷ []) 1 (Gives Signal) 18446744073709551615
+due_at_last = record { by = last_call; is_made = inl refl; is_k = refl; delay = 1; says = refl; sum = refl; fits = omega arith }
