@@ -1,1 +1,13 @@
 pub mod Backward
+pub mod Views
+pub mod Running
+pub mod Complete
+pub mod Programs
+pub mod Sound
+pub mod Steps
+pub mod Heads
+pub mod Laws
+pub mod Wanted
+pub mod Progress
+pub mod Posts
+pub mod Least

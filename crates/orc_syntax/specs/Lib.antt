@@ -1,4 +1,9 @@
 pub mod Tree
+pub mod Grammar
+pub mod Deep
 pub mod Ast
 pub mod Printing
 pub mod Backward
+pub mod Machine
+pub mod View
+pub mod Text

@@ -1,8 +1,22 @@
 //! How deep a place of a definition or main expression is.
 
+ghost use Rattle.std.specs.Prelude.{◌≡◌, if◌then◌else◌, nat_lt};
+ghost use Rattle.orc_lex.specs.declared.token.Joint.{Joint};
+ghost use Rattle.orc_lex.specs.declared.token.Side.{Side};
+ghost use Rattle.orc_lex.specs.Tokens.{sort};
+ghost use Rattle.orc_lex.specs.Tokens as tokens;
+ghost use Rattle.orc_syntax.specs.Deep.{none, counted};
+ghost use Rattle.orc_syntax.specs.View.{count_of, Counts};
+
 use crate::reader::StepError;
 use orc_lex::token::Kind;
 use std::alloc::Global;
+
+/// The most brackets and `val`s that may stand round a place.
+const MOST_LEVELS: usize = 200;
+
+/// The most operators that may stand before a place.
+const MOST_OPERATORS: usize = 4000;
 
 /// The brackets that are open, the `val`s and the operators that stand before a place.
 #[derive(Drop)]
@@ -17,7 +31,9 @@ pub struct Depth {
 }
 
 impl Depth {
-    pub fn new(alloc: Global) -> Depth {
+    pub fn new(alloc: Global) -> Depth
+        ensures { count_of result ≡ none }
+    {
         Depth {
             levels: 0,
             outside: Vec::new(alloc),
@@ -26,47 +42,98 @@ impl Depth {
         }
     }
 
-    /// Back to the start of a definition or main expression.
-    pub fn clear(&mut self) {
+    // Back to the start of a definition or main expression.
+    fn clear(&mut self)
+        ensures { count_of self.new ≡ none }
+    {
         self.levels = 0;
         self.outside.clear();
         self.operators = 0;
         self.half = false;
     }
 
-    fn deepen(&mut self) -> Result<(), StepError> {
-        if self.levels >= 200 {
-            return Err(StepError::Deep);
+    /// Where a definition has become whole, nothing stands before what comes.
+    pub fn begin_part(&mut self, defined: usize, defined_now: usize)
+        ensures { count_of self.new ≡ (if nat_lt defined defined_now then none else count_of self.old) }
+    {
+        if defined < defined_now {
+            self.clear();
         }
-        self.levels += 1;
-        Ok(())
     }
 
-    fn operate(&mut self) -> Result<(), StepError> {
-        if self.operators >= 4000 {
+    fn operate(&mut self) -> Result<(), StepError>
+        ensures { (joint : Joint) → Counts result (count_of self.old) (count_of self.new) (tokens.Join joint) }
+    {
+        if self.operators >= MOST_OPERATORS {
             return Err(StepError::Deep);
         }
         self.operators += 1;
         Ok(())
     }
 
-    /// Counts one more token.
-    pub fn count(&mut self, kind: Kind) -> Result<(), StepError> {
+    // The first or the second sign of an operator with a variable.
+    fn sign(&mut self) -> Result<(), StepError>
+        ensures { (side : Side) → Counts result (count_of self.old) (count_of self.new) (tokens.Arrow side) }
+    {
+        if self.half {
+            self.half = false;
+            return Ok(());
+        }
+        if self.operators >= MOST_OPERATORS {
+            return Err(StepError::Deep);
+        }
+        self.operators += 1;
+        self.half = true;
+        Ok(())
+    }
+
+    // One more bracket.
+    #[tactic(auto, using(crate::proofs::Views::counts))]
+    fn open(&mut self) -> Result<(), StepError>
+        ensures { Counts result (count_of self.old) (count_of self.new) tokens.Open }
+    {
+        if self.levels >= MOST_LEVELS {
+            return Err(StepError::Deep);
+        }
+        self.outside.push(self.levels)?;
+        self.levels += 1;
+        Ok(())
+    }
+
+    fn bind(&mut self) -> Result<(), StepError>
+        ensures { Counts result (count_of self.old) (count_of self.new) tokens.Val }
+    {
+        if self.levels >= MOST_LEVELS {
+            return Err(StepError::Deep);
+        }
+        self.levels += 1;
+        Ok(())
+    }
+
+    // A bracket closes.
+    #[tactic(auto, using(crate::proofs::Views::counts))]
+    fn close(&mut self)
+        ensures { count_of self.new ≡ counted (count_of self.old) tokens.Close }
+    {
+        match self.outside.pop() {
+            Some(levels) => self.levels = levels,
+            None => self.levels = 0,
+        }
+    }
+
+    /// Counts one more token, unless it is one too many.
+    pub fn count(&mut self, kind: Kind) -> Result<(), StepError>
+        ensures { Counts result (count_of self.old) (count_of self.new) (sort kind.entry) }
+    {
         match kind {
-            Kind::Open => {
-                self.outside.push(self.levels)?;
-                self.deepen()
-            }
+            Kind::Open => self.open(),
             Kind::Close => {
-                self.levels = self.outside.pop().unwrap_or(0);
+                self.close();
                 Ok(())
             }
-            Kind::Val => self.deepen(),
+            Kind::Val => self.bind(),
             Kind::Joint(_) => self.operate(),
-            Kind::Arrow(_) => {
-                self.half = !self.half;
-                if self.half { self.operate() } else { Ok(()) }
-            }
+            Kind::Arrow(_) => self.sign(),
             _ => Ok(()),
         }
     }

@@ -1,8 +1,17 @@
 //! Reading a program token by token.
 
-ghost use Rattle.std.specs.Prelude.{◌≡◌};
+ghost use Rattle.std.specs.Prelude.{if◌then◌else◌, ◌≡◌, ◌++◌, IfOk, IfErr, IfSome, IfNone, List, ◌∷◌, [], ℕ, Ok, Err, map, length};
+ghost use Rattle.orc_lex.specs.Tokens.{sort};
+ghost use Rattle.orc_lex.specs.Tokens as tokens;
+ghost use Rattle.orc_lex.specs.declared.token.Span.{Span};
+ghost use Rattle.orc_lex.specs.declared.token.What.TheVariants.{Expression as expression};
+ghost use Rattle.orc_syntax.specs.Tree as trees;
+ghost use Rattle.orc_syntax.specs.Grammar.{level, left_level as left_level_of, link_of, link_by};
+ghost use Rattle.orc_syntax.specs.Machine as machine;
+ghost use Rattle.orc_syntax.specs.Ast.{label, link, sort as part_sort};
+ghost use Rattle.orc_syntax.specs.View.{operand, joining, frame as frame_of, heading, mode, context, nodes, stack, Leaves, Makes, Ends};
+ghost use Rattle.orc_syntax.specs.declared.reader.StepError.TheVariants.{Memory};
 
-use crate::depth::Depth;
 use crate::tree::{Ast, Definition, Expr, Name, Node, Operator, Part};
 use orc_lex::token::{Joint, Kind, Plain, Side, Span, Token, What};
 use std::alloc::{AllocError, AllocFailed, Global};
@@ -17,7 +26,7 @@ pub struct Operand {
 
 /// What joins two expressions that have been read.
 #[derive(Clone, Copy)]
-pub enum Link<'a> {
+pub enum Joining<'a> {
     Operator(Operator<'a>),
     Val(Name<'a>),
 }
@@ -26,7 +35,7 @@ pub enum Link<'a> {
 #[derive(Clone, Copy)]
 pub enum Frame<'a> {
     /// A link, and where its left side begins.
-    Before(Link<'a>, usize),
+    Before(Joining<'a>, usize),
     /// A bracket, with its place.
     Bracket(usize),
     /// A call with so many arguments so far.
@@ -78,39 +87,49 @@ pub enum StepError {
 }
 
 impl From<AllocError> for StepError {
+    ghost from_gives = { λ _ e. e ≡ Memory };
+
     fn from(_e: AllocError) -> StepError {
         StepError::Memory
     }
 }
 
 impl<T: Drop> From<AllocFailed<T>> for StepError {
+    ghost from_gives = { λ _ e. e ≡ Memory };
+
     fn from(_e: AllocFailed<T>) -> StepError {
         StepError::Memory
     }
 }
 
-impl<'a> Link<'a> {
+impl<'a> Joining<'a> {
     // How tightly it binds.
-    fn level(&self) -> u8 {
+    fn level(&self) -> u8
+        ensures { result ≡ machine.level_of (joining self.now) }
+    {
         match self {
-            Link::Val(_) => 0,
-            Link::Operator(Operator::Other) => 1,
-            Link::Operator(Operator::Prune(_)) => 2,
-            Link::Operator(Operator::Par) => 3,
-            Link::Operator(Operator::Seq(_)) => 4,
+            Joining::Val(_) => 0,
+            Joining::Operator(Operator::Other) => 1,
+            Joining::Operator(Operator::Prune(_)) => 2,
+            Joining::Operator(Operator::Par) => 3,
+            Joining::Operator(Operator::Seq(_)) => 4,
         }
     }
 
-    fn part(self) -> Part<'a> {
+    fn part(self) -> Part<'a>
+        ensures { part_sort result ≡ machine.sort_by (joining self.entry) }
+    {
         match self {
-            Link::Operator(operator) => Part::Operation(operator),
-            Link::Val(name) => Part::Val(name),
+            Joining::Operator(operator) => Part::Operation(operator),
+            Joining::Val(name) => Part::Val(name),
         }
     }
 }
 
 // How tightly what stands before an operator binds at least.
-fn left_level(operator: Operator<'_>) -> u8 {
+fn left_level(operator: Operator<'_>) -> u8
+    ensures { result ≡ left_level_of (link operator.entry) }
+{
     match operator {
         Operator::Other => 1,
         Operator::Prune(_) => 2,
@@ -119,7 +138,9 @@ fn left_level(operator: Operator<'_>) -> u8 {
     }
 }
 
-fn operator_of(joint: Joint) -> Operator<'static> {
+fn operator_of(joint: Joint) -> Operator<'static>
+    ensures { link result ≡ link_of joint }
+{
     match joint {
         Joint::Seq => Operator::Seq(None),
         Joint::Par => Operator::Par,
@@ -128,24 +149,20 @@ fn operator_of(joint: Joint) -> Operator<'static> {
     }
 }
 
-fn operator_by<'a>(side: Side, variable: Name<'a>) -> Operator<'a> {
+fn operator_by<'a>(side: Side, variable: Name<'a>) -> Operator<'a>
+    ensures { link result ≡ link_by side (label variable.entry) }
+{
     match side {
         Side::Right => Operator::Seq(Some(variable)),
         Side::Left => Operator::Prune(Some(variable)),
     }
 }
 
-fn next<'a>(heading: Heading<'a>) -> Result<Mode<'a>, StepError> {
-    Ok(Mode::Heads(heading))
-}
-
-fn want<'a>(what: What) -> Result<Mode<'a>, StepError> {
-    Err(StepError::Wanted(what))
-}
-
 /// What is wanted where a `val x =` or `def f(a, b) =` isn't whole.
-fn heading_wants(heading: Heading<'_>) -> What {
-    match heading {
+fn heading_wants(head: Heading<'_>) -> What
+    ensures { result ≡ machine.heading_wants (heading head.entry) }
+{
+    match head {
         Heading::Val(_) | Heading::Def | Heading::Opened(_) | Heading::Comma(_) => What::Name,
         Heading::ValName(_, _) | Heading::Closed(_) => What::Assign,
         Heading::DefName(_) => What::Paren,
@@ -165,23 +182,37 @@ pub struct Reader<'a> {
     nodes: Vec<Node<'a>>,
     /// What waits in it, the innermost last.
     frames: Vec<Frame<'a>>,
-    depth: Depth,
 }
 
 impl<'a> Reader<'a> {
-    pub fn new(alloc: Global) -> Reader<'a> {
+    pub fn new(alloc: Global) -> Reader<'a>
+        ensures context { context result ≡ record { definitions = []; parameters = [] } }
+        ensures nodes { nodes result ≡ [] }
+        ensures stack { stack result ≡ [] }
+    {
         Reader {
             alloc,
             definitions: Vec::new(alloc),
             parameters: Vec::new(alloc),
             nodes: Vec::new(alloc),
             frames: Vec::new(alloc),
-            depth: Depth::new(alloc),
         }
     }
 
+    /// How many definitions are whole.
+    #[tactic(auto, using(crate::proofs::Views::defined_all))]
+    pub fn defined(&self) -> usize
+        ensures { result ≡ length (context self.now).definitions }
+    {
+        self.definitions.len()
+    }
+
     // One more node, which ends an operand.
+    #[tactic(auto, using(crate::proofs::Views::stacks))]
     fn node(&mut self, part: Part<'a>, start: usize, end: usize) -> Result<Operand, StepError>
+        ensures made { Makes result (λ o. (operand o ≡ machine.operand start end) × (nodes self.new ≡ nodes self.old ++ trees.item (part_sort part.entry) (record { start = start; end = end }) ∷ [])) }
+        ensures definitions { self.new.definitions.items ≡ self.old.definitions.items }
+        ensures parameters { self.new.parameters.items ≡ self.old.parameters.items }
         ensures frames { self.new.frames.items ≡ self.old.frames.items }
     {
         self.nodes.push(Node {
@@ -192,19 +223,23 @@ impl<'a> Reader<'a> {
     }
 
     // Joins what binds at least as tightly as `level`.
-    fn reduce(&mut self, level: u8, last: Operand) -> Result<Operand, StepError> {
+    fn reduce(&mut self, level: u8, last: Operand) -> Result<Operand, StepError>
+        ensures reduced { Makes result (λ o. machine.reduce level (operand last) (nodes self.old) (stack self.old) ≡ machine.reduced (operand o) (nodes self.new) (stack self.new)) }
+        ensures definitions { self.new.definitions.items ≡ self.old.definitions.items }
+        ensures parameters { self.new.parameters.items ≡ self.old.parameters.items }
+    {
         let mut right = last;
         while let Some(top) = self.frames.pop() {
             match top {
-                Frame::Before(link, start) => {
-                    if link.level() < level {
-                        self.frames.push(top)?;
+                Frame::Before(joining, start) => {
+                    if joining.level() < level {
+                        self.frames.push(Frame::Before(joining, start))?;
                         return Ok(right);
                     }
-                    right = self.node(link.part(), start, right.end)?;
+                    right = self.node(joining.part(), start, right.end)?;
                 }
-                _ => {
-                    self.frames.push(top)?;
+                other => {
+                    self.frames.push(other)?;
                     return Ok(right);
                 }
             }
@@ -213,112 +248,170 @@ impl<'a> Reader<'a> {
     }
 
     // What is wanted behind a whole expression.
-    fn behind(&self) -> What {
+    fn behind(&self) -> What
+        ensures { result ≡ machine.behind (stack self.now) }
+    {
         let mut count = self.frames.len();
         while count > 0 {
             match self.frames[count - 1] {
                 Frame::Before(_, _) => count -= 1,
                 Frame::Bracket(_) => return What::Close,
                 Frame::Arguments(_, _) => return What::CommaOrClose,
-                Frame::Bound(_, _) | Frame::Body(_) => return What::Expression,
+                Frame::Bound(_, _) => return What::Expression,
+                Frame::Body(_) => return What::Expression,
             }
         }
         What::End
     }
 
-    // May a `val` begin here? Not as an operand.
-    fn takes_val(&self) -> bool {
+    // What waits innermost.
+    #[tactic(auto, using(crate::proofs::Views::over_last))]
+    fn top(&self) -> Option<Frame<'a>>
+        ensures some { IfSome result (λ f. (k : List machine.Frame) × (stack self.now ≡ frame_of f ∷ k)) }
+        ensures none { IfNone result (stack self.now ≡ []) }
+    {
         let count = self.frames.len();
         if count == 0 {
-            return true;
+            None
+        } else {
+            Some(self.frames[count - 1])
         }
-        match self.frames[count - 1] {
-            Frame::Before(Link::Operator(_), _) => false,
-            _ => true,
+    }
+
+    // May a `val` begin here? Not as an operand.
+    fn takes_val(&self) -> bool
+        ensures { result ≡ machine.takes_val (stack self.now) }
+    {
+        let Some(top) = self.top() else {
+            return true;
+        };
+        match top {
+            Frame::Before(joining, _) => match joining {
+                Joining::Operator(_) => false,
+                Joining::Val(_) => true,
+            },
+            Frame::Bracket(_) => true,
+            Frame::Arguments(_, _) => true,
+            Frame::Bound(_, _) => true,
+            Frame::Body(_) => true,
         }
     }
 
     // An expression must begin, or a definition.
-    fn begin(&mut self, token: Token<'a>) -> Result<Mode<'a>, StepError> {
+    #[tactic(auto, using(crate::proofs::Views::stacks))]
+    fn begin(&mut self, token: Token<'a>) -> Result<Mode<'a>, StepError>
+        ensures { Leaves result self.new (machine.begin (sort token.entry.kind) token.entry.span (context self.old) (nodes self.old) (stack self.old)) }
+    {
         let span = token.span;
         match token.kind {
-            Kind::Plain(plain) => Ok(Mode::Have(self.node(
-                Part::Plain(plain),
-                span.start,
-                span.end,
-            )?)),
+            Kind::Plain(plain) => {
+                let operand = self.node(Part::Plain(plain), span.start, span.end)?;
+                Ok(Mode::Have(operand))
+            }
             Kind::Name(text) => Ok(Mode::Named(Name { text, span })),
             Kind::Open => {
                 self.frames.push(Frame::Bracket(span.start))?;
                 Ok(Mode::Want)
             }
-            Kind::Val => {
-                if self.takes_val() {
-                    next(Heading::Val(span.start))
-                } else {
-                    want(What::Expression)
-                }
-            }
-            Kind::Def => {
-                if self.frames.is_empty() {
-                    next(Heading::Def)
-                } else {
-                    want(What::Expression)
-                }
-            }
-            _ => want(What::Expression),
+            Kind::Val => self.begin_val(span.start),
+            Kind::Def => self.begin_definition(),
+            _ => Err(StepError::Wanted(What::Expression)),
+        }
+    }
+
+    fn begin_val(&self, start: usize) -> Result<Mode<'a>, StepError>
+        ensures { (at : Span) → at.start ≡ start → Leaves result self.now (machine.begin tokens.Val at (context self.now) (nodes self.now) (stack self.now)) }
+    {
+        if self.takes_val() {
+            Ok(Mode::Heads(Heading::Val(start)))
+        } else {
+            Err(StepError::Wanted(What::Expression))
+        }
+    }
+
+    fn begin_definition(&self) -> Result<Mode<'a>, StepError>
+        ensures { Leaves result self.now (if machine.takes_def (stack self.now) then Ok (machine.state (machine.Heads machine.DefWord) (context self.now) (nodes self.now) (stack self.now)) else Err expression) }
+    {
+        match self.top() {
+            None => Ok(Mode::Heads(Heading::Def)),
+            Some(_) => Err(StepError::Wanted(What::Expression)),
         }
     }
 
     // An operator behind its left side.
-    fn push(&mut self, operator: Operator<'a>, left: Operand) -> Result<Mode<'a>, StepError> {
+    #[tactic(auto, using(crate::proofs::Views::stacks))]
+    fn push(&mut self, operator: Operator<'a>, left: Operand) -> Result<Mode<'a>, StepError>
+        ensures { Leaves result self.new (Ok (machine.push (link operator.entry) (context self.old) (machine.reduce (left_level_of (link operator.entry)) (operand left) (nodes self.old) (stack self.old)))) }
+    {
         let left = self.reduce(left_level(operator), left)?;
         self.frames
-            .push(Frame::Before(Link::Operator(operator), left.start))?;
+            .push(Frame::Before(Joining::Operator(operator), left.start))?;
         Ok(Mode::Want)
     }
 
     // A call with its closing bracket.
+    #[tactic(auto, using(crate::proofs::Views::stacks))]
     fn called(
         &mut self,
         name: Name<'a>,
         arguments: usize,
         end: usize,
-    ) -> Result<Mode<'a>, StepError> {
-        Ok(Mode::Have(self.node(Part::Call(name, arguments), name.span.start, end)?))
+    ) -> Result<Mode<'a>, StepError>
+        ensures { Leaves result self.new (Ok (machine.called (label name.entry) arguments end (context self.old) (nodes self.old) (stack self.old))) }
+    {
+        let operand = self.node(Part::Call(name, arguments), name.span.start, end)?;
+        Ok(Mode::Have(operand))
     }
 
     // A bracket closes behind a whole expression.
-    fn close(&mut self, end: usize) -> Result<Mode<'a>, StepError> {
-        match self.frames.pop() {
-            Some(Frame::Bracket(start)) => Ok(Mode::Have(Operand { start, end })),
-            Some(Frame::Arguments(name, before)) => match before.checked_add(1) {
+    #[tactic(auto, using(crate::proofs::Views::stacks))]
+    fn close(&mut self, end: usize) -> Result<Mode<'a>, StepError>
+        ensures { Leaves result self.new (machine.close end (context self.old) (nodes self.old) (stack self.old)) }
+    {
+        let Some(top) = self.frames.pop() else {
+            return Err(StepError::Wanted(What::End));
+        };
+        match top {
+            Frame::Before(_, _) => Err(StepError::Wanted(What::End)),
+            Frame::Bracket(start) => Ok(Mode::Have(Operand { start, end })),
+            Frame::Arguments(name, before) => match before.checked_add(1) {
                 Some(arguments) => self.called(name, arguments, end),
                 None => Err(StepError::Memory),
             },
-            Some(Frame::Bound(_, _)) | Some(Frame::Body(_)) => want(What::Expression),
-            Some(Frame::Before(_, _)) | None => want(What::End),
+            Frame::Bound(_, _) | Frame::Body(_) => Err(StepError::Wanted(What::Expression)),
         }
     }
 
     // A comma behind a whole expression.
-    fn another(&mut self) -> Result<Mode<'a>, StepError> {
-        match self.frames.pop() {
-            Some(Frame::Arguments(name, before)) => match before.checked_add(1) {
+    #[tactic(auto, using(crate::proofs::Views::stacks))]
+    fn another(&mut self) -> Result<Mode<'a>, StepError>
+        ensures { Leaves result self.new (machine.another (context self.old) (nodes self.old) (stack self.old)) }
+    {
+        let Some(top) = self.frames.pop() else {
+            return Err(StepError::Wanted(What::End));
+        };
+        match top {
+            Frame::Before(_, _) => Err(StepError::Wanted(What::End)),
+            Frame::Bracket(_) => Err(StepError::Wanted(What::Close)),
+            Frame::Arguments(name, before) => match before.checked_add(1) {
                 Some(arguments) => {
                     self.frames.push(Frame::Arguments(name, arguments))?;
                     Ok(Mode::Want)
                 }
                 None => Err(StepError::Memory),
             },
-            Some(Frame::Bracket(_)) => want(What::Close),
-            Some(Frame::Bound(_, _)) | Some(Frame::Body(_)) => want(What::Expression),
-            Some(Frame::Before(_, _)) | None => want(What::End),
+            Frame::Bound(_, _) | Frame::Body(_) => Err(StepError::Wanted(What::Expression)),
         }
     }
 
     // The body of a definition is whole.
-    fn define(&mut self, name: Name<'a>) -> Result<(), StepError> {
+    #[tactic(auto, using(crate::proofs::Views::stacks))]
+    fn define(&mut self, name: Name<'a>) -> Result<(), StepError>
+        ensures defined { IfOk result (λ _. context self.new ≡ machine.defined (label name.entry) (nodes self.old) (context self.old)) }
+        ensures nodes { nodes self.new ≡ [] }
+        ensures frames { self.new.frames.items ≡ self.old.frames.items }
+        ensures memory { IfErr result (λ e. e ≡ Memory) }
+    {
         let parameters = mem::replace(&mut self.parameters, Vec::new(self.alloc));
         let nodes = mem::replace(&mut self.nodes, Vec::new(self.alloc));
         self.definitions.push(Definition {
@@ -326,27 +419,36 @@ impl<'a> Reader<'a> {
             parameters,
             body: Expr { nodes },
         })?;
-        self.depth.clear();
         Ok(())
     }
 
     // Behind a whole expression another one begins: that was the G of a `val`, or the body of a `def`.
-    fn follow(&mut self, wanted: What, token: Token<'a>) -> Result<Mode<'a>, StepError> {
-        match self.frames.pop() {
-            Some(Frame::Bound(name, start)) => {
-                self.frames.push(Frame::Before(Link::Val(name), start))?;
+    #[tactic(auto, using(crate::proofs::Views::stacks))]
+    fn follow(&mut self, wanted: What, token: Token<'a>) -> Result<Mode<'a>, StepError>
+        ensures { Leaves result self.new (machine.follow wanted (sort token.entry.kind) token.entry.span (context self.old) (nodes self.old) (stack self.old)) }
+    {
+        let Some(top) = self.frames.pop() else {
+            return Err(StepError::Wanted(wanted));
+        };
+        match top {
+            Frame::Bound(name, start) => {
+                self.frames.push(Frame::Before(Joining::Val(name), start))?;
                 self.begin(token)
             }
-            Some(Frame::Body(name)) => {
+            Frame::Body(name) => {
                 self.define(name)?;
                 self.begin(token)
             }
-            _ => want(wanted),
+            Frame::Before(_, _) | Frame::Bracket(_) | Frame::Arguments(_, _) => {
+                Err(StepError::Wanted(wanted))
+            }
         }
     }
 
     // Behind an operand.
-    fn go_on(&mut self, last: Operand, token: Token<'a>) -> Result<Mode<'a>, StepError> {
+    fn go_on(&mut self, last: Operand, token: Token<'a>) -> Result<Mode<'a>, StepError>
+        ensures { Leaves result self.new (machine.go_on (operand last) (sort token.entry.kind) token.entry.span (context self.old) (nodes self.old) (stack self.old)) }
+    {
         match token.kind {
             Kind::Joint(joint) => self.push(operator_of(joint), last),
             Kind::Arrow(side) => Ok(Mode::Signed(side, last)),
@@ -358,8 +460,8 @@ impl<'a> Reader<'a> {
                 self.reduce(0, last)?;
                 self.another()
             }
-            Kind::Assign => want(self.behind()),
-            _ => {
+            Kind::Assign => Err(StepError::Wanted(self.behind())),
+            Kind::Name(_) | Kind::Plain(_) | Kind::Open | Kind::Def | Kind::Val => {
                 let wanted = self.behind();
                 self.reduce(0, last)?;
                 self.follow(wanted, token)
@@ -367,12 +469,21 @@ impl<'a> Reader<'a> {
         }
     }
 
-    fn variable(&mut self, name: Name<'a>) -> Result<Operand, StepError> {
+    #[tactic(auto, using(crate::proofs::Views::stacks))]
+    fn variable(&mut self, name: Name<'a>) -> Result<Operand, StepError>
+        ensures made { Makes result (λ o. (operand o ≡ machine.place name.entry.span) × (nodes self.new ≡ nodes self.old ++ machine.variable_of (label name.entry) ∷ [])) }
+        ensures definitions { self.new.definitions.items ≡ self.old.definitions.items }
+        ensures parameters { self.new.parameters.items ≡ self.old.parameters.items }
+        ensures frames { self.new.frames.items ≡ self.old.frames.items }
+    {
         self.node(Part::Variable(name), name.span.start, name.span.end)
     }
 
     // Behind a name: a bracket makes it a call.
-    fn behind_name(&mut self, name: Name<'a>, token: Token<'a>) -> Result<Mode<'a>, StepError> {
+    #[tactic(auto, using(crate::proofs::Views::stacks))]
+    fn behind_name(&mut self, name: Name<'a>, token: Token<'a>) -> Result<Mode<'a>, StepError>
+        ensures { Leaves result self.new (machine.behind_name (label name.entry) (sort token.entry.kind) token.entry.span (context self.old) (nodes self.old) (stack self.old)) }
+    {
         match token.kind {
             Kind::Open => {
                 self.frames.push(Frame::Arguments(name, 0))?;
@@ -385,14 +496,46 @@ impl<'a> Reader<'a> {
         }
     }
 
+    // A call without arguments.
+    #[tactic(auto, using(crate::proofs::Views::stacks))]
+    fn close_first(&mut self, end: usize) -> Result<Mode<'a>, StepError>
+        ensures { (at : Span) → at.end ≡ end → Leaves result self.new (machine.first tokens.Close at (context self.old) (nodes self.old) (stack self.old)) }
+    {
+        let Some(top) = self.frames.pop() else {
+            return Err(StepError::Wanted(What::Expression));
+        };
+        match top {
+            Frame::Arguments(name, before) => self.called(name, before, end),
+            Frame::Before(_, _) | Frame::Bracket(_) | Frame::Bound(_, _) | Frame::Body(_) => {
+                Err(StepError::Wanted(What::Expression))
+            }
+        }
+    }
+
     // The first argument, or none.
-    fn first(&mut self, token: Token<'a>) -> Result<Mode<'a>, StepError> {
+    fn first(&mut self, token: Token<'a>) -> Result<Mode<'a>, StepError>
+        ensures { Leaves result self.new (machine.first (sort token.entry.kind) token.entry.span (context self.old) (nodes self.old) (stack self.old)) }
+    {
         match token.kind {
-            Kind::Close => match self.frames.pop() {
-                Some(Frame::Arguments(name, before)) => self.called(name, before, token.span.end),
-                _ => want(What::Expression),
-            },
+            Kind::Close => self.close_first(token.span.end),
             _ => self.begin(token),
+        }
+    }
+
+    // The variable of an operator.
+    fn bind(&self, side: Side, last: Operand, token: Token<'a>) -> Result<Mode<'a>, StepError>
+        ensures { Leaves result self.now (machine.bind side (operand last) (sort token.entry.kind) token.entry.span (context self.now) (nodes self.now) (stack self.now)) }
+    {
+        match token.kind {
+            Kind::Name(text) => Ok(Mode::Variable(
+                side,
+                last,
+                Name {
+                    text,
+                    span: token.span,
+                },
+            )),
+            _ => Err(StepError::Wanted(What::Name)),
         }
     }
 
@@ -403,93 +546,124 @@ impl<'a> Reader<'a> {
         last: Operand,
         variable: Name<'a>,
         token: Token<'a>,
-    ) -> Result<Mode<'a>, StepError> {
+    ) -> Result<Mode<'a>, StepError>
+        ensures { Leaves result self.new (machine.second side (operand last) (label variable.entry) (sort token.entry.kind) (context self.old) (nodes self.old) (stack self.old)) }
+    {
         match token.kind {
             Kind::Arrow(other) => {
                 if side == other {
                     self.push(operator_by(side, variable), last)
                 } else {
-                    want(What::Arrow)
+                    Err(StepError::Wanted(What::Arrow))
                 }
             }
-            _ => want(What::Arrow),
+            _ => Err(StepError::Wanted(What::Arrow)),
         }
+    }
+
+    #[tactic(auto, using(crate::proofs::Views::stacks))]
+    fn parameter(
+        &mut self,
+        definition: Name<'a>,
+        parameter: Name<'a>,
+    ) -> Result<Mode<'a>, StepError>
+        ensures { Leaves result self.new (Ok (machine.state (machine.Heads (machine.Parameter (label definition.entry))) (machine.with_parameter (label parameter.entry) (context self.old)) (nodes self.old) (stack self.old))) }
+    {
+        self.parameters.push(parameter)?;
+        Ok(Mode::Heads(Heading::Parameter(definition)))
+    }
+
+    // `val x =` or `def f(a, b) =` is whole.
+    #[tactic(auto, using(crate::proofs::Views::stacks))]
+    fn await_whole(&mut self, frame: Frame<'a>) -> Result<Mode<'a>, StepError>
+        ensures { Leaves result self.new (Ok (machine.state machine.Want (context self.old) (nodes self.old) (frame_of frame.entry ∷ stack self.old))) }
+    {
+        self.frames.push(frame)?;
+        Ok(Mode::Want)
     }
 
     // One more token of a `val x =` or `def f(a, b) =`.
-    fn head(&mut self, heading: Heading<'a>, token: Token<'a>) -> Result<Mode<'a>, StepError> {
-        let span = token.span;
-        match (heading, token.kind) {
-            (Heading::Val(start), Kind::Name(text)) => {
-                next(Heading::ValName(start, Name { text, span }))
-            }
-            (Heading::ValName(start, name), Kind::Assign) => {
-                self.frames.push(Frame::Bound(name, start))?;
-                Ok(Mode::Want)
-            }
-            (Heading::Def, Kind::Name(text)) => next(Heading::DefName(Name { text, span })),
-            (Heading::DefName(name), Kind::Open) => next(Heading::Opened(name)),
-            (Heading::Opened(name) | Heading::Comma(name), Kind::Name(text)) => {
-                self.parameters.push(Name { text, span })?;
-                next(Heading::Parameter(name))
-            }
-            (Heading::Parameter(name), Kind::Comma) => next(Heading::Comma(name)),
-            (Heading::Opened(name) | Heading::Parameter(name), Kind::Close) => {
-                next(Heading::Closed(name))
-            }
-            (Heading::Closed(name), Kind::Assign) => {
-                self.frames.push(Frame::Body(name))?;
-                Ok(Mode::Want)
-            }
-            _ => want(heading_wants(heading)),
+    fn head(&mut self, head: Heading<'a>, token: Token<'a>) -> Result<Mode<'a>, StepError>
+        ensures { Leaves result self.new (machine.head (heading head.entry) (sort token.entry.kind) token.entry.span (context self.old) (nodes self.old) (stack self.old)) }
+    {
+        match token.kind {
+            Kind::Name(text) => self.head_name(
+                head,
+                Name {
+                    text,
+                    span: token.span,
+                },
+            ),
+            Kind::Open => match head {
+                Heading::DefName(name) => Ok(Mode::Heads(Heading::Opened(name))),
+                _ => Err(StepError::Wanted(heading_wants(head))),
+            },
+            Kind::Comma => match head {
+                Heading::Parameter(name) => Ok(Mode::Heads(Heading::Comma(name))),
+                _ => Err(StepError::Wanted(heading_wants(head))),
+            },
+            Kind::Close => match head {
+                Heading::Opened(name) | Heading::Parameter(name) => {
+                    Ok(Mode::Heads(Heading::Closed(name)))
+                }
+                _ => Err(StepError::Wanted(heading_wants(head))),
+            },
+            Kind::Assign => match head {
+                Heading::ValName(start, name) => self.await_whole(Frame::Bound(name, start)),
+                Heading::Closed(name) => self.await_whole(Frame::Body(name)),
+                _ => Err(StepError::Wanted(heading_wants(head))),
+            },
+            _ => Err(StepError::Wanted(heading_wants(head))),
         }
     }
 
-    // What one more token makes of what has come.
-    fn advance(&mut self, last: Mode<'a>, token: Token<'a>) -> Result<Mode<'a>, StepError> {
+    // A name in it.
+    fn head_name(&mut self, head: Heading<'a>, name: Name<'a>) -> Result<Mode<'a>, StepError>
+        ensures { Leaves result self.new (machine.head (heading head.entry) (tokens.Word name.entry.text.now) name.entry.span (context self.old) (nodes self.old) (stack self.old)) }
+    {
+        match head {
+            Heading::Val(start) => Ok(Mode::Heads(Heading::ValName(start, name))),
+            Heading::Def => Ok(Mode::Heads(Heading::DefName(name))),
+            Heading::Opened(definition) | Heading::Comma(definition) => {
+                self.parameter(definition, name)
+            }
+            _ => Err(StepError::Wanted(heading_wants(head))),
+        }
+    }
+
+    /// What one more token makes of what has come.
+    pub fn advance(&mut self, last: Mode<'a>, token: Token<'a>) -> Result<Mode<'a>, StepError>
+        ensures { Leaves result self.new (machine.advance (mode last.entry) (sort token.entry.kind) token.entry.span (context self.old) (nodes self.old) (stack self.old)) }
+    {
         match last {
             Mode::Want => self.begin(token),
             Mode::First => self.first(token),
             Mode::Named(name) => self.behind_name(name, token),
             Mode::Have(operand) => self.go_on(operand, token),
-            Mode::Signed(side, operand) => match token.kind {
-                Kind::Name(text) => Ok(Mode::Variable(
-                    side,
-                    operand,
-                    Name {
-                        text,
-                        span: token.span,
-                    },
-                )),
-                _ => want(What::Name),
-            },
+            Mode::Signed(side, operand) => self.bind(side, operand, token),
             Mode::Variable(side, operand, name) => self.second(side, operand, name, token),
             Mode::Heads(heading) => self.head(heading, token),
         }
     }
 
-    /// Takes one more token.
-    pub fn take(&mut self, last: Mode<'a>, token: Token<'a>) -> Result<Mode<'a>, StepError> {
-        let mode = self.advance(last, token)?;
-        self.depth.count(token.kind)?;
-        Ok(mode)
-    }
-
     // The program, where nothing waits behind its last operand.
-    fn whole(mut self, last: Operand) -> Result<Ast<'a>, StepError> {
+    fn whole(mut self, last: Operand) -> Result<Ast<'a>, StepError>
+        ensures { Ends result (machine.whole (context self.entry) (machine.reduce 0 (operand last) (nodes self.entry) (stack self.entry))) }
+    {
         self.reduce(0, last)?;
-        if self.frames.is_empty() {
-            Ok(Ast {
+        match self.top() {
+            None => Ok(Ast {
                 definitions: self.definitions,
                 main: Expr { nodes: self.nodes },
-            })
-        } else {
-            Err(StepError::Wanted(self.behind()))
+            }),
+            Some(_) => Err(StepError::Wanted(self.behind())),
         }
     }
 
     /// The program, where the text ends here.
-    pub fn finish(mut self, last: Mode<'a>) -> Result<Ast<'a>, StepError> {
+    pub fn finish(mut self, last: Mode<'a>) -> Result<Ast<'a>, StepError>
+        ensures { Ends result (machine.finish (machine.state (mode last.entry) (context self.entry) (nodes self.entry) (stack self.entry))) }
+    {
         match last {
             Mode::Want | Mode::First => Err(StepError::Wanted(What::Expression)),
             Mode::Named(name) => {

@@ -1,16 +1,28 @@
 //! From bytes to a program.
 
+ghost use Rattle.std.specs.Prelude.{◌≡◌, ℕ, List, length, nat_lt, IfOk};
+ghost use Rattle.orc_lex.specs.Tokens.{sort};
+ghost use Rattle.orc_syntax.specs.Tree.{Source};
+ghost use Rattle.orc_syntax.specs.Ast.{IsAst};
+ghost use Rattle.orc_syntax.specs.Machine as machine;
+ghost use Rattle.orc_syntax.specs.View.{mode, context, nodes, stack, count_of, fault_by, Takes};
+ghost use Rattle.orc_syntax.specs.Text.{SpellsText, SpellsTokens, BeginsText, IsFault, IfFault, IsShallow, Answers, fault_at, place, first_of, IsNoLater, IsNotDeep};
+ghost use Rattle.orc_syntax.specs.declared.fault.SyntaxFault.{SyntaxFault};
+
+use crate::depth::Depth;
 use crate::fault::SyntaxFault;
 use crate::reader::{Mode, Reader, StepError};
 use crate::tree::Ast;
 use orc_lex::lexer::{Piece, piece_at};
-use orc_lex::token::{Span, Unread};
+use orc_lex::token::{Span, Token, Unread};
 use std::alloc::Global;
 
 /// The most bytes that a source may have.
 const LONGEST_SOURCE: usize = 1048576;
 
-fn unread_fault(why: Unread, at: usize) -> SyntaxFault {
+fn unread_fault(why: Unread, at: usize) -> SyntaxFault
+    ensures { result ≡ fault_at why at }
+{
     match why {
         Unread::Character => SyntaxFault::Character(at),
         Unread::Number(end) => SyntaxFault::Number(Span { start: at, end }),
@@ -18,7 +30,9 @@ fn unread_fault(why: Unread, at: usize) -> SyntaxFault {
     }
 }
 
-fn refused(error: StepError, at: usize) -> SyntaxFault {
+fn refused(error: StepError, at: usize) -> SyntaxFault
+    ensures { result ≡ fault_by error at }
+{
     match error {
         StepError::Memory => SyntaxFault::Memory,
         StepError::Wanted(what) => SyntaxFault::Expected(at, what),
@@ -27,28 +41,53 @@ fn refused(error: StepError, at: usize) -> SyntaxFault {
 }
 
 // Stands the fault before a place?
-fn comes_before(fault: SyntaxFault, place: usize) -> bool {
+fn comes_before(fault: SyntaxFault, at: usize) -> bool
+    ensures { result ≡ nat_lt (place fault) at }
+{
     match fault {
-        SyntaxFault::Character(at)
-        | SyntaxFault::Expected(at, _)
-        | SyntaxFault::Deep(at)
-        | SyntaxFault::Comment(at)
-        | SyntaxFault::Encoding(at) => at < place,
-        SyntaxFault::Number(span) => span.start < place,
-        SyntaxFault::Long | SyntaxFault::Memory => true,
+        SyntaxFault::Long | SyntaxFault::Memory => 0 < at,
+        SyntaxFault::Encoding(place) => place < at,
+        SyntaxFault::Character(place) => place < at,
+        SyntaxFault::Number(span) => span.start < at,
+        SyntaxFault::Expected(place, _) => place < at,
+        SyntaxFault::Deep(place) => place < at,
+        SyntaxFault::Comment(place) => place < at,
+    }
+}
+
+// Takes one more token.
+fn take<'a>(
+    reader: &mut Reader<'a>,
+    depth: &mut Depth,
+    last: Mode<'a>,
+    token: Token<'a>,
+) -> Result<Mode<'a>, StepError>
+    ensures { Takes result reader.new (count_of depth.new) (context reader.old) (count_of depth.old) (sort token.entry.kind) (machine.advance (mode last.entry) (sort token.entry.kind) token.entry.span (context reader.old) (nodes reader.old) (stack reader.old)) }
+{
+    let defined = reader.defined();
+    let mode = reader.advance(last, token)?;
+    depth.begin_part(defined, reader.defined());
+    match depth.count(token.kind) {
+        Ok(()) => Ok(mode),
+        Err(error) => Err(error),
     }
 }
 
 // The program that the tokens of a text spell, whatever the bytes of its comments are.
-fn read_text<'a>(alloc: Global, src: &'a [u8]) -> Result<Ast<'a>, SyntaxFault> {
+fn read_text<'a>(alloc: Global, src: &'a [u8]) -> Result<Ast<'a>, SyntaxFault>
+    ensures found { IfOk result (λ ast. (s : Source) × IsAst ast s × SpellsTokens src.now s) }
+    // All tokens before a fault begin a program.
+    ensures fault { IfFault result (λ f. IsFault src.now f × BeginsText src.now (place f)) }
+{
     let mut reader = Reader::new(alloc);
+    let mut depth = Depth::new(alloc);
     let mut mode = Mode::Want;
     let mut at = 0;
     while at < src.len() {
         match piece_at(src, at) {
             Piece::Gap(end) => at = end,
             Piece::Token(token) => {
-                match reader.take(mode, token) {
+                match take(&mut reader, &mut depth, mode, token) {
                     Ok(next) => mode = next,
                     Err(error) => return Err(refused(error, at)),
                 }
@@ -63,11 +102,36 @@ fn read_text<'a>(alloc: Global, src: &'a [u8]) -> Result<Ast<'a>, SyntaxFault> {
     }
 }
 
+// The fault of a text whose bytes stop being UTF-8 at a place.
+fn first_fault(read: Result<Ast<'_>, SyntaxFault>, at: usize) -> SyntaxFault
+    ensures { result ≡ first_of read.entry at }
+{
+    match read {
+        Ok(_) => SyntaxFault::Encoding(at),
+        Err(fault) => {
+            if comes_before(fault, at) {
+                fault
+            } else {
+                SyntaxFault::Encoding(at)
+            }
+        }
+    }
+}
+
 /// Reads the program that a text spells.
 ///
-/// Too long a text is refused first. Otherwise the fault of the least place is answered, and at one place the one with
-/// the lower number.
-pub fn parse<'a>(alloc: Global, src: &'a [u8]) -> Result<Ast<'a>, SyntaxFault> {
+/// A text that is too long is refused before anything else. Otherwise the fault of the least place is answered, and at one
+/// place the one with the lower number.
+pub fn parse<'a>(alloc: Global, src: &'a [u8]) -> Result<Ast<'a>, SyntaxFault>
+    // What is answered is what the text spells.
+    ensures found { IfOk result (λ ast. (s : Source) × IsAst ast s × SpellsText src.now s) }
+    // What a text spells in which nothing is too deep is answered, unless memory runs out.
+    ensures only { (s : Source) → SpellsText src.now s → IsShallow src.now → Answers result s }
+    // A fault is one of the text,
+    ensures fault { IfFault result (IsFault src.now) }
+    // and none but S5 stands before it.
+    ensures least { IfFault result (λ f. (g : SyntaxFault) → IsFault src.now g → IsNotDeep g → IsNoLater f g) }
+{
     if src.len() > LONGEST_SOURCE {
         return Err(SyntaxFault::Long);
     }
@@ -75,15 +139,10 @@ pub fn parse<'a>(alloc: Global, src: &'a [u8]) -> Result<Ast<'a>, SyntaxFault> {
     let Err(error) = str::from_utf8(src) else {
         return read;
     };
-    let at = error.valid_up_to();
-    match read {
-        Err(fault) => {
-            if comes_before(fault, at) {
-                Err(fault)
-            } else {
-                Err(SyntaxFault::Encoding(at))
-            }
-        }
-        Ok(_) => Err(SyntaxFault::Encoding(at)),
-    }
+    Err(first_fault(read, error.valid_up_to()))
 }
+
+/// No text spells two programs.
+pub fn one_source()
+    ensures { (src : List ℕ) (s t : Source) → SpellsText src s → SpellsText src t → s ≡ t }
+{}
