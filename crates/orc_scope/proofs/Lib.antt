@@ -1,7 +1,9 @@
 pub mod Arguments
 pub mod Bound
 pub mod Build
+pub mod Closed
 pub mod Cuts
+pub mod Deep
 pub mod Least
 pub mod Listed
 pub mod Output

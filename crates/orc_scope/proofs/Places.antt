@@ -44,7 +44,7 @@ position_from_within n (t ∷ ts) text m e = go (λ later. position_from_within 
 pub position_within : (ts : List (List ℕ)) (text : List ℕ) (m : ℕ) → position ts text ≡ Some m → m < length ts
 position_within ts text m e = let lt = position_from_within 0 ts text m e in omega (arith, lt)
 
-same_text : (x text : List ℕ) → bytes_eq x text ≡ true → x ≡ text
+pub same_text : (x text : List ℕ) → bytes_eq x text ≡ true → x ≡ text
 same_text x text e = (bytes_eq-Decides x text).0 e
 
 -- what a table says after a change at x

@@ -26,7 +26,7 @@ small_append : (is js : List Item) → AreSmall is → AreSmall js → AreSmall 
 small_append [] js a b = b
 small_append (i ∷ is) js a b = (a.0, small_append is js a.1 b)
 
-few : (known : Known) (scope : List (List ℕ)) (n : ℕ) (es : Trees) → n ≤ 17 → faults_of_all known scope n es ≡ [] → n + count es ≤ 17
+pub few : (known : Known) (scope : List (List ℕ)) (n : ℕ) (es : Trees) → n ≤ 17 → faults_of_all known scope n es ≡ [] → n + count es ≤ 17
 few known scope n Nil le e = omega (arith, le)
 few known scope n (Cons t es) le e =
     let rest = number_faults n (span_of t) ++ faults known scope t in

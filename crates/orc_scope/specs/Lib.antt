@@ -1,5 +1,6 @@
 pub mod Building
 pub mod Checking
+pub mod Deep
 pub mod Listed
 pub mod Looking
 pub mod Numbers

@@ -36,13 +36,13 @@ abbrev pub outer_meaning : Option ℕ → Option ℕ → Meaning
 outer_meaning (Some e) site = IsDefinition e
 outer_meaning None site = site_meaning site
 
+abbrev pub inner_meaning : Known → List ℕ → Option ℕ → Meaning
+inner_meaning known text (Some n) = IsVariable
+inner_meaning known text None = outer_meaning (position known.definitions text) (position known.sites text)
+
 -- a variable in scope, else the first definition, else the site
 abbrev pub meaning : Known → List (List ℕ) → List ℕ → Meaning
-meaning known scope text = inner (position scope text)
-  where
-    inner : Option ℕ → Meaning
-    inner (Some n) = IsVariable
-    inner None = outer_meaning (position known.definitions text) (position known.sites text)
+meaning known scope text = inner_meaning known text (position scope text)
 
 abbrev pub fault : FaultKind → Span → ScopeFault
 fault kind span = record { kind = kind; span = span }

@@ -7,6 +7,8 @@ use Rattle.orc_scope.specs.Looking.{known_of, name_text, arity}
 use Rattle.orc_scope.specs.Numbers.{Numbering, AreSmall}
 use Rattle.orc_scope.specs.Scope.{Known, IsLeast}
 use Rattle.orc_scope.specs.Program.{known_in, program_faults, faults_with, variables}
+use Rattle.orc_scope.proofs.Closed.{lawful}
+use Rattle.orc_scope.proofs.Deep.{shallow}
 use Rattle.orc_scope.proofs.Programs.{same_known}
 use Rattle.orc_scope.proofs.Refused.{refused}
 use Rattle.orc_scope.proofs.Small.{small_calls, few_numbers}
@@ -79,5 +81,6 @@ returns c = λ s is.
     let first : c.new-looking.result.room ≡ 65536 = c.new-looking.ensures.room in
     let names : c.in_ok-variables.field-0 ≡ variables s = c.in_ok-variables.ensures s is in
     let numbers : c.in-Some-new.numbers ≡ record { known = known_in sites s; names = variables s } = search (rules, k, names) in
-    let out = c.in_ok-write_out.ensures s is (small_calls (known_in sites s) s faults) in
-    (record { faults = faults; nodes = omega (arith, room, some, first) }, subst (λ (n : Numbering). IsWrittenOut n.known n.names s c.in_ok-write_out.field-0) numbers out)
+    let made = c.in_ok-write_out.ensures s is (small_calls (known_in sites s) s faults) in
+    let out : IsWrittenOut (known_in sites s) (variables s) s c.in_ok-write_out.field-0 = subst (λ (n : Numbering). IsWrittenOut n.known n.names s c.in_ok-write_out.field-0) numbers made in
+    (record { faults = faults; nodes = omega (arith, room, some, first) }, out, lawful sites s c.in_ok-write_out.field-0 faults out, shallow sites s c.in_ok-write_out.field-0 faults out)

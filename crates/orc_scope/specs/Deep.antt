@@ -1,0 +1,49 @@
+-- How deep expressions are.
+use Rattle.std.specs.Prelude.{◌+◌, ◌≤◌, ℕ, suc, max, List, [], ◌∷◌}
+use Rattle.orc_rules.specs.Nodes.{Listing, source, definitions}
+use Rattle.orc_rules.specs.Refusal.{depth}
+use Rattle.orc_rules.specs.Term.{Definition}
+use Rattle.orc_syntax.specs.Tree.{Tree, Leaf, Variable, Call, Operation, Val, Trees, Nil, Cons, Define, Source}
+
+-- the number of operators of an expression
+abbrev mutual
+  pub operators : Tree → ℕ
+  operators (Leaf p span) = 0
+  operators (Variable x) = 0
+  operators (Call x ts span) = operators_of_all ts
+  operators (Operation link f g span) = suc (operators f + operators g)
+  operators (Val x g f span) = operators g + operators f
+
+  pub operators_of_all : Trees → ℕ
+  operators_of_all Nil = 0
+  operators_of_all (Cons t ts) = operators t + operators_of_all ts
+
+-- how many calls and `val` stand within one another
+abbrev mutual
+  pub nesting : Tree → ℕ
+  nesting (Leaf p span) = 0
+  nesting (Variable x) = 0
+  nesting (Call x ts span) = suc (nesting_of_all ts)
+  nesting (Operation link f g span) = max (nesting f) (nesting g)
+  nesting (Val x g f span) = suc (max (nesting g) (nesting f))
+
+  pub nesting_of_all : Trees → ℕ
+  nesting_of_all Nil = 0
+  nesting_of_all (Cons t ts) = max (nesting t) (nesting_of_all ts)
+
+-- at most 4,000 operators, and 200 calls and `val` within one another
+abbrev pub IsShallow : Tree → Type 0
+IsShallow t = (operators t ≤ 4000) × (nesting t ≤ 200)
+
+abbrev pub AreShallow : List Define → Type 0
+AreShallow [] = Unit {0}
+AreShallow (d ∷ ds) = IsShallow d.body × AreShallow ds
+
+-- terms of no more levels
+abbrev pub AreWithin : ℕ → List Definition → Type 0
+AreWithin n [] = Unit {0}
+AreWithin n (d ∷ ds) = (depth d.body ≤ n) × AreWithin n ds
+
+-- each term of a shallow program nests at most 7,401 levels
+abbrev pub StaysShallow : Source → Listing → Type 0
+StaysShallow s l = AreShallow s.definitions → IsShallow s.main → AreWithin 7401 (definitions l) × (depth (source l) ≤ 7401)
