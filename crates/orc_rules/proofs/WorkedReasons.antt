@@ -14,7 +14,7 @@ use Rattle.orc_rules.specs.declared.value.Found.TheVariants.{After, Never}
 use Rattle.orc_rules.specs.Timed.{Context, Moment, CallMade, IsIn, IsDue, IsQuiet, says_of}
 use Rattle.orc_rules.proofs.Tests.{quiet_by_test}
 use Rattle.orc_rules.specs.Journal.{Place, begin}
-use Rattle.orc_rules.specs.Refusal.{IsTaken, IsRefused, depth, most_levels}
+use Rattle.orc_rules.specs.Refusal.{IsTaken, IsRefused, depth}
 use Rattle.orc_rules.specs.declared.value.Answer.TheVariants.{Value as Gives}
 use Rattle.orc_rules.specs.declared.entry.State.TheVariants.{Halted as HasHalted, Running}
 use Rattle.orc_rules.specs.Verdict.{IsVerdict}
@@ -130,7 +130,7 @@ nested_depth zero = refl
 nested_depth (suc n) = omega (arith, nested_depth n)
 
 -- a `fork` in a term that nests over 10,000 levels
-too_deep : (n : ℕ) → most_levels ≤ suc n → IsRefused (world [] [] true) (begin (par stop (nested n))) (Fork 1 2 3) Deep
+too_deep : (n : ℕ) → 10000 ≤ suc n → IsRefused (world [] [] true) (begin (par stop (nested n))) (Fork 1 2 3) Deep
 too_deep n le = (
   record (begin (par stop (nested n))) { marked = in_par (token 2 stop) (token 3 (nested n)); mark = 4 },
   (inr refl, (stop, nested n, refl, refl, record { inside = []; part = here; same = refl })),
@@ -138,7 +138,7 @@ too_deep n le = (
 )
 
 -- the same in a term of 10,000 levels and less
-not_too_deep : (n : ℕ) → suc (suc n) ≤ most_levels → IsTaken (world [] [] true) (begin (par stop (nested n))) (Fork 1 2 3) (record (begin (par stop (nested n))) { marked = in_par (token 2 stop) (token 3 (nested n)); mark = 4 })
+not_too_deep : (n : ℕ) → suc (suc n) ≤ 10000 → IsTaken (world [] [] true) (begin (par stop (nested n))) (Fork 1 2 3) (record (begin (par stop (nested n))) { marked = in_par (token 2 stop) (token 3 (nested n)); mark = 4 })
 not_too_deep n le = ((inr refl, (stop, nested n, refl, refl, record { inside = []; part = here; same = refl })), omega (arith, le, nested_depth n))
 
 -- no entries, for `1`: running at time 0
