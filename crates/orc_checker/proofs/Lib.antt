@@ -16,6 +16,7 @@ pub mod Growth
 pub mod Halting
 pub mod Inside
 pub mod Leaving
+pub mod Labelling
 pub mod Lists
 pub mod Moves
 pub mod Opening

@@ -116,7 +116,7 @@ module _ (nodes : List Node) (n : ℕ) where
       is (on_right j d v) = refl
 
   -- two parts of one node differ
-  differ : (i j : ℕ) (d : _) (v u : Tree) (k : List Frame) → Stands nodes n i (on_right j d v ∷ k) u → place v ≡ i → ⊥
+  pub differ : (i j : ℕ) (d : _) (v u : Tree) (k : List Frame) → Stands nodes n i (on_right j d v ∷ k) u → place v ≡ i → ⊥
   differ i j d v u k s e =
       omega (arith, itself u, itself v, ap (λ z. count z v) (e ∙ sym s.there), count-plug (place u) (on_right j d v ∷ k) u, s.once (place u), living-most (slice_get nodes (place u)))
 

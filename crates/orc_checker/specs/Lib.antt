@@ -7,6 +7,7 @@ pub mod DueTimes
 pub mod Ended
 pub mod Grafting
 pub mod Halting
+pub mod Labelling
 pub mod Names
 pub mod Rising
 pub mod Settling

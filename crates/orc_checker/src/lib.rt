@@ -8,6 +8,7 @@ pub mod due;
 mod feed;
 mod flags;
 pub mod halts;
+mod label;
 pub mod looking;
 pub mod marked;
 mod marks;

@@ -1,0 +1,108 @@
+// The labels that entries show.
+
+ghost use Rattle.std.specs.Prelude.{◌≡◌, ◌++◌, List, IfOk, OnOk, OnErr};
+ghost use Rattle.orc_rules.specs.Journal.{Place};
+ghost use Rattle.orc_rules.specs.Nodes.{Listing, code};
+ghost use Rattle.orc_rules.specs.Timed.{Context};
+ghost use Rattle.orc_checker.specs.Checker.{Spells};
+ghost use Rattle.orc_checker.specs.Labelling.{cell_above, AreAround, IsLabel, Shows, StandsInside};
+
+use crate::arena::{Double, Kind, Node};
+use crate::marked::Marked;
+use crate::walk::node_at;
+use orc_rules::answers::Answers;
+use orc_rules::entry::{Entry, Label, RuleFault};
+use orc_rules::program::Program;
+use orc_rules::value::Answer;
+use std::alloc::{AllocError, Global};
+
+/// Adds the cell of the node above, where the node at `place` is its right side. The error is refused memory.
+fn push_cell(cells: &mut Vec<u64>, above: Kind, place: usize) -> Result<(), AllocError>
+    ensures { OnOk result (cells.new.items ≡ cells.old.items ++ cell_above above place) }
+{
+    if let Kind::Two(double, left, _) = above {
+        if let Double::Side(cell) = double {
+            if left != place {
+                cells.push(cell)?;
+            }
+        }
+    }
+    Ok(())
+}
+
+/// The cells inside whose right sides a node stands, the outermost first. The error is refused memory.
+fn cells_around(alloc: Global, nodes: &Vec<Node>, from: usize) -> Result<Vec<u64>, AllocError>
+    ensures { IfOk result (λ cells. AreAround nodes.now.items from cells.items) }
+{
+    let mut cells = Vec::new(alloc);
+    let mut place = from;
+    for _steps in 0..nodes.len() {
+        if place == 0 {
+            cells.reverse();
+            return Ok(cells);
+        }
+        let parent = node_at(nodes, place).parent;
+        let above = node_at(nodes, parent).kind;
+        push_cell(&mut cells, above, place)?;
+        place = parent;
+    }
+    // Node 0 is less than `nodes.len()` nodes away.
+    Err(AllocError)
+}
+
+impl Marked {
+    /// The cells inside whose right sides token `s` stands, the outermost first.
+    fn cells_of(&self, alloc: Global, s: u64) -> Result<Vec<u64>, RuleFault>
+        ensures { IfOk result (λ cells. (x : Context) (l : Listing) (p : Place) → Spells x (code l) self.now p → StandsInside p s cells.items) }
+    {
+        let holder = self.holder(s)?;
+        match cells_around(alloc, &self.nodes, holder.at) {
+            Ok(cells) => Ok(cells),
+            Err(_) => Err(RuleFault::Memory),
+        }
+    }
+
+    /// The label of an entry.
+    fn label(&self, alloc: Global, entry: &Entry) -> Result<Option<Label>, RuleFault>
+        ensures { IfOk result (λ label. (x : Context) (l : Listing) (p : Place) → Spells x (code l) self.now p → IsLabel p entry.now label) }
+    {
+        match entry {
+            Entry::End(_) => Ok(None),
+            Entry::Fork(_, _, _) => Ok(None),
+            Entry::Seq(_, _) => Ok(None),
+            Entry::Other(_, _) => Ok(None),
+            Entry::Tick(_) => Ok(None),
+            Entry::Def(_, _) => Ok(Some(Label::Silent)),
+            Entry::Void(_) => Ok(Some(Label::Silent)),
+            Entry::Open(_, _, _, _) => Ok(Some(Label::Silent)),
+            Entry::Send(_, _, _) => Ok(Some(Label::Silent)),
+            Entry::Right(_, _) => Ok(Some(Label::Silent)),
+            Entry::Return(k, _, v) => Ok(Some(Label::Return(*k, Answer::Value(*v)))),
+            Entry::ReturnHalt(k) => Ok(Some(Label::Return(*k, Answer::Halt))),
+            Entry::Bind(_, c, v) => Ok(Some(Label::Bind(*c, *v))),
+            Entry::Lost(c) => Ok(Some(Label::Lost(*c))),
+            Entry::Publish(_, v) => Ok(Some(Label::Publish(*v))),
+            Entry::Cancel(k) => Ok(Some(Label::Cancel(*k))),
+            Entry::Call(s, k, site, args) => {
+                let cells = self.cells_of(alloc, *s)?;
+                Ok(Some(Label::Call(*k, *site, args.copied(), cells)))
+            }
+        }
+    }
+
+    /// Applies one entry and gives its label, none for a move of marks or a tick. After a RuleFault nothing has changed.
+    pub fn apply(
+        &mut self,
+        alloc: Global,
+        program: &Program,
+        answers: &Answers,
+        entry: &Entry,
+    ) -> Result<Option<Label>, RuleFault>
+        ensures done { IfOk result (λ label. Shows program.now answers.now entry.now self.old self.new label) }
+        ensures refused { OnErr result (self.new ≡ self.old) }
+    {
+        let label = self.label(alloc, entry)?;
+        self.step(program, answers, entry)?;
+        Ok(label)
+    }
+}
