@@ -1,14 +1,16 @@
 pub mod Answering
 pub mod Beginning
 pub mod Binding
-pub mod Cancelling
 pub mod CallEntries
 pub mod CallsMade
+pub mod Cancelling
+pub mod Catching
 pub mod Change
 pub mod Closing
 pub mod Dropping
 pub mod DueCalls
 pub mod Ended
+pub mod Ending
 pub mod Feeding
 pub mod Filling
 pub mod Flagging
@@ -21,6 +23,7 @@ pub mod Lists
 pub mod Moves
 pub mod Opening
 pub mod Publishing
+pub mod Reached
 pub mod Rising
 pub mod Scopes
 pub mod Sending

@@ -130,6 +130,7 @@ impl Marked {
             Entry::Call(s, k, site, args) => self.call(program, answers, *s, *k, *site, args),
             Entry::Return(k, a, v) => self.answered(answers, *k, *a, *v),
             Entry::ReturnHalt(k) => self.given_up(answers, *k),
+            Entry::Bind(s, c, v) => self.bind(program, *s, *c, *v),
             Entry::Publish(s, v) => self.publish(program, *s, *v),
             Entry::Cancel(k) => self.cancel(program, *k),
             _ => Err(RuleFault::Memory),

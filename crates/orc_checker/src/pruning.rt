@@ -1,16 +1,22 @@
 // Prunings: they are opened, and their cells get a value or never will.
 
-ghost use Rattle.std.specs.Prelude.{◌≡◌, ◌+◌, ◌<◌, ◌≤◌, length, vec_len, vec_capacity, IfOk, OnErr};
+ghost use Rattle.std.specs.Prelude.{◌≡◌, ◌+◌, ◌<◌, ◌≤◌, [], length, reverse, slice_get, slice_set, true, false, vec_len, vec_capacity, IfOk, OnErr};
 ghost use Rattle.orc_rules.specs.Nodes.{code};
-ghost use Rattle.orc_checker.specs.Checker.{Enters};
+ghost use Rattle.orc_rules.specs.Sites.{Table};
+ghost use Rattle.orc_checker.specs.Checker.{Applies, Enters};
+ghost use Rattle.orc_checker.specs.Dropping.{calls_at, AreNodesOf, AreRising};
+ghost use Rattle.orc_checker.specs.declared.arena.Bound.TheVariants.{Cell as IsCell};
 ghost use Rattle.orc_rules.specs.declared.entry.Entry.TheVariants as entry;
 
-use crate::arena::{Bound, Double, Kind, Node, Scope};
-use crate::flags::{both, settle};
+use crate::arena::{Bound, Double, Kind, Node, Scope, Single};
+use crate::flags::{both, flag_at, settle};
 use crate::marked::{Marked, Spot, token_node};
 use crate::room::{push_within, reserve, size};
+use crate::side::{drop_nodes, falling_calls, nodes_of};
+use crate::walk::{Taker, node_at, way_up, write_node};
 use orc_rules::entry::RuleFault;
 use orc_rules::program::{Program, TermNode};
+use orc_rules::value::Value;
 use std::alloc::AllocError;
 
 /// Memory for one more scope and one more cell.
@@ -29,6 +35,15 @@ pub(crate) fn scope_count(scopes: &Vec<Scope>) -> usize
     ensures { result ≡ length scopes.now.items }
 {
     scopes.len()
+}
+
+/// A cell becomes a value or void.
+fn bind_cell(cells: &mut Vec<Bound>, c: u64, bound: Bound)
+    ensures { cells.new.items ≡ slice_set cells.old.items c bound }
+{
+    if let Some(slot) = cells.get_mut(c as usize) {
+        *slot = bound;
+    }
 }
 
 impl Marked {
@@ -93,6 +108,75 @@ impl Marked {
         push_within(&mut self.flags, left);
         push_within(&mut self.flags, right);
         settle(&self.nodes, &mut self.flags, spot.at, both(left, right));
+        Ok(())
+    }
+
+    /// Whether `c` is a cell that isn't bound.
+    fn unbound(&self, c: u64) -> Result<(), RuleFault>
+        ensures { IfOk result (λ _. slice_get self.now.cells c ≡ Some (IsCell c)) }
+    {
+        match self.cells.get(c as usize) {
+            Some(Bound::Cell(d)) if *d == c => Ok(()),
+            _ => Err(RuleFault::Mark),
+        }
+    }
+
+    /// The nodes of a right side that goes, with the calls that pend in it, in falling order, where their cancels are recorded.
+    fn leaving(&self, right: usize) -> Result<(Vec<usize>, Vec<u64>), RuleFault>
+        ensures nodes { IfOk result (λ r. AreNodesOf self.now.nodes right r.0.items) }
+        ensures recorded { IfOk result (λ r. self.now.rest.cancels ≡ true → AreRising (calls_at self.now.nodes r.0.items) (reverse r.1.items)) }
+        ensures not_recorded { IfOk result (λ r. self.now.rest.cancels ≡ false → r.1.items ≡ []) }
+    {
+        let alloc = *self.nodes.allocator();
+        let side = nodes_of(alloc, &self.nodes, right).map_err(|_| RuleFault::Memory)?;
+        if self.rest.cancels {
+            let calls = falling_calls(alloc, &self.nodes, &side).map_err(|_| RuleFault::Memory)?;
+            Ok((side, calls))
+        } else {
+            Ok((side, Vec::new(alloc)))
+        }
+    }
+
+    /// `bind S C V`.
+    pub(crate) fn bind(
+        &mut self,
+        program: &Program,
+        s: u64,
+        c: u64,
+        v: Value,
+    ) -> Result<(), RuleFault>
+        ensures done { IfOk result (λ _. (t : Table) → Applies program.now t (entry.Bind s c v) self.old self.new) }
+        ensures refused { OnErr result (self.new ≡ self.old) }
+    {
+        let bearer = self.bearer(program, s, v)?;
+        self.unbound(c)?;
+        let Some(way) = way_up(&self.nodes, bearer.at) else {
+            return Err(RuleFault::Form);
+        };
+        let Taker::Bound(cell, at) = way.taker else {
+            return Err(RuleFault::Form);
+        };
+        if cell != c {
+            return Err(RuleFault::Form);
+        }
+        let pruning = node_at(&self.nodes, at);
+        let Kind::Two(_, left, right) = pruning.kind else {
+            return Err(RuleFault::Form);
+        };
+        let (side, calls) = self.leaving(right)?;
+        drop_nodes(&mut self.nodes, &side);
+        write_node(
+            &mut self.nodes,
+            at,
+            Node {
+                kind: Kind::One(Single::Passed, left),
+                parent: pruning.parent,
+            },
+        );
+        let halted = flag_at(&self.flags, left);
+        settle(&self.nodes, &mut self.flags, at, halted);
+        bind_cell(&mut self.cells, c, Bound::Is(v));
+        self.rest.set_due(calls);
         Ok(())
     }
 }

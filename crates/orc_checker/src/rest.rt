@@ -135,6 +135,13 @@ impl Rest {
         !self.to_cancel.is_empty()
     }
 
+    /// The cancels of these calls come due, the last one first.
+    pub(crate) fn set_due(&mut self, calls: Vec<u64>)
+        ensures { self.new ≡ record self.old { to_cancel = reverse calls.items } }
+    {
+        self.to_cancel = calls;
+    }
+
     /// The cancel of call `k` is done. The error is Cancel: it isn't the next one.
     pub(crate) fn cancel(&mut self, k: u64) -> Result<(), RuleFault>
         ensures done { OnOk result (self.old ≡ record self.new { to_cancel = k ∷ self.new.to_cancel }) }

@@ -58,7 +58,7 @@ fill_marked_source w c (in_seq f x g) s = (fill_marked_source w c f s.0, fill_so
 fill_marked_source w c (in_opened f d g) s = (fill_marked_source w c f s.0, fill_marked_source w c g s.1)
 fill_marked_source w c (in_other n f g) s = (fill_marked_source w c f s.0, fill_source w c g s.1)
 
-replaced_source : {x y m m' : Marked} {cs : List ℕ} → (HoldsSource x → HoldsSource y) → Replaces x y m cs m' → HoldsSource m → HoldsSource m'
+pub replaced_source : {x y m m' : Marked} {cs : List ℕ} → (HoldsSource x → HoldsSource y) → Replaces x y m cs m' → HoldsSource m → HoldsSource m'
 replaced_source k here s = k s
 replaced_source k (in_left r) s = (replaced_source k r s.0, s.1)
 replaced_source k (in_right r) s = (s.0, replaced_source k r s.1)
@@ -67,7 +67,7 @@ replaced_source k (in_main r) s = (replaced_source k r s.0, s.1)
 replaced_source k (in_side r) s = (s.0, replaced_source k r s.1)
 replaced_source k (in_entered r) s = (replaced_source k r s.0, s.1)
 
-emits_source : {s a : ℕ} {v : Value} {m m' : Marked} {b : Act} → Emits s a v m b m' → HoldsSource m → HoldsSource m'
+pub emits_source : {s a : ℕ} {v : Value} {m m' : Marked} {b : Act} → Emits s a v m b m' → HoldsSource m → HoldsSource m'
 emits_source emits s = tt
 emits_source (on_left e) s = (emits_source e s.0, s.1)
 emits_source (on_right e) s = (s.0, emits_source e s.1)

@@ -1,4 +1,4 @@
-use Rattle.orc_checker.proofs.Answering.{for_all, for_sites, for_code}
+use Rattle.orc_checker.proofs.Answering.{for_all, for_sites, for_code, for_tables}
 use Rattle.orc_checker.proofs.marked.Marked.step.Goals as goal
 
 pub returns-in-End-clause-done : goal.returns-in-End-clause-done
@@ -33,3 +33,6 @@ returns-in-Return-clause-done c = for_code c.args.program.now c.args.answers.now
 
 pub returns-in-ReturnHalt-clause-done : goal.returns-in-ReturnHalt-clause-done
 returns-in-ReturnHalt-clause-done c = for_code c.args.program.now c.args.answers.now _ _ c.args.self.now c.given_up.new.self c.given_up.result c.in-ReturnHalt.is c.given_up.ensures.done
+
+pub returns-in-Bind-clause-done : goal.returns-in-Bind-clause-done
+returns-in-Bind-clause-done c = for_tables c.args.program.now c.args.answers.now _ _ c.args.self.now c.bind.new.self c.bind.result c.in-Bind.is c.bind.ensures.done
