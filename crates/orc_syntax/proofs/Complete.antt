@@ -261,7 +261,7 @@ turned (Bound x start) d ns k = state Want d ns (Before (Bind x) start ∷ k)
 turned (Body f) d ns k = state Want (defined f ns d) [] k
 turned _ d ns k = state Want d ns k
 
-follow_is : (fr : Frame) (what : What) (sort : Sort) (at : Span) (d : Context) (ns : List Item) (k : List Frame) → IsAwaiting fr → follow what sort at d ns (fr ∷ k) ≡ step (turned fr d ns k) (token sort at)
+pub follow_is : (fr : Frame) (what : What) (sort : Sort) (at : Span) (d : Context) (ns : List Item) (k : List Frame) → IsAwaiting fr → follow what sort at d ns (fr ∷ k) ≡ step (turned fr d ns k) (token sort at)
 unfolding step
 follow_is (Bound x start) what sort at d ns k h = refl
 follow_is (Body f) what sort at d ns k h = refl
@@ -269,7 +269,7 @@ follow_is (Before j start) what sort at d ns k h = absurd h
 follow_is (Bracket start) what sort at d ns k h = absurd h
 follow_is (Arguments x count) what sort at d ns k h = absurd h
 
-waits : (fr : Frame) (m : ℕ) (o : Operand) (ns : List Item) (k : List Frame) → IsAwaiting fr → reduce m o ns (fr ∷ k) ≡ reduced o ns (fr ∷ k)
+pub waits : (fr : Frame) (m : ℕ) (o : Operand) (ns : List Item) (k : List Frame) → IsAwaiting fr → reduce m o ns (fr ∷ k) ≡ reduced o ns (fr ∷ k)
 waits (Bound x start) m o ns k h = refl
 waits (Body f) m o ns k h = refl
 waits (Before j start) m o ns k h = absurd h

@@ -1,7 +1,7 @@
 -- A fault that is answered is the first of its text, and a text with a fault spells nothing.
 use Rattle.std.specs.Prelude.{if◌then◌else◌, nat_lt, IfOk}
 use Rattle.std.specs.Str.{IsUtf8, IsValidUpTo}
-use Rattle.std.proofs.Common.{◌≡◌, ℕ, suc, ◌+◌, ◌≤◌, ◌<◌, List, [], ◌∷◌, ◌++◌, length, Result, Ok, Err, refl, sym, ap, subst, ◌∙◌, append_assoc, inl, inr, ◌⊎◌, arith}
+use Rattle.std.proofs.Common.{◌≡◌, ℕ, suc, ◌+◌, ◌≤◌, ◌<◌, List, [], ◌∷◌, ◌++◌, length, Result, Ok, Err, refl, sym, ap, subst, ◌∙◌, append_assoc, inl, inr, arith}
 use Rattle.std.proofs.lemmas.Bool.Decides.{leb_tells}
 use Rattle.std.proofs.lemmas.List.{append-nil}
 use Rattle.std.proofs.Math.Seq.{take-length}
@@ -9,9 +9,8 @@ use Rattle.orc_lex.specs.declared.token.Unread.{Unread}
 use Rattle.orc_lex.specs.declared.token.Unread.TheVariants as unread
 use Rattle.orc_lex.specs.declared.token.What.{What}
 use Rattle.orc_lex.specs.Tokens.{Lexeme}
-use Rattle.orc_lex.specs.Lexing.{Piece, Gap, Item, Bad, IsPiece, Pieces, lexemes, Cut}
-use Rattle.orc_lex.proofs.Unique.{piece_unique, piece_on, pieces_on, goes_on, cut_goes_on, cut_unique, lexemes_append}
-use Rattle.orc_lex.proofs.Within.{piece_in}
+use Rattle.orc_lex.specs.Lexing.{Bad, Cut}
+use Rattle.orc_lex.proofs.Unique.{piece_unique, cut_unique}
 use Rattle.orc_syntax.specs.declared.fault.SyntaxFault.{SyntaxFault}
 use Rattle.orc_syntax.specs.declared.fault.SyntaxFault.TheVariants as faults
 use Rattle.orc_syntax.specs.declared.tree.Ast.{Ast}
@@ -19,29 +18,12 @@ use Rattle.orc_syntax.specs.Tree.{Source}
 use Rattle.orc_syntax.specs.Ast.{IsAst}
 use Rattle.orc_syntax.specs.Grammar.{Program, program_tokens, source, Spells, Begins, made_tokens, behind_all}
 use Rattle.orc_syntax.specs.Machine.{State, Posted, Refusal, run, finish, start}
-use Rattle.orc_syntax.specs.Text.{longest_source, SpellsTokens, SpellsText, BeginsText, StopsAt, StopsAtEnd, IsDeepAt, IsUnread, IsFault, IsShallow, IfFault, Answers, place, number, IsNoLater, first_of, IsNotDeep}
+use Rattle.orc_syntax.specs.Text.{longest_source, SpellsTokens, SpellsText, BeginsText, StopsAt, StopsAtEnd, IsDeepAt, IsUnread, IsFault, IsShallow, IsShallowBefore, IfFault, Answers, place, number, IsNoLater, first_of}
+use Rattle.orc_syntax.proofs.Cuts.{bad_last, cut_in, before_cut, before_token}
 use Rattle.orc_syntax.proofs.Programs.{posted, reads}
 use Rattle.orc_syntax.proofs.Posts.{source_is}
 use Rattle.orc_syntax.proofs.Laws.{later, first_later, behind_tokens}
-use Rattle.orc_syntax.proofs.Progress.{token_at, Refuses}
-
-no_gap : {e : ℕ} {why : Unread} → Gap e ≡ Bad why → ⊥
-no_gap e = absurd cc
-
-no_item : {t : Lexeme} {why : Unread} → Item t ≡ Bad why → ⊥
-no_item e = absurd cc
-
-passes : (src : List ℕ) (at to : ℕ) (why : Unread) (ps : List Piece) → IsPiece src at (Bad why) → Pieces src at ps to → at < to → ⊥
-passes src at to why [] bad h lt = omega (arith, h, lt)
-passes src at to why (Gap e ∷ ps) bad h lt = no_gap (piece_unique src at (Gap e) (Bad why) h.0 bad)
-passes src at to why (Item t ∷ ps) bad h lt = no_item (piece_unique src at (Item t) (Bad why) h.0 bad)
-passes src at to why (Bad other ∷ ps) bad h lt = h
-
--- no tokens go on behind a place where none can be read
-bad_last : (src : List ℕ) (ts us : List Lexeme) (at to : ℕ) (why : Unread) → Cut src ts at → IsPiece src at (Bad why) → Cut src us to → at < to → ⊥
-bad_last src ts us at to why h bad k lt =
-    let r = goes_on src h.0 k.0 0 at to h.1 k.1 (omega (arith, lt)) in
-    passes src at to why r.0 bad r.2 lt
+use Rattle.orc_syntax.proofs.Progress.{Refuses}
 
 -- a front of what begins a program begins one
 begins_front : (ts rest us : List Lexeme) → us ≡ ts ++ rest → Begins us → Begins ts
@@ -49,64 +31,6 @@ begins_front ts rest us e h = (rest ++ h.0, h.1, subst (λ (vs : List Lexeme). S
 
 begins_whole : (ts : List Lexeme) (s : Source) → Spells ts s → Begins ts
 begins_whole ts s h = ([], s, subst (λ (us : List Lexeme). Spells us s) (sym (append-nil ts)) h)
-
-pieces_in : (src : List ℕ) (from : ℕ) (ps : List Piece) (to : ℕ) → from ≤ length src → Pieces src from ps to → to ≤ length src
-pieces_in src from [] to h k = omega (arith, h, k)
-pieces_in src from (Gap e ∷ ps) to h k = pieces_in src e ps to (piece_in src from (Gap e) k.0) k.1
-pieces_in src from (Item t ∷ ps) to h k = pieces_in src t.span.end ps to (piece_in src from (Item t) k.0) k.1
-pieces_in src from (Bad why ∷ ps) to h k = absurd k
-
-cut_in : (src : List ℕ) (ts : List Lexeme) (to : ℕ) → Cut src ts to → to ≤ length src
-cut_in src ts to h = pieces_in src 0 h.0 to (omega arith) h.1
-
-head_is : {t u : Lexeme} {ts us : List Lexeme} → t ∷ ts ≡ u ∷ us → t ≡ u
-head_is e = cc
-
-tail_is : {t u : Lexeme} {ts us : List Lexeme} → t ∷ ts ≡ u ∷ us → ts ≡ us
-tail_is e = cc
-
--- a token between two places begins between them
-pieces_between : (src : List ℕ) (from : ℕ) (ps : List Piece) (to : ℕ) (front : List Lexeme) (next : Lexeme) (rest : List Lexeme) → Pieces src from ps to → lexemes ps ≡ front ++ next ∷ rest → (from ≤ next.span.start) × (next.span.start < to)
-pieces_between src from [] to [] next rest h e = absurd cc
-pieces_between src from [] to (f ∷ front) next rest h e = absurd cc
-pieces_between src from (Gap end ∷ ps) to front next rest h e =
-    let r = pieces_between src end ps to front next rest h.1 e in
-    (omega (arith, r.0, piece_on src from (Gap end) h.0), r.1)
-pieces_between src from (Item t ∷ ps) to [] next rest h e =
-    let same : t ≡ next = head_is e in
-    let starts : t.span.start ≡ next.span.start = ap (λ (u : Lexeme). u.span.start) same in
-    (omega (arith, starts, token_at src from t h.0), omega (arith, starts, token_at src from t h.0, piece_on src from (Item t) h.0, pieces_on src t.span.end ps to h.1))
-pieces_between src from (Item t ∷ ps) to (f ∷ front) next rest h e =
-    let r = pieces_between src t.span.end ps to front next rest h.1 (tail_is e) in
-    (omega (arith, r.0, piece_on src from (Item t) h.0), r.1)
-pieces_between src from (Bad why ∷ ps) to front next rest h e = absurd h
-
-before_cut : (src : List ℕ) (ts : List Lexeme) (to : ℕ) (front : List Lexeme) (next : Lexeme) → Cut src (front ++ next ∷ []) to → next.span.start < to
-before_cut src ts to front next h = let r = pieces_between src 0 h.0 to front next [] h.1 h.2 in r.1
-
-nothing_left : (ts vs : List Lexeme) → [] ≡ ts ++ vs → vs ≡ []
-nothing_left [] vs e = sym e
-nothing_left (t ∷ ts) vs e = absurd cc
-
--- the last token is behind a front, or the front is all
-last_of : (front : List Lexeme) (next : Lexeme) (ts vs : List Lexeme) → front ++ next ∷ [] ≡ ts ++ vs → (vs ≡ []) ⊎ ((us : List Lexeme) × (vs ≡ us ++ next ∷ []))
-last_of front next [] vs e = inr (front, sym e)
-last_of [] next (t ∷ ts) vs e = inl (nothing_left ts vs (tail_is e))
-last_of (f ∷ front) next (t ∷ ts) vs e = last_of front next ts vs (tail_is e)
-
--- the tokens up to a place that begins no later than a token are all before it
-before_token : (src : List ℕ) (ts : List Lexeme) (at : ℕ) (front : List Lexeme) (next : Lexeme) (end : ℕ) → Cut src ts at → Cut src (front ++ next ∷ []) end → next.span.start < at → (vs : List Lexeme) × (ts ≡ (front ++ next ∷ []) ++ vs)
-before_token src ts at front next end h k lt =
-    elim (leb_tells end at) [
-      | inl met ↦ cut_goes_on src (front ++ next ∷ []) ts end at k h met.1
-      | inr unmet ↦
-          let r = goes_on src h.0 k.0 0 at end h.1 k.1 (omega (arith, unmet.1)) in
-          let e : front ++ next ∷ [] ≡ ts ++ lexemes r.0 = sym k.2 ∙ ap lexemes r.1 ∙ lexemes_append h.0 r.0 ∙ ap (λ (us : List Lexeme). us ++ lexemes r.0) h.2 in
-          elim (last_of front next ts (lexemes r.0) e) [
-            | inl none ↦ ([], sym (e ∙ ap (λ (us : List Lexeme). ts ++ us) none ∙ append-nil ts) ∙ sym (append-nil _))
-            | inr some ↦ let b = pieces_between src at r.0 end some.0 next [] r.2 some.1 in absurd (omega (arith, lt, b.0))
-          ]
-    ]
 
 -- a fault of the tokens
 abbrev pub IsToken : SyntaxFault → Type 0
@@ -116,18 +40,18 @@ IsToken (faults.Encoding at) = ⊥
 IsToken f = Unit {0}
 
 -- A fault is no later than where the text still begins a program.
-no_earlier : (src : List ℕ) (at : ℕ) → BeginsText src at → (g : SyntaxFault) → IsFault src g → IsToken g → IsNotDeep g → place g < at → ⊥
-no_earlier src at b faults.Memory h k n lt = h
-no_earlier src at b faults.Long h k n lt = k
-no_earlier src at b (faults.Encoding p) h k n lt = k
-no_earlier src at b (faults.Character p) h k n lt = bad_last src h.0.0 b.0 p at unread.Character h.0.1 h.1 b.1 lt
-no_earlier src at b (faults.Number s) h k n lt = bad_last src h.0.0 b.0 s.start at (unread.Number s.end) h.0.1 h.1 b.1 lt
-no_earlier src at b (faults.Comment p) h k n lt = bad_last src h.0.0 b.0 p at unread.Comment h.0.1 h.1 b.1 lt
-no_earlier src at b (faults.Deep p) h k n lt = n
-no_earlier src at b (faults.Expected p what) (inl h) k n lt =
+no_earlier : (src : List ℕ) (at : ℕ) → BeginsText src at → IsShallowBefore src at → (g : SyntaxFault) → IsFault src g → IsToken g → place g < at → ⊥
+no_earlier src at b sh faults.Memory h k lt = h
+no_earlier src at b sh faults.Long h k lt = k
+no_earlier src at b sh (faults.Encoding p) h k lt = k
+no_earlier src at b sh (faults.Character p) h k lt = bad_last src h.0.0 b.0 p at unread.Character h.0.1 h.1 b.1 lt
+no_earlier src at b sh (faults.Number s) h k lt = bad_last src h.0.0 b.0 s.start at (unread.Number s.end) h.0.1 h.1 b.1 lt
+no_earlier src at b sh (faults.Comment p) h k lt = bad_last src h.0.0 b.0 p at unread.Comment h.0.1 h.1 b.1 lt
+no_earlier src at b sh (faults.Deep p) h k lt = sh p h lt
+no_earlier src at b sh (faults.Expected p what) (inl h) k lt =
     let r = before_token src b.0 at h.front h.next h.end b.1 h.cut (omega (arith, h.is, lt)) in
     h.stuck (begins_front (h.front ++ h.next ∷ []) r.0 b.0 r.1 b.2)
-no_earlier src at b (faults.Expected p what) (inr h) k n lt = omega (arith, cut_in src b.0 at b.1, h.is, lt)
+no_earlier src at b sh (faults.Expected p what) (inr h) k lt = omega (arith, cut_in src b.0 at b.1, h.is, lt)
 
 -- a token stands here
 record HasToken (src : List ℕ) (at : ℕ) : Type 0 where
@@ -222,56 +146,63 @@ token_ends : (src : List ℕ) (at p : ℕ) (what : What) → HasToken src at →
 token_ends src at p what h e k = omega (arith, k.is, e, token_inside src at h)
 
 -- at one place no fault has a lower number
-no_lower : (src : List ℕ) (f : SyntaxFault) → IsFault src f → (g : SyntaxFault) → IsFault src g → IsToken g → IsNotDeep g → place g ≡ place f → number f ≤ number g
-no_lower src f h faults.Memory k t n e = absurd k
-no_lower src f h faults.Long k t n e = absurd t
-no_lower src f h (faults.Encoding p) k t n e = absurd t
-no_lower src f h (faults.Deep p) k t n e = absurd n
-no_lower src faults.Memory h (faults.Character p) k t n e = omega arith
-no_lower src faults.Memory h (faults.Number s) k t n e = omega arith
-no_lower src faults.Memory h (faults.Expected p what) k t n e = omega arith
-no_lower src faults.Memory h (faults.Comment p) k t n e = omega arith
-no_lower src faults.Long h (faults.Character p) k t n e = omega arith
-no_lower src faults.Long h (faults.Number s) k t n e = omega arith
-no_lower src faults.Long h (faults.Expected p what) k t n e = omega arith
-no_lower src faults.Long h (faults.Comment p) k t n e = omega arith
-no_lower src (faults.Encoding at) h (faults.Character p) k t n e = omega arith
-no_lower src (faults.Encoding at) h (faults.Number s) k t n e = omega arith
-no_lower src (faults.Encoding at) h (faults.Expected p what) k t n e = omega arith
-no_lower src (faults.Encoding at) h (faults.Comment p) k t n e = omega arith
-no_lower src (faults.Character at) h (faults.Character p) k t n e = omega arith
-no_lower src (faults.Character at) h (faults.Number s) k t n e = omega arith
-no_lower src (faults.Character at) h (faults.Expected p what) k t n e = omega arith
-no_lower src (faults.Character at) h (faults.Comment p) k t n e = omega arith
-no_lower src (faults.Number r) h (faults.Character p) k t n e = absurd (number_character (bad_is (unread_one src r.start (unread.Number r.end) unread.Character h (moved src p r.start unread.Character e k))))
-no_lower src (faults.Number r) h (faults.Number s) k t n e = omega arith
-no_lower src (faults.Number r) h (faults.Expected p what) k t n e = omega arith
-no_lower src (faults.Number r) h (faults.Comment p) k t n e = omega arith
-no_lower src (faults.Expected at w) (inl h) (faults.Character p) k t n e = absurd (stop_unread src at p w unread.Character h e k)
-no_lower src (faults.Expected at w) (inl h) (faults.Number s) k t n e = absurd (stop_unread src at s.start w (unread.Number s.end) h e k)
-no_lower src (faults.Expected at w) (inr h) (faults.Character p) k t n e = absurd (end_unread src at p w unread.Character h e k)
-no_lower src (faults.Expected at w) (inr h) (faults.Number s) k t n e = absurd (end_unread src at s.start w (unread.Number s.end) h e k)
-no_lower src (faults.Expected at w) h (faults.Expected p what) k t n e = omega arith
-no_lower src (faults.Expected at w) h (faults.Comment p) k t n e = omega arith
-no_lower src (faults.Deep at) h (faults.Character p) k t n e = absurd (token_unread src at p unread.Character (deep_token src at h) e k)
-no_lower src (faults.Deep at) h (faults.Number s) k t n e = absurd (token_unread src at s.start (unread.Number s.end) (deep_token src at h) e k)
-no_lower src (faults.Deep at) h (faults.Expected p what) (inl k) t n e = absurd (token_stops src at p what (deep_token src at h) e k)
-no_lower src (faults.Deep at) h (faults.Expected p what) (inr k) t n e = absurd (token_ends src at p what (deep_token src at h) e k)
-no_lower src (faults.Deep at) h (faults.Comment p) k t n e = omega arith
-no_lower src (faults.Comment at) h (faults.Character p) k t n e = absurd (comment_character (bad_is (unread_one src at unread.Comment unread.Character h (moved src p at unread.Character e k))))
-no_lower src (faults.Comment at) h (faults.Number s) k t n e = absurd (comment_number (bad_is (unread_one src at unread.Comment (unread.Number s.end) h (moved src s.start at (unread.Number s.end) e k))))
-no_lower src (faults.Comment at) h (faults.Expected p what) (inl k) t n e = absurd (stop_unread src p at what unread.Comment k (sym e) h)
-no_lower src (faults.Comment at) h (faults.Expected p what) (inr k) t n e = absurd (end_unread src p at what unread.Comment k (sym e) h)
-no_lower src (faults.Comment at) h (faults.Comment p) k t n e = omega arith
+no_lower : (src : List ℕ) (f : SyntaxFault) → IsFault src f → (g : SyntaxFault) → IsFault src g → IsToken g → place g ≡ place f → number f ≤ number g
+no_lower src f h faults.Memory k t e = absurd k
+no_lower src f h faults.Long k t e = absurd t
+no_lower src f h (faults.Encoding p) k t e = absurd t
+no_lower src faults.Memory h (faults.Deep p) k t e = omega arith
+no_lower src faults.Long h (faults.Deep p) k t e = omega arith
+no_lower src (faults.Encoding at) h (faults.Deep p) k t e = omega arith
+no_lower src (faults.Character at) h (faults.Deep p) k t e = omega arith
+no_lower src (faults.Number r) h (faults.Deep p) k t e = omega arith
+no_lower src (faults.Expected at w) h (faults.Deep p) k t e = omega arith
+no_lower src (faults.Deep at) h (faults.Deep p) k t e = omega arith
+no_lower src (faults.Comment at) h (faults.Deep p) k t e = absurd (token_unread src p at unread.Comment (deep_token src p k) (sym e) h)
+no_lower src faults.Memory h (faults.Character p) k t e = omega arith
+no_lower src faults.Memory h (faults.Number s) k t e = omega arith
+no_lower src faults.Memory h (faults.Expected p what) k t e = omega arith
+no_lower src faults.Memory h (faults.Comment p) k t e = omega arith
+no_lower src faults.Long h (faults.Character p) k t e = omega arith
+no_lower src faults.Long h (faults.Number s) k t e = omega arith
+no_lower src faults.Long h (faults.Expected p what) k t e = omega arith
+no_lower src faults.Long h (faults.Comment p) k t e = omega arith
+no_lower src (faults.Encoding at) h (faults.Character p) k t e = omega arith
+no_lower src (faults.Encoding at) h (faults.Number s) k t e = omega arith
+no_lower src (faults.Encoding at) h (faults.Expected p what) k t e = omega arith
+no_lower src (faults.Encoding at) h (faults.Comment p) k t e = omega arith
+no_lower src (faults.Character at) h (faults.Character p) k t e = omega arith
+no_lower src (faults.Character at) h (faults.Number s) k t e = omega arith
+no_lower src (faults.Character at) h (faults.Expected p what) k t e = omega arith
+no_lower src (faults.Character at) h (faults.Comment p) k t e = omega arith
+no_lower src (faults.Number r) h (faults.Character p) k t e = absurd (number_character (bad_is (unread_one src r.start (unread.Number r.end) unread.Character h (moved src p r.start unread.Character e k))))
+no_lower src (faults.Number r) h (faults.Number s) k t e = omega arith
+no_lower src (faults.Number r) h (faults.Expected p what) k t e = omega arith
+no_lower src (faults.Number r) h (faults.Comment p) k t e = omega arith
+no_lower src (faults.Expected at w) (inl h) (faults.Character p) k t e = absurd (stop_unread src at p w unread.Character h e k)
+no_lower src (faults.Expected at w) (inl h) (faults.Number s) k t e = absurd (stop_unread src at s.start w (unread.Number s.end) h e k)
+no_lower src (faults.Expected at w) (inr h) (faults.Character p) k t e = absurd (end_unread src at p w unread.Character h e k)
+no_lower src (faults.Expected at w) (inr h) (faults.Number s) k t e = absurd (end_unread src at s.start w (unread.Number s.end) h e k)
+no_lower src (faults.Expected at w) h (faults.Expected p what) k t e = omega arith
+no_lower src (faults.Expected at w) h (faults.Comment p) k t e = omega arith
+no_lower src (faults.Deep at) h (faults.Character p) k t e = absurd (token_unread src at p unread.Character (deep_token src at h) e k)
+no_lower src (faults.Deep at) h (faults.Number s) k t e = absurd (token_unread src at s.start (unread.Number s.end) (deep_token src at h) e k)
+no_lower src (faults.Deep at) h (faults.Expected p what) (inl k) t e = absurd (token_stops src at p what (deep_token src at h) e k)
+no_lower src (faults.Deep at) h (faults.Expected p what) (inr k) t e = absurd (token_ends src at p what (deep_token src at h) e k)
+no_lower src (faults.Deep at) h (faults.Comment p) k t e = omega arith
+no_lower src (faults.Comment at) h (faults.Character p) k t e = absurd (comment_character (bad_is (unread_one src at unread.Comment unread.Character h (moved src p at unread.Character e k))))
+no_lower src (faults.Comment at) h (faults.Number s) k t e = absurd (comment_number (bad_is (unread_one src at unread.Comment (unread.Number s.end) h (moved src s.start at (unread.Number s.end) e k))))
+no_lower src (faults.Comment at) h (faults.Expected p what) (inl k) t e = absurd (stop_unread src p at what unread.Comment k (sym e) h)
+no_lower src (faults.Comment at) h (faults.Expected p what) (inr k) t e = absurd (end_unread src p at what unread.Comment k (sym e) h)
+no_lower src (faults.Comment at) h (faults.Comment p) k t e = omega arith
 
 -- no fault of the tokens stands before the one at which reading stopped
-no_later : (src : List ℕ) (f : SyntaxFault) → Refuses src f → (g : SyntaxFault) → IsFault src g → IsToken g → IsNotDeep g → IsNoLater f g
-no_later src f h g k t n =
+no_later : (src : List ℕ) (f : SyntaxFault) → Refuses src f → (g : SyntaxFault) → IsFault src g → IsToken g → IsNoLater f g
+no_later src f h g k t =
     elim (leb_tells (suc (place f)) (place g)) [
       | inl met ↦ inl (omega (arith, met.1))
       | inr unmet ↦ elim (leb_tells (place f) (place g)) [
-        | inl met ↦ let same : place f ≡ place g = omega (arith, met.1, unmet.1) in inr (same, no_lower src f h.0 g k t n (sym same))
-        | inr less ↦ absurd (no_earlier src (place f) h.1 g k t n (omega (arith, less.1)))
+        | inl met ↦ let same : place f ≡ place g = omega (arith, met.1, unmet.1) in inr (same, no_lower src f h.0 g k t (sym same))
+        | inr less ↦ absurd (no_earlier src (place f) h.1 h.2 g k t (omega (arith, less.1)))
       ]
     ]
 
@@ -301,46 +232,46 @@ stop_refuses src at what s h k =
 end_refuses : (src : List ℕ) (at : ℕ) (what : What) (s : Source) → StopsAtEnd src at what → SpellsTokens src s → ⊥
 end_refuses src at what s h k = h.stuck s (subst (λ (us : List Lexeme). Spells us s) (cut_unique src k.0 h.front (length src) k.1 h.cut) k.2)
 
-token_refuses : (src : List ℕ) (f : SyntaxFault) (s : Source) → IsFault src f → IsToken f → IsNotDeep f → SpellsTokens src s → ⊥
+token_refuses : (src : List ℕ) (f : SyntaxFault) (s : Source) → IsFault src f → IsToken f → IsShallow src → SpellsTokens src s → ⊥
 token_refuses src faults.Memory s h t n k = h
 token_refuses src faults.Long s h t n k = t
 token_refuses src (faults.Encoding at) s h t n k = t
 token_refuses src (faults.Character at) s h t n k = unread_refuses src at unread.Character s h k
 token_refuses src (faults.Number r) s h t n k = unread_refuses src r.start (unread.Number r.end) s h k
 token_refuses src (faults.Comment at) s h t n k = unread_refuses src at unread.Comment s h k
-token_refuses src (faults.Deep at) s h t n k = n
+token_refuses src (faults.Deep at) s h t n k = n at h
 token_refuses src (faults.Expected at what) s (inl h) t n k = stop_refuses src at what s h k
 token_refuses src (faults.Expected at what) s (inr h) t n k = end_refuses src at what s h k
 
 -- what is least among all
 abbrev pub IsLeast : List ℕ → SyntaxFault → Type 0
-IsLeast src f = (g : SyntaxFault) → IsFault src g → IsNotDeep g → IsNoLater f g
+IsLeast src f = (g : SyntaxFault) → IsFault src g → IsNoLater f g
 
 -- where the bytes are UTF-8
 pub utf8_least : (src : List ℕ) (f : SyntaxFault) → length src ≤ longest_source → IsUtf8 src → Refuses src f → IsLeast src f
-utf8_least src f le u h faults.Memory k n = absurd k
-utf8_least src f le u h faults.Long k n = absurd (omega (arith, le, k))
-utf8_least src f le u h (faults.Encoding p) k n = absurd (k.1 u)
-utf8_least src f le u h (faults.Character p) k n = no_later src f h (faults.Character p) k tt tt
-utf8_least src f le u h (faults.Number p) k n = no_later src f h (faults.Number p) k tt tt
-utf8_least src f le u h (faults.Expected p what) k n = no_later src f h (faults.Expected p what) k tt tt
-utf8_least src f le u h (faults.Deep p) k n = absurd n
-utf8_least src f le u h (faults.Comment p) k n = no_later src f h (faults.Comment p) k tt tt
+utf8_least src f le u h faults.Memory k = absurd k
+utf8_least src f le u h faults.Long k = absurd (omega (arith, le, k))
+utf8_least src f le u h (faults.Encoding p) k = absurd (k.1 u)
+utf8_least src f le u h (faults.Character p) k = no_later src f h (faults.Character p) k tt
+utf8_least src f le u h (faults.Number p) k = no_later src f h (faults.Number p) k tt
+utf8_least src f le u h (faults.Expected p what) k = no_later src f h (faults.Expected p what) k tt
+utf8_least src f le u h (faults.Deep p) k = no_later src f h (faults.Deep p) k tt
+utf8_least src f le u h (faults.Comment p) k = no_later src f h (faults.Comment p) k tt
 
 -- where they stop being UTF-8 behind the fault
 before_least : (src : List ℕ) (f : SyntaxFault) (at : ℕ) → length src ≤ longest_source → IsValidUpTo src at → place f < at → Refuses src f → IsLeast src f
-before_least src f at le v lt h faults.Memory k n = absurd k
-before_least src f at le v lt h faults.Long k n = absurd (omega (arith, le, k))
-before_least src f at le v lt h (faults.Encoding p) k n = inl (omega (arith, lt, valid_unique src p at k.0 v))
-before_least src f at le v lt h (faults.Character p) k n = no_later src f h (faults.Character p) k tt tt
-before_least src f at le v lt h (faults.Number p) k n = no_later src f h (faults.Number p) k tt tt
-before_least src f at le v lt h (faults.Expected p what) k n = no_later src f h (faults.Expected p what) k tt tt
-before_least src f at le v lt h (faults.Deep p) k n = absurd n
-before_least src f at le v lt h (faults.Comment p) k n = no_later src f h (faults.Comment p) k tt tt
+before_least src f at le v lt h faults.Memory k = absurd k
+before_least src f at le v lt h faults.Long k = absurd (omega (arith, le, k))
+before_least src f at le v lt h (faults.Encoding p) k = inl (omega (arith, lt, valid_unique src p at k.0 v))
+before_least src f at le v lt h (faults.Character p) k = no_later src f h (faults.Character p) k tt
+before_least src f at le v lt h (faults.Number p) k = no_later src f h (faults.Number p) k tt
+before_least src f at le v lt h (faults.Expected p what) k = no_later src f h (faults.Expected p what) k tt
+before_least src f at le v lt h (faults.Deep p) k = no_later src f h (faults.Deep p) k tt
+before_least src f at le v lt h (faults.Comment p) k = no_later src f h (faults.Comment p) k tt
 
 -- no fault of the tokens stands before a place
 abbrev NoneBefore : List ℕ → ℕ → Type 0
-NoneBefore src at = (g : SyntaxFault) → IsFault src g → IsToken g → IsNotDeep g → at ≤ place g
+NoneBefore src at = (g : SyntaxFault) → IsFault src g → IsToken g → at ≤ place g
 
 one_number : (at : ℕ) (g : SyntaxFault) → at ≤ place g → 1 ≤ number g → IsNoLater (faults.Encoding at) g
 one_number at g le one =
@@ -348,14 +279,14 @@ one_number at g le one =
 
 -- where they stop being UTF-8 first
 encoding_least : (src : List ℕ) (at : ℕ) → length src ≤ longest_source → IsValidUpTo src at → NoneBefore src at → IsLeast src (faults.Encoding at)
-encoding_least src at le v none faults.Memory k n = absurd k
-encoding_least src at le v none faults.Long k n = absurd (omega (arith, le, k))
-encoding_least src at le v none (faults.Encoding p) k n = inr (valid_unique src at p v k.0, omega arith)
-encoding_least src at le v none (faults.Character p) k n = one_number at (faults.Character p) (none (faults.Character p) k tt tt) (omega arith)
-encoding_least src at le v none (faults.Number p) k n = one_number at (faults.Number p) (none (faults.Number p) k tt tt) (omega arith)
-encoding_least src at le v none (faults.Expected p what) k n = one_number at (faults.Expected p what) (none (faults.Expected p what) k tt tt) (omega arith)
-encoding_least src at le v none (faults.Deep p) k n = absurd n
-encoding_least src at le v none (faults.Comment p) k n = one_number at (faults.Comment p) (none (faults.Comment p) k tt tt) (omega arith)
+encoding_least src at le v none faults.Memory k = absurd k
+encoding_least src at le v none faults.Long k = absurd (omega (arith, le, k))
+encoding_least src at le v none (faults.Encoding p) k = inr (valid_unique src at p v k.0, omega arith)
+encoding_least src at le v none (faults.Character p) k = one_number at (faults.Character p) (none (faults.Character p) k tt) (omega arith)
+encoding_least src at le v none (faults.Number p) k = one_number at (faults.Number p) (none (faults.Number p) k tt) (omega arith)
+encoding_least src at le v none (faults.Expected p what) k = one_number at (faults.Expected p what) (none (faults.Expected p what) k tt) (omega arith)
+encoding_least src at le v none (faults.Deep p) k = one_number at (faults.Deep p) (none (faults.Deep p) k tt) (omega arith)
+encoding_least src at le v none (faults.Comment p) k = one_number at (faults.Comment p) (none (faults.Comment p) k tt) (omega arith)
 
 -- what is answered of bytes that stop being UTF-8
 abbrev pub IsFirstFault : List ℕ → SyntaxFault → Type 0
@@ -372,10 +303,10 @@ both src (faults.Deep p) h k = (h, k)
 both src (faults.Comment p) h k = (h, k)
 
 later_none : (src : List ℕ) (f : SyntaxFault) (at : ℕ) → Refuses src f → at ≤ place f → NoneBefore src at
-later_none src f at h le g k t n = elim (no_later src f h g k t n) [ inl lt ↦ omega (arith, le, lt) | inr same ↦ omega (arith, le, same.0) ]
+later_none src f at h le g k t = elim (no_later src f h g k t) [ inl lt ↦ omega (arith, le, lt) | inr same ↦ omega (arith, le, same.0) ]
 
 zero_none : (src : List ℕ) (at : ℕ) → at ≤ 0 → NoneBefore src at
-zero_none src at le g k t n = omega (arith, le)
+zero_none src at le g k t = omega (arith, le)
 
 err_first : (src : List ℕ) (f : SyntaxFault) (at : ℕ) → length src ≤ longest_source → IsValidUpTo src at → (IsUtf8 src → ⊥) → Refuses src f → IfFault (Err (if nat_lt (place f) at then f else faults.Encoding at)) (IsFirstFault src)
 err_first src f at le v not h =
@@ -392,8 +323,8 @@ memory_first src at le v not =
     ]
 
 -- of what was read and a place where the bytes stop being UTF-8 the first is answered
-pub first_is : (src : List ℕ) (r : Result Ast SyntaxFault) (at : ℕ) → length src ≤ longest_source → IsValidUpTo src at → (IsUtf8 src → ⊥) → IfOk r (λ ast. (s : Source) × IsAst ast s × SpellsTokens src s) → IfFault r (Refuses src) → IfFault (Err (first_of r at)) (IsFirstFault src)
-first_is src (Ok ast) at le v not found h = ((v, not), encoding_least src at le v (λ g k t n. absurd (token_refuses src g found.0 k t n found.2)))
+pub first_is : (src : List ℕ) (r : Result Ast SyntaxFault) (at : ℕ) → length src ≤ longest_source → IsValidUpTo src at → (IsUtf8 src → ⊥) → IfOk r (λ ast. ((s : Source) × IsAst ast s × SpellsTokens src s) × IsShallow src) → IfFault r (Refuses src) → IfFault (Err (first_of r at)) (IsFirstFault src)
+first_is src (Ok ast) at le v not found h = ((v, not), encoding_least src at le v (λ g k t. absurd (token_refuses src g found.0.0 k t found.1 found.0.2)))
 first_is src (Err faults.Memory) at le v not found h = memory_first src at le v not
 first_is src (Err faults.Long) at le v not found h = err_first src faults.Long at le v not h
 first_is src (Err (faults.Encoding p)) at le v not found h = err_first src (faults.Encoding p) at le v not h
@@ -416,7 +347,7 @@ read_is src (Err (faults.Comment p)) le u h = (h.0, utf8_least src (faults.Comme
 
 -- a text that is too long
 pub long_least : (src : List ℕ) → longest_source < length src → IsFirstFault src faults.Long
-long_least src h = (h, λ g k n. elim (leb_tells (suc 0) (place g)) [ inl met ↦ inl (omega (arith, met.1)) | inr unmet ↦ inr (omega (arith, unmet.1), omega arith) ])
+long_least src h = (h, λ g k. elim (leb_tells (suc 0) (place g)) [ inl met ↦ inl (omega (arith, met.1)) | inr unmet ↦ inr (omega (arith, unmet.1), omega arith) ])
 
 pub its_fault : (src : List ℕ) (r : Result Ast SyntaxFault) → IfFault r (IsFirstFault src) → IfFault r (IsFault src)
 its_fault src (Ok ast) h = tt
@@ -461,11 +392,11 @@ fault_refuses : (src : List ℕ) (f : SyntaxFault) (s : Source) → SpellsText s
 fault_refuses src faults.Memory s k sh h = tt
 fault_refuses src faults.Long s k sh h = omega (arith, h, k.0)
 fault_refuses src (faults.Encoding at) s k sh h = h.1 k.1
-fault_refuses src (faults.Character at) s k sh h = token_refuses src (faults.Character at) s h tt tt k.2
-fault_refuses src (faults.Number r) s k sh h = token_refuses src (faults.Number r) s h tt tt k.2
-fault_refuses src (faults.Comment at) s k sh h = token_refuses src (faults.Comment at) s h tt tt k.2
+fault_refuses src (faults.Character at) s k sh h = token_refuses src (faults.Character at) s h tt sh k.2
+fault_refuses src (faults.Number r) s k sh h = token_refuses src (faults.Number r) s h tt sh k.2
+fault_refuses src (faults.Comment at) s k sh h = token_refuses src (faults.Comment at) s h tt sh k.2
 fault_refuses src (faults.Deep at) s k sh h = sh at h
-fault_refuses src (faults.Expected at what) s k sh h = token_refuses src (faults.Expected at what) s h tt tt k.2
+fault_refuses src (faults.Expected at what) s k sh h = token_refuses src (faults.Expected at what) s h tt sh k.2
 
 -- What the text spells is answered.
 pub only : (src : List ℕ) (r : Result Ast SyntaxFault) → IfOk r (λ ast. (s : Source) × IsAst ast s × SpellsText src s) → IfFault r (IsFault src) → (s : Source) → SpellsText src s → IsShallow src → Answers r s
@@ -473,9 +404,13 @@ only src (Ok ast) found h s k sh = subst (λ (t : Source). IsAst ast t) (one_sou
 only src (Err f) found h s k sh = fault_refuses src f s k sh h
 
 -- what was read is what the text spells
-pub text_found : (src : List ℕ) (r : Result Ast SyntaxFault) → length src ≤ longest_source → IsUtf8 src → IfOk r (λ ast. (s : Source) × IsAst ast s × SpellsTokens src s) → IfOk r (λ ast. (s : Source) × IsAst ast s × SpellsText src s)
-text_found src (Ok ast) le u h = (h.0, h.1, (le, u, h.2))
+pub text_found : (src : List ℕ) (r : Result Ast SyntaxFault) → length src ≤ longest_source → IsUtf8 src → IfOk r (λ ast. ((s : Source) × IsAst ast s × SpellsTokens src s) × IsShallow src) → IfOk r (λ ast. (s : Source) × IsAst ast s × SpellsText src s)
+text_found src (Ok ast) le u h = (h.0.0, h.0.1, (le, u, h.0.2))
 text_found src (Err f) le u h = tt
 
-pub refused_first : (src : List ℕ) (r : Result Ast SyntaxFault) (at : ℕ) (f : SyntaxFault) → f ≡ first_of r at → length src ≤ longest_source → IsValidUpTo src at → IfOk r (λ ast. (s : Source) × IsAst ast s × SpellsTokens src s) → IfFault r (Refuses src) → IfFault (Err f) (IsFirstFault src)
+pub refused_first : (src : List ℕ) (r : Result Ast SyntaxFault) (at : ℕ) (f : SyntaxFault) → f ≡ first_of r at → length src ≤ longest_source → IsValidUpTo src at → IfOk r (λ ast. ((s : Source) × IsAst ast s × SpellsTokens src s) × IsShallow src) → IfFault r (Refuses src) → IfFault (Err f) (IsFirstFault src)
 refused_first src r at f e le v found h = subst (λ (g : SyntaxFault). IfFault (Err g) (IsFirstFault src)) (sym e) (first_is src r at le v (λ u. never_invalid src at u v) found h)
+
+pub text_shallow : (src : List ℕ) (r : Result Ast SyntaxFault) → IfOk r (λ ast. ((s : Source) × IsAst ast s × SpellsTokens src s) × IsShallow src) → IfOk r (λ ast. IsShallow src)
+text_shallow src (Ok ast) h = h.1
+text_shallow src (Err f) h = tt

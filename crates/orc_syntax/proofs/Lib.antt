@@ -6,7 +6,9 @@ pub mod Programs
 pub mod Sound
 pub mod Steps
 pub mod Heads
+pub mod Cuts
 pub mod Laws
+pub mod Parts
 pub mod Wanted
 pub mod Progress
 pub mod Posts

@@ -35,7 +35,7 @@ def_words keyword f opening without closing equals ds ns rest = refl
 def_words keyword f opening (given first others) closing equals ds ns rest = items f (first ∷ []) others closing equals ds ns [] rest
 
 -- the head of a definition
-def_head : (h : Head) (ds : List Defined) (ns : List Item) (rest : List Lexeme) → run (head_tokens h ++ rest) (state Want (context_of ds []) ns []) ≡ run rest (state Want (context_of ds (labels_of h.parameters)) ns (Body h.name ∷ []))
+pub def_head : (h : Head) (ds : List Defined) (ns : List Item) (rest : List Lexeme) → run (head_tokens h ++ rest) (state Want (context_of ds []) ns []) ≡ run rest (state Want (context_of ds (labels_of h.parameters)) ns (Body h.name ∷ []))
 def_head h ds ns rest =
     ap (λ (ts : List Lexeme). run (token Def h.keyword ∷ word h.name ∷ token Open h.opening ∷ ts) (state Want (context_of ds []) ns [])) (append_assoc (parameter_tokens h.parameters) _ rest)
     ∙ def_words h.keyword h.name h.opening h.parameters h.closing h.equals ds ns rest

@@ -104,6 +104,9 @@ IsFault src (faults.Comment at) = IsUnread src at unread.Comment
 abbrev pub IsShallow : List ℕ → Type 0
 IsShallow src = (at : ℕ) → IsDeepAt src at → ⊥
 
+abbrev pub IsShallowBefore : List ℕ → ℕ → Type 0
+IsShallowBefore src at = (place : ℕ) → IsDeepAt src place → place < at → ⊥
+
 -- where a fault stands; a text that is too long is refused before anything else
 abbrev pub place : SyntaxFault → ℕ
 place faults.Memory = 0
@@ -152,7 +155,3 @@ Answers (Err f) s = ⊥
 abbrev pub first_of : Result Ast SyntaxFault → ℕ → SyntaxFault
 first_of (Ok ast) at = faults.Encoding at
 first_of (Err f) at = if nat_lt (place f) at then f else faults.Encoding at
-
-abbrev pub IsNotDeep : SyntaxFault → Type 0
-IsNotDeep (faults.Deep at) = ⊥
-IsNotDeep f = Unit {0}

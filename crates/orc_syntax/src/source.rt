@@ -6,7 +6,7 @@ ghost use Rattle.orc_syntax.specs.Tree.{Source};
 ghost use Rattle.orc_syntax.specs.Ast.{IsAst};
 ghost use Rattle.orc_syntax.specs.Machine as machine;
 ghost use Rattle.orc_syntax.specs.View.{mode, context, nodes, stack, count_of, fault_by, Takes};
-ghost use Rattle.orc_syntax.specs.Text.{SpellsText, SpellsTokens, BeginsText, IsFault, IfFault, IsShallow, Answers, fault_at, place, first_of, IsNoLater, IsNotDeep};
+ghost use Rattle.orc_syntax.specs.Text.{SpellsText, SpellsTokens, BeginsText, IsFault, IfFault, IsShallow, IsShallowBefore, Answers, fault_at, place, first_of, IsNoLater};
 ghost use Rattle.orc_syntax.specs.declared.fault.SyntaxFault.{SyntaxFault};
 
 use crate::depth::Depth;
@@ -75,9 +75,9 @@ fn take<'a>(
 
 // The program that the tokens of a text spell, whatever the bytes of its comments are.
 fn read_text<'a>(alloc: Global, src: &'a [u8]) -> Result<Ast<'a>, SyntaxFault>
-    ensures found { IfOk result (λ ast. (s : Source) × IsAst ast s × SpellsTokens src.now s) }
-    // All tokens before a fault begin a program.
-    ensures fault { IfFault result (λ f. IsFault src.now f × BeginsText src.now (place f)) }
+    ensures found { IfOk result (λ ast. ((s : Source) × IsAst ast s × SpellsTokens src.now s) × IsShallow src.now) }
+    // All tokens before a fault begin a program, and none is too deep.
+    ensures fault { IfFault result (λ f. IsFault src.now f × BeginsText src.now (place f) × IsShallowBefore src.now (place f)) }
 {
     let mut reader = Reader::new(alloc);
     let mut depth = Depth::new(alloc);
@@ -125,12 +125,14 @@ fn first_fault(read: Result<Ast<'_>, SyntaxFault>, at: usize) -> SyntaxFault
 pub fn parse<'a>(alloc: Global, src: &'a [u8]) -> Result<Ast<'a>, SyntaxFault>
     // What is answered is what the text spells.
     ensures found { IfOk result (λ ast. (s : Source) × IsAst ast s × SpellsText src.now s) }
+    // Nothing in the text is too deep then.
+    ensures shallow { IfOk result (λ ast. IsShallow src.now) }
     // What a text spells in which nothing is too deep is answered, unless memory runs out.
     ensures only { (s : Source) → SpellsText src.now s → IsShallow src.now → Answers result s }
     // A fault is one of the text,
     ensures fault { IfFault result (IsFault src.now) }
-    // and none but S5 stands before it.
-    ensures least { IfFault result (λ f. (g : SyntaxFault) → IsFault src.now g → IsNotDeep g → IsNoLater f g) }
+    // and none stands before it.
+    ensures least { IfFault result (λ f. (g : SyntaxFault) → IsFault src.now g → IsNoLater f g) }
 {
     if src.len() > LONGEST_SOURCE {
         return Err(SyntaxFault::Long);

@@ -1,7 +1,7 @@
 use Rattle.std.proofs.Common.{◌≤◌, length, Err, sym, subst, arith}
 use Rattle.std.specs.Str.{IsValidUpTo}
 use Rattle.orc_syntax.specs.Text.{longest_source}
-use Rattle.orc_syntax.proofs.Least.{only, read_is, its_fault, its_least, text_found, refused_first}
+use Rattle.orc_syntax.proofs.Least.{only, read_is, its_fault, its_least, text_found, text_shallow, refused_first}
 use Rattle.orc_syntax.proofs.source.parse.Goals as goal
 
 pub returns-in_default-clause-only : goal.returns-in_default-clause-only
@@ -28,3 +28,6 @@ returns-clause-least c =
     let invalid = subst (IsValidUpTo c.args.src.now) (sym c.valid_up_to.ensures) c.in-Err.ensures.cases.1 in
     its_least c.args.src.now (Err c.first_fault.result)
     (refused_first c.args.src.now c.read_text-read.result c.valid_up_to.result c.first_fault.result c.first_fault.ensures le invalid c.read_text-read.ensures.found c.read_text-read.ensures.fault)
+
+pub returns-in_default-clause-shallow : goal.returns-in_default-clause-shallow
+returns-in_default-clause-shallow c = text_shallow c.args.src.now c.read_text-read.result c.read_text-read.ensures.found
