@@ -2,6 +2,8 @@ pub mod Calls
 pub mod Codes
 pub mod Digits
 pub mod Entries
+pub mod Keeping
 pub mod Loops
 pub mod Names
+pub mod Stripping
 pub mod Whole

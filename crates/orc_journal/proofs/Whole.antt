@@ -9,7 +9,7 @@ use Rattle.orc_rules.specs.Text.{line, Fits}
 use Rattle.orc_journal.proofs.Entries.{AreCodes, entry_takes, entry_again}
 use Rattle.orc_journal.proofs.Names.{call_code}
 
-codes_of : (names : List (List ℕ)) → AreNames names → AreCodes names
+pub codes_of : (names : List (List ℕ)) → AreNames names → AreCodes names
 codes_of names are = record { call = call_code names are }
 
 pub is_found : (names : List (List ℕ)) (are : AreNames names) (bytes : List ℕ) (r : Option (Entry × Bor (List ℕ))) → Gives (λ x. (x.0, x.1.now)) r (entry_at names bytes) → IfSome r (λ x. (bytes ≡ line names x.0 ++ x.1.now) × Fits names x.0)

@@ -1,2 +1,4 @@
 pub mod Kinds
 pub mod Reading
+pub mod Rows
+pub mod Texts

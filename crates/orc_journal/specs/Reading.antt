@@ -6,6 +6,9 @@ use Rattle.orc_rules.specs.declared.value.Value.{Value}
 use Rattle.orc_rules.specs.declared.value.Value.TheVariants.{Number, Truth, Signal}
 use Rattle.orc_rules.specs.declared.entry.Entry.{Entry}
 use Rattle.orc_rules.specs.declared.entry.Entry.TheVariants.{End, Fork, Seq, Other, Def, Void, Open, Send, Call, Return, ReturnHalt, Bind, Lost, Right, Publish, Tick, Cancel}
+use Rattle.orc_journal.specs.declared.journal.Version.{Version}
+use Rattle.orc_journal.specs.declared.journal.Version.TheVariants as versions
+use Rattle.orc_journal.specs.Texts.{header}
 use Rattle.orc_journal.specs.declared.kind.Kind.{Kind}
 use Rattle.orc_journal.specs.declared.kind.Kind.TheVariants as kinds
 use Rattle.orc_rules.specs.Sites.{site_named}
@@ -148,3 +151,7 @@ entry_at names bytes = do
   e ← fields_at names k.0 k.1
   r ← after (codes "\n") e.1
   Some (e.0, r)
+
+-- the version of the first line, and what follows it
+abbrev pub header_at : List ℕ → Option (Version × List ℕ)
+header_at bytes = or_else (option_map (λ r. (versions.One, r)) (after (header versions.One) bytes)) (option_map (λ r. (versions.Two, r)) (after (header versions.Two) bytes))

@@ -1,9 +1,13 @@
-//! Journals as text: the line of an entry is written, and read back exactly.
+//! Journals as text and in memory: the line of an entry is written and read back exactly, and a text is read exactly where it is that of a journal.
 #![tactic(auto)]
 
+mod journal;
 mod kind;
 mod reading;
+mod text;
 mod writing;
 
+pub use journal::{Journal, Version};
 pub use reading::read_entry;
+pub use text::{JournalFault, read_journal, write_header};
 pub use writing::{write_entry, write_publication, write_value};

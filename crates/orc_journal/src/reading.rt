@@ -13,7 +13,7 @@ use orc_rules::entry::Entry;
 use orc_rules::value::{Args, Value};
 
 // The bytes after a text.
-fn after<'a>(text: &[u8], bytes: &'a [u8]) -> Option<&'a [u8]>
+pub(crate) fn after<'a>(text: &[u8], bytes: &'a [u8]) -> Option<&'a [u8]>
     ensures { Gives (λ r. r.now) result (after text.now bytes.now) }
 {
     match text {

@@ -1,0 +1,70 @@
+-- The text of a journal.
+use Rattle.std.specs.Prelude.{◌≡◌, ◌⊎◌, ℕ, suc, ◌+◌, ◌<◌, ◌≤◌, Bool, true, false, List, [], ◌∷◌, ◌++◌, length, codes, if◌then◌else◌}
+use Rattle.std.specs.List.{flat_map}
+use Rattle.orc_rules.specs.declared.entry.Entry.{Entry}
+use Rattle.orc_rules.specs.declared.entry.Entry.TheVariants.{Cancel}
+use Rattle.orc_rules.specs.Text.{line, Fits}
+use Rattle.orc_journal.specs.declared.journal.Version.{Version}
+use Rattle.orc_journal.specs.declared.journal.Version.TheVariants.{One, Two}
+use Rattle.orc_journal.specs.declared.text.JournalFault.{JournalFault}
+use Rattle.orc_journal.specs.declared.text.JournalFault.TheVariants.{Header, Line, Long, Memory}
+
+-- a journal's version and its entries
+pub record Written : Type 0 where
+  pub version : Version
+  pub entries : List Entry
+
+-- the first line
+abbrev pub header : Version → List ℕ
+header One = codes "orc-journal 1\n"
+header Two = codes "orc-journal 2\n"
+
+-- the lines of entries, one behind the other
+abbrev pub entry_lines : List (List ℕ) → List Entry → List ℕ
+entry_lines names es = flat_map (line names) es
+
+abbrev pub journal_text : List (List ℕ) → Written → List ℕ
+journal_text names j = header j.version ++ entry_lines names j.entries
+
+-- a cancel stands in version 2 alone
+abbrev pub is_of : Version → Entry → Bool
+is_of One (Cancel _) = false
+is_of _ _ = true
+
+-- entries that have a line in a journal of that version
+abbrev pub AreOf : List (List ℕ) → Version → List Entry → Type 0
+AreOf names v [] = Unit {0}
+AreOf names v (e ∷ es) = Fits names e × (is_of v e ≡ true) × AreOf names v es
+
+-- whether an entry counts for the limit: all but the cancels do
+abbrev pub counts : Entry → Bool
+counts (Cancel _) = false
+counts _ = true
+
+abbrev pub count : List Entry → ℕ
+count [] = 0
+count (e ∷ es) = if counts e then suc (count es) else count es
+
+-- the text of a journal of at most 1,073,741,824 bytes, of which at most 10,000,000 entries count
+pub record IsJournal (names : List (List ℕ)) (text : List ℕ) (j : Written) : Type 0 where
+  pub whole : text ≡ journal_text names j
+  pub each : AreOf names j.version j.entries
+  pub size : length text ≤ 1073741824
+  pub limit : count j.entries ≤ 10000000
+
+-- a text that begins with the lines of a journal
+pub record Begins (names : List (List ℕ)) (text : List ℕ) (v : Version) (es : List Entry) (rest : List ℕ) : Type 0 where
+  pub front : text ≡ header v ++ (entry_lines names es ++ rest)
+  pub each : AreOf names v es
+  pub size : length text ≤ 1073741824
+
+-- no line of an entry of that version stands first
+abbrev pub NoLine : List (List ℕ) → Version → List ℕ → Type 0
+NoLine names v rest = (e : Entry) (more : List ℕ) → Fits names e → is_of v e ≡ true → rest ≡ line names e ++ more → ⊥
+
+-- why a text isn't read
+abbrev pub IsFault : List (List ℕ) → List ℕ → JournalFault → Type 0
+IsFault names text Header = (length text ≤ 1073741824) × ((v : Version) (rest : List ℕ) → text ≡ header v ++ rest → ⊥)
+IsFault names text (Line n) = (v : Version) × (es : List Entry) × (rest : List ℕ) × Begins names text v es rest × (count es ≤ 10000000) × (n ≡ length es + 2) × (0 < length rest) × NoLine names v rest
+IsFault names text Long = (1073741824 < length text) ⊎ ((v : Version) × (es : List Entry) × (rest : List ℕ) × Begins names text v es rest × (10000000 < count es))
+IsFault names text Memory = Unit {0}

@@ -1,0 +1,115 @@
+//! The text of a journal.
+
+ghost use Rattle.std.specs.Prelude.{◌≡◌, ◌++◌, ◌+◌, ◌<◌, ◌^◌, if◌then◌else◌, List, ℕ, true, IfOk, IfErr, IfSome, Some, OnOk, MatchResult};
+ghost use Rattle.orc_rules.specs.declared.entry.Entry.{Entry as EntryOf};
+ghost use Rattle.orc_rules.specs.Digits.{Gives};
+ghost use Rattle.orc_rules.specs.Text.{line, Fits};
+ghost use Rattle.orc_journal.specs.declared.text.JournalFault.TheVariants.{Memory as MemoryFault};
+ghost use Rattle.orc_journal.specs.Reading.{header_at};
+ghost use Rattle.orc_journal.specs.Texts.{Written, header, is_of, counts, IsJournal, IsFault};
+
+use crate::journal::{Journal, Version};
+use crate::reading::{after, read_entry};
+use orc_rules::answers::Answers;
+use orc_rules::entry::Entry;
+use std::alloc::{AllocError, Global};
+
+/// Why a journal isn't read.
+#[derive(Clone, Copy, PartialEq, Eq, Debug)]
+pub enum JournalFault {
+    /// J1: the first line is no header.
+    Header,
+    /// J2: the first line that is none of an entry, counted from 1.
+    Line(usize),
+    /// J3: over 1,073,741,824 bytes, or over 10,000,000 entries besides the cancels.
+    Long,
+    /// J4: memory was refused.
+    Memory,
+}
+
+/// Writes the first line of a journal.
+pub fn write_header(out: &mut Vec<u8>, version: Version) -> Result<(), AllocError>
+    ensures { OnOk result (out.new.items ≡ out.old.items ++ header version) }
+{
+    match version {
+        Version::One => out.extend_from_slice(b"orc-journal 1\n"),
+        Version::Two => out.extend_from_slice(b"orc-journal 2\n"),
+    }
+}
+
+// The version of the first line, and what follows it.
+fn read_header(text: &[u8]) -> Option<(Version, &[u8])>
+    ensures { Gives (λ x. (x.0, x.1.now)) result (header_at text.now) }
+{
+    if let Some(rest) = after(b"orc-journal 1\n", text) {
+        return Some((Version::One, rest));
+    }
+    let rest = after(b"orc-journal 2\n", text)?;
+    Some((Version::Two, rest))
+}
+
+fn is_known(version: Version, entry: &Entry) -> bool
+    ensures { result ≡ is_of version entry.now }
+{
+    !matches!((version, entry), (Version::One, Entry::Cancel(_)))
+}
+
+// How many entries count for the limit, with one more.
+fn count_with(counted: usize, entry: &Entry) -> usize
+    requires { counted < 2 ^ 63 }
+    ensures { result ≡ (if counts entry.now then counted + 1 else counted) }
+{
+    if matches!(entry, Entry::Cancel(_)) {
+        counted
+    } else {
+        counted + 1
+    }
+}
+
+// The entry of that version whose line stands first, and the bytes behind the line.
+fn next_entry<'a>(version: Version, bytes: &'a [u8], answers: &Answers) -> Option<(Entry, &'a [u8])>
+    ensures found { IfSome result (λ x. (bytes.now ≡ line answers.now.names x.0 ++ x.1.now) × Fits answers.now.names x.0 × (is_of version x.0 ≡ true)) }
+    ensures only { (e : EntryOf) (rest : List ℕ) → Fits answers.now.names e → is_of version e ≡ true → bytes.now ≡ line answers.now.names e ++ rest → Gives {Y = EntryOf × List ℕ} (λ x. (x.0, x.1.now)) result (Some (e, rest)) }
+{
+    let (entry, rest) = read_entry(bytes, answers)?;
+    if is_known(version, &entry) {
+        Some((entry, rest))
+    } else {
+        None
+    }
+}
+
+/// Reads a journal, whose sites are those of the table.
+pub fn read_journal(alloc: Global, text: &[u8], answers: &Answers) -> Result<Journal, JournalFault>
+    // What is read is the text's journal.
+    ensures read { IfOk result (λ j. IsJournal answers.now.names text.now j) }
+    // The first thing that is wrong is named.
+    ensures fault { IfErr result (λ f. IsFault answers.now.names text.now f) }
+    // A journal's text is read as that journal, unless memory is refused.
+    ensures only { (j : Written) → IsJournal answers.now.names text.now j → MatchResult result (λ k. k ≡ j) (λ f. f ≡ MemoryFault) }
+{
+    if text.len() > 1 << 30 {
+        return Err(JournalFault::Long);
+    }
+    let Some((version, rest)) = read_header(text) else {
+        return Err(JournalFault::Header);
+    };
+    answers.are_apart();
+    let mut journal = Journal::new(alloc, version);
+    let mut counted: usize = 0;
+    let mut rest = rest;
+    while !rest.is_empty() {
+        let Some((entry, behind)) = next_entry(version, rest, answers) else {
+            return Err(JournalFault::Line(journal.len() + 2));
+        };
+        counted = count_with(counted, &entry);
+        if counted > 10_000_000 {
+            return Err(JournalFault::Long);
+        }
+        if journal.push(&entry).is_err() {
+            return Err(JournalFault::Memory);
+        }
+        rest = behind;
+    }
+    Ok(journal)
+}
