@@ -19,6 +19,7 @@ pub mod Numerals
 pub mod Passed
 pub mod Pending
 pub mod Refusal
+pub mod Runs
 pub mod Settled
 pub mod Sites
 pub mod Sources

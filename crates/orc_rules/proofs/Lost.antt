@@ -338,6 +338,24 @@ module _ (x : Context) (p : Place) where
   cancels_journal q [] e = λ i. record q { to_cancel = e i }
   cancels_journal q (k ∷ ks) e = (record q { to_cancel = ks }, (inl tt, (e, refl)), cancels_journal (record q { to_cancel = ks }) ks refl)
 
+  calls_alike : (m : Marked) (n : ℕ) (a : Act) → calls_after (moment (marked_as m n)) a ≡ calls_after (moment p) a
+  calls_alike m n (calls k name args cs) = refl
+  calls_alike m n (returns k v) = refl
+  calls_alike m n (binds c v) = refl
+  calls_alike m n (loses c) = refl
+  calls_alike m n (publishes v) = refl
+  calls_alike m n silent = refl
+  calls_alike m n (opens c) = refl
+
+  cells_alike : (m : Marked) (n : ℕ) (a : Act) → cells_after (moment (marked_as m n)) a ≡ cells_after (moment p) a
+  cells_alike m n (calls k name args cs) = refl
+  cells_alike m n (returns k v) = refl
+  cells_alike m n (binds c v) = refl
+  cells_alike m n (loses c) = refl
+  cells_alike m n (publishes v) = refl
+  cells_alike m n silent = refl
+  cells_alike m n (opens c) = refl
+
   made : {u : Term} {a : Act} (to_cancel : List ℕ) → p.to_cancel ≡ [] → CancelsAfter x a (erase p.marked) u to_cancel → Does p.mark p.marked a u → Makes x p a u to_cancel
   made {u = u} {a = a} to_cancel o will d =
       let q = after d.mid d.mark d.end d.last a to_cancel in
@@ -354,6 +372,9 @@ module _ (x : Context) (p : Place) where
         moved = turns_journal o d.turns;
         leads = (inr o, final_enters q d.final refl (record { to_cancel = will'; same = refl }));
         term = d.term;
+        now = refl;
+        calls = calls_alike d.mid d.mark a;
+        cells = cells_alike d.mid d.mark a;
         leaves = refl;
         cancelled = cancels_journal q to_cancel refl;
       }

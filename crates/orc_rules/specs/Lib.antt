@@ -12,6 +12,7 @@ pub mod Pending
 pub mod Program
 pub mod Programs
 pub mod Refusal
+pub mod Runs
 pub mod Sites
 pub mod Step
 pub mod Tables

@@ -6,7 +6,7 @@ use Rattle.orc_rules.specs.Term.{Term, stop, param, site, call, par, seq, prune,
 use Rattle.orc_rules.specs.Nodes.{Listing, code, definitions}
 use Rattle.orc_rules.specs.Step.{Act, calls, opens, Step}
 use Rattle.orc_rules.specs.Marked.{Marked, ended, token, in_call, in_par, in_seq, in_opened, in_other, erase}
-use Rattle.orc_rules.specs.Timed.{Context, IsTimely, IsTick, CancelsAfter, does, used}
+use Rattle.orc_rules.specs.Timed.{Context, IsTimely, IsTick, CancelsAfter, does, used, calls_after, cells_after}
 use Rattle.orc_rules.specs.Journal.{Place, moment, next, Journal, Leads, event_of, begin}
 
 -- a term as a source has them, values and cells put in or not: nothing pends and nothing is opened
@@ -62,6 +62,9 @@ pub record Makes (x : Context) (p : Place) (a : Act) (u : Term) (to_cancel : Lis
   pub moved : Journal x p moves mid
   pub leads : Leads x mid entry end
   pub term : erase end.marked ≡ u
+  pub now : end.now ≡ p.now
+  pub calls : end.calls ≡ calls_after (moment p) a
+  pub cells : end.cells ≡ cells_after (moment p) a
   pub leaves : end.to_cancel ≡ to_cancel
   pub cancelled : Journal x end (map Cancel to_cancel) (record end { to_cancel = [] })
 
