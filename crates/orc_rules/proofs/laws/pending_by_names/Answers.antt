@@ -1,5 +1,0 @@
-use Rattle.orc_rules.proofs.Pending.{pending_by_names}
-use Rattle.orc_rules.proofs.laws.pending_by_names.Goals as goal
-
-pub returns : goal.returns
-returns c = pending_by_names
