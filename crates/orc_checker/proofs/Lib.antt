@@ -9,6 +9,7 @@ pub mod Change
 pub mod Closing
 pub mod Dropping
 pub mod DueCalls
+pub mod Earliest
 pub mod Ended
 pub mod Ending
 pub mod Feeding
@@ -22,6 +23,7 @@ pub mod Labelling
 pub mod Lists
 pub mod Moves
 pub mod Opening
+pub mod Pends
 pub mod Publishing
 pub mod Reached
 pub mod Rising
@@ -30,4 +32,7 @@ pub mod Sending
 pub mod Settling
 pub mod Sorting
 pub mod Spelling
+pub mod Stills
+pub mod Ticking
 pub mod Trees
+pub mod Waking

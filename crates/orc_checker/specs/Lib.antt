@@ -9,5 +9,7 @@ pub mod Grafting
 pub mod Halting
 pub mod Labelling
 pub mod Names
+pub mod NextDue
 pub mod Rising
 pub mod Settling
+pub mod Stillness

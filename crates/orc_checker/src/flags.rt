@@ -18,7 +18,7 @@ pub(crate) fn flag_at(flags: &Vec<bool>, i: usize) -> bool
 }
 
 /// Writes a flag that is there.
-fn write_flag(flags: &mut Vec<bool>, i: usize, flag: bool)
+pub(crate) fn write_flag(flags: &mut Vec<bool>, i: usize, flag: bool)
     ensures items { flags.new.items ≡ slice_set flags.old.items i flag }
     ensures capacity { vec_capacity flags.new ≡ vec_capacity flags.old }
 {

@@ -14,11 +14,14 @@ pub mod marked;
 mod marks;
 mod names;
 mod pruning;
+mod pending;
 mod publish;
 pub mod rest;
 mod room;
 mod side;
 mod status;
+mod stillness;
+mod tick;
 pub mod walk;
 
 pub use looking::Next;

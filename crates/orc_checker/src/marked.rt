@@ -30,6 +30,7 @@ pub struct Marked {
     pub(crate) marks: Vec<usize>,
     pub(crate) halts: Halts,
     pub(crate) flags: Vec<bool>,
+    pub(crate) active: Vec<bool>,
     pub(crate) rest: Rest,
 }
 
@@ -78,6 +79,10 @@ impl Marked {
         let mut cells = Vec::with_capacity(alloc, 1)?;
         let mut flags = Vec::with_capacity(alloc, 2)?;
         let halts = Halts::new(alloc, program)?;
+        let mut active = Vec::with_capacity(alloc, program.len())?;
+        for _ in 0..program.len() {
+            active.push(false)?;
+        }
         let root = program.source();
         let halted = halts.at(root);
         push_within(
@@ -106,6 +111,7 @@ impl Marked {
             marks,
             halts,
             flags,
+            active,
             rest: Rest::new(alloc, cancels),
         })
     }
@@ -133,6 +139,7 @@ impl Marked {
             Entry::Bind(s, c, v) => self.bind(program, *s, *c, *v),
             Entry::Publish(s, v) => self.publish(program, *s, *v),
             Entry::Cancel(k) => self.cancel(program, *k),
+            Entry::Tick(t) => self.tick(program, *t),
             _ => Err(RuleFault::Memory),
         }
     }

@@ -1,0 +1,180 @@
+-- The time goes on to the next due time.
+use Rattle.std.proofs.Common.{◌≡◌, ◌<◌, ◌≤◌, ◌+◌, ℕ, zero, suc, List, [], ◌∷◌, ◌++◌, map, length, get_or, Option, Some, None, refl, sym, ap, ◌∙◌, subst, inl, inr, ◌⊎◌, ⊎_elim, arith, Bool, true, false, length-append}
+use Rattle.std.specs.Prelude.{slice_get}
+use Rattle.orc_rules.specs.declared.value.Answer.{Answer}
+use Rattle.orc_rules.specs.declared.value.Found.{Found}
+use Rattle.orc_rules.specs.declared.entry.Entry.TheVariants as entry
+use Rattle.orc_rules.specs.Term.{Term, pending_of}
+use Rattle.orc_rules.specs.Marked.{erase}
+use Rattle.orc_rules.specs.Idle.{can_move}
+use Rattle.orc_rules.specs.Sites.{Site}
+use Rattle.orc_rules.specs.Timed.{Context, CallMade, IsIn, IsDue, says_of}
+use Rattle.orc_rules.specs.Journal.{Place, moment}
+use Rattle.orc_rules.specs.Lost.{IsSource}
+use Rattle.orc_rules.specs.Pending.{PendsDue, IsNextDue}
+use Rattle.orc_rules.specs.Tests.{TickByTest}
+use Rattle.orc_checker.specs.declared.arena.Node.{Node}
+use Rattle.orc_checker.specs.declared.arena.Kind.TheVariants.{Leaf}
+use Rattle.orc_checker.specs.declared.arena.Tip.TheVariants.{Gone, Waits}
+use Rattle.orc_checker.specs.declared.rest.Called.{Called}
+use Rattle.orc_checker.specs.Arena.{at, leaf, spelled, env_of}
+use Rattle.orc_checker.specs.Calls.{Rest, Keeps, AreNumbered, told, told_of}
+use Rattle.orc_checker.specs.Checker.{State, Draws, Spells, Enters}
+use Rattle.orc_checker.specs.Names.{AreOrdered}
+use Rattle.orc_checker.specs.Halting.{AreHalts}
+use Rattle.orc_checker.specs.Settling.{kind_at}
+use Rattle.orc_checker.specs.Rising.{nowhere}
+use Rattle.orc_checker.specs.NextDue.{IsDueOf, IsDueAt, IsNext}
+use Rattle.orc_checker.specs.Stillness.{AreStill}
+use Rattle.orc_checker.proofs.Lists.{get-append, get-end, get-more}
+use Rattle.orc_checker.proofs.Change.{says_of as found_there}
+use Rattle.orc_checker.proofs.Pends.{waits_for, pends_around}
+use Rattle.orc_checker.proofs.Stills.{still_tree}
+
+length-told : (sites : List Site) (calls : List CallMade) → length (told_of sites calls) ≡ length calls
+length-told sites [] = refl
+length-told sites (c ∷ cs) = omega (arith, length-append (told_of sites cs) ((says_of sites c, c.at) ∷ []), length-told sites cs)
+
+-- a call that was made, by its number
+record Told (sites : List Site) (calls : List CallMade) (c : CallMade) : Type 0 where
+  index : ℕ
+  number : c.number ≡ suc index
+  there : slice_get (told_of sites calls) index ≡ Some (says_of sites c, c.at)
+
+told_there : (sites : List Site) (calls : List CallMade) (c : CallMade) → AreNumbered calls → IsIn c calls → Told sites calls c
+told_there sites [] c n h = elim h [ ]
+told_there sites (d ∷ cs) c n (inl e) =
+    record {
+      index = length cs;
+      number = ap CallMade.number e ∙ n.0;
+      there = get-end (told_of sites cs) ((says_of sites d, d.at) ∷ []) (length cs) (sym (length-told sites cs)) ∙ (λ j. Some (says_of sites (sym e j), CallMade.at (sym e j)));
+    }
+told_there sites (d ∷ cs) c n (inr h) =
+    let t = told_there sites cs c n.1 h in
+    record { index = t.index; number = t.number; there = get-append (told_of sites cs) ((says_of sites d, d.at) ∷ []) t.index _ t.there }
+
+record Made (sites : List Site) (calls : List CallMade) (i : ℕ) (t : Found × ℕ) : Type 0 where
+  by : CallMade
+  is_made : IsIn by calls
+  number : by.number ≡ suc i
+  tells : (says_of sites by, by.at) ≡ t
+
+made_there : (sites : List Site) (calls : List CallMade) (i : ℕ) (t : Found × ℕ) → AreNumbered calls → slice_get (told_of sites calls) i ≡ Some t → Made sites calls i t
+made_there sites [] i t n h = cc h
+made_there sites (c ∷ cs) i t n h =
+    ⊎_elim
+    (λ e. let m = made_there sites cs i t n.1 e in record { by = m.by; is_made = inr m.is_made; number = m.number; tells = m.tells })
+    (λ e. record { by = c; is_made = inl refl; number = n.0 ∙ ap suc (sym (e.0 ∙ length-told sites cs)); tells = e.1 })
+    (get-more (told_of sites cs) (says_of sites c, c.at) i t h)
+
+map_there : (calls : List Called) (i : ℕ) (c : Called) → slice_get calls i ≡ Some c → slice_get (map told calls) i ≡ Some (told c)
+map_there [] i c h = cc h
+map_there (d ∷ calls) zero c h = ap (told_some d) h
+  where
+    told_some : Called → Option Called → Option (Found × ℕ)
+    told_some d (Some z) = Some (told z)
+    told_some d None = None
+map_there (d ∷ calls) (suc i) c h = map_there calls i c h
+
+record Kept (calls : List Called) (i : ℕ) (t : Found × ℕ) : Type 0 where
+  by : Called
+  there : slice_get calls i ≡ Some by
+  tells : told by ≡ t
+
+same_some : {X : Type 0} (x y : X) → Some x ≡ Some y → x ≡ y
+same_some x y e = cc e
+
+kept_there : (calls : List Called) (i : ℕ) (t : Found × ℕ) → slice_get (map told calls) i ≡ Some t → Kept calls i t
+kept_there [] i t h = cc h
+kept_there (d ∷ calls) zero t h = record { by = d; there = refl; tells = same_some (told d) t h }
+kept_there (d ∷ calls) (suc i) t h = let k = kept_there calls i t h in record { by = k.by; there = k.there; tells = k.tells }
+
+kind_there : (nodes : List Node) (i k : ℕ) → kind_at nodes i ≡ Leaf (Waits k) → (q : ℕ) × at nodes q i (Leaf (Waits k))
+kind_there [] i k h = absurd (cc h)
+kind_there (x ∷ nodes) zero k h = (x.parent, λ j. Some (record { kind = h j; parent = x.parent }))
+kind_there (x ∷ nodes) (suc i) k h = kind_there nodes i k h
+
+at_kind : (nodes : List Node) (i k q : ℕ) → at nodes q i (Leaf (Waits k)) → kind_at nodes i ≡ Leaf (Waits k)
+at_kind [] i k q h = cc h
+at_kind (x ∷ nodes) zero k q h = ap Node.kind (same_some x (record { kind = Leaf (Waits k); parent = q }) h)
+at_kind (x ∷ nodes) (suc i) k q h = at_kind nodes i k q h
+
+module _ (x : Context) (code : ℕ → Term) (s : State) (p : Place) (sp : Spells x code s p) (source : (i : ℕ) → IsSource (code i)) where
+  -- a node that waits shows a call that pends and is due
+  pub due_pends : (i t : ℕ) → IsDueAt s.nodes s.rest.calls i t → PendsDue x (moment p) t
+  due_pends i t (k, is, d) =
+      let dr = sp.drawn in
+      let env = env_of s.cells s.scopes in
+      let w = kind_there s.nodes i k is in
+      let f = found_there s.nodes (length s.scopes) 0 i w.0 (Waits k) dr.tree dr.holds dr.once w.1 refl in
+      let pends : IsIn k (pending_of (erase p.marked)) =
+      subst (λ z. IsIn k (pending_of (erase z))) (ap (spelled code env) f.is ∙ sym dr.marked) (pends_around code env source k f.context (leaf i (Waits k)) (inl refl)) in
+      let r = sp.rest in
+      let m = made_there x.sites p.calls d.index (told d.by) r.numbered (ap (λ z. slice_get z d.index) (sym r.calls_are) ∙ map_there s.rest.calls d.index d.by d.there) in (
+        k,
+        d.answer,
+        pends,
+        record {
+          by = m.by;
+          is_made = m.is_made;
+          is_k = m.number ∙ sym d.is_k;
+          delay = d.delay;
+          says = ap (λ z. z.0) m.tells ∙ d.found;
+          sum = d.sum ∙ ap (λ z. z + d.delay) (sym (ap (λ z. z.1) m.tells));
+          fits = d.fits;
+        },
+      )
+
+  pub pends_due : (t : ℕ) → PendsDue x (moment p) t → (i : ℕ) × IsDueAt s.nodes s.rest.calls i t
+  pends_due t (k, a, pends, due) =
+      let dr = sp.drawn in
+      let env = env_of s.cells s.scopes in
+      let w = waits_for code env source s.nodes (length s.scopes) 0 k dr.tree dr.holds (subst (λ z. IsIn k (pending_of (erase z))) dr.marked pends) in
+      let r = sp.rest in
+      let o = told_there x.sites p.calls due.by r.numbered due.is_made in
+      let c = kept_there s.rest.calls o.index (says_of x.sites due.by, CallMade.at due.by) (ap (λ z. slice_get z o.index) r.calls_are ∙ o.there) in (
+        w.0,
+        (
+          k,
+          at_kind s.nodes w.0 k w.1 w.2,
+          record {
+            index = o.index;
+            is_k = sym due.is_k ∙ o.number;
+            by = c.by;
+            there = c.there;
+            answer = a;
+            delay = due.delay;
+            found = ap (λ z. z.0) c.tells ∙ due.says;
+            sum = due.sum ∙ ap (λ z. z + due.delay) (sym (ap (λ z. z.1) c.tells));
+            fits = due.fits;
+          },
+        ),
+      )
+
+  pub next_is : (o : Option ℕ) → IsNext s.nodes s.rest.calls o → IsNextDue x (moment p) o
+  next_is None h = λ t d. let w = pends_due t d in h w.0 t w.1
+  next_is (Some t) h = (due_pends h.0.0 t h.0.1, λ u d. let w = pends_due u d in h.1 w.0 u w.1)
+
+  pub cannot_move : AreStill code s.cells s.scopes s.flags s.nodes → can_move x.definitions (erase p.marked) ≡ false
+  cannot_move still =
+      let dr = sp.drawn in
+      ap (λ z. can_move x.definitions (erase z)) dr.marked ∙ still_tree code s.cells s.scopes s.halts s.flags s.nodes dr.flags.are_halts still x.definitions (length s.scopes) 0 dr.tree dr.holds dr.flags.each
+
+pub tick-enters : (code : ℕ → Term) (s s' : State) (t : ℕ) → ((i : ℕ) → IsSource (code i)) → TickByTest → s.rest.to_cancel ≡ []
+    → (AreHalts code s.halts → AreOrdered s.scopes → AreStill code s.cells s.scopes s.flags s.nodes) → IsNext s.nodes s.rest.calls (Some t) → s.rest.time < t
+    → s' ≡ record s { rest = record (State.rest s) { time = t } } → Enters code (entry.Tick t) s s'
+tick-enters code s s' t source law free still next later is x p sp =
+    let tick = (law x (moment p) (Some t) (next_is x code s p sp source (Some t) next) t).1
+    (cannot_move x code s p sp source (still sp.drawn.flags.are_halts sp.scopes), refl, omega (arith, later, sp.rest.time)) in
+    let r = sp.rest in (
+      record p { now = t },
+      (inr (r.due ∙ free), (tick, refl)),
+      subst (λ z. Spells x code z (record p { now = t })) (sym is)
+          (record {
+            drawn = record { tree = sp.drawn.tree; holds = sp.drawn.holds; root = sp.drawn.root; once = sp.drawn.once; top = sp.drawn.top; marked = sp.drawn.marked; flags = sp.drawn.flags };
+            mark = sp.mark;
+            scopes = sp.scopes;
+            cells = sp.cells;
+            rest = record { time = refl; calls_are = r.calls_are; keys_are = r.keys_are; numbered = r.numbered; due = r.due; cancels_are = r.cancels_are };
+          }),
+    )

@@ -1,0 +1,46 @@
+// Ticks: the time goes on.
+
+ghost use Rattle.std.specs.Prelude.{◌≡◌, IfOk, OnErr};
+ghost use Rattle.orc_rules.specs.Nodes.{code};
+ghost use Rattle.orc_rules.specs.declared.entry.Entry.TheVariants as entry;
+ghost use Rattle.orc_checker.specs.Checker.{Enters};
+
+use crate::marked::Marked;
+use crate::stillness::are_still;
+use orc_rules::entry::RuleFault;
+use orc_rules::laws::{program_is_source, tick_by_test};
+use orc_rules::program::Program;
+
+impl Marked {
+    /// `tick T`.
+    pub(crate) fn tick(&mut self, program: &Program, t: u64) -> Result<(), RuleFault>
+        ensures done { IfOk result (λ _. Enters (code program.now) (entry.Tick t) self.old self.new) }
+        ensures refused { OnErr result (self.new ≡ self.old) }
+    {
+        if self.rest.is_due() {
+            return Err(RuleFault::Cancel);
+        }
+        let Some(due) = self.rest.next_due(&self.nodes) else {
+            return Err(RuleFault::Time);
+        };
+        if due != t || due <= self.rest.now() {
+            return Err(RuleFault::Time);
+        }
+        let still = are_still(
+            program,
+            &self.halts,
+            &self.scopes,
+            &self.cells,
+            &mut self.active,
+            &self.flags,
+            &self.nodes,
+        );
+        if !still {
+            return Err(RuleFault::Time);
+        }
+        program_is_source();
+        tick_by_test();
+        self.rest.set_time(t);
+        Ok(())
+    }
+}
