@@ -66,8 +66,8 @@ module _ (code : ℕ → Term) (halts : List Bool) (cells : List Bound) (scopes 
   wakes_site m ps same is waits = (
     keeps_all active active' same,
     λ are ordered h defs.
-    let w = waits ordered in
-    ap (can_move defs) (ap (close env) is ∙ close-site env m (map param_of ps)) ∙ (λ j. is_some (w.1 refl j) || w.0 j),
+        let w = waits ordered in
+        ap (can_move defs) (ap (close env) is ∙ close-site env m (map param_of ps)) ∙ (λ j. is_some (w.1 refl j) || w.0 j),
   )
 
   pub wakes_seq : (f x g : ℕ) → f < i → active' ≡ slice_set active f true → code i ≡ seq (code f) x (code g) → Wakes code halts cells scopes e active active' i
@@ -80,8 +80,8 @@ module _ (code : ℕ → Term) (halts : List Bool) (cells : List Bound) (scopes 
   wakes_other f g lt same is off = (
     keeps_set active active' f same,
     λ are ordered h defs.
-    ap (can_move defs) (ap (close env) is ∙ close-other env (code f) (code g)) ∙
-    (λ j. h f lt (is_set active active' f same) defs j || (close_halted env (code f) ∙ sym (are f) ∙ off) j),
+        ap (can_move defs) (ap (close env) is ∙ close-other env (code f) (code g)) ∙
+        (λ j. h f lt (is_set active active' f same) defs j || (close_halted env (code f) ∙ sym (are f) ∙ off) j),
   )
 
   pub wakes_par : (f g : ℕ) (mid : List Bool) → f < i → g < i → mid ≡ slice_set active f true → active' ≡ slice_set mid g true → code i ≡ par (code f) (code g) → Wakes code halts cells scopes e active active' i
@@ -89,8 +89,8 @@ module _ (code : ℕ → Term) (halts : List Bool) (cells : List Bound) (scopes 
       let keep = keeps_set mid active' g second in (
         λ k on. keep k (keeps_set active mid f first k on),
         λ are ordered h defs.
-        ap (can_move defs) (ap (close env) is ∙ close-par env (code f) (code g)) ∙
-        (λ j. h f lt (keep f (is_set active mid f first)) defs j || h g lt' (is_set mid active' g second) defs j),
+            ap (can_move defs) (ap (close env) is ∙ close-par env (code f) (code g)) ∙
+            (λ j. h f lt (keep f (is_set active mid f first)) defs j || h g lt' (is_set mid active' g second) defs j),
       )
 
 -- the nodes of a term are looked at from the last to the first

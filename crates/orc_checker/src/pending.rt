@@ -51,13 +51,7 @@ fn earlier(first: Option<u64>, second: Option<u64>) -> Option<u64>
     ensures { result ≡ earlier first second }
 {
     match (first, second) {
-        (Some(t), Some(u)) => {
-            if u < t {
-                Some(u)
-            } else {
-                Some(t)
-            }
-        }
+        (Some(t), Some(u)) => { if u < t { Some(u) } else { Some(t) } }
         (None, _) => second,
         (_, None) => first,
     }
