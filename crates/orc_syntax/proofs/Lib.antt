@@ -13,3 +13,4 @@ pub mod Wanted
 pub mod Progress
 pub mod Posts
 pub mod Least
+pub mod Nested

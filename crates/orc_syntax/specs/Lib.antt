@@ -7,3 +7,4 @@ pub mod Backward
 pub mod Machine
 pub mod View
 pub mod Text
+pub mod Nested

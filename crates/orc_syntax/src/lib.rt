@@ -2,7 +2,8 @@
 //!
 //! `parse` answers the program that a text spells, with its places; a text that spells none is refused with its first
 //! fault. The grammar stands in specs/Grammar.antt as the ways in which programs are written, and specs/Text.antt says what
-//! a text spells and what is wrong with one that spells nothing. No text spells two programs.
+//! a text spells and what is wrong with one that spells nothing. No text spells two programs
+//! (`one_source`), and the parts of one stand inside their wholes (`parts_inside`).
 #![tactic(auto)]
 
 mod depth;
@@ -15,5 +16,5 @@ pub mod tree;
 pub use fault::SyntaxFault;
 pub use orc_lex::token::{Plain, Span, What};
 pub use printing::print;
-pub use source::{one_source, parse};
+pub use source::{one_source, parse, parts_inside};
 pub use tree::{Ast, Definition, Expr, Name, Node, Operator, Part};

@@ -5,6 +5,7 @@ ghost use Rattle.orc_lex.specs.Tokens.{sort};
 ghost use Rattle.orc_syntax.specs.Tree.{Source};
 ghost use Rattle.orc_syntax.specs.Ast.{IsAst};
 ghost use Rattle.orc_syntax.specs.Machine as machine;
+ghost use Rattle.orc_syntax.specs.Nested.{IsAllNested};
 ghost use Rattle.orc_syntax.specs.View.{mode, context, nodes, stack, count_of, fault_by, Takes};
 ghost use Rattle.orc_syntax.specs.Text.{SpellsText, SpellsTokens, BeginsText, IsFault, IfFault, IsShallow, IsShallowBefore, Answers, fault_at, place, first_of, IsNoLater};
 ghost use Rattle.orc_syntax.specs.declared.fault.SyntaxFault.{SyntaxFault};
@@ -147,4 +148,9 @@ pub fn parse<'a>(alloc: Global, src: &'a [u8]) -> Result<Ast<'a>, SyntaxFault>
 /// No text spells two programs.
 pub fn one_source()
     ensures { (src : List ℕ) (s t : Source) → SpellsText src s → SpellsText src t → s ≡ t }
+{}
+
+/// The parts of what a text spells stand inside their wholes.
+pub fn parts_inside()
+    ensures { (src : List ℕ) (s : Source) → SpellsText src s → IsAllNested s }
 {}
