@@ -8,7 +8,7 @@ ghost use Rattle.orc_checker.specs.Checker.{Enters};
 use crate::marked::Marked;
 use crate::stillness::are_still;
 use orc_rules::entry::RuleFault;
-use orc_rules::laws::{program_is_source, tick_by_test};
+use orc_rules::laws::{program_is_source, tests_are_right};
 use orc_rules::program::Program;
 
 impl Marked {
@@ -39,7 +39,7 @@ impl Marked {
             return Err(RuleFault::Time);
         }
         program_is_source();
-        tick_by_test();
+        tests_are_right();
         self.rest.set_time(t);
         Ok(())
     }

@@ -22,7 +22,7 @@ returns-clause-done c =
     let terms = code c.args.program.now in
     let e : c.in-Some.due ≡ c.args.t = omega arith in
     let next : IsNext c.self.inside.nodes.items c.self.inside.rest.calls (Some c.in-Some.due) = subst (IsNext c.self.inside.nodes.items c.self.inside.rest.calls) c.in-Some.is c.next_due.ensures in
-    tick-enters terms s _ c.args.t (c.program_is_source.ensures c.args.program.now).0 c.tick_by_test.ensures
+    tick-enters terms s _ c.args.t (c.program_is_source.ensures c.args.program.now).0 c.tests_are_right.ensures.tick
     (subst (λ (z : State). z.rest.to_cancel ≡ []) v (c.is_due.ensures c.if-is_due.false))
     (subst (λ (z : State). AreHalts terms z.halts → AreOrdered z.scopes → AreStill terms z.cells z.scopes z.flags z.nodes) v (c.are_still-still.ensures c.if-not-still.false))
     (subst (λ (z : State). IsNext z.nodes z.rest.calls (Some c.args.t)) v (subst (λ z. IsNext c.self.inside.nodes.items c.self.inside.rest.calls (Some z)) e next))
