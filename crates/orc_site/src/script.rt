@@ -1,9 +1,9 @@
 //! Reading a script.
 
 ghost use Rattle.std.specs.Prelude.{◌≡◌, ◌<◌, ◌≤◌, ◌+◌, ◌^◌, ◌∷◌, length, option_map, IfOk, IfErr, IfSome};
-ghost use Rattle.orc_site.specs.declared.script.ScriptFault.TheVariants.{Long};
+ghost use Rattle.orc_rules.specs.Sites.{built_in_table, built_ins};
 ghost use Rattle.orc_site.specs.Script.{lines};
-ghost use Rattle.orc_site.specs.Reading.{LineDone, lines_behind};
+ghost use Rattle.orc_site.specs.Reading.{LineDone, AllDone, IsFault, lines_behind};
 
 use crate::line::line_at;
 use crate::token::cut_line;
@@ -57,7 +57,10 @@ fn add_line(alloc: Global, line: &[u8], answers: &mut Answers) -> Result<bool, A
 
 /// The table of the built-in sites and those of a script.
 pub fn read_script(alloc: Global, text: &[u8]) -> Result<Answers, ScriptFault>
-    ensures { IfErr result (λ f. f ≡ Long → 1048576 < length text.now) }
+    // The lines are those of a script, and have left this table of the one of built-in sites.
+    ensures read { IfOk result (λ a. (length text.now ≤ 1048576) × AllDone (lines text.now) (built_in_table built_ins) a) }
+    // The first line that is none of a script is named, and nothing else of a text within the limit.
+    ensures fault { IfErr result (IsFault text.now) }
 {
     if text.len() > 1 << 20 {
         return Err(ScriptFault::Long);
