@@ -94,7 +94,7 @@ fn fails_at_a_short_writer(rt: HostRuntime) -> Result<(), Fail> {
     for at_once in [1, 2, 10] {
         let mut files = MemoryFiles {
             alloc,
-            files: &[("a.orc", b"123")],
+            files: &[("a.orc", b"Add(100, 23)")],
         };
         let mut out = ShortWriter {
             taken: Vec::new(alloc),

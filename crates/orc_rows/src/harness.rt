@@ -85,7 +85,8 @@ pub fn orc(alloc: Global, words: &[&str], files: &[(&str, &[u8])]) -> Result<Don
 #[derive(Clone, Copy)]
 pub struct Row<'a> {
     pub source: &'a [u8],
-    /// Words of the command line behind `orc run FILE`.
+    pub script: &'a [u8],
+    /// Words of the command line behind `orc run FILE --script F`.
     pub words: &'a [&'a str],
     pub status: u8,
     pub outs: &'a [&'a str],
@@ -96,6 +97,7 @@ pub struct Row<'a> {
 pub fn runs<'a>(source: &'a [u8], status: u8, outs: &'a [&'a str]) -> Row<'a> {
     Row {
         source,
+        script: b"",
         words: &[],
         status,
         outs,
@@ -107,6 +109,7 @@ pub fn runs<'a>(source: &'a [u8], status: u8, outs: &'a [&'a str]) -> Row<'a> {
 pub fn refused<'a>(source: &'a [u8], err: &'a str) -> Row<'a> {
     Row {
         source,
+        script: b"",
         words: &[],
         status: 1,
         outs: &[""],
@@ -116,9 +119,10 @@ pub fn refused<'a>(source: &'a [u8], err: &'a str) -> Row<'a> {
 
 /// Runs a row's program: what it did, and whether it may.
 pub fn run_row(alloc: Global, row: &Row) -> Result<(Done, bool), Fail> {
-    let mut words = Vec::from_slice(alloc, &["orc", "run", "a.orc"])?;
+    let mut words = Vec::from_slice(alloc, &["orc", "run", "a.orc", "--script", "a.script"])?;
     words.extend_from_slice(row.words)?;
-    let done = orc(alloc, words.as_slice(), &[("a.orc", row.source)])?;
+    let files: [(&str, &[u8]); 2] = [("a.orc", row.source), ("a.script", row.script)];
+    let done = orc(alloc, words.as_slice(), files.as_slice())?;
     let mut listed = false;
     for out in row.outs {
         listed = listed || *out == done.out.as_str();

@@ -35,6 +35,83 @@ fn runs_plain_terms(rt: HostRuntime) -> Result<(), Fail> {
 }
 
 #[test]
+fn calls_built_in_sites(rt: HostRuntime) -> Result<(), Fail> {
+    let rows = [
+        runs(b"(1 | 2) >x> Add(x, 10)", 0, &["11\n12\n", "12\n11\n"]),
+        runs(b"Add(1, 2) >x> Sub(x, 5)", 0, &["-2\n"]),
+        runs(b"Eq(1, true)", 0, &["false\n"]),
+        runs(b"Eq(signal, signal)", 0, &["true\n"]),
+        runs(b"Lt(1, 2) >b> Ift(b) >> 7", 0, &["7\n"]),
+        runs(b"Ift(false) >> 7", 0, &[""]),
+        runs(b"Iff(false)", 0, &["signal\n"]),
+        runs(b"Rwait(0)", 0, &["signal\n"]),
+        runs(b"Rwait(-1)", 0, &[""]),
+        runs(b"Add(1)", 0, &[""]),
+        runs(b"Add(9223372036854775807, 1)", 0, &[""]),
+        runs(b"Sub(-9223372036854775808, 1)", 0, &[""]),
+    ];
+    assert_eq!(rt; wrong(rt.alloc(), rows.as_slice())?.as_str(), "");
+    Ok(())
+}
+
+#[test]
+fn calls_sites_of_scripts(rt: HostRuntime) -> Result<(), Fail> {
+    let rows = [
+        Row {
+            script: b"A() = 1\nA() = 2",
+            ..runs(b"A()", 0, &["1\n"])
+        },
+        Row {
+            script: b"-- patterns\nPair(1, _) = 5\nPair(_, _) = halt\n",
+            ..runs(b"Pair(1, 9) | Pair(2, 9)", 0, &["5\n"])
+        },
+        Row {
+            script: b"Next() = 1 then 2\n",
+            ..runs(
+                b"Next() >x> Next() >y> Next() >z> (Eq(x, 1) >a> Eq(y, 2) >b> Eq(z, 2) >c> a)",
+                0,
+                &["true\n"],
+            )
+        },
+        Row {
+            script: b"Add(1, 2) = 4",
+            ..refused(b"1", "orc: L1 at line 1\n")
+        },
+        Row {
+            script: b"-- none\nOk(1) = 2 after -1",
+            ..refused(b"1", "orc: L1 at line 2\n")
+        },
+    ];
+    assert_eq!(rt; wrong(rt.alloc(), rows.as_slice())?.as_str(), "");
+    Ok(())
+}
+
+#[test]
+fn ends_at_its_limit(rt: HostRuntime) -> Result<(), Fail> {
+    let source: &[u8] = b"(1 | 2) >x> Add(x, 10)";
+    let rows = [
+        Row {
+            words: &["--limit", "10"],
+            ..runs(source, 0, &["11\n12\n", "12\n11\n"])
+        },
+        Row {
+            words: &["--limit", "9"],
+            ..runs(source, 4, &["11\n", "12\n"])
+        },
+        Row {
+            words: &["--limit", "1"],
+            ..runs(source, 4, &[""])
+        },
+        Row {
+            words: &["--limit", "1"],
+            ..runs(b"1", 0, &["1\n"])
+        },
+    ];
+    assert_eq!(rt; wrong(rt.alloc(), rows.as_slice())?.as_str(), "");
+    Ok(())
+}
+
+#[test]
 fn refuses_sources(rt: HostRuntime) -> Result<(), Fail> {
     let rows = [
         refused(b"", "orc: S4 at 0: Expression\n"),

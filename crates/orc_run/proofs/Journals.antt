@@ -41,7 +41,7 @@ published-append (entry.Cancel _ ∷ es) fs = published-append es fs
 pub goes_on : (l : Listing) (t : Table) (old new : Story) (e : Entry) → Applies l t e old.marked new.marked
     → new.published ≡ old.published ++ published (e ∷ []) → new.entries ≡ old.entries + 1 → IsReached l t old → IsReached l t new
 goes_on l t old new e applies values entries reached =
-    let (place, leads, spells) = applies true reached.place reached.spells in
+    let (place, leads, spells) = applies true reached.place (reached.journal, reached.leads) reached.spells in
     record {
       journal = reached.journal ++ e ∷ [];
       place = place;

@@ -7,6 +7,8 @@ use Rattle.orc_syntax.specs.declared.fault.SyntaxFault.TheVariants as syntax_fau
 use Rattle.orc_scope.specs.declared.fault.ScopeFault.{ScopeFault}
 use Rattle.orc_scope.specs.declared.fault.FaultKind.{FaultKind}
 use Rattle.orc_scope.specs.declared.fault.FaultKind.TheVariants as kind
+use Rattle.orc_site.specs.declared.script.ScriptFault.{ScriptFault}
+use Rattle.orc_site.specs.declared.script.ScriptFault.TheVariants as script
 use Rattle.orc_run.specs.declared.faults.RunFault.{RunFault}
 use Rattle.orc_run.specs.declared.faults.RunFault.TheVariants as fault
 
@@ -53,10 +55,16 @@ scope_text k start = at_place (kind_code k) start
 abbrev pub scope_line : ScopeFault → List ℕ
 scope_line f = scope_text f.kind f.span.start
 
+abbrev pub script_line : ScriptFault → List ℕ
+script_line (script.Line number) = codes "L1 at line " ++ decimal number
+script_line script.Memory = codes "L2"
+script_line script.Long = codes "L3"
+
 -- the line on standard error, without its LF
 abbrev pub line : RunFault → List ℕ
 line (fault.Syntax f) = codes "orc: " ++ syntax_line f
 line (fault.Scope f) = codes "orc: " ++ scope_line f
+line (fault.Script f) = codes "orc: " ++ script_line f
 line fault.Memory = codes "orc: E2"
 line fault.Broken = codes "orc: E4"
 line fault.Later = codes "orc: later"
@@ -71,9 +79,14 @@ abbrev pub scope_status : FaultKind → ℕ
 scope_status kind.Memory = 5
 scope_status k = 1
 
+abbrev pub script_status : ScriptFault → ℕ
+script_status script.Memory = 5
+script_status f = 1
+
 abbrev pub status : RunFault → ℕ
 status (fault.Syntax f) = syntax_status f
 status (fault.Scope f) = scope_status f.kind
+status (fault.Script f) = script_status f
 status fault.Memory = 5
 status fault.Broken = 7
 status fault.Later = 1

@@ -1,19 +1,30 @@
 -- What the run of a source does.
-use Rattle.std.specs.Prelude.{◌≡◌, ℕ, List, length}
+use Rattle.std.specs.Prelude.{◌≡◌, ℕ, List, length, Ok, Err}
 use Rattle.std.specs.declared.option.Option.{Option}
 use Rattle.std.specs.Io.KnownBytes.{Keeps, Appends}
-use Rattle.orc_rules.specs.Sites.{Table}
+use Rattle.orc_rules.specs.Sites.{Table, built_ins, built_in_table}
 use Rattle.orc_rules.specs.Nodes.{Listing}
 use Rattle.orc_rules.specs.Text.{output}
+use Rattle.orc_syntax.specs.Tree.{Source}
+use Rattle.orc_syntax.specs.Text.{SpellsText, IsFault, IfFault}
+use Rattle.orc_scope.specs.Checking.{Checks}
 use Rattle.orc_run.specs.Output.{AppendsPrefix}
 use Rattle.orc_run.specs.Runs.{Outcome, IsRun}
 use Rattle.orc_run.specs.declared.ending.Summary.{Summary}
 use Rattle.orc_run.specs.declared.faults.RunFault.{RunFault}
 use Rattle.orc_run.specs.declared.faults.RunFault.TheVariants as fault
 
--- a program that the checked source may be
-abbrev pub Runs : Table → ℕ → Outcome → Type 0
-Runs t limit o = (l : Listing) × IsRun l t limit o
+-- the sites of a script; those of the empty one are the built-in ones
+abbrev pub AreSites : List ℕ → Table → Type 0
+AreSites script t = length script ≡ 0 → t ≡ built_in_table built_ins
+
+-- the program of a source with these sites: the source spells a tree without a fault, and the numbered nodes are those of its written-out terms
+abbrev pub IsProgramOf : List ℕ → Table → Listing → Type 0
+IsProgramOf source t l = (s : Source) × SpellsText source s × Checks t.names s (Ok l)
+
+-- the source's program runs so with the script's sites
+abbrev pub Runs : List ℕ → List ℕ → ℕ → Outcome → Type 0
+Runs source script limit o = (l : Listing) × (t : Table) × AreSites script t × IsProgramOf source t l × IsRun l t limit o
 
 -- the summary tells of the outcome
 pub record Tells (s : Summary) (o : Outcome) : Type 0 where
@@ -23,15 +34,23 @@ pub record Tells (s : Summary) (o : Outcome) : Type 0 where
   pub published : s.published ≡ length o.published
 
 -- what was written is the text of all that the run published, in order
-abbrev pub Ran : Table → ℕ → Option (List ℕ) → Option (List ℕ) → Summary → Type 0
-Ran t limit old new s = (o : Outcome) × Runs t limit o × Tells s o × Appends old new (output o.published)
+abbrev pub Ran : List ℕ → List ℕ → ℕ → Option (List ℕ) → Option (List ℕ) → Summary → Type 0
+Ran source script limit old new s = (o : Outcome) × Runs source script limit o × Tells s o × Appends old new (output o.published)
 
 -- at a fault nothing was written, or at a write fault a prefix of the text of a run
-abbrev pub LeavesAtFault : Table → ℕ → Option (List ℕ) → Option (List ℕ) → RunFault → Type 0
-LeavesAtFault t limit old new (fault.Write w) = (o : Outcome) × Runs t limit o × AppendsPrefix old new (output o.published)
-LeavesAtFault t limit old new _ = Keeps old new
+abbrev pub LeavesAtFault : List ℕ → List ℕ → ℕ → Option (List ℕ) → Option (List ℕ) → RunFault → Type 0
+LeavesAtFault source script limit old new (fault.Write w) = (o : Outcome) × Runs source script limit o × AppendsPrefix old new (output o.published)
+LeavesAtFault source script limit old new _ = Keeps old new
 
--- every fault but one of the output
-abbrev pub IsBeforeWriting : RunFault → Type 0
-IsBeforeWriting (fault.Write w) = ⊥
-IsBeforeWriting _ = Unit {0}
+-- a fault of the source is one that it has: of its text, unless memory ran out, or of its names
+abbrev pub IsFaultOf : List ℕ → List ℕ → RunFault → Type 0
+IsFaultOf source script (fault.Syntax f) = IfFault (Err f) (IsFault source)
+IsFaultOf source script (fault.Scope f) = (s : Source) × (t : Table) × SpellsText source s × AreSites script t × Checks t.names s (Err f)
+IsFaultOf source script _ = Unit {0}
+
+-- a fault that is neither of the source nor of the output
+abbrev pub IsOther : RunFault → Type 0
+IsOther (fault.Write w) = ⊥
+IsOther (fault.Syntax f) = ⊥
+IsOther (fault.Scope f) = ⊥
+IsOther _ = Unit {0}

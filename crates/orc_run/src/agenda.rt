@@ -29,16 +29,7 @@ pub enum Choice {
 
 // Whether the checker takes such an entry.
 fn is_taken(next: &Next) -> bool {
-    matches!(
-        next,
-        Next::End
-            | Next::Fork
-            | Next::Seq
-            | Next::Other
-            | Next::Open
-            | Next::Send(_)
-            | Next::Publish(_)
-    )
+    !matches!(next, Next::Def | Next::Void | Next::Bind(_, _))
 }
 
 impl Agenda {
@@ -88,7 +79,7 @@ impl Agenda {
             };
             let answer = marked.due(call);
             if answer.is_some() && marked.now() < at {
-                return Choice::Entry(Entry::Tick(at));
+                return Choice::Later;
             }
             self.due.pop();
             if let Some((answer, _)) = answer {

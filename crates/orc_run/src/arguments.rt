@@ -8,7 +8,11 @@ const VERSION: &str = "0.1.0 (proved with rattle-kit-13b logic dac8208d650f15bf)
 /// What a command line asks for.
 #[derive(Clone, Copy, Debug)]
 pub enum Job<'a> {
-    Run { file: &'a str, options: Options },
+    Run {
+        file: &'a str,
+        script: Option<&'a str>,
+        options: Options,
+    },
 }
 
 fn file_argument<'a>(alloc: Global) -> Arg<'a> {
@@ -16,6 +20,13 @@ fn file_argument<'a>(alloc: Global) -> Arg<'a> {
         .value_name("FILE")
         .required(true)
         .help("The program's source text")
+}
+
+fn script_argument<'a>(alloc: Global) -> Arg<'a> {
+    Arg::new(alloc, "script")
+        .long("script")
+        .value_name("F")
+        .help("The answers of the program's own sites [default: none]")
 }
 
 fn run_command<'a>(alloc: Global) -> Result<Command<'a>, AllocError> {
@@ -28,6 +39,7 @@ fn run_command<'a>(alloc: Global) -> Result<Command<'a>, AllocError> {
     Command::new(alloc, "run")
         .about("Run a program and write what it publishes")
         .arg(file_argument(alloc))?
+        .arg(script_argument(alloc))?
         .arg(limit)
 }
 
@@ -42,9 +54,11 @@ fn orc_command<'a>(alloc: Global) -> Result<Command<'a>, AllocError> {
 
 fn job_of<'a>(given: &ArgMatches<'a>) -> Option<Job<'a>> {
     let file = given.get_str("file")?;
+    let script = given.get_str("script");
     let limit = given.get_one::<u64>("limit")?;
     Some(Job::Run {
         file,
+        script,
         options: Options { limit },
     })
 }

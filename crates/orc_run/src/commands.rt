@@ -45,6 +45,7 @@ fn unread<V: Write>(path: &str, fault: ReadFault, err: &mut V) -> u8
 fn run_file<F: Files, W: Write, V: Write>(
     alloc: Global,
     file: &str,
+    script: Option<&str>,
     options: &Options,
     files: &mut F,
     out: &mut W,
@@ -56,7 +57,14 @@ fn run_file<F: Files, W: Write, V: Write>(
         Ok(source) => source,
         Err(fault) => return unread(file, fault, err),
     };
-    match run_text(alloc, source.as_slice(), options, out) {
+    let script = match script {
+        None => Vec::new(alloc),
+        Some(path) => match files.read(path) {
+            Ok(script) => script,
+            Err(fault) => return unread(path, fault, err),
+        },
+    };
+    match run_text(alloc, source.as_slice(), script.as_slice(), options, out) {
         Ok(summary) => summary.end.status(),
         Err(fault) => {
             let _ = writeln!(err, "{fault}");
@@ -85,6 +93,14 @@ where
     match read_words(alloc, words) {
         Err(error) => refuse(&error, out, err),
         Ok(None) => 2,
-        Ok(Some(Job::Run { file, options })) => run_file(alloc, file, &options, files, out, err),
+        Ok(
+            Some(
+                Job::Run {
+                    file,
+                    script,
+                    options,
+                },
+            ),
+        ) => { run_file(alloc, file, script, &options, files, out, err) }
     }
 }

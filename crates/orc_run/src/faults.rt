@@ -5,6 +5,7 @@ ghost use Rattle.orc_run.specs.Faults.{syntax_line, what_word, scope_line, line,
 
 use crate::output::WriteFault;
 use orc_scope::{FaultKind, ScopeFault};
+use orc_site::ScriptFault;
 use orc_syntax::{SyntaxFault, What};
 use std::error::Error;
 use std::fmt;
@@ -16,6 +17,8 @@ pub enum RunFault {
     Syntax(SyntaxFault),
     /// A name of the source means nothing that fits.
     Scope(ScopeFault),
+    /// The script is none.
+    Script(ScriptFault),
     /// E2: memory was refused before the run began.
     Memory,
     /// E4: the engine chose an entry that the rules refuse. No run is known to end so.
@@ -111,6 +114,9 @@ impl fmt::Display for RunFault {
                 let fault = ScopeLine(fault);
                 write!(f, "orc: {fault}")
             }
+            RunFault::Script(ScriptFault::Line(number)) => write!(f, "orc: L1 at line {number}"),
+            RunFault::Script(ScriptFault::Memory) => write!(f, "orc: L2"),
+            RunFault::Script(ScriptFault::Long) => write!(f, "orc: L3"),
             RunFault::Memory => write!(f, "orc: E2"),
             RunFault::Broken => write!(f, "orc: E4"),
             RunFault::Later => write!(f, "orc: later"),
@@ -127,14 +133,16 @@ impl RunFault {
         ensures { result ≡ status self.now }
     {
         match self {
-            RunFault::Syntax(SyntaxFault::Memory) | RunFault::Memory => 5,
+            RunFault::Syntax(SyntaxFault::Memory)
+            | RunFault::Script(ScriptFault::Memory)
+            | RunFault::Memory => 5,
             RunFault::Scope(
                 ScopeFault {
                     kind: FaultKind::Memory,
                     span: _,
                 },
             ) => 5,
-            RunFault::Syntax(_) | RunFault::Scope(_) | RunFault::Later => 1,
+            RunFault::Syntax(_) | RunFault::Scope(_) | RunFault::Script(_) | RunFault::Later => 1,
             RunFault::Broken => 7,
             RunFault::Write(_) => 6,
         }

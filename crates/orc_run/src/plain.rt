@@ -52,7 +52,7 @@ fn refusal(history: History, fault: RuleFault) -> Result<Played, PlayFault>
 fn rest(history: History) -> Result<Played, PlayFault>
     ensures { (l : Listing) (t : Table) (limit : ℕ) → IsReached l t history → IfOk result (λ p. IsPlayed l t limit p.history p.end) }
 {
-    if history.marked().has_ended() {
+    if history.marked().has_halted() {
         Ok(Played {
             history,
             end: End::Halted,

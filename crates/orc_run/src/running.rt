@@ -1,10 +1,13 @@
 //! From a source text to what its run published.
 
 ghost use Rattle.std.specs.Prelude.{◌≡◌, ℕ, List, length, IfOk, IfErr};
-ghost use Rattle.orc_rules.specs.Sites.{Table, built_ins, built_in_table};
+ghost use Rattle.orc_rules.specs.Sites.{Table};
 ghost use Rattle.orc_rules.specs.Nodes.{Listing};
+ghost use Rattle.orc_syntax.specs.Tree.{Source};
+ghost use Rattle.orc_syntax.specs.Ast.{IsAst};
+ghost use Rattle.orc_scope.specs.Checking.{Checks};
 ghost use Rattle.orc_run.specs.Runs.{IsPlayed, IsRun, outcome};
-ghost use Rattle.orc_run.specs.Running.{Ran, LeavesAtFault, IsBeforeWriting};
+ghost use Rattle.orc_run.specs.Running.{Ran, LeavesAtFault, IsFaultOf, IsOther, AreSites};
 
 use crate::ending::Summary;
 use crate::faults::RunFault;
@@ -13,7 +16,8 @@ use crate::publications::write_values;
 use orc_rules::answers::Answers;
 use orc_rules::program::Program;
 use orc_scope::{FaultKind, ScopeFault};
-use orc_syntax::Span;
+use orc_site::{ScriptFault, read_script};
+use orc_syntax::{Ast, Span};
 use std::alloc::Global;
 use std::io::Write;
 
@@ -24,33 +28,35 @@ pub struct Options {
     pub limit: u64,
 }
 
-const NO_MEMORY: RunFault = RunFault::Scope(ScopeFault {
+const NO_MEMORY: ScopeFault = ScopeFault {
     kind: FaultKind::Memory,
     span: Span { start: 0, end: 0 },
-});
+};
 
-// The sites of a run. Memory refused for their names is a fault of the scope check.
-fn sites(alloc: Global) -> Result<Answers, RunFault>
-    ensures value { IfOk result (λ a. a ≡ built_in_table built_ins) }
-    ensures fault { IfErr result IsBeforeWriting }
+// The sites of a run: the built-in ones and those of a script.
+fn sites(alloc: Global, script: &[u8]) -> Result<Answers, RunFault>
+    ensures value { IfOk result (AreSites script.now) }
+    ensures fault { IfErr result IsOther }
 {
-    Answers::builtin(alloc).map_err(|_| NO_MEMORY)
+    if script.is_empty() {
+        return match Answers::builtin(alloc) {
+            Ok(answers) => Ok(answers),
+            Err(_) => Err(RunFault::Script(ScriptFault::Memory)),
+        };
+    }
+    match read_script(alloc, script) {
+        Ok(answers) => Ok(answers),
+        Err(fault) => Err(RunFault::Script(fault)),
+    }
 }
 
-// The program that a source spells.
-fn compile(alloc: Global, source: &[u8], answers: &Answers) -> Result<Program, RunFault>
-    ensures fault { IfErr result IsBeforeWriting }
+// The program of a tree.
+fn checked(alloc: Global, ast: &Ast, answers: &Answers) -> Result<Program, ScopeFault>
+    ensures { (s : Source) → IsAst ast.now s → Checks answers.now.names s result }
 {
-    let ast = match orc_syntax::parse(alloc, source) {
-        Ok(ast) => ast,
-        Err(fault) => return Err(RunFault::Syntax(fault)),
-    };
-    let Ok(names) = answers.names(alloc) else {
-        return Err(NO_MEMORY);
-    };
-    match orc_scope::check(alloc, &ast, names.as_slice()) {
-        Ok(program) => Ok(program),
-        Err(fault) => Err(RunFault::Scope(fault)),
+    match answers.names(alloc) {
+        Ok(names) => orc_scope::check(alloc, ast, names.as_slice()),
+        Err(_) => Err(NO_MEMORY),
     }
 }
 
@@ -62,7 +68,7 @@ fn run_program(
     limit: u64,
 ) -> Result<Played, RunFault>
     ensures ran { IfOk result (λ p. IsPlayed program.now answers.now limit p.history p.end) }
-    ensures fault { IfErr result IsBeforeWriting }
+    ensures fault { IfErr result IsOther }
 {
     play(alloc, program, answers, limit).map_err(|fault| match fault {
         PlayFault::Memory => RunFault::Memory,
@@ -86,21 +92,31 @@ impl Played {
     }
 }
 
-/// Runs the program that a source spells, and writes what it published, a line each, once the run has ended.
+/// Runs the program that a source spells, with the built-in sites and those of a script, and writes what it published, a line
+/// each, once the run has ended.
 ///
-/// A fault is answered where the source is no program, where memory is refused before the run begins or for the text,
+/// A fault is answered where the source is no program or the script none, in this order: the source's text, the script, its names; where memory is refused before the run begins or for the text,
 /// and where the output isn't taken whole. Nothing is written then, but at a fault of the output a prefix of the text.
 pub fn run_text<W: Write>(
     alloc: Global,
     source: &[u8],
+    script: &[u8],
     options: &Options,
     out: &mut W,
 ) -> Result<Summary, RunFault>
-    ensures ran { IfOk result (Ran (built_in_table built_ins) options.now.limit (W.contents out.old) (W.contents out.new)) }
-    ensures fault { IfErr result (LeavesAtFault (built_in_table built_ins) options.now.limit (W.contents out.old) (W.contents out.new)) }
+    ensures ran { IfOk result (Ran source.now script.now options.now.limit (W.contents out.old) (W.contents out.new)) }
+    ensures fault { IfErr result (LeavesAtFault source.now script.now options.now.limit (W.contents out.old) (W.contents out.new)) }
+    ensures cause { IfErr result (IsFaultOf source.now script.now) }
 {
-    let answers = sites(alloc)?;
-    let program = compile(alloc, source, &answers)?;
+    let ast = match orc_syntax::parse(alloc, source) {
+        Ok(ast) => ast,
+        Err(fault) => return Err(RunFault::Syntax(fault)),
+    };
+    let answers = sites(alloc, script)?;
+    let program = match checked(alloc, &ast, &answers) {
+        Ok(program) => program,
+        Err(fault) => return Err(RunFault::Scope(fault)),
+    };
     let played = run_program(alloc, &program, &answers, options.limit)?;
     let summary = played.summary();
     if let Err(fault) = write_values(alloc, played.history.published(), out) {
