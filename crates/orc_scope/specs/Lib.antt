@@ -1,6 +1,7 @@
 pub mod Building
 pub mod Checking
 pub mod Deep
+pub mod Lawful
 pub mod Listed
 pub mod Looking
 pub mod Numbers
