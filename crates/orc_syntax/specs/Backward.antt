@@ -6,7 +6,8 @@ use Rattle.orc_syntax.specs.declared.printing.Task.TheVariants as tasks
 use Rattle.orc_syntax.specs.declared.printing.Piece.{Piece}
 use Rattle.orc_syntax.specs.declared.printing.Piece.TheVariants as pieces
 use Rattle.orc_syntax.specs.Tree.{Link, Seq, Par, Prune, Other, Sort, leaf, variable, call, operation, val, Item}
-use Rattle.orc_syntax.specs.Printing.{plain_text, level, left_level, right_level}
+use Rattle.orc_syntax.specs.Printing.{plain_text}
+use Rattle.orc_syntax.specs.Grammar.{level, left_level, right_level}
 
 -- what is still to be printed, from right to left: an expression where this level is wanted, or a text
 pub data Task : Type 0 where

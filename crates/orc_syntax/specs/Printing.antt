@@ -4,6 +4,7 @@ use Rattle.std.specs.Fmt.{signed_decimal}
 use Rattle.orc_lex.specs.declared.token.Plain.{Plain}
 use Rattle.orc_lex.specs.declared.token.Plain.TheVariants.{Number, Truth, Signal, Stop}
 use Rattle.orc_syntax.specs.Tree.{Label, Link, Seq, Par, Prune, Other, Tree, Leaf, Variable, Call, Operation, Val, Trees, Nil, Cons, Define, Source}
+use Rattle.orc_syntax.specs.Grammar.{level, left_level, right_level}
 
 abbrev pub plain_text : Plain → List ℕ
 plain_text (Number z) = signed_decimal z
@@ -11,26 +12,6 @@ plain_text (Truth true) = codes "true"
 plain_text (Truth false) = codes "false"
 plain_text Signal = codes "signal"
 plain_text Stop = codes "stop"
-
--- how tightly an operator binds: `;` 1, `<x<` 2, `|` 3, `>x>` 4; a `val` 0, and what has no parts 5
-abbrev pub level : Link → ℕ
-level Other = 1
-level (Prune x) = 2
-level Par = 3
-level (Seq x) = 4
-
--- how tightly its sides have to bind: all group to the left but `>x>`
-abbrev pub left_level : Link → ℕ
-left_level Other = 1
-left_level (Prune x) = 2
-left_level Par = 3
-left_level (Seq x) = 5
-
-abbrev pub right_level : Link → ℕ
-right_level Other = 2
-right_level (Prune x) = 3
-right_level Par = 4
-right_level (Seq x) = 4
 
 -- an operator with a space on each side
 abbrev pub sign : Link → List ℕ

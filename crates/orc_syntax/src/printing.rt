@@ -4,7 +4,8 @@ ghost use Rattle.std.specs.Prelude.{◌≡◌, ◌∷◌, ◌++◌, [], ℕ, Lis
 ghost use Rattle.std.specs.Fmt.{signed_decimal};
 ghost use Rattle.orc_syntax.specs.Tree.{Tree, Source, Define, operation, val, call};
 ghost use Rattle.orc_syntax.specs.Ast.{IsExpr, IsAst, AreDefinitions, sort, item, label, link};
-ghost use Rattle.orc_syntax.specs.Printing.{plain_text, printed, definition, definitions, names, other_names, text, level, left_level, right_level};
+ghost use Rattle.orc_syntax.specs.Printing.{plain_text, printed, definition, definitions, names, other_names, text};
+ghost use Rattle.orc_syntax.specs.Grammar.{level, left_level, right_level};
 ghost use Rattle.orc_syntax.specs.Backward.{parts, given, more, signs, opening, closing, back, says, visits, waiting, said, piece_text, visit, say, IfNext, OnNone};
 
 use crate::tree::{Ast, Definition, Name, Node, Operator, Part};
