@@ -6,13 +6,13 @@ use Rattle.orc_rules.specs.declared.value.Found.{Found}
 use Rattle.orc_rules.specs.declared.entry.Entry.TheVariants as entry
 use Rattle.orc_rules.specs.Term.{Term, pending_of}
 use Rattle.orc_rules.specs.Marked.{erase}
-use Rattle.orc_rules.specs.Idle.{can_move}
+use Rattle.orc_rules.specs.Idle.{has_halted, can_move}
 use Rattle.orc_rules.specs.Sites.{Site}
-use Rattle.orc_rules.specs.Timed.{Context, CallMade, IsIn, IsDue, says_of}
+use Rattle.orc_rules.specs.Timed.{Context, CallMade, IsQuiet, IsIn, IsDue, says_of}
 use Rattle.orc_rules.specs.Journal.{Place, moment}
 use Rattle.orc_rules.specs.Lost.{IsSource}
 use Rattle.orc_rules.specs.Pending.{PendsDue, IsNextDue}
-use Rattle.orc_rules.specs.Tests.{TickByTest}
+use Rattle.orc_rules.specs.Tests.{TickByTest, QuietByTest}
 use Rattle.orc_checker.specs.declared.arena.Node.{Node}
 use Rattle.orc_checker.specs.declared.arena.Kind.TheVariants.{Leaf}
 use Rattle.orc_checker.specs.declared.arena.Tip.TheVariants.{Gone, Waits}
@@ -22,7 +22,8 @@ use Rattle.orc_checker.specs.Calls.{Rest, Keeps, AreNumbered, told, told_of}
 use Rattle.orc_checker.specs.Checker.{State, Draws, Spells, Enters}
 use Rattle.orc_checker.specs.Names.{AreOrdered}
 use Rattle.orc_checker.specs.Halting.{AreHalts}
-use Rattle.orc_checker.specs.Settling.{kind_at}
+use Rattle.orc_checker.specs.Settling.{flag, kind_at}
+use Rattle.orc_checker.proofs.Settling.{flag_says}
 use Rattle.orc_checker.specs.Rising.{nowhere}
 use Rattle.orc_checker.specs.NextDue.{IsDueOf, IsDueAt, IsNext}
 use Rattle.orc_checker.specs.Stillness.{AreStill}
@@ -178,3 +179,12 @@ tick-enters code s s' t source law free still next later is x p sp =
             rest = record { time = refl; calls_are = r.calls_are; keys_are = r.keys_are; numbered = r.numbered; due = r.due; cancels_are = r.cancels_are };
           }),
     )
+
+-- nothing can happen any more
+pub quiet_there : (x : Context) (code : ℕ → Term) (s : State) (p : Place) → Spells x code s p → ((i : ℕ) → IsSource (code i)) → QuietByTest → flag s.flags 0 ≡ false
+    → (AreHalts code s.halts → AreOrdered s.scopes → AreStill code s.cells s.scopes s.flags s.nodes) → IsNext s.nodes s.rest.calls None → IsQuiet x (moment p)
+quiet_there x code s p sp source law off still next =
+    let d = sp.drawn in
+    let halted = sym (flag_says code (env_of s.cells s.scopes) s.halts d.flags.are_halts s.flags d.tree d.flags.each ∙ ap (λ m. has_halted (erase m)) (sym d.marked)) ∙ ap (flag s.flags) d.root ∙ off in
+    (law x (moment p) None (next_is x code s p sp source None next)).1
+    (halted, cannot_move x code s p sp source (still d.flags.are_halts sp.scopes), refl)

@@ -16,6 +16,7 @@ mod names;
 mod pending;
 mod pruning;
 mod publish;
+mod quiet;
 pub mod rest;
 mod room;
 mod side;
