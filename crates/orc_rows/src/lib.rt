@@ -1,4 +1,4 @@
-//! Tests of whole command lines, over files and streams in memory.
+//! Tests over several crates: whole command lines, over files and streams in memory, and the scope check of sources.
 #![tactic(auto)]
 
 #[cfg(test)]
@@ -7,3 +7,5 @@ mod command_lines;
 mod harness;
 #[cfg(test)]
 mod programs;
+#[cfg(test)]
+mod scope_rows;
