@@ -1,5 +1,5 @@
 -- A pruning takes what its right side publishes.
-use Rattle.std.proofs.Common.{◌≡◌, ◌≤◌, ◌<◌, ◌+◌, ℕ, List, [], ◌∷◌, length, get_or, Some, refl, sym, ap, ◌∙◌, subst, arith, inr, Bool, true, false, length-set}
+use Rattle.std.proofs.Common.{◌≡◌, ◌≤◌, ◌+◌, ℕ, List, [], ◌∷◌, length, get_or, Some, refl, sym, ap, ◌∙◌, subst, arith, inr, Bool, true, false, length-set}
 use Rattle.std.specs.Prelude.{slice_get, slice_set, ◌&&◌}
 use Rattle.orc_rules.specs.declared.value.Value.{Value}
 use Rattle.orc_rules.specs.declared.entry.Entry.TheVariants as entry
@@ -15,24 +15,24 @@ use Rattle.orc_checker.specs.declared.arena.Kind.{Kind}
 use Rattle.orc_checker.specs.declared.arena.Kind.TheVariants.{Leaf, One, Two}
 use Rattle.orc_checker.specs.declared.walk.Taker.{Taker}
 use Rattle.orc_checker.specs.declared.walk.Taker.TheVariants.{Whole, Fed, Bound}
-use Rattle.orc_rules.specs.Term.{Term, pending_of, fill}
+use Rattle.orc_rules.specs.Term.{pending_of, fill}
 use Rattle.orc_rules.specs.Step.{publishes, binds}
-use Rattle.orc_rules.specs.Marked.{Marked, ended, erase, Emits, emits, is_bound}
+use Rattle.orc_rules.specs.Marked.{ended, erase, Emits, emits, is_bound}
 use Rattle.orc_rules.specs.Timed.{Context, AreDropped}
 use Rattle.orc_rules.specs.Journal.{Place}
 use Rattle.orc_rules.specs.Idle.{has_halted}
 use Rattle.orc_rules.specs.Nodes.{Listing, code}
 use Rattle.orc_rules.specs.Sites.{Table}
-use Rattle.orc_rules.specs.Numbered.{IsNumbered, Name, call, cell, once, times}
+use Rattle.orc_rules.specs.Numbered.{IsNumbered, call, cell, times}
 use Rattle.orc_rules.proofs.Sources.{emits_source}
-use Rattle.orc_checker.specs.Arena.{Env, Tree, leaf, one, two, place, hits, count, at, Holds, living_kind, StandOnce, IsTopped, spelled, env_of, given, Frame, on_one, on_left, on_right, plug}
+use Rattle.orc_checker.specs.Arena.{Tree, leaf, one, two, place, hits, count, at, Holds, living_kind, StandOnce, IsTopped, spelled, env_of, given, Frame, on_one, on_left, on_right, plug}
 use Rattle.orc_checker.specs.Around.{above}
-use Rattle.orc_checker.specs.Rising.{takes, rest, under, risen, nowhere, Stands, IsTaker}
+use Rattle.orc_checker.specs.Rising.{takes, rest, under, nowhere, Stands, IsTaker}
 use Rattle.orc_checker.specs.Names.{AreOrdered, BearsValue}
-use Rattle.orc_checker.specs.Settling.{flag, Flagged, HasFlags, Settles}
+use Rattle.orc_checker.specs.Settling.{flag, HasFlags, Settles}
 use Rattle.orc_checker.specs.Calls.{Rest, Keeps}
 use Rattle.orc_checker.specs.Dropping.{calls_at, AreNodesOf, AreRising, IsDropped}
-use Rattle.orc_checker.specs.Checker.{State, Applies, context, AreOwn, AreCells}
+use Rattle.orc_checker.specs.Checker.{State, Applies, context, AreOwn}
 use Rattle.orc_checker.proofs.Trees.{hit, count-plug, holds-out, living-most}
 use Rattle.orc_checker.proofs.Rising.{itself, plug-under, get_or-some}
 use Rattle.orc_checker.proofs.Change.{says_of, place-plug}
@@ -41,10 +41,10 @@ use Rattle.orc_checker.proofs.Settling.{flag_says, flagged_kept, flag-set_other}
 use Rattle.orc_checker.proofs.Flagging.{reflag_settled, flag-set_at}
 use Rattle.orc_checker.proofs.Publishing.{goes_up}
 use Rattle.orc_checker.proofs.Filling.{code-stays}
-use Rattle.orc_checker.proofs.Binding.{Stays, binds_in}
+use Rattle.orc_checker.proofs.Binding.{binds_in}
 use Rattle.orc_checker.proofs.Inside.{Confined}
 use Rattle.orc_checker.proofs.Leaving.{Drops, drops, pruned_holds, pruned_once, calls_counted}
-use Rattle.orc_checker.proofs.Ending.{Over, own_filled, left_filled, stays_so, after, ends_drawn, times_left, are_dropped, unhalted_under}
+use Rattle.orc_checker.proofs.Ending.{Over, own_filled, left_filled, stays_so, ends_drawn, times_left, are_dropped, unhalted_under}
 use Rattle.orc_checker.proofs.Reached.{reached_numbered, reached_source, reached_confined}
 
 -- the right side that takes it is the first one around

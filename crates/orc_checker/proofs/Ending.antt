@@ -1,8 +1,7 @@
 -- A pruning ends: its right side is dropped, and its cell becomes a value or void.
-use Rattle.std.proofs.Common.{◌≡◌, ◌≤◌, ◌<◌, ◌+◌, ℕ, zero, suc, List, [], ◌∷◌, ◌++◌, length, get_or, Option, Some, None, refl, sym, ap, ◌∙◌, subst, arith, inl, inr, ◌⊎◌, ⊎_elim, Bool, true, false, cond, nat_eq, eq-eqb, length-set}
+use Rattle.std.proofs.Common.{◌≡◌, ◌≤◌, ◌+◌, ℕ, zero, suc, List, [], ◌∷◌, ◌++◌, length, get_or, Option, Some, None, refl, sym, ap, ◌∙◌, subst, arith, inl, inr, ◌⊎◌, ⊎_elim, Bool, true, false, cond, nat_eq, eq-eqb}
 use Rattle.std.proofs.lemmas.Bool.{ne_eqb, eqb-true}
 use Rattle.std.specs.Prelude.{slice_get, slice_set, ◌&&◌}
-use Rattle.orc_checker.specs.declared.arena.Node.{Node}
 use Rattle.orc_checker.specs.declared.arena.Bound.{Bound}
 use Rattle.orc_checker.specs.declared.arena.Bound.TheVariants.{Is, Cell, Void}
 use Rattle.orc_checker.specs.declared.arena.Single.TheVariants.{Feeds, Entered, Passed}
@@ -16,11 +15,11 @@ use Rattle.orc_rules.specs.Idle.{calls_of, has_halted}
 use Rattle.orc_rules.specs.Numbered.{Name, call, cell, once, times}
 use Rattle.orc_rules.proofs.Numbered.{once_same, times_replaced, times_filled}
 use Rattle.orc_rules.proofs.Counts.{pending_by_marks}
-use Rattle.orc_checker.specs.Arena.{Env, Tree, leaf, one, two, place, hits, Holds, StandOnce, IsTopped, spelled, env_of, given, current, Frame, on_one, on_left, on_right, plug}
+use Rattle.orc_checker.specs.Arena.{Env, Tree, one, two, place, hits, Holds, StandOnce, IsTopped, spelled, env_of, given, current, Frame, on_one, on_left, on_right, plug}
 use Rattle.orc_checker.specs.Around.{above}
 use Rattle.orc_checker.specs.Settling.{HasFlags}
 use Rattle.orc_checker.specs.Rising.{under}
-use Rattle.orc_checker.specs.Dropping.{weight, occurs, DoRise}
+use Rattle.orc_checker.specs.Dropping.{occurs, DoRise}
 use Rattle.orc_checker.specs.Checker.{State, Draws, AreOwn}
 use Rattle.orc_checker.proofs.Trees.{hit, hits-both, topped-plug}
 use Rattle.orc_checker.proofs.Lists.{get-set_same, get-set_other}

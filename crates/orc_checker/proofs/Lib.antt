@@ -26,6 +26,7 @@ pub mod Opening
 pub mod Pends
 pub mod Publishing
 pub mod Reached
+pub mod Replaying
 pub mod Rising
 pub mod Scopes
 pub mod Sending

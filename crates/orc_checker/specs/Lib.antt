@@ -10,6 +10,7 @@ pub mod Halting
 pub mod Labelling
 pub mod Names
 pub mod NextDue
+pub mod Replaying
 pub mod Rising
 pub mod Settling
 pub mod Stillness

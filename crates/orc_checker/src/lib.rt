@@ -17,6 +17,7 @@ mod pending;
 mod pruning;
 mod publish;
 mod quiet;
+pub mod replay;
 pub mod rest;
 mod room;
 mod side;

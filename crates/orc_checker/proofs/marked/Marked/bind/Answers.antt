@@ -1,14 +1,10 @@
-use Rattle.std.proofs.Common.{◌≡◌, ap, sym, subst, ◌∙◌, length, get_or, reverse, length-set}
-use Rattle.std.specs.Prelude.{slice_get, slice_set}
-use Rattle.orc_rules.specs.Nodes.{code}
-use Rattle.orc_checker.specs.declared.arena.Kind.TheVariants.{One}
-use Rattle.orc_checker.specs.declared.arena.Single.TheVariants.{Passed}
-use Rattle.orc_checker.specs.declared.arena.Bound.TheVariants.{Is, Cell}
+use Rattle.std.proofs.Common.{ap, sym, subst, ◌∙◌, length, get_or, reverse, length-set}
+use Rattle.std.specs.Prelude.{slice_set}
+use Rattle.orc_checker.specs.declared.arena.Bound.TheVariants.{Is}
 use Rattle.orc_checker.specs.declared.walk.Taker.TheVariants.{Bound}
-use Rattle.orc_checker.specs.Calls.{Rest}
 use Rattle.orc_checker.specs.Settling.{flag, Settles}
 use Rattle.orc_checker.specs.Rising.{nowhere, IsTaker}
-use Rattle.orc_checker.specs.Dropping.{AreNodesOf, IsDropped}
+use Rattle.orc_checker.specs.Dropping.{IsDropped}
 use Rattle.orc_checker.specs.Checker.{State}
 use Rattle.orc_checker.proofs.Moves.{node}
 use Rattle.orc_checker.proofs.Catching.{catch-applies}
