@@ -37,3 +37,4 @@ pub mod Stills
 pub mod Ticking
 pub mod Trees
 pub mod Waking
+pub mod Voiding

@@ -156,7 +156,7 @@ module _ (code : ℕ → Term) (s s' : State) (i q m f e : ℕ) (a : at s.nodes 
   its t = token m (close (env e) t)
 
   -- a token's node becomes a tree
-  token_moves : (t' : Tree) (c : Term) (y : Marked) (new : ℕ) (x : Context) (p : Place) → Spells x code s p → Becomes s s' i q t' → Reflags code s.nodes s.halts s.flags s'.nodes s'.halts s'.flags i (leaf i (Token m f e)) t' → Stays s s' new → code f ≡ c → spelled code env t' ≡ y → (r : Place) × Moves p (its c) y new r × Spells x code s' r
+  pub token_moves : (t' : Tree) (c : Term) (y : Marked) (new : ℕ) (x : Context) (p : Place) → Spells x code s p → Becomes s s' i q t' → Reflags code s.nodes s.halts s.flags s'.nodes s'.halts s'.flags i (leaf i (Token m f e)) t' → Stays s s' new → code f ≡ c → spelled code env t' ≡ y → (r : Place) × Moves p (its c) y new r × Spells x code s' r
   token_moves t' c y new x p sp b fl st is its_y =
       let t = turn code s s' p.marked sp.drawn i q (Token m f e) t' a refl b fl in
       let at_env : (n : ℕ) → env_of s'.cells s'.scopes n ≡ env n = λ n j. env_of (st.cells j) (st.scopes j) n in

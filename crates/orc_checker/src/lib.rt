@@ -24,6 +24,7 @@ mod side;
 mod status;
 mod stillness;
 mod tick;
+mod void;
 pub mod walk;
 
 pub use looking::Next;

@@ -131,6 +131,7 @@ impl Marked {
             Entry::Fork(s, a, b) => self.fork(program, *s, *a, *b),
             Entry::Seq(s, a) => self.seq(program, *s, *a),
             Entry::Other(s, a) => self.other(program, *s, *a),
+            Entry::Void(s) => self.void(program, *s),
             Entry::Open(s, c, a, b) => self.open(program, *s, *c, *a, *b),
             Entry::Send(s, a, v) => self.send(program, *s, *a, *v),
             Entry::Call(s, k, site, args) => self.call(program, answers, *s, *k, *site, args),

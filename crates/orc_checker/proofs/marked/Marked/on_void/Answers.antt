@@ -1,0 +1,37 @@
+use Rattle.std.proofs.Common.{◌≡◌, ap, ◌∙◌, sym, subst, map, get_or, [], List}
+use Rattle.orc_rules.specs.Idle.{has_halted}
+use Rattle.orc_rules.specs.Journal.{IsVoid}
+use Rattle.orc_rules.specs.declared.param.Operand.{Operand}
+use Rattle.orc_rules.specs.Nodes.{code, unfold_node, param_of}
+use Rattle.orc_rules.specs.Term.{param, HasVoid}
+use Rattle.orc_checker.specs.Arena.{close, close_param, env_of}
+use Rattle.orc_checker.specs.Names.{AreOrdered}
+use Rattle.orc_checker.specs.Checker.{State}
+use Rattle.orc_checker.proofs.Scopes.{close-of-param, close-site}
+use Rattle.orc_checker.proofs.marked.Marked.on_void.Goals as goal
+
+pub returns-in-Operand-clause-void : goal.returns-in-Operand-clause-void
+returns-in-Operand-clause-void c = λ e o.
+    let s = c.args.self.now in
+    let env = env_of s.cells s.scopes c.args.spot.scope in
+    let p = c.in-Operand.operand in
+    let is = c.node.ensures.term ∙ ap (unfold_node (code c.args.program.now) c.args.program.now.lists) c.in-Operand.is in
+    subst IsVoid (sym (ap (close env) is ∙ close-of-param env (param_of p)))
+    (subst (λ (z : State). AreOrdered z.scopes → IsVoid (param (close_param (env_of z.cells z.scopes c.args.spot.scope) (param_of p)))) c.self.view_is (c.is_void.ensures e) o)
+
+pub returns-in-Operand-clause-running : goal.returns-in-Operand-clause-running
+returns-in-Operand-clause-running c = λ e. ap has_halted (c.node.ensures.term ∙ ap (unfold_node (code c.args.program.now) c.args.program.now.lists) c.in-Operand.is)
+
+pub returns-in-Site-clause-void : goal.returns-in-Site-clause-void
+returns-in-Site-clause-void c = λ e o.
+    let s = c.args.self.now in
+    let l = c.args.program.now in
+    let env = env_of s.cells s.scopes c.args.spot.scope in
+    let k = c.in-Site in
+    let is = c.node.ensures.term ∙ ap (unfold_node (code l) l.lists) k.is in
+    let ps = map param_of (get_or l.lists k.list []) in
+    let f = subst (λ (z : State). AreOrdered z.scopes → HasVoid (map (close_param (env_of z.cells z.scopes c.args.spot.scope)) (map param_of c.operands.result.now))) c.self.view_is (c.has_void.ensures e) o in
+    subst IsVoid (sym (ap (close env) is ∙ close-site env k.field-0 ps)) (subst (λ (z : List Operand). HasVoid (map (close_param env) (map param_of z))) c.operands.ensures.value f)
+
+pub returns-in-Site-clause-running : goal.returns-in-Site-clause-running
+returns-in-Site-clause-running c = λ e. ap has_halted (c.node.ensures.term ∙ ap (unfold_node (code c.args.program.now) c.args.program.now.lists) c.in-Site.is)

@@ -1,0 +1,23 @@
+use Rattle.std.proofs.Common.{ap, ◌∙◌, length, subst, true}
+use Rattle.std.specs.Prelude.{slice_set}
+use Rattle.orc_rules.specs.Nodes.{code}
+use Rattle.orc_checker.specs.declared.arena.Kind.TheVariants.{Leaf}
+use Rattle.orc_checker.specs.declared.arena.Tip.TheVariants.{Ended}
+use Rattle.orc_checker.specs.Settling.{Settles}
+use Rattle.orc_checker.specs.Checker.{State}
+use Rattle.orc_checker.proofs.Moves.{node}
+use Rattle.orc_checker.proofs.Voiding.{void-enters}
+use Rattle.orc_checker.proofs.marked.Marked.void.Goals as goal
+
+pub returns-clause-done : goal.returns-clause-done
+returns-clause-done c =
+    let terms = code c.args.program.now in
+    let t = c.in_ok-spot.spot in
+    let v = c.self.view_is in
+    void-enters terms c.args.self.now _ t.at t.parent c.args.s t.node t.scope c.in_ok-spot.ensures.there
+    (c.on_void.ensures.void c.if-not-on_void.false)
+    (c.on_void.ensures.running c.if-not-on_void.false)
+    (c.write_node.ensures.items ∙ ap (λ (z : State). slice_set z.nodes t.at (node (Leaf Ended) t.parent)) v)
+    (c.settle.ensures.len ∙ ap (λ (z : State). length z.flags) v)
+    (subst (λ (z : State). Settles c.write_node.new.nodes.items z.flags t.at true c.settle.new.flags.items) v c.settle.ensures.settles)
+    (record { free = c.in_ok-spot.ensures.free; scopes = ap State.scopes v; cells = ap State.cells v; marks = ap (λ (z : State). length z.marks) v; rest = ap State.rest v; halts = ap State.halts v })

@@ -1,0 +1,79 @@
+// What stands on void ends.
+
+ghost use Rattle.std.specs.Prelude.{◌≡◌, true, false, List, map, IfOk, OnErr};
+ghost use Rattle.orc_rules.specs.Idle.{has_halted};
+ghost use Rattle.orc_rules.specs.Journal.{IsVoid};
+ghost use Rattle.orc_rules.specs.Nodes.{code, param_of};
+ghost use Rattle.orc_rules.specs.Term.{HasVoid, param};
+ghost use Rattle.orc_checker.specs.Arena.{close, close_param, env_of};
+ghost use Rattle.orc_checker.specs.Checker.{Enters};
+ghost use Rattle.orc_checker.specs.Names.{AreOrdered};
+ghost use Rattle.orc_rules.specs.declared.entry.Entry.TheVariants as entry;
+
+use crate::arena::{Bound, Kind, Node, Scope, Tip};
+use crate::flags::settle;
+use crate::marked::{Marked, Spot};
+use crate::names::meaning;
+use crate::walk::write_node;
+use orc_rules::entry::RuleFault;
+use orc_rules::param::Operand;
+use orc_rules::program::{Program, TermNode};
+
+/// Whether an operand is void in a scope.
+fn is_void(scopes: &Vec<Scope>, cells: &Vec<Bound>, operand: Operand, scope: usize) -> bool
+    ensures { result ≡ true → AreOrdered scopes.now.items → IsVoid (param (close_param (env_of cells.now.items scopes.now.items scope) (param_of operand))) }
+{
+    match meaning(scopes, cells, operand, scope) {
+        Some(Bound::Void) => true,
+        _ => false,
+    }
+}
+
+/// Whether one of the operands is void in a scope.
+fn has_void(scopes: &Vec<Scope>, cells: &Vec<Bound>, operands: &[Operand], scope: usize) -> bool
+    ensures { result ≡ true → AreOrdered scopes.now.items → HasVoid (map (close_param (env_of cells.now.items scopes.now.items scope)) (map param_of operands.now)) }
+{
+    for i in 0..operands.len() {
+        if is_void(scopes, cells, operands[i], scope) {
+            return true;
+        }
+    }
+    false
+}
+
+impl Marked {
+    /// Whether a token stands on void, or on a call of a site with a void argument.
+    fn on_void(&self, program: &Program, spot: Spot) -> bool
+        ensures void { result ≡ true → AreOrdered self.now.scopes → IsVoid (close (env_of self.now.cells self.now.scopes spot.scope) (code program.now spot.node)) }
+        ensures running { result ≡ true → has_halted (code program.now spot.node) ≡ false }
+    {
+        match program.node(spot.node) {
+            TermNode::Operand(operand) => is_void(&self.scopes, &self.cells, operand, spot.scope),
+            TermNode::Site(_, list) => {
+                has_void(&self.scopes, &self.cells, program.operands(list), spot.scope)
+            }
+            _ => false,
+        }
+    }
+
+    /// `void S`.
+    pub(crate) fn void(&mut self, program: &Program, s: u64) -> Result<(), RuleFault>
+        ensures done { IfOk result (λ _. Enters (code program.now) (entry.Void s) self.old self.new) }
+        ensures refused { OnErr result (self.new ≡ self.old) }
+    {
+        let spot = self.spot(s)?;
+        if !self.on_void(program, spot) {
+            return Err(RuleFault::Form);
+        }
+        write_node(
+            &mut self.nodes,
+            spot.at,
+            Node {
+                kind: Kind::Leaf(Tip::Ended),
+                parent: spot.parent,
+            },
+        );
+        settle(&self.nodes, &mut self.flags, spot.at, true);
+        Ok(())
+    }
+}
