@@ -27,6 +27,7 @@ pub mod Pends
 pub mod Publishing
 pub mod Reached
 pub mod Replaying
+pub mod Resuming
 pub mod Rising
 pub mod Scopes
 pub mod Sending

@@ -31,8 +31,20 @@ module _ (code : ℕ → Term) (s s' : State) (i q m f e : ℕ) (a : at s.nodes 
       let b = written s s' i q (Token m f e) Ended a refl refl (staying s s' st.scopes st.cells) tt nodes in
       let new = ap length nodes ∙ length-set s.nodes i (node (Leaf Ended) q) in
       let fl = reflag_leaf_settled code s.nodes s'.nodes s.halts s.flags s'.halts s'.flags i (Token m f e) st.halts Ended true flags new (λ h. h f ∙ running) refl settles in
-      let r = token_moves code s s' i q m f e a (leaf i Ended) (code f) ended p.mark x p sp b fl (record { free = st.free; scopes = st.scopes; cells = st.cells; marks = st.marks ∙ sym sp.mark; rest = st.rest; halts = st.halts }) refl refl in
-      (r.0, (inr (sp.rest.due ∙ st.free), (close (env_of s.cells s.scopes e) (code f), r.1.inside, is_void sp.scopes, r.1.part, record {
-        to_cancel = ap Place.to_cancel r.1.same ∙ sp.rest.due ∙ st.free;
-        same = r.1.same ∙ ap (λ z. record { marked = r.0.marked; mark = p.mark; now = p.now; calls = p.calls; cells = p.cells; to_cancel = z }) (sym (ap Place.to_cancel r.1.same));
-      })), r.2)
+      let r = token_moves code s s' i q m f e a (leaf i Ended) (code f) ended p.mark x p sp b fl (record { free = st.free; scopes = st.scopes; cells = st.cells; marks = st.marks ∙ sym sp.mark; rest = st.rest; halts = st.halts }) refl refl in (
+        r.0,
+        (
+          inr (sp.rest.due ∙ st.free),
+          (
+            close (env_of s.cells s.scopes e) (code f),
+            r.1.inside,
+            is_void sp.scopes,
+            r.1.part,
+            record {
+              to_cancel = ap Place.to_cancel r.1.same ∙ sp.rest.due ∙ st.free;
+              same = r.1.same ∙ ap (λ z. record { marked = r.0.marked; mark = p.mark; now = p.now; calls = p.calls; cells = p.cells; to_cancel = z }) (sym (ap Place.to_cancel r.1.same));
+            },
+          ),
+        ),
+        r.2,
+      )

@@ -14,6 +14,7 @@ pub mod marked;
 mod marks;
 mod names;
 mod pending;
+mod otherwise;
 mod pruning;
 mod publish;
 mod quiet;

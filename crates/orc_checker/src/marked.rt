@@ -138,6 +138,7 @@ impl Marked {
             Entry::Return(k, a, v) => self.answered(answers, *k, *a, *v),
             Entry::ReturnHalt(k) => self.given_up(answers, *k),
             Entry::Bind(s, c, v) => self.bind(program, *s, *c, *v),
+            Entry::Right(s, a) => self.right(*s, *a),
             Entry::Publish(s, v) => self.publish(program, *s, *v),
             Entry::Cancel(k) => self.cancel(program, *k),
             Entry::Tick(t) => self.tick(program, *t),

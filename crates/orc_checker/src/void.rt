@@ -50,7 +50,12 @@ impl Marked {
         match program.node(spot.node) {
             TermNode::Operand(operand) => is_void(&self.scopes, &self.cells, operand, spot.scope),
             TermNode::Site(_, list) => {
-                has_void(&self.scopes, &self.cells, program.operands(list), spot.scope)
+                has_void(
+                    &self.scopes,
+                    &self.cells,
+                    program.operands(list),
+                    spot.scope,
+                )
             }
             _ => false,
         }

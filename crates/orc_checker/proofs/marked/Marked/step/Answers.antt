@@ -1,4 +1,4 @@
-use Rattle.orc_checker.proofs.Answering.{for_all, for_sites, for_code, for_tables}
+use Rattle.orc_checker.proofs.Answering.{for_all, for_sites, for_code, for_tables, for_terms}
 use Rattle.orc_checker.proofs.marked.Marked.step.Goals as goal
 
 pub returns-in-End-clause-done : goal.returns-in-End-clause-done
@@ -42,3 +42,6 @@ returns-in-Tick-clause-done c = for_all c.args.program.now c.args.answers.now _ 
 
 pub returns-in-Void-clause-done : goal.returns-in-Void-clause-done
 returns-in-Void-clause-done c = for_all c.args.program.now c.args.answers.now _ _ c.args.self.now c.void.new.self c.void.result c.in-Void.is c.void.ensures.done
+
+pub returns-in-Right-clause-done : goal.returns-in-Right-clause-done
+returns-in-Right-clause-done c = for_terms c.args.program.now c.args.answers.now _ _ c.args.self.now c.right.new.self c.right.result c.in-Right.is c.right.ensures.done

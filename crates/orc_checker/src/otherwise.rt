@@ -1,0 +1,104 @@
+// The right side of an otherwise starts.
+
+ghost use Rattle.std.specs.Prelude.{◌≡◌, ◌<◌, ℕ, [], vec_len, vec_capacity, IfOk, OnErr};
+ghost use Rattle.orc_rules.specs.Term.{Term};
+ghost use Rattle.orc_checker.specs.Arena.{at};
+ghost use Rattle.orc_checker.specs.Checker.{Enters};
+ghost use Rattle.orc_checker.specs.Dropping.{AreNodesOf};
+ghost use Rattle.orc_checker.specs.declared.arena.Kind.TheVariants.{One as AtOne};
+ghost use Rattle.orc_checker.specs.declared.arena.Single.TheVariants.{Entered as IsEntered};
+ghost use Rattle.orc_rules.specs.declared.entry.Entry.TheVariants as entry;
+
+use crate::arena::{Kind, Node, Single, Tip};
+use crate::flags::settle;
+use crate::marked::Marked;
+use crate::room::push_within;
+use crate::side::{drop_nodes, nodes_of};
+use crate::walk::write_node;
+use orc_rules::entry::RuleFault;
+use std::alloc::AllocError;
+
+/// Where an entered otherwise stands: its node with the one above it and that of its left side, and its right side: the program's node in a scope.
+#[derive(Clone, Copy)]
+pub(crate) struct Otherwise {
+    pub at: usize,
+    pub parent: usize,
+    pub left: usize,
+    pub node: usize,
+    pub scope: usize,
+}
+
+/// Memory for one more mark.
+fn reserve_mark(marks: &mut Vec<usize>) -> Result<(), AllocError>
+    ensures marks { marks.new.items ≡ marks.old.items }
+    ensures room { IfOk result (λ _. vec_len marks.new < vec_capacity marks.new) }
+{
+    marks.try_reserve(1)?;
+    Ok(())
+}
+
+impl Marked {
+    /// The nodes of a side that goes.
+    pub(crate) fn side_at(&self, root: usize) -> Result<Vec<usize>, RuleFault>
+        ensures { IfOk result (λ side. AreNodesOf self.now.nodes root side.items) }
+    {
+        let alloc = *self.nodes.allocator();
+        match nodes_of(alloc, &self.nodes, root) {
+            Ok(side) => Ok(side),
+            Err(_) => Err(RuleFault::Memory),
+        }
+    }
+
+    /// Where otherwise `s` stands, while no cancel is due.
+    fn otherwise(&self, s: u64) -> Result<Otherwise, RuleFault>
+        ensures free { IfOk result (λ _. self.now.rest.to_cancel ≡ []) }
+        ensures there { IfOk result (λ o. at self.now.nodes o.parent o.at (AtOne (IsEntered s o.node o.scope) o.left)) }
+    {
+        if self.rest.is_due() {
+            return Err(RuleFault::Cancel);
+        }
+        let Some(place) = self.marks.get(s as usize) else {
+            return Err(RuleFault::Mark);
+        };
+        let Some(node) = self.nodes.get(*place) else {
+            return Err(RuleFault::Mark);
+        };
+        match node.kind {
+            Kind::One(Single::Entered(mark, right, scope), left) if mark == s => Ok(Otherwise {
+                at: *place,
+                parent: node.parent,
+                left,
+                node: right,
+                scope,
+            }),
+            _ => Err(RuleFault::Mark),
+        }
+    }
+
+    /// `right S A`.
+    pub(crate) fn right(&mut self, s: u64, a: u64) -> Result<(), RuleFault>
+        ensures done { IfOk result (λ _. (code : ℕ → Term) → Enters code (entry.Right s a) self.old self.new) }
+        ensures refused { OnErr result (self.new ≡ self.old) }
+    {
+        let otherwise = self.otherwise(s)?;
+        self.next_mark(a)?;
+        if !self.part_has_halted(otherwise.left) {
+            return Err(RuleFault::Halted);
+        }
+        let side = self.side_at(otherwise.left)?;
+        reserve_mark(&mut self.marks).map_err(|_| RuleFault::Memory)?;
+        drop_nodes(&mut self.nodes, &side);
+        write_node(
+            &mut self.nodes,
+            otherwise.at,
+            Node {
+                kind: Kind::Leaf(Tip::Token(a, otherwise.node, otherwise.scope)),
+                parent: otherwise.parent,
+            },
+        );
+        let halted = self.halts.at(otherwise.node);
+        settle(&self.nodes, &mut self.flags, otherwise.at, halted);
+        push_within(&mut self.marks, otherwise.at);
+        Ok(())
+    }
+}
