@@ -18,8 +18,8 @@ pub mod Flagging
 pub mod Growth
 pub mod Halting
 pub mod Inside
-pub mod Leaving
 pub mod Labelling
+pub mod Leaving
 pub mod Lists
 pub mod Moves
 pub mod Opening
@@ -37,5 +37,5 @@ pub mod Spelling
 pub mod Stills
 pub mod Ticking
 pub mod Trees
-pub mod Waking
 pub mod Voiding
+pub mod Waking
