@@ -55,6 +55,28 @@ fn calls_built_in_sites(rt: HostRuntime) -> Result<(), Fail> {
 }
 
 #[test]
+fn binds_and_waits(rt: HostRuntime) -> Result<(), Fail> {
+    let rows = [
+        runs(b"x <x< (Rwait(2) >> 20 | Rwait(1) >> 10)", 0, &["10\n"]),
+        runs(b"x <x< (1 | 2)", 0, &["1\n", "2\n"]),
+        runs(b"val x = 1 | 2\nAdd(x, x)", 0, &["2\n", "4\n"]),
+        runs(b"Add(Add(1, 2), Rwait(1) >> 4)", 0, &["7\n"]),
+        runs(b"Rwait(2) >> 2 | Rwait(1) >> 1", 0, &["1\n2\n"]),
+        runs(
+            b"Rwait(9223372036854775807) >> Rwait(9223372036854775807) >> Rwait(1) >> 1",
+            0,
+            &["1\n"],
+        ),
+        Row {
+            script: b"A() = 1 after 2 then 2\n",
+            ..runs(b"A() | A()", 0, &["2\n1\n"])
+        },
+    ];
+    assert_eq!(rt; wrong(rt.alloc(), rows.as_slice())?.as_str(), "");
+    Ok(())
+}
+
+#[test]
 fn calls_sites_of_scripts(rt: HostRuntime) -> Result<(), Fail> {
     let rows = [
         Row {

@@ -29,7 +29,7 @@ pub enum Choice {
 
 // Whether the checker takes such an entry.
 fn is_taken(next: &Next) -> bool {
-    !matches!(next, Next::Def | Next::Void | Next::Bind(_, _))
+    !matches!(next, Next::Def | Next::Void)
 }
 
 impl Agenda {
@@ -79,7 +79,7 @@ impl Agenda {
             };
             let answer = marked.due(call);
             if answer.is_some() && marked.now() < at {
-                return Choice::Later;
+                return Choice::Entry(Entry::Tick(at));
             }
             self.due.pop();
             if let Some((answer, _)) = answer {

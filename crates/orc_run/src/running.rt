@@ -7,7 +7,7 @@ ghost use Rattle.orc_syntax.specs.Tree.{Source};
 ghost use Rattle.orc_syntax.specs.Ast.{IsAst};
 ghost use Rattle.orc_scope.specs.Checking.{Checks};
 ghost use Rattle.orc_run.specs.Runs.{IsPlayed, IsRun, outcome};
-ghost use Rattle.orc_run.specs.Running.{Ran, LeavesAtFault, IsFaultOf, IsOther, AreSites};
+ghost use Rattle.orc_run.specs.Running.{Ran, LeavesAtFault, IsFaultOf, IsOther};
 
 use crate::ending::Summary;
 use crate::faults::RunFault;
@@ -16,7 +16,7 @@ use crate::publications::write_values;
 use orc_rules::answers::Answers;
 use orc_rules::program::Program;
 use orc_scope::{FaultKind, ScopeFault};
-use orc_site::{ScriptFault, read_script};
+use orc_site::read_script;
 use orc_syntax::{Ast, Span};
 use std::alloc::Global;
 use std::io::Write;
@@ -32,23 +32,6 @@ const NO_MEMORY: ScopeFault = ScopeFault {
     kind: FaultKind::Memory,
     span: Span { start: 0, end: 0 },
 };
-
-// The sites of a run: the built-in ones and those of a script.
-fn sites(alloc: Global, script: &[u8]) -> Result<Answers, RunFault>
-    ensures value { IfOk result (AreSites script.now) }
-    ensures fault { IfErr result IsOther }
-{
-    if script.is_empty() {
-        return match Answers::builtin(alloc) {
-            Ok(answers) => Ok(answers),
-            Err(_) => Err(RunFault::Script(ScriptFault::Memory)),
-        };
-    }
-    match read_script(alloc, script) {
-        Ok(answers) => Ok(answers),
-        Err(fault) => Err(RunFault::Script(fault)),
-    }
-}
 
 // The program of a tree.
 fn checked(alloc: Global, ast: &Ast, answers: &Answers) -> Result<Program, ScopeFault>
@@ -95,8 +78,9 @@ impl Played {
 /// Runs the program that a source spells, with the built-in sites and those of a script, and writes what it published, a line
 /// each, once the run has ended.
 ///
-/// A fault is answered where the source is no program or the script none, in this order: the source's text, the script, its names; where memory is refused before the run begins or for the text,
-/// and where the output isn't taken whole. Nothing is written then, but at a fault of the output a prefix of the text.
+/// A fault is answered where the source's text, the script or the source's names are at fault, in this order; where memory is
+/// refused before the run begins or for the text; and where the output isn't taken whole. Nothing is written then, but at a
+/// fault of the output a prefix of the text.
 pub fn run_text<W: Write>(
     alloc: Global,
     source: &[u8],
@@ -112,7 +96,10 @@ pub fn run_text<W: Write>(
         Ok(ast) => ast,
         Err(fault) => return Err(RunFault::Syntax(fault)),
     };
-    let answers = sites(alloc, script)?;
+    let answers = match read_script(alloc, script) {
+        Ok(answers) => answers,
+        Err(fault) => return Err(RunFault::Script(fault)),
+    };
     let program = match checked(alloc, &ast, &answers) {
         Ok(program) => program,
         Err(fault) => return Err(RunFault::Scope(fault)),
