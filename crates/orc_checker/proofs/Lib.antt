@@ -21,6 +21,7 @@ pub mod Inside
 pub mod Labelling
 pub mod Leaving
 pub mod Lists
+pub mod Losing
 pub mod Moves
 pub mod Opening
 pub mod Pends

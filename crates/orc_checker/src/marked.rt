@@ -31,6 +31,8 @@ pub struct Marked {
     pub(crate) halts: Halts,
     pub(crate) flags: Vec<bool>,
     pub(crate) active: Vec<bool>,
+    /// The node on which each cell's pruning was opened; there is no cell 0.
+    pub(crate) prunings: Vec<usize>,
     pub(crate) rest: Rest,
 }
 
@@ -78,6 +80,7 @@ impl Marked {
         let mut marks = Vec::with_capacity(alloc, 2)?;
         let mut cells = Vec::with_capacity(alloc, 1)?;
         let mut flags = Vec::with_capacity(alloc, 2)?;
+        let mut prunings = Vec::with_capacity(alloc, 1)?;
         let halts = Halts::new(alloc, program)?;
         let mut active = Vec::with_capacity(alloc, program.len())?;
         for _ in 0..program.len() {
@@ -104,6 +107,7 @@ impl Marked {
         push_within(&mut cells, Bound::Void);
         push_within(&mut flags, halted);
         push_within(&mut flags, halted);
+        push_within(&mut prunings, 0);
         Ok(Marked {
             nodes,
             scopes: Vec::new(alloc),
@@ -112,6 +116,7 @@ impl Marked {
             halts,
             flags,
             active,
+            prunings,
             rest: Rest::new(alloc, cancels),
         })
     }
@@ -138,6 +143,7 @@ impl Marked {
             Entry::Return(k, a, v) => self.answered(answers, *k, *a, *v),
             Entry::ReturnHalt(k) => self.given_up(answers, *k),
             Entry::Bind(s, c, v) => self.bind(program, *s, *c, *v),
+            Entry::Lost(c) => self.lost(program, *c),
             Entry::Right(s, a) => self.right(*s, *a),
             Entry::Publish(s, v) => self.publish(program, *s, *v),
             Entry::Cancel(k) => self.cancel(program, *k),

@@ -5,7 +5,10 @@ ghost use Rattle.orc_rules.specs.Nodes.{code};
 ghost use Rattle.orc_rules.specs.Sites.{Table};
 ghost use Rattle.orc_checker.specs.Checker.{Applies, Enters};
 ghost use Rattle.orc_checker.specs.Dropping.{calls_at, AreNodesOf, AreRising};
+ghost use Rattle.orc_checker.specs.Arena.{at};
 ghost use Rattle.orc_checker.specs.declared.arena.Bound.TheVariants.{Cell as IsCell};
+ghost use Rattle.orc_checker.specs.declared.arena.Double.TheVariants.{Side as IsSide};
+ghost use Rattle.orc_checker.specs.declared.arena.Kind.TheVariants.{Two as AtTwo};
 ghost use Rattle.orc_rules.specs.declared.entry.Entry.TheVariants as entry;
 
 use crate::arena::{Bound, Double, Kind, Node, Scope, Single};
@@ -19,14 +22,28 @@ use orc_rules::program::{Program, TermNode};
 use orc_rules::value::Value;
 use std::alloc::AllocError;
 
-/// Memory for one more scope and one more cell.
-fn reserve_cell(scopes: &mut Vec<Scope>, cells: &mut Vec<Bound>) -> Result<(), AllocError>
+/// Where a pruning stands: its node with the one above it, and those of its sides.
+#[derive(Clone, Copy)]
+pub(crate) struct Pruning {
+    pub at: usize,
+    pub parent: usize,
+    pub left: usize,
+    pub right: usize,
+}
+
+/// Memory for one more scope and one more cell with its pruning.
+fn reserve_cell(
+    scopes: &mut Vec<Scope>,
+    cells: &mut Vec<Bound>,
+    prunings: &mut Vec<usize>,
+) -> Result<(), AllocError>
     ensures scopes { scopes.new.items ≡ scopes.old.items }
     ensures cells { cells.new.items ≡ cells.old.items }
-    ensures room { IfOk result (λ _. (vec_len scopes.new < vec_capacity scopes.new) × (vec_len cells.new < vec_capacity cells.new)) }
+    ensures room { IfOk result (λ _. (vec_len scopes.new < vec_capacity scopes.new) × (vec_len cells.new < vec_capacity cells.new) × (vec_len prunings.new < vec_capacity prunings.new)) }
 {
     scopes.try_reserve(1)?;
     cells.try_reserve(1)?;
+    prunings.try_reserve(1)?;
     Ok(())
 }
 
@@ -79,7 +96,7 @@ impl Marked {
         if b == 0 || b - 1 != a {
             return Err(RuleFault::Number);
         }
-        reserve_cell(&mut self.scopes, &mut self.cells).map_err(|_| RuleFault::Memory)?;
+        reserve_cell(&mut self.scopes, &mut self.cells, &mut self.prunings).map_err(|_| RuleFault::Memory)?;
         reserve(&mut self.nodes, &mut self.flags, &mut self.marks).map_err(|_| RuleFault::Memory)?;
         let n = size(&self.nodes);
         push_within(
@@ -108,6 +125,7 @@ impl Marked {
         push_within(&mut self.flags, left);
         push_within(&mut self.flags, right);
         settle(&self.nodes, &mut self.flags, spot.at, both(left, right));
+        push_within(&mut self.prunings, spot.at);
         Ok(())
     }
 
@@ -177,6 +195,55 @@ impl Marked {
         settle(&self.nodes, &mut self.flags, at, halted);
         bind_cell(&mut self.cells, c, Bound::Is(v));
         self.rest.set_due(calls);
+        Ok(())
+    }
+
+    /// Where the pruning of a cell stands, while no cancel is due.
+    fn pruning(&self, c: u64) -> Result<Pruning, RuleFault>
+        ensures free { IfOk result (λ _. self.now.rest.to_cancel ≡ []) }
+        ensures there { IfOk result (λ o. at self.now.nodes o.parent o.at (AtTwo (IsSide c) o.left o.right)) }
+    {
+        if self.rest.is_due() {
+            return Err(RuleFault::Cancel);
+        }
+        let Some(place) = self.prunings.get(c as usize) else {
+            return Err(RuleFault::Mark);
+        };
+        let Some(node) = self.nodes.get(*place) else {
+            return Err(RuleFault::Mark);
+        };
+        match node.kind {
+            Kind::Two(Double::Side(cell), left, right) if cell == c => Ok(Pruning {
+                at: *place,
+                parent: node.parent,
+                left,
+                right,
+            }),
+            _ => Err(RuleFault::Mark),
+        }
+    }
+
+    /// `lost C`.
+    pub(crate) fn lost(&mut self, program: &Program, c: u64) -> Result<(), RuleFault>
+        ensures done { IfOk result (λ _. (t : Table) → Applies program.now t (entry.Lost c) self.old self.new) }
+        ensures refused { OnErr result (self.new ≡ self.old) }
+    {
+        let pruning = self.pruning(c)?;
+        self.unbound(c)?;
+        if !self.part_has_halted(pruning.right) {
+            return Err(RuleFault::Halted);
+        }
+        let side = self.side_at(pruning.right)?;
+        drop_nodes(&mut self.nodes, &side);
+        write_node(
+            &mut self.nodes,
+            pruning.at,
+            Node {
+                kind: Kind::One(Single::Passed, pruning.left),
+                parent: pruning.parent,
+            },
+        );
+        bind_cell(&mut self.cells, c, Bound::Void);
         Ok(())
     }
 }

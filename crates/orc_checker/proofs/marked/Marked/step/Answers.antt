@@ -45,3 +45,6 @@ returns-in-Void-clause-done c = for_all c.args.program.now c.args.answers.now _ 
 
 pub returns-in-Right-clause-done : goal.returns-in-Right-clause-done
 returns-in-Right-clause-done c = for_terms c.args.program.now c.args.answers.now _ _ c.args.self.now c.right.new.self c.right.result c.in-Right.is c.right.ensures.done
+
+pub returns-in-Lost-clause-done : goal.returns-in-Lost-clause-done
+returns-in-Lost-clause-done c = for_tables c.args.program.now c.args.answers.now _ _ c.args.self.now c.lost.new.self c.lost.result c.in-Lost.is c.lost.ensures.done
