@@ -10,7 +10,6 @@ pub mod Closing
 pub mod Dropping
 pub mod DueCalls
 pub mod Earliest
-pub mod Ended
 pub mod Ending
 pub mod Feeding
 pub mod Filling

@@ -4,7 +4,6 @@ pub mod Calls
 pub mod Checker
 pub mod Dropping
 pub mod DueTimes
-pub mod Ended
 pub mod Grafting
 pub mod Halting
 pub mod Labelling

@@ -1,15 +1,12 @@
-// What an engine asks of a marked term: what a token can do next, when a call is due, whether all has ended.
+// What an engine asks of a marked term: what a token can do next, when a call is due, which sides have halted.
 
-ghost use Rattle.std.specs.Prelude.{◌≡◌, ◌≤◌, IsTrue, List, length, true};
+ghost use Rattle.std.specs.Prelude.{◌≡◌, ◌≤◌, List, length};
 ghost use Rattle.orc_rules.specs.Journal.{Place};
-ghost use Rattle.orc_rules.specs.Marked.{erase};
-ghost use Rattle.orc_rules.specs.Term.{Halted};
 ghost use Rattle.orc_rules.specs.Timed.{Context};
 ghost use Rattle.orc_rules.specs.Nodes.{Listing, code};
 ghost use Rattle.orc_checker.specs.Checker.{Spells};
-ghost use Rattle.orc_checker.specs.Ended.{is_over, AreOver};
 
-use crate::arena::{Bound, Kind, Node, Single, Tip};
+use crate::arena::{Bound, Double, Kind, Single, Tip};
 use crate::marked::{Marked, Spot};
 use crate::walk::{Taker, way_up};
 use orc_rules::param::Operand;
@@ -44,31 +41,6 @@ enum Arguments {
     HasVoid,
     /// The first cell that isn't bound.
     Wait(u64),
-}
-
-// Whether a node is neither a token nor a pending call nor an otherwise that has been entered.
-fn is_over(node: Node) -> bool
-    ensures { result ≡ is_over node.kind }
-{
-    match node.kind {
-        Kind::Leaf(Tip::Token(_, _, _))
-        | Kind::Leaf(Tip::Bears(_, _))
-        | Kind::Leaf(Tip::Waits(_)) => false,
-        Kind::One(Single::Entered(_, _, _), _) => false,
-        _ => true,
-    }
-}
-
-// Whether all nodes are.
-fn are_over(nodes: &Vec<Node>) -> bool
-    ensures { IsTrue result → AreOver nodes.now.items }
-{
-    for node in nodes {
-        if !is_over(*node) {
-            return false;
-        }
-    }
-    true
 }
 
 impl Marked {
@@ -112,11 +84,24 @@ impl Marked {
         }
     }
 
-    /// Whether no token, no pending call and no entered otherwise is left: then the term has halted.
-    pub fn has_ended(&self) -> bool
-        ensures { (x : Context) (l : Listing) (p : Place) → Spells x (code l) self.now p → IsTrue result → Halted (erase p.marked) }
-    {
-        are_over(&self.nodes)
+    /// Whether the right side of a cell's pruning has halted. None where that pruning doesn't stand.
+    pub fn right_has_halted(&self, cell: u64) -> Option<bool> {
+        let place = *self.prunings.get(cell as usize)?;
+        match self.nodes.get(place)?.kind {
+            Kind::Two(Double::Side(c), _, right) if c == cell => Some(self.part_has_halted(right)),
+            _ => None,
+        }
+    }
+
+    /// Whether the left side of an otherwise has halted. None where that otherwise doesn't stand.
+    pub fn left_has_halted(&self, otherwise: u64) -> Option<bool> {
+        let place = *self.marks.get(otherwise as usize)?;
+        match self.nodes.get(place)?.kind {
+            Kind::One(Single::Entered(s, _, _), left) if s == otherwise => {
+                Some(self.part_has_halted(left))
+            }
+            _ => None,
+        }
     }
 
     /// What a token can do next. None where there is no such token, or a cancel is due.

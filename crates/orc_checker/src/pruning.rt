@@ -96,7 +96,9 @@ impl Marked {
         if b == 0 || b - 1 != a {
             return Err(RuleFault::Number);
         }
-        reserve_cell(&mut self.scopes, &mut self.cells, &mut self.prunings).map_err(|_| RuleFault::Memory)?;
+        reserve_cell(&mut self.scopes, &mut self.cells, &mut self.prunings).map_err(
+            |_| RuleFault::Memory,
+        )?;
         reserve(&mut self.nodes, &mut self.flags, &mut self.marks).map_err(|_| RuleFault::Memory)?;
         let n = size(&self.nodes);
         push_within(

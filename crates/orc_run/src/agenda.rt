@@ -8,11 +8,20 @@ use std::alloc::{AllocError, Global};
 use std::cmp::Reverse;
 use std::collections::{BTreeMap, BinaryHeap, VecDeque};
 
+/// A side that ends an opened pruning or an entered otherwise once it has halted, by the number of the cell or of the otherwise.
+#[derive(Clone, Copy)]
+enum Side {
+    Right(u64),
+    Left(u64),
+}
+
 /// Tokens take their turns one after another, so none is starved. A token that waits for a cell stands in that cell's list.
 #[derive(Drop)]
 pub struct Agenda {
     tokens: VecDeque<u64>,
     waiting: BTreeMap<u64, Vec<u64>>,
+    /// The right sides of prunings and left sides of otherwises that stood when they were looked at last.
+    sides: VecDeque<Side>,
     /// The due time and the number of each call that has one, the least first.
     due: BinaryHeap<Reverse<(u64, u64)>>,
 }
@@ -29,7 +38,7 @@ pub enum Choice {
 
 // Whether the checker takes such an entry.
 fn is_taken(next: &Next) -> bool {
-    !matches!(next, Next::Def | Next::Void)
+    !matches!(next, Next::Def)
 }
 
 impl Agenda {
@@ -40,11 +49,13 @@ impl Agenda {
         Ok(Agenda {
             tokens,
             waiting: BTreeMap::new(alloc),
+            sides: VecDeque::new(alloc),
             due: BinaryHeap::new(alloc),
         })
     }
 
-    /// An entry that can come next: a cancel that is due, else what can move, else a return that is due now, else a tick.
+    /// An entry that can come next: a cancel that is due, else a move of a token, else the end of a side that has halted, else a return
+    /// that is due now, else a tick.
     pub fn choose(&mut self, program: &Program, marked: &Marked) -> Result<Choice, AllocError> {
         if let Some(call) = marked.next_cancel() {
             return Ok(Choice::Entry(Entry::Cancel(call)));
@@ -60,7 +71,25 @@ impl Agenda {
                 Some(next) => return Ok(Choice::Entry(token_entry(marked, token, next))),
             }
         }
-        Ok(self.choose_call(marked))
+        match self.choose_side(marked)? {
+            Some(entry) => Ok(Choice::Entry(entry)),
+            None => Ok(self.choose_call(marked)),
+        }
+    }
+
+    // The end of a pruning or of an otherwise whose side has halted. Those that stand no more are forgotten.
+    fn choose_side(&mut self, marked: &Marked) -> Result<Option<Entry>, AllocError> {
+        for _ in 0..self.sides.len() {
+            let Some(side) = self.sides.pop_back() else {
+                break;
+            };
+            match has_halted(marked, side) {
+                None => {}
+                Some(true) => return Ok(Some(side_entry(marked, side))),
+                Some(false) => self.sides.push_front(side)?,
+            }
+        }
+        Ok(None)
     }
 
     // Takes note of a token that waits for a cell.
@@ -92,12 +121,20 @@ impl Agenda {
     /// Takes note of what an entry has made: new tokens, a call, or tokens that wait no more.
     pub fn note(&mut self, entry: &Entry, marked: &Marked) -> Result<(), AllocError> {
         match entry {
-            Entry::Fork(_, a, b) | Entry::Open(_, _, a, b) => {
+            Entry::Open(_, cell, a, b) => {
+                self.sides.push_back(Side::Right(*cell))?;
                 self.tokens.push_back(*a)?;
                 self.tokens.push_back(*b)?;
             }
+            Entry::Fork(_, a, b) => {
+                self.tokens.push_back(*a)?;
+                self.tokens.push_back(*b)?;
+            }
+            Entry::Other(s, a) => {
+                self.sides.push_back(Side::Left(*s))?;
+                self.tokens.push_back(*a)?;
+            }
             Entry::Seq(_, a)
-            | Entry::Other(_, a)
             | Entry::Def(_, a)
             | Entry::Send(_, a, _)
             | Entry::Return(_, a, _)
@@ -126,6 +163,22 @@ impl Agenda {
             }
         }
         Ok(())
+    }
+}
+
+// Whether a side has halted. None where its pruning or otherwise doesn't stand.
+fn has_halted(marked: &Marked, side: Side) -> Option<bool> {
+    match side {
+        Side::Right(cell) => marked.right_has_halted(cell),
+        Side::Left(otherwise) => marked.left_has_halted(otherwise),
+    }
+}
+
+// The entry that a halted side makes possible.
+fn side_entry(marked: &Marked, side: Side) -> Entry {
+    match side {
+        Side::Right(cell) => Entry::Lost(cell),
+        Side::Left(otherwise) => Entry::Right(otherwise, marked.new_mark()),
     }
 }
 

@@ -49,17 +49,22 @@ fn refusal(history: History, fault: RuleFault) -> Result<Played, PlayFault>
 }
 
 // How a run ends where nothing can come next.
-fn rest(history: History) -> Result<Played, PlayFault>
-    ensures { (l : Listing) (t : Table) (limit : ℕ) → IsReached l t history → IfOk result (λ p. IsPlayed l t limit p.history p.end) }
+fn rest(mut history: History, program: &Program) -> Result<Played, PlayFault>
+    ensures { (t : Table) (limit : ℕ) → IsReached program.now t history → IfOk result (λ p. IsPlayed program.now t limit p.history p.end) }
 {
     if history.marked().has_halted() {
-        Ok(Played {
+        return Ok(Played {
             history,
             end: End::Halted,
-        })
-    } else {
-        Err(PlayFault::Later)
+        });
     }
+    if history.is_quiet(program) {
+        return Ok(Played {
+            history,
+            end: End::Quiet,
+        });
+    }
+    Err(PlayFault::Broken)
 }
 
 /// Runs a program: entries that the rules allow, one after another, until nothing can come next or the journal has `limit` of them.
@@ -80,7 +85,7 @@ pub fn play(
     for _turn in 0..limit {
         let entry = match agenda.choose(program, history.marked()) {
             Ok(Choice::Entry(entry)) => entry,
-            Ok(Choice::Nothing) => return rest(history),
+            Ok(Choice::Nothing) => return rest(history, program),
             Ok(Choice::Later) => return Err(PlayFault::Later),
             Err(_) => return Ok(Played {
                 history,
@@ -102,7 +107,7 @@ pub fn play(
             history,
             end: End::Limit,
         }),
-        Ok(Choice::Nothing) => rest(history),
+        Ok(Choice::Nothing) => rest(history, program),
         Ok(Choice::Later) => Err(PlayFault::Later),
         Err(_) => Ok(Played {
             history,

@@ -3,7 +3,7 @@ use Rattle.orc_run.specs.Runs.{IsReached}
 use Rattle.orc_run.proofs.plain.play.Goals as goal
 
 pub returns-in-Ok-Nothing : goal.returns-in-Ok-Nothing
-returns-in-Ok-Nothing c = c.rest.ensures _ _ _ c.loop-turn.invariant.0
+returns-in-Ok-Nothing c = c.rest.ensures _ _ c.loop-turn.invariant.0
 
 -- a refused entry has changed nothing
 pub returns-in-Err-record : goal.returns-in-Err-record
@@ -16,4 +16,4 @@ returns-in-Ok-Entry-choose c =
     record { reached = reached; ends = omega (arith, reached.count, count, c.loop-turn-test.false, c.loop-turn.auto._turn-end) }
 
 pub returns-in-Ok-Nothing-choose : goal.returns-in-Ok-Nothing-choose
-returns-in-Ok-Nothing-choose c = c.rest-in-Ok-Nothing-choose.ensures _ _ _ c.loop-turn.invariant.0
+returns-in-Ok-Nothing-choose c = c.rest-in-Ok-Nothing-choose.ensures _ _ c.loop-turn.invariant.0
