@@ -7,6 +7,7 @@ pub mod Cancelling
 pub mod Catching
 pub mod Change
 pub mod Closing
+pub mod Defining
 pub mod Dropping
 pub mod DueCalls
 pub mod Earliest
@@ -23,6 +24,7 @@ pub mod Lists
 pub mod Losing
 pub mod Moves
 pub mod Opening
+pub mod Parameters
 pub mod Pends
 pub mod Publishing
 pub mod Reached

@@ -9,6 +9,7 @@ pub mod Halting
 pub mod Labelling
 pub mod Names
 pub mod NextDue
+pub mod Parameters
 pub mod Replaying
 pub mod Rising
 pub mod Settling

@@ -21,6 +21,7 @@ mod quiet;
 pub mod replay;
 pub mod rest;
 mod room;
+mod routines;
 mod side;
 mod status;
 mod stillness;

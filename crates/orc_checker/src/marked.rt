@@ -148,6 +148,7 @@ impl Marked {
             Entry::Publish(s, v) => self.publish(program, *s, *v),
             Entry::Cancel(k) => self.cancel(program, *k),
             Entry::Tick(t) => self.tick(program, *t),
+            Entry::Def(s, a) => self.def(program, *s, *a),
             _ => Err(RuleFault::Memory),
         }
     }

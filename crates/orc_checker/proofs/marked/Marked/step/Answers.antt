@@ -48,3 +48,6 @@ returns-in-Right-clause-done c = for_terms c.args.program.now c.args.answers.now
 
 pub returns-in-Lost-clause-done : goal.returns-in-Lost-clause-done
 returns-in-Lost-clause-done c = for_tables c.args.program.now c.args.answers.now _ _ c.args.self.now c.lost.new.self c.lost.result c.in-Lost.is c.lost.ensures.done
+
+pub returns-in-Def-clause-done : goal.returns-in-Def-clause-done
+returns-in-Def-clause-done c = for_tables c.args.program.now c.args.answers.now _ _ c.args.self.now c.def.new.self c.def.result c.in-Def.is c.def.ensures.done

@@ -1,0 +1,44 @@
+use Rattle.std.proofs.Common.{◌≡◌, refl, ap, ◌∙◌, length, subst, [], ◌++◌}
+use Rattle.std.specs.Prelude.{slice_set, slice_index_or}
+use Rattle.orc_rules.specs.Nodes.{code, unfold_node, definition_of}
+use Rattle.orc_rules.specs.Programs.{routine_of}
+use Rattle.orc_checker.specs.declared.arena.Kind.TheVariants.{Leaf}
+use Rattle.orc_checker.specs.declared.arena.Tip.TheVariants.{Token}
+use Rattle.orc_checker.specs.Settling.{Settles}
+use Rattle.orc_checker.specs.Halting.{halt_flag}
+use Rattle.orc_checker.specs.Parameters.{Adds}
+use Rattle.orc_checker.specs.Checker.{State, context}
+use Rattle.orc_checker.proofs.Moves.{node}
+use Rattle.orc_checker.proofs.Answering.{one_more}
+use Rattle.orc_checker.proofs.Defining.{def-enters}
+use Rattle.orc_checker.proofs.marked.Marked.def.Goals as goal
+
+pub returns-clause-done : goal.returns-clause-done
+returns-clause-done c = λ table cancels p reached.
+    let l = c.args.program.now in
+    let t = c.in_ok-spot.spot in
+    let v = c.self.view_is in
+    let s = c.args.self.now in
+    let d = c.in-Some.called.now in
+    let n = c.in_ok-added.scope in
+    let more = c.in_ok-added.added.items in
+    let ps = slice_index_or l.lists c.in-Call.list [] in
+    let halted : c.at-halted.result ≡ halt_flag s.halts d.body = c.at-halted.ensures ∙ ap (λ (z : State). halt_flag z.halts d.body) v in
+    def-enters (code l) s _ t.at t.parent c.args.s t.node t.scope c.in_ok-spot.ensures.there (context l table cancels) (definition_of l (routine_of d)) c.in-Call.number c.args.a d.body n ps more
+    (c.node.ensures.term ∙ ap (unfold_node (code l) l.lists) c.in-Call.is)
+    c.in-Some.ensures
+    refl
+    c.in_ok-next_mark.ensures
+    (subst (λ z. Adds s.cells s.scopes t.scope d.params.items z more n) c.operands-operands.ensures.value
+    (subst (λ (z : State). Adds z.cells z.scopes t.scope d.params.items c.operands-operands.result.now more n) v
+    (subst (λ z. Adds c.self.inside.cells.items c.self.inside.scopes.items t.scope z c.operands-operands.result.now more n) c.deref.ensures.value c.in_ok-added.ensures)))
+    (c.write_node.ensures.items ∙ ap (λ (z : State). slice_set z.nodes t.at (node (Leaf (Token c.args.a d.body n)) t.parent)) v)
+    (c.settle.ensures.len ∙ ap (λ (z : State). length z.flags) v)
+    (subst (λ (z : State). Settles c.write_node.new.nodes.items z.flags t.at (halt_flag s.halts d.body) c.settle.new.flags.items) v (subst (λ b. Settles c.write_node.new.nodes.items c.self.inside.flags.items t.at b c.settle.new.flags.items) halted c.settle.ensures.settles))
+    (c.in_ok-extend_scopes.ensures.items ∙ ap (λ z. z ++ more) (ap State.scopes v))
+    (ap State.cells v)
+    (ap State.halts v)
+    (one_more s.marks _ _ _ c.args.a (c.try_reserve.ensures.items ∙ ap State.marks v) c.push_within.ensures.items c.in_ok-next_mark.ensures)
+    (ap State.rest v)
+    c.in_ok-spot.ensures.free
+    p

@@ -1,0 +1,116 @@
+// Calls of definitions.
+
+ghost use Rattle.std.specs.Prelude.{◌≡◌, ◌++◌, ◌∷◌, [], Some, slice_get, IfOk, IfSome, OnErr, OnOk};
+ghost use Rattle.orc_rules.specs.Nodes.{definitions, definition_of};
+ghost use Rattle.orc_rules.specs.Programs.{routine_of};
+ghost use Rattle.orc_rules.specs.Sites.{Table};
+ghost use Rattle.orc_checker.specs.Checker.{Applies};
+ghost use Rattle.orc_checker.specs.Parameters.{Adds};
+ghost use Rattle.orc_rules.specs.declared.entry.Entry.TheVariants as entry;
+
+use crate::arena::{Bound, Kind, Node, Scope, Tip};
+use crate::flags::settle;
+use crate::marked::Marked;
+use crate::names::meaning;
+use crate::room::push_within;
+use crate::walk::write_node;
+use orc_rules::entry::RuleFault;
+use orc_rules::param::Operand;
+use orc_rules::program::{Definition, Program, TermNode};
+
+/// The definition of a number.
+fn definition(program: &Program, number: u32) -> Option<&Definition>
+    ensures { IfSome result (λ d. slice_get (definitions program.now) number ≡ Some (definition_of program.now (routine_of d.now))) }
+{
+    let called = program.definitions().get(number as usize)?;
+    Some(called)
+}
+
+/// One scope more, or refused memory.
+fn push_scope(scopes: &mut Vec<Scope>, scope: Scope) -> Result<(), RuleFault>
+    ensures items { OnOk result (scopes.new.items ≡ scopes.old.items ++ scope ∷ []) }
+{
+    scopes.push(scope).map_err(|_| RuleFault::Memory)
+}
+
+/// More scopes, or refused memory, which leaves those that are there.
+fn extend_scopes(scopes: &mut Vec<Scope>, added: &Vec<Scope>) -> Result<(), RuleFault>
+    ensures items { OnOk result (scopes.new.items ≡ scopes.old.items ++ added.now.items) }
+    ensures refused { OnErr result (scopes.new.items ≡ scopes.old.items) }
+{
+    scopes
+        .extend_from_slice(added)
+        .map_err(|_| RuleFault::Memory)
+}
+
+/// The scopes of a definition's parameters, the last parameter first, each the outer of the next, and the number of the last.
+/// The errors: Form where the arguments are not as many, or one of them isn't bound, and refused memory.
+fn parameter_scopes(
+    scopes: &Vec<Scope>,
+    cells: &Vec<Bound>,
+    params: &[u32],
+    operands: &[Operand],
+    scope: usize,
+) -> Result<(Vec<Scope>, usize), RuleFault>
+    ensures { IfOk result (λ r. Adds cells.now.items scopes.now.items scope params.now operands.now r.0.items r.1) }
+{
+    if params.len() != operands.len() {
+        return Err(RuleFault::Form);
+    }
+    let mut added = Vec::new(*scopes.allocator());
+    let mut outer = 0;
+    let mut left = params.len();
+    while left > 0 {
+        left -= 1;
+        let Some(bound) = meaning(scopes, cells, operands[left], scope) else {
+            return Err(RuleFault::Form);
+        };
+        let inner = Scope {
+            name: params[left],
+            bound,
+            outer,
+        };
+        push_scope(&mut added, inner)?;
+        outer = scopes.len() + added.len();
+    }
+    Ok((added, outer))
+}
+
+impl Marked {
+    /// `def S A`.
+    pub(crate) fn def(&mut self, program: &Program, s: u64, a: u64) -> Result<(), RuleFault>
+        ensures done { IfOk result (λ _. (t : Table) → Applies program.now t (entry.Def s a) self.old self.new) }
+        ensures refused { OnErr result (self.new ≡ self.old) }
+    {
+        let spot = self.spot(s)?;
+        let TermNode::Call(number, list) = program.node(spot.node) else {
+            return Err(RuleFault::Form);
+        };
+        let Some(called) = definition(program, number) else {
+            return Err(RuleFault::Form);
+        };
+        self.next_mark(a)?;
+        let operands = program.operands(list);
+        let (added, scope) = parameter_scopes(
+            &self.scopes,
+            &self.cells,
+            &called.params,
+            operands,
+            spot.scope,
+        )?;
+        self.marks.try_reserve(1).map_err(|_| RuleFault::Memory)?;
+        extend_scopes(&mut self.scopes, &added)?;
+        write_node(
+            &mut self.nodes,
+            spot.at,
+            Node {
+                kind: Kind::Leaf(Tip::Token(a, called.body, scope)),
+                parent: spot.parent,
+            },
+        );
+        push_within(&mut self.marks, spot.at);
+        let halted = self.halts.at(called.body);
+        settle(&self.nodes, &mut self.flags, spot.at, halted);
+        Ok(())
+    }
+}
