@@ -149,7 +149,6 @@ impl Marked {
             Entry::Cancel(k) => self.cancel(program, *k),
             Entry::Tick(t) => self.tick(program, *t),
             Entry::Def(s, a) => self.def(program, *s, *a),
-            _ => Err(RuleFault::Memory),
         }
     }
 
