@@ -67,7 +67,6 @@ line (fault.Scope f) = codes "orc: " ++ scope_line f
 line (fault.Script f) = codes "orc: " ++ script_line f
 line fault.Memory = codes "orc: E2"
 line fault.Broken = codes "orc: E4"
-line fault.Later = codes "orc: later"
 line (fault.Write w) = codes "orc: write"
 
 -- 5 where memory was refused, else 1 for what is wrong with the program, 6 for the output, 7 for the engine
@@ -89,5 +88,4 @@ status (fault.Scope f) = scope_status f.kind
 status (fault.Script f) = script_status f
 status fault.Memory = 5
 status fault.Broken = 7
-status fault.Later = 1
 status (fault.Write w) = 6

@@ -32,13 +32,6 @@ pub enum Choice {
     Entry(Entry),
     /// No token can move, and no call will ever be due.
     Nothing,
-    /// Something that the checker doesn't take yet.
-    Later,
-}
-
-// Whether the checker takes such an entry.
-fn is_taken(next: &Next) -> bool {
-    !matches!(next, Next::Def)
 }
 
 impl Agenda {
@@ -67,7 +60,6 @@ impl Agenda {
             match marked.next(program, token) {
                 None => {}
                 Some(Next::Wait(cell)) => self.wait(token, cell)?,
-                Some(next) if !is_taken(&next) => return Ok(Choice::Later),
                 Some(next) => return Ok(Choice::Entry(token_entry(marked, token, next))),
             }
         }

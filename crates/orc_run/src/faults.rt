@@ -23,8 +23,6 @@ pub enum RunFault {
     Memory,
     /// E4: the engine chose an entry that the rules refuse. No run is known to end so.
     Broken,
-    /// The program needs what isn't there yet.
-    Later,
     /// The output was not taken whole, or memory for its text was refused.
     Write(WriteFault),
 }
@@ -119,7 +117,6 @@ impl fmt::Display for RunFault {
             RunFault::Script(ScriptFault::Long) => write!(f, "orc: L3"),
             RunFault::Memory => write!(f, "orc: E2"),
             RunFault::Broken => write!(f, "orc: E4"),
-            RunFault::Later => write!(f, "orc: later"),
             RunFault::Write(_) => write!(f, "orc: write"),
         }
     }
@@ -142,7 +139,7 @@ impl RunFault {
                     span: _,
                 },
             ) => 5,
-            RunFault::Syntax(_) | RunFault::Scope(_) | RunFault::Script(_) | RunFault::Later => 1,
+            RunFault::Syntax(_) | RunFault::Scope(_) | RunFault::Script(_) => 1,
             RunFault::Broken => 7,
             RunFault::Write(_) => 6,
         }

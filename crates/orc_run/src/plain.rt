@@ -27,8 +27,6 @@ pub enum PlayFault {
     Memory,
     /// The rules refused an entry that was to come next.
     Broken,
-    /// A construct that isn't there yet.
-    Later,
 }
 
 // What an entry that was not applied ends.
@@ -86,7 +84,6 @@ pub fn play(
         let entry = match agenda.choose(program, history.marked()) {
             Ok(Choice::Entry(entry)) => entry,
             Ok(Choice::Nothing) => return rest(history, program),
-            Ok(Choice::Later) => return Err(PlayFault::Later),
             Err(_) => return Ok(Played {
                 history,
                 end: End::Memory,
@@ -108,7 +105,6 @@ pub fn play(
             end: End::Limit,
         }),
         Ok(Choice::Nothing) => rest(history, program),
-        Ok(Choice::Later) => Err(PlayFault::Later),
         Err(_) => Ok(Played {
             history,
             end: End::Memory,

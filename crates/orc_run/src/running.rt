@@ -56,7 +56,6 @@ fn run_program(
     play(alloc, program, answers, limit).map_err(|fault| match fault {
         PlayFault::Memory => RunFault::Memory,
         PlayFault::Broken => RunFault::Broken,
-        PlayFault::Later => RunFault::Later,
     })
 }
 
