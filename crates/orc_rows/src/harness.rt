@@ -118,10 +118,15 @@ pub fn refused<'a>(source: &'a [u8], err: &'a str) -> Row<'a> {
 }
 
 /// Runs a row's program: what it did, and whether it may.
-pub fn run_row(alloc: Global, row: &Row) -> Result<(Done, bool), Fail> {
-    let mut words = Vec::from_slice(alloc, &["orc", "run", "a.orc", "--script", "a.script"])?;
-    words.extend_from_slice(row.words)?;
-    let files: [(&str, &[u8]); 2] = [("a.orc", row.source), ("a.script", row.script)];
+pub fn run_row<'a>(alloc: Global, row: &Row<'a>) -> Result<(Done, bool), Fail> {
+    let mut words: Vec<&'a str> = Vec::new(alloc);
+    for word in ["orc", "run", "a.orc", "--script", "a.script"] {
+        words.push(word)?;
+    }
+    for word in row.words {
+        words.push(*word)?;
+    }
+    let files: [(&'a str, &'a [u8]); 2] = [("a.orc", row.source), ("a.script", row.script)];
     let done = orc(alloc, words.as_slice(), files.as_slice())?;
     let mut listed = false;
     for out in row.outs {
