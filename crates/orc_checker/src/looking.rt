@@ -1,6 +1,6 @@
 // What an engine asks of a marked term: what a token can do next, when a call is due, which sides have halted.
 
-ghost use Rattle.std.specs.Prelude.{◌≡◌, ◌≤◌, List, length};
+ghost use Rattle.std.specs.Prelude.{◌≡◌, ◌≤◌, List, length, slice_get};
 ghost use Rattle.orc_rules.specs.Journal.{Place};
 ghost use Rattle.orc_rules.specs.Timed.{Context};
 ghost use Rattle.orc_rules.specs.Nodes.{Listing, code};
@@ -59,9 +59,11 @@ impl Marked {
         self.rest.calls.len() as u64 + 1
     }
 
-    /// The call whose cancel is due.
-    pub fn next_cancel(&self) -> Option<u64> {
-        self.rest.to_cancel.last().copied()
+    /// The call whose cancel is due, the first of those that are. None where none is.
+    pub fn next_cancel(&self) -> Option<u64>
+        ensures { result ≡ slice_get self.now.rest.to_cancel 0 }
+    {
+        self.rest.next_cancel()
     }
 
     /// The time.

@@ -1,6 +1,6 @@
 // What of a journal isn't in its term: the time, the calls made, and the cancels due.
 
-ghost use Rattle.std.specs.Prelude.{◌≡◌, ◌∷◌, List, [], map, false, reverse, suc, length, IfOk, IfSome, OnOk, OnErr};
+ghost use Rattle.std.specs.Prelude.{◌≡◌, ◌∷◌, List, [], map, false, reverse, suc, length, slice_get, IfOk, IfSome, OnOk, OnErr};
 ghost use Rattle.std.specs.List.{count_by};
 ghost use Rattle.orc_checker.specs.Calls.{Rest as Aside, key_of, is_key, after_call, NextFound, IsCall, DueNow};
 
@@ -133,6 +133,13 @@ impl Rest {
         ensures { result ≡ false → self.now.to_cancel ≡ [] }
     {
         !self.to_cancel.is_empty()
+    }
+
+    /// The call whose cancel is due, the first of those that are.
+    pub(crate) fn next_cancel(&self) -> Option<u64>
+        ensures { result ≡ slice_get self.now.to_cancel 0 }
+    {
+        self.to_cancel.last().copied()
     }
 
     /// The cancels of these calls come due, the last one first.
