@@ -25,6 +25,7 @@ pub mod Losing
 pub mod Moves
 pub mod Opening
 pub mod Parameters
+pub mod Paths
 pub mod Pends
 pub mod Publishing
 pub mod Reached

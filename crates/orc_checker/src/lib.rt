@@ -18,6 +18,7 @@ mod pending;
 mod pruning;
 mod publish;
 mod quiet;
+mod reading;
 pub mod replay;
 pub mod rest;
 mod room;

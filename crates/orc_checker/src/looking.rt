@@ -1,6 +1,6 @@
 // What an engine asks of a marked term: what a token can do next, when a call is due, which sides have halted.
 
-ghost use Rattle.std.specs.Prelude.{◌≡◌, ◌≤◌, List, length, slice_get};
+ghost use Rattle.std.specs.Prelude.{◌≡◌, ◌≤◌, ◌+◌, List, length, slice_get};
 ghost use Rattle.orc_rules.specs.Journal.{Place};
 ghost use Rattle.orc_rules.specs.Timed.{Context};
 ghost use Rattle.orc_rules.specs.Nodes.{Listing, code};
@@ -45,17 +45,23 @@ enum Arguments {
 
 impl Marked {
     /// The next mark.
-    pub fn new_mark(&self) -> u64 {
+    pub fn new_mark(&self) -> u64
+        ensures { result ≡ length self.now.marks }
+    {
         self.marks.len() as u64
     }
 
     /// The next cell.
-    pub fn new_cell(&self) -> u64 {
+    pub fn new_cell(&self) -> u64
+        ensures { result ≡ length self.now.cells }
+    {
         self.cells.len() as u64
     }
 
     /// The next call.
-    pub fn new_call(&self) -> u64 {
+    pub fn new_call(&self) -> u64
+        ensures { result ≡ length self.now.rest.calls + 1 }
+    {
         self.rest.calls.len() as u64 + 1
     }
 

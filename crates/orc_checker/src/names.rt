@@ -1,9 +1,9 @@
 // What stands for the operands of a node in a scope.
 
-ghost use Rattle.std.specs.Prelude.{◌≡◌, true, IfSome, Some, slice_get};
+ghost use Rattle.std.specs.Prelude.{◌≡◌, true, IfSome, IfNone, Some, None, slice_get};
 ghost use Rattle.orc_rules.specs.declared.param.Operand.TheVariants.{Name};
 ghost use Rattle.orc_checker.specs.Arena.{current};
-ghost use Rattle.orc_checker.specs.Names.{Means, AreArguments};
+ghost use Rattle.orc_checker.specs.Names.{Means, IsFree, AreArguments};
 
 use crate::arena::{Bound, Scope};
 use orc_rules::param::Operand;
@@ -23,21 +23,29 @@ fn current(cells: &Vec<Bound>, bound: Bound) -> Bound
 }
 
 fn scope_at(scopes: &Vec<Scope>, i: usize) -> Option<Scope>
-    ensures { IfSome result (λ s. slice_get scopes.now.items i ≡ Some s) }
+    ensures there { IfSome result (λ s. slice_get scopes.now.items i ≡ Some s) }
+    ensures none { IfNone result (slice_get scopes.now.items i ≡ None) }
 {
-    Some(*scopes.get(i)?)
+    match scopes.get(i) {
+        Some(scope) => Some(*scope),
+        None => None,
+    }
 }
 
 /// What is put for a name in a scope.
 fn bound_of(scopes: &Vec<Scope>, cells: &Vec<Bound>, name: u32, scope: usize) -> Option<Bound>
-    ensures { IfSome result (λ b. Means cells.now.items scopes.now.items scope (Name name) b) }
+    ensures bound { IfSome result (λ b. Means cells.now.items scopes.now.items scope (Name name) b) }
+    ensures free { IfNone result (IsFree cells.now.items scopes.now.items scope (Name name)) }
 {
     let mut at = scope;
-    for _ in 0..=scopes.len() {
+    for _step in 0..=scopes.len() {
         if at == 0 {
             return None;
         }
-        let inner = scope_at(scopes, at - 1)?;
+        let inner = match scope_at(scopes, at - 1) {
+            Some(inner) => inner,
+            None => return None,
+        };
         if inner.name == name {
             return Some(current(cells, inner.bound));
         }
@@ -53,7 +61,8 @@ pub(crate) fn meaning(
     operand: Operand,
     scope: usize,
 ) -> Option<Bound>
-    ensures { IfSome result (λ b. Means cells.now.items scopes.now.items scope operand b) }
+    ensures bound { IfSome result (λ b. Means cells.now.items scopes.now.items scope operand b) }
+    ensures free { IfNone result (IsFree cells.now.items scopes.now.items scope operand) }
 {
     match operand {
         Operand::Is(v) => Some(Bound::Is(v)),

@@ -21,7 +21,7 @@ impl Marked {
     }
 
     /// Whether the part at a node has halted.
-    pub(crate) fn part_has_halted(&self, node: usize) -> bool
+    pub fn part_has_halted(&self, node: usize) -> bool
         ensures { result ≡ flag self.now.flags node }
     {
         flag_at(&self.flags, node)

@@ -1,7 +1,8 @@
 // The walk of a publication, from the token upward.
 
-ghost use Rattle.std.specs.Prelude.{◌≡◌, ◌<◌, ◌≤◌, List, length, slice_index_or, slice_set, vec_capacity, IfSome};
-ghost use Rattle.orc_checker.specs.Rising.{nowhere, pass_node, up, IsTaker, Rises, Passes};
+ghost use Rattle.std.specs.Prelude.{◌≡◌, ◌<◌, ◌≤◌, List, length, slice_index_or, slice_set, vec_capacity, ℕ, IfSome, IfNone};
+ghost use Rattle.orc_checker.specs.Arena.{Frame, Tree};
+ghost use Rattle.orc_checker.specs.Rising.{nowhere, pass_node, up, IsTaker, Rises, Passes, Stands};
 
 use crate::arena::{Double, Kind, Node, Single, Tip};
 
@@ -75,7 +76,8 @@ pub(crate) fn taker_here(above: Kind, place: usize, parent: usize) -> Option<Tak
 
 /// What takes a publication of the node at `from`, and how many nodes it goes past.
 pub(crate) fn way_up(nodes: &Vec<Node>, from: usize) -> Option<Way>
-    ensures { IfSome result (λ w. IsTaker nodes.now.items from w.taker w.steps) }
+    ensures taker { IfSome result (λ w. IsTaker nodes.now.items from w.taker w.steps) }
+    ensures none { IfNone result ((n : ℕ) (k : List Frame) (t : Tree) → Stands nodes.now.items n from k t → ⊥) }
 {
     let mut place = from;
     for steps in 0..nodes.len() {

@@ -5,7 +5,7 @@ use Rattle.orc_checker.specs.Arena.{close_param, env_of}
 use Rattle.orc_checker.proofs.Scopes.{close-given}
 use Rattle.orc_checker.proofs.names.meaning.Goals as goal
 
-pub returns-in-Is : goal.returns-in-Is
-returns-in-Is c ordered =
+pub returns-in-Is-clause-bound : goal.returns-in-Is-clause-bound
+returns-in-Is-clause-bound c ordered =
     let env = env_of c.args.cells.now.items c.args.scopes.now.items c.args.scope in
     ap (λ z. close_param env (param_of z)) c.in-Is.is ∙ close-given env (Is c.in-Is.v)

@@ -40,7 +40,7 @@ loop-left-preserved c =
           subst (λ z. Adds cells ss c.args.scope (drop i xs) (drop i ps) z k) (sym c.in_ok-push_scope.ensures.items)
           (adds-drop cells ss c.args.scope xs ps i more c.loop-left.outer 0 (Name 0) c.in-Some.bound k within also
           (subst (λ z. Adds cells ss c.args.scope (drop z xs) (drop z ps) more c.loop-left.outer) (sym next) c.loop-left.invariant.adds)
-          c.in-Some.ensures
+          c.in-Some.ensures.bound
           is_k);
     }
 

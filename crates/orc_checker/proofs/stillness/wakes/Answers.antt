@@ -21,7 +21,7 @@ pub returns-in-Some-Cell : goal.returns-in-Some-Cell
 returns-in-Some-Cell c = λ yes.
     let l = c.args.program.now in
     let k = c.in-Some-Cell in
-    let means : Means c.args.cells.now.items c.args.scopes.now.items c.args.scope c.in-Operand.operand k.field-0 = k.ensures in
+    let means : Means c.args.cells.now.items c.args.scopes.now.items c.args.scope c.in-Operand.operand k.field-0 = k.ensures.bound in
     wakes_cell (code l) c.args.halts.now c.args.cells.now.items c.args.scopes.now.items c.args.scope c.args.active.now.items c.args.active.now.items c.args.node c.in-Operand.operand k.field-0-0 refl
     (c.node.ensures.term ∙ ap (unfold_node (code l) l.lists) c.in-Operand.is)
     (subst (Means c.args.cells.now.items c.args.scopes.now.items c.args.scope c.in-Operand.operand) k.field-0-is means)

@@ -23,7 +23,7 @@ returns-clause-done c t =
     let r = c.in_ok-side in
     catch-applies l t s _ b.at b.parent c.args.s c.in-Some.way.steps place c.args.c k.left k.right pruning.parent k.field-0 b.tip c.args.v r.side.items (reverse r.calls.items) c.drop_nodes.new.nodes.items
     w.ensures.there w.ensures.lives w.ensures.bears
-    (subst (λ (z : State). IsTaker z.nodes b.at (Bound c.args.c place) c.in-Some.way.steps) v (subst (λ z. IsTaker c.self.inside.nodes.items b.at z c.in-Some.way.steps) (c.in-Bound.is ∙ ap (λ z. Bound z place) c.if-cell-c.false) c.in-Some.ensures))
+    (subst (λ (z : State). IsTaker z.nodes b.at (Bound c.args.c place) c.in-Some.way.steps) v (subst (λ z. IsTaker c.self.inside.nodes.items b.at z c.in-Some.way.steps) (c.in-Bound.is ∙ ap (λ z. Bound z place) c.if-cell-c.false) c.in-Some.ensures.taker))
     (sym (ap (λ (z : State). get_or z.nodes place nowhere) v) ∙ sym c.node_at-pruning.ensures ∙ ap (λ z. node z pruning.parent) k.is)
     (record {
       free = w.ensures.free;

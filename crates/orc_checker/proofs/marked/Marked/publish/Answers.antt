@@ -17,7 +17,7 @@ returns-clause-done c =
     let v = c.self.view_is in
     let s = c.args.self.now in
     publish-enters terms s _ t.at t.parent c.args.s c.in-Some.way.steps t.tip c.args.v c.in_ok-bearer.ensures.there c.in_ok-bearer.ensures.lives c.in_ok-bearer.ensures.bears
-    (subst (λ z. IsTaker s.nodes t.at z c.in-Some.way.steps) c.in-Whole.is (subst (λ (z : State). IsTaker z.nodes t.at c.in-Some.way.taker c.in-Some.way.steps) v c.in-Some.ensures))
+    (subst (λ z. IsTaker s.nodes t.at z c.in-Some.way.steps) c.in-Whole.is (subst (λ (z : State). IsTaker z.nodes t.at c.in-Some.way.taker c.in-Some.way.steps) v c.in-Some.ensures.taker))
     (subst (λ z. Rises z t.at c.in-Some.way.steps c.rise.new.nodes.items) (c.write_node.ensures.items ∙ ap (λ (z : State). slice_set z.nodes t.at (node (Leaf Ended) t.parent)) v) c.rise.ensures.rises)
     (c.rise.ensures.len ∙ ap length c.write_node.ensures.items ∙ length-set c.self.inside.nodes.items t.at (node (Leaf Ended) t.parent) ∙ ap (λ (z : State). length z.nodes) v)
     (c.settle.ensures.len ∙ ap (λ (z : State). length z.flags) v)

@@ -31,7 +31,7 @@ returns-clause-done c =
     c.push_within-4.ensures.items ∙ (λ j. (c.push_within-3.ensures.items ∙ (λ j. (c.reserve.ensures.flags ∙ ap State.flags v) j ++ false ∷ [])) j ++ (c.at.ensures ∙ ap (λ (z : State). halt_flag z.halts f.g) v) j ∷ []) in
     send-enters terms s _ t.at t.parent c.args.s w.steps c.in-Fed.at f.x f.g f.outer c.in-One.field-1 c.args.a t.tip c.args.v c.rise.new.nodes.items
     c.in_ok-bearer.ensures.there c.in_ok-bearer.ensures.lives c.in_ok-bearer.ensures.bears
-    (subst (λ z. IsTaker s.nodes t.at z w.steps) c.in-Fed.is (subst (λ (z : State). IsTaker z.nodes t.at w.taker w.steps) v c.in-Some.ensures))
+    (subst (λ z. IsTaker s.nodes t.at z w.steps) c.in-Fed.is (subst (λ (z : State). IsTaker z.nodes t.at w.taker w.steps) v c.in-Some.ensures.taker))
     (sym (ap (λ (z : State). Node.kind (get_or z.nodes c.in-Fed.at nowhere)) v) ∙ sym (ap Node.kind c.node_at.ensures) ∙ c.in-One.is ∙ ap (λ z. One z c.in-One.field-1) f.is)
     (subst (λ z. Rises z t.at w.steps c.rise.new.nodes.items) (c.write_node.ensures.items ∙ ap (λ z. slice_set z t.at (node (Leaf Ended) t.parent)) (c.reserve.ensures.nodes ∙ ap State.nodes v)) c.rise.ensures.rises)
     (record {

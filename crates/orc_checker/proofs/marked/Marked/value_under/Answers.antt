@@ -12,4 +12,4 @@ returns-in-Is-clause-bears c s carries =
     let m = c.args.self.now in
     bears_token (code l) m.cells m.scopes s c.args.tip c.in-Token.field-0 c.in-Token.node c.in-Token.scope c.in-Operand.operand c.in-Is.v c.in-Token.is carries
     (c.node.ensures.term ∙ ap (unfold_node (code l) l.lists) c.in-Operand.is)
-    (subst (λ (z : State). Means z.cells z.scopes c.in-Token.scope c.in-Operand.operand (Is c.in-Is.v)) c.self.view_is (subst (λ b. Means c.self.inside.cells.items c.self.inside.scopes.items c.in-Token.scope c.in-Operand.operand b) c.in-Is.is c.in_ok-v-in-Token.ensures))
+    (subst (λ (z : State). Means z.cells z.scopes c.in-Token.scope c.in-Operand.operand (Is c.in-Is.v)) c.self.view_is (subst (λ b. Means c.self.inside.cells.items c.self.inside.scopes.items c.in-Token.scope c.in-Operand.operand b) c.in-Is.is c.in_ok-v-in-Token.ensures.bound))

@@ -1,0 +1,56 @@
+// What is read of a marked term by one who judges its entries.
+
+ghost use Rattle.std.specs.Prelude.{◌≡◌, ℕ, List, IfSome, IfNone};
+ghost use Rattle.orc_rules.specs.Nodes.{param_of};
+ghost use Rattle.orc_checker.specs.Arena.{close_param, env_of, Frame, Tree};
+ghost use Rattle.orc_checker.specs.Names.{AreOrdered};
+ghost use Rattle.orc_checker.specs.Rising.{takes, Stands};
+
+use crate::arena::{Bound, Node};
+use crate::marked::Marked;
+use crate::names::meaning;
+use crate::rest::Called;
+use crate::walk::{Taker, way_up};
+use orc_rules::param::{Operand, Param};
+
+impl Marked {
+    /// The nodes, by their numbers.
+    pub fn nodes(&self) -> &[Node]
+        ensures { result.now ≡ self.now.nodes }
+    {
+        &self.nodes
+    }
+
+    /// The calls that were made, call 1 first.
+    pub fn calls(&self) -> &[Called]
+        ensures { result.now ≡ self.now.rest.calls }
+    {
+        &self.rest.calls
+    }
+
+    /// The parameter that an operand is in a scope.
+    pub fn param(&self, operand: Operand, scope: usize) -> Param
+        ensures { AreOrdered self.now.scopes → close_param (env_of self.now.cells self.now.scopes scope) (param_of operand) ≡ result }
+    {
+        match meaning(&self.scopes, &self.cells, operand, scope) {
+            Some(Bound::Is(value)) => Param::Is(value),
+            Some(Bound::Cell(cell)) => Param::Cell(cell),
+            Some(Bound::Void) => Param::Void,
+            None => match operand {
+                Operand::Is(value) => Param::Is(value),
+                Operand::Name(name) => Param::Name(name),
+            },
+        }
+    }
+
+    /// What takes a publication of the node at a place. None where no such node is part of the term.
+    pub fn taker(&self, place: usize) -> Option<Taker>
+        ensures taker { IfSome result (λ w. (n : ℕ) (k : List Frame) (t : Tree) → Stands self.now.nodes n place k t → w ≡ takes k) }
+        ensures none { IfNone result ((n : ℕ) (k : List Frame) (t : Tree) → Stands self.now.nodes n place k t → ⊥) }
+    {
+        match way_up(&self.nodes, place) {
+            Some(way) => Some(way.taker),
+            None => None,
+        }
+    }
+}
