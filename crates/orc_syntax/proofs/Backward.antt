@@ -1,7 +1,7 @@
 -- Printing the nodes of a tree from the last to the first gives its text.
-use Rattle.std.proofs.Common.{◌≡◌, ℕ, zero, suc, ◌+◌, ◌-◌, ◌<◌, ◌≤◌, List, [], ◌∷◌, ◌++◌, reverse, map, take, length, get_or, drop, drop-cons, Bool, true, false, Option, Some, None, refl, sym, ap, ◌∙◌, arith, nat_lt, codes}
+use Rattle.std.proofs.Common.{◌≡◌, ℕ, zero, suc, ◌+◌, ◌-◌, ◌<◌, ◌≤◌, List, [], ◌∷◌, ◌++◌, reverse, map, take, length, get_or, drop, drop-cons, Bool, true, false, Some, None, refl, sym, ap, ◌∙◌, arith, nat_lt, codes}
 use Rattle.std.proofs.lemmas.List.{map-append, take_more, reverse-append, append-nil, append_assoc, drop_all}
-use Rattle.orc_syntax.specs.Tree.{Link, Seq, Par, Prune, Other, Tree, Leaf, Variable, Call, Operation, Val, Trees, Nil, Cons, Define, Item, Sort, item, leaf, variable, call, operation, val, post, posts, count}
+use Rattle.orc_syntax.specs.Tree.{Link, Seq, Par, Prune, Other, Tree, Leaf, Variable, Call, Operation, Val, Trees, Nil, Cons, Define, Item, item, leaf, variable, call, operation, val, post, posts, count}
 use Rattle.orc_syntax.specs.Printing.{sign, bracketed, text, arguments, others, definition}
 use Rattle.orc_syntax.specs.Grammar.{level, left_level, right_level}
 use Rattle.orc_syntax.specs.Backward.{Task, visit, say, more, given, opening, closing, signs, operated, valued, parts, says, visits, entered, back, task, waiting, said, piece_text}

@@ -9,17 +9,9 @@ use Rattle.orc_lex.specs.Tokens.{Lexeme}
 use Rattle.orc_lex.specs.Lexing.{Piece, Gap, Item, Bad, begin_of, Stands, IsPiece, Pieces, lexemes, Cut}
 use Rattle.orc_lex.proofs.Unique.{piece_unique, piece_on, pieces_on, goes_on, cut_goes_on, lexemes_append}
 use Rattle.orc_lex.proofs.Within.{piece_in}
+use Rattle.orc_lex.proofs.Names.{same_item, not_gap, not_bad}
 
 -- a token stands where it begins
-not_gap : {e : ℕ} {t : Lexeme} → Gap e ≡ Item t → ⊥
-not_gap e = absurd cc
-
-not_bad : {why : Unread} {t : Lexeme} → Bad why ≡ Item t → ⊥
-not_bad e = absurd cc
-
-same_item : {t u : Lexeme} → Item t ≡ Item u → t ≡ u
-same_item e = cc
-
 start_at : {t u : Lexeme} → Item t ≡ Item u → t.span.start ≡ u.span.start
 start_at e = ap (λ (v : Lexeme). v.span.start) (same_item e)
 

@@ -14,3 +14,6 @@ pub mod Progress
 pub mod Posts
 pub mod Least
 pub mod Nested
+pub mod Fine
+pub mod Ascii
+pub mod Again

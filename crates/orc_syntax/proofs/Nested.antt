@@ -1,16 +1,15 @@
 -- The parts of what is written stand inside it.
-use Rattle.std.proofs.Common.{◌≡◌, ℕ, ◌+◌, ◌≤◌, ◌<◌, List, [], ◌∷◌, ◌++◌, Option, Some, None, refl, sym, ap, subst, ◌∙◌, append_assoc, arith}
+use Rattle.std.proofs.Common.{◌≡◌, ℕ, ◌≤◌, List, [], ◌∷◌, ◌++◌, sym, subst, ◌∙◌, append_assoc, arith}
 use Rattle.std.proofs.lemmas.List.{append-nil}
-use Rattle.orc_lex.specs.declared.token.Span.{Span}
 use Rattle.orc_lex.specs.declared.token.Joint.TheVariants as joints
 use Rattle.orc_lex.specs.declared.token.Side.TheVariants as sides
-use Rattle.orc_lex.specs.Tokens.{Lexeme, Open, Close, Comma, Assign, Val, token}
-use Rattle.orc_lex.specs.Lexing.{Piece, Gap, Item, Bad, IsPiece, Pieces, lexemes, Cut}
+use Rattle.orc_lex.specs.Tokens.{Lexeme, Close, Comma, token}
+use Rattle.orc_lex.specs.Lexing.{Piece, Gap, Item, Bad, Pieces, lexemes}
 use Rattle.orc_lex.proofs.Unique.{piece_on}
-use Rattle.orc_syntax.specs.Tree.{Label, Tree, Trees, Nil, Cons, Source, Define, span_of}
-use Rattle.orc_syntax.specs.Grammar.{Sign, Single, Double, Writing, plain, name, call, brackets, operation, binding, Writings, nothing, last, more, Head, Program, main, define, word, sign_tokens, link, tokens, tokens_of_all, head_tokens, program_tokens, start_of, end_of, span, tree, trees_of, definitions, main_of, source, Spells}
+use Rattle.orc_syntax.specs.Tree.{Source, span_of}
+use Rattle.orc_syntax.specs.Grammar.{Sign, Single, Double, Writing, plain, name, call, brackets, operation, binding, Writings, nothing, last, more, Program, main, define, sign_tokens, link, tokens, tokens_of_all, head_tokens, program_tokens, start_of, end_of, span, tree, trees_of, definitions, main_of}
 use Rattle.orc_syntax.specs.Text.{SpellsText}
-use Rattle.orc_syntax.specs.Nested.{IsInside, IsVariableInside, IsNested, AreNested, AreBodiesNested, IsAllNested}
+use Rattle.orc_syntax.specs.Nested.{IsVariableInside, IsNested, AreNested, AreBodiesNested, IsAllNested}
 use Rattle.orc_syntax.proofs.Cuts.{token_at}
 
 -- tokens that stand one behind the other

@@ -8,3 +8,4 @@ pub mod Machine
 pub mod View
 pub mod Text
 pub mod Nested
+pub mod Same

@@ -1,7 +1,7 @@
 -- A part of an expression stands inside it.
-use Rattle.std.specs.Prelude.{ℕ, ◌≤◌, List, [], ◌∷◌, Option, Some, None}
+use Rattle.std.specs.Prelude.{◌≤◌, List, [], ◌∷◌, Some}
 use Rattle.orc_lex.specs.declared.token.Span.{Span}
-use Rattle.orc_syntax.specs.Tree.{Label, Link, Seq, Par, Prune, Other, Tree, Leaf, Variable, Call, Operation, Val, Trees, Nil, Cons, Define, Source, span_of}
+use Rattle.orc_syntax.specs.Tree.{Link, Seq, Prune, Tree, Leaf, Variable, Call, Operation, Val, Trees, Nil, Cons, Define, Source, span_of}
 
 abbrev pub IsInside : Span → Span → Type 0
 IsInside inner outer = (outer.start ≤ inner.start) × (inner.end ≤ outer.end)

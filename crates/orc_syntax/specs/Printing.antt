@@ -1,5 +1,5 @@
 -- How a program is printed.
-use Rattle.std.specs.Prelude.{ℕ, List, [], ◌∷◌, ◌++◌, Bool, true, false, nat_lt, if◌then◌else◌, Option, Some, None, codes}
+use Rattle.std.specs.Prelude.{ℕ, List, [], ◌∷◌, ◌++◌, Bool, true, false, nat_lt, Some, None, codes}
 use Rattle.std.specs.Fmt.{signed_decimal}
 use Rattle.orc_lex.specs.declared.token.Plain.{Plain}
 use Rattle.orc_lex.specs.declared.token.Plain.TheVariants.{Number, Truth, Signal, Stop}

@@ -3,7 +3,8 @@
 //! `parse` answers the program that a text spells, with its places; a text that spells none is refused with its first
 //! fault. The grammar stands in specs/Grammar.antt as the ways in which programs are written, and specs/Text.antt says what
 //! a text spells and what is wrong with one that spells nothing. No text spells two programs
-//! (`one_source`), and the parts of one stand inside their wholes (`parts_inside`).
+//! (`one_source`), and the parts of one stand inside their wholes (`parts_inside`). What is printed of a program spells it
+//! again, its places apart (`print`, `printed_again`).
 #![tactic(auto)]
 
 mod depth;
@@ -15,6 +16,6 @@ pub mod tree;
 
 pub use fault::SyntaxFault;
 pub use orc_lex::token::{Plain, Span, What};
-pub use printing::print;
+pub use printing::{print, printed_again};
 pub use source::{one_source, parse, parts_inside};
 pub use tree::{Ast, Definition, Expr, Name, Node, Operator, Part};

@@ -6,6 +6,8 @@ ghost use Rattle.orc_syntax.specs.Tree.{Tree, Source, Define, operation, val, ca
 ghost use Rattle.orc_syntax.specs.Ast.{IsExpr, IsAst, AreDefinitions, sort, item, label, link};
 ghost use Rattle.orc_syntax.specs.Printing.{plain_text, printed, definition, definitions, names, other_names, text};
 ghost use Rattle.orc_syntax.specs.Grammar.{level, left_level, right_level};
+ghost use Rattle.orc_syntax.specs.Text.{SpellsText};
+ghost use Rattle.orc_syntax.specs.Same.{IsSame, AppendsSame};
 ghost use Rattle.orc_syntax.specs.Backward.{parts, given, more, signs, opening, closing, back, says, visits, waiting, said, piece_text, visit, say, IfNext, OnNone};
 
 use crate::tree::{Ast, Definition, Name, Node, Operator, Part};
@@ -357,12 +359,21 @@ fn print_text(alloc: Global, ast: &Ast, out: &mut Vec<u8>) -> Result<(), AllocEr
 
 /// Appends the text of a program: a line for each definition, and the main expression in a line.
 ///
-/// An operand is in brackets exactly where its place wants a tighter form. Where a growth is refused, nothing is appended.
+/// An operand is in brackets exactly where its place wants a tighter form. The text spells the program again, its places
+/// apart; where it is over the limit of a source or its brackets are too deep, `parse` refuses it. Where a growth is
+/// refused, nothing is appended.
 pub fn print(alloc: Global, ast: &Ast, out: &mut Vec<u8>) -> Result<(), AllocError>
     ensures printed { (s : Source) → IsAst ast.now s → OnOk result (out.new.items ≡ out.old.items ++ printed s) }
+    // The program of a text is spelled again.
+    ensures same { (src : List ℕ) (s : Source) → IsAst ast.now s → SpellsText src s → OnOk result (AppendsSame out.old.items out.new.items s) }
     ensures refused { OnErr result (out.new.items ≡ out.old.items) }
 {
     let mut text = Vec::new(alloc);
     print_text(alloc, ast, &mut text)?;
     out.extend_from_slice(&text)
 }
+
+/// Whatever the printed text of a program spells is that program, places apart.
+pub fn printed_again()
+    ensures { (src : List ℕ) (s t : Source) → SpellsText src s → SpellsText (printed s) t → IsSame t s }
+{}

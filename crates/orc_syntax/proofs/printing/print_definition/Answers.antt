@@ -1,7 +1,6 @@
-use Rattle.std.proofs.Common.{◌≡◌, ◌++◌, List, ℕ, ap, sym, subst, ◌∙◌, map}
-use Rattle.std.specs.Prelude.{OnOk}
+use Rattle.std.proofs.Common.{◌++◌, ap, sym, subst, ◌∙◌, map}
 use Rattle.orc_syntax.specs.Ast.{label, IsExpr}
-use Rattle.orc_syntax.specs.Printing.{names, text}
+use Rattle.orc_syntax.specs.Printing.{names}
 use Rattle.orc_syntax.proofs.Backward.{line_joins}
 use Rattle.orc_syntax.proofs.printing.print_definition.Goals as goal
 

@@ -1,4 +1,4 @@
-use Rattle.std.proofs.Common.{◌≡◌, ◌++◌, ◌+◌, ◌∷◌, [], List, ℕ, drop, sym, ap, subst, ◌∙◌, arith, rules, append_assoc}
+use Rattle.std.proofs.Common.{◌++◌, ◌+◌, List, ℕ, drop, sym, ap, subst, ◌∙◌, rules, append_assoc}
 use Rattle.std.proofs.lemmas.List.{append-nil}
 use Rattle.orc_syntax.specs.declared.tree.Definition.{Definition}
 use Rattle.orc_syntax.specs.Tree.{Define}

@@ -1,7 +1,6 @@
-use Rattle.std.proofs.Common.{◌≡◌, ◌++◌, ◌∷◌, [], List, ℕ, sym, ap, ◌∙◌, subst, reverse, map}
+use Rattle.std.proofs.Common.{◌≡◌, ◌++◌, ◌∷◌, [], List, ℕ, ap, ◌∙◌, subst}
 use Rattle.std.specs.Prelude.{OnOk}
-use Rattle.orc_syntax.specs.Ast.{item}
-use Rattle.orc_syntax.specs.Backward.{waiting, said, back, visit}
+use Rattle.orc_syntax.specs.Backward.{waiting, said, visit}
 use Rattle.orc_syntax.proofs.Backward.{whole_said}
 use Rattle.orc_syntax.proofs.printing.print_expression.Goals as goal
 

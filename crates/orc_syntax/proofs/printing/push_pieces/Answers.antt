@@ -1,5 +1,4 @@
-use Rattle.std.proofs.Common.{sym, ap, ◌∙◌, ◌++◌, arith, rules, List, ℕ}
-use Rattle.orc_syntax.specs.Backward.{piece_text}
+use Rattle.std.proofs.Common.{◌∙◌, arith, rules}
 use Rattle.orc_syntax.proofs.Backward.{said_front, said_start}
 use Rattle.orc_syntax.proofs.printing.push_pieces.Goals as goal
 

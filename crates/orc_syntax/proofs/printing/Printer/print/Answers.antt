@@ -1,6 +1,5 @@
-use Rattle.std.proofs.Common.{◌≡◌, ◌++◌, ◌∷◌, ◌-◌, [], ℕ, List, map, reverse, take, sym, ap, subst, ◌∙◌, arith, rules, Option}
+use Rattle.std.proofs.Common.{◌≡◌, ◌++◌, ◌∷◌, [], ℕ, map, reverse, take, sym, ap, subst, ◌∙◌, arith, rules, Option}
 use Rattle.orc_syntax.specs.Ast.{item}
-use Rattle.orc_syntax.specs.Tree.{Item}
 use Rattle.orc_syntax.specs.Backward.{back, waiting, said, visits, visit, OnNone, IfNext}
 use Rattle.orc_syntax.proofs.Backward.{back_end, back_turn, back_step}
 use Rattle.orc_syntax.proofs.printing.Printer.print.Goals as goal
