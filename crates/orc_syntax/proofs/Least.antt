@@ -18,7 +18,7 @@ use Rattle.orc_syntax.specs.Tree.{Source}
 use Rattle.orc_syntax.specs.Ast.{IsAst}
 use Rattle.orc_syntax.specs.Grammar.{Program, program_tokens, source, Spells, Begins, made_tokens, behind_all}
 use Rattle.orc_syntax.specs.Machine.{State, Posted, Refusal, run, finish, start}
-use Rattle.orc_syntax.specs.Text.{longest_source, SpellsTokens, SpellsText, BeginsText, StopsAt, StopsAtEnd, IsDeepAt, IsUnread, IsFault, IsShallow, IsShallowBefore, IfFault, Answers, place, number, IsNoLater, first_of}
+use Rattle.orc_syntax.specs.Text.{longest_source, SpellsTokens, SpellsText, BeginsText, StopsAt, StopsAtEnd, IsDeepAt, IsUnread, IsFault, IsLimit, IsShallow, IsShallowBefore, IfFault, Answers, place, number, IsNoLater, first_of}
 use Rattle.orc_syntax.proofs.Cuts.{bad_last, cut_in, before_cut, before_token}
 use Rattle.orc_syntax.proofs.Programs.{posted, reads}
 use Rattle.orc_syntax.proofs.Posts.{source_is}
@@ -232,16 +232,35 @@ stop_refuses src at what s h k =
 end_refuses : (src : List ℕ) (at : ℕ) (what : What) (s : Source) → StopsAtEnd src at what → SpellsTokens src s → ⊥
 end_refuses src at what s h k = h.stuck s (subst (λ (us : List Lexeme). Spells us s) (cut_unique src k.0 h.front (length src) k.1 h.cut) k.2)
 
+token_limits : (src : List ℕ) (f : SyntaxFault) (s : Source) → IsFault src f → IsToken f → SpellsTokens src s → IsLimit f
+token_limits src faults.Memory s h t k = h
+token_limits src faults.Long s h t k = tt
+token_limits src (faults.Encoding at) s h t k = t
+token_limits src (faults.Character at) s h t k = unread_refuses src at unread.Character s h k
+token_limits src (faults.Number r) s h t k = unread_refuses src r.start (unread.Number r.end) s h k
+token_limits src (faults.Comment at) s h t k = unread_refuses src at unread.Comment s h k
+token_limits src (faults.Deep at) s h t k = tt
+token_limits src (faults.Expected at what) s (inl h) t k = stop_refuses src at what s h k
+token_limits src (faults.Expected at what) s (inr h) t k = end_refuses src at what s h k
+
+deep_refuses : (src : List ℕ) (f : SyntaxFault) → IsFault src f → IsToken f → IsShallow src → IsLimit f → ⊥
+deep_refuses src faults.Long h t n l = t
+deep_refuses src (faults.Deep at) h t n l = n at h
+deep_refuses src _ h t n l = l
+
 token_refuses : (src : List ℕ) (f : SyntaxFault) (s : Source) → IsFault src f → IsToken f → IsShallow src → SpellsTokens src s → ⊥
-token_refuses src faults.Memory s h t n k = h
-token_refuses src faults.Long s h t n k = t
-token_refuses src (faults.Encoding at) s h t n k = t
-token_refuses src (faults.Character at) s h t n k = unread_refuses src at unread.Character s h k
-token_refuses src (faults.Number r) s h t n k = unread_refuses src r.start (unread.Number r.end) s h k
-token_refuses src (faults.Comment at) s h t n k = unread_refuses src at unread.Comment s h k
-token_refuses src (faults.Deep at) s h t n k = n at h
-token_refuses src (faults.Expected at what) s (inl h) t n k = stop_refuses src at what s h k
-token_refuses src (faults.Expected at what) s (inr h) t n k = end_refuses src at what s h k
+token_refuses src f s h t n k = deep_refuses src f h t n (token_limits src f s h t k)
+
+-- what UTF-8 spells is at fault only for a limit
+pub only_limits : (src : List ℕ) (s : Source) (f : SyntaxFault) → IsUtf8 src → SpellsTokens src s → IsFault src f → IsLimit f
+only_limits src s faults.Memory u k h = h
+only_limits src s faults.Long u k h = tt
+only_limits src s (faults.Encoding at) u k h = h.1 u
+only_limits src s (faults.Character at) u k h = token_limits src (faults.Character at) s h tt k
+only_limits src s (faults.Number r) u k h = token_limits src (faults.Number r) s h tt k
+only_limits src s (faults.Comment at) u k h = token_limits src (faults.Comment at) s h tt k
+only_limits src s (faults.Deep at) u k h = tt
+only_limits src s (faults.Expected at what) u k h = token_limits src (faults.Expected at what) s h tt k
 
 -- what is least among all
 abbrev pub IsLeast : List ℕ → SyntaxFault → Type 0

@@ -100,6 +100,12 @@ IsFault src (faults.Expected at what) = StopsAt src at what ⊎ StopsAtEnd src a
 IsFault src (faults.Deep at) = IsDeepAt src at
 IsFault src (faults.Comment at) = IsUnread src at unread.Comment
 
+-- The fault is that a limit is passed.
+abbrev pub IsLimit : SyntaxFault → Type 0
+IsLimit faults.Long = Unit {0}
+IsLimit (faults.Deep at) = Unit {0}
+IsLimit _ = ⊥
+
 -- Nothing is too deep in it.
 abbrev pub IsShallow : List ℕ → Type 0
 IsShallow src = (at : ℕ) → IsDeepAt src at → ⊥

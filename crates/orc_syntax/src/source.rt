@@ -1,13 +1,14 @@
 //! From bytes to a program.
 
 ghost use Rattle.std.specs.Prelude.{◌≡◌, ℕ, List, length, nat_lt, IfOk};
+ghost use Rattle.std.specs.Str.{IsUtf8};
 ghost use Rattle.orc_lex.specs.Tokens.{sort};
 ghost use Rattle.orc_syntax.specs.Tree.{Source};
 ghost use Rattle.orc_syntax.specs.Ast.{IsAst};
 ghost use Rattle.orc_syntax.specs.Machine as machine;
 ghost use Rattle.orc_syntax.specs.Nested.{IsAllNested};
 ghost use Rattle.orc_syntax.specs.View.{mode, context, nodes, stack, count_of, fault_by, Takes};
-ghost use Rattle.orc_syntax.specs.Text.{SpellsText, SpellsTokens, BeginsText, IsFault, IfFault, IsShallow, IsShallowBefore, Answers, fault_at, place, first_of, IsNoLater};
+ghost use Rattle.orc_syntax.specs.Text.{SpellsText, SpellsTokens, BeginsText, IsFault, IfFault, IsLimit, IsShallow, IsShallowBefore, Answers, fault_at, place, first_of, IsNoLater};
 ghost use Rattle.orc_syntax.specs.declared.fault.SyntaxFault.{SyntaxFault};
 
 use crate::depth::Depth;
@@ -148,6 +149,11 @@ pub fn parse<'a>(alloc: Global, src: &'a [u8]) -> Result<Ast<'a>, SyntaxFault>
 /// No text spells two programs.
 pub fn one_source()
     ensures { (src : List ℕ) (s t : Source) → SpellsText src s → SpellsText src t → s ≡ t }
+{}
+
+/// A text that is UTF-8 and whose tokens spell a program is at fault only where it is too long, or too deep.
+pub fn only_limits()
+    ensures { (src : List ℕ) (s : Source) (f : SyntaxFault) → IsUtf8 src → SpellsTokens src s → IsFault src f → IsLimit f }
 {}
 
 /// The parts of what a text spells stand inside their wholes.
