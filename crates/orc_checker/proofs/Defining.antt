@@ -1,5 +1,5 @@
 -- A call of a definition becomes its body.
-use Rattle.std.proofs.Common.{◌≡◌, ◌≤◌, ℕ, suc, List, [], ◌++◌, length, map, Some, refl, sym, ap, ◌∙◌, subst, inr, arith, length-append, length-set}
+use Rattle.std.proofs.Common.{◌≡◌, ◌≤◌, ℕ, suc, List, [], ◌++◌, length, map, Some, None, refl, sym, ap, ◌∙◌, subst, inr, arith, length-append, length-set}
 use Rattle.std.specs.Prelude.{slice_get, slice_set}
 use Rattle.orc_rules.specs.declared.entry.Entry.TheVariants as entry
 use Rattle.orc_rules.specs.declared.param.Operand.{Operand}
@@ -29,6 +29,9 @@ use Rattle.orc_checker.proofs.Moves.{node, written, turn, scope_there}
 -- a definition of the code is one of the program
 pub defined : (l : Listing) (ds : List Declared) (e : ℕ) (d : Declared) → map routine_of ds ≡ l.routines → slice_get ds e ≡ Some d → slice_get (definitions l) e ≡ Some (definition_of l (routine_of d))
 defined l ds e d is h = slice_get-map (definition_of l) l.routines e ∙ ap (option_map (definition_of l)) (ap (λ z. slice_get z e) (sym is) ∙ slice_get-map routine_of ds e ∙ ap (option_map routine_of) h)
+
+pub not_defined : (l : Listing) (ds : List Declared) (e : ℕ) → map routine_of ds ≡ l.routines → slice_get ds e ≡ None → slice_get (definitions l) e ≡ None
+not_defined l ds e is h = slice_get-map (definition_of l) l.routines e ∙ ap (option_map (definition_of l)) (ap (λ z. slice_get z e) (sym is) ∙ slice_get-map routine_of ds e ∙ ap (option_map routine_of) h)
 
 module _ (code : ℕ → Term) (s s' : State) (i q m f e : ℕ) (a : at s.nodes q i (Leaf (Token m f e))) where
   abbrev env : ℕ → Env

@@ -37,7 +37,7 @@ pub mod Sending
 pub mod Settling
 pub mod Sorting
 pub mod Spelling
-pub mod Stills
+pub mod Moving
 pub mod Ticking
 pub mod Trees
 pub mod Voiding

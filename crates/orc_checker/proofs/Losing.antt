@@ -1,5 +1,5 @@
 -- A pruning whose right side has halted ends without a value.
-use Rattle.std.proofs.Common.{◌≡◌, ◌≤◌, ◌+◌, ℕ, List, [], ◌∷◌, length, Some, refl, sym, ap, ◌∙◌, subst, arith, inr, Bool, true, false, length-set}
+use Rattle.std.proofs.Common.{◌≡◌, ℕ, List, [], length, Some, refl, sym, ap, ◌∙◌, subst, arith, inr, Bool, true, false, length-set}
 use Rattle.std.specs.Prelude.{slice_get, slice_set, ◌&&◌}
 use Rattle.orc_rules.specs.declared.entry.Entry.TheVariants as entry
 use Rattle.orc_rules.specs.declared.param.Param.TheVariants as is
@@ -8,23 +8,23 @@ use Rattle.orc_checker.specs.declared.arena.Bound.{Bound}
 use Rattle.orc_checker.specs.declared.arena.Bound.TheVariants.{Cell, Void}
 use Rattle.orc_checker.specs.declared.arena.Single.TheVariants.{Passed}
 use Rattle.orc_checker.specs.declared.arena.Double.{Double}
-use Rattle.orc_checker.specs.declared.arena.Double.TheVariants.{Both, Side}
+use Rattle.orc_checker.specs.declared.arena.Double.TheVariants.{Side}
 use Rattle.orc_checker.specs.declared.arena.Kind.{Kind}
 use Rattle.orc_checker.specs.declared.arena.Kind.TheVariants.{One, Two}
-use Rattle.orc_rules.specs.Term.{Term, fill}
-use Rattle.orc_rules.specs.Marked.{Marked, in_opened, erase, fill_marked, Replaces, here}
+use Rattle.orc_rules.specs.Term.{fill}
+use Rattle.orc_rules.specs.Marked.{in_opened, erase, fill_marked, Replaces, here}
 use Rattle.orc_rules.specs.Idle.{has_halted}
 use Rattle.orc_rules.specs.Nodes.{Listing, code}
 use Rattle.orc_rules.specs.Sites.{Table}
 use Rattle.orc_rules.specs.Numbered.{IsNumbered, cell, times}
 use Rattle.orc_rules.proofs.Tests.{halted_by_test}
-use Rattle.orc_checker.specs.Arena.{Env, Tree, leaf, one, two, place, hits, count, at, Holds, StandOnce, IsTopped, spelled, env_of, given, plug}
+use Rattle.orc_checker.specs.Arena.{Tree, leaf, one, two, place, count, at, Holds, StandOnce, IsTopped, spelled, env_of, given, plug}
 use Rattle.orc_checker.specs.Around.{above}
 use Rattle.orc_checker.specs.Rising.{Stands}
 use Rattle.orc_checker.specs.Names.{AreOrdered}
 use Rattle.orc_checker.specs.Settling.{flag, HasFlags}
 use Rattle.orc_checker.specs.Dropping.{AreNodesOf, IsDropped}
-use Rattle.orc_checker.specs.Checker.{State, Applies, context, AreOwn, AreCells}
+use Rattle.orc_checker.specs.Checker.{State, Applies, context, AreOwn}
 use Rattle.orc_checker.proofs.Trees.{hit, count-plug, holds-out, living-most}
 use Rattle.orc_checker.proofs.Change.{place-plug}
 use Rattle.orc_checker.proofs.Feeding.{own_kind}

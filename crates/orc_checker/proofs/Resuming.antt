@@ -1,28 +1,24 @@
 -- The right side of an otherwise starts in its place.
-use Rattle.std.proofs.Common.{◌≡◌, ◌+◌, ℕ, suc, List, [], ◌∷◌, length, Option, Some, refl, sym, ap, ◌∙◌, subst, arith, inr, Bool, true, false}
+use Rattle.std.proofs.Common.{◌≡◌, ◌+◌, ℕ, suc, List, [], ◌∷◌, length, Option, Some, refl, sym, ap, ◌∙◌, subst, arith, inr, true}
 use Rattle.std.specs.Prelude.{slice_get, slice_set}
 use Rattle.orc_rules.specs.declared.entry.Entry.TheVariants as entry
 use Rattle.orc_checker.specs.declared.arena.Node.{Node}
 use Rattle.orc_checker.specs.declared.arena.Tip.{Tip}
 use Rattle.orc_checker.specs.declared.arena.Tip.TheVariants.{Token}
 use Rattle.orc_checker.specs.declared.arena.Single.{Single}
-use Rattle.orc_checker.specs.declared.arena.Single.TheVariants.{Entered, Passed}
-use Rattle.orc_checker.specs.declared.arena.Double.{Double}
-use Rattle.orc_checker.specs.declared.arena.Double.TheVariants.{Both}
+use Rattle.orc_checker.specs.declared.arena.Single.TheVariants.{Entered}
 use Rattle.orc_checker.specs.declared.arena.Kind.{Kind}
-use Rattle.orc_checker.specs.declared.arena.Kind.TheVariants.{Leaf, One, Two}
-use Rattle.orc_rules.specs.Term.{Term, Halted}
-use Rattle.orc_rules.specs.Marked.{Marked, token, in_other, erase, Replaces, here}
+use Rattle.orc_checker.specs.declared.arena.Kind.TheVariants.{Leaf, One}
+use Rattle.orc_rules.specs.Term.{Term}
+use Rattle.orc_rules.specs.Marked.{token, in_other, erase, Replaces, here}
 use Rattle.orc_rules.specs.Idle.{has_halted}
 use Rattle.orc_rules.proofs.Tests.{halted_by_test}
-use Rattle.orc_checker.specs.Arena.{Env, Tree, leaf, one, two, place, count, at, Holds, living, StandOnce, IsTopped, spelled, env_of, close, Frame, plug}
+use Rattle.orc_checker.specs.Arena.{Tree, leaf, one, two, place, count, at, Holds, living, StandOnce, IsTopped, spelled, env_of, close, Frame, plug}
 use Rattle.orc_checker.specs.Around.{above}
-use Rattle.orc_checker.specs.Rising.{Stands}
 use Rattle.orc_checker.specs.Halting.{halt_flag}
 use Rattle.orc_checker.specs.Settling.{flag, HasFlags, Settles}
 use Rattle.orc_checker.specs.Dropping.{AreNodesOf, IsDropped}
 use Rattle.orc_checker.specs.Names.{AreOrdered}
-use Rattle.orc_checker.specs.Calls.{Keeps}
 use Rattle.orc_checker.specs.Checker.{State, Enters, AreCells}
 use Rattle.orc_checker.proofs.Trees.{hit, count-plug, holds-out, living-most, spot, topped-plug}
 use Rattle.orc_checker.proofs.Change.{place-plug}

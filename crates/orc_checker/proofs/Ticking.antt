@@ -1,36 +1,31 @@
 -- The time goes on to the next due time.
-use Rattle.std.proofs.Common.{◌≡◌, ◌<◌, ◌≤◌, ◌+◌, ℕ, zero, suc, List, [], ◌∷◌, ◌++◌, map, length, get_or, Option, Some, None, refl, sym, ap, ◌∙◌, subst, inl, inr, ◌⊎◌, ⊎_elim, arith, Bool, true, false, length-append}
+use Rattle.std.proofs.Common.{◌≡◌, ◌<◌, ◌+◌, ℕ, zero, suc, List, [], ◌∷◌, map, length, Option, Some, None, refl, sym, ap, ◌∙◌, subst, inl, inr, ⊎_elim, arith, Bool, false, length-append}
 use Rattle.std.specs.Prelude.{slice_get}
-use Rattle.orc_rules.specs.declared.value.Answer.{Answer}
 use Rattle.orc_rules.specs.declared.value.Found.{Found}
 use Rattle.orc_rules.specs.declared.entry.Entry.TheVariants as entry
-use Rattle.orc_rules.specs.Term.{Term, pending_of}
+use Rattle.orc_rules.specs.Term.{Term, Definition, pending_of}
 use Rattle.orc_rules.specs.Marked.{erase}
-use Rattle.orc_rules.specs.Idle.{has_halted, can_move}
+use Rattle.orc_rules.specs.Idle.{can_move}
 use Rattle.orc_rules.specs.Sites.{Site}
-use Rattle.orc_rules.specs.Timed.{Context, CallMade, IsQuiet, IsIn, IsDue, says_of}
+use Rattle.orc_rules.specs.Timed.{Context, CallMade, IsIn, says_of}
 use Rattle.orc_rules.specs.Journal.{Place, moment}
 use Rattle.orc_rules.specs.Lost.{IsSource}
 use Rattle.orc_rules.specs.Pending.{PendsDue, IsNextDue}
-use Rattle.orc_rules.specs.Tests.{TickByTest, QuietByTest}
+use Rattle.orc_rules.specs.Tests.{TickByTest}
 use Rattle.orc_checker.specs.declared.arena.Node.{Node}
 use Rattle.orc_checker.specs.declared.arena.Kind.TheVariants.{Leaf}
-use Rattle.orc_checker.specs.declared.arena.Tip.TheVariants.{Gone, Waits}
+use Rattle.orc_checker.specs.declared.arena.Tip.TheVariants.{Waits}
 use Rattle.orc_checker.specs.declared.rest.Called.{Called}
 use Rattle.orc_checker.specs.Arena.{at, leaf, spelled, env_of}
-use Rattle.orc_checker.specs.Calls.{Rest, Keeps, AreNumbered, told, told_of}
-use Rattle.orc_checker.specs.Checker.{State, Draws, Spells, Enters}
-use Rattle.orc_checker.specs.Names.{AreOrdered}
-use Rattle.orc_checker.specs.Halting.{AreHalts}
-use Rattle.orc_checker.specs.Settling.{flag, kind_at}
-use Rattle.orc_checker.proofs.Settling.{flag_says}
-use Rattle.orc_checker.specs.Rising.{nowhere}
-use Rattle.orc_checker.specs.NextDue.{IsDueOf, IsDueAt, IsNext}
-use Rattle.orc_checker.specs.Stillness.{AreStill}
+use Rattle.orc_checker.specs.Calls.{AreNumbered, told, told_of}
+use Rattle.orc_checker.specs.Checker.{State, Spells, Follows}
+use Rattle.orc_checker.specs.Settling.{kind_at}
+use Rattle.orc_checker.specs.NextDue.{IsDueAt, IsNext}
+use Rattle.orc_checker.specs.Stillness.{node_moves, DoMove}
 use Rattle.orc_checker.proofs.Lists.{get-append, get-end, get-more}
 use Rattle.orc_checker.proofs.Change.{says_of as found_there}
 use Rattle.orc_checker.proofs.Pends.{waits_for, pends_around}
-use Rattle.orc_checker.proofs.Stills.{still_tree}
+use Rattle.orc_checker.proofs.Moving.{kind_of, moves_are}
 
 length-told : (sites : List Site) (calls : List CallMade) → length (told_of sites calls) ≡ length calls
 length-told sites [] = refl
@@ -95,11 +90,6 @@ kind_there [] i k h = absurd (cc h)
 kind_there (x ∷ nodes) zero k h = (x.parent, λ j. Some (record { kind = h j; parent = x.parent }))
 kind_there (x ∷ nodes) (suc i) k h = kind_there nodes i k h
 
-at_kind : (nodes : List Node) (i k q : ℕ) → at nodes q i (Leaf (Waits k)) → kind_at nodes i ≡ Leaf (Waits k)
-at_kind [] i k q h = cc h
-at_kind (x ∷ nodes) zero k q h = ap Node.kind (same_some x (record { kind = Leaf (Waits k); parent = q }) h)
-at_kind (x ∷ nodes) (suc i) k q h = at_kind nodes i k q h
-
 module _ (x : Context) (code : ℕ → Term) (s : State) (p : Place) (sp : Spells x code s p) (source : (i : ℕ) → IsSource (code i)) where
   -- a node that waits shows a call that pends and is due
   pub due_pends : (i t : ℕ) → IsDueAt s.nodes s.rest.calls i t → PendsDue x (moment p) t
@@ -137,7 +127,7 @@ module _ (x : Context) (code : ℕ → Term) (s : State) (p : Place) (sp : Spell
         w.0,
         (
           k,
-          at_kind s.nodes w.0 k w.1 w.2,
+          kind_of s.nodes w.0 w.1 (Leaf (Waits k)) w.2,
           record {
             index = o.index;
             is_k = sym due.is_k ∙ o.number;
@@ -156,17 +146,18 @@ module _ (x : Context) (code : ℕ → Term) (s : State) (p : Place) (sp : Spell
   next_is None h = λ t d. let w = pends_due t d in h w.0 t w.1
   next_is (Some t) h = (due_pends h.0.0 t h.0.1, λ u d. let w = pends_due u d in h.1 w.0 u w.1)
 
-  pub cannot_move : AreStill code s.cells s.scopes s.flags s.nodes → can_move x.definitions (erase p.marked) ≡ false
-  cannot_move still =
-      let dr = sp.drawn in
-      ap (λ z. can_move x.definitions (erase z)) dr.marked ∙ still_tree code s.cells s.scopes s.halts s.flags s.nodes dr.flags.are_halts still x.definitions (length s.scopes) 0 dr.tree dr.holds dr.flags.each
+-- whether some node can move says whether the term can
+pub movement : (x : Context) (code : ℕ → Term) (s : State) (p : Place) (defs : List Definition) (b : Bool) → Spells x code s p → DoMove (node_moves defs code s.cells s.scopes s.flags) s.nodes b → b ≡ can_move defs (erase p.marked)
+movement x code s p defs b sp m =
+    let d = sp.drawn in
+    moves_are defs code s.cells s.scopes s.flags s.halts s.nodes d.flags.are_halts (length s.scopes) 0 d.tree d.holds d.flags.each d.once b m ∙ ap (λ z. can_move defs (erase z)) (sym d.marked)
 
-pub tick-enters : (code : ℕ → Term) (s s' : State) (t : ℕ) → ((i : ℕ) → IsSource (code i)) → TickByTest → s.rest.to_cancel ≡ []
-    → (AreHalts code s.halts → AreOrdered s.scopes → AreStill code s.cells s.scopes s.flags s.nodes) → IsNext s.nodes s.rest.calls (Some t) → s.rest.time < t
-    → s' ≡ record s { rest = record (State.rest s) { time = t } } → Enters code (entry.Tick t) s s'
-tick-enters code s s' t source law free still next later is x p sp =
+pub tick-follows : (x : Context) (code : ℕ → Term) (s s' : State) (t : ℕ) → ((i : ℕ) → IsSource (code i)) → TickByTest → s.rest.to_cancel ≡ []
+    → ((p : Place) → Spells x code s p → can_move x.definitions (erase p.marked) ≡ false) → IsNext s.nodes s.rest.calls (Some t) → s.rest.time < t
+    → s' ≡ record s { rest = record (State.rest s) { time = t } } → Follows x code (entry.Tick t) s s'
+tick-follows x code s s' t source law free still next later is p sp =
     let tick = (law x (moment p) (Some t) (next_is x code s p sp source (Some t) next) t).1
-    (cannot_move x code s p sp source (still sp.drawn.flags.are_halts sp.scopes), refl, omega (arith, later, sp.rest.time)) in
+    (still p sp, refl, omega (arith, later, sp.rest.time)) in
     let r = sp.rest in (
       record p { now = t },
       (inr (r.due ∙ free), (tick, refl)),
@@ -179,12 +170,3 @@ tick-enters code s s' t source law free still next later is x p sp =
             rest = record { time = refl; calls_are = r.calls_are; keys_are = r.keys_are; numbered = r.numbered; due = r.due; cancels_are = r.cancels_are };
           }),
     )
-
--- nothing can happen any more
-pub quiet_there : (x : Context) (code : ℕ → Term) (s : State) (p : Place) → Spells x code s p → ((i : ℕ) → IsSource (code i)) → QuietByTest → flag s.flags 0 ≡ false
-    → (AreHalts code s.halts → AreOrdered s.scopes → AreStill code s.cells s.scopes s.flags s.nodes) → IsNext s.nodes s.rest.calls None → IsQuiet x (moment p)
-quiet_there x code s p sp source law off still next =
-    let d = sp.drawn in
-    let halted = sym (flag_says code (env_of s.cells s.scopes) s.halts d.flags.are_halts s.flags d.tree d.flags.each ∙ ap (λ m. has_halted (erase m)) (sym d.marked)) ∙ ap (flag s.flags) d.root ∙ off in
-    (law x (moment p) None (next_is x code s p sp source None next)).1
-    (halted, cannot_move x code s p sp source (still d.flags.are_halts sp.scopes), refl)

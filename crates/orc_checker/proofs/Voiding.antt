@@ -1,28 +1,29 @@
 -- A token on void ends.
-use Rattle.std.proofs.Common.{◌≡◌, ◌<◌, ℕ, zero, suc, List, [], ◌∷◌, length, map, get_or, refl, sym, ap, ◌∙◌, subst, arith, inl, inr, true, false, length-set}
+use Rattle.std.proofs.Common.{◌≡◌, ℕ, List, [], ◌∷◌, length, refl, sym, ap, ◌∙◌, inl, inr, true, false, length-set}
 use Rattle.std.specs.Prelude.{slice_set}
 use Rattle.orc_rules.specs.declared.entry.Entry.TheVariants as entry
-use Rattle.orc_rules.specs.declared.param.Param.TheVariants.{Void}
-use Rattle.orc_rules.specs.declared.param.Operand.{Operand}
+use Rattle.orc_rules.specs.declared.param.Param.{Param}
+use Rattle.orc_rules.specs.declared.param.Param.TheVariants.{Name, Is, Cell, Void}
 use Rattle.orc_checker.specs.declared.arena.Tip.TheVariants.{Token, Ended}
 use Rattle.orc_checker.specs.declared.arena.Kind.TheVariants.{Leaf}
 use Rattle.orc_rules.specs.Term.{Term, HasVoid}
-use Rattle.orc_rules.specs.Idle.{has_halted}
+use Rattle.orc_rules.specs.Idle.{has_halted, has_void}
 use Rattle.orc_rules.specs.Journal.{Place, IsVoid}
 use Rattle.orc_rules.specs.Marked.{ended}
-use Rattle.orc_rules.specs.Nodes.{param_of}
-use Rattle.orc_checker.specs.Arena.{Env, leaf, at, env_of, close, close_param}
+use Rattle.orc_checker.specs.Arena.{leaf, at, env_of, close}
 use Rattle.orc_checker.specs.Checker.{State, Enters}
 use Rattle.orc_checker.specs.Names.{AreOrdered}
 use Rattle.orc_checker.specs.Settling.{Settles}
 use Rattle.orc_checker.proofs.Flagging.{reflag_leaf_settled}
 use Rattle.orc_checker.proofs.Moves.{node, Stays, staying, written, token_moves}
 
--- one of the operands is void
-pub void_among : (e : Env) (ps : List Operand) (i : ℕ) (d : Operand) → i < length ps → close_param e (param_of (get_or ps i d)) ≡ Void → HasVoid (map (close_param e) (map param_of ps))
-void_among e [] i d lt h = absurd (omega (arith, lt))
-void_among e (p ∷ ps) zero d lt h = inl h
-void_among e (p ∷ ps) (suc i) d lt h = inr (void_among e ps i d (omega (arith, lt)) h)
+-- the test finds a void one
+pub void_among : (ps : List Param) → has_void ps ≡ true → HasVoid ps
+void_among [] h = absurd (cc h)
+void_among (Is v ∷ ps) h = inr (void_among ps h)
+void_among (Cell c ∷ ps) h = inr (void_among ps h)
+void_among (Name x ∷ ps) h = inr (void_among ps h)
+void_among (Void ∷ ps) h = inl refl
 
 module _ (code : ℕ → Term) (s s' : State) (i q m f e : ℕ) (a : at s.nodes q i (Leaf (Token m f e))) where
   pub void-enters : (AreOrdered s.scopes → IsVoid (close (env_of s.cells s.scopes e) (code f))) → has_halted (code f) ≡ false → s'.nodes ≡ slice_set s.nodes i (node (Leaf Ended) q)

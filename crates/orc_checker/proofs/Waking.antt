@@ -1,104 +1,20 @@
--- A node of the program can't move where none of its active parts can.
-use Rattle.std.proofs.Common.{◌≡◌, ◌<◌, ◌≤◌, ◌+◌, ℕ, zero, suc, List, [], ◌∷◌, map, length, get_or, Option, Some, None, refl, sym, ap, ◌∙◌, subst, inl, inr, ◌⊎◌, ⊎_elim, arith, Bool, true, false}
-use Rattle.std.specs.Prelude.{slice_get, slice_set, ◌||◌, is_some}
-use Rattle.orc_rules.specs.declared.param.Operand.{Operand}
-use Rattle.orc_rules.specs.declared.param.Param.{Param}
-use Rattle.orc_rules.specs.declared.param.Param.TheVariants as is
+-- Whether a node of the program can move, by itself and by its parts.
+use Rattle.std.proofs.Common.{◌≡◌, ◌<◌, ◌≤◌, ◌+◌, ℕ, zero, suc, List, [], ◌∷◌, length, get_or, refl, sym, ap, ◌∙◌, subst, inl, inr, ◌⊎◌, ⊎_elim, arith, Bool, true, false}
+use Rattle.std.specs.Prelude.{slice_set, ◌||◌, ◌&&◌}
 use Rattle.orc_rules.specs.declared.program.TermNode.{TermNode}
-use Rattle.orc_rules.specs.declared.program.TermNode.TheVariants.{Stop, Par, Seq, Other}
-use Rattle.orc_rules.specs.Term.{Term, Definition, stop, param, site, par, seq, other, values_of}
-use Rattle.orc_rules.specs.Idle.{has_halted, has_void, is_ready, can_move}
-use Rattle.orc_rules.specs.Nodes.{ArePartsFirst, HasParts, node_of, param_of}
-use Rattle.orc_checker.specs.declared.arena.Bound.{Bound}
-use Rattle.orc_checker.specs.declared.arena.Bound.TheVariants.{Cell}
-use Rattle.orc_checker.specs.declared.arena.Scope.{Scope}
-use Rattle.orc_checker.specs.Arena.{Env, close, close_param, env_of, hits}
-use Rattle.orc_checker.specs.Halting.{halt_flag, AreHalts}
-use Rattle.orc_checker.specs.Names.{AreOrdered, Means}
+use Rattle.orc_rules.specs.declared.program.TermNode.TheVariants.{Stop}
+use Rattle.orc_rules.specs.Term.{Term, Definition, stop, param, site, call, par, seq, prune, other, pending, opened}
+use Rattle.orc_rules.specs.Idle.{has_halted, can_move}
+use Rattle.orc_rules.specs.Lost.{IsSource}
+use Rattle.orc_rules.specs.Nodes.{ArePartsFirst, HasParts, node_of}
+use Rattle.orc_checker.specs.Arena.{Env, close, hits}
+use Rattle.orc_checker.specs.Halting.{halt_flag}
 use Rattle.orc_checker.specs.Settling.{flag}
-use Rattle.orc_checker.specs.Stillness.{AreWaiting, IsStill, Keeps, Wakes}
+use Rattle.orc_checker.specs.Stillness.{Wakes}
 use Rattle.orc_checker.proofs.Trees.{hit, hits-both}
-use Rattle.orc_checker.proofs.Closing.{close-stop, close-par, close-seq, close-other}
-use Rattle.orc_checker.proofs.Scopes.{close-of-param, close-site}
-use Rattle.orc_checker.proofs.Settling.{flag-set_same, flag-set_other, close_halted}
+use Rattle.orc_checker.proofs.Closing.{close-stop, close-par, close-seq}
+use Rattle.orc_checker.proofs.Settling.{flag-set_same, flag-set_other}
 use Rattle.orc_checker.proofs.Halting.{parts_in}
-
-pub keeps_all : (active active' : List Bool) → active' ≡ active → Keeps active active'
-keeps_all active active' e k h = ap (λ z. flag z k) e ∙ h
-
-pub keeps_set : (active active' : List Bool) (f : ℕ) → active' ≡ slice_set active f true → Keeps active active'
-keeps_set active active' f e k h =
-    ap (λ z. flag z k) e ∙
-    ⊎_elim (λ (same : k ≡ f). ap (flag (slice_set active f true)) same ∙ flag-set_same active f)
-    (λ (z : hits k f ≡ 0). flag-set_other active f k true (λ same. omega (arith, z, hit f, ap (λ w. hits w f) same)) ∙ h)
-    (hits-both k f)
-
-pub is_set : (active active' : List Bool) (f : ℕ) → active' ≡ slice_set active f true → flag active' f ≡ true
-is_set active active' f e = ap (λ z. flag z f) e ∙ flag-set_same active f
-
-pub parts_total : (nodes : List TermNode) (i : ℕ) → ArePartsFirst nodes → HasParts i (node_of nodes i)
-parts_total nodes i first = ⊎_elim (λ (lt : i < length nodes). parts_in nodes i first lt) (λ (le : length nodes ≤ i). subst (HasParts i) (sym (past nodes i le)) tt) (either i (length nodes))
-  where
-    past : (xs : List TermNode) (i : ℕ) → length xs ≤ i → get_or xs i Stop ≡ Stop
-    past [] i le = refl
-    past (x ∷ xs) zero le = absurd (omega (arith, le))
-    past (x ∷ xs) (suc i) le = past xs i (omega (arith, le))
-
-    either : (i n : ℕ) → (i < n) ⊎ (n ≤ i)
-    either i zero = inr (omega arith)
-    either zero (suc n) = inl (omega arith)
-    either (suc i) (suc n) = ⊎_elim (λ (a : i < n). inl (omega (arith, a))) (λ (a : n ≤ i). inr (omega (arith, a))) (either i n)
-
-module _ (code : ℕ → Term) (halts : List Bool) (cells : List Bound) (scopes : List Scope) (e : ℕ) (active active' : List Bool) (i : ℕ) where
-  abbrev env : Env
-  env = env_of cells scopes e
-
-  abbrev Still : ℕ → Type 0
-  Still k = IsStill code cells scopes e k
-
-  pub wakes_stop : active' ≡ active → code i ≡ stop → Wakes code halts cells scopes e active active' i
-  wakes_stop same is = (keeps_all active active' same, λ are ordered h defs. ap (can_move defs) (ap (close env) is ∙ close-stop env))
-
-  pub wakes_cell : (p : Operand) (c : ℕ) → active' ≡ active → code i ≡ param (param_of p) → Means cells scopes e p (Cell c) → Wakes code halts cells scopes e active active' i
-  wakes_cell p c same is means = (keeps_all active active' same, λ are ordered h defs. ap (can_move defs) (ap (close env) is ∙ close-of-param env (param_of p) ∙ ap param (means ordered)))
-
-  pub wakes_site : (m : ℕ) (ps : List Operand) → active' ≡ active → code i ≡ site m (map param_of ps) → AreWaiting cells scopes e ps true → Wakes code halts cells scopes e active active' i
-  wakes_site m ps same is waits = (
-    keeps_all active active' same,
-    λ are ordered h defs.
-        let w = waits ordered in
-        ap (can_move defs) (ap (close env) is ∙ close-site env m (map param_of ps)) ∙ (λ j. is_some (w.1 refl j) || w.0 j),
-  )
-
-  pub wakes_seq : (f x g : ℕ) → f < i → active' ≡ slice_set active f true → code i ≡ seq (code f) x (code g) → Wakes code halts cells scopes e active active' i
-  wakes_seq f x g lt same is = (
-    keeps_set active active' f same,
-    λ are ordered h defs. ap (can_move defs) (ap (close env) is ∙ close-seq env (code f) x (code g)) ∙ h f lt (is_set active active' f same) defs,
-  )
-
-  pub wakes_other : (f g : ℕ) → f < i → active' ≡ slice_set active f true → code i ≡ other (code f) (code g) → halt_flag halts f ≡ false → Wakes code halts cells scopes e active active' i
-  wakes_other f g lt same is off = (
-    keeps_set active active' f same,
-    λ are ordered h defs.
-        ap (can_move defs) (ap (close env) is ∙ close-other env (code f) (code g)) ∙
-        (λ j. h f lt (is_set active active' f same) defs j || (close_halted env (code f) ∙ sym (are f) ∙ off) j),
-  )
-
-  pub wakes_par : (f g : ℕ) (mid : List Bool) → f < i → g < i → mid ≡ slice_set active f true → active' ≡ slice_set mid g true → code i ≡ par (code f) (code g) → Wakes code halts cells scopes e active active' i
-  wakes_par f g mid lt lt' first second is =
-      let keep = keeps_set mid active' g second in (
-        λ k on. keep k (keeps_set active mid f first k on),
-        λ are ordered h defs.
-            ap (can_move defs) (ap (close env) is ∙ close-par env (code f) (code g)) ∙
-            (λ j. h f lt (keep f (is_set active mid f first)) defs j || h g lt' (is_set mid active' g second) defs j),
-      )
-
--- the nodes of a term are looked at from the last to the first
-abbrev pub LooksDown : (ℕ → Term) → List Bound → List Scope → ℕ → ℕ → List Bool → ℕ → Type 0
-LooksDown code cells scopes e node active n = ((k : ℕ) → k < n → flag active k ≡ true → IsStill code cells scopes e k) → IsStill code cells scopes e node
-
-pub looks_first : (code : ℕ → Term) (cells : List Bound) (scopes : List Scope) (e node : ℕ) (active active' : List Bool) → active' ≡ slice_set active node true → LooksDown code cells scopes e node active' (node + 1)
-looks_first code cells scopes e node active active' same h = h node (omega arith) (is_set active active' node same)
 
 pub below_or : (k n : ℕ) → k < n + 1 → (k < n) ⊎ (k ≡ n)
 below_or zero zero lt = inr refl
@@ -106,14 +22,138 @@ below_or zero (suc n) lt = inl (omega arith)
 below_or (suc k) zero lt = absurd (omega (arith, lt))
 below_or (suc k) (suc n) lt = ⊎_elim (λ (a : k < n). inl (omega (arith, a))) (λ e. inr (ap suc e)) (below_or k n (omega (arith, lt)))
 
-module _ (code : ℕ → Term) (cells : List Bound) (scopes : List Scope) (e node : ℕ) (active active' : List Bool) (m n : ℕ) (is : m ≡ n + 1) where
-  pub looks_on : (halts : List Bool) → AreHalts code halts → AreOrdered scopes → Wakes code halts cells scopes e active active' n → LooksDown code cells scopes e node active m → LooksDown code cells scopes e node active' n
-  looks_on halts are ordered w l h =
-      l (λ k lt on. ⊎_elim (λ (a : k < n). h k a (w.0 k on)) (λ same. subst (IsStill code cells scopes e) (sym same) (w.1 are ordered h)) (below_or k n (omega (arith, lt, is))))
+less_or : (i n : ℕ) → (i < n) ⊎ (n ≤ i)
+less_or i zero = inr (omega arith)
+less_or zero (suc n) = inl (omega arith)
+less_or (suc i) (suc n) = ⊎_elim (λ (a : i < n). inl (omega (arith, a))) (λ (a : n ≤ i). inr (omega (arith, a))) (less_or i n)
 
-  pub looks_past : flag active n ≡ false → LooksDown code cells scopes e node active m → LooksDown code cells scopes e node active n
-  looks_past off l h =
-      l (λ k lt on. ⊎_elim (λ (a : k < n). h k a on) (λ same. absurd (cc (sym on ∙ ap (flag active) same ∙ off))) (below_or k n (omega (arith, lt, is))))
+past : {X : Type 0} (xs : List X) (d : X) (i : ℕ) → length xs ≤ i → get_or xs i d ≡ d
+past [] d i le = refl
+past (x ∷ xs) d zero le = absurd (omega (arith, le))
+past (x ∷ xs) d (suc i) le = past xs d i (omega (arith, le))
 
-pub looks_all : (code : ℕ → Term) (cells : List Bound) (scopes : List Scope) (e node : ℕ) (active : List Bool) → LooksDown code cells scopes e node active 0 → IsStill code cells scopes e node
-looks_all code cells scopes e node active l = l (λ k lt on. absurd (omega (arith, lt)))
+pub parts_total : (nodes : List TermNode) (i : ℕ) → ArePartsFirst nodes → HasParts i (node_of nodes i)
+parts_total nodes i first = ⊎_elim (λ (lt : i < length nodes). parts_in nodes i first lt) (λ (le : length nodes ≤ i). subst (HasParts i) (sym (past nodes Stop i le)) tt) (less_or i (length nodes))
+
+is_set : (active active' : List Bool) (f : ℕ) → active' ≡ slice_set active f true → flag active' f ≡ true
+is_set active active' f e = ap (λ z. flag z f) e ∙ flag-set_same active f
+
+keeps_set : (active active' : List Bool) (f : ℕ) → active' ≡ slice_set active f true → (k : ℕ) → flag active k ≡ true → flag active' k ≡ true
+keeps_set active active' f e k h =
+    ap (λ z. flag z k) e ∙
+    ⊎_elim (λ (same : k ≡ f). ap (flag (slice_set active f true)) same ∙ flag-set_same active f)
+    (λ (z : hits k f ≡ 0). flag-set_other active f k true (λ same. omega (arith, z, hit f, ap (λ w. hits w f) same)) ∙ h)
+    (hits-both k f)
+
+-- what is set now was set before, or is the one that was set
+was_set : (active active' : List Bool) (f : ℕ) → active' ≡ slice_set active f true → (k : ℕ) → flag active' k ≡ true → (flag active k ≡ true) ⊎ (k ≡ f)
+was_set active active' f e k h =
+    ⊎_elim (λ (same : k ≡ f). inr same)
+    (λ (z : hits k f ≡ 0). inl (sym (flag-set_other active f k true (λ same. omega (arith, z, hit f, ap (λ w. hits w f) same))) ∙ sym (ap (λ w. flag w k) e) ∙ h))
+    (hits-both k f)
+
+or_right : (a b : Bool) → b ≡ true → (a || b) ≡ true
+or_right true b h = refl
+or_right false b h = h
+
+module _ (moves : ℕ → Bool) (active active' : List Bool) (i : ℕ) where
+  pub wakes_itself : (b : Bool) → active' ≡ active → moves i ≡ b → Wakes moves active active' i b
+  wakes_itself b same is =
+      record {
+        by_itself = λ yes. is ∙ yes;
+        by_parts = λ no h. is ∙ no;
+        kept = λ k on. ap (λ z. flag z k) same ∙ on;
+        woken = λ k on. inl (sym (ap (λ z. flag z k) same) ∙ on);
+      }
+
+  pub wakes_one : (f : ℕ) (b : Bool) → f < i → active' ≡ slice_set active f true → moves i ≡ (moves f || b) → Wakes moves active active' i b
+  wakes_one f b lt same is =
+      record {
+        by_itself = λ yes. is ∙ or_right (moves f) b yes;
+        by_parts = λ no h. is ∙ (λ j. h f lt (is_set active active' f same) j || no j);
+        kept = keeps_set active active' f same;
+        woken = λ k on. ⊎_elim (λ was. inl was) (λ (e : k ≡ f). inr (λ yes. is ∙ ap (λ z. z || b) (sym (ap moves e) ∙ yes))) (was_set active active' f same k on);
+      }
+
+  pub wakes_two : (f g : ℕ) (mid : List Bool) → f < i → g < i → mid ≡ slice_set active f true → active' ≡ slice_set mid g true → moves i ≡ (moves f || moves g) → Wakes moves active active' i false
+  wakes_two f g mid lt lt' first second is =
+      record {
+        by_itself = λ yes. absurd (cc yes);
+        by_parts = λ no h. is ∙ (λ j. h f lt (keeps_set mid active' g second f (is_set active mid f first)) j || h g lt' (is_set mid active' g second) j);
+        kept = λ k on. keeps_set mid active' g second k (keeps_set active mid f first k on);
+        woken = λ k on.
+            ⊎_elim
+            (λ was. ⊎_elim (λ before. inl before) (λ (e : k ≡ f). inr (λ yes. is ∙ ap (λ z. z || moves g) (sym (ap moves e) ∙ yes))) (was_set active mid f first k was))
+            (λ (e : k ≡ g). inr (λ yes. is ∙ or_right (moves f) (moves g) (sym (ap moves e) ∙ yes)))
+            (was_set mid active' g second k on);
+      }
+
+-- the nodes of a term are looked at from the last to the first: it can move exactly where an active one can
+pub record Looks (moves : ℕ → Bool) (node : ℕ) (active : List Bool) (n : ℕ) : Type 0 where
+  pub down : ((k : ℕ) → k < n → flag active k ≡ true → moves k ≡ false) → moves node ≡ false
+  pub up : (k : ℕ) → k < n → flag active k ≡ true → moves k ≡ true → moves node ≡ true
+
+module _ (moves : ℕ → Bool) (node : ℕ) (active active' : List Bool) where
+  pub looks_first : Wakes moves active active' node false → ((k : ℕ) → k < node → flag active k ≡ true → moves k ≡ false) → Looks moves node active' node
+  looks_first w none =
+      record {
+        down = w.by_parts refl;
+        up = λ k lt on yes. ⊎_elim (λ was. absurd (cc (sym yes ∙ none k lt was))) (λ f. f yes) (w.woken k on);
+      }
+
+  pub looks_on : (m n : ℕ) → m ≡ n + 1 → flag active n ≡ true → Wakes moves active active' n false → Looks moves node active m → Looks moves node active' n
+  looks_on m n is here w l =
+      record {
+        down = λ h. l.down (λ k lt on. ⊎_elim (λ (a : k < n). h k a (w.kept k on)) (λ same. ap moves same ∙ w.by_parts refl h) (below_or k n (omega (arith, lt, is))));
+        up = λ k lt on yes. ⊎_elim (λ was. l.up k (omega (arith, lt, is)) was yes) (λ f. l.up n (omega (arith, is)) here (f yes)) (w.woken k on);
+      }
+
+  pub looks_past : (m n : ℕ) → m ≡ n + 1 → flag active n ≡ false → Looks moves node active m → Looks moves node active n
+  looks_past m n is off l =
+      record {
+        down = λ h. l.down (λ k lt on. ⊎_elim (λ (a : k < n). h k a on) (λ same. absurd (cc (sym on ∙ ap (flag active) same ∙ off))) (below_or k n (omega (arith, lt, is))));
+        up = λ k lt on yes. l.up k (omega (arith, lt, is)) on yes;
+      }
+
+-- the flags of the nodes before n are cleared
+abbrev pub AreCleared : List Bool → ℕ → Type 0
+AreCleared active n = (k : ℕ) → k < n → k < length active → flag active k ≡ false
+
+set_off : (active : List Bool) (n : ℕ) → n < length active → flag (slice_set active n false) n ≡ false
+set_off [] n lt = absurd (omega (arith, lt))
+set_off (b ∷ active) zero lt = refl
+set_off (b ∷ active) (suc n) lt = set_off active n (omega (arith, lt))
+
+pub clears : (active active' : List Bool) (n : ℕ) → active' ≡ slice_set active n false → length active' ≡ length active → AreCleared active n → AreCleared active' (n + 1)
+clears active active' n same len h k lt there =
+    ap (λ z. flag z k) same ∙
+    ⊎_elim (λ (a : k < n). flag-set_other active n k false (λ e. omega (arith, a, e)) ∙ h k a (omega (arith, there, len)))
+    (λ (e : k ≡ n). ap (flag (slice_set active n false)) e ∙ set_off active n (omega (arith, there, len, e)))
+    (below_or k n lt)
+
+both_hold : (a b : Bool) → (a && b) ≡ true → (a ≡ true) × (b ≡ true)
+both_hold true b h = (refl, h)
+both_hold false b h = absurd (cc h)
+
+-- a source's term that has halted can't move
+halted_stays : (defs : List Definition) (e : Env) (t : Term) → IsSource t → has_halted t ≡ true → can_move defs (close e t) ≡ false
+halted_stays defs e stop s h = ap (can_move defs) (close-stop e)
+halted_stays defs e (param p) s h = absurd (cc h)
+halted_stays defs e (site m ps) s h = absurd (cc h)
+halted_stays defs e (call d ps) s h = absurd (cc h)
+halted_stays defs e (par f g) s h =
+    let b = both_hold (has_halted f) (has_halted g) h in
+    ap (can_move defs) (close-par e f g) ∙ (λ j. halted_stays defs e f s.0 b.0 j || halted_stays defs e g s.1 b.1 j)
+halted_stays defs e (seq f x g) s h = ap (can_move defs) (close-seq e f x g) ∙ halted_stays defs e f s.0 h
+halted_stays defs e (prune f x g) s h = absurd (cc h)
+halted_stays defs e (other f g) s h = absurd (cc h)
+halted_stays defs e (pending k) s h = absurd (cc h)
+halted_stays defs e (opened f c g) s h = elim s [ ]
+
+-- no node that is active after the clearing can move: there is no flag for it
+pub none_active : (defs : List Definition) (code : ℕ → Term) (e : Env) (halts active : List Bool) (n : ℕ) → ((i : ℕ) → IsSource (code i)) → ((i : ℕ) → halt_flag halts i ≡ has_halted (code i)) → length halts ≤ length active → AreCleared active n
+    → (k : ℕ) → k < n → flag active k ≡ true → can_move defs (close e (code k)) ≡ false
+none_active defs code e halts active n source are room clear k lt on =
+    ⊎_elim (λ (a : k < length active). absurd (cc (sym on ∙ clear k lt a)))
+    (λ (le : length active ≤ k). halted_stays defs e (code k) (source k) (sym (are k) ∙ past halts true k (omega (arith, le, room))))
+    (less_or k (length active))

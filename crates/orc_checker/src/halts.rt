@@ -1,6 +1,6 @@
 //! Which of a program's terms have halted.
 
-ghost use Rattle.std.specs.Prelude.{◌≡◌, ◌++◌, ◌∷◌, [], List, Bool, length, IfOk};
+ghost use Rattle.std.specs.Prelude.{◌≡◌, ◌≤◌, ◌++◌, ◌∷◌, [], List, Bool, length, IfOk};
 ghost use Rattle.orc_rules.specs.Nodes.{code, node_of};
 ghost use Rattle.orc_checker.specs.Halting.{halt_flag, node_flag, AreHalts};
 
@@ -11,13 +11,17 @@ use std::marker::Model;
 /// For each node of a program whether its term has halted.
 #[derive(Drop)]
 pub struct Halts {
-    flags: Vec<bool>,
+    pub(crate) flags: Vec<bool>,
+    /// Room to mark nodes while a term is looked at.
+    pub(crate) active: Vec<bool>,
 }
 
 impl Model for Halts {
     ghost Value = { List Bool };
 
     ghost view = { λ h. h.flags.items };
+
+    ghost invariant = { λ h. length h.flags.items ≤ length h.active.items };
 }
 
 // The flag of that number, true where there is none.
@@ -48,12 +52,14 @@ impl Halts {
         ensures { IfOk result (λ h. AreHalts (code program.now) h) }
     {
         let mut flags = Vec::new(alloc);
+        let mut active = Vec::new(alloc);
         program.are_unfolded();
         program.are_parts_first();
         for i in 0..program.len() {
             flags.push(flag_of(&flags, program.node(i)))?;
+            active.push(false)?;
         }
-        Ok(Halts { flags })
+        Ok(Halts { flags, active })
     }
 
     /// Whether the term of that node has halted.

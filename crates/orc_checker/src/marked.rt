@@ -30,7 +30,6 @@ pub struct Marked {
     pub(crate) marks: Vec<usize>,
     pub(crate) halts: Halts,
     pub(crate) flags: Vec<bool>,
-    pub(crate) active: Vec<bool>,
     /// The node on which each cell's pruning was opened; there is no cell 0.
     pub(crate) prunings: Vec<usize>,
     pub(crate) rest: Rest,
@@ -82,10 +81,6 @@ impl Marked {
         let mut flags = Vec::with_capacity(alloc, 2)?;
         let mut prunings = Vec::with_capacity(alloc, 1)?;
         let halts = Halts::new(alloc, program)?;
-        let mut active = Vec::with_capacity(alloc, program.len())?;
-        for _ in 0..program.len() {
-            active.push(false)?;
-        }
         let root = program.source();
         let halted = halts.at(root);
         push_within(
@@ -115,7 +110,6 @@ impl Marked {
             marks,
             halts,
             flags,
-            active,
             prunings,
             rest: Rest::new(alloc, cancels),
         })

@@ -1,15 +1,16 @@
-// Whether nothing can happen any more, and when the next call is due.
+// Whether something can happen, and when the next call is due.
 
-ghost use Rattle.std.specs.Prelude.{◌≡◌, true};
+ghost use Rattle.std.specs.Prelude.{◌≡◌, ◌↔◌, true};
+ghost use Rattle.orc_rules.specs.Idle.{can_move};
 ghost use Rattle.orc_rules.specs.Journal.{Place, moment};
-ghost use Rattle.orc_rules.specs.Nodes.{Listing, code};
+ghost use Rattle.orc_rules.specs.Marked.{erase};
+ghost use Rattle.orc_rules.specs.Nodes.{Listing, code, definitions};
 ghost use Rattle.orc_rules.specs.Pending.{IsNextDue};
 ghost use Rattle.orc_rules.specs.Timed.{Context, IsQuiet};
 ghost use Rattle.orc_checker.specs.Checker.{Spells};
 
-use crate::flags::flag_at;
 use crate::marked::Marked;
-use crate::stillness::are_still;
+use crate::stillness::can_some_move;
 use orc_rules::laws::{program_is_source, tests_are_right};
 use orc_rules::program::Program;
 
@@ -22,27 +23,33 @@ impl Marked {
         self.rest.next_due(&self.nodes)
     }
 
-    /// Whether the term hasn't halted, no rule can be used, and no tick is possible.
-    pub fn is_quiet(&mut self, program: &Program) -> bool
-        ensures quiet { (x : Context) (p : Place) → Spells x (code program.now) self.old p → result ≡ true → IsQuiet x (moment p) }
+    /// Whether a rule that is no return can be used, with the program's definitions.
+    pub fn can_move(&mut self, program: &Program) -> bool
+        ensures moves { (x : Context) (p : Place) → x.definitions ≡ definitions program.now → Spells x (code program.now) self.old p → result ≡ can_move x.definitions (erase p.marked) }
         ensures same { self.new ≡ self.old }
     {
-        program_is_source();
+        can_some_move(
+            program,
+            &mut self.halts,
+            &self.scopes,
+            &self.cells,
+            &self.flags,
+            &self.nodes,
+        )
+    }
+
+    /// Whether the term hasn't halted, no rule can be used, and no tick is possible, with the program's definitions.
+    pub fn is_quiet(&mut self, program: &Program) -> bool
+        ensures quiet { (x : Context) (p : Place) → x.definitions ≡ definitions program.now → Spells x (code program.now) self.old p → (result ≡ true) ↔ IsQuiet x (moment p) }
+        ensures same { self.new ≡ self.old }
+    {
         tests_are_right();
-        if flag_at(&self.flags, 0) {
+        if self.has_halted() {
             return false;
         }
-        match self.rest.next_due(&self.nodes) {
+        match self.next_due() {
             Some(_) => false,
-            None => are_still(
-                program,
-                &self.halts,
-                &self.scopes,
-                &self.cells,
-                &mut self.active,
-                &self.flags,
-                &self.nodes,
-            ),
+            None => !self.can_move(program),
         }
     }
 }

@@ -1,6 +1,6 @@
 // Calls of definitions.
 
-ghost use Rattle.std.specs.Prelude.{◌≡◌, ◌++◌, ◌∷◌, [], Some, slice_get, IfOk, IfSome, OnErr, OnOk};
+ghost use Rattle.std.specs.Prelude.{◌≡◌, ◌++◌, ◌∷◌, [], Some, None, slice_get, IfOk, IfSome, IfNone, OnErr, OnOk};
 ghost use Rattle.orc_rules.specs.Nodes.{definitions, definition_of};
 ghost use Rattle.orc_rules.specs.Programs.{routine_of};
 ghost use Rattle.orc_rules.specs.Sites.{Table};
@@ -19,11 +19,14 @@ use orc_rules::param::Operand;
 use orc_rules::program::{Definition, Program, TermNode};
 
 /// The definition of a number.
-fn definition(program: &Program, number: u32) -> Option<&Definition>
-    ensures { IfSome result (λ d. slice_get (definitions program.now) number ≡ Some (definition_of program.now (routine_of d.now))) }
+pub(crate) fn definition(program: &Program, number: u32) -> Option<&Definition>
+    ensures there { IfSome result (λ d. slice_get (definitions program.now) number ≡ Some (definition_of program.now (routine_of d.now))) }
+    ensures none { IfNone result (slice_get (definitions program.now) number ≡ None) }
 {
-    let called = program.definitions().get(number as usize)?;
-    Some(called)
+    match program.definitions().get(number as usize) {
+        Some(called) => Some(called),
+        None => None,
+    }
 }
 
 /// One scope more, or refused memory.

@@ -1,157 +1,175 @@
-// Which parts of a marked term can't move.
+// Which parts of a marked term can move.
 
-ghost use Rattle.std.specs.Prelude.{◌≡◌, ℕ, true, false, List, length, IfSome, Some, slice_get};
-ghost use Rattle.orc_rules.specs.Nodes.{code};
+ghost use Rattle.std.specs.Prelude.{◌≡◌, ◌≤◌, ℕ, true, false, List, length, is_some};
+ghost use Rattle.orc_rules.specs.Idle.{is_ready};
+ghost use Rattle.orc_rules.specs.Nodes.{code, definitions, param_of};
+ghost use Rattle.orc_rules.specs.Term.{values_of};
+ghost use Rattle.orc_checker.specs.Arena.{close_param, env_of};
 ghost use Rattle.orc_checker.specs.Halting.{AreHalts};
 ghost use Rattle.orc_checker.specs.Names.{AreOrdered};
-ghost use Rattle.orc_checker.specs.Settling.{flag};
-ghost use Rattle.orc_checker.specs.Stillness.{AreWaiting, IsStill, StaysStill, AreStill, Wakes};
+ghost use Rattle.orc_checker.specs.Stillness.{params_in, term_moves, node_moves, DoMove, Wakes};
 
 use crate::arena::{Bound, Double, Kind, Node, Scope, Single, Tip};
 use crate::flags::{flag_at, write_flag};
 use crate::halts::Halts;
 use crate::names::meaning;
 use crate::room::size;
+use crate::routines::definition;
+use crate::void::has_void;
 use crate::walk::node_at;
+use orc_rules::laws::program_is_source;
 use orc_rules::param::Operand;
 use orc_rules::program::{Program, TermNode};
 
-/// Whether some operand waits for a cell. None where one is void, or isn't bound.
-fn are_waiting(
-    scopes: &Vec<Scope>,
-    cells: &Vec<Bound>,
-    operands: &[Operand],
-    scope: usize,
-) -> Option<bool>
-    ensures { IfSome result (λ b. AreWaiting cells.now.items scopes.now.items scope operands.now b) }
+/// Whether a token on an operand can move in a scope: it is a value, or void.
+fn is_ready(scopes: &Vec<Scope>, cells: &Vec<Bound>, operand: Operand, scope: usize) -> bool
+    ensures { AreOrdered scopes.now.items → result ≡ is_ready (close_param (env_of cells.now.items scopes.now.items scope) (param_of operand)) }
 {
-    match operands {
-        [] => Some(false),
-        [operand, operands @ ..] => {
-            let rest = are_waiting(scopes, cells, operands, scope)?;
-            match meaning(scopes, cells, *operand, scope) {
-                Some(Bound::Is(_)) => Some(rest),
-                Some(Bound::Cell(_)) => Some(true),
-                _ => None,
-            }
-        }
+    match meaning(scopes, cells, operand, scope) {
+        Some(Bound::Cell(_)) => false,
+        Some(_) => true,
+        None => false,
     }
 }
 
-/// Whether a node of the program can't move in a scope where none of its parts that are marked in `active` can; it marks those parts.
+/// Whether all operands are values in a scope.
+fn are_values(scopes: &Vec<Scope>, cells: &Vec<Bound>, operands: &[Operand], scope: usize) -> bool
+    ensures { AreOrdered scopes.now.items → result ≡ is_some (values_of (params_in cells.now.items scopes.now.items scope operands.now)) }
+{
+    match operands {
+        [] => true,
+        [operand, operands @ ..] => match meaning(scopes, cells, *operand, scope) {
+            Some(Bound::Is(_)) => are_values(scopes, cells, operands, scope),
+            _ => false,
+        },
+    }
+}
+
+/// Whether a node of the program can move in a scope by itself. Its parts by whose moves it can move too are marked in `active`.
 fn wakes(
     program: &Program,
-    halts: &Halts,
+    halts: &Vec<bool>,
     scopes: &Vec<Scope>,
     cells: &Vec<Bound>,
     active: &mut Vec<bool>,
     node: usize,
     scope: usize,
 ) -> bool
-    ensures { result ≡ true → Wakes (code program.now) halts.now cells.now.items scopes.now.items scope active.old.items active.new.items node }
+    ensures wakes { AreHalts (code program.now) halts.now.items → AreOrdered scopes.now.items → Wakes (term_moves (definitions program.now) (code program.now) cells.now.items scopes.now.items scope) active.old.items active.new.items node result }
+    ensures len { length active.new.items ≡ length active.old.items }
 {
     program.are_parts_first();
     match program.node(node) {
-        TermNode::Stop => true,
-        TermNode::Operand(operand) => match meaning(scopes, cells, operand, scope) {
-            Some(Bound::Cell(_)) => true,
-            _ => false,
-        },
+        TermNode::Stop => false,
+        TermNode::Operand(operand) => is_ready(scopes, cells, operand, scope),
         TermNode::Site(_, list) => {
-            match are_waiting(scopes, cells, program.operands(list), scope) {
-                Some(waits) => waits,
-                None => false,
+            let operands = program.operands(list);
+            if are_values(scopes, cells, operands, scope) {
+                return true;
             }
+            has_void(scopes, cells, operands, scope)
         }
+        TermNode::Call(number, _) => match definition(program, number) {
+            Some(_) => true,
+            None => false,
+        },
         TermNode::Par(f, g) => {
             write_flag(active, f, true);
             write_flag(active, g, true);
-            true
+            false
         }
         TermNode::Seq(f, _, _) => {
             write_flag(active, f, true);
-            true
+            false
         }
+        TermNode::Prune(_, _, _) => true,
         TermNode::Other(f, _) => {
             write_flag(active, f, true);
-            !halts.at(f)
+            flag_at(halts, f)
         }
-        TermNode::Call(_, _) | TermNode::Prune(_, _, _) => false,
     }
 }
 
-/// Whether a term of the program can't move in a scope; `active` is overwritten.
-fn is_still(
+/// Whether a term of the program can move in a scope; `active` is overwritten.
+fn can_term_move(
     program: &Program,
-    halts: &Halts,
+    halts: &Vec<bool>,
     scopes: &Vec<Scope>,
     cells: &Vec<Bound>,
     active: &mut Vec<bool>,
     node: usize,
     scope: usize,
 ) -> bool
-    ensures { result ≡ true → AreHalts (code program.now) halts.now → AreOrdered scopes.now.items → IsStill (code program.now) cells.now.items scopes.now.items scope node }
+    requires { length halts.now.items ≤ length active.old.items }
+    ensures moves { AreHalts (code program.now) halts.now.items → AreOrdered scopes.now.items → result ≡ term_moves (definitions program.now) (code program.now) cells.now.items scopes.now.items scope node }
+    ensures len { length active.new.items ≡ length active.old.items }
 {
-    if node == usize::MAX {
-        return false;
-    }
+    program_is_source();
     for i in 0..node {
         write_flag(active, i, false);
     }
-    write_flag(active, node, true);
-    let mut above = node + 1;
+    if wakes(program, halts, scopes, cells, active, node, scope) {
+        return true;
+    }
+    let mut above = node;
     while above > 0 {
         above -= 1;
         if !flag_at(active, above) {
             continue;
         }
-        if !wakes(program, halts, scopes, cells, active, above, scope) {
-            return false;
+        if wakes(program, halts, scopes, cells, active, above, scope) {
+            return true;
         }
     }
-    true
+    false
 }
 
-/// Whether a node of the marked term can't move; `active` is overwritten.
-fn stays_still(
+/// Whether a node of the marked term can move.
+fn can_node_move(
     program: &Program,
-    halts: &Halts,
+    halts: &mut Halts,
     scopes: &Vec<Scope>,
     cells: &Vec<Bound>,
-    active: &mut Vec<bool>,
     flags: &Vec<bool>,
     kind: Kind,
 ) -> bool
-    ensures { result ≡ true → AreHalts (code program.now) halts.now → AreOrdered scopes.now.items → StaysStill (code program.now) cells.now.items scopes.now.items flags.now.items kind }
+    ensures moves { AreHalts (code program.now) halts.old → AreOrdered scopes.now.items → result ≡ node_moves (definitions program.now) (code program.now) cells.now.items scopes.now.items flags.now.items kind }
+    ensures same { halts.new ≡ halts.old }
 {
     match kind {
-        Kind::Leaf(Tip::Token(_, node, scope)) => {
-            is_still(program, halts, scopes, cells, active, node, scope)
-        }
-        Kind::Leaf(Tip::Bears(_, _)) => false,
-        Kind::One(Single::Entered(_, _, _), part) => !flag_at(flags, part),
-        Kind::Two(Double::Side(_), _, right) => !flag_at(flags, right),
-        _ => true,
+        Kind::Leaf(Tip::Token(_, node, scope)) => can_term_move(
+            program,
+            &halts.flags,
+            scopes,
+            cells,
+            &mut halts.active,
+            node,
+            scope,
+        ),
+        Kind::Leaf(Tip::Bears(_, _)) => true,
+        Kind::One(Single::Entered(_, _, _), part) => flag_at(flags, part),
+        Kind::Two(Double::Side(_), _, right) => flag_at(flags, right),
+        _ => false,
     }
 }
 
-/// Whether no node can move; `active` is overwritten.
-pub(crate) fn are_still(
+/// Whether some node can move.
+pub(crate) fn can_some_move(
     program: &Program,
-    halts: &Halts,
+    halts: &mut Halts,
     scopes: &Vec<Scope>,
     cells: &Vec<Bound>,
-    active: &mut Vec<bool>,
     flags: &Vec<bool>,
     nodes: &Vec<Node>,
 ) -> bool
-    ensures { result ≡ true → AreHalts (code program.now) halts.now → AreOrdered scopes.now.items → AreStill (code program.now) cells.now.items scopes.now.items flags.now.items nodes.now.items }
+    ensures moves { AreHalts (code program.now) halts.old → AreOrdered scopes.now.items → DoMove (node_moves (definitions program.now) (code program.now) cells.now.items scopes.now.items flags.now.items) nodes.now.items result }
+    ensures same { halts.new ≡ halts.old }
 {
     for i in 0..size(nodes) {
         let kind = node_at(nodes, i).kind;
-        if !stays_still(program, halts, scopes, cells, active, flags, kind) {
-            return false;
+        if can_node_move(program, halts, scopes, cells, flags, kind) {
+            return true;
         }
     }
-    true
+    false
 }

@@ -1,12 +1,11 @@
 // Ticks: the time goes on.
 
 ghost use Rattle.std.specs.Prelude.{◌≡◌, IfOk, OnErr};
-ghost use Rattle.orc_rules.specs.Nodes.{code};
+ghost use Rattle.orc_rules.specs.Sites.{Table};
 ghost use Rattle.orc_rules.specs.declared.entry.Entry.TheVariants as entry;
-ghost use Rattle.orc_checker.specs.Checker.{Enters};
+ghost use Rattle.orc_checker.specs.Checker.{Applies};
 
 use crate::marked::Marked;
-use crate::stillness::are_still;
 use orc_rules::entry::RuleFault;
 use orc_rules::laws::{program_is_source, tests_are_right};
 use orc_rules::program::Program;
@@ -14,7 +13,7 @@ use orc_rules::program::Program;
 impl Marked {
     /// `tick T`.
     pub(crate) fn tick(&mut self, program: &Program, t: u64) -> Result<(), RuleFault>
-        ensures done { IfOk result (λ _. Enters (code program.now) (entry.Tick t) self.old self.new) }
+        ensures done { IfOk result (λ _. (sites : Table) → Applies program.now sites (entry.Tick t) self.old self.new) }
         ensures refused { OnErr result (self.new ≡ self.old) }
     {
         if self.rest.is_due() {
@@ -26,16 +25,7 @@ impl Marked {
         if due != t || due <= self.rest.now() {
             return Err(RuleFault::Time);
         }
-        let still = are_still(
-            program,
-            &self.halts,
-            &self.scopes,
-            &self.cells,
-            &mut self.active,
-            &self.flags,
-            &self.nodes,
-        );
-        if !still {
+        if self.can_move(program) {
             return Err(RuleFault::Time);
         }
         program_is_source();

@@ -1,13 +1,14 @@
 // What stands on void ends.
 
-ghost use Rattle.std.specs.Prelude.{◌≡◌, true, false, List, map, IfOk, OnErr};
-ghost use Rattle.orc_rules.specs.Idle.{has_halted};
+ghost use Rattle.std.specs.Prelude.{◌≡◌, true, false, IfOk, OnErr};
+ghost use Rattle.orc_rules.specs.Idle.{has_halted, has_void};
 ghost use Rattle.orc_rules.specs.Journal.{IsVoid};
 ghost use Rattle.orc_rules.specs.Nodes.{code, param_of};
-ghost use Rattle.orc_rules.specs.Term.{HasVoid, param};
+ghost use Rattle.orc_rules.specs.Term.{param};
 ghost use Rattle.orc_checker.specs.Arena.{close, close_param, env_of};
 ghost use Rattle.orc_checker.specs.Checker.{Enters};
 ghost use Rattle.orc_checker.specs.Names.{AreOrdered};
+ghost use Rattle.orc_checker.specs.Stillness.{params_in};
 ghost use Rattle.orc_rules.specs.declared.entry.Entry.TheVariants as entry;
 
 use crate::arena::{Bound, Kind, Node, Scope, Tip};
@@ -30,15 +31,21 @@ fn is_void(scopes: &Vec<Scope>, cells: &Vec<Bound>, operand: Operand, scope: usi
 }
 
 /// Whether one of the operands is void in a scope.
-fn has_void(scopes: &Vec<Scope>, cells: &Vec<Bound>, operands: &[Operand], scope: usize) -> bool
-    ensures { result ≡ true → AreOrdered scopes.now.items → HasVoid (map (close_param (env_of cells.now.items scopes.now.items scope)) (map param_of operands.now)) }
+pub(crate) fn has_void(
+    scopes: &Vec<Scope>,
+    cells: &Vec<Bound>,
+    operands: &[Operand],
+    scope: usize,
+) -> bool
+    ensures { AreOrdered scopes.now.items → result ≡ has_void (params_in cells.now.items scopes.now.items scope operands.now) }
 {
-    for i in 0..operands.len() {
-        if is_void(scopes, cells, operands[i], scope) {
-            return true;
-        }
+    match operands {
+        [] => false,
+        [operand, operands @ ..] => match meaning(scopes, cells, *operand, scope) {
+            Some(Bound::Void) => true,
+            _ => has_void(scopes, cells, operands, scope),
+        },
     }
-    false
 }
 
 impl Marked {

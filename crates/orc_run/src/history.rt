@@ -1,8 +1,8 @@
 //! A run so far: the marked term that its journal has reached, and what it published.
 
-ghost use Rattle.std.specs.Prelude.{◌≡◌, ◌+◌, ◌<◌, ◌^◌, ◌++◌, ◌∷◌, [], true, IfOk, OnOk, OnErr, vec_len, vec_capacity};
+ghost use Rattle.std.specs.Prelude.{◌≡◌, ◌↔◌, ◌+◌, ◌<◌, ◌^◌, ◌++◌, ◌∷◌, [], true, IfOk, OnOk, OnErr, vec_len, vec_capacity};
 ghost use Rattle.orc_rules.specs.Journal.{Place, moment};
-ghost use Rattle.orc_rules.specs.Nodes.{code};
+ghost use Rattle.orc_rules.specs.Nodes.{code, definitions};
 ghost use Rattle.orc_rules.specs.Sites.{Table};
 ghost use Rattle.orc_rules.specs.Timed.{Context, IsQuiet};
 ghost use Rattle.orc_rules.specs.Trace.{published};
@@ -87,7 +87,7 @@ impl History {
 
     /// Whether the run is quiet: it hasn't halted, no rule can be used, and no tick is possible.
     pub fn is_quiet(&mut self, program: &Program) -> bool
-        ensures quiet { (x : Context) (p : Place) → Spells x (code program.now) self.old.marked p → result ≡ true → IsQuiet x (moment p) }
+        ensures quiet { (x : Context) (p : Place) → x.definitions ≡ definitions program.now → Spells x (code program.now) self.old.marked p → (result ≡ true) ↔ IsQuiet x (moment p) }
         ensures same { self.new ≡ self.old }
     {
         self.marked.is_quiet(program)

@@ -1,7 +1,6 @@
 use Rattle.std.proofs.Common.{◌≡◌, ℕ, Option, Some, None, ap, sym, ◌∙◌, subst}
 use Rattle.std.specs.Prelude.{IfNone}
 use Rattle.orc_checker.specs.declared.arena.Node.{Node}
-use Rattle.orc_checker.specs.declared.arena.Kind.{Kind}
 use Rattle.orc_checker.specs.declared.arena.Kind.TheVariants.{Leaf}
 use Rattle.orc_checker.specs.declared.arena.Tip.TheVariants.{Waits}
 use Rattle.orc_checker.specs.Settling.{kind_at}

@@ -1,4 +1,4 @@
-use Rattle.std.proofs.Common.{◌≡◌, ◌+◌, suc, ◌∙◌, ap, sym, subst, arith}
+use Rattle.std.proofs.Common.{◌≡◌, ◌+◌, suc, sym, subst, arith}
 use Rattle.orc_checker.specs.NextDue.{IsNextBelow, earlier}
 use Rattle.orc_checker.proofs.Earliest.{one_further, next_of_all}
 use Rattle.orc_checker.proofs.pending.next_due.Goals as goal

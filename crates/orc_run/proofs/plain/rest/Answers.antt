@@ -1,4 +1,4 @@
-use Rattle.std.proofs.Common.{◌≡◌, ◌∙◌, length, subst, sym}
+use Rattle.std.proofs.Common.{◌≡◌, ◌∙◌, length, refl, subst, sym}
 use Rattle.orc_rules.specs.Trace.{published}
 use Rattle.orc_rules.specs.Nodes.{code}
 use Rattle.orc_rules.specs.Marked.{erase}
@@ -28,5 +28,5 @@ returns-then-is_quiet c t limit reached =
         values = subst (λ (s : Story). s.published ≡ published reached.journal) same reached.values;
         count = subst (λ (s : Story). s.entries ≡ length reached.journal) same reached.count;
       };
-      ends = c.is_quiet.ensures.quiet (context l t) reached.place reached.spells c.if-is_quiet.true;
+      ends = (c.is_quiet.ensures.quiet (context l t) reached.place refl reached.spells).0 c.if-is_quiet.true;
     }

@@ -26,7 +26,7 @@ returns-clause-done c = λ table cancels p reached.
     let halted : c.at-halted.result ≡ halt_flag s.halts d.body = c.at-halted.ensures ∙ ap (λ (z : State). halt_flag z.halts d.body) v in
     def-enters (code l) s _ t.at t.parent c.args.s t.node t.scope c.in_ok-spot.ensures.there (context l table cancels) (definition_of l (routine_of d)) c.in-Call.number c.args.a d.body n ps more
     (c.node.ensures.term ∙ ap (unfold_node (code l) l.lists) c.in-Call.is)
-    c.in-Some.ensures
+    c.in-Some.ensures.there
     refl
     c.in_ok-next_mark.ensures
     (subst (λ z. Adds s.cells s.scopes t.scope d.params.items z more n) c.operands-operands.ensures.value

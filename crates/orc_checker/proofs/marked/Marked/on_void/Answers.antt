@@ -1,5 +1,5 @@
 use Rattle.std.proofs.Common.{◌≡◌, ap, ◌∙◌, sym, subst, map, get_or, [], List}
-use Rattle.orc_rules.specs.Idle.{has_halted}
+use Rattle.orc_rules.specs.Idle.{has_halted, has_void}
 use Rattle.orc_rules.specs.Journal.{IsVoid}
 use Rattle.orc_rules.specs.declared.param.Operand.{Operand}
 use Rattle.orc_rules.specs.Nodes.{code, unfold_node, param_of}
@@ -8,6 +8,7 @@ use Rattle.orc_checker.specs.Arena.{close, close_param, env_of}
 use Rattle.orc_checker.specs.Names.{AreOrdered}
 use Rattle.orc_checker.specs.Checker.{State}
 use Rattle.orc_checker.proofs.Scopes.{close-of-param, close-site}
+use Rattle.orc_checker.proofs.Voiding.{void_among}
 use Rattle.orc_checker.proofs.marked.Marked.on_void.Goals as goal
 
 pub returns-in-Operand-clause-void : goal.returns-in-Operand-clause-void
@@ -30,7 +31,9 @@ returns-in-Site-clause-void c = λ e o.
     let k = c.in-Site in
     let is = c.node.ensures.term ∙ ap (unfold_node (code l) l.lists) k.is in
     let ps = map param_of (get_or l.lists k.list []) in
-    let f = subst (λ (z : State). AreOrdered z.scopes → HasVoid (map (close_param (env_of z.cells z.scopes c.args.spot.scope)) (map param_of c.operands.result.now))) c.self.view_is (c.has_void.ensures e) o in
+    let found : c.has_void.result ≡ has_void (map (close_param env) (map param_of c.operands.result.now)) =
+    subst (λ (z : State). AreOrdered z.scopes → c.has_void.result ≡ has_void (map (close_param (env_of z.cells z.scopes c.args.spot.scope)) (map param_of c.operands.result.now))) c.self.view_is c.has_void.ensures o in
+    let f = void_among (map (close_param env) (map param_of c.operands.result.now)) (sym found ∙ e) in
     subst IsVoid (sym (ap (close env) is ∙ close-site env k.field-0 ps)) (subst (λ (z : List Operand). HasVoid (map (close_param env) (map param_of z))) c.operands.ensures.value f)
 
 pub returns-in-Site-clause-running : goal.returns-in-Site-clause-running

@@ -38,7 +38,7 @@ pub returns-in-Bind-clause-done : goal.returns-in-Bind-clause-done
 returns-in-Bind-clause-done c = for_tables c.args.program.now c.args.answers.now _ _ c.args.self.now c.bind.new.self c.bind.result c.in-Bind.is c.bind.ensures.done
 
 pub returns-in-Tick-clause-done : goal.returns-in-Tick-clause-done
-returns-in-Tick-clause-done c = for_all c.args.program.now c.args.answers.now _ _ c.args.self.now c.tick.new.self c.tick.result c.in-Tick.is c.tick.ensures.done
+returns-in-Tick-clause-done c = for_tables c.args.program.now c.args.answers.now _ _ c.args.self.now c.tick.new.self c.tick.result c.in-Tick.is c.tick.ensures.done
 
 pub returns-in-Void-clause-done : goal.returns-in-Void-clause-done
 returns-in-Void-clause-done c = for_all c.args.program.now c.args.answers.now _ _ c.args.self.now c.void.new.self c.void.result c.in-Void.is c.void.ensures.done

@@ -1,0 +1,24 @@
+use Rattle.std.proofs.Common.{◌≤◌, ◌∙◌, length, subst, arith}
+use Rattle.orc_rules.specs.Nodes.{code, definitions}
+use Rattle.orc_checker.specs.Arena.{env_of}
+use Rattle.orc_checker.specs.Stillness.{term_moves, Wakes}
+use Rattle.orc_checker.proofs.Waking.{looks_first, none_active}
+use Rattle.orc_checker.proofs.stillness.can_term_move.Goals as goal
+
+pub loop-above-init : goal.loop-above-init
+loop-above-init c =
+    let l = c.args.program.now in
+    let cells = c.args.cells.now.items in
+    let scopes = c.args.scopes.now.items in
+    let node = c.args.node in
+    let halts = c.args.halts.now.items in
+    let active = c.loop-i.active.items in
+    let active' = c.wakes.new.active.items in
+    let moves = term_moves (definitions l) (code l) cells scopes c.args.scope in
+    let room : length halts ≤ length active = omega (arith, c.requires, c.loop-i.invariant.0) in (
+      c.wakes.ensures.len ∙ c.loop-i.invariant.0,
+      λ are ordered.
+          looks_first moves node active active' (subst (Wakes moves active active' node) c.if-wakes.false (c.wakes.ensures.wakes are ordered))
+          (none_active (definitions l) (code l) (env_of cells scopes c.args.scope) halts active node (c.program_is_source.ensures l).0 are room
+          (λ k lt. c.loop-i.invariant.1 k (omega (arith, lt, c.loop-i-test.false, c.loop-i.auto.i-end)))),
+    )
