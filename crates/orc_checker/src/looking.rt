@@ -30,8 +30,8 @@ pub enum Next {
     /// Nothing takes its publication.
     Publish(Value),
     Call(u32, Args),
-    /// It waits for this cell.
-    Wait(u64),
+    /// It waits for cells, one for each position at which `awaited` gives one.
+    Wait,
 }
 
 /// The arguments of a call.
@@ -39,8 +39,8 @@ pub enum Next {
 enum Arguments {
     Values(Args),
     HasVoid,
-    /// The first cell that isn't bound.
-    Wait(u64),
+    /// None is void, and some cell isn't bound.
+    Wait,
 }
 
 impl Marked {
@@ -128,15 +128,30 @@ impl Marked {
             TermNode::Call(_, _) => Next::Def,
             TermNode::Operand(operand) => match self.bound_to(spot, operand)? {
                 Bound::Is(value) => self.publication(spot.at, value)?,
-                Bound::Cell(cell) => Next::Wait(cell),
+                Bound::Cell(_) => Next::Wait,
                 Bound::Void => Next::Void,
             },
             TermNode::Site(site, list) => match self.arguments(spot, program.operands(list))? {
                 Arguments::Values(args) => Next::Call(site, args),
                 Arguments::HasVoid => Next::Void,
-                Arguments::Wait(cell) => Next::Wait(cell),
+                Arguments::Wait => Next::Wait,
             },
         })
+    }
+
+    /// The cell for which a token waits at a position of its call's arguments, counted from 0, or as a variable at position 0.
+    /// None where there is no such token or position, or what stands there isn't a cell that isn't bound.
+    pub fn awaited(&self, program: &Program, token: u64, position: usize) -> Option<u64> {
+        let spot = self.spot(token).ok()?;
+        let operand = match program.node(spot.node) {
+            TermNode::Operand(operand) if position == 0 => operand,
+            TermNode::Site(_, list) => *program.operands(list).get(position)?,
+            _ => return None,
+        };
+        match self.bound_to(spot, operand)? {
+            Bound::Cell(cell) => Some(cell),
+            _ => None,
+        }
     }
 
     // What a token's value does.
@@ -176,22 +191,23 @@ impl Marked {
         }
     }
 
-    // A call's arguments: one that is void, else the first one that isn't bound, else the values.
+    // A call's arguments: one that is void, else one that isn't bound, else the values.
     fn arguments(&self, spot: Spot, operands: &[Operand]) -> Option<Arguments>
         requires { length operands.now ≤ 16 }
     {
         let mut args = Args::new();
-        let mut waits = None;
+        let mut waits = false;
         for operand in operands {
             match self.bound_to(spot, *operand)? {
                 Bound::Void => return Some(Arguments::HasVoid),
-                Bound::Cell(cell) => waits = waits.or(Some(cell)),
+                Bound::Cell(_) => waits = true,
                 Bound::Is(value) => args.push(value),
             }
         }
-        Some(match waits {
-            Some(cell) => Arguments::Wait(cell),
-            None => Arguments::Values(args),
+        Some(if waits {
+            Arguments::Wait
+        } else {
+            Arguments::Values(args)
         })
     }
 }

@@ -8,6 +8,9 @@ use std::alloc::{AllocError, Global};
 use std::cmp::Reverse;
 use std::collections::{BTreeMap, BinaryHeap, VecDeque};
 
+// No site takes more.
+const MOST_ARGUMENTS: usize = 16;
+
 /// A side that ends an opened pruning or an entered otherwise once it has halted, by the number of the cell or of the otherwise.
 #[derive(Clone, Copy)]
 enum Side {
@@ -15,10 +18,18 @@ enum Side {
     Left(u64),
 }
 
-/// Tokens take their turns one after another, so none is starved. A token that waits for a cell stands in that cell's list.
+/// A token whose turn comes; `listed` where it stands in the lists of all cells for which it still waits.
+#[derive(Clone, Copy)]
+struct Turn {
+    token: u64,
+    listed: bool,
+}
+
+/// Tokens take their turns one after another, so none is starved. A token that waits stands in the list of each of its cells: a call
+/// moves once one of its arguments is void, whichever that is.
 #[derive(Drop)]
 pub struct Agenda {
-    tokens: VecDeque<u64>,
+    tokens: VecDeque<Turn>,
     waiting: BTreeMap<u64, Vec<u64>>,
     /// The right sides of prunings and left sides of otherwises that stood when they were looked at last.
     sides: VecDeque<Side>,
@@ -38,7 +49,10 @@ impl Agenda {
     /// The agenda of a run's beginning: token 1.
     pub fn new(alloc: Global) -> Result<Agenda, AllocError> {
         let mut tokens = VecDeque::new(alloc);
-        tokens.push_back(1)?;
+        tokens.push_back(Turn {
+            token: 1,
+            listed: false,
+        })?;
         Ok(Agenda {
             tokens,
             waiting: BTreeMap::new(alloc),
@@ -54,13 +68,17 @@ impl Agenda {
             return Ok(Choice::Entry(Entry::Cancel(call)));
         }
         for _ in 0..self.tokens.len() {
-            let Some(token) = self.tokens.pop_front() else {
+            let Some(turn) = self.tokens.pop_front() else {
                 break;
             };
-            match marked.next(program, token) {
+            match marked.next(program, turn.token) {
                 None => {}
-                Some(Next::Wait(cell)) => self.wait(token, cell)?,
-                Some(next) => return Ok(Choice::Entry(token_entry(marked, token, next))),
+                Some(Next::Wait) => {
+                    if !turn.listed {
+                        self.wait(program, marked, turn.token)?;
+                    }
+                }
+                Some(next) => return Ok(Choice::Entry(token_entry(marked, turn.token, next))),
             }
         }
         match self.choose_side(marked)? {
@@ -84,11 +102,24 @@ impl Agenda {
         Ok(None)
     }
 
-    // Takes note of a token that waits for a cell.
-    fn wait(&mut self, token: u64, cell: u64) -> Result<(), AllocError> {
+    // Puts a token that waits into the lists of its cells.
+    fn wait(&mut self, program: &Program, marked: &Marked, token: u64) -> Result<(), AllocError> {
         let alloc = *self.tokens.allocator();
-        let tokens = self.waiting.entry(cell)?.or_insert(Vec::new(alloc));
-        tokens.push(token)?;
+        for position in 0..MOST_ARGUMENTS {
+            if let Some(cell) = marked.awaited(program, token, position) {
+                let tokens = self.waiting.entry(cell)?.or_insert(Vec::new(alloc));
+                tokens.push(token)?;
+            }
+        }
+        Ok(())
+    }
+
+    // A new token takes its turn after the others.
+    fn join(&mut self, token: u64) -> Result<(), AllocError> {
+        self.tokens.push_back(Turn {
+            token,
+            listed: false,
+        })?;
         Ok(())
     }
 
@@ -115,22 +146,22 @@ impl Agenda {
         match entry {
             Entry::Open(_, cell, a, b) => {
                 self.sides.push_back(Side::Right(*cell))?;
-                self.tokens.push_back(*a)?;
-                self.tokens.push_back(*b)?;
+                self.join(*a)?;
+                self.join(*b)?;
             }
             Entry::Fork(_, a, b) => {
-                self.tokens.push_back(*a)?;
-                self.tokens.push_back(*b)?;
+                self.join(*a)?;
+                self.join(*b)?;
             }
             Entry::Other(s, a) => {
                 self.sides.push_back(Side::Left(*s))?;
-                self.tokens.push_back(*a)?;
+                self.join(*a)?;
             }
             Entry::Seq(_, a)
             | Entry::Def(_, a)
             | Entry::Send(_, a, _)
             | Entry::Return(_, a, _)
-            | Entry::Right(_, a) => self.tokens.push_back(*a)?,
+            | Entry::Right(_, a) => self.join(*a)?,
             Entry::Call(_, call, _, _) => {
                 if let Some((_, at)) = marked.due(*call) {
                     self.due.push(Reverse((at, *call)))?;
@@ -151,7 +182,10 @@ impl Agenda {
     fn wake(&mut self, cell: u64) -> Result<(), AllocError> {
         if let Some(tokens) = self.waiting.remove(&cell) {
             for token in tokens {
-                self.tokens.push_back(token)?;
+                self.tokens.push_back(Turn {
+                    token,
+                    listed: true,
+                })?;
             }
         }
         Ok(())
@@ -183,7 +217,7 @@ fn token_entry(marked: &Marked, token: u64, next: Next) -> Entry {
         Next::Seq => Entry::Seq(token, mark),
         Next::Other => Entry::Other(token, mark),
         Next::Def => Entry::Def(token, mark),
-        Next::Void | Next::Wait(_) => Entry::Void(token),
+        Next::Void | Next::Wait => Entry::Void(token),
         Next::Open => Entry::Open(token, marked.new_cell(), mark, mark.saturating_add(1)),
         Next::Send(value) => Entry::Send(token, mark, value),
         Next::Call(site, args) => Entry::Call(token, marked.new_call(), site, args),
