@@ -1,0 +1,3 @@
+pub mod Deepening
+pub mod Levels
+pub mod Nesting

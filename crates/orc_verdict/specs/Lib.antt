@@ -1,0 +1,3 @@
+pub mod Deepening
+pub mod Depth
+pub mod Heights

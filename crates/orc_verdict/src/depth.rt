@@ -1,0 +1,100 @@
+//! How deep a marked term nests.
+
+ghost use Rattle.std.specs.Prelude.{◌≡◌, ◌+◌, ◌++◌, IfOk, OnOk};
+ghost use Rattle.orc_rules.specs.Journal.{Place};
+ghost use Rattle.orc_rules.specs.Marked.{erase};
+ghost use Rattle.orc_rules.specs.Nodes.{Listing, code};
+ghost use Rattle.orc_rules.specs.Refusal.{depth};
+ghost use Rattle.orc_rules.specs.Timed.{Context};
+ghost use Rattle.orc_checker.specs.Checker.{Spells};
+ghost use Rattle.orc_checker.specs.Dropping.{parts_of};
+ghost use Rattle.orc_checker.specs.Settling.{kind_at};
+ghost use Rattle.orc_verdict.specs.Depth.{own_levels, step_down, with_levels};
+ghost use Rattle.orc_verdict.specs.Heights.{AreHeights};
+
+use crate::heights::Heights;
+use orc_checker::Marked;
+use orc_checker::arena::{Kind, Node, Single, Tip};
+use std::alloc::{AllocError, Global};
+
+// A node's kind, gone where there is none.
+fn kind_of(nodes: &[Node], i: usize) -> Kind
+    ensures { result ≡ kind_at nodes.now i }
+{
+    match nodes.get(i) {
+        Some(node) => node.kind,
+        None => Kind::Leaf(Tip::Gone),
+    }
+}
+
+// The levels of the program's term in a node, 0 where there is none.
+fn own_levels(heights: &Heights, kind: Kind) -> usize
+    ensures { result ≡ own_levels heights.now kind }
+{
+    match kind {
+        Kind::Leaf(Tip::Token(_, node, _)) => heights.at(node),
+        Kind::Leaf(_) => 1,
+        Kind::One(Single::Feeds(_, right, _), _) => heights.at(right),
+        Kind::One(Single::Entered(_, right, _), _) => heights.at(right),
+        Kind::One(Single::Passed, _) => 0,
+        Kind::Two(_, _, _) => 0,
+    }
+}
+
+// How many levels lower than the node that term and the parts stand.
+fn step_down(kind: Kind) -> usize
+    ensures { result ≡ step_down kind }
+{
+    match kind {
+        Kind::Leaf(_) => 0,
+        Kind::One(Single::Passed, _) => 0,
+        Kind::One(_, _) => 1,
+        Kind::Two(_, _, _) => 1,
+    }
+}
+
+// The sum, where memory could hold as many levels.
+fn sum(a: usize, b: usize) -> Result<usize, AllocError>
+    ensures { IfOk result (λ n. n ≡ a + b) }
+{
+    match a.checked_add(b) {
+        Some(sum) => Ok(sum),
+        None => Err(AllocError),
+    }
+}
+
+// Adds the parts of a node, with the levels above them. The error is refused memory.
+fn push_parts(left: &mut Vec<(usize, usize)>, kind: Kind, above: usize) -> Result<(), AllocError>
+    ensures { OnOk result (left.new.items ≡ left.old.items ++ with_levels above (parts_of kind)) }
+{
+    match kind {
+        Kind::Leaf(_) => {}
+        Kind::One(_, part) => left.push((part, above))?,
+        Kind::Two(_, part, other) => {
+            left.push((part, above))?;
+            left.push((other, above))?;
+        }
+    }
+    Ok(())
+}
+
+/// How many levels deep the marked term of a program nests, with the heights of the program's terms. The error is refused memory.
+pub fn depth_of(alloc: Global, heights: &Heights, marked: &Marked) -> Result<usize, AllocError>
+    ensures { IfOk result (λ d. (x : Context) (l : Listing) (p : Place) → AreHeights (code l) heights.now → Spells x (code l) marked.now p → d ≡ depth (erase p.marked)) }
+{
+    let nodes = marked.nodes();
+    let mut deepest = 0;
+    let mut left = Vec::new(alloc);
+    left.push((0, 0))?;
+    for _step in 0..=nodes.len() {
+        let Some((node, above)) = left.pop() else {
+            return Ok(deepest);
+        };
+        let kind = kind_of(nodes, node);
+        let above = sum(above, step_down(kind))?;
+        deepest = deepest.max(sum(above, own_levels(heights, kind))?);
+        push_parts(&mut left, kind, above)?;
+    }
+    // Each node stands once in the term, so that all were looked at.
+    Err(AllocError)
+}

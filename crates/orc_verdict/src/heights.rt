@@ -1,0 +1,87 @@
+//! How deep a program's terms nest.
+
+ghost use Rattle.std.specs.Prelude.{◌≡◌, ◌<◌, ◌≤◌, ◌+◌, ◌^◌, ℕ, suc, max, List, IfOk};
+ghost use Rattle.orc_rules.specs.Nodes.{code};
+ghost use Rattle.orc_verdict.specs.Heights.{height, node_height, AreLow, AreHeights, AreAtMost};
+
+use orc_rules::program::{Program, TermNode};
+use std::alloc::{AllocError, Global};
+use std::marker::Model;
+
+/// For each node of a program how deep its term nests, in levels.
+#[derive(Drop)]
+pub struct Heights {
+    levels: Vec<usize>,
+}
+
+impl Model for Heights {
+    ghost Value = { List ℕ };
+
+    ghost view = { λ h. h.levels.items };
+}
+
+// The levels of that node, 1 where there is none.
+fn level_at(levels: &Vec<usize>, i: usize) -> usize
+    ensures { result ≡ height levels.now.items i }
+{
+    match levels.get(i) {
+        Some(level) => *level,
+        None => 1,
+    }
+}
+
+// One level more than the larger of the two.
+fn one_more(a: usize, b: usize) -> usize
+    requires left { a + 1 < 2 ^ 64 }
+    requires right { b + 1 < 2 ^ 64 }
+    ensures { result ≡ suc (max a b) }
+{
+    a.max(b) + 1
+}
+
+// The levels of a node's term, by those of its parts.
+fn level_of(levels: &Vec<usize>, node: TermNode) -> usize
+    requires { AreLow levels.now.items node }
+    ensures { result ≡ node_height levels.now.items node }
+{
+    match node {
+        TermNode::Par(f, g) => one_more(level_at(levels, f), level_at(levels, g)),
+        TermNode::Seq(f, _, g) => one_more(level_at(levels, f), level_at(levels, g)),
+        TermNode::Prune(f, _, g) => one_more(level_at(levels, f), level_at(levels, g)),
+        TermNode::Other(f, g) => one_more(level_at(levels, f), level_at(levels, g)),
+        _ => 1,
+    }
+}
+
+impl Heights {
+    /// The levels of a program's terms. The error is refused memory.
+    pub fn new(alloc: Global, program: &Program) -> Result<Heights, AllocError>
+        ensures { IfOk result (λ h. AreHeights (code program.now) h) }
+    {
+        let mut levels = Vec::new(alloc);
+        program.are_unfolded();
+        program.are_parts_first();
+        for i in 0..program.len() {
+            levels.push(level_of(&levels, program.node(i)))?;
+        }
+        Ok(Heights { levels })
+    }
+
+    /// How deep the term of that node nests, in levels.
+    pub fn at(&self, node: usize) -> usize
+        ensures { result ≡ height self.now node }
+    {
+        level_at(&self.levels, node)
+    }
+
+    /// As many levels as the deepest term has, and at least 1.
+    pub fn most(&self) -> usize
+        ensures { AreAtMost self.now result }
+    {
+        let mut most = 1;
+        for i in 0..self.levels.len() {
+            most = most.max(self.levels[i]);
+        }
+        most
+    }
+}
