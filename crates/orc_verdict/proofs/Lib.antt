@@ -1,3 +1,10 @@
+pub mod Calls
+pub mod Conditions
+pub mod Counting
 pub mod Deepening
+pub mod Entries
+pub mod Fitting
 pub mod Levels
 pub mod Nesting
+pub mod Parts
+pub mod Publishing

@@ -1,3 +1,6 @@
 pub mod Deepening
 pub mod Depth
+pub mod Finding
 pub mod Heights
+pub mod Reasons
+pub mod Standing

@@ -1,0 +1,141 @@
+-- The part of a marked term that a node with a name shows.
+use Rattle.std.proofs.Common.{◌≡◌, ◌≤◌, ◌<◌, ◌+◌, ℕ, zero, suc, List, [], ◌∷◌, Some, length, refl, sym, ap, ◌∙◌, subst, arith, inl, inr, ◌⊎◌, ⊎_elim}
+use Rattle.std.specs.Prelude.{slice_get}
+use Rattle.orc_rules.specs.Term.{Term}
+use Rattle.orc_rules.specs.Idle.{has_halted}
+use Rattle.orc_rules.specs.Marked.{Marked, in_opened, in_other, erase, Replaces, here}
+use Rattle.orc_rules.specs.Numbered.{mark, cell, once, times}
+use Rattle.orc_rules.specs.Refusal.{Stands}
+use Rattle.orc_checker.specs.declared.arena.Node.{Node}
+use Rattle.orc_checker.specs.declared.arena.Kind.{Kind}
+use Rattle.orc_checker.specs.declared.arena.Kind.TheVariants.{Leaf, One, Two}
+use Rattle.orc_checker.specs.declared.arena.Tip.{Tip}
+use Rattle.orc_checker.specs.declared.arena.Tip.TheVariants.{Gone, Ended, Token, Bears, Waits}
+use Rattle.orc_checker.specs.declared.arena.Single.TheVariants.{Feeds, Entered, Passed}
+use Rattle.orc_checker.specs.declared.arena.Double.TheVariants.{Both, Side}
+use Rattle.orc_checker.specs.Arena.{Env, Tree, leaf, one, two, place, at, close, Holds, StandOnce, living, living_kind, of_tip, spelled, env_of, Frame, plug}
+use Rattle.orc_checker.specs.Around.{above}
+use Rattle.orc_checker.specs.Rising.{Stands as StandsAt}
+use Rattle.orc_checker.specs.Settling.{flag, Flagged}
+use Rattle.orc_checker.specs.Checker.{State, Draws}
+use Rattle.orc_checker.proofs.Trees.{spot, holds-out, missed}
+use Rattle.orc_checker.proofs.Spelling.{replaces}
+use Rattle.orc_checker.proofs.Settling.{flag_says, flagged-out}
+use Rattle.orc_verdict.specs.declared.finding.Name.{Name}
+use Rattle.orc_verdict.specs.declared.finding.Name.TheVariants.{Mark, Call, Cell}
+use Rattle.orc_verdict.specs.Finding.{name_at, named, HasNone, LacksAt}
+
+-- what a node shows of its part
+abbrev pub Shows : (ℕ → Term) → State → Kind → Marked → Type 0
+Shows code s (Leaf k) x = x ≡ of_tip code (env_of s.cells s.scopes) k
+Shows code s (One (Entered n g e) i) x = (f : Marked) × (x ≡ in_other n f (close (env_of s.cells s.scopes e) (code g))) × (flag s.flags i ≡ has_halted (erase f))
+Shows code s (Two (Side c) i j) x = (f g : Marked) × (x ≡ in_opened f c g) × (flag s.flags j ≡ has_halted (erase g))
+Shows code s _ x = Unit {0}
+
+same_some : {X : Type 0} (x y : X) → Some x ≡ Some y → x ≡ y
+same_some x y e = cc e
+
+-- a part of the marked term
+pub record Shown (code : ℕ → Term) (s : State) (m : Marked) (i : ℕ) (k : Kind) : Type 0 where
+  pub part : Marked
+  pub stands : Stands part m
+  pub shows : Shows code s k part
+  pub context : List Frame
+  pub tree : Tree
+  pub there : StandsAt s.nodes (length s.scopes) i context tree
+  pub is : spelled code (env_of s.cells s.scopes) tree ≡ part
+  pub whole : spelled code (env_of s.cells s.scopes) (plug context tree) ≡ m
+
+module _ (code : ℕ → Term) (s : State) (m : Marked) (d : Draws code s m) where
+  abbrev env : ℕ → Env
+  env = env_of s.cells s.scopes
+
+  kind_is : (p q i j : ℕ) (k l : Kind) → at s.nodes p j k → j ≡ i → at s.nodes q i l → k ≡ l
+  kind_is p q i j k l a e b = ap Node.kind (same_some (record { kind = k; parent = p }) (record { kind = l; parent = q }) (sym a ∙ ap (slice_get s.nodes) e ∙ b))
+
+  shows_of : (p q i : ℕ) (k : Kind) (t : Tree) → Holds s.nodes (length s.scopes) p t → Flagged s.halts s.flags t → place t ≡ i → at s.nodes q i k → Shows code s k (spelled code env t)
+  shows_of p q i k (leaf j l) h f e a = subst (λ z. Shows code s z (of_tip code env l)) (kind_is p q i j (Leaf l) k h.0 e a) refl
+  shows_of p q i k (one j (Feeds x g c) t) h f e a = subst (λ z. Shows code s z (spelled code env (one j (Feeds x g c) t))) (kind_is p q i j (One (Feeds x g c) (place t)) k h.0 e a) tt
+  shows_of p q i k (one j (Entered n g c) t) h f e a = subst (λ z. Shows code s z (spelled code env (one j (Entered n g c) t))) (kind_is p q i j (One (Entered n g c) (place t)) k h.0 e a) (spelled code env t, refl, flag_says code env s.halts d.flags.are_halts s.flags t f.1)
+  shows_of p q i k (one j Passed t) h f e a = subst (λ z. Shows code s z (spelled code env t)) (kind_is p q i j (One Passed (place t)) k h.0 e a) tt
+  shows_of p q i k (two j Both t u) h f e a = subst (λ z. Shows code s z (spelled code env (two j Both t u))) (kind_is p q i j (Two Both (place t) (place u)) k h.0 e a) tt
+  shows_of p q i k (two j (Side c) t u) h f e a = subst (λ z. Shows code s z (spelled code env (two j (Side c) t u))) (kind_is p q i j (Two (Side c) (place t) (place u)) k h.0 e a) (spelled code env t, spelled code env u, refl, flag_says code env s.halts d.flags.are_halts s.flags u f.2)
+
+  -- a node that isn't gone shows a part
+  pub shown : (q i : ℕ) (k : Kind) → at s.nodes q i k → living_kind k ≡ 1 → Shown code s m i k
+  shown q i k a lives =
+      let w = spot i d.tree [] (omega (arith, d.once i, lives, ap living a)) in
+      let n = length s.scopes in
+      let hold : Holds s.nodes n 0 (plug w.context w.part) = subst (λ z. Holds s.nodes n 0 z) (sym w.is) d.holds in
+      let flags = (flagged-out s.halts s.flags w.context w.part (subst (λ z. Flagged s.halts s.flags z) (sym w.is) d.flags.each)).1 in
+      let o = holds-out s.nodes n 0 w.context w.part hold in
+      let x = spelled code env w.part in
+      let h : Replaces x x x [] x = here in
+      let r = replaces code env w.context w.part w.part h in
+      let whole : spelled code env (plug w.context w.part) ≡ m = ap (spelled code env) w.is ∙ sym d.marked in
+      record {
+        part = x;
+        stands = (r.0, subst (λ z. Replaces x x z r.0 z) whole r.1);
+        shows = shows_of (above 0 w.context) q i k w.part o.1 flags w.there a;
+        context = w.context;
+        tree = w.part;
+        there = record { holds = hold; once = subst (λ z. StandOnce s.nodes z) (sym w.is) d.once; there = w.there; root = ap place w.is ∙ d.root };
+        is = refl;
+        whole = whole;
+      }
+
+  tip_lacks : (name : Name) (k : Tip) → (name_at (Leaf k) ≡ Some name → ⊥) → times (named name) (of_tip code env k) ≡ 0
+  tip_lacks name Gone h = refl
+  tip_lacks name Ended h = refl
+  tip_lacks (Mark r) (Token t f e) h = missed r t (λ e. h (ap (λ z. Some (Mark z)) (sym e)))
+  tip_lacks (Call r) (Token t f e) h = refl
+  tip_lacks (Cell r) (Token t f e) h = refl
+  tip_lacks (Mark r) (Bears t v) h = missed r t (λ e. h (ap (λ z. Some (Mark z)) (sym e)))
+  tip_lacks (Call r) (Bears t v) h = refl
+  tip_lacks (Cell r) (Bears t v) h = refl
+  tip_lacks (Mark r) (Waits k) h = refl
+  tip_lacks (Call r) (Waits k) h = missed r k (λ e. h (ap (λ z. Some (Call z)) (sym e)))
+  tip_lacks (Cell r) (Waits k) h = refl
+
+  other_lacks : (name : Name) (n g e i : ℕ) → (name_at (One (Entered n g e) i) ≡ Some name → ⊥) → once (named name) (mark n) ≡ 0
+  other_lacks (Mark r) n g e i h = missed r n (λ e. h (ap (λ z. Some (Mark z)) (sym e)))
+  other_lacks (Call r) n g e i h = refl
+  other_lacks (Cell r) n g e i h = refl
+
+  side_lacks : (name : Name) (c i j : ℕ) → (name_at (Two (Side c) i j) ≡ Some name → ⊥) → once (named name) (cell c) ≡ 0
+  side_lacks (Mark r) c i j h = refl
+  side_lacks (Call r) c i j h = refl
+  side_lacks (Cell r) c i j h = missed r c (λ e. h (ap (λ z. Some (Cell z)) (sym e)))
+
+  -- a name that no node has stands nowhere
+  lacks : (name : Name) → HasNone s.nodes name → (p : ℕ) (t : Tree) → Holds s.nodes (length s.scopes) p t → times (named name) (spelled code env t) ≡ 0
+  lacks name none p (leaf i k) h = tip_lacks name k (none i _ h.0)
+  lacks name none p (one i (Feeds x g e) t) h = lacks name none i t h.2
+  lacks name none p (one i (Entered n g e) t) h = omega (arith, other_lacks name n g e (place t) (none i _ h.0), lacks name none i t h.2)
+  lacks name none p (one i Passed t) h = lacks name none i t h.2
+  lacks name none p (two i Both t u) h = omega (arith, lacks name none i t h.1, lacks name none i u h.2)
+  lacks name none p (two i (Side c) t u) h = omega (arith, side_lacks name c (place t) (place u) (none i _ h.0), lacks name none i t h.1, lacks name none i u h.2)
+
+  pub stands_nowhere : (name : Name) → HasNone s.nodes name → times (named name) m ≡ 0
+  stands_nowhere name none = ap (times (named name)) d.marked ∙ lacks name none 0 d.tree d.holds
+
+inside : {X : Type 0} (xs : List X) (i : ℕ) (x : X) → slice_get xs i ≡ Some x → i < length xs
+inside [] i x h = cc h
+inside (y ∷ xs) zero x h = omega arith
+inside (y ∷ xs) (suc i) x h = omega (arith, inside xs i x h)
+
+-- the nodes that were looked at so far don't have the name
+abbrev pub NoneBelow : List Node → Name → ℕ → Type 0
+NoneBelow nodes name n = (i : ℕ) → i < n → LacksAt nodes name i
+
+pub none_next : (nodes : List Node) (name : Name) (n : ℕ) → NoneBelow nodes name n → LacksAt nodes name n → NoneBelow nodes name (n + 1)
+none_next nodes name n so_far h i lt x e = ⊎_elim (λ y. so_far i y x e) (λ y. h x (ap (slice_get nodes) (sym y) ∙ e)) (less_or i n lt)
+  where
+    less_or : (i n : ℕ) → i < n + 1 → (i < n) ⊎ (i ≡ n)
+    less_or zero zero h = inr refl
+    less_or zero (suc n) h = inl (omega arith)
+    less_or (suc i) zero h = absurd (omega (arith, h))
+    less_or (suc i) (suc n) h = ⊎_elim (λ e. inl (omega (arith, e))) (λ e. inr (ap suc e)) (less_or i n (omega (arith, h)))
+
+pub all_lack : (nodes : List Node) (name : Name) (n : ℕ) → length nodes ≤ n → NoneBelow nodes name n → HasNone nodes name
+all_lack nodes name n le h i x e = h i (omega (arith, le, inside nodes i x e)) x e

@@ -1,0 +1,70 @@
+// What the table of sites answers to a call that was made, and when.
+
+ghost use Rattle.std.specs.Prelude.{◌≡◌, ℕ, IfSome, IfNone};
+ghost use Rattle.std.specs.Bool.{Decides};
+ghost use Rattle.orc_rules.specs.Refusal.{IsAnswer};
+ghost use Rattle.orc_rules.specs.Timed.{IsDue};
+ghost use Rattle.orc_rules.specs.declared.value.Found.TheVariants.{After};
+ghost use Rattle.orc_checker.specs.declared.rest.Called.{Called as CallMade};
+ghost use Rattle.orc_checker.specs.Calls.{IsCall, DueNow};
+ghost use Rattle.orc_verdict.specs.Reasons.{Says};
+
+use orc_checker::Marked;
+use orc_checker::rest::Called;
+use orc_rules::value::{Answer, Found};
+
+/// The call of that number.
+fn call_made(marked: &Marked, k: u64) -> Option<Called>
+    ensures call { IfSome result (λ c. IsCall marked.now.rest k c) }
+    ensures none { IfNone result ((c : CallMade) → IsCall marked.now.rest k c → ⊥) }
+{
+    if k == 0 {
+        return None;
+    }
+    match marked.calls().get((k - 1) as usize) {
+        Some(called) => Some(*called),
+        None => None,
+    }
+}
+
+/// Whether the table's answer to a call is this one.
+fn gives(called: Called, answer: Answer) -> bool
+    ensures { Decides result ((d : ℕ) × (called.found ≡ After answer d)) }
+{
+    match called.found {
+        Found::After(given, _) => given == answer,
+        Found::Never => false,
+    }
+}
+
+/// Whether the table's answer to a call is this one, and due at this time.
+fn is_due_at(called: Called, answer: Answer, time: u64) -> bool
+    ensures { Decides result (DueNow called answer time) }
+{
+    match called.found {
+        Found::After(given, delay) => {
+            given == answer && time >= called.at && time - called.at == delay
+        }
+        Found::Never => false,
+    }
+}
+
+/// Whether the table's answer to call `k` is this one.
+pub(crate) fn is_answer(marked: &Marked, k: u64, answer: Answer) -> bool
+    ensures { Says marked.now result (λ x p. IsAnswer x p k answer) }
+{
+    match call_made(marked, k) {
+        Some(called) => gives(called, answer),
+        None => false,
+    }
+}
+
+/// Whether the table's answer to call `k` is this one, and due now.
+pub(crate) fn is_due(marked: &Marked, k: u64, answer: Answer) -> bool
+    ensures { Says marked.now result (λ x p. IsDue x.sites p.calls k answer p.now) }
+{
+    match call_made(marked, k) {
+        Some(called) => is_due_at(called, answer, marked.now()),
+        None => false,
+    }
+}

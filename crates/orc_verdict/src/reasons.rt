@@ -1,0 +1,342 @@
+// The first reason why an entry is refused.
+
+ghost use Rattle.std.specs.Prelude.{◌≡◌, ◌&&◌, nat_eq, suc, IfSome, IfNone};
+ghost use Rattle.std.specs.Bool.{Decides};
+ghost use Rattle.orc_rules.specs.Refusal.{HasToken, HasCall, HasCell, HasOther};
+ghost use Rattle.orc_rules.specs.declared.entry.RuleFault.TheVariants as reason;
+ghost use Rattle.orc_verdict.specs.Reasons.{asked_by, counted_as, cancel_of, answer_of, tick_of, right_flag, left_flag, IsRightOver, IsLeftOver, Says, Tests, RefusedFor, MeetsAll};
+
+use crate::due::{is_answer, is_due};
+use crate::finding::{Name, find, is_leaf, is_one};
+use crate::standing::{args_named, fits_standing, mark_named, standing_of};
+use crate::ticks::can_tick;
+use orc_checker::Marked;
+use orc_checker::arena::Kind;
+use orc_rules::answers::Answers;
+use orc_rules::entry::{Entry, RuleFault};
+use orc_rules::laws::journal_is_numbered;
+use orc_rules::program::Program;
+use orc_rules::value::Answer;
+
+/// What an entry asks to be there.
+#[derive(Clone, Copy)]
+enum Asked {
+    Token(u64),
+    Call(u64),
+    Cell(u64),
+    TokenAndCell(u64, u64),
+    Otherwise(u64),
+    Nothing,
+}
+
+/// What an entry asks to be there.
+fn asks_for(entry: &Entry) -> Asked
+    ensures { result ≡ asked_by entry.now }
+{
+    match entry {
+        Entry::End(s) => Asked::Token(*s),
+        Entry::Fork(s, _, _) => Asked::Token(*s),
+        Entry::Seq(s, _) => Asked::Token(*s),
+        Entry::Other(s, _) => Asked::Token(*s),
+        Entry::Def(s, _) => Asked::Token(*s),
+        Entry::Void(s) => Asked::Token(*s),
+        Entry::Open(s, _, _, _) => Asked::Token(*s),
+        Entry::Send(s, _, _) => Asked::Token(*s),
+        Entry::Call(s, _, _, _) => Asked::Token(*s),
+        Entry::Publish(s, _) => Asked::Token(*s),
+        Entry::Return(k, _, _) => Asked::Call(*k),
+        Entry::ReturnHalt(k) => Asked::Call(*k),
+        Entry::Bind(s, c, _) => Asked::TokenAndCell(*s, *c),
+        Entry::Lost(c) => Asked::Cell(*c),
+        Entry::Right(s, _) => Asked::Otherwise(*s),
+        Entry::Tick(_) => Asked::Nothing,
+        Entry::Cancel(_) => Asked::Nothing,
+    }
+}
+
+/// Whether token `s` is there.
+fn has_token(marked: &Marked, s: u64) -> bool
+    ensures { Says marked.now result (λ x p. HasToken p s) }
+{
+    match find(marked, Name::Mark(s)) {
+        Some(part) => is_leaf(part.kind),
+        None => false,
+    }
+}
+
+/// Whether otherwise `s` is there.
+fn has_otherwise(marked: &Marked, s: u64) -> bool
+    ensures { Says marked.now result (λ x p. HasOther p s) }
+{
+    match find(marked, Name::Mark(s)) {
+        Some(part) => is_one(part.kind),
+        None => false,
+    }
+}
+
+/// Whether call `k` pends.
+fn has_call(marked: &Marked, k: u64) -> bool
+    ensures { Says marked.now result (λ x p. HasCall p k) }
+{
+    match find(marked, Name::Call(k)) {
+        Some(_) => true,
+        None => false,
+    }
+}
+
+/// Whether cell `c` is there.
+fn has_cell(marked: &Marked, c: u64) -> bool
+    ensures { Says marked.now result (λ x p. HasCell p c) }
+{
+    match find(marked, Name::Cell(c)) {
+        Some(_) => true,
+        None => false,
+    }
+}
+
+/// The call that a cancel names.
+fn cancel_named(entry: &Entry) -> Option<u64>
+    ensures { result ≡ cancel_of entry.now }
+{
+    match entry {
+        Entry::Cancel(k) => Some(*k),
+        _ => None,
+    }
+}
+
+/// Whether two answers of a look are the same.
+fn are_same(first: Option<u64>, second: Option<u64>) -> bool
+    ensures { Decides result (first ≡ second) }
+{
+    match first {
+        Some(a) => match second {
+            Some(b) => a == b,
+            None => false,
+        },
+        None => match second {
+            Some(_) => false,
+            None => true,
+        },
+    }
+}
+
+/// Whether no cancel is due, or the entry is the next one.
+fn is_in_turn(marked: &Marked, program: &Program, answers: &Answers, entry: &Entry) -> bool
+    ensures { Tests program.now answers.now entry.now marked.now reason.Cancel result }
+{
+    are_same(cancel_named(entry), marked.next_cancel())
+}
+
+/// Whether both hold.
+fn are_both(first: bool, second: bool) -> bool
+    ensures { result ≡ (first && second) }
+{
+    first && second
+}
+
+/// Whether what the entry names is there.
+fn is_there(marked: &Marked, program: &Program, answers: &Answers, entry: &Entry) -> bool
+    ensures { Tests program.now answers.now entry.now marked.now reason.Mark result }
+{
+    journal_is_numbered();
+    match asks_for(entry) {
+        Asked::Token(s) => has_token(marked, s),
+        Asked::Call(k) => has_call(marked, k),
+        Asked::Cell(c) => has_cell(marked, c),
+        Asked::TokenAndCell(s, c) => are_both(has_token(marked, s), has_cell(marked, c)),
+        Asked::Otherwise(s) => has_otherwise(marked, s),
+        Asked::Nothing => true,
+    }
+}
+
+/// Whether the kind of term, the name, the arguments, the value and the taker are the entry's.
+fn fits(marked: &Marked, program: &Program, answers: &Answers, entry: &Entry) -> bool
+    ensures { Tests program.now answers.now entry.now marked.now reason.Form result }
+{
+    journal_is_numbered();
+    let Some(s) = mark_named(entry) else {
+        return true;
+    };
+    match find(marked, Name::Mark(s)) {
+        Some(part) => {
+            let standing = standing_of(marked, program, args_named(entry), part.kind);
+            fits_standing(entry, standing, marked.taker(part.at))
+        }
+        None => false,
+    }
+}
+
+/// Whether `b` is the number after `a`.
+fn is_after(b: u64, a: u64) -> bool
+    ensures { result ≡ nat_eq b (suc a) }
+{
+    b != 0 && b - 1 == a
+}
+
+/// Whether the new numbers of an entry are the next mark, call and cell.
+fn are_next(entry: &Entry, mark: u64, call: u64, cell: u64) -> bool
+    ensures { result ≡ counted_as entry.now mark call cell }
+{
+    match entry {
+        Entry::Fork(_, a, b) => *a == mark && is_after(*b, *a),
+        Entry::Seq(_, a) => *a == mark,
+        Entry::Other(_, a) => *a == mark,
+        Entry::Def(_, a) => *a == mark,
+        Entry::Open(_, c, a, b) => *c == cell && (*a == mark && is_after(*b, *a)),
+        Entry::Send(_, a, _) => *a == mark,
+        Entry::Call(_, k, _, _) => *k == call,
+        Entry::Return(_, a, _) => *a == mark,
+        Entry::Right(_, a) => *a == mark,
+        _ => true,
+    }
+}
+
+/// Whether the new numbers are the next ones.
+fn is_counted(marked: &Marked, program: &Program, answers: &Answers, entry: &Entry) -> bool
+    ensures { Tests program.now answers.now entry.now marked.now reason.Number result }
+{
+    are_next(
+        entry,
+        marked.new_mark(),
+        marked.new_call(),
+        marked.new_cell(),
+    )
+}
+
+/// The call and the answer of a return.
+fn answer_named(entry: &Entry) -> Option<(u64, Answer)>
+    ensures { result ≡ answer_of entry.now }
+{
+    match entry {
+        Entry::Return(k, _, v) => Some((*k, Answer::Value(*v))),
+        Entry::ReturnHalt(k) => Some((*k, Answer::Halt)),
+        _ => None,
+    }
+}
+
+/// Whether a return has the table's answer.
+fn is_answered(marked: &Marked, program: &Program, answers: &Answers, entry: &Entry) -> bool
+    ensures { Tests program.now answers.now entry.now marked.now reason.Answer result }
+{
+    journal_is_numbered();
+    match answer_named(entry) {
+        Some((k, answer)) => is_answer(marked, k, answer),
+        None => true,
+    }
+}
+
+/// The time of a tick.
+fn tick_named(entry: &Entry) -> Option<u64>
+    ensures { result ≡ tick_of entry.now }
+{
+    match entry {
+        Entry::Tick(t) => Some(*t),
+        _ => None,
+    }
+}
+
+/// Whether a return stands at its due time, and a tick is allowed.
+fn is_on_time(marked: &mut Marked, program: &Program, answers: &Answers, entry: &Entry) -> bool
+    ensures time { Tests program.now answers.now entry.now marked.old reason.Time result }
+    ensures same { marked.new ≡ marked.old }
+{
+    journal_is_numbered();
+    match tick_named(entry) {
+        Some(t) => can_tick(marked, program, t),
+        None => match answer_named(entry) {
+            Some((k, answer)) => is_due(marked, k, answer),
+            None => true,
+        },
+    }
+}
+
+/// Whether the right side of a pruning has halted, by its node.
+fn right_has_halted(marked: &Marked, kind: Kind) -> bool
+    ensures { result ≡ right_flag marked.now.flags kind }
+{
+    match kind {
+        Kind::Two(_, _, right) => marked.part_has_halted(right),
+        _ => false,
+    }
+}
+
+/// Whether the left side of an otherwise has halted, by its node.
+fn left_has_halted(marked: &Marked, kind: Kind) -> bool
+    ensures { result ≡ left_flag marked.now.flags kind }
+{
+    match kind {
+        Kind::One(_, left) => marked.part_has_halted(left),
+        _ => false,
+    }
+}
+
+/// Whether the right side of cell `c` has halted.
+fn right_is_over(marked: &Marked, c: u64) -> bool
+    ensures { Says marked.now result (λ x p. IsRightOver p c) }
+{
+    match find(marked, Name::Cell(c)) {
+        Some(part) => right_has_halted(marked, part.kind),
+        None => false,
+    }
+}
+
+/// Whether the left side of otherwise `s` has halted.
+fn left_is_over(marked: &Marked, s: u64) -> bool
+    ensures { Says marked.now result (λ x p. IsLeftOver p s) }
+{
+    match find(marked, Name::Mark(s)) {
+        Some(part) => left_has_halted(marked, part.kind),
+        None => false,
+    }
+}
+
+/// Whether the side that the entry leaves has halted.
+fn is_over(marked: &Marked, program: &Program, answers: &Answers, entry: &Entry) -> bool
+    ensures { Tests program.now answers.now entry.now marked.now reason.Halted result }
+{
+    journal_is_numbered();
+    match asks_for(entry) {
+        Asked::Cell(c) => right_is_over(marked, c),
+        Asked::Otherwise(s) => left_is_over(marked, s),
+        Asked::Token(_) => true,
+        Asked::Call(_) => true,
+        Asked::TokenAndCell(_, _) => true,
+        Asked::Nothing => true,
+    }
+}
+
+/// The first reason why the entry is refused, but for depth and memory; None where there is none.
+/// It looks at all nodes of the term.
+pub fn first_reason(
+    marked: &mut Marked,
+    program: &Program,
+    answers: &Answers,
+    entry: &Entry,
+) -> Option<RuleFault>
+    ensures refused { IfSome result (λ r. RefusedFor program.now answers.now entry.now marked.old r) }
+    ensures met { IfNone result (MeetsAll program.now answers.now entry.now marked.old) }
+    ensures same { marked.new ≡ marked.old }
+{
+    if !is_in_turn(marked, program, answers, entry) {
+        return Some(RuleFault::Cancel);
+    }
+    if !is_there(marked, program, answers, entry) {
+        return Some(RuleFault::Mark);
+    }
+    if !fits(marked, program, answers, entry) {
+        return Some(RuleFault::Form);
+    }
+    if !is_counted(marked, program, answers, entry) {
+        return Some(RuleFault::Number);
+    }
+    if !is_answered(marked, program, answers, entry) {
+        return Some(RuleFault::Answer);
+    }
+    if !is_on_time(marked, program, answers, entry) {
+        return Some(RuleFault::Time);
+    }
+    if !is_over(marked, program, answers, entry) {
+        return Some(RuleFault::Halted);
+    }
+    None
+}

@@ -1,0 +1,34 @@
+// Ticks.
+
+ghost use Rattle.std.specs.Prelude.{◌≡◌, ◌<◌, false, Some};
+ghost use Rattle.std.specs.Bool.{Decides};
+ghost use Rattle.orc_rules.specs.Journal.{Place, moment};
+ghost use Rattle.orc_rules.specs.Nodes.{code, definitions};
+ghost use Rattle.orc_rules.specs.Timed.{Context, IsTick};
+ghost use Rattle.orc_checker.specs.Checker.{Spells};
+
+use orc_checker::Marked;
+use orc_rules::laws::tests_are_right;
+use orc_rules::program::Program;
+
+/// Whether nothing moves, and the time is the next due one and later than now.
+fn may_tick(moves: bool, due: Option<u64>, now: u64, t: u64) -> bool
+    ensures { Decides result ((moves ≡ false) × (due ≡ Some t) × (now < t)) }
+{
+    match due {
+        Some(next) => !moves && next == t && now < t,
+        None => false,
+    }
+}
+
+/// Whether a tick to `t` is allowed.
+pub(crate) fn can_tick(marked: &mut Marked, program: &Program, t: u64) -> bool
+    ensures tick { (x : Context) (p : Place) → x.definitions ≡ definitions program.now → Spells x (code program.now) marked.old p → Decides result (IsTick x (moment p) t) }
+    ensures same { marked.new ≡ marked.old }
+{
+    tests_are_right();
+    let due = marked.next_due();
+    let now = marked.now();
+    let moves = marked.can_move(program);
+    may_tick(moves, due, now, t)
+}
