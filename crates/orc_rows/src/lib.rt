@@ -4,6 +4,8 @@
 #[cfg(test)]
 mod command_lines;
 #[cfg(test)]
+mod documents;
+#[cfg(test)]
 mod harness;
 #[cfg(test)]
 mod programs;

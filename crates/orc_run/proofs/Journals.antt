@@ -1,15 +1,22 @@
 -- Journals that grow by an entry.
-use Rattle.std.proofs.Common.{◌≡◌, ℕ, ◌+◌, true, List, [], ◌∷◌, ◌++◌, length, arith, refl, ap, ◌∙◌, sym, subst, length-append}
-use Rattle.orc_rules.specs.declared.value.Value.{Value}
+use Rattle.std.proofs.Common.{◌≡◌, ℕ, ◌+◌, Bool, true, false, cond, List, [], ◌∷◌, ◌++◌, None, arith, refl, ap, ◌∙◌, sym, subst, length-append, append_assoc}
+use Rattle.std.specs.Prelude.{slice_get}
+use Rattle.std.proofs.lemmas.List.{flat_map_more}
 use Rattle.orc_rules.specs.declared.entry.Entry.{Entry}
 use Rattle.orc_rules.specs.declared.entry.Entry.TheVariants as entry
 use Rattle.orc_rules.specs.Sites.{Table}
-use Rattle.orc_rules.specs.Nodes.{Listing, code, source}
+use Rattle.orc_rules.specs.Nodes.{Listing, source}
 use Rattle.orc_rules.specs.Timed.{Context}
 use Rattle.orc_rules.specs.Journal.{Place, Journal, Leads, begin}
+use Rattle.orc_rules.specs.Text.{line, output}
 use Rattle.orc_rules.specs.Trace.{published}
-use Rattle.orc_checker.specs.Checker.{State, Applies}
-use Rattle.orc_run.specs.Runs.{Story, context, IsReached}
+use Rattle.orc_journal.specs.declared.journal.Version.TheVariants.{Two}
+use Rattle.orc_journal.specs.Texts.{header, entry_lines, counts, count}
+use Rattle.orc_journal.proofs.Stripping.{count_more}
+use Rattle.orc_checker.specs.Checker.{Applies}
+use Rattle.orc_run.specs.Lines.{Kept, with_line}
+use Rattle.orc_run.specs.Running.{kept, written}
+use Rattle.orc_run.specs.Runs.{Story, context, text_of, IsStory, Grows, IsReached, Settles}
 
 -- an entry more
 journal-one_more : (x : Context) (p q r : Place) (es : List Entry) (e : Entry) → Journal x p es q → Leads x q e r → Journal x p (es ++ e ∷ []) r
@@ -37,16 +44,58 @@ published-append (entry.Right _ _ ∷ es) fs = published-append es fs
 published-append (entry.Tick _ ∷ es) fs = published-append es fs
 published-append (entry.Cancel _ ∷ es) fs = published-append es fs
 
--- a run goes on by an entry that the marked term takes
-pub goes_on : (l : Listing) (t : Table) (old new : Story) (e : Entry) → Applies l t e old.marked new.marked
-    → new.published ≡ old.published ++ published (e ∷ []) → new.entries ≡ old.entries + 1 → IsReached l t old → IsReached l t new
-goes_on l t old new e applies values entries reached =
-    let (place, leads, spells) = applies true reached.place (reached.journal, reached.leads) reached.spells in
+-- what a longer journal's text is
+text-one_more : (names : List (List ℕ)) (es : List Entry) (e : Entry) → text_of names es ++ line names e ≡ text_of names (es ++ e ∷ [])
+text-one_more names es e =
+    let more : entry_lines names es ++ line names e ≡ entry_lines names (es ++ e ∷ []) = flat_map_more (line names) [] es e in
+    append_assoc (header Two) (entry_lines names es) (line names e) ∙ ap (λ (z : List ℕ). header Two ++ z) more
+
+-- a story grows by an entry that the marked term takes
+pub grows : (l : Listing) (t : Table) (old new : Story) (e : Entry) → Applies l t e old.marked new.marked
+    → new.published ≡ old.published ++ published (e ∷ []) → new.entries ≡ old.entries + 1 → new.lines ≡ with_line old.lines (line t.names e) → Grows l t e old new
+grows l t old new e applies values entries lines keeps es p told =
+    let (q, leads, spells) = applies true p (es, told.leads) told.spells in (
+      q,
+      leads,
+      record {
+        leads = journal-one_more (context l t) (begin (source l)) p q es e told.leads leads;
+        spells = spells;
+        values = values ∙ (ap (λ vs. vs ++ published (e ∷ [])) told.values ∙ sym (published-append es (e ∷ [])));
+        count = omega (arith, entries, told.count, length-append es (e ∷ []));
+        text = λ k. lines ∙ (ap (λ (z : Kept). with_line z (line t.names e)) (told.text k) ∙ kept_as (text-one_more t.names es e));
+      },
+    )
+  where
+    kept_as : {a b : List ℕ} → a ≡ b → ◌≡◌ {A = Kept} (record { kept = true; text = a }) (record { kept = true; text = b })
+    kept_as h = λ j. record { kept = true; text = h j }
+
+-- while no cancel is due, an entry counts
+counted : (x : Context) (p : Place) (e : Entry) (q : Place) → p.to_cancel ≡ [] → Leads x p e q → counts e ≡ true
+counted x p (entry.Cancel k) q free leads = cc (sym free ∙ leads.1.0)
+counted x p e q free leads = refl
+
+-- and where the story tells of none that is due, none is
+pub none_due : (l : Listing) (t : Table) (keeps : Bool) (story : Story) (es : List Entry) (p : Place) → IsStory l t keeps story es p → None ≡ slice_get story.marked.rest.to_cancel 0 → p.to_cancel ≡ []
+none_due l t keeps story es p told none = empty p.to_cancel (none ∙ ap (λ (ks : List ℕ). slice_get ks 0) (sym told.spells.rest.due))
+  where
+    empty : (ks : List ℕ) → None ≡ slice_get ks 0 → ks ≡ []
+    empty [] h = refl
+    empty (k ∷ ks) h = cc h
+
+-- a turn is one entry that counts, with the cancels behind it
+pub turn : (l : Listing) (t : Table) (keeps : Bool) (n : ℕ) (old mid new : Story) (e : Entry) → Grows l t e old mid → Settles l t mid new → IsReached l t keeps n old → IsReached l t keeps (n + 1) new
+turn l t keeps n old mid new e grown settled reached =
+    let (q, leads, told) = grown keeps reached.journal reached.place reached.told in
+    let after = settled keeps (reached.journal ++ e ∷ []) q told in
     record {
-      journal = reached.journal ++ e ∷ [];
-      place = place;
-      leads = journal-one_more (context l t) (begin (source l)) reached.place place reached.journal e reached.leads leads;
-      spells = spells;
-      values = values ∙ (ap (λ vs. vs ++ published (e ∷ [])) reached.values ∙ sym (published-append reached.journal (e ∷ [])));
-      count = omega (arith, entries, reached.count, length-append reached.journal (e ∷ []));
+      journal = after.journal;
+      place = after.place;
+      told = after.told;
+      paid = after.paid;
+      turns_are = after.turns_are ∙ (count_more reached.journal e ∙ (ap (λ (b : Bool). cond b (count reached.journal + 1) (count reached.journal)) (counted (context l t) reached.place e q reached.paid leads) ∙ ap (λ (m : ℕ). m + 1) reached.turns_are));
     }
+
+-- what is kept of a journal shows it
+pub shows : (l : Listing) (t : Table) (journal : Bool) (story : Story) (es : List Entry) (p : Place) → IsStory l t journal story es p → kept journal story ≡ written journal t.names es
+shows l t true story es p told = ap Kept.text (told.text refl)
+shows l t false story es p told = ap output told.values

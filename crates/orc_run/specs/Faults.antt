@@ -9,6 +9,10 @@ use Rattle.orc_scope.specs.declared.fault.FaultKind.{FaultKind}
 use Rattle.orc_scope.specs.declared.fault.FaultKind.TheVariants as kind
 use Rattle.orc_site.specs.declared.script.ScriptFault.{ScriptFault}
 use Rattle.orc_site.specs.declared.script.ScriptFault.TheVariants as script
+use Rattle.orc_rules.specs.declared.entry.RuleFault.{RuleFault}
+use Rattle.orc_rules.specs.declared.entry.RuleFault.TheVariants as reason
+use Rattle.orc_journal.specs.declared.text.JournalFault.{JournalFault}
+use Rattle.orc_journal.specs.declared.text.JournalFault.TheVariants as journal
 use Rattle.orc_run.specs.declared.faults.RunFault.{RunFault}
 use Rattle.orc_run.specs.declared.faults.RunFault.TheVariants as fault
 
@@ -60,16 +64,35 @@ script_line (script.Line number) = codes "L1 at line " ++ decimal number
 script_line script.Memory = codes "L2"
 script_line script.Long = codes "L3"
 
+abbrev pub journal_line : JournalFault → List ℕ
+journal_line journal.Header = codes "J1"
+journal_line (journal.Line number) = codes "J2 at line " ++ decimal number
+journal_line journal.Long = codes "J3"
+journal_line journal.Memory = codes "J4"
+
+abbrev pub reason_word : RuleFault → List ℕ
+reason_word reason.Cancel = codes "Cancel"
+reason_word reason.Mark = codes "Mark"
+reason_word reason.Form = codes "Form"
+reason_word reason.Number = codes "Number"
+reason_word reason.Answer = codes "Answer"
+reason_word reason.Time = codes "Time"
+reason_word reason.Halted = codes "Halted"
+reason_word reason.Deep = codes "Deep"
+reason_word reason.Memory = codes "Memory"
+
 -- the line on standard error, without its LF
 abbrev pub line : RunFault → List ℕ
 line (fault.Syntax f) = codes "orc: " ++ syntax_line f
 line (fault.Scope f) = codes "orc: " ++ scope_line f
 line (fault.Script f) = codes "orc: " ++ script_line f
+line (fault.Journal f) = codes "orc: " ++ journal_line f
+line (fault.Check f) = codes "orc: K at entry " ++ (decimal f.at ++ (codes ": " ++ reason_word f.why))
 line fault.Memory = codes "orc: E2"
 line fault.Broken = codes "orc: E4"
 line (fault.Write w) = codes "orc: write"
 
--- 5 where memory was refused, else 1 for what is wrong with the program, 6 for the output, 7 for the engine
+-- 5 where memory was refused, else 1 for what is wrong with the program or the journal, 6 for the output, 7 for the engine
 abbrev pub syntax_status : SyntaxFault → ℕ
 syntax_status syntax_fault.Memory = 5
 syntax_status f = 1
@@ -82,10 +105,20 @@ abbrev pub script_status : ScriptFault → ℕ
 script_status script.Memory = 5
 script_status f = 1
 
+abbrev pub journal_status : JournalFault → ℕ
+journal_status journal.Memory = 5
+journal_status f = 1
+
+abbrev pub reason_status : RuleFault → ℕ
+reason_status reason.Memory = 5
+reason_status r = 1
+
 abbrev pub status : RunFault → ℕ
 status (fault.Syntax f) = syntax_status f
 status (fault.Scope f) = scope_status f.kind
 status (fault.Script f) = script_status f
+status (fault.Journal f) = journal_status f
+status (fault.Check f) = reason_status f.why
 status fault.Memory = 5
 status fault.Broken = 7
 status (fault.Write w) = 6

@@ -1,16 +1,19 @@
 -- What the run of a source does.
-use Rattle.std.specs.Prelude.{◌≡◌, ℕ, List, length, Ok, Err}
+use Rattle.std.specs.Prelude.{◌≡◌, ℕ, List, length, Bool, true, false, Ok, Err}
 use Rattle.std.specs.declared.option.Option.{Option}
 use Rattle.std.specs.Io.KnownBytes.{Keeps, Appends}
 use Rattle.orc_rules.specs.Sites.{Table}
 use Rattle.orc_rules.specs.Nodes.{Listing}
 use Rattle.orc_rules.specs.Text.{output}
+use Rattle.orc_rules.specs.Trace.{published}
+use Rattle.orc_rules.specs.declared.entry.Entry.{Entry}
 use Rattle.orc_syntax.specs.Tree.{Source}
 use Rattle.orc_syntax.specs.Text.{SpellsText, IsFault, IfFault}
 use Rattle.orc_scope.specs.Checking.{Checks}
 use Rattle.orc_site.specs.Script.{Says, IsFault as IsBad}
 use Rattle.orc_run.specs.Output.{AppendsPrefix}
-use Rattle.orc_run.specs.Runs.{Outcome, IsRun}
+use Rattle.orc_run.specs.Runs.{Story, Outcome, IsRun, text_of}
+use Rattle.orc_run.specs.declared.running.Options.{Options}
 use Rattle.orc_run.specs.declared.ending.Summary.{Summary}
 use Rattle.orc_run.specs.declared.faults.RunFault.{RunFault}
 use Rattle.orc_run.specs.declared.faults.RunFault.TheVariants as fault
@@ -19,31 +22,50 @@ use Rattle.orc_run.specs.declared.faults.RunFault.TheVariants as fault
 abbrev pub IsProgramOf : List ℕ → Table → Listing → Type 0
 IsProgramOf source t l = (s : Source) × SpellsText source s × Checks t.names s (Ok l)
 
--- the source's program runs so with the sites that the script says
-abbrev pub Runs : List ℕ → List ℕ → ℕ → Outcome → Type 0
-Runs source script limit o = (l : Listing) × (t : Table) × Says script t × IsProgramOf source t l × IsRun l t limit o
+-- what is written of a journal: its text where that is wanted, else a line for each value that it publishes
+abbrev pub written : Bool → List (List ℕ) → List Entry → List ℕ
+written true names es = text_of names es
+written false names es = output (published es)
+
+-- the same of what is kept of a journal
+abbrev pub kept : Bool → Story → List ℕ
+kept true story = story.lines.text
+kept false story = output story.published
 
 -- the summary tells of the outcome
 pub record Tells (s : Summary) (o : Outcome) : Type 0 where
   pub end : s.end ≡ o.end
-  pub entries : s.entries ≡ o.entries
+  pub entries : s.entries ≡ length o.journal
   pub now : s.now ≡ o.now
-  pub published : s.published ≡ length o.published
+  pub published : s.published ≡ length (published o.journal)
 
--- what was written is the text of all that the run published, in order
-abbrev pub Ran : List ℕ → List ℕ → ℕ → Option (List ℕ) → Option (List ℕ) → Summary → Type 0
-Ran source script limit old new s = (o : Outcome) × Runs source script limit o × Tells s o × Appends old new (output o.published)
+-- a run of the program with these sites, of which the summary tells and the text shows what is wanted
+pub record IsTold (l : Listing) (t : Table) (options : Options) (s : Summary) (text : List ℕ) : Type 0 where
+  pub outcome : Outcome
+  pub is_run : IsRun l t options.limit outcome
+  pub tells : Tells s outcome
+  pub shows : text ≡ written options.journal t.names outcome.journal
+
+-- the source's program runs so with the sites that the script says
+abbrev pub Runs : List ℕ → List ℕ → Options → Summary → List ℕ → Type 0
+Runs source script options s text = (l : Listing) × (t : Table) × Says script t × IsProgramOf source t l × IsTold l t options s text
+
+-- what was written is the whole text of a run, of which the summary tells
+abbrev pub Ran : List ℕ → List ℕ → Options → Option (List ℕ) → Option (List ℕ) → Summary → Type 0
+Ran source script options old new s = (text : List ℕ) × Runs source script options s text × Appends old new text
 
 -- at a fault nothing was written, or at a write fault a prefix of the text of a run
-abbrev pub LeavesAtFault : List ℕ → List ℕ → ℕ → Option (List ℕ) → Option (List ℕ) → RunFault → Type 0
-LeavesAtFault source script limit old new (fault.Write w) = (o : Outcome) × Runs source script limit o × AppendsPrefix old new (output o.published)
-LeavesAtFault source script limit old new _ = Keeps old new
+abbrev pub LeavesAtFault : List ℕ → List ℕ → Options → Option (List ℕ) → Option (List ℕ) → RunFault → Type 0
+LeavesAtFault source script options old new (fault.Write w) = (s : Summary) × (text : List ℕ) × Runs source script options s text × AppendsPrefix old new text
+LeavesAtFault source script options old new _ = Keeps old new
 
 -- a fault of the source or of the script is one that it has: of its text, unless memory ran out, or of the source's names
 abbrev pub IsFaultOf : List ℕ → List ℕ → RunFault → Type 0
 IsFaultOf source script (fault.Syntax f) = IfFault (Err f) (IsFault source)
 IsFaultOf source script (fault.Scope f) = (s : Source) × (t : Table) × SpellsText source s × Says script t × Checks t.names s (Err f)
 IsFaultOf source script (fault.Script f) = IsBad script f
+IsFaultOf source script (fault.Journal f) = ⊥
+IsFaultOf source script (fault.Check f) = ⊥
 IsFaultOf source script _ = Unit {0}
 
 -- a fault that is neither of the source, nor of the script, nor of the output
@@ -52,4 +74,6 @@ IsOther (fault.Write w) = ⊥
 IsOther (fault.Syntax f) = ⊥
 IsOther (fault.Scope f) = ⊥
 IsOther (fault.Script f) = ⊥
+IsOther (fault.Journal f) = ⊥
+IsOther (fault.Check f) = ⊥
 IsOther _ = Unit {0}

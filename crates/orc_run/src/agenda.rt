@@ -61,12 +61,9 @@ impl Agenda {
         })
     }
 
-    /// An entry that can come next: a cancel that is due, else a move of a token, else the end of a side that has halted, else a return
-    /// that is due now, else a tick.
+    /// An entry that can come next, while no cancel is due: a move of a token, else the end of a side that has halted, else a return that is
+    /// due now, else a tick.
     pub fn choose(&mut self, program: &Program, marked: &Marked) -> Result<Choice, AllocError> {
-        if let Some(call) = marked.next_cancel() {
-            return Ok(Choice::Entry(Entry::Cancel(call)));
-        }
         for _ in 0..self.tokens.len() {
             let Some(turn) = self.tokens.pop_front() else {
                 break;

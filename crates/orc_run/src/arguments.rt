@@ -1,5 +1,7 @@
+//! The command line: what it may say, and what it asks for.
+
 use crate::running::Options;
-use clap::{Arg, ArgMatches, Command, Error, value_parser};
+use clap::{Arg, ArgAction, ArgMatches, Command, Error, value_parser};
 use std::alloc::{AllocError, Global};
 use std::convert::AsStr;
 
@@ -12,6 +14,9 @@ pub enum Job<'a> {
         file: &'a str,
         script: Option<&'a str>,
         options: Options,
+    },
+    Print {
+        file: &'a str,
     },
 }
 
@@ -36,11 +41,22 @@ fn run_command<'a>(alloc: Global) -> Result<Command<'a>, AllocError> {
         .value_parser(value_parser!(u64).range(1..=10_000_000))
         .default_value("100000")
         .help("The greatest number of journal entries, 1 to 10000000");
+    let journal = Arg::new(alloc, "journal")
+        .long("journal")
+        .action(ArgAction::SetTrue)
+        .help("Write the run's journal instead of what it publishes");
     Command::new(alloc, "run")
         .about("Run a program and write what it publishes")
         .arg(file_argument(alloc))?
         .arg(script_argument(alloc))?
-        .arg(limit)
+        .arg(limit)?
+        .arg(journal)
+}
+
+fn print_command<'a>(alloc: Global) -> Result<Command<'a>, AllocError> {
+    Command::new(alloc, "print")
+        .about("Write a program in its plain form")
+        .arg(file_argument(alloc))
 }
 
 fn orc_command<'a>(alloc: Global) -> Result<Command<'a>, AllocError> {
@@ -49,26 +65,31 @@ fn orc_command<'a>(alloc: Global) -> Result<Command<'a>, AllocError> {
         .about("Run programs of the Orc calculus, and check their journals")
         .subcommand_required(true)
         .arg_required_else_help(true)
-        .subcommand(run_command(alloc)?)
+        .subcommand(run_command(alloc)?)?
+        .subcommand(print_command(alloc)?)
 }
 
-fn job_of<'a>(given: &ArgMatches<'a>) -> Option<Job<'a>> {
+fn job_of<'a>(name: &str, given: &ArgMatches<'a>) -> Option<Job<'a>> {
     let file = given.get_str("file")?;
-    let script = given.get_str("script");
-    let limit = given.get_one::<u64>("limit")?;
-    Some(Job::Run {
-        file,
-        script,
-        options: Options { limit },
-    })
+    match name {
+        "print" => Some(Job::Print { file }),
+        _ => Some(Job::Run {
+            file,
+            script: given.get_str("script"),
+            options: Options {
+                limit: given.get_one::<u64>("limit")?,
+                journal: given.get_flag("journal"),
+            },
+        }),
+    }
 }
 
 /// Reads a command line, whose first word is the program's name. An error asks for help or for the version, or refuses
 /// it. `Ok(None)` does not come.
 pub fn read_words<'a, S: AsStr>(alloc: Global, words: &'a [S]) -> Result<Option<Job<'a>>, Error> {
     let matches = orc_command(alloc)?.try_get_matches_from(words)?;
-    let Some((_name, given)) = matches.subcommand() else {
+    let Some((name, given)) = matches.subcommand() else {
         return Ok(None);
     };
-    Ok(job_of(given))
+    Ok(job_of(name, given))
 }

@@ -3,6 +3,7 @@ ghost use Rattle.orc_run.specs.Status.{read_status_of};
 
 use crate::arguments::{Job, read_words};
 use crate::inputs::{Files, ReadFault};
+use crate::printing::print_text;
 use crate::running::{Options, run_text};
 use clap::error::ErrorKind;
 use std::alloc::Global;
@@ -73,6 +74,29 @@ fn run_file<F: Files, W: Write, V: Write>(
     }
 }
 
+/// Prints the program in a file: the status.
+fn print_file<F: Files, W: Write, V: Write>(
+    alloc: Global,
+    file: &str,
+    files: &mut F,
+    out: &mut W,
+    err: &mut V,
+) -> u8
+    ensures { result < 8 }
+{
+    let source = match files.read(file) {
+        Ok(source) => source,
+        Err(fault) => return unread(file, fault, err),
+    };
+    match print_text(alloc, source.as_slice(), out) {
+        Ok(()) => 0,
+        Err(fault) => {
+            let _ = writeln!(err, "{fault}");
+            fault.status()
+        }
+    }
+}
+
 /// Does one command line, whose first word is the program's name, and gives the process's status.
 ///
 /// Standard output is `out`, standard error `err`; what standard error doesn't take changes no status.
@@ -101,6 +125,7 @@ where
                     options,
                 },
             ),
-        ) => { run_file(alloc, file, script, &options, files, out, err) }
+        ) => run_file(alloc, file, script, &options, files, out, err),
+        Ok(Some(Job::Print { file })) => print_file(alloc, file, files, out, err),
     }
 }

@@ -1,9 +1,12 @@
 //! Why a program is not run, and the line and the status of each cause.
 
 ghost use Rattle.std.specs.Prelude.{◌≡◌, Some};
-ghost use Rattle.orc_run.specs.Faults.{syntax_line, what_word, scope_line, line, status};
+ghost use Rattle.orc_run.specs.Faults.{syntax_line, what_word, scope_line, journal_line, reason_word, line, status};
 
 use crate::output::WriteFault;
+use orc_checker::replay::CheckFault;
+use orc_journal::JournalFault;
+use orc_rules::entry::RuleFault;
 use orc_scope::{FaultKind, ScopeFault};
 use orc_site::ScriptFault;
 use orc_syntax::{SyntaxFault, What};
@@ -19,6 +22,10 @@ pub enum RunFault {
     Scope(ScopeFault),
     /// The script is none.
     Script(ScriptFault),
+    /// The text is that of no journal.
+    Journal(JournalFault),
+    /// An entry of the journal is refused.
+    Check(CheckFault),
     /// E2: memory was refused before the run began.
     Memory,
     /// E4: the engine chose an entry that the rules refuse. No run is known to end so.
@@ -99,6 +106,46 @@ impl fmt::Display for ScopeLine {
     }
 }
 
+/// A journal fault's code and place.
+#[derive(Clone, Copy)]
+struct JournalLine(JournalFault);
+
+impl fmt::Display for JournalLine {
+    ghost output = { λ j. Some (journal_line j.0) };
+
+    fn fmt<W: fmt::Write>(&self, f: &mut fmt::Formatter<W>) -> fmt::Result {
+        match self.0 {
+            JournalFault::Header => write!(f, "J1"),
+            JournalFault::Line(number) => write!(f, "J2 at line {number}"),
+            JournalFault::Long => write!(f, "J3"),
+            JournalFault::Memory => write!(f, "J4"),
+        }
+    }
+}
+
+/// The reason for which an entry is refused.
+#[derive(Clone, Copy)]
+struct ReasonWord(RuleFault);
+
+impl fmt::Display for ReasonWord {
+    ghost output = { λ r. Some (reason_word r.0) };
+
+    fn fmt<W: fmt::Write>(&self, f: &mut fmt::Formatter<W>) -> fmt::Result {
+        let word = match self.0 {
+            RuleFault::Cancel => "Cancel",
+            RuleFault::Mark => "Mark",
+            RuleFault::Form => "Form",
+            RuleFault::Number => "Number",
+            RuleFault::Answer => "Answer",
+            RuleFault::Time => "Time",
+            RuleFault::Halted => "Halted",
+            RuleFault::Deep => "Deep",
+            RuleFault::Memory => "Memory",
+        };
+        write!(f, "{word}")
+    }
+}
+
 impl fmt::Display for RunFault {
     ghost output = { λ f. Some (line f) };
 
@@ -115,6 +162,15 @@ impl fmt::Display for RunFault {
             RunFault::Script(ScriptFault::Line(number)) => write!(f, "orc: L1 at line {number}"),
             RunFault::Script(ScriptFault::Memory) => write!(f, "orc: L2"),
             RunFault::Script(ScriptFault::Long) => write!(f, "orc: L3"),
+            RunFault::Journal(fault) => {
+                let fault = JournalLine(fault);
+                write!(f, "orc: {fault}")
+            }
+            RunFault::Check(fault) => {
+                let at = fault.at;
+                let why = ReasonWord(fault.why);
+                write!(f, "orc: K at entry {at}: {why}")
+            }
             RunFault::Memory => write!(f, "orc: E2"),
             RunFault::Broken => write!(f, "orc: E4"),
             RunFault::Write(_) => write!(f, "orc: write"),
@@ -132,14 +188,25 @@ impl RunFault {
         match self {
             RunFault::Syntax(SyntaxFault::Memory)
             | RunFault::Script(ScriptFault::Memory)
+            | RunFault::Journal(JournalFault::Memory)
             | RunFault::Memory => 5,
+            RunFault::Check(
+                CheckFault {
+                    at: _,
+                    why: RuleFault::Memory,
+                },
+            ) => 5,
             RunFault::Scope(
                 ScopeFault {
                     kind: FaultKind::Memory,
                     span: _,
                 },
             ) => 5,
-            RunFault::Syntax(_) | RunFault::Scope(_) | RunFault::Script(_) => 1,
+            RunFault::Syntax(_)
+            | RunFault::Scope(_)
+            | RunFault::Script(_)
+            | RunFault::Journal(_)
+            | RunFault::Check(_) => 1,
             RunFault::Broken => 7,
             RunFault::Write(_) => 6,
         }

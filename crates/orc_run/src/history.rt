@@ -1,14 +1,15 @@
-//! A run so far: the marked term that its journal has reached, and what it published.
+//! A run so far: the marked term that its journal has reached, and what is kept of the journal.
 
-ghost use Rattle.std.specs.Prelude.{◌≡◌, ◌↔◌, ◌+◌, ◌<◌, ◌^◌, ◌++◌, ◌∷◌, [], true, IfOk, OnOk, OnErr, vec_len, vec_capacity};
+ghost use Rattle.std.specs.Prelude.{◌≡◌, ◌↔◌, ◌+◌, ◌<◌, ◌^◌, ◌++◌, ◌∷◌, [], Bool, true, IfOk, OnOk, OnErr, vec_len, vec_capacity};
 ghost use Rattle.orc_rules.specs.Journal.{Place, moment};
 ghost use Rattle.orc_rules.specs.Nodes.{code, definitions};
 ghost use Rattle.orc_rules.specs.Sites.{Table};
 ghost use Rattle.orc_rules.specs.Timed.{Context, IsQuiet};
 ghost use Rattle.orc_rules.specs.Trace.{published};
 ghost use Rattle.orc_checker.specs.Checker.{Spells};
-ghost use Rattle.orc_run.specs.Runs.{IsReached, GoesOn};
+ghost use Rattle.orc_run.specs.Runs.{IsReached, Grows};
 
+use crate::lines::Lines;
 use orc_checker::Marked;
 use orc_rules::answers::Answers;
 use orc_rules::entry::{Entry, RuleFault};
@@ -17,12 +18,13 @@ use orc_rules::value::Value;
 use std::alloc::{AllocError, Global};
 use std::marker::Model;
 
-/// A run so far. Of its journal the publications and the number of entries are kept.
+/// A run so far. Of its journal the publications and the number of entries are kept, and the text where it is asked for.
 #[derive(Drop)]
 pub struct History {
     marked: Marked,
     published: Vec<Value>,
     entries: u64,
+    lines: Lines,
 }
 
 impl Model for History {
@@ -30,7 +32,7 @@ impl Model for History {
 
     ghost Value = { Story };
 
-    ghost view = { λ h. record { marked = h.marked; published = h.published.items; entries = h.entries } };
+    ghost view = { λ h. record { marked = h.marked; published = h.published.items; entries = h.entries; lines = h.lines } };
 }
 
 // The publication of an entry, at the end of those before it.
@@ -45,36 +47,47 @@ fn note(values: &mut Vec<Value>, entry: &Entry)
 }
 
 impl History {
-    /// The empty journal of a program.
-    pub fn new(alloc: Global, program: &Program) -> Result<History, AllocError>
-        ensures reached { (t : Table) → IfOk result (IsReached program.now t) }
-        ensures empty { IfOk result (λ h. h.entries ≡ 0) }
+    /// The empty journal of a program, with its text where `keeps_text`.
+    pub fn new(alloc: Global, program: &Program, keeps_text: bool) -> Result<History, AllocError>
+        ensures { (t : Table) → IfOk result (IsReached program.now t keeps_text 0) }
     {
+        let lines = if keeps_text {
+            Lines::kept(alloc)?
+        } else {
+            Lines::none(alloc)
+        };
         Ok(History {
             marked: Marked::new(alloc, program, true)?,
             published: Vec::new(alloc),
             entries: 0,
+            lines,
         })
     }
 
-    /// Adds an entry that the rules allow next. After a fault nothing has changed.
+    /// Adds an entry that the rules allow next. After a fault nothing has changed. Where an entry leaves cancels due, there is memory for them.
     pub fn record(
         &mut self,
         program: &Program,
         answers: &Answers,
         entry: &Entry,
     ) -> Result<(), RuleFault>
-        requires { self.old.entries + 1 < 2 ^ 64 }
-        ensures reached { OnOk result (GoesOn program.now answers.now self.old self.new) }
-        ensures count { OnOk result (self.new.entries ≡ self.old.entries + 1) }
+        ensures grows { OnOk result (Grows program.now answers.now entry.now self.old self.new) }
         ensures refused { OnErr result (self.new ≡ self.old) }
     {
+        let Some(entries) = self.entries.checked_add(1) else {
+            return Err(RuleFault::Memory);
+        };
         if self.published.try_reserve(1).is_err() {
             return Err(RuleFault::Memory);
         }
-        self.marked.step(program, answers, entry)?;
+        let so_far = self.lines.len();
+        self.lines.add(entry, answers)?;
+        if let Err(fault) = self.marked.step(program, answers, entry) {
+            self.lines.cut(so_far);
+            return Err(fault);
+        }
         note(&mut self.published, entry);
-        self.entries += 1;
+        self.entries = entries;
         Ok(())
     }
 
@@ -105,5 +118,12 @@ impl History {
         ensures { result ≡ self.now.entries }
     {
         self.entries
+    }
+
+    /// The journal's text, where it is kept.
+    pub fn text(&self) -> &[u8]
+        ensures { result.now ≡ self.now.lines.text }
+    {
+        self.lines.text()
     }
 }

@@ -8,8 +8,10 @@ mod ending;
 mod faults;
 mod history;
 mod inputs;
+mod lines;
 mod output;
 mod plain;
+mod printing;
 mod publications;
 mod running;
 
@@ -18,4 +20,5 @@ pub use ending::{End, Summary};
 pub use faults::RunFault;
 pub use inputs::{Files, ReadFault};
 pub use output::{WriteFault, write_text};
+pub use printing::print_text;
 pub use running::{Options, run_text};

@@ -1,15 +1,15 @@
 //! The plain engine: a run, entry by entry, each applied to the marked term by the rules.
 
-ghost use Rattle.std.specs.Prelude.{◌≡◌, ◌+◌, ◌<◌, ◌≤◌, ◌^◌, ℕ, IfOk};
+ghost use Rattle.std.specs.Prelude.{◌≡◌, ◌+◌, ◌<◌, ◌≤◌, ◌^◌, ℕ, Bool, IfOk, OnOk};
 ghost use Rattle.orc_rules.specs.Sites.{Table};
 ghost use Rattle.orc_rules.specs.Nodes.{Listing};
-ghost use Rattle.orc_run.specs.Runs.{IsReached, IsPlayed};
+ghost use Rattle.orc_run.specs.Runs.{IsReached, IsPlayed, Settles};
 
 use crate::agenda::{Agenda, Choice};
 use crate::ending::End;
 use crate::history::History;
 use orc_rules::answers::Answers;
-use orc_rules::entry::RuleFault;
+use orc_rules::entry::{Entry, RuleFault};
 use orc_rules::program::Program;
 use std::alloc::Global;
 
@@ -31,7 +31,7 @@ pub enum PlayFault {
 
 // What an entry that was not applied ends.
 fn refusal(history: History, fault: RuleFault) -> Result<Played, PlayFault>
-    ensures { (l : Listing) (t : Table) (limit : ℕ) → IsReached l t history → IfOk result (λ p. IsPlayed l t limit p.history p.end) }
+    ensures { (l : Listing) (t : Table) (keeps : Bool) (turns limit : ℕ) → IsReached l t keeps turns history → IfOk result (λ p. IsPlayed l t keeps limit p.history p.end) }
 {
     match fault {
         RuleFault::Memory => Ok(Played {
@@ -48,7 +48,7 @@ fn refusal(history: History, fault: RuleFault) -> Result<Played, PlayFault>
 
 // How a run ends where nothing can come next.
 fn rest(mut history: History, program: &Program) -> Result<Played, PlayFault>
-    ensures { (t : Table) (limit : ℕ) → IsReached program.now t history → IfOk result (λ p. IsPlayed program.now t limit p.history p.end) }
+    ensures { (t : Table) (keeps : Bool) (turns limit : ℕ) → IsReached program.now t keeps turns history → IfOk result (λ p. IsPlayed program.now t keeps limit p.history p.end) }
 {
     if history.marked().has_halted() {
         return Ok(Played {
@@ -65,16 +65,37 @@ fn rest(mut history: History, program: &Program) -> Result<Played, PlayFault>
     Err(PlayFault::Broken)
 }
 
-/// Runs a program: entries that the rules allow, one after another, until nothing can come next or the journal has `limit` of them.
+// Records the cancels that are due, one after another.
+fn settle(history: &mut History, program: &Program, answers: &Answers) -> Result<(), PlayFault>
+    ensures { OnOk result (Settles program.now answers.now history.old history.new) }
+{
+    // Each call is cancelled once at most.
+    for _turn in 0..history.marked().new_call() {
+        match history.marked().next_cancel() {
+            None => return Ok(()),
+            Some(call) => {
+                let cancel = Entry::Cancel(call);
+                let Ok(()) = history.record(program, answers, &cancel) else {
+                    return Err(PlayFault::Broken);
+                };
+            }
+        }
+    }
+    Err(PlayFault::Broken)
+}
+
+/// Runs a program: entries that the rules allow, one after another, until nothing can come next or the journal has `limit` of them, cancels not
+/// counted. The cancels of a bind follow it at once.
 pub fn play(
     alloc: Global,
     program: &Program,
     answers: &Answers,
+    keeps_text: bool,
     limit: u64,
 ) -> Result<Played, PlayFault>
-    ensures { IfOk result (λ p. IsPlayed program.now answers.now limit p.history p.end) }
+    ensures { IfOk result (λ p. IsPlayed program.now answers.now keeps_text limit p.history p.end) }
 {
-    let Ok(mut history) = History::new(alloc, program) else {
+    let Ok(mut history) = History::new(alloc, program, keeps_text) else {
         return Err(PlayFault::Memory);
     };
     let Ok(mut agenda) = Agenda::new(alloc) else {
@@ -92,6 +113,7 @@ pub fn play(
         if let Err(fault) = history.record(program, answers, &entry) {
             return refusal(history, fault);
         }
+        settle(&mut history, program, answers)?;
         if agenda.note(&entry, history.marked()).is_err() {
             return Ok(Played {
                 history,

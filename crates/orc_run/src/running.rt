@@ -1,16 +1,21 @@
 //! From a source text to what its run published.
 
-ghost use Rattle.std.specs.Prelude.{◌≡◌, ℕ, List, length, IfOk, IfErr};
+ghost use Rattle.std.specs.Prelude.{◌≡◌, ℕ, List, length, IfOk, IfErr, OnOk, OnErr};
+ghost use Rattle.std.specs.Io.KnownBytes.{Appends};
 ghost use Rattle.orc_rules.specs.Sites.{Table};
 ghost use Rattle.orc_rules.specs.Nodes.{Listing};
 ghost use Rattle.orc_syntax.specs.Tree.{Source};
 ghost use Rattle.orc_syntax.specs.Ast.{IsAst};
 ghost use Rattle.orc_scope.specs.Checking.{Checks};
-ghost use Rattle.orc_run.specs.Runs.{IsPlayed, IsRun, outcome};
-ghost use Rattle.orc_run.specs.Running.{Ran, LeavesAtFault, IsFaultOf, IsOther};
+ghost use Rattle.orc_run.specs.Output.{AppendsPrefix};
+ghost use Rattle.orc_run.specs.Runs.{IsPlayed};
+ghost use Rattle.orc_run.specs.Running.{Ran, LeavesAtFault, IsFaultOf, IsOther, IsTold, kept};
+ghost use Rattle.orc_run.specs.declared.running.Options.{Options as RunOptions};
 
 use crate::ending::Summary;
 use crate::faults::RunFault;
+use crate::history::History;
+use crate::output::{WriteFault, write_text};
 use crate::plain::{PlayFault, Played, play};
 use crate::publications::write_values;
 use orc_rules::answers::Answers;
@@ -24,8 +29,10 @@ use std::io::Write;
 /// How a program is run.
 #[derive(Clone, Copy, Debug, PartialEq, Eq)]
 pub struct Options {
-    /// The most entries that the run's journal may have.
+    /// The most entries that the run's journal may have, cancels not counted.
     pub limit: u64,
+    /// Whether the journal is written, in place of what was published.
+    pub journal: bool,
 }
 
 const NO_MEMORY: ScopeFault = ScopeFault {
@@ -48,12 +55,12 @@ fn run_program(
     alloc: Global,
     program: &Program,
     answers: &Answers,
-    limit: u64,
+    options: &Options,
 ) -> Result<Played, RunFault>
-    ensures ran { IfOk result (λ p. IsPlayed program.now answers.now limit p.history p.end) }
+    ensures ran { IfOk result (λ p. IsPlayed program.now answers.now options.now.journal options.now.limit p.history p.end) }
     ensures fault { IfErr result IsOther }
 {
-    play(alloc, program, answers, limit).map_err(|fault| match fault {
+    play(alloc, program, answers, options.journal, options.limit).map_err(|fault| match fault {
         PlayFault::Memory => RunFault::Memory,
         PlayFault::Broken => RunFault::Broken,
     })
@@ -62,8 +69,7 @@ fn run_program(
 impl Played {
     // What is told of the run.
     fn summary(&self) -> Summary
-        ensures told { (l : Listing) (t : Table) (limit : ℕ) → IsPlayed l t limit self.now.history self.now.end → IsRun l t limit (outcome result self.now.history.published) }
-        ensures published { result.published ≡ length self.now.history.published }
+        ensures { (l : Listing) (t : Table) (options : RunOptions) → IsPlayed l t options.journal options.limit self.now.history self.now.end → IsTold l t options result (kept options.journal self.now.history) }
     {
         Summary {
             end: self.end,
@@ -74,8 +80,25 @@ impl Played {
     }
 }
 
+// Writes what a run leaves: the journal's text, or a line for each publication.
+fn write_run<W: Write>(
+    alloc: Global,
+    history: &History,
+    journal: bool,
+    out: &mut W,
+) -> Result<(), WriteFault>
+    ensures ok { OnOk result (Appends (W.contents out.old) (W.contents out.new) (kept journal history.now)) }
+    ensures err { OnErr result (AppendsPrefix (W.contents out.old) (W.contents out.new) (kept journal history.now)) }
+{
+    if journal {
+        write_text(out, history.text())
+    } else {
+        write_values(alloc, history.published(), out)
+    }
+}
+
 /// Runs the program that a source spells, with the built-in sites and those of a script, and writes what it published, a line
-/// each, once the run has ended.
+/// each, or its journal, once the run has ended, whichever way it ends.
 ///
 /// A fault is answered where the source's text, the script or the source's names are at fault, in this order; where memory is
 /// refused before the run begins or for the text; and where the output isn't taken whole. Nothing is written then, but at a
@@ -87,8 +110,8 @@ pub fn run_text<W: Write>(
     options: &Options,
     out: &mut W,
 ) -> Result<Summary, RunFault>
-    ensures ran { IfOk result (Ran source.now script.now options.now.limit (W.contents out.old) (W.contents out.new)) }
-    ensures fault { IfErr result (LeavesAtFault source.now script.now options.now.limit (W.contents out.old) (W.contents out.new)) }
+    ensures ran { IfOk result (Ran source.now script.now options.now (W.contents out.old) (W.contents out.new)) }
+    ensures fault { IfErr result (LeavesAtFault source.now script.now options.now (W.contents out.old) (W.contents out.new)) }
     ensures cause { IfErr result (IsFaultOf source.now script.now) }
 {
     let ast = match orc_syntax::parse(alloc, source) {
@@ -103,9 +126,9 @@ pub fn run_text<W: Write>(
         Ok(program) => program,
         Err(fault) => return Err(RunFault::Scope(fault)),
     };
-    let played = run_program(alloc, &program, &answers, options.limit)?;
+    let played = run_program(alloc, &program, &answers, options)?;
     let summary = played.summary();
-    if let Err(fault) = write_values(alloc, played.history.published(), out) {
+    if let Err(fault) = write_run(alloc, &played.history, options.journal, out) {
         return Err(RunFault::Write(fault));
     }
     Ok(summary)

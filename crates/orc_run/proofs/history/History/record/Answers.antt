@@ -1,11 +1,15 @@
-use Rattle.std.proofs.Common.{◌≡◌, ◌++◌, ◌∷◌, [], ap, ◌∙◌, refl, subst, sym}
+use Rattle.std.proofs.Common.{◌≡◌, ◌+◌, ◌++◌, ◌∷◌, [], ap, ◌∙◌, subst, sym}
 use Rattle.orc_rules.specs.Trace.{published}
-use Rattle.orc_run.specs.Runs.{IsReached}
-use Rattle.orc_run.proofs.Journals.{goes_on}
+use Rattle.orc_run.specs.Runs.{Story, IsStory}
+use Rattle.orc_run.proofs.Journals.{grows}
 use Rattle.orc_run.proofs.history.History.record.Goals as goal
 
-pub returns-clause-reached : goal.returns-clause-reached
-returns-clause-reached c reached =
-    goes_on c.args.program.now c.args.answers.now _ _ c.args.entry.now c.in_ok-step.ensures.done
-    (c.note.ensures ∙ ap (λ vs. vs ++ published (c.args.entry.now ∷ [])) c.try_reserve.ensures.items) refl
-    (subst (IsReached c.args.program.now c.args.answers.now) (sym c.self.view_is) reached)
+pub returns-clause-grows : goal.returns-clause-grows
+returns-clause-grows c = λ keeps es p told.
+    let was = c.self.inside in
+    let old : Story = record { marked = was.marked; published = was.published.items; entries = was.entries; lines = was.lines } in
+    let new : Story = record { marked = c.step.new.self; published = c.note.new.values.items; entries = c.in-Some.entries; lines = c.add.new.self } in
+    let one_more : c.in-Some.entries ≡ was.entries + 1 = c.in-Some.ensures.1 in
+    grows c.args.program.now c.args.answers.now old new c.args.entry.now c.in_default-step.ensures.done
+    (c.note.ensures ∙ ap (λ vs. vs ++ published (c.args.entry.now ∷ [])) c.try_reserve.ensures.items) one_more c.in_ok-add.ensures.added keeps es p
+    (subst (λ (s : Story). IsStory c.args.program.now c.args.answers.now keeps s es p) (sym c.self.view_is) told)

@@ -1,0 +1,24 @@
+# Completion of orc for bash: source this file.
+_orc() {
+    local word=${COMP_WORDS[COMP_CWORD]} before=${COMP_WORDS[COMP_CWORD-1]}
+    COMPREPLY=()
+    if [ "$COMP_CWORD" = 1 ]; then
+        mapfile -t COMPREPLY < <(compgen -W 'run print help --help --version -h -V' -- "$word")
+        return
+    fi
+    case $before in
+    --limit) return ;;
+    --script) compopt -o filenames 2>/dev/null; mapfile -t COMPREPLY < <(compgen -f -- "$word"); return ;;
+    esac
+    local options=
+    case ${COMP_WORDS[1]} in
+    run) options='--script --limit --journal --help -h' ;;
+    print) options='--help -h' ;;
+    help) mapfile -t COMPREPLY < <(compgen -W 'run print' -- "$word"); return ;;
+    esac
+    case $word in
+    -*) mapfile -t COMPREPLY < <(compgen -W "$options" -- "$word") ;;
+    *) compopt -o filenames 2>/dev/null; mapfile -t COMPREPLY < <(compgen -f -- "$word") ;;
+    esac
+}
+complete -F _orc orc
