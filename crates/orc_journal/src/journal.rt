@@ -157,6 +157,14 @@ impl Journal {
         self.rows.len()
     }
 
+    /// The number that one entry more would have, from 1.
+    pub fn next_number(&self) -> u64
+        ensures { result ≡ length self.now.entries + 1 }
+    {
+        let rows = self.rows.as_slice();
+        rows.len() as u64 + 1
+    }
+
     /// Adds an entry at the end. The error is refused memory, and then nothing changes.
     pub fn push(&mut self, entry: &Entry) -> Result<(), AllocError>
         ensures added { OnOk result (self.new ≡ record { version = self.old.version; entries = self.old.entries ++ entry.now ∷ [] }) }

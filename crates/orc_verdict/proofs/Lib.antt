@@ -4,6 +4,7 @@ pub mod Counting
 pub mod Deepening
 pub mod Entries
 pub mod Fitting
+pub mod Judging
 pub mod Levels
 pub mod Nesting
 pub mod Parts

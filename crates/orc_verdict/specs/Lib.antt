@@ -4,3 +4,4 @@ pub mod Finding
 pub mod Heights
 pub mod Reasons
 pub mod Standing
+pub mod Verdicts

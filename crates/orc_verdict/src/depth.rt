@@ -1,4 +1,4 @@
-//! How deep a marked term nests.
+// How deep a marked term nests.
 
 ghost use Rattle.std.specs.Prelude.{◌≡◌, ◌+◌, ◌++◌, IfOk, OnOk};
 ghost use Rattle.orc_rules.specs.Journal.{Place};

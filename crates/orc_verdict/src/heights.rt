@@ -1,4 +1,4 @@
-//! How deep a program's terms nest.
+// How deep a program's terms nest.
 
 ghost use Rattle.std.specs.Prelude.{◌≡◌, ◌<◌, ◌≤◌, ◌+◌, ◌^◌, ℕ, suc, max, List, IfOk};
 ghost use Rattle.orc_rules.specs.Nodes.{code};

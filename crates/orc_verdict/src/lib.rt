@@ -1,14 +1,18 @@
-//! The verdict on a whole journal: why an entry is refused, exactly, and how deep a marked term nests.
+//! The verdict on a whole journal; why an entry is refused, exactly, and how deep a marked term nests.
 #![tactic(auto)]
 
 mod applying;
-pub mod depth;
+mod depth;
 mod due;
 mod finding;
-pub mod heights;
+mod heights;
 mod reasons;
 mod standing;
 mod ticks;
+mod verdict;
 
 pub use applying::apply;
+pub use depth::depth_of;
+pub use heights::Heights;
 pub use reasons::first_reason;
+pub use verdict::{Verdict, check_journal};

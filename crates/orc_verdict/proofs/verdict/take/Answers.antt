@@ -1,0 +1,35 @@
+use Rattle.std.proofs.Common.{◌∙◌, ◌+◌, ap, subst, arith}
+use Rattle.orc_verdict.specs.Reasons.{RefusedFor}
+use Rattle.orc_verdict.proofs.Judging.{stops_refused, takes_within, takes_exactly, stops_deep, stops_there}
+use Rattle.orc_verdict.proofs.verdict.take.Goals as goal
+
+pub returns-in-Some-clause-refused : goal.returns-in-Some-clause-refused
+returns-in-Some-clause-refused c are =
+    let l = c.args.program.now in
+    let t = c.args.answers.now in
+    let e = c.args.entry.now in
+    stops_refused l t e c.args.taken.now.marked c.in-Some.why c.meets_and_leads.ensures (subst (λ z. RefusedFor l t e z c.in-Some.why) c.in-Err.ensures.refused c.in-Some.ensures.refused)
+
+pub returns-in-Some-allowed-clause-done : goal.returns-in-Some-allowed-clause-done
+returns-in-Some-allowed-clause-done c are low =
+    let levels = c.args.taken.now.levels in
+    takes_within c.args.program.now c.args.answers.now c.args.entry.now c.args.taken.now.marked c.step.new.self c.in-Ok.ensures.done c.args.heights.now c.args.most levels c.in-Some-allowed.levels are low
+    (c.in-Some-allowed.ensures.0 ∙ ap (λ z. levels + z) c.deepening.ensures)
+    c.in-Some-allowed.ensures.1
+
+pub returns-then-levels-gt-MOST_LEVELS-clause-refused : goal.returns-then-levels-gt-MOST_LEVELS-clause-refused
+returns-then-levels-gt-MOST_LEVELS-clause-refused c are =
+    let l = c.args.program.now in
+    stops_deep l c.args.answers.now c.args.entry.now c.args.taken.now.marked c.step.new.self c.in-Ok.ensures.done c.in-Ok-depth_of.levels
+    (λ x p sp. c.in-Ok-depth_of.ensures x l p are sp)
+    (omega (arith, c.if-levels-gt-MOST_LEVELS.true))
+
+pub returns-else-levels-gt-MOST_LEVELS-clause-done : goal.returns-else-levels-gt-MOST_LEVELS-clause-done
+returns-else-levels-gt-MOST_LEVELS-clause-done c are low =
+    let l = c.args.program.now in
+    takes_exactly l c.args.answers.now c.args.entry.now c.args.taken.now.marked c.step.new.self c.in-Ok.ensures.done c.args.taken.now.levels c.in-Ok-depth_of.levels
+    (λ x p sp. c.in-Ok-depth_of.ensures x l p are sp)
+    (omega (arith, c.if-levels-gt-MOST_LEVELS.false))
+
+pub returns-in-Err-depth_of-clause-refused : goal.returns-in-Err-depth_of-clause-refused
+returns-in-Err-depth_of-clause-refused c are = stops_there c.args.program.now c.args.answers.now c.args.entry.now c.args.taken.now.marked c.step.new.self c.in-Ok.ensures.done c.meets_and_leads.ensures

@@ -1,0 +1,194 @@
+// The verdict on a whole journal.
+
+ghost use Rattle.std.specs.Prelude.{◌≡◌, ◌≢◌, ◌<◌, ◌≤◌, ◌+◌, length, slice_get, Some, IfOk, IfErr, IfSome};
+ghost use Rattle.orc_rules.specs.Journal.{Place};
+ghost use Rattle.orc_rules.specs.Nodes.{code, definitions, source};
+ghost use Rattle.orc_rules.specs.Refusal.{most_levels};
+ghost use Rattle.orc_rules.specs.Timed.{Context};
+ghost use Rattle.orc_rules.specs.Verdict.{IsAt, IsVerdict, IsFault};
+ghost use Rattle.orc_rules.specs.declared.entry.RuleFault.TheVariants as reason;
+ghost use Rattle.orc_checker.specs.Checker.{Spells, context};
+ghost use Rattle.orc_verdict.specs.Deepening.{deepening};
+ghost use Rattle.orc_verdict.specs.Heights.{AreHeights, AreAtMost};
+ghost use Rattle.orc_verdict.specs.Verdicts.{records_cancels, Takes, Stops, IsCutShort};
+
+use crate::depth::depth_of;
+use crate::heights::Heights;
+use crate::reasons::first_reason;
+use orc_checker::Marked;
+use orc_checker::replay::CheckFault;
+use orc_journal::{Journal, Version};
+use orc_rules::answers::Answers;
+use orc_rules::entry::{Entry, RuleFault, State};
+use orc_rules::laws::{meets_and_leads, tests_are_right};
+use orc_rules::program::Program;
+use std::alloc::Global;
+
+/// The most levels that a checked term may have.
+const MOST_LEVELS: usize = 10_000;
+
+/// Where a journal has brought a run, and the time there, in units of logical time.
+#[derive(Clone, Copy, PartialEq, Eq, Debug)]
+pub struct Verdict {
+    pub state: State,
+    pub now: u64,
+}
+
+/// The marked term after the entries that were taken, and a number of levels that it doesn't exceed.
+#[derive(Drop)]
+struct Taken {
+    marked: Marked,
+    levels: usize,
+}
+
+/// How many levels an entry adds at most, where no term of the program has more than `most`.
+fn deepening(most: usize, entry: &Entry) -> usize
+    ensures { result ≡ deepening most entry.now }
+{
+    match entry {
+        Entry::Def(_, _) => most,
+        Entry::Send(_, _, _) => 1,
+        _ => 0,
+    }
+}
+
+/// The sum, where a checked term may have as many levels.
+fn allowed(levels: usize, more: usize) -> Option<usize>
+    ensures { IfSome result (λ n. (n ≡ levels + more) × (n ≤ most_levels)) }
+{
+    match levels.checked_add(more) {
+        Some(sum) => { if sum <= MOST_LEVELS { Some(sum) } else { None } }
+        None => None,
+    }
+}
+
+/// Takes an entry. The error is the first reason why it is refused; refused memory only where there is no other but its depth.
+fn take(
+    alloc: Global,
+    program: &Program,
+    answers: &Answers,
+    heights: &Heights,
+    most: usize,
+    taken: &mut Taken,
+    entry: &Entry,
+) -> Result<(), RuleFault>
+    ensures done { IfOk result (λ _. AreHeights (code program.now) heights.now → AreAtMost heights.now most → Takes program.now answers.now entry.now taken.old.marked taken.old.levels taken.new.marked taken.new.levels) }
+    ensures refused { IfErr result (λ why. AreHeights (code program.now) heights.now → Stops program.now answers.now entry.now taken.old.marked why) }
+{
+    meets_and_leads();
+    match taken.marked.step(program, answers, entry) {
+        Ok(()) => {}
+        Err(_) => {
+            return match first_reason(&mut taken.marked, program, answers, entry) {
+                Some(why) => Err(why),
+                None => Err(RuleFault::Memory),
+            };
+        }
+    }
+    match allowed(taken.levels, deepening(most, entry)) {
+        Some(levels) => {
+            taken.levels = levels;
+            return Ok(());
+        }
+        None => {}
+    }
+    match depth_of(alloc, heights, &taken.marked) {
+        Ok(levels) => {
+            if levels > MOST_LEVELS {
+                return Err(RuleFault::Deep);
+            }
+            taken.levels = levels;
+            Ok(())
+        }
+        Err(_) => Err(RuleFault::Memory),
+    }
+}
+
+/// Where a run stands.
+fn state_of(program: &Program, marked: &mut Marked) -> State
+    ensures state { (x : Context) (p : Place) → x.definitions ≡ definitions program.now → Spells x (code program.now) marked.old p → IsAt x p result }
+    ensures same { marked.new ≡ marked.old }
+{
+    tests_are_right();
+    if marked.has_halted() {
+        return State::Halted;
+    }
+    if marked.is_quiet(program) {
+        return State::Quiet;
+    }
+    State::Running
+}
+
+/// Whether cancels stand in a journal of that version.
+fn records_cancels(version: Version) -> bool
+    ensures { result ≡ records_cancels version }
+{
+    match version {
+        Version::One => false,
+        Version::Two => true,
+    }
+}
+
+/// The entry of that number, from 0.
+fn entry_at(journal: &Journal, at: usize) -> Entry
+    requires { at < length journal.now.entries }
+    ensures { slice_get journal.now.entries at ≡ Some result }
+{
+    match journal.get(at) {
+        Some(entry) => entry,
+        None => unreachable!(),
+    }
+}
+
+/// The verdict on a program's journal: its entries are taken one after another, and no cancel is due at the end.
+/// The error is the first entry that is refused, from 1, with its first reason, or Cancel one past the last where a cancel is due there.
+/// Memory is refused at 0 before the first entry, and else at an entry that meets every condition but perhaps that of its depth.
+pub fn check_journal(
+    alloc: Global,
+    program: &Program,
+    answers: &Answers,
+    journal: &Journal,
+) -> Result<Verdict, CheckFault>
+    ensures verdict { IfOk result (λ v. IsVerdict (context program.now answers.now (records_cancels journal.now.version)) (source program.now) journal.now.entries v.state v.now) }
+    ensures fault { IfErr result (λ f. f.why ≢ reason.Memory → IsFault (context program.now answers.now (records_cancels journal.now.version)) (source program.now) journal.now.entries f.at f.why) }
+    ensures memory { IfErr result (λ f. f.why ≡ reason.Memory → IsCutShort (context program.now answers.now (records_cancels journal.now.version)) (source program.now) journal.now.entries f.at) }
+{
+    let Ok(heights) = Heights::new(alloc, program) else {
+        return Err(CheckFault {
+            at: 0,
+            why: RuleFault::Memory,
+        });
+    };
+    let Ok(marked) = Marked::new(alloc, program, records_cancels(journal.version())) else {
+        return Err(CheckFault {
+            at: 0,
+            why: RuleFault::Memory,
+        });
+    };
+    let most = heights.most();
+    let levels = heights.at(program.source());
+    let mut taken = Taken { marked, levels };
+    for next in 0..journal.len() {
+        let entry = entry_at(journal, next);
+        match take(alloc, program, answers, &heights, most, &mut taken, &entry) {
+            Ok(()) => {}
+            Err(why) => {
+                return Err(CheckFault {
+                    at: next as u64 + 1,
+                    why,
+                });
+            }
+        }
+    }
+    match taken.marked.next_cancel() {
+        Some(_) => Err(CheckFault {
+            at: journal.next_number(),
+            why: RuleFault::Cancel,
+        }),
+        None => {
+            let state = state_of(program, &mut taken.marked);
+            let now = taken.marked.now();
+            Ok(Verdict { state, now })
+        }
+    }
+}
