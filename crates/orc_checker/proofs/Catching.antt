@@ -95,8 +95,8 @@ pub record Caught (s s' : State) (j c left right parent : ℕ) (side due : List 
   pub free : s.rest.to_cancel ≡ []
   pub unbound : slice_get s.cells c ≡ Some (Cell c)
   pub all : AreNodesOf s.nodes right side
-  pub dropped : IsDropped s.nodes side between
-  pub nodes : s'.nodes ≡ slice_set between j (node (One Passed left) parent)
+  pub nodes : between ≡ slice_set s.nodes j (node (One Passed left) parent)
+  pub dropped : IsDropped between side s'.nodes
   pub len : length s'.nodes ≡ length s.nodes
   pub scopes : s'.scopes ≡ s.scopes
   pub marks : length s'.marks ≡ length s.marks
@@ -112,13 +112,13 @@ and_false : (b : Bool) → (b && false) ≡ false
 and_false true = refl
 and_false false = refl
 
-pub catch-applies : (l : Listing) (t : Table) (s s' : State) (i q m steps j c left right parent : ℕ) (d : Double) (tip : Tip) (v : Value) (side due : List ℕ) (between : List Node)
-    → at s.nodes q i (Leaf tip) → living_kind (Leaf tip) ≡ 1 → BearsValue (code l) s.cells s.scopes m tip v → IsTaker s.nodes i (Bound c j) steps → get_or s.nodes j nowhere ≡ node (Two d left right) parent
+pub catch-applies : (l : Listing) (t : Table) (s s' : State) (i q m j c left right parent : ℕ) (d : Double) (tip : Tip) (v : Value) (side due : List ℕ) (between : List Node)
+    → at s.nodes q i (Leaf tip) → living_kind (Leaf tip) ≡ 1 → BearsValue (code l) s.cells s.scopes m tip v → IsTaker s.nodes i (Bound c j) → get_or s.nodes j nowhere ≡ node (Two d left right) parent
     → Caught s s' j c left right parent side due between → s'.cells ≡ slice_set s.cells c (Is v)
     → length s'.flags ≡ length s.flags → Settles s'.nodes s.flags j (flag s.flags left) s'.flags
     → (s.rest.cancels ≡ true → AreRising (calls_at s.nodes side) due) → (s.rest.cancels ≡ false → due ≡ [])
     → Applies l t (entry.Bind m c v) s s'
-catch-applies l t s s' i q m steps j c left right parent d tip v side due between is_at lives bears taker node_is st cells flags_len settles recorded not_recorded cancels p r sp =
+catch-applies l t s s' i q m j c left right parent d tip v side due between is_at lives bears taker node_is st cells flags_len settles recorded not_recorded cancels p r sp =
     let terms = code l in
     let x = context l t cancels in
     let n = length s.scopes in
@@ -128,7 +128,7 @@ catch-applies l t s s' i q m steps j c left right parent d tip v side due betwee
     let k = f.context in
     let before : Stands s.nodes n i k (leaf i tip) = record { holds = f.holds; once = f.once; there = refl; root = ap place f.is ∙ sp.drawn.root } in
     let by = taker n k (leaf i tip) before in
-    let b = caught_there k c j by.0 in
+    let b = caught_there k c j by in
     let side_tree = under k (leaf i tip) in
     let old = plug b.around (two j (Side c) b.left side_tree) in
     let whole : plug k (leaf i tip) ≡ old = sym (plug-under k (leaf i tip)) ∙ ap (λ z. plug z side_tree) b.is in
@@ -149,8 +149,8 @@ catch-applies l t s s' i q m steps j c left right parent d tip v side due betwee
     let all : AreNodesOf s.nodes (place side_tree) side = subst (λ z. AreNodesOf s.nodes z side) (sym same.right) st.all in
     let most : (u : ℕ) → hits u j + (count u b.left + count u side_tree) ≤ 1 = λ u. omega (arith, o.once u, count-plug u b.around (two j (Side c) b.left side_tree), living-most (slice_get s.nodes u)) in
     let drop : Drops s.nodes s'.nodes j (node (One Passed (place b.left)) (above 0 b.around)) side_tree =
-    drops s.nodes between s'.nodes n j j (node (Two (Side c) (place b.left) (place side_tree)) (above 0 b.around)) (node (One Passed (place b.left)) (above 0 b.around)) side_tree side ho.2 all st.dropped ho.0 (omega (arith, most j, hit j))
-    (st.nodes ∙ (λ z. slice_set between j (node (One Passed (sym same.left z)) (sym same.parent z)))) in
+    drops s.nodes between s'.nodes n j j (node (Two (Side c) (place b.left) (place side_tree)) (above 0 b.around)) (node (One Passed (place b.left)) (above 0 b.around)) side_tree side ho.2 all ho.0 (omega (arith, most j, hit j))
+    (st.nodes ∙ (λ z. slice_set s.nodes j (node (One Passed (sym same.left z)) (sym same.parent z)))) st.dropped in
     let stays : (w : Put) (e u : ℕ) → fill (given w) e (terms u) ≡ terms u = λ w e u. code-stays (given w) e l.lists l.nodes u in
     let own = sp.cells.3 in
     let numbered = reached_numbered l t cancels p r in

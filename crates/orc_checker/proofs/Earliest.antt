@@ -1,10 +1,10 @@
--- The least due time, node by node.
-use Rattle.std.proofs.Common.{◌≡◌, ◌≤◌, ◌<◌, ℕ, zero, suc, List, [], ◌∷◌, length, get_or, Option, Some, None, refl, sym, ap, ◌∙◌, subst, inl, inr, ◌⊎◌, ⊎_elim, arith, Bool, true, false, cond, nat_lt}
+-- The least due time, node by node of a list.
+use Rattle.std.proofs.Common.{◌≡◌, ◌≤◌, ◌<◌, ℕ, zero, suc, List, length, get_or, Option, Some, None, refl, sym, ap, ◌∙◌, subst, inl, inr, ◌⊎◌, ⊎_elim, arith, Bool, true, false, cond, nat_lt}
 use Rattle.std.proofs.lemmas.Bool.Decides.{nat_tests}
 use Rattle.std.specs.Prelude.{slice_get, IfSome, IfNone}
 use Rattle.orc_checker.specs.declared.arena.Node.{Node}
 use Rattle.orc_checker.specs.declared.rest.Called.{Called}
-use Rattle.orc_checker.specs.Rising.{nowhere}
+use Rattle.orc_checker.specs.Hints.{restless, IsListed, AreListed}
 use Rattle.orc_checker.specs.NextDue.{IsDueOf, IsDueAt, IsNextBelow, IsNext, earlier}
 
 same_some : {X : Type 0} (x y : X) → Some x ≡ Some y → x ≡ y
@@ -27,37 +27,37 @@ below_or zero (suc n) lt = inl (omega arith)
 below_or (suc i) zero lt = absurd (omega (arith, lt))
 below_or (suc i) (suc n) lt = ⊎_elim (λ (a : i < n). inl (omega (arith, a))) (λ e. inr (ap suc e)) (below_or i n (omega (arith, lt)))
 
-pub none_below : (nodes : List Node) (calls : List Called) → IsNextBelow nodes calls 0 None
-none_below nodes calls i t lt d = absurd (omega (arith, lt))
+pub none_below : (nodes : List Node) (calls : List Called) (list : List ℕ) → IsNextBelow nodes calls list 0 None
+none_below nodes calls list i t lt d = absurd (omega (arith, lt))
 
-module _ (nodes : List Node) (calls : List Called) (n : ℕ) where
-  pub one_further : (o r : Option ℕ) → IsNextBelow nodes calls n o → IfSome r (IsDueAt nodes calls n) → IfNone r ((t : ℕ) → IsDueAt nodes calls n t → ⊥) → IsNextBelow nodes calls (suc n) (earlier o r)
-  one_further None None h some none = λ i t lt d. ⊎_elim (λ (a : i < n). h i t a d) (λ e. none t (subst (λ z. IsDueAt nodes calls z t) e d)) (below_or i n lt)
-  one_further None (Some u) h some none = ((n, some), λ i t lt d. ⊎_elim (λ (a : i < n). absurd (h i t a d)) (λ e. omega (arith, at_once nodes calls n u t some (subst (λ z. IsDueAt nodes calls z t) e d))) (below_or i n lt))
-  one_further (Some t) None h some none = (h.0, λ i u lt d. ⊎_elim (λ (a : i < n). h.1 i u a d) (λ e. absurd (none u (subst (λ z. IsDueAt nodes calls z u) e d))) (below_or i n lt))
+module _ (nodes : List Node) (calls : List Called) (list : List ℕ) (n : ℕ) where
+  abbrev here : ℕ
+  here = get_or list n 0
+
+  due_here : (i t : ℕ) → i ≡ n → IsDueAt nodes calls (get_or list i 0) t → IsDueAt nodes calls here t
+  due_here i t e d = subst (λ z. IsDueAt nodes calls (get_or list z 0) t) e d
+
+  pub one_further : (o r : Option ℕ) → IsNextBelow nodes calls list n o → IfSome r (IsDueAt nodes calls here) → IfNone r ((t : ℕ) → IsDueAt nodes calls here t → ⊥) → IsNextBelow nodes calls list (suc n) (earlier o r)
+  one_further None None h some none = λ i t lt d. ⊎_elim (λ (a : i < n). h i t a d) (λ e. none t (due_here i t e d)) (below_or i n lt)
+  one_further None (Some u) h some none = ((here, some), λ i t lt d. ⊎_elim (λ (a : i < n). absurd (h i t a d)) (λ e. omega (arith, at_once nodes calls here u t some (due_here i t e d))) (below_or i n lt))
+  one_further (Some t) None h some none = (h.0, λ i u lt d. ⊎_elim (λ (a : i < n). h.1 i u a d) (λ e. absurd (none u (due_here i u e d))) (below_or i n lt))
   one_further (Some t) (Some u) h some none = go (nat_lt u t) refl
     where
-      go : (b : Bool) → nat_lt u t ≡ b → IsNextBelow nodes calls (suc n) (Some (cond b u t))
+      go : (b : Bool) → nat_lt u t ≡ b → IsNextBelow nodes calls list (suc n) (Some (cond b u t))
       go true e =
           let lt : u < t = grind (arith, nat_tests) in
-          ((n, some), λ i v l d. ⊎_elim (λ (a : i < n). omega (arith, lt, h.1 i v a d)) (λ e. omega (arith, at_once nodes calls n u v some (subst (λ z. IsDueAt nodes calls z v) e d))) (below_or i n l))
+          ((here, some), λ i v l d. ⊎_elim (λ (a : i < n). omega (arith, lt, h.1 i v a d)) (λ e. omega (arith, at_once nodes calls here u v some (due_here i v e d))) (below_or i n l))
       go false e =
           let le : t ≤ u = grind (arith, nat_tests) in
-          (h.0, λ i v l d. ⊎_elim (λ (a : i < n). h.1 i v a d) (λ e. omega (arith, le, at_once nodes calls n u v some (subst (λ z. IsDueAt nodes calls z v) e d))) (below_or i n l))
+          (h.0, λ i v l d. ⊎_elim (λ (a : i < n). h.1 i v a d) (λ e. omega (arith, le, at_once nodes calls here u v some (due_here i v e d))) (below_or i n l))
 
-past : (nodes : List Node) (i : ℕ) → length nodes ≤ i → get_or nodes i nowhere ≡ nowhere
-past [] i le = refl
-past (x ∷ xs) zero le = absurd (omega (arith, le))
-past (x ∷ xs) (suc i) le = past xs i (omega (arith, le))
-
-pub waits_there : (nodes : List Node) (calls : List Called) (i t : ℕ) → IsDueAt nodes calls i t → i < length nodes
-waits_there nodes calls i t d = ⊎_elim (λ (a : i < length nodes). a) (λ (le : length nodes ≤ i). absurd (cc (sym d.1 ∙ ap Node.kind (past nodes i le)))) (either i (length nodes))
+-- a node that is due is in the list
+pub next_of_all : (nodes : List Node) (calls : List Called) (list : List ℕ) (n : ℕ) (o : Option ℕ) → AreListed nodes list → length list ≤ n → IsNextBelow nodes calls list n o → IsNext nodes calls o
+next_of_all nodes calls list n o all le h = go o h
   where
-    either : (i n : ℕ) → (i < n) ⊎ (n ≤ i)
-    either i zero = inr (omega arith)
-    either zero (suc n) = inl (omega arith)
-    either (suc i) (suc n) = ⊎_elim (λ (a : i < n). inl (omega (arith, a))) (λ (a : n ≤ i). inr (omega (arith, a))) (either i n)
+    listed : (i t : ℕ) → IsDueAt nodes calls i t → IsListed i list
+    listed i t d = all i (ap restless d.1)
 
-pub next_of_all : (nodes : List Node) (calls : List Called) (n : ℕ) (o : Option ℕ) → length nodes ≤ n → IsNextBelow nodes calls n o → IsNext nodes calls o
-next_of_all nodes calls n None le h = λ i t d. h i t (omega (arith, le, waits_there nodes calls i t d)) d
-next_of_all nodes calls n (Some t) le h = (h.0, λ i u d. h.1 i u (omega (arith, le, waits_there nodes calls i u d)) d)
+    go : (o : Option ℕ) → IsNextBelow nodes calls list n o → IsNext nodes calls o
+    go None h = λ i t d. let w = listed i t d in h w.0 t (omega (arith, le, w.1)) (subst (λ z. IsDueAt nodes calls z t) (sym w.2) d)
+    go (Some t) h = (h.0, λ i u d. let w = listed i u d in h.1 w.0 u (omega (arith, le, w.1)) (subst (λ z. IsDueAt nodes calls z u) (sym w.2) d))

@@ -1,6 +1,7 @@
 -- A `>x>` takes what is published: a `|` comes above it, with its right side beside it.
-use Rattle.std.proofs.Common.{◌≡◌, ◌≤◌, ◌+◌, ℕ, List, [], ◌∷◌, ◌++◌, length, Some, refl, sym, ap, ◌∙◌, subst, arith, length-append, length-set, cond, eq-eqb, get_or}
+use Rattle.std.proofs.Common.{◌≡◌, ◌≤◌, ◌<◌, ◌+◌, ℕ, List, [], ◌∷◌, ◌++◌, length, Some, refl, sym, ap, ◌∙◌, subst, arith, length-append, length-set, cond, eq-eqb, get_or}
 use Rattle.std.proofs.lemmas.Bool.{ne_eqb}
+use Rattle.std.proofs.lemmas.List.{get_or_append_left, set-append_left}
 use Rattle.std.specs.Prelude.{slice_get, slice_set}
 use Rattle.orc_checker.specs.declared.arena.Node.{Node}
 use Rattle.orc_checker.specs.declared.arena.Tip.{Tip}
@@ -11,9 +12,11 @@ use Rattle.orc_checker.specs.declared.arena.Double.TheVariants.{Both}
 use Rattle.orc_checker.specs.Arena.{Tree, leaf, one, two, place, count, hits, at, TipIn, SingleIn, Holds, living_kind, StandOnce, Frame, on_one, on_left, on_right, fit, plug}
 use Rattle.orc_checker.specs.Around.{place_of, above}
 use Rattle.orc_checker.specs.Grafting.{relink, grafted, Grafts}
+use Rattle.orc_checker.specs.Hints.{IsBeside, lifted}
 use Rattle.orc_checker.proofs.Trees.{hit, count-plug, holds-out, holds_kept, single_in, holds_replaced, once_replaced, living-most}
 use Rattle.orc_checker.proofs.Lists.{get-set_same, get-set_other, get-append, get-end, living-set, living-push}
 use Rattle.orc_checker.proofs.Moves.{node}
+use Rattle.orc_checker.proofs.Hints.{some_in}
 use Rattle.orc_checker.specs.Rising.{nowhere}
 use Rattle.orc_checker.proofs.Rising.{itself, get_or-some}
 
@@ -101,7 +104,7 @@ module _ (nodes : List Node) (n n' : ℕ) (grows : n ≤ n') (i : ℕ) (s : Sing
   own_node = node (One s (place u)) m
 
   abbrev first : List Node
-  first = slice_set (slice_set nodes q above_node) i own_node
+  first = slice_set (slice_set nodes i own_node) q above_node
 
   abbrev second : List Node
   second = first ++ node (Two Both i (m + 1)) q ∷ []
@@ -112,17 +115,17 @@ module _ (nodes : List Node) (n n' : ℕ) (grows : n ≤ n') (i : ℕ) (s : Sing
   out : Holds nodes n (above 0 o) (fit f old)
   out = (holds-out nodes n 0 o (fit f old) holds).1
 
-  parts : at nodes (above 0 o) q (frame_kind f i) × Beside nodes n f × Holds nodes n q old
+  pub parts : at nodes (above 0 o) q (frame_kind f i) × Beside nodes n f × Holds nodes n q old
   parts = fit-out nodes n (above 0 o) f old out
 
   most : (z : ℕ) → hits z q + (count_beside z f + (hits z i + count z u)) ≤ 1
   most z = omega (arith, once z, count-plug z o (fit f old), count-fit z f old, living-most (slice_get nodes z))
 
-  apart : i ≡ q → ⊥
+  pub apart : i ≡ q → ⊥
   apart h = omega (arith, most q, hit q, ap (λ z. hits q z) h)
 
   len_first : length first ≡ length nodes
-  len_first = length-set (slice_set nodes q above_node) i own_node ∙ length-set nodes q above_node
+  len_first = length-set (slice_set nodes i own_node) q above_node ∙ length-set nodes i own_node
 
   len_second : length second ≡ length nodes + 1
   len_second = omega (arith, len_first, length-append first (node (Two Both i (m + 1)) q ∷ []))
@@ -131,13 +134,13 @@ module _ (nodes : List Node) (n n' : ℕ) (grows : n ≤ n') (i : ℕ) (s : Sing
   in_first z y h = get-append second _ z y (get-append first _ z y h)
 
   kept : (z : ℕ) (y : Node) → (z ≡ q → ⊥) → (z ≡ i → ⊥) → slice_get nodes z ≡ Some y → slice_get graft_nodes z ≡ Some y
-  kept z y off off' h = in_first z y (get-set_other (slice_set nodes q above_node) i z own_node off' ∙ get-set_other nodes q z above_node off ∙ h)
+  kept z y off off' h = in_first z y (get-set_other (slice_set nodes i own_node) q z above_node off ∙ get-set_other nodes i z own_node off' ∙ h)
 
   off_both : (z : ℕ) → 1 ≤ count_beside z f + count z u → (z ≡ q → ⊥) × (z ≡ i → ⊥)
   off_both z h = (λ e. omega (arith, h, most z, hit q, ap (λ v. hits v q) e), λ e. omega (arith, h, most z, hit i, ap (λ v. hits v i) e))
 
   pub graft_at_q : at graft_nodes (above 0 o) q (frame_kind f m)
-  graft_at_q = in_first q above_node (get-set_other (slice_set nodes q above_node) i q own_node (λ h. apart (sym h)) ∙ get-set_same nodes q above_node _ parts.0)
+  graft_at_q = in_first q above_node (get-set_same (slice_set nodes i own_node) q above_node _ (get-set_other nodes i q own_node (λ h. apart (sym h)) ∙ parts.0))
 
   there_i : at nodes q i (One s (place u))
   there_i = parts.2.0
@@ -151,7 +154,7 @@ module _ (nodes : List Node) (n n' : ℕ) (grows : n ≤ n') (i : ℕ) (s : Sing
       (beside_kept nodes graft_nodes n n' grows f (λ z y h e. let b = off_both z (omega (arith, h)) in kept z y b.0 b.1 e) parts.1) (
         get-append second _ m _ (get-end first _ m (sym len_first)),
         (
-          in_first i own_node (get-set_same (slice_set nodes q above_node) i own_node _ (get-set_other nodes q i above_node apart ∙ there_i)),
+          in_first i own_node (get-set_other (slice_set nodes i own_node) q i above_node apart ∙ get-set_same nodes i own_node _ there_i),
           single_in nodes graft_nodes n n' grows s parts.2.1,
           holds_kept nodes graft_nodes n n' grows u i (λ z y h e. let b = off_both z (omega (arith, h)) in kept z y b.0 b.1 e) parts.2.2,
         ),
@@ -166,33 +169,65 @@ module _ (nodes : List Node) (n n' : ℕ) (grows : n ≤ n') (i : ℕ) (s : Sing
         arith,
         count-fit z f old,
         count-fit z f new,
-        living-set nodes q z above_node _ parts.0 (frame_lives f m ∙ sym (frame_lives f i)),
-        living-set (slice_set nodes q above_node) i z own_node _ (get-set_other nodes q i above_node apart ∙ there_i) refl,
+        living-set nodes i z own_node _ there_i refl,
+        living-set (slice_set nodes i own_node) q z above_node _ (get-set_other nodes i q own_node (λ h. apart (sym h)) ∙ parts.0) (frame_lives f m ∙ sym (frame_lives f i)),
         living-push first z (node (Two Both i (m + 1)) q) refl,
         living-push second z (node (Leaf l) m) lives,
         ap (λ v. hits z v) len_first,
         ap (λ v. hits z v) len_second,
       ))
 
--- the same, as the nodes are written
-abbrev pub graft_by : List Node → ℕ → Tip → ℕ → ℕ → ℕ → Kind → Kind → List Node
-graft_by nodes i l m p pp ka k = (slice_set (slice_set nodes p (node ka pp)) i (node k m) ++ node (Two Both i (m + 1)) p ∷ []) ++ node (Leaf l) m ∷ []
+-- the nodes with the two new ones, before node i goes below the first of them
+abbrev pub extended : List Node → ℕ → Tip → List Node
+extended nodes i l = (nodes ++ node (Two Both i (length nodes + 1)) (Node.parent (get_or nodes i nowhere)) ∷ []) ++ node (Leaf l) (length nodes) ∷ []
 
-abbrev pub graft_list : List Node → ℕ → Tip → List Node
-graft_list nodes i l =
-    let t = get_or nodes i nowhere in
-    let w = get_or nodes (Node.parent t) nowhere in
-    graft_by nodes i l (length nodes) (Node.parent t) (Node.parent w) (relink (Node.kind w) i (length nodes)) (Node.kind t)
+pub beside_there : (nodes : List Node) (i : ℕ) (l : Tip) → i < length nodes → IsBeside (extended nodes i l) i (length nodes)
+beside_there nodes i l lt =
+    let b = node (Two Both i (length nodes + 1)) (Node.parent (get_or nodes i nowhere)) in
+    let first = nodes ++ b ∷ [] in
+    let kept : get_or (extended nodes i l) i nowhere ≡ get_or nodes i nowhere =
+    get_or_append_left first (node (Leaf l) (length nodes) ∷ []) nowhere i (omega (arith, lt, length-append nodes (b ∷ []))) ∙ get_or_append_left nodes (b ∷ []) nowhere i lt in (
+      lt,
+      get-append first _ (length nodes) b (get-end nodes (b ∷ []) (length nodes) refl) ∙ ap (λ z. Some (node (Two Both i (length nodes + 1)) (Node.parent z))) (sym kept),
+    )
 
-pub grafts : (nodes : List Node) (i : ℕ) (l : Tip) (nodes' : List Node) → nodes' ≡ graft_list nodes i l → Grafts nodes i l nodes'
+-- node i has gone below node j, where it was this one
+abbrev lifted_by : List Node → ℕ → ℕ → Node → List Node
+lifted_by nodes i j x =
+    let below = slice_set nodes i (node (Node.kind x) j) in
+    let y = get_or below (Node.parent x) nowhere in
+    slice_set below (Node.parent x) (node (relink (Node.kind y) i j) (Node.parent y))
+
+pub grafts : (nodes : List Node) (i : ℕ) (l : Tip) (nodes' : List Node) → nodes' ≡ lifted (extended nodes i l) i (length nodes) → Grafts nodes i l nodes'
 grafts nodes i l nodes' is n n' s f o u grows lives l_in holds once =
     let m = length nodes in
-    let parts = fit-out nodes n (above 0 o) f (one i s u) (holds-out nodes n 0 o (fit f (one i s u)) holds).1 in
-    let t : get_or nodes i nowhere ≡ node (One s (place u)) (place_of f) = get_or-some nodes n nodes i nowhere _ parts.2.0 in
-    let w : get_or nodes (Node.parent (get_or nodes i nowhere)) nowhere ≡ node (frame_kind f i) (above 0 o) = ap (λ z. get_or nodes (Node.parent z) nowhere) t ∙ get_or-some nodes n nodes (place_of f) nowhere _ parts.0 in
+    let q = place_of f in
+    let at_parts = parts nodes n n' grows i s l lives l_in f o u holds once in
+    let off = apart nodes n n' grows i s l lives l_in f o u holds once in
+    let own_is = at_parts.2.0 in
+    let t : get_or nodes i nowhere ≡ node (One s (place u)) q = get_or-some nodes n nodes i nowhere _ own_is in
+    let b = node (Two Both i (m + 1)) (Node.parent (get_or nodes i nowhere)) in
+    let c = node (Leaf l) m in
+    let all = extended nodes i l in
+    let own = node (One s (place u)) m in
+    let top = node (frame_kind f m) (above 0 o) in
+    let low = slice_set nodes i own in
+    let in_i : i < m = some_in nodes i _ own_is in
+    let in_q : q < length low = omega (arith, some_in nodes q _ at_parts.0, length-set nodes i own) in
+    let t_all : get_or all i nowhere ≡ node (One s (place u)) q = get_or-some nodes n all i nowhere _ (get-append (nodes ++ b ∷ []) (c ∷ []) i _ (get-append nodes (b ∷ []) i _ own_is)) in
+    let below : slice_set all i own ≡ (low ++ b ∷ []) ++ c ∷ [] =
+    set-append_left (nodes ++ b ∷ []) (c ∷ []) i own (omega (arith, in_i, length-append nodes (b ∷ []))) ∙ ap (λ z. z ++ c ∷ []) (set-append_left nodes (b ∷ []) i own in_i) in
+    let q_low : slice_get low q ≡ Some (node (frame_kind f i) (above 0 o)) = get-set_other nodes i q own (λ e. off (sym e)) ∙ at_parts.0 in
+    let w : get_or ((low ++ b ∷ []) ++ c ∷ []) q nowhere ≡ node (frame_kind f i) (above 0 o) = get_or-some nodes n ((low ++ b ∷ []) ++ c ∷ []) q nowhere _ (get-append (low ++ b ∷ []) (c ∷ []) q _ (get-append low (b ∷ []) q _ q_low)) in
     let r = relinked f i m (λ v j d e h. omega (arith, itself v, ap (λ z. count z v) h, ap (λ z. count_beside i z) e, hit i, once i, count-plug i o (fit f (one i s u)), count-fit i f (one i s u), living-most (slice_get nodes i))) in
+    let over : slice_set ((low ++ b ∷ []) ++ c ∷ []) q top ≡ (slice_set low q top ++ b ∷ []) ++ c ∷ [] =
+    set-append_left (low ++ b ∷ []) (c ∷ []) q top (omega (arith, in_q, length-append low (b ∷ []))) ∙ ap (λ z. z ++ c ∷ []) (set-append_left low (b ∷ []) q top in_q) in
     let same : nodes' ≡ graft_nodes nodes n n' grows i s l lives l_in f o u holds once =
-    is ∙ (λ j. graft_by nodes i l m (Node.parent (t j)) (Node.parent (w j)) ((ap (λ z. relink (Node.kind z) i m) w ∙ r) j) (Node.kind (t j))) in (
+    is ∙ ap (lifted_by all i m) t_all
+    ∙ ap (λ z. let y = get_or z q nowhere in slice_set z q (node (relink (Node.kind y) i m) (Node.parent y))) below
+    ∙ ap (λ y. slice_set ((low ++ b ∷ []) ++ c ∷ []) q (node (relink (Node.kind y) i m) (Node.parent y))) w
+    ∙ ap (λ k. slice_set ((low ++ b ∷ []) ++ c ∷ []) q (node k (above 0 o))) r
+    ∙ over ∙ ap (λ z. (slice_set low q top ++ node (Two Both i (m + 1)) z ∷ []) ++ c ∷ []) (ap Node.parent t) in (
       subst (λ z. Holds z n' 0 (plug (f ∷ o) (grafted nodes i s u l))) (sym same) (holds_graft nodes n n' grows i s l lives l_in f o u holds once),
       subst (λ z. StandOnce z (plug (f ∷ o) (grafted nodes i s u l))) (sym same) (once_graft nodes n n' grows i s l lives l_in f o u holds once),
     )

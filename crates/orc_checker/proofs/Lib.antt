@@ -6,6 +6,7 @@ pub mod CallsMade
 pub mod Cancelling
 pub mod Catching
 pub mod Change
+pub mod Climbing
 pub mod Closing
 pub mod Defining
 pub mod Dropping
@@ -17,9 +18,11 @@ pub mod Filling
 pub mod Flagging
 pub mod Growth
 pub mod Halting
+pub mod Hints
 pub mod Inside
 pub mod Labelling
 pub mod Leaving
+pub mod Listing
 pub mod Lists
 pub mod Losing
 pub mod Moves

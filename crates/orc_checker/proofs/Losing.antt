@@ -75,8 +75,8 @@ pub record Gone (s s' : State) (j q c left right : ℕ) (side : List ℕ) (betwe
   pub free : s.rest.to_cancel ≡ []
   pub unbound : slice_get s.cells c ≡ Some (Cell c)
   pub all : AreNodesOf s.nodes right side
-  pub dropped : IsDropped s.nodes side between
-  pub nodes : s'.nodes ≡ slice_set between j (node (One Passed left) q)
+  pub nodes : between ≡ slice_set s.nodes j (node (One Passed left) q)
+  pub dropped : IsDropped between side s'.nodes
   pub len : length s'.nodes ≡ length s.nodes
   pub scopes : s'.scopes ≡ s.scopes
   pub cells : s'.cells ≡ slice_set s.cells c Void
@@ -111,8 +111,8 @@ lose-applies l t s s' j q c left right side between is_at halted st cancels p r 
     let ho = (holds-out s.nodes n 0 k (two j (Side c) u.left u.right) o.holds).1 in
     let most : count j u.right ≡ 0 = omega (arith, hit j, o.once j, count-plug j k (two j (Side c) u.left u.right), living-most (slice_get s.nodes j)) in
     let drop : Drops s.nodes s'.nodes j (node (One Passed (place u.left)) (above 0 k)) u.right =
-    drops s.nodes between s'.nodes n j j (node (Two (Side c) (place u.left) (place u.right)) (above 0 k)) (node (One Passed (place u.left)) (above 0 k)) u.right side ho.2 (subst (λ z. AreNodesOf s.nodes z side) (sym u.at_right) st.all) st.dropped ho.0 most
-    (st.nodes ∙ (λ z. slice_set between j (node (One Passed (sym u.at_left z)) (sym w.parent z)))) in
+    drops s.nodes between s'.nodes n j j (node (Two (Side c) (place u.left) (place u.right)) (above 0 k)) (node (One Passed (place u.left)) (above 0 k)) u.right side ho.2 (subst (λ z. AreNodesOf s.nodes z side) (sym u.at_right) st.all) ho.0 most
+    (st.nodes ∙ (λ z. slice_set s.nodes j (node (One Passed (sym u.at_left z)) (sym w.parent z)))) st.dropped in
     let stays : (b : Bound) (e v : ℕ) → fill (given b) e (terms v) ≡ terms v = λ b e v. code-stays (given b) e l.lists l.nodes v in
     let own = sp.cells.3 in
     let around = stays_so terms stays s s' p.marked j c Void o own st.unbound st.cells st.scopes

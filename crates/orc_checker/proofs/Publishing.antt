@@ -68,19 +68,19 @@ topped-risen (on_left i d u ∷ k) t t' h a = topped-risen k (two i d t u) (two 
 topped-risen (on_right i Both u ∷ k) t t' h a = topped-risen k (two i Both u t) (two i Both u t') (λ z. z) a
 topped-risen (on_right i (Side c) u ∷ k) t t' h a = topped-plug (on_right i (Side c) u) k t t' a
 
-pub publish-enters : (code : ℕ → Term) (s s' : State) (i q m steps : ℕ) (l : Tip) (v : Value) → at s.nodes q i (Leaf l) → living_kind (Leaf l) ≡ 1 → BearsValue code s.cells s.scopes m l v
-    → IsTaker s.nodes i Whole steps → Rises (slice_set s.nodes i (node (Leaf Ended) q)) i steps s'.nodes
+pub publish-enters : (code : ℕ → Term) (s s' : State) (i q m : ℕ) (l : Tip) (v : Value) → at s.nodes q i (Leaf l) → living_kind (Leaf l) ≡ 1 → BearsValue code s.cells s.scopes m l v
+    → IsTaker s.nodes i Whole → Rises (slice_set s.nodes i (node (Leaf Ended) q)) i s'.nodes
     → length s'.nodes ≡ length s.nodes → length s'.flags ≡ length s.flags → Settles s'.nodes s.flags i true s'.flags
     → Stays s s' (length s.marks) → Enters code (entry.Publish m v) s s'
-publish-enters code s s' i q m steps l v a lives bears taker rises nodes_len flags_len settles st x p sp =
+publish-enters code s s' i q m l v a lives bears taker rises nodes_len flags_len settles st x p sp =
     let env = env_of s.cells s.scopes in
     let mid : State = record s { nodes = slice_set s.nodes i (node (Leaf Ended) q) } in
     let ch = changed code s mid p.marked sp.drawn i q l (leaf i Ended) a lives (written s mid i q l Ended a lives refl (staying s mid refl refl) tt refl) in
     let k = ch.context in
     let n = length s.scopes in
     let by = taker n k (leaf i l) ch.before in
-    let r = rises n k (leaf i Ended) (record { holds = ch.holds; once = ch.once; there = refl; root = ch.root }) by.1 in
-    let none : rest k ≡ [] = free k by.0 in
+    let r = rises n k (leaf i Ended) (record { holds = ch.holds; once = ch.once; there = refl; root = ch.root }) in
+    let none : rest k ≡ [] = free k by in
     let flags = subst (λ z. HasFlags code s.nodes s.halts s.flags z) (sym ch.is) sp.drawn.flags in
     let its = (flagged-out s.halts s.flags k (leaf i l) flags.each).1 in
     let off : flag s.flags i ≡ false = flag_says code env s.halts flags.are_halts s.flags (leaf i l) its ∙ ap (λ z. has_halted (erase z)) (bears sp.scopes) in

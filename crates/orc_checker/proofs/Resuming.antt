@@ -80,8 +80,8 @@ pub record Resumed (s s' : State) (j q left a g e : ℕ) (side : List ℕ) (betw
   pub free : s.rest.to_cancel ≡ []
   pub next : a ≡ length s.marks
   pub all : AreNodesOf s.nodes left side
-  pub dropped : IsDropped s.nodes side between
-  pub nodes : s'.nodes ≡ slice_set between j (node (Leaf (Token a g e)) q)
+  pub nodes : between ≡ slice_set s.nodes j (node (Leaf (Token a g e)) q)
+  pub dropped : IsDropped between side s'.nodes
   pub len : length s'.nodes ≡ length s.nodes
   pub scopes : s'.scopes ≡ s.scopes
   pub cells : s'.cells ≡ s.cells
@@ -109,8 +109,8 @@ resume-enters code s s' j q m left g e a side between is_at halted st x p sp =
     let ho = (holds-out s.nodes n 0 k (one j (Entered m g e) t) holds).1 in
     let most : count j t ≡ 0 = omega (arith, hit j, once j, count-plug j k (one j (Entered m g e) t), living-most (slice_get s.nodes j)) in
     let drop : Drops s.nodes s'.nodes j (node (Leaf (Token a g e)) (above 0 k)) t =
-    drops s.nodes between s'.nodes n j j (node (One (Entered m g e) (place t)) (above 0 k)) (node (Leaf (Token a g e)) (above 0 k)) t side ho.2 (subst (λ z. AreNodesOf s.nodes z side) (sym u.there) st.all) st.dropped ho.0 most
-    (st.nodes ∙ ap (λ z. slice_set between j (node (Leaf (Token a g e)) z)) (sym w.parent)) in
+    drops s.nodes between s'.nodes n j j (node (One (Entered m g e) (place t)) (above 0 k)) (node (Leaf (Token a g e)) (above 0 k)) t side ho.2 (subst (λ z. AreNodesOf s.nodes z side) (sym u.there) st.all) ho.0 most
+    (st.nodes ∙ ap (λ z. slice_set s.nodes j (node (Leaf (Token a g e)) z)) (sym w.parent)) st.dropped in
     let new = plug k (leaf j (Token a g e)) in
     let holds' : Holds s'.nodes n 0 new = resumed_holds s.nodes s'.nodes n n 0 (omega arith) k j (Entered m g e) (Token a g e) t holds once refl ho.1 drop in
     let once' : StandOnce s'.nodes new = resumed_once s.nodes s'.nodes n n 0 (omega arith) k j (Entered m g e) (Token a g e) t holds once refl ho.1 drop in

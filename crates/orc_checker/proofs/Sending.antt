@@ -105,11 +105,11 @@ pub record Sent (s s' : State) (i at x g outer a : ℕ) (v : Value) (between : L
   pub flags_len : length s'.flags ≡ length ((s.flags ++ false ∷ []) ++ halt_flag s.halts g ∷ [])
   pub settles : Settles s'.nodes ((s.flags ++ false ∷ []) ++ halt_flag s.halts g ∷ []) i true s'.flags
 
-pub send-enters : (code : ℕ → Term) (s s' : State) (i q m steps fed x g outer part a : ℕ) (l : Tip) (v : Value) (between : List Node) → at s.nodes q i (Leaf l) → living_kind (Leaf l) ≡ 1 → BearsValue code s.cells s.scopes m l v
-    → IsTaker s.nodes i (Fed fed) steps → Node.kind (get_or s.nodes fed nowhere) ≡ One (Feeds x g outer) part
-    → Rises (slice_set s.nodes i (node (Leaf Ended) q)) i steps between
+pub send-enters : (code : ℕ → Term) (s s' : State) (i q m fed x g outer part a : ℕ) (l : Tip) (v : Value) (between : List Node) → at s.nodes q i (Leaf l) → living_kind (Leaf l) ≡ 1 → BearsValue code s.cells s.scopes m l v
+    → IsTaker s.nodes i (Fed fed) → Node.kind (get_or s.nodes fed nowhere) ≡ One (Feeds x g outer) part
+    → Rises (slice_set s.nodes i (node (Leaf Ended) q)) i between
     → Sent s s' i fed x g outer a v between → Enters code (entry.Send m a v) s s'
-send-enters code s s' i q m steps fed x g outer part a l v between is_at lives bears taker_is feeds rises st con p sp =
+send-enters code s s' i q m fed x g outer part a l v between is_at lives bears taker_is feeds rises st con p sp =
     let new : Scope = record { name = x; bound = bound.Is v; outer = outer } in
     let n = length s.scopes in
     let n' = length s'.scopes in
@@ -122,8 +122,8 @@ send-enters code s s' i q m steps fed x g outer part a l v between is_at lives b
     let ch = changed code s mid p.marked sp.drawn i q l (leaf i Ended) is_at lives (written s mid i q l Ended is_at lives refl gr tt refl) in
     let k = ch.context in
     let by = taker_is n k (leaf i l) ch.before in
-    let r = rises n' k (leaf i Ended) (record { holds = ch.holds; once = ch.once; there = refl; root = ch.root }) by.1 in
-    let f = fed_there k fed by.0 in
+    let r = rises n' k (leaf i Ended) (record { holds = ch.holds; once = ch.once; there = refl; root = ch.root }) in
+    let f = fed_there k fed by in
     let old = under k (leaf i l) in
     let was : Holds s.nodes n 0 (plug (on_one fed (Feeds f.x f.g f.e) ∷ f.around) old) = subst (λ z. Holds s.nodes n 0 z) (sym (plug-under k (leaf i l)) ∙ ap (λ z. plug z old) f.is) ch.before.holds in
     let o = holds-out s.nodes n 0 (on_one fed (Feeds f.x f.g f.e) ∷ f.around) old was in

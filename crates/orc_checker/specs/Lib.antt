@@ -6,6 +6,7 @@ pub mod Dropping
 pub mod DueTimes
 pub mod Grafting
 pub mod Halting
+pub mod Hints
 pub mod Labelling
 pub mod Names
 pub mod NextDue

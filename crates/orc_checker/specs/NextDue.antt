@@ -1,5 +1,5 @@
 -- When the calls that wait are due.
-use Rattle.std.specs.Prelude.{◌≡◌, ◌+◌, ◌<◌, ◌≤◌, ◌^◌, ℕ, suc, List, Option, Some, None, slice_get, nat_lt, cond}
+use Rattle.std.specs.Prelude.{◌≡◌, ◌+◌, ◌<◌, ◌≤◌, ◌^◌, ℕ, suc, List, Option, Some, None, slice_get, slice_index_or, nat_lt, cond}
 use Rattle.orc_rules.specs.declared.value.Answer.{Answer}
 use Rattle.orc_rules.specs.declared.value.Found.TheVariants.{After}
 use Rattle.orc_checker.specs.declared.arena.Node.{Node}
@@ -24,10 +24,10 @@ pub record IsDueOf (calls : List Called) (k t : ℕ) : Type 0 where
 abbrev pub IsDueAt : List Node → List Called → ℕ → ℕ → Type 0
 IsDueAt nodes calls i t = (k : ℕ) × (kind_at nodes i ≡ Leaf (Waits k)) × IsDueOf calls k t
 
--- the least due time of the nodes before n
-abbrev pub IsNextBelow : List Node → List Called → ℕ → Option ℕ → Type 0
-IsNextBelow nodes calls n None = (i t : ℕ) → i < n → IsDueAt nodes calls i t → ⊥
-IsNextBelow nodes calls n (Some t) = ((i : ℕ) × IsDueAt nodes calls i t) × ((i u : ℕ) → i < n → IsDueAt nodes calls i u → t ≤ u)
+-- the least due time of the first n nodes of a list
+abbrev pub IsNextBelow : List Node → List Called → List ℕ → ℕ → Option ℕ → Type 0
+IsNextBelow nodes calls list n None = (i t : ℕ) → i < n → IsDueAt nodes calls (slice_index_or list i 0) t → ⊥
+IsNextBelow nodes calls list n (Some t) = ((i : ℕ) × IsDueAt nodes calls i t) × ((i u : ℕ) → i < n → IsDueAt nodes calls (slice_index_or list i 0) u → t ≤ u)
 
 -- the least due time of all nodes
 abbrev pub IsNext : List Node → List Called → Option ℕ → Type 0

@@ -16,7 +16,6 @@ use crate::marked::Marked;
 use crate::names::are_arguments;
 use crate::rest::{Called, is_due_now};
 use crate::room::push_within;
-use crate::walk::write_node;
 use orc_rules::answers::Answers;
 use orc_rules::entry::RuleFault;
 use orc_rules::program::{Program, TermNode};
@@ -68,8 +67,7 @@ impl Marked {
         };
         self.rest
             .add(called, answers.is_scripted(site), site, args)?;
-        write_node(
-            &mut self.nodes,
+        self.nodes.write_node(
             spot.at,
             Node {
                 kind: Kind::Leaf(Tip::Waits(k)),
@@ -130,8 +128,7 @@ impl Marked {
         self.next_mark(a)?;
         is_due_now(pending.called, Answer::Value(v), self.rest.time())?;
         self.marks.try_reserve(1).map_err(|_| RuleFault::Memory)?;
-        write_node(
-            &mut self.nodes,
+        self.nodes.write_node(
             pending.at,
             Node {
                 kind: Kind::Leaf(Tip::Bears(a, v)),
@@ -149,8 +146,7 @@ impl Marked {
     {
         let pending = self.pending(k)?;
         is_due_now(pending.called, Answer::Halt, self.rest.time())?;
-        write_node(
-            &mut self.nodes,
+        self.nodes.write_node(
             pending.at,
             Node {
                 kind: Kind::Leaf(Tip::Ended),

@@ -4,8 +4,8 @@ ghost use Rattle.std.specs.Prelude.{◌≡◌, ◌&&◌, ◌⊎◌, true, false,
 ghost use Rattle.orc_checker.specs.Settling.{flag, inner_flag, HaltsNext, EndsAt, Settles};
 ghost use Rattle.orc_checker.specs.Rising.{nowhere};
 
-use crate::arena::{Kind, Node, Single};
-use crate::walk::node_at;
+use crate::arena::{Kind, Single};
+use crate::nodes::Nodes;
 
 /// A node's flag, true where there is none.
 pub(crate) fn flag_at(flags: &Vec<bool>, i: usize) -> bool
@@ -47,15 +47,15 @@ pub(crate) fn both(left: bool, right: bool) -> bool
 }
 
 /// The node above, where it halts with its parts and has no flag yet.
-fn halts_next(nodes: &Vec<Node>, flags: &Vec<bool>, place: usize) -> Option<usize>
+fn halts_next(nodes: &Nodes, flags: &Vec<bool>, place: usize) -> Option<usize>
     ensures next { IfSome result (λ p. HaltsNext nodes.now.items flags.now.items place p) }
     ensures last { IfNone result (EndsAt nodes.now.items flags.now.items place) }
 {
-    let parent = node_at(nodes, place).parent;
+    let parent = nodes.node_at(place).parent;
     if flag_at(flags, parent) {
         return None;
     }
-    let kind = node_at(nodes, parent).kind;
+    let kind = nodes.node_at(parent).kind;
     if inner_halts(flags, kind) {
         Some(parent)
     } else {
@@ -64,7 +64,7 @@ fn halts_next(nodes: &Vec<Node>, flags: &Vec<bool>, place: usize) -> Option<usiz
 }
 
 /// Flags a node that hadn't halted, where `halted` is true, and each node above it that halts with it.
-pub(crate) fn settle(nodes: &Vec<Node>, flags: &mut Vec<bool>, from: usize, halted: bool)
+pub(crate) fn settle(nodes: &Nodes, flags: &mut Vec<bool>, from: usize, halted: bool)
     ensures settles { Settles nodes.now.items flags.old.items from halted flags.new.items }
     ensures len { length flags.new.items ≡ length flags.old.items }
     ensures capacity { vec_capacity flags.new ≡ vec_capacity flags.old }

@@ -7,9 +7,9 @@ ghost use Rattle.orc_rules.specs.Timed.{Context};
 ghost use Rattle.orc_checker.specs.Checker.{Spells};
 ghost use Rattle.orc_checker.specs.Labelling.{cell_above, AreAround, IsLabel, Shows, StandsInside};
 
-use crate::arena::{Double, Kind, Node};
+use crate::arena::{Double, Kind};
 use crate::marked::Marked;
-use crate::walk::node_at;
+use crate::nodes::Nodes;
 use orc_rules::answers::Answers;
 use orc_rules::entry::{Entry, Label, RuleFault};
 use orc_rules::program::Program;
@@ -31,7 +31,7 @@ fn push_cell(cells: &mut Vec<u64>, above: Kind, place: usize) -> Result<(), Allo
 }
 
 /// The cells inside whose right sides a node stands, the outermost first. The error is refused memory.
-fn cells_around(alloc: Global, nodes: &Vec<Node>, from: usize) -> Result<Vec<u64>, AllocError>
+fn cells_around(alloc: Global, nodes: &Nodes, from: usize) -> Result<Vec<u64>, AllocError>
     ensures { IfOk result (λ cells. AreAround nodes.now.items from cells.items) }
 {
     let mut cells = Vec::new(alloc);
@@ -41,8 +41,8 @@ fn cells_around(alloc: Global, nodes: &Vec<Node>, from: usize) -> Result<Vec<u64
             cells.reverse();
             return Ok(cells);
         }
-        let parent = node_at(nodes, place).parent;
-        let above = node_at(nodes, parent).kind;
+        let parent = nodes.node_at(place).parent;
+        let above = nodes.node_at(parent).kind;
         push_cell(&mut cells, above, place)?;
         place = parent;
     }

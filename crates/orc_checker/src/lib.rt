@@ -13,6 +13,7 @@ pub mod looking;
 pub mod marked;
 mod marks;
 mod names;
+mod nodes;
 mod otherwise;
 mod pending;
 mod pruning;

@@ -156,7 +156,7 @@ impl Marked {
 
     // What a token's value does.
     fn publication(&self, at: usize, value: Value) -> Option<Next> {
-        Some(match way_up(&self.nodes, at)?.taker {
+        Some(match way_up(&self.nodes, at)? {
             Taker::Whole => Next::Publish(value),
             Taker::Fed(_) => Next::Send(value),
             Taker::Bound(cell, _) => Next::Bind(cell, value),

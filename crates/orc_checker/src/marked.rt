@@ -12,6 +12,7 @@ ghost use Rattle.orc_checker.specs.declared.arena.Tip.TheVariants.{Token as IsTo
 use crate::arena::{Bound, Kind, Node, Scope, Single, Tip};
 use crate::halts::Halts;
 use crate::names::meaning;
+use crate::nodes::Nodes;
 use crate::rest::Rest;
 use crate::room::push_within;
 use orc_rules::answers::Answers;
@@ -24,7 +25,7 @@ use std::marker::Model;
 /// A marked term, with what its journal has used up so far.
 #[derive(Drop)]
 pub struct Marked {
-    pub(crate) nodes: Vec<Node>,
+    pub(crate) nodes: Nodes,
     pub(crate) scopes: Vec<Scope>,
     pub(crate) cells: Vec<Bound>,
     pub(crate) marks: Vec<usize>,
@@ -75,7 +76,7 @@ impl Marked {
     pub fn new(alloc: Global, program: &Program, cancels: bool) -> Result<Self, AllocError>
         ensures { IfOk result (λ m. Begins program.now cancels m (begin (source program.now))) }
     {
-        let mut nodes = Vec::with_capacity(alloc, 2)?;
+        let mut nodes = Nodes::new(alloc)?;
         let mut marks = Vec::with_capacity(alloc, 2)?;
         let mut cells = Vec::with_capacity(alloc, 1)?;
         let mut flags = Vec::with_capacity(alloc, 2)?;
@@ -83,20 +84,14 @@ impl Marked {
         let halts = Halts::new(alloc, program)?;
         let root = program.source();
         let halted = halts.at(root);
-        push_within(
-            &mut nodes,
-            Node {
-                kind: Kind::One(Single::Passed, 1),
-                parent: 0,
-            },
-        );
-        push_within(
-            &mut nodes,
-            Node {
-                kind: Kind::Leaf(Tip::Token(1, root, 0)),
-                parent: 0,
-            },
-        );
+        nodes.push_within(Node {
+            kind: Kind::One(Single::Passed, 1),
+            parent: 0,
+        });
+        nodes.push_within(Node {
+            kind: Kind::Leaf(Tip::Token(1, root, 0)),
+            parent: 0,
+        });
         push_within(&mut marks, 0);
         push_within(&mut marks, 1);
         push_within(&mut cells, Bound::Void);
@@ -152,7 +147,7 @@ impl Marked {
         ensures carries { IfSome result (λ t. Carries s t.tip) }
     {
         let place = *self.marks.get(s as usize)?;
-        let node = *self.nodes.get(place)?;
+        let node = self.nodes.get(place)?;
         let Kind::Leaf(tip) = node.kind else {
             return None;
         };
@@ -202,6 +197,7 @@ impl Marked {
         ensures free { IfOk result (λ _. self.now.rest.to_cancel ≡ []) }
         ensures there { IfOk result (λ t. at self.now.nodes t.parent t.at (AtLeaf t.tip)) }
         ensures lives { IfOk result (λ t. living_kind (AtLeaf t.tip) ≡ 1) }
+        ensures carries { IfOk result (λ t. Carries s t.tip) }
         ensures bears { IfOk result (λ t. BearsValue (code program.now) self.now.cells self.now.scopes s t.tip v) }
     {
         let holder = self.holder(s)?;

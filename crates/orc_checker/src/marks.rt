@@ -7,7 +7,7 @@ ghost use Rattle.orc_rules.specs.declared.entry.Entry.TheVariants as entry;
 
 use crate::arena::{Double, Kind, Node, Single, Tip};
 use crate::marked::{Marked, token_node};
-use crate::room::{push_within, reserve, size};
+use crate::room::{push_within, reserve};
 use orc_rules::entry::RuleFault;
 use orc_rules::program::{Program, TermNode};
 
@@ -21,10 +21,13 @@ impl Marked {
         let TermNode::Stop = program.node(spot.node) else {
             return Err(RuleFault::Form);
         };
-        self.nodes[spot.at] = Node {
-            kind: Kind::Leaf(Tip::Ended),
-            parent: spot.parent,
-        };
+        self.nodes.write_node(
+            spot.at,
+            Node {
+                kind: Kind::Leaf(Tip::Ended),
+                parent: spot.parent,
+            },
+        );
         Ok(())
     }
 
@@ -48,13 +51,16 @@ impl Marked {
             return Err(RuleFault::Number);
         }
         reserve(&mut self.nodes, &mut self.flags, &mut self.marks).map_err(|_| RuleFault::Memory)?;
-        let n = size(&self.nodes);
-        self.nodes[spot.at] = Node {
-            kind: Kind::Two(Double::Both, n, n + 1),
-            parent: spot.parent,
-        };
-        push_within(&mut self.nodes, token_node(a, f, spot));
-        push_within(&mut self.nodes, token_node(b, g, spot));
+        let n = self.nodes.len();
+        self.nodes.write_node(
+            spot.at,
+            Node {
+                kind: Kind::Two(Double::Both, n, n + 1),
+                parent: spot.parent,
+            },
+        );
+        self.nodes.push_within(token_node(a, f, spot));
+        self.nodes.push_within(token_node(b, g, spot));
         push_within(&mut self.marks, n);
         push_within(&mut self.marks, n + 1);
         push_within(&mut self.flags, self.halts.at(f));
@@ -73,12 +79,15 @@ impl Marked {
         };
         self.next_mark(a)?;
         reserve(&mut self.nodes, &mut self.flags, &mut self.marks).map_err(|_| RuleFault::Memory)?;
-        let n = size(&self.nodes);
-        self.nodes[spot.at] = Node {
-            kind: Kind::One(Single::Feeds(x, g, spot.scope), n),
-            parent: spot.parent,
-        };
-        push_within(&mut self.nodes, token_node(a, f, spot));
+        let n = self.nodes.len();
+        self.nodes.write_node(
+            spot.at,
+            Node {
+                kind: Kind::One(Single::Feeds(x, g, spot.scope), n),
+                parent: spot.parent,
+            },
+        );
+        self.nodes.push_within(token_node(a, f, spot));
         push_within(&mut self.marks, n);
         push_within(&mut self.flags, self.halts.at(f));
         Ok(())
@@ -95,12 +104,15 @@ impl Marked {
         };
         self.next_mark(a)?;
         reserve(&mut self.nodes, &mut self.flags, &mut self.marks).map_err(|_| RuleFault::Memory)?;
-        let n = size(&self.nodes);
-        self.nodes[spot.at] = Node {
-            kind: Kind::One(Single::Entered(s, g, spot.scope), n),
-            parent: spot.parent,
-        };
-        push_within(&mut self.nodes, token_node(a, f, spot));
+        let n = self.nodes.len();
+        self.nodes.write_node(
+            spot.at,
+            Node {
+                kind: Kind::One(Single::Entered(s, g, spot.scope), n),
+                parent: spot.parent,
+            },
+        );
+        self.nodes.push_within(token_node(a, f, spot));
         push_within(&mut self.marks, n);
         push_within(&mut self.flags, self.halts.at(f));
         Ok(())

@@ -14,7 +14,6 @@ use crate::flags::settle;
 use crate::marked::Marked;
 use crate::room::push_within;
 use crate::side::{drop_nodes, nodes_of};
-use crate::walk::write_node;
 use orc_rules::entry::RuleFault;
 use std::alloc::AllocError;
 
@@ -42,7 +41,7 @@ impl Marked {
     pub(crate) fn side_at(&self, root: usize) -> Result<Vec<usize>, RuleFault>
         ensures { IfOk result (λ side. AreNodesOf self.now.nodes root side.items) }
     {
-        let alloc = *self.nodes.allocator();
+        let alloc = self.nodes.allocator();
         match nodes_of(alloc, &self.nodes, root) {
             Ok(side) => Ok(side),
             Err(_) => Err(RuleFault::Memory),
@@ -87,15 +86,14 @@ impl Marked {
         }
         let side = self.side_at(otherwise.left)?;
         reserve_mark(&mut self.marks).map_err(|_| RuleFault::Memory)?;
-        drop_nodes(&mut self.nodes, &side);
-        write_node(
-            &mut self.nodes,
+        self.nodes.write_node(
             otherwise.at,
             Node {
                 kind: Kind::Leaf(Tip::Token(a, otherwise.node, otherwise.scope)),
                 parent: otherwise.parent,
             },
         );
+        drop_nodes(&mut self.nodes, &side);
         let halted = self.halts.at(otherwise.node);
         settle(&self.nodes, &mut self.flags, otherwise.at, halted);
         push_within(&mut self.marks, otherwise.at);

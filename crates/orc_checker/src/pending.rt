@@ -3,10 +3,9 @@
 ghost use Rattle.std.specs.Prelude.{◌≡◌, ℕ, List, IfSome, IfNone};
 ghost use Rattle.orc_checker.specs.NextDue.{IsDueOf, IsDueAt, IsNext, earlier};
 
-use crate::arena::{Kind, Node, Tip};
+use crate::arena::{Kind, Tip};
+use crate::nodes::Nodes;
 use crate::rest::{Called, Rest};
-use crate::room::size;
-use crate::walk::node_at;
 use orc_rules::value::Found;
 
 /// When a call is due.
@@ -33,11 +32,11 @@ fn due_of(calls: &Vec<Called>, call: u64) -> Option<u64>
 }
 
 /// When the call for which a node waits is due.
-fn due_at(nodes: &Vec<Node>, calls: &Vec<Called>, i: usize) -> Option<u64>
+fn due_at(nodes: &Nodes, calls: &Vec<Called>, i: usize) -> Option<u64>
     ensures due { IfSome result (IsDueAt nodes.now.items calls.now.items i) }
     ensures never { IfNone result ((t : ℕ) → IsDueAt nodes.now.items calls.now.items i t → ⊥) }
 {
-    let Kind::Leaf(tip) = node_at(nodes, i).kind else {
+    let Kind::Leaf(tip) = nodes.node_at(i).kind else {
         return None;
     };
     match tip {
@@ -58,19 +57,20 @@ fn earlier(first: Option<u64>, second: Option<u64>) -> Option<u64>
 }
 
 /// The least due time of the calls that wait.
-pub(crate) fn next_due(nodes: &Vec<Node>, calls: &Vec<Called>) -> Option<u64>
+pub(crate) fn next_due(nodes: &Nodes, calls: &Vec<Called>) -> Option<u64>
     ensures { IsNext nodes.now.items calls.now.items result }
 {
+    let list = nodes.restless();
     let mut least = None;
-    for i in 0..size(nodes) {
-        least = earlier(least, due_at(nodes, calls, i));
+    for i in 0..list.len() {
+        least = earlier(least, due_at(nodes, calls, list[i]));
     }
     least
 }
 
 impl Rest {
     /// The least due time of the calls for which nodes wait.
-    pub(crate) fn next_due(&self, nodes: &Vec<Node>) -> Option<u64>
+    pub(crate) fn next_due(&self, nodes: &Nodes) -> Option<u64>
         ensures { IsNext nodes.now.items self.now.calls result }
     {
         next_due(nodes, &self.calls)

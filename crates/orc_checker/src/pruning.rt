@@ -14,9 +14,9 @@ ghost use Rattle.orc_rules.specs.declared.entry.Entry.TheVariants as entry;
 use crate::arena::{Bound, Double, Kind, Node, Scope, Single};
 use crate::flags::{both, flag_at, settle};
 use crate::marked::{Marked, Spot, token_node};
-use crate::room::{push_within, reserve, size};
+use crate::room::{push_within, reserve};
 use crate::side::{drop_nodes, falling_calls, nodes_of};
-use crate::walk::{Taker, node_at, way_up, write_node};
+use crate::walk::{Taker, way_up};
 use orc_rules::entry::RuleFault;
 use orc_rules::program::{Program, TermNode};
 use orc_rules::value::Value;
@@ -100,7 +100,7 @@ impl Marked {
             |_| RuleFault::Memory,
         )?;
         reserve(&mut self.nodes, &mut self.flags, &mut self.marks).map_err(|_| RuleFault::Memory)?;
-        let n = size(&self.nodes);
+        let n = self.nodes.len();
         push_within(
             &mut self.scopes,
             Scope {
@@ -114,12 +114,15 @@ impl Marked {
             ..spot
         };
         push_within(&mut self.cells, Bound::Cell(c));
-        self.nodes[spot.at] = Node {
-            kind: Kind::Two(Double::Side(c), n, n + 1),
-            parent: spot.parent,
-        };
-        push_within(&mut self.nodes, token_node(a, f, inner));
-        push_within(&mut self.nodes, token_node(b, g, spot));
+        self.nodes.write_node(
+            spot.at,
+            Node {
+                kind: Kind::Two(Double::Side(c), n, n + 1),
+                parent: spot.parent,
+            },
+        );
+        self.nodes.push_within(token_node(a, f, inner));
+        self.nodes.push_within(token_node(b, g, spot));
         push_within(&mut self.marks, n);
         push_within(&mut self.marks, n + 1);
         let left = self.halts.at(f);
@@ -147,7 +150,7 @@ impl Marked {
         ensures recorded { IfOk result (λ r. self.now.rest.cancels ≡ true → AreRising (calls_at self.now.nodes r.0.items) (reverse r.1.items)) }
         ensures not_recorded { IfOk result (λ r. self.now.rest.cancels ≡ false → r.1.items ≡ []) }
     {
-        let alloc = *self.nodes.allocator();
+        let alloc = self.nodes.allocator();
         let side = nodes_of(alloc, &self.nodes, right).map_err(|_| RuleFault::Memory)?;
         if self.rest.cancels {
             let calls = falling_calls(alloc, &self.nodes, &side).map_err(|_| RuleFault::Memory)?;
@@ -170,29 +173,28 @@ impl Marked {
     {
         let bearer = self.bearer(program, s, v)?;
         self.unbound(c)?;
-        let Some(way) = way_up(&self.nodes, bearer.at) else {
+        let Some(taker) = way_up(&self.nodes, bearer.at) else {
             return Err(RuleFault::Form);
         };
-        let Taker::Bound(cell, at) = way.taker else {
+        let Taker::Bound(cell, at) = taker else {
             return Err(RuleFault::Form);
         };
         if cell != c {
             return Err(RuleFault::Form);
         }
-        let pruning = node_at(&self.nodes, at);
+        let pruning = self.nodes.node_at(at);
         let Kind::Two(_, left, right) = pruning.kind else {
             return Err(RuleFault::Form);
         };
         let (side, calls) = self.leaving(right)?;
-        drop_nodes(&mut self.nodes, &side);
-        write_node(
-            &mut self.nodes,
+        self.nodes.write_node(
             at,
             Node {
                 kind: Kind::One(Single::Passed, left),
                 parent: pruning.parent,
             },
         );
+        drop_nodes(&mut self.nodes, &side);
         let halted = flag_at(&self.flags, left);
         settle(&self.nodes, &mut self.flags, at, halted);
         bind_cell(&mut self.cells, c, Bound::Is(v));
@@ -236,15 +238,14 @@ impl Marked {
             return Err(RuleFault::Halted);
         }
         let side = self.side_at(pruning.right)?;
-        drop_nodes(&mut self.nodes, &side);
-        write_node(
-            &mut self.nodes,
+        self.nodes.write_node(
             pruning.at,
             Node {
                 kind: Kind::One(Single::Passed, pruning.left),
                 parent: pruning.parent,
             },
         );
+        drop_nodes(&mut self.nodes, &side);
         bind_cell(&mut self.cells, c, Bound::Void);
         Ok(())
     }

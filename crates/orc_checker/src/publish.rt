@@ -8,7 +8,7 @@ ghost use Rattle.orc_rules.specs.declared.entry.Entry.TheVariants as entry;
 use crate::arena::{Kind, Node, Tip};
 use crate::flags::settle;
 use crate::marked::Marked;
-use crate::walk::{Taker, rise, way_up, write_node};
+use crate::walk::{Taker, rise, way_up};
 use orc_rules::entry::RuleFault;
 use orc_rules::program::Program;
 use orc_rules::value::Value;
@@ -20,21 +20,20 @@ impl Marked {
         ensures refused { OnErr result (self.new ≡ self.old) }
     {
         let bearer = self.bearer(program, s, v)?;
-        let Some(way) = way_up(&self.nodes, bearer.at) else {
+        let Some(taker) = way_up(&self.nodes, bearer.at) else {
             return Err(RuleFault::Form);
         };
-        let Taker::Whole = way.taker else {
+        let Taker::Whole = taker else {
             return Err(RuleFault::Form);
         };
-        write_node(
-            &mut self.nodes,
+        self.nodes.write_node(
             bearer.at,
             Node {
                 kind: Kind::Leaf(Tip::Ended),
                 parent: bearer.parent,
             },
         );
-        rise(&mut self.nodes, bearer.at, way.steps);
+        rise(&mut self.nodes, bearer.at);
         settle(&self.nodes, &mut self.flags, bearer.at, true);
         Ok(())
     }

@@ -28,6 +28,7 @@ impl Marked {
         ensures moves { (x : Context) (p : Place) → x.definitions ≡ definitions program.now → Spells x (code program.now) self.old p → result ≡ can_move x.definitions (erase p.marked) }
         ensures same { self.new ≡ self.old }
     {
+        self.nodes.tidy();
         can_some_move(
             program,
             &mut self.halts,

@@ -18,7 +18,7 @@ impl Marked {
     pub fn nodes(&self) -> &[Node]
         ensures { result.now ≡ self.now.nodes }
     {
-        &self.nodes
+        self.nodes.items()
     }
 
     /// The calls that were made, call 1 first.
@@ -48,9 +48,6 @@ impl Marked {
         ensures taker { IfSome result (λ w. (n : ℕ) (k : List Frame) (t : Tree) → Stands self.now.nodes n place k t → w ≡ takes k) }
         ensures none { IfNone result ((n : ℕ) (k : List Frame) (t : Tree) → Stands self.now.nodes n place k t → ⊥) }
     {
-        match way_up(&self.nodes, place) {
-            Some(way) => Some(way.taker),
-            None => None,
-        }
+        way_up(&self.nodes, place)
     }
 }

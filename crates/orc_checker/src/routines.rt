@@ -13,7 +13,6 @@ use crate::flags::settle;
 use crate::marked::Marked;
 use crate::names::meaning;
 use crate::room::push_within;
-use crate::walk::write_node;
 use orc_rules::entry::RuleFault;
 use orc_rules::param::Operand;
 use orc_rules::program::{Definition, Program, TermNode};
@@ -103,8 +102,7 @@ impl Marked {
         )?;
         self.marks.try_reserve(1).map_err(|_| RuleFault::Memory)?;
         extend_scopes(&mut self.scopes, &added)?;
-        write_node(
-            &mut self.nodes,
+        self.nodes.write_node(
             spot.at,
             Node {
                 kind: Kind::Leaf(Tip::Token(a, called.body, scope)),

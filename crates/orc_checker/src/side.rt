@@ -4,7 +4,7 @@ ghost use Rattle.std.specs.Prelude.{◌≡◌, ◌++◌, IfOk, OnOk, length, rev
 ghost use Rattle.orc_checker.specs.Dropping.{parts_of, call_of, calls_at, AreNodesOf, AreRising, IsDropped};
 
 use crate::arena::{Kind, Node, Tip};
-use crate::walk::{node_at, write_node};
+use crate::nodes::Nodes;
 use std::alloc::{AllocError, Global};
 
 /// Adds the parts of a node. The error is refused memory.
@@ -23,11 +23,7 @@ fn push_parts(found: &mut Vec<usize>, kind: Kind) -> Result<(), AllocError>
 }
 
 /// The nodes of the part at `root`: itself, and then those below it. The error is refused memory.
-pub(crate) fn nodes_of(
-    alloc: Global,
-    nodes: &Vec<Node>,
-    root: usize,
-) -> Result<Vec<usize>, AllocError>
+pub(crate) fn nodes_of(alloc: Global, nodes: &Nodes, root: usize) -> Result<Vec<usize>, AllocError>
     ensures { IfOk result (λ found. AreNodesOf nodes.now.items root found.items) }
 {
     let mut found = Vec::new(alloc);
@@ -36,7 +32,7 @@ pub(crate) fn nodes_of(
         if next == found.len() {
             return Ok(found);
         }
-        let node = node_at(nodes, found[next]);
+        let node = nodes.node_at(found[next]);
         push_parts(&mut found, node.kind)?;
     }
     // Each node stands once below another, so that there are less than `nodes.len()` of them.
@@ -54,12 +50,12 @@ fn push_call(calls: &mut Vec<u64>, kind: Kind) -> Result<(), AllocError>
 }
 
 /// The calls that pend at these nodes. The error is refused memory.
-fn pending_at(alloc: Global, nodes: &Vec<Node>, side: &Vec<usize>) -> Result<Vec<u64>, AllocError>
+fn pending_at(alloc: Global, nodes: &Nodes, side: &Vec<usize>) -> Result<Vec<u64>, AllocError>
     ensures { IfOk result (λ calls. calls.items ≡ calls_at nodes.now.items side.now.items) }
 {
     let mut calls = Vec::new(alloc);
     for next in 0..side.len() {
-        let node = node_at(nodes, side[next]);
+        let node = nodes.node_at(side[next]);
         push_call(&mut calls, node.kind)?;
     }
     Ok(calls)
@@ -68,7 +64,7 @@ fn pending_at(alloc: Global, nodes: &Vec<Node>, side: &Vec<usize>) -> Result<Vec
 /// The same in falling order.
 pub(crate) fn falling_calls(
     alloc: Global,
-    nodes: &Vec<Node>,
+    nodes: &Nodes,
     side: &Vec<usize>,
 ) -> Result<Vec<u64>, AllocError>
     ensures { IfOk result (λ calls. AreRising (calls_at nodes.now.items side.now.items) (reverse calls.items)) }
@@ -80,17 +76,18 @@ pub(crate) fn falling_calls(
 }
 
 /// The nodes of the list are gone.
-pub(crate) fn drop_nodes(nodes: &mut Vec<Node>, found: &Vec<usize>)
+pub(crate) fn drop_nodes(nodes: &mut Nodes, found: &Vec<usize>)
     ensures dropped { IsDropped nodes.old.items found.now.items nodes.new.items }
     ensures len { length nodes.new.items ≡ length nodes.old.items }
 {
     for next in 0..found.len() {
-        write_node(
-            nodes,
-            found[next],
+        let place = found[next];
+        let parent = nodes.node_at(place).parent;
+        nodes.write_node(
+            place,
             Node {
                 kind: Kind::Leaf(Tip::Gone),
-                parent: 0,
+                parent,
             },
         );
     }

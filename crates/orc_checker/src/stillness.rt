@@ -9,14 +9,13 @@ ghost use Rattle.orc_checker.specs.Halting.{AreHalts};
 ghost use Rattle.orc_checker.specs.Names.{AreOrdered};
 ghost use Rattle.orc_checker.specs.Stillness.{params_in, term_moves, node_moves, DoMove, Wakes};
 
-use crate::arena::{Bound, Double, Kind, Node, Scope, Single, Tip};
+use crate::arena::{Bound, Double, Kind, Scope, Single, Tip};
 use crate::flags::{flag_at, write_flag};
 use crate::halts::Halts;
 use crate::names::meaning;
-use crate::room::size;
+use crate::nodes::Nodes;
 use crate::routines::definition;
 use crate::void::has_void;
-use crate::walk::node_at;
 use orc_rules::laws::program_is_source;
 use orc_rules::param::Operand;
 use orc_rules::program::{Program, TermNode};
@@ -160,13 +159,14 @@ pub(crate) fn can_some_move(
     scopes: &Vec<Scope>,
     cells: &Vec<Bound>,
     flags: &Vec<bool>,
-    nodes: &Vec<Node>,
+    nodes: &Nodes,
 ) -> bool
     ensures moves { AreHalts (code program.now) halts.old → AreOrdered scopes.now.items → DoMove (node_moves (definitions program.now) (code program.now) cells.now.items scopes.now.items flags.now.items) nodes.now.items result }
     ensures same { halts.new ≡ halts.old }
 {
-    for i in 0..size(nodes) {
-        let kind = node_at(nodes, i).kind;
+    let list = nodes.restless();
+    for i in 0..list.len() {
+        let kind = nodes.node_at(list[i]).kind;
         if can_node_move(program, halts, scopes, cells, flags, kind) {
             return true;
         }

@@ -15,7 +15,6 @@ use crate::arena::{Bound, Kind, Node, Scope, Tip};
 use crate::flags::settle;
 use crate::marked::{Marked, Spot};
 use crate::names::meaning;
-use crate::walk::write_node;
 use orc_rules::entry::RuleFault;
 use orc_rules::param::Operand;
 use orc_rules::program::{Program, TermNode};
@@ -77,8 +76,7 @@ impl Marked {
         if !self.on_void(program, spot) {
             return Err(RuleFault::Form);
         }
-        write_node(
-            &mut self.nodes,
+        self.nodes.write_node(
             spot.at,
             Node {
                 kind: Kind::Leaf(Tip::Ended),

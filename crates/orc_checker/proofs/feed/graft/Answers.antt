@@ -1,25 +1,38 @@
-use Rattle.std.proofs.Common.{◌+◌, ◌∷◌, ◌++◌, [], ◌∙◌, ap, get_or}
-use Rattle.std.specs.Prelude.{slice_set}
+use Rattle.std.proofs.Common.{◌+◌, ◌∷◌, ◌++◌, [], ◌∙◌, ap, sym, subst, length, arith, length-append}
 use Rattle.orc_checker.specs.declared.arena.Node.{Node}
 use Rattle.orc_checker.specs.declared.arena.Kind.TheVariants.{Leaf, Two}
 use Rattle.orc_checker.specs.declared.arena.Double.TheVariants.{Both}
-use Rattle.orc_checker.specs.Rising.{nowhere}
-use Rattle.orc_checker.specs.Grafting.{relink}
+use Rattle.orc_checker.specs.Hints.{IsBeside, lifted}
 use Rattle.orc_checker.proofs.Moves.{node}
-use Rattle.orc_checker.proofs.Feeding.{graft_by, grafts}
+use Rattle.orc_checker.proofs.Hints.{length_lifted}
+use Rattle.orc_checker.proofs.Feeding.{beside_there, grafts}
 use Rattle.orc_checker.proofs.feed.graft.Goals as goal
+
+pub lift-requires : goal.lift-requires
+lift-requires c =
+    let nodes = c.args.nodes.now.items in
+    let at = c.args.at in
+    let e1 = c.push_within.ensures.items ∙ (λ j. nodes ++ node (Two Both at (c.len-both.ensures.count j + 1)) (Node.parent (c.node_at-parent.ensures j)) ∷ []) in
+    let e2 = c.push_within-2.ensures.items ∙ (λ j. e1 j ++ node (Leaf c.args.tip) (c.len-both.ensures.count j) ∷ []) in
+    subst (λ z. IsBeside c.push_within-2.new.self.items at z) (sym c.len-both.ensures.count) (subst (λ z. IsBeside z at (length nodes)) (sym e2) (beside_there nodes at c.args.tip c.requires.there))
 
 pub returns-clause-grafts : goal.returns-clause-grafts
 returns-clause-grafts c =
     let nodes = c.args.nodes.now.items in
     let at = c.args.at in
-    let tip = c.args.tip in
-    let t = c.node_at-taker.result in
-    let w = c.node_at-above.result in
-    let both = c.size-both.result in
-    let tk = c.node_at-taker.ensures in
-    let ab = c.node_at-above.ensures ∙ ap (λ z. get_or nodes (Node.parent z) nowhere) tk in
-    let e1 = c.write_node-2.ensures.items ∙ ap (λ z. slice_set z at (node t.kind both)) c.write_node.ensures.items in
-    let e2 = c.push_within.ensures.items ∙ ap (λ z. z ++ node (Two Both at (both + 1)) t.parent ∷ []) e1 in
-    let e3 = c.push_within-2.ensures.items ∙ ap (λ z. z ++ node (Leaf tip) both ∷ []) e2 in
-    grafts nodes at tip _ (e3 ∙ (λ j. graft_by nodes at tip (c.size-both.ensures j) (Node.parent (tk j)) (Node.parent (ab j)) ((c.relinked.ensures ∙ (λ i. relink (Node.kind (ab i)) at (c.size-both.ensures i))) j) (Node.kind (tk j))))
+    let e1 = c.push_within.ensures.items ∙ (λ j. nodes ++ node (Two Both at (c.len-both.ensures.count j + 1)) (Node.parent (c.node_at-parent.ensures j)) ∷ []) in
+    let e2 = c.push_within-2.ensures.items ∙ (λ j. e1 j ++ node (Leaf c.args.tip) (c.len-both.ensures.count j) ∷ []) in
+    grafts nodes at c.args.tip _ (c.lift.ensures.items ∙ (λ j. lifted (e2 j) at (c.len-both.ensures.count j)))
+
+pub returns-clause-len : goal.returns-clause-len
+returns-clause-len c =
+    let nodes = c.args.nodes.now.items in
+    omega (
+      arith,
+      ap length c.lift.ensures.items,
+      length_lifted c.push_within-2.new.self.items c.args.at c.len-both.result,
+      ap length c.push_within.ensures.items,
+      ap length c.push_within-2.ensures.items,
+      length-append nodes (node (Two Both c.args.at (c.len-both.result + 1)) c.node_at-parent.result.parent ∷ []),
+      length-append c.push_within.new.self.items (node (Leaf c.args.tip) c.len-both.result ∷ []),
+    )

@@ -1,13 +1,16 @@
 use Rattle.std.proofs.Common.{ap, sym, subst, ◌∙◌, length, get_or, reverse, length-set}
 use Rattle.std.specs.Prelude.{slice_set}
+use Rattle.orc_checker.specs.declared.arena.Node.{Node}
 use Rattle.orc_checker.specs.declared.arena.Bound.TheVariants.{Is}
 use Rattle.orc_checker.specs.declared.walk.Taker.TheVariants.{Bound}
 use Rattle.orc_checker.specs.Settling.{flag, Settles}
 use Rattle.orc_checker.specs.Rising.{nowhere, IsTaker}
-use Rattle.orc_checker.specs.Dropping.{IsDropped}
+use Rattle.orc_checker.specs.declared.arena.Single.TheVariants.{Passed}
+use Rattle.orc_checker.specs.declared.arena.Kind.TheVariants.{One}
 use Rattle.orc_checker.specs.Checker.{State}
 use Rattle.orc_checker.proofs.Moves.{node}
 use Rattle.orc_checker.proofs.Catching.{catch-applies}
+use Rattle.orc_checker.proofs.Hints.{can_end}
 use Rattle.orc_checker.proofs.marked.Marked.bind.Goals as goal
 
 pub returns-clause-done : goal.returns-clause-done
@@ -21,17 +24,17 @@ returns-clause-done c t =
     let pruning = c.node_at-pruning.result in
     let k = c.in-Two in
     let r = c.in_ok-side in
-    catch-applies l t s _ b.at b.parent c.args.s c.in-Some.way.steps place c.args.c k.left k.right pruning.parent k.field-0 b.tip c.args.v r.side.items (reverse r.calls.items) c.drop_nodes.new.nodes.items
+    catch-applies l t s _ b.at b.parent c.args.s place c.args.c k.left k.right pruning.parent k.field-0 b.tip c.args.v r.side.items (reverse r.calls.items) c.write_node.new.self.items
     w.ensures.there w.ensures.lives w.ensures.bears
-    (subst (λ (z : State). IsTaker z.nodes b.at (Bound c.args.c place) c.in-Some.way.steps) v (subst (λ z. IsTaker c.self.inside.nodes.items b.at z c.in-Some.way.steps) (c.in-Bound.is ∙ ap (λ z. Bound z place) c.if-cell-c.false) c.in-Some.ensures.taker))
+    (subst (λ (z : State). IsTaker z.nodes b.at (Bound c.args.c place)) v (subst (IsTaker c.self.inside.nodes.items b.at) (c.in-Bound.is ∙ ap (λ z. Bound z place) c.if-cell-c.false) c.in-Some.ensures.taker))
     (sym (ap (λ (z : State). get_or z.nodes place nowhere) v) ∙ sym c.node_at-pruning.ensures ∙ ap (λ z. node z pruning.parent) k.is)
     (record {
       free = w.ensures.free;
       unbound = c.in_ok-unbound.ensures;
       all = r.ensures.nodes;
-      dropped = subst (λ (z : State). IsDropped z.nodes r.side.items c.drop_nodes.new.nodes.items) v c.drop_nodes.ensures.dropped;
-      nodes = c.write_node.ensures.items;
-      len = ap length c.write_node.ensures.items ∙ length-set c.drop_nodes.new.nodes.items place _ ∙ c.drop_nodes.ensures.len ∙ ap (λ (z : State). length z.nodes) v;
+      nodes = c.write_node.ensures.items ∙ ap (λ (z : State). slice_set z.nodes place (node (One Passed k.left) pruning.parent)) v;
+      dropped = c.drop_nodes.ensures.dropped;
+      len = c.drop_nodes.ensures.len ∙ ap length c.write_node.ensures.items ∙ length-set c.self.inside.nodes.items place _ ∙ ap (λ (z : State). length z.nodes) v;
       scopes = ap State.scopes v;
       marks = ap (λ (z : State). length z.marks) v;
       halts = ap State.halts v;
@@ -39,7 +42,10 @@ returns-clause-done c t =
     })
     (c.bind_cell.ensures ∙ ap (λ (z : State). slice_set z.cells c.args.c (Is c.args.v)) v)
     (c.settle.ensures.len ∙ ap (λ (z : State). length z.flags) v)
-    (subst (λ (z : State). Settles c.write_node.new.nodes.items z.flags place (flag z.flags k.left) c.settle.new.flags.items) v
-    (subst (λ z. Settles c.write_node.new.nodes.items c.self.inside.flags.items place z c.settle.new.flags.items) c.flag_at-halted.ensures c.settle.ensures.settles))
+    (subst (λ (z : State). Settles c.drop_nodes.new.nodes.items z.flags place (flag z.flags k.left) c.settle.new.flags.items) v
+    (subst (λ z. Settles c.drop_nodes.new.nodes.items c.self.inside.flags.items place z c.settle.new.flags.items) c.flag_at-halted.ensures c.settle.ensures.settles))
     r.ensures.recorded
     (λ e. ap reverse (r.ensures.not_recorded e))
+
+pub write_node-requires : goal.write_node-requires
+write_node-requires c = can_end c.self.inside.nodes.items c.in-Bound.at c.in-Two.left _ (ap Node.parent c.node_at-pruning.ensures)

@@ -1,4 +1,4 @@
-use Rattle.std.proofs.Common.{◌∙◌, ap, subst, map, []}
+use Rattle.std.proofs.Common.{refl, ◌∙◌, ap, subst, map, []}
 use Rattle.std.specs.Prelude.{slice_set, slice_index_or}
 use Rattle.orc_checker.specs.declared.arena.Kind.TheVariants.{Leaf}
 use Rattle.orc_checker.specs.declared.arena.Tip.TheVariants.{Waits}
@@ -10,6 +10,7 @@ use Rattle.orc_checker.specs.Checker.{State}
 use Rattle.orc_checker.specs.Calls.{Rest, NextFound, after_call}
 use Rattle.orc_checker.proofs.Moves.{node}
 use Rattle.orc_checker.proofs.CallEntries.{call-enters}
+use Rattle.orc_checker.proofs.Hints.{can_turn}
 use Rattle.orc_checker.proofs.marked.Marked.call.Goals as goal
 
 pub returns-clause-done : goal.returns-clause-done
@@ -36,3 +37,6 @@ returns-clause-done c =
     (c.time.ensures ∙ ap (λ (z : State). Rest.time z.rest) v)
     (c.in_ok-add.ensures.added ∙ (λ j. after_call (State.rest (v j)) called (c.is_scripted.ensures j) c.args.site c.args.args.now))
     c.in_ok-spot.ensures.free
+
+pub write_node-requires : goal.write_node-requires
+write_node-requires c = can_turn c.args.self.now.nodes _ _ _ _ _ (ap State.nodes c.self.view_is) c.in_ok-spot.ensures.there (λ v. refl) refl

@@ -11,6 +11,7 @@ use Rattle.orc_checker.specs.Checker.{State, context}
 use Rattle.orc_checker.proofs.Moves.{node}
 use Rattle.orc_checker.proofs.Answering.{one_more}
 use Rattle.orc_checker.proofs.Defining.{def-enters}
+use Rattle.orc_checker.proofs.Hints.{can_turn}
 use Rattle.orc_checker.proofs.marked.Marked.def.Goals as goal
 
 pub returns-clause-done : goal.returns-clause-done
@@ -34,7 +35,7 @@ returns-clause-done c = λ table cancels p reached.
     (subst (λ z. Adds c.self.inside.cells.items c.self.inside.scopes.items t.scope z c.operands-operands.result.now more n) c.deref.ensures.value c.in_ok-added.ensures)))
     (c.write_node.ensures.items ∙ ap (λ (z : State). slice_set z.nodes t.at (node (Leaf (Token c.args.a d.body n)) t.parent)) v)
     (c.settle.ensures.len ∙ ap (λ (z : State). length z.flags) v)
-    (subst (λ (z : State). Settles c.write_node.new.nodes.items z.flags t.at (halt_flag s.halts d.body) c.settle.new.flags.items) v (subst (λ b. Settles c.write_node.new.nodes.items c.self.inside.flags.items t.at b c.settle.new.flags.items) halted c.settle.ensures.settles))
+    (subst (λ (z : State). Settles c.write_node.new.self.items z.flags t.at (halt_flag s.halts d.body) c.settle.new.flags.items) v (subst (λ b. Settles c.write_node.new.self.items c.self.inside.flags.items t.at b c.settle.new.flags.items) halted c.settle.ensures.settles))
     (c.in_ok-extend_scopes.ensures.items ∙ ap (λ z. z ++ more) (ap State.scopes v))
     (ap State.cells v)
     (ap State.halts v)
@@ -42,3 +43,6 @@ returns-clause-done c = λ table cancels p reached.
     (ap State.rest v)
     c.in_ok-spot.ensures.free
     p
+
+pub write_node-requires : goal.write_node-requires
+write_node-requires c = can_turn c.args.self.now.nodes _ _ _ _ _ (ap State.nodes c.self.view_is) c.in_ok-spot.ensures.there (λ v. refl) refl

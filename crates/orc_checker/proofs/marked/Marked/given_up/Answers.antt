@@ -1,5 +1,5 @@
 use Rattle.orc_checker.specs.Settling.{Settles}
-use Rattle.std.proofs.Common.{◌∙◌, ap, length, subst, true}
+use Rattle.std.proofs.Common.{refl, ◌∙◌, ap, length, subst, true}
 use Rattle.std.specs.Prelude.{slice_set}
 use Rattle.orc_checker.specs.declared.arena.Kind.TheVariants.{Leaf}
 use Rattle.orc_checker.specs.declared.arena.Tip.TheVariants.{Ended}
@@ -7,6 +7,7 @@ use Rattle.orc_checker.specs.Checker.{State}
 use Rattle.orc_checker.specs.Calls.{Rest}
 use Rattle.orc_checker.proofs.Moves.{node}
 use Rattle.orc_checker.proofs.CallEntries.{halt-enters, due_at}
+use Rattle.orc_checker.proofs.Hints.{can_turn}
 use Rattle.orc_checker.proofs.marked.Marked.given_up.Goals as goal
 
 pub returns-clause-done : goal.returns-clause-done
@@ -18,5 +19,8 @@ returns-clause-done c code =
     (due_at t.called _ _ _ (c.time.ensures ∙ ap (λ (z : State). Rest.time z.rest) v) c.in_ok-is_due_now.ensures)
     (c.write_node.ensures.items ∙ ap (λ (z : State). slice_set z.nodes t.at (node (Leaf Ended) t.parent)) v)
     (c.settle.ensures.len ∙ ap (λ (z : State). length z.flags) v)
-    (subst (λ z. Settles c.write_node.new.nodes.items z t.at true c.settle.new.flags.items) (ap State.flags v) c.settle.ensures.settles)
+    (subst (λ z. Settles c.write_node.new.self.items z t.at true c.settle.new.flags.items) (ap State.flags v) c.settle.ensures.settles)
     (record { free = c.in_ok-pending.ensures.free; scopes = ap State.scopes v; cells = ap State.cells v; marks = ap (λ (z : State). length z.marks) v; rest = ap State.rest v; halts = ap State.halts v })
+
+pub write_node-requires : goal.write_node-requires
+write_node-requires c = can_turn c.args.self.now.nodes _ _ _ _ _ (ap State.nodes c.self.view_is) c.in_ok-pending.ensures.there (λ v. refl) refl

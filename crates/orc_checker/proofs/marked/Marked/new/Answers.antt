@@ -27,4 +27,4 @@ returns c =
     let halts = c.in_ok-halts.halts in
     let halted = c.at-halted.result in
     let flags = c.push_within-7.ensures.items ∙ ap (λ z. z ++ halted ∷ []) (c.push_within-6.ensures.items ∙ ap (λ z. z ++ halted ∷ []) c.in_ok-flags.ensures.items) in
-    subst (λ z. Begins l c.args.cancels z (begin (source l))) (sym (λ j. state (nodes j) (c.new-2.ensures.items j) (cells j) (marks j) halts (flags j) (c.new-3.ensures j))) (spells_first l c.args.cancels halts halted c.in_ok-halts.ensures (c.at-halted.ensures ∙ ap (halt_flag halts) c.source-root.ensures))
+    subst (λ z. Begins l c.args.cancels z (begin (source l))) (sym (λ j. state (nodes j) (c.new-3.ensures.items j) (cells j) (marks j) halts (flags j) (c.new-4.ensures j))) (spells_first l c.args.cancels halts halted c.in_ok-halts.ensures (c.at-halted.ensures ∙ ap (halt_flag halts) c.source-root.ensures))

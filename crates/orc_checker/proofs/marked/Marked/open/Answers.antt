@@ -1,4 +1,4 @@
-use Rattle.std.proofs.Common.{◌≡◌, ◌∷◌, ◌++◌, [], ap, ◌∙◌, length, suc, subst, arith, length-append}
+use Rattle.std.proofs.Common.{refl, ◌≡◌, ◌∷◌, ◌++◌, [], ap, ◌∙◌, length, suc, subst, arith, length-append}
 use Rattle.std.specs.Prelude.{◌&&◌}
 use Rattle.orc_rules.specs.Nodes.{code, unfold_node}
 use Rattle.orc_checker.specs.declared.arena.Bound.TheVariants.{Cell}
@@ -10,6 +10,7 @@ use Rattle.orc_checker.specs.Settling.{Settles}
 use Rattle.orc_checker.proofs.Moves.{node}
 use Rattle.orc_checker.proofs.Opening.{open-enters}
 use Rattle.orc_checker.proofs.Answering.{set_two, two_more}
+use Rattle.orc_checker.proofs.Hints.{can_turn}
 use Rattle.orc_checker.proofs.marked.Marked.open.Goals as goal
 
 pub returns-clause-done : goal.returns-clause-done
@@ -28,18 +29,21 @@ returns-clause-done c =
     let is_left : c.at-left.result ≡ left = c.at-left.ensures ∙ ap (λ (z : State). halt_flag z.halts k.f) v in
     let is_right : c.at-right.result ≡ right = c.at-right.ensures ∙ ap (λ (z : State). halt_flag z.halts k.g) v in
     let flags : c.push_within-8.new.items.items ≡ (s.flags ++ left ∷ []) ++ right ∷ [] = c.push_within-8.ensures.items ∙ (λ j. (c.push_within-7.ensures.items ∙ (λ j. (c.reserve.ensures.flags ∙ ap State.flags v) j ++ is_left j ∷ [])) j ++ is_right j ∷ []) in
-    open-enters terms s _ t.at t.parent c.args.s t.node t.scope c.in_ok-spot.ensures.there c.size-n.result c.args.c c.args.a c.args.b k.f k.x k.g
+    open-enters terms s _ t.at t.parent c.args.s t.node t.scope c.in_ok-spot.ensures.there c.len-n.result c.args.c c.args.a c.args.b k.f k.x k.g
     (c.node.ensures.term ∙ ap (unfold_node terms c.args.program.now.lists) k.is)
-    (c.size-n.ensures ∙ ap length (c.reserve.ensures.nodes ∙ ap State.nodes v))
+    (c.len-n.ensures.count ∙ ap length (c.reserve.ensures.nodes ∙ ap State.nodes v))
     c.in_ok-next_cell.ensures
     next
     b_is
-    (set_two s.nodes _ _ _ t.at _ _ _ _ _ (c.reserve.ensures.nodes ∙ ap State.nodes v) c.push_within-3.ensures.items c.push_within-4.ensures.items (c.token_node.ensures ∙ ap (λ z. node (Leaf (Token c.args.a k.f z)) t.at) inner) c.token_node-2.ensures)
+    (set_two s.nodes _ _ _ t.at _ _ _ _ _ (c.reserve.ensures.nodes ∙ ap State.nodes v) (c.push_within-3.ensures.items ∙ ap (λ z. z ++ c.token_node.result ∷ []) c.write_node.ensures.items) c.push_within-4.ensures.items (c.token_node.ensures ∙ ap (λ z. node (Leaf (Token c.args.a k.f z)) t.at) inner) c.token_node-2.ensures)
     scopes
     (c.push_within-2.ensures.items ∙ ap (λ z. z ++ Cell c.args.c ∷ []) (c.reserve_cell.ensures.cells ∙ ap State.cells v))
     (ap State.halts v)
     (c.settle.ensures.len ∙ ap length flags)
-    (subst (λ z. Settles c.push_within-4.new.items.items z t.at (left && right) c.settle.new.flags.items) flags (subst (λ z. Settles c.push_within-4.new.items.items c.push_within-8.new.items.items t.at z c.settle.new.flags.items) (c.both.ensures ∙ (λ j. is_left j && is_right j)) c.settle.ensures.settles))
+    (subst (λ z. Settles c.push_within-4.new.self.items z t.at (left && right) c.settle.new.flags.items) flags (subst (λ z. Settles c.push_within-4.new.self.items c.push_within-8.new.items.items t.at z c.settle.new.flags.items) (c.both.ensures ∙ (λ j. is_left j && is_right j)) c.settle.ensures.settles))
     (two_more s.marks _ _ _ _ _ c.args.a c.args.b (c.reserve.ensures.marks ∙ ap State.marks v) c.push_within-5.ensures.items c.push_within-6.ensures.items next b_is)
     (ap State.rest v)
     c.in_ok-spot.ensures.free
+
+pub write_node-requires : goal.write_node-requires
+write_node-requires c = can_turn c.args.self.now.nodes _ _ _ _ _ (c.reserve.ensures.nodes ∙ ap State.nodes c.self.view_is) c.in_ok-spot.ensures.there (λ v. refl) refl

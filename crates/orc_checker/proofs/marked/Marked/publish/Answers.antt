@@ -8,6 +8,7 @@ use Rattle.orc_checker.specs.Checker.{State}
 use Rattle.orc_checker.specs.Settling.{Settles}
 use Rattle.orc_checker.proofs.Moves.{node}
 use Rattle.orc_checker.proofs.Publishing.{publish-enters}
+use Rattle.orc_checker.proofs.Hints.{can_publish}
 use Rattle.orc_checker.proofs.marked.Marked.publish.Goals as goal
 
 pub returns-clause-done : goal.returns-clause-done
@@ -16,10 +17,13 @@ returns-clause-done c =
     let t = c.in_ok-bearer.bearer in
     let v = c.self.view_is in
     let s = c.args.self.now in
-    publish-enters terms s _ t.at t.parent c.args.s c.in-Some.way.steps t.tip c.args.v c.in_ok-bearer.ensures.there c.in_ok-bearer.ensures.lives c.in_ok-bearer.ensures.bears
-    (subst (λ z. IsTaker s.nodes t.at z c.in-Some.way.steps) c.in-Whole.is (subst (λ (z : State). IsTaker z.nodes t.at c.in-Some.way.taker c.in-Some.way.steps) v c.in-Some.ensures.taker))
-    (subst (λ z. Rises z t.at c.in-Some.way.steps c.rise.new.nodes.items) (c.write_node.ensures.items ∙ ap (λ (z : State). slice_set z.nodes t.at (node (Leaf Ended) t.parent)) v) c.rise.ensures.rises)
+    publish-enters terms s _ t.at t.parent c.args.s t.tip c.args.v c.in_ok-bearer.ensures.there c.in_ok-bearer.ensures.lives c.in_ok-bearer.ensures.bears
+    (subst (IsTaker s.nodes t.at) c.in-Whole.is (subst (λ (z : State). IsTaker z.nodes t.at c.in-Some.taker) v c.in-Some.ensures.taker))
+    (subst (λ z. Rises z t.at c.rise.new.nodes.items) (c.write_node.ensures.items ∙ ap (λ (z : State). slice_set z.nodes t.at (node (Leaf Ended) t.parent)) v) c.rise.ensures.rises)
     (c.rise.ensures.len ∙ ap length c.write_node.ensures.items ∙ length-set c.self.inside.nodes.items t.at (node (Leaf Ended) t.parent) ∙ ap (λ (z : State). length z.nodes) v)
     (c.settle.ensures.len ∙ ap (λ (z : State). length z.flags) v)
     (subst (λ z. Settles c.rise.new.nodes.items z t.at true c.settle.new.flags.items) (ap State.flags v) c.settle.ensures.settles)
     (record { free = c.in_ok-bearer.ensures.free; scopes = ap State.scopes v; cells = ap State.cells v; marks = ap (λ (z : State). length z.marks) v; rest = ap State.rest v; halts = ap State.halts v })
+
+pub write_node-requires : goal.write_node-requires
+write_node-requires c = can_publish c.args.self.now.nodes _ _ _ c.args.s _ _ (ap State.nodes c.self.view_is) c.in_ok-bearer.ensures.there c.in_ok-bearer.ensures.carries

@@ -1,4 +1,4 @@
-use Rattle.std.proofs.Common.{◌≡◌, ◌+◌, ◌∷◌, ◌++◌, [], ap, sym, ◌∙◌, subst, length, get_or, length-append, length-set, true, false}
+use Rattle.std.proofs.Common.{◌≡◌, ◌+◌, ◌∷◌, ◌++◌, [], ap, sym, ◌∙◌, subst, length, get_or, length-append, length-set, true, false, arith, rules}
 use Rattle.std.specs.Prelude.{slice_set}
 use Rattle.orc_checker.specs.declared.arena.Node.{Node}
 use Rattle.orc_checker.specs.declared.arena.Scope.{Scope}
@@ -14,6 +14,7 @@ use Rattle.orc_checker.specs.Settling.{Settles}
 use Rattle.orc_checker.proofs.Moves.{node}
 use Rattle.orc_checker.proofs.Answering.{one_more}
 use Rattle.orc_checker.proofs.Sending.{send-enters}
+use Rattle.orc_checker.proofs.Hints.{can_publish, one_in}
 use Rattle.orc_checker.proofs.marked.Marked.send.Goals as goal
 
 pub returns-clause-done : goal.returns-clause-done
@@ -22,18 +23,17 @@ returns-clause-done c =
     let t = c.in_ok-bearer.bearer in
     let v = c.self.view_is in
     let s = c.args.self.now in
-    let w = c.in-Some.way in
     let f = c.in-Feeds in
     let scope : Scope = record { name = f.x; bound = Is c.args.v; outer = f.outer } in
     let scopes = c.push_within.ensures.items ∙ ap (λ z. z ++ scope ∷ []) (c.try_reserve.ensures.items ∙ ap State.scopes v) in
     let count : c.scope_count.result ≡ length s.scopes + 1 = c.scope_count.ensures ∙ ap length scopes ∙ length-append s.scopes (scope ∷ []) in
     let flags : c.push_within-4.new.items.items ≡ (s.flags ++ false ∷ []) ++ halt_flag s.halts f.g ∷ [] =
     c.push_within-4.ensures.items ∙ (λ j. (c.push_within-3.ensures.items ∙ (λ j. (c.reserve.ensures.flags ∙ ap State.flags v) j ++ false ∷ [])) j ++ (c.at.ensures ∙ ap (λ (z : State). halt_flag z.halts f.g) v) j ∷ []) in
-    send-enters terms s _ t.at t.parent c.args.s w.steps c.in-Fed.at f.x f.g f.outer c.in-One.field-1 c.args.a t.tip c.args.v c.rise.new.nodes.items
+    send-enters terms s _ t.at t.parent c.args.s c.in-Fed.at f.x f.g f.outer c.in-One.field-1 c.args.a t.tip c.args.v c.rise.new.nodes.items
     c.in_ok-bearer.ensures.there c.in_ok-bearer.ensures.lives c.in_ok-bearer.ensures.bears
-    (subst (λ z. IsTaker s.nodes t.at z w.steps) c.in-Fed.is (subst (λ (z : State). IsTaker z.nodes t.at w.taker w.steps) v c.in-Some.ensures.taker))
+    (subst (IsTaker s.nodes t.at) c.in-Fed.is (subst (λ (z : State). IsTaker z.nodes t.at c.in-Some.taker) v c.in-Some.ensures.taker))
     (sym (ap (λ (z : State). Node.kind (get_or z.nodes c.in-Fed.at nowhere)) v) ∙ sym (ap Node.kind c.node_at.ensures) ∙ c.in-One.is ∙ ap (λ z. One z c.in-One.field-1) f.is)
-    (subst (λ z. Rises z t.at w.steps c.rise.new.nodes.items) (c.write_node.ensures.items ∙ ap (λ z. slice_set z t.at (node (Leaf Ended) t.parent)) (c.reserve.ensures.nodes ∙ ap State.nodes v)) c.rise.ensures.rises)
+    (subst (λ z. Rises z t.at c.rise.new.nodes.items) (c.write_node.ensures.items ∙ ap (λ z. slice_set z t.at (node (Leaf Ended) t.parent)) (c.reserve.ensures.nodes ∙ ap State.nodes v)) c.rise.ensures.rises)
     (record {
       free = c.in_ok-bearer.ensures.free;
       grafts = subst (λ z. Grafts c.rise.new.nodes.items c.in-Fed.at (Token c.args.a f.g z) c.graft.new.nodes.items) count c.graft.ensures.grafts;
@@ -48,3 +48,12 @@ returns-clause-done c =
       flags_len = c.settle.ensures.len ∙ ap length flags;
       settles = subst (λ z. Settles c.graft.new.nodes.items z t.at true c.settle.new.flags.items) flags c.settle.ensures.settles;
     })
+
+pub write_node-requires : goal.write_node-requires
+write_node-requires c = can_publish c.args.self.now.nodes _ _ _ c.args.s _ _ (c.reserve.ensures.nodes ∙ ap State.nodes c.self.view_is) c.in_ok-bearer.ensures.there c.in_ok-bearer.ensures.carries
+
+pub graft-requires : goal.graft-requires
+graft-requires c =
+    let t = c.in_ok-bearer.bearer in
+    let len = c.rise.ensures.len ∙ ap length c.write_node.ensures.items ∙ length-set c.reserve.new.nodes.items t.at (node (Leaf Ended) t.parent) ∙ ap length c.reserve.ensures.nodes in
+    record { there = omega (arith, len, one_in c.self.inside.nodes.items c.in-Fed.at c.in-One.single c.in-One.field-1 (sym (ap Node.kind c.node_at.ensures) ∙ c.in-One.is)); room = search rules }

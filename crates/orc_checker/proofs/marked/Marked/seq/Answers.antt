@@ -1,9 +1,10 @@
-use Rattle.std.proofs.Common.{ap, ◌∙◌, ◌++◌, ◌∷◌, [], length}
+use Rattle.std.proofs.Common.{refl, ap, ◌∙◌, ◌++◌, ◌∷◌, [], length}
 use Rattle.orc_rules.specs.Nodes.{code, unfold_node}
 use Rattle.orc_checker.specs.Checker.{State}
 use Rattle.orc_checker.specs.Halting.{halt_flag}
 use Rattle.orc_checker.proofs.Moves.{seq-enters}
 use Rattle.orc_checker.proofs.Answering.{set_one, one_more}
+use Rattle.orc_checker.proofs.Hints.{can_turn}
 use Rattle.orc_checker.proofs.marked.Marked.seq.Goals as goal
 
 pub returns-clause-done : goal.returns-clause-done
@@ -13,10 +14,13 @@ returns-clause-done c =
     let v = c.self.view_is in
     let k = c.in-Seq in
     let next = c.in_ok-next_mark.ensures in
-    seq-enters terms c.args.self.now _ t.at t.parent c.args.s t.node t.scope c.in_ok-spot.ensures.there c.size-n.result c.args.a k.f k.x k.g
+    seq-enters terms c.args.self.now _ t.at t.parent c.args.s t.node t.scope c.in_ok-spot.ensures.there c.len-n.result c.args.a k.f k.x k.g
     (c.node.ensures.term ∙ ap (unfold_node terms c.args.program.now.lists) k.is)
-    (c.size-n.ensures ∙ ap length (c.reserve.ensures.nodes ∙ ap State.nodes v))
+    (c.len-n.ensures.count ∙ ap length (c.reserve.ensures.nodes ∙ ap State.nodes v))
     next
-    (set_one c.args.self.now.nodes _ _ t.at _ _ _ (c.reserve.ensures.nodes ∙ ap State.nodes v) c.push_within.ensures.items c.token_node.ensures)
+    (set_one c.args.self.now.nodes _ _ t.at _ _ _ (c.reserve.ensures.nodes ∙ ap State.nodes v) (c.push_within.ensures.items ∙ ap (λ z. z ++ c.token_node.result ∷ []) c.write_node.ensures.items) c.token_node.ensures)
     (c.push_within-3.ensures.items ∙ (λ j. (c.reserve.ensures.flags ∙ ap State.flags v) j ++ (c.at.ensures ∙ ap (λ (z : State). halt_flag z.halts k.f) v) j ∷ []))
     (record { free = c.in_ok-spot.ensures.free; scopes = ap State.scopes v; cells = ap State.cells v; marks = one_more c.args.self.now.marks _ _ _ c.args.a (c.reserve.ensures.marks ∙ ap State.marks v) c.push_within-2.ensures.items next; rest = ap State.rest v; halts = ap State.halts v })
+
+pub write_node-requires : goal.write_node-requires
+write_node-requires c = can_turn c.args.self.now.nodes _ _ _ _ _ (c.reserve.ensures.nodes ∙ ap State.nodes c.self.view_is) c.in_ok-spot.ensures.there (λ v. refl) refl

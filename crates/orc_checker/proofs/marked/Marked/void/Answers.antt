@@ -1,4 +1,4 @@
-use Rattle.std.proofs.Common.{ap, ◌∙◌, length, subst, true}
+use Rattle.std.proofs.Common.{refl, ap, ◌∙◌, length, subst, true}
 use Rattle.std.specs.Prelude.{slice_set}
 use Rattle.orc_rules.specs.Nodes.{code}
 use Rattle.orc_checker.specs.declared.arena.Kind.TheVariants.{Leaf}
@@ -7,6 +7,7 @@ use Rattle.orc_checker.specs.Settling.{Settles}
 use Rattle.orc_checker.specs.Checker.{State}
 use Rattle.orc_checker.proofs.Moves.{node}
 use Rattle.orc_checker.proofs.Voiding.{void-enters}
+use Rattle.orc_checker.proofs.Hints.{can_turn}
 use Rattle.orc_checker.proofs.marked.Marked.void.Goals as goal
 
 pub returns-clause-done : goal.returns-clause-done
@@ -19,5 +20,8 @@ returns-clause-done c =
     (c.on_void.ensures.running c.if-not-on_void.false)
     (c.write_node.ensures.items ∙ ap (λ (z : State). slice_set z.nodes t.at (node (Leaf Ended) t.parent)) v)
     (c.settle.ensures.len ∙ ap (λ (z : State). length z.flags) v)
-    (subst (λ (z : State). Settles c.write_node.new.nodes.items z.flags t.at true c.settle.new.flags.items) v c.settle.ensures.settles)
+    (subst (λ (z : State). Settles c.write_node.new.self.items z.flags t.at true c.settle.new.flags.items) v c.settle.ensures.settles)
     (record { free = c.in_ok-spot.ensures.free; scopes = ap State.scopes v; cells = ap State.cells v; marks = ap (λ (z : State). length z.marks) v; rest = ap State.rest v; halts = ap State.halts v })
+
+pub write_node-requires : goal.write_node-requires
+write_node-requires c = can_turn c.args.self.now.nodes _ _ _ _ _ (ap State.nodes c.self.view_is) c.in_ok-spot.ensures.there (λ v. refl) refl

@@ -1,0 +1,268 @@
+// The nodes of a marked term by their numbers.
+
+ghost use Rattle.std.specs.Prelude.{◌≡◌, ◌∷◌, ◌++◌, [], ◌+◌, ◌≤◌, ◌<◌, ◌^◌, List, length, slice_get, slice_set, slice_index_or, vec_len, vec_capacity, IfOk};
+ghost use Rattle.orc_checker.specs.Grafting.{relink};
+ghost use Rattle.orc_checker.specs.Hints.{lets, lifted, restless, AreListed, IsAbove, IsHintBelow, IsBeside, CanBecome};
+ghost use Rattle.orc_checker.specs.Rising.{nowhere};
+
+use crate::arena::{Double, Kind, Node, Single, Tip};
+use crate::room::push_within;
+use std::alloc::{AllocError, Global};
+use std::marker::Model;
+
+/// The nodes, each with a hint: itself, or a node above it to which all on the way let through what it publishes, and stay as they are.
+/// A walk upward goes from hint to hint, so that what it costs doesn't grow with the number of `|` on its way.
+/// What asks whether something can move, or is due, goes over the list of restless nodes, so that what it costs doesn't grow with what is over.
+#[derive(Drop)]
+pub(crate) struct Nodes {
+    items: Vec<Node>,
+    hints: Vec<usize>,
+    /// The numbers of all nodes that can move or be due by themselves, now or later, and of some that can't any more.
+    restless: Vec<usize>,
+}
+
+impl Model for Nodes {
+    ghost use Rattle.std.specs.Prelude.{◌-◌, min, vec_len, vec_capacity};
+    ghost use Rattle.orc_checker.specs.Hints.{Stock, AreHints, AreListed};
+
+    ghost Value = { Stock };
+
+    ghost view = { λ n. record { items = n.items.items; room = min (vec_capacity n.items - vec_len n.items) (min (vec_capacity n.hints - vec_len n.hints) (vec_capacity n.restless - vec_len n.restless)) } };
+
+    ghost invariant = { λ n. AreHints n.items.items n.hints.items × AreListed n.items.items n.restless.items };
+}
+
+// The node of that number, one that is gone where there is none.
+fn item(items: &Vec<Node>, i: usize) -> Node
+    ensures { result ≡ slice_index_or items.now.items i nowhere }
+{
+    match items.get(i) {
+        Some(node) => *node,
+        None => Node {
+            kind: Kind::Leaf(Tip::Gone),
+            parent: 0,
+        },
+    }
+}
+
+// Writes a node that is there.
+fn set_item(items: &mut Vec<Node>, i: usize, node: Node)
+    ensures items { items.new.items ≡ slice_set items.old.items i node }
+    ensures len { vec_len items.new ≡ vec_len items.old }
+    ensures capacity { vec_capacity items.new ≡ vec_capacity items.old }
+{
+    if let Some(slot) = items.get_mut(i) {
+        *slot = node;
+    }
+}
+
+// Whether a node lets through what its part publishes, and stays as it is.
+fn lets_through(kind: Kind, part: usize) -> bool
+    ensures { result ≡ lets kind part }
+{
+    match kind {
+        Kind::Leaf(Tip::Gone) => true,
+        Kind::One(Single::Passed, _) => true,
+        Kind::Two(Double::Both, _, _) => true,
+        Kind::Two(Double::Side(_), left, _) => left == part,
+        _ => false,
+    }
+}
+
+// Whether a node can move or be due by itself, now or later.
+fn is_restless(kind: Kind) -> bool
+    ensures { result ≡ restless kind }
+{
+    match kind {
+        Kind::Leaf(Tip::Token(_, _, _)) | Kind::Leaf(Tip::Bears(_, _)) => true,
+        Kind::Leaf(Tip::Waits(_)) => true,
+        Kind::One(Single::Entered(_, _, _), _) => true,
+        Kind::Two(Double::Side(_), _, _) => true,
+        _ => false,
+    }
+}
+
+// Takes those out of a list that can't any more.
+fn keep_restless(items: &Vec<Node>, list: &mut Vec<usize>)
+    ensures { AreListed items.now.items list.old.items → AreListed items.now.items list.new.items }
+{
+    let mut next = 0;
+    while next < list.len() {
+        if is_restless(item(items, list[next]).kind) {
+            next += 1;
+        } else {
+            let _number = list.swap_remove(next);
+        }
+    }
+}
+
+// The hint of that number, the number itself where there is none.
+fn hint_at(hints: &Vec<usize>, i: usize) -> usize
+    ensures { result ≡ slice_index_or hints.now.items i i }
+{
+    match hints.get(i) {
+        Some(hint) => *hint,
+        None => i,
+    }
+}
+
+// The hint of a new node.
+fn hint_below(items: &Vec<Node>, hints: &Vec<usize>, i: usize, parent: usize) -> usize
+    ensures { IsHintBelow items.now.items hints.now.items i parent result }
+{
+    match items.get(parent) {
+        Some(above) if lets_through(above.kind, i) => hint_at(hints, parent),
+        _ => i,
+    }
+}
+
+/// A node whose part `from` is now `to`.
+fn relinked(kind: Kind, from: usize, to: usize) -> Kind
+    ensures { result ≡ relink kind from to }
+{
+    match kind {
+        Kind::Leaf(_) => kind,
+        Kind::One(single, _) => Kind::One(single, to),
+        Kind::Two(double, left, right) => {
+            if left == from {
+                Kind::Two(double, to, right)
+            } else {
+                Kind::Two(double, left, to)
+            }
+        }
+    }
+}
+
+impl Nodes {
+    /// No nodes, with room for two. The error is refused memory.
+    pub(crate) fn new(alloc: Global) -> Result<Nodes, AllocError>
+        ensures items { IfOk result (λ n. n.items ≡ []) }
+        ensures room { IfOk result (λ n. 2 ≤ n.room) }
+    {
+        let items = Vec::with_capacity(alloc, 2)?;
+        let hints = Vec::with_capacity(alloc, 2)?;
+        let restless = Vec::with_capacity(alloc, 2)?;
+        Ok(Nodes {
+            items,
+            hints,
+            restless,
+        })
+    }
+
+    /// Where the nodes' memory comes from.
+    pub(crate) fn allocator(&self) -> Global {
+        *self.items.allocator()
+    }
+
+    /// How many nodes there are.
+    pub(crate) fn len(&self) -> usize
+        ensures count { result ≡ length self.now.items }
+        ensures fits { result < 2 ^ 63 }
+    {
+        self.items.len()
+    }
+
+    /// The nodes in the order of their numbers.
+    pub(crate) fn items(&self) -> &[Node]
+        ensures { result.now ≡ self.now.items }
+    {
+        &self.items
+    }
+
+    /// The node of that number.
+    pub(crate) fn get(&self, i: usize) -> Option<Node>
+        ensures { result ≡ slice_get self.now.items i }
+    {
+        match self.items.get(i) {
+            Some(node) => Some(*node),
+            None => None,
+        }
+    }
+
+    /// The node of that number, one that is gone where there is none.
+    pub(crate) fn node_at(&self, i: usize) -> Node
+        ensures { result ≡ slice_index_or self.now.items i nowhere }
+    {
+        item(&self.items, i)
+    }
+
+    /// A node's hint.
+    pub(crate) fn hint(&self, i: usize) -> usize
+        ensures { IsAbove self.now.items i result }
+    {
+        hint_at(&self.hints, i)
+    }
+
+    /// The numbers of all nodes that can move or be due by themselves, now or later, and of some that can't any more.
+    pub(crate) fn restless(&self) -> &Vec<usize>
+        ensures { AreListed self.now.items result.now.items }
+    {
+        &self.restless
+    }
+
+    /// Forgets those that can't any more.
+    pub(crate) fn tidy(&mut self)
+        ensures { self.new.items ≡ self.old.items }
+    {
+        keep_restless(&self.items, &mut self.restless);
+    }
+
+    /// Memory for two more nodes.
+    pub(crate) fn reserve(&mut self) -> Result<(), AllocError>
+        ensures items { self.new.items ≡ self.old.items }
+        ensures room { IfOk result (λ _. 2 ≤ self.new.room) }
+    {
+        self.items.try_reserve(2)?;
+        self.hints.try_reserve(2)?;
+        self.restless.try_reserve(2)?;
+        Ok(())
+    }
+
+    /// Adds a node.
+    pub(crate) fn push_within(&mut self, node: Node)
+        requires { 1 ≤ self.old.room }
+        ensures items { self.new.items ≡ self.old.items ++ node ∷ [] }
+        ensures room { self.old.room ≤ self.new.room + 1 }
+    {
+        let number = self.items.len();
+        let hint = hint_below(&self.items, &self.hints, number, node.parent);
+        push_within(&mut self.items, node);
+        push_within(&mut self.hints, hint);
+        push_within(&mut self.restless, number);
+    }
+
+    /// Writes a node that is there.
+    pub(crate) fn write_node(&mut self, i: usize, node: Node)
+        requires { CanBecome self.old.items i node }
+        ensures items { self.new.items ≡ slice_set self.old.items i node }
+        ensures room { self.new.room ≡ self.old.room }
+    {
+        set_item(&mut self.items, i, node);
+    }
+
+    /// Puts a node, with all that is below it, below the `|` of number `both` in its place.
+    pub(crate) fn lift(&mut self, i: usize, both: usize)
+        requires { IsBeside self.old.items i both }
+        ensures items { self.new.items ≡ lifted self.old.items i both }
+        ensures room { self.new.room ≡ self.old.room }
+    {
+        let node = item(&self.items, i);
+        set_item(
+            &mut self.items,
+            i,
+            Node {
+                kind: node.kind,
+                parent: both,
+            },
+        );
+        let above = item(&self.items, node.parent);
+        set_item(
+            &mut self.items,
+            node.parent,
+            Node {
+                kind: relinked(above.kind, i, both),
+                parent: above.parent,
+            },
+        );
+    }
+}
