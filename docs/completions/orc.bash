@@ -3,7 +3,7 @@ _orc() {
     local word=${COMP_WORDS[COMP_CWORD]} before=${COMP_WORDS[COMP_CWORD-1]}
     COMPREPLY=()
     if [ "$COMP_CWORD" = 1 ]; then
-        mapfile -t COMPREPLY < <(compgen -W 'run print help --help --version -h -V' -- "$word")
+        mapfile -t COMPREPLY < <(compgen -W 'run check print help --help --version -h -V' -- "$word")
         return
     fi
     case $before in
@@ -13,8 +13,9 @@ _orc() {
     local options=
     case ${COMP_WORDS[1]} in
     run) options='--script --limit --journal --help -h' ;;
+    check) options='--script --help -h' ;;
     print) options='--help -h' ;;
-    help) mapfile -t COMPREPLY < <(compgen -W 'run print' -- "$word"); return ;;
+    help) mapfile -t COMPREPLY < <(compgen -W 'run check print' -- "$word"); return ;;
     esac
     case $word in
     -*) mapfile -t COMPREPLY < <(compgen -W "$options" -- "$word") ;;

@@ -1,10 +1,11 @@
 # Completion of orc for fish: put this file into ~/.config/fish/completions.
 complete -c orc -n __fish_use_subcommand -f -a run -d 'Run a program and write what it publishes'
+complete -c orc -n __fish_use_subcommand -f -a check -d 'Check a journal against a program, by the rules'
 complete -c orc -n __fish_use_subcommand -f -a print -d 'Write a program in its plain form'
 complete -c orc -n __fish_use_subcommand -f -a help -d 'Write a help text'
-complete -c orc -n '__fish_seen_subcommand_from help' -f -a 'run print'
+complete -c orc -n '__fish_seen_subcommand_from help' -f -a 'run check print'
 complete -c orc -s h -l help -d 'Write a help text'
 complete -c orc -n __fish_use_subcommand -s V -l version -d 'Write the version'
-complete -c orc -n '__fish_seen_subcommand_from run' -l script -r -F -d 'The answers of the sites'
+complete -c orc -n '__fish_seen_subcommand_from run check' -l script -r -F -d 'The answers of the sites'
 complete -c orc -n '__fish_seen_subcommand_from run' -l limit -x -d 'The greatest number of entries'
 complete -c orc -n '__fish_seen_subcommand_from run' -l journal -d 'Write the journal'

@@ -11,6 +11,8 @@ use Rattle.orc_site.specs.declared.script.ScriptFault.{ScriptFault}
 use Rattle.orc_site.specs.declared.script.ScriptFault.TheVariants as script
 use Rattle.orc_rules.specs.declared.entry.RuleFault.{RuleFault}
 use Rattle.orc_rules.specs.declared.entry.RuleFault.TheVariants as reason
+use Rattle.orc_rules.specs.declared.entry.State.{State}
+use Rattle.orc_rules.specs.declared.entry.State.TheVariants as state
 use Rattle.orc_journal.specs.declared.text.JournalFault.{JournalFault}
 use Rattle.orc_journal.specs.declared.text.JournalFault.TheVariants as journal
 use Rattle.orc_run.specs.declared.faults.RunFault.{RunFault}
@@ -80,6 +82,11 @@ reason_word reason.Time = codes "Time"
 reason_word reason.Halted = codes "Halted"
 reason_word reason.Deep = codes "Deep"
 reason_word reason.Memory = codes "Memory"
+
+abbrev pub state_word : State → List ℕ
+state_word state.Halted = codes "Halted"
+state_word state.Quiet = codes "Quiet"
+state_word state.Running = codes "Running"
 
 -- the line on standard error, without its LF
 abbrev pub line : RunFault → List ℕ

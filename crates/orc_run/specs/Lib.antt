@@ -1,3 +1,5 @@
+pub mod Checked
+pub mod Commands
 pub mod Faults
 pub mod Lines
 pub mod Output

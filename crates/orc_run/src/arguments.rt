@@ -15,6 +15,11 @@ pub enum Job<'a> {
         script: Option<&'a str>,
         options: Options,
     },
+    Check {
+        file: &'a str,
+        journal: &'a str,
+        script: Option<&'a str>,
+    },
     Print {
         file: &'a str,
     },
@@ -53,6 +58,18 @@ fn run_command<'a>(alloc: Global) -> Result<Command<'a>, AllocError> {
         .arg(journal)
 }
 
+fn check_command<'a>(alloc: Global) -> Result<Command<'a>, AllocError> {
+    let journal = Arg::new(alloc, "journal")
+        .value_name("JOURNAL")
+        .required(true)
+        .help("The journal's text");
+    Command::new(alloc, "check")
+        .about("Check a journal against a program, by the rules")
+        .arg(file_argument(alloc))?
+        .arg(journal)?
+        .arg(script_argument(alloc))
+}
+
 fn print_command<'a>(alloc: Global) -> Result<Command<'a>, AllocError> {
     Command::new(alloc, "print")
         .about("Write a program in its plain form")
@@ -66,12 +83,18 @@ fn orc_command<'a>(alloc: Global) -> Result<Command<'a>, AllocError> {
         .subcommand_required(true)
         .arg_required_else_help(true)
         .subcommand(run_command(alloc)?)?
+        .subcommand(check_command(alloc)?)?
         .subcommand(print_command(alloc)?)
 }
 
 fn job_of<'a>(name: &str, given: &ArgMatches<'a>) -> Option<Job<'a>> {
     let file = given.get_str("file")?;
     match name {
+        "check" => Some(Job::Check {
+            file,
+            journal: given.get_str("journal")?,
+            script: given.get_str("script"),
+        }),
         "print" => Some(Job::Print { file }),
         _ => Some(Job::Run {
             file,

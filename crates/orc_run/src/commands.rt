@@ -1,14 +1,49 @@
-ghost use Rattle.std.specs.Prelude.{◌≡◌, ◌<◌};
-ghost use Rattle.orc_run.specs.Status.{read_status_of};
+//! What a command line does, over the files and the streams that it is given.
+
+ghost use Rattle.std.specs.Prelude.{◌≡◌, ◌<◌, IfOk};
+ghost use Rattle.orc_run.specs.Commands.{failure_status};
 
 use crate::arguments::{Job, read_words};
+use crate::faults::RunFault;
 use crate::inputs::{Files, ReadFault};
+use crate::judging::check_text;
 use crate::printing::print_text;
-use crate::running::{Options, run_text};
+use crate::running::run_text;
 use clap::error::ErrorKind;
 use std::alloc::Global;
 use std::convert::AsStr;
+use std::fmt;
 use std::io::Write;
+
+/// Why a job was not done.
+#[derive(Clone, Copy)]
+pub enum Failure<'a> {
+    /// The file at this path could not be read.
+    Unread(&'a str, ReadFault),
+    Fault(RunFault),
+}
+
+impl fmt::Display for Failure<'_> {
+    fn fmt<W: fmt::Write>(&self, f: &mut fmt::Formatter<W>) -> fmt::Result {
+        match *self {
+            Failure::Unread(_, ReadFault::Memory) => write!(f, "orc: memory"),
+            Failure::Unread(path, ReadFault::Failed) => write!(f, "orc: read {path}"),
+            Failure::Fault(fault) => write!(f, "{fault}"),
+        }
+    }
+}
+
+impl Failure<'_> {
+    /// The process's status.
+    fn status(&self) -> u8
+        ensures { result ≡ failure_status self.now }
+    {
+        match self {
+            Failure::Unread(_, fault) => fault.status(),
+            Failure::Fault(fault) => fault.status(),
+        }
+    }
+}
 
 /// Reports a command line that asks for help or for the version, or was refused: the status.
 fn refuse<W: Write, V: Write>(error: &clap::Error, out: &mut W, err: &mut V) -> u8
@@ -31,75 +66,80 @@ fn refuse<W: Write, V: Write>(error: &clap::Error, out: &mut W, err: &mut V) -> 
     }
 }
 
-/// Reports a file that could not be read: the status.
-fn unread<V: Write>(path: &str, fault: ReadFault, err: &mut V) -> u8
-    ensures { result ≡ read_status_of fault }
-{
-    let _ = match fault {
-        ReadFault::Memory => writeln!(err, "orc: memory"),
-        ReadFault::Failed => writeln!(err, "orc: read {path}"),
-    };
-    fault.status()
-}
-
-/// Runs the program in a file: the status.
-fn run_file<F: Files, W: Write, V: Write>(
-    alloc: Global,
-    file: &str,
-    script: Option<&str>,
-    options: &Options,
-    files: &mut F,
-    out: &mut W,
-    err: &mut V,
-) -> u8
-    ensures { result < 8 }
-{
-    let source = match files.read(file) {
-        Ok(source) => source,
-        Err(fault) => return unread(file, fault, err),
-    };
-    let script = match script {
-        None => Vec::new(alloc),
-        Some(path) => match files.read(path) {
-            Ok(script) => script,
-            Err(fault) => return unread(path, fault, err),
-        },
-    };
-    match run_text(alloc, source.as_slice(), script.as_slice(), options, out) {
-        Ok(summary) => summary.end.status(),
-        Err(fault) => {
-            let _ = writeln!(err, "{fault}");
-            fault.status()
-        }
+fn read<'a, F: Files>(path: &'a str, files: &mut F) -> Result<Vec<u8>, Failure<'a>> {
+    match files.read(path) {
+        Ok(bytes) => Ok(bytes),
+        Err(fault) => Err(Failure::Unread(path, fault)),
     }
 }
 
-/// Prints the program in a file: the status.
-fn print_file<F: Files, W: Write, V: Write>(
+// The bytes of a script, none where there is no script.
+fn read_script<'a, F: Files>(
     alloc: Global,
-    file: &str,
+    path: Option<&'a str>,
+    files: &mut F,
+) -> Result<Vec<u8>, Failure<'a>> {
+    match path {
+        Some(path) => read(path, files),
+        None => Ok(Vec::new(alloc)),
+    }
+}
+
+/// Does what a command line asks for: the status.
+fn do_job<'a, F: Files, W: Write>(
+    alloc: Global,
+    job: Job<'a>,
     files: &mut F,
     out: &mut W,
-    err: &mut V,
-) -> u8
-    ensures { result < 8 }
+) -> Result<u8, Failure<'a>>
+    ensures { IfOk result (λ status. status < 8) }
 {
-    let source = match files.read(file) {
-        Ok(source) => source,
-        Err(fault) => return unread(file, fault, err),
-    };
-    match print_text(alloc, source.as_slice(), out) {
-        Ok(()) => 0,
-        Err(fault) => {
-            let _ = writeln!(err, "{fault}");
-            fault.status()
+    match job {
+        Job::Run {
+            file,
+            script,
+            options,
+        } => {
+            let source = read(file, files)?;
+            let script = read_script(alloc, script, files)?;
+            match run_text(alloc, source.as_slice(), script.as_slice(), &options, out) {
+                Ok(summary) => Ok(summary.end.status()),
+                Err(fault) => Err(Failure::Fault(fault)),
+            }
+        }
+        Job::Check {
+            file,
+            journal,
+            script,
+        } => {
+            let source = read(file, files)?;
+            let journal = read(journal, files)?;
+            let script = read_script(alloc, script, files)?;
+            match check_text(
+                alloc,
+                source.as_slice(),
+                script.as_slice(),
+                journal.as_slice(),
+                out,
+            ) {
+                Ok(()) => Ok(0),
+                Err(fault) => Err(Failure::Fault(fault)),
+            }
+        }
+        Job::Print { file } => {
+            let source = read(file, files)?;
+            match print_text(alloc, source.as_slice(), out) {
+                Ok(()) => Ok(0),
+                Err(fault) => Err(Failure::Fault(fault)),
+            }
         }
     }
 }
 
 /// Does one command line, whose first word is the program's name, and gives the process's status.
 ///
-/// Standard output is `out`, standard error `err`; what standard error doesn't take changes no status.
+/// FILE, JOURNAL and the script are read in this order, before anything else. Standard output is `out`, standard error `err`; what
+/// standard error doesn't take changes no status.
 pub fn command<S, F, W, V>(
     alloc: Global,
     words: &[S],
@@ -114,18 +154,16 @@ where
     V: Write,
     ensures { result < 8 }
 {
-    match read_words(alloc, words) {
-        Err(error) => refuse(&error, out, err),
-        Ok(None) => 2,
-        Ok(
-            Some(
-                Job::Run {
-                    file,
-                    script,
-                    options,
-                },
-            ),
-        ) => run_file(alloc, file, script, &options, files, out, err),
-        Ok(Some(Job::Print { file })) => print_file(alloc, file, files, out, err),
+    let job = match read_words(alloc, words) {
+        Err(error) => return refuse(&error, out, err),
+        Ok(None) => return 2,
+        Ok(Some(job)) => job,
+    };
+    match do_job(alloc, job, files, out) {
+        Ok(status) => status,
+        Err(failure) => {
+            let _ = writeln!(err, "{failure}");
+            failure.status()
+        }
     }
 }

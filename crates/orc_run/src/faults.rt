@@ -1,12 +1,12 @@
 //! Why a program is not run, and the line and the status of each cause.
 
 ghost use Rattle.std.specs.Prelude.{◌≡◌, Some};
-ghost use Rattle.orc_run.specs.Faults.{syntax_line, what_word, scope_line, journal_line, reason_word, line, status};
+ghost use Rattle.orc_run.specs.Faults.{syntax_line, what_word, scope_line, journal_line, reason_word, state_word, line, status};
 
 use crate::output::WriteFault;
 use orc_checker::replay::CheckFault;
 use orc_journal::JournalFault;
-use orc_rules::entry::RuleFault;
+use orc_rules::entry::{RuleFault, State};
 use orc_scope::{FaultKind, ScopeFault};
 use orc_site::ScriptFault;
 use orc_syntax::{SyntaxFault, What};
@@ -141,6 +141,23 @@ impl fmt::Display for ReasonWord {
             RuleFault::Halted => "Halted",
             RuleFault::Deep => "Deep",
             RuleFault::Memory => "Memory",
+        };
+        write!(f, "{word}")
+    }
+}
+
+/// Where a journal has brought a run.
+#[derive(Clone, Copy)]
+pub struct StateWord(pub State);
+
+impl fmt::Display for StateWord {
+    ghost output = { λ s. Some (state_word s.0) };
+
+    fn fmt<W: fmt::Write>(&self, f: &mut fmt::Formatter<W>) -> fmt::Result {
+        let word = match self.0 {
+            State::Halted => "Halted",
+            State::Quiet => "Quiet",
+            State::Running => "Running",
         };
         write!(f, "{word}")
     }

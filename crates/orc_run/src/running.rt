@@ -40,8 +40,8 @@ const NO_MEMORY: ScopeFault = ScopeFault {
     span: Span { start: 0, end: 0 },
 };
 
-// The program of a tree.
-fn checked(alloc: Global, ast: &Ast, answers: &Answers) -> Result<Program, ScopeFault>
+/// The program of a tree.
+pub(crate) fn checked(alloc: Global, ast: &Ast, answers: &Answers) -> Result<Program, ScopeFault>
     ensures { (s : Source) → IsAst ast.now s → Checks answers.now.names s result }
 {
     match answers.names(alloc) {

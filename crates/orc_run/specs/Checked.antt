@@ -1,0 +1,45 @@
+-- What the check of a journal's text does.
+use Rattle.std.specs.Prelude.{◌≡◌, ◌≢◌, ℕ, List, ◌++◌, length, codes, decimal}
+use Rattle.std.specs.declared.option.Option.{Option}
+use Rattle.std.specs.Io.KnownBytes.{Keeps, Appends}
+use Rattle.orc_rules.specs.declared.entry.RuleFault.TheVariants as reason
+use Rattle.orc_rules.specs.declared.entry.State.{State}
+use Rattle.orc_rules.specs.Sites.{Table}
+use Rattle.orc_rules.specs.Nodes.{Listing, source}
+use Rattle.orc_rules.specs.Verdict.{IsVerdict, IsFault as Faults}
+use Rattle.orc_site.specs.Script.{Says}
+use Rattle.orc_journal.specs.Texts.{Written, IsJournal, IsFault as IsBadText}
+use Rattle.orc_checker.specs.Checker.{context}
+use Rattle.orc_verdict.specs.Verdicts.{records_cancels}
+use Rattle.orc_run.specs.Faults.{state_word}
+use Rattle.orc_run.specs.Output.{AppendsPrefix}
+use Rattle.orc_run.specs.Running.{IsProgramOf, IsFaultOf}
+use Rattle.orc_run.specs.declared.faults.RunFault.{RunFault}
+use Rattle.orc_run.specs.declared.faults.RunFault.TheVariants as fault
+
+-- the line of a yes: how many entries there are, and where the run stands
+abbrev pub verdict_line : ℕ → State → List ℕ
+verdict_line n state = codes "ok " ++ (decimal n ++ (codes " " ++ (state_word state ++ codes "\n")))
+
+-- the text is that of a journal, which is a run of the source's program with the script's sites that now stands so
+abbrev pub IsJudged : List ℕ → List ℕ → List ℕ → Written → State → Type 0
+IsJudged text script journal j state = (l : Listing) × (t : Table) × Says script t × IsProgramOf text t l × IsJournal t.names journal j
+    × ((now : ℕ) × IsVerdict (context l t (records_cancels j.version)) (source l) j.entries state now)
+
+-- what was written is the line of the verdict
+abbrev pub Judges : List ℕ → List ℕ → List ℕ → Option (List ℕ) → Option (List ℕ) → Type 0
+Judges text script journal old new = (j : Written) × (state : State) × IsJudged text script journal j state × Appends old new (verdict_line (length j.entries) state)
+
+-- at a fault nothing was written, or at a write fault a prefix of that line
+abbrev pub LeavesUnjudged : List ℕ → List ℕ → List ℕ → Option (List ℕ) → Option (List ℕ) → RunFault → Type 0
+LeavesUnjudged text script journal old new (fault.Write w) = (j : Written) × (state : State) × IsJudged text script journal j state × AppendsPrefix old new (verdict_line (length j.entries) state)
+LeavesUnjudged text script journal old new _ = Keeps old new
+
+-- a fault is one of the source, of the script, of the journal's text, or of the journal: its first entry that is refused, with the first reason, refused memory aside
+abbrev pub IsCheckFault : List ℕ → List ℕ → List ℕ → RunFault → Type 0
+IsCheckFault text script journal (fault.Journal f) = (l : Listing) × (t : Table) × Says script t × IsProgramOf text t l × IsBadText t.names journal f
+IsCheckFault text script journal (fault.Check f) = (l : Listing) × (t : Table) × (j : Written) × Says script t × IsProgramOf text t l × IsJournal t.names journal j
+    × (f.why ≢ reason.Memory → Faults (context l t (records_cancels j.version)) (source l) j.entries f.at f.why)
+IsCheckFault text script journal fault.Memory = ⊥
+IsCheckFault text script journal fault.Broken = ⊥
+IsCheckFault text script journal f = IsFaultOf text script f

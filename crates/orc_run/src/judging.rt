@@ -1,0 +1,68 @@
+//! From a journal's text to the verdict on it.
+
+ghost use Rattle.std.specs.Prelude.{◌≡◌, length, IfOk, IfErr, OnOk};
+ghost use Rattle.orc_run.specs.Checked.{verdict_line, Judges, LeavesUnjudged, IsCheckFault};
+
+use crate::faults::{RunFault, StateWord};
+use crate::output::{WriteFault, write_text};
+use crate::running::checked;
+use orc_journal::read_journal;
+use orc_rules::entry::State;
+use orc_site::read_script;
+use orc_verdict::check_journal;
+use std::alloc::{AllocError, Global};
+use std::io::Write;
+
+// The line of a yes. The error is refused memory.
+fn line_of(alloc: Global, entries: usize, state: State) -> Result<Vec<u8>, AllocError>
+    ensures { IfOk result (λ t. t.items ≡ verdict_line entries state) }
+{
+    let word = StateWord(state);
+    let line = format!(in alloc; "ok {entries} {word}\n")?;
+    Ok(line.into_bytes())
+}
+
+/// Checks a journal's text against the program that a source spells, with the built-in sites and those of a script, and writes `ok N STATE`
+/// with the number of entries and where the run stands.
+///
+/// A fault is answered where the source's text, the script, the source's names, the journal's text or one of its entries is at fault, in
+/// this order; and where the output isn't taken whole. Nothing is written then, but at a fault of the output a prefix of the line.
+pub fn check_text<W: Write>(
+    alloc: Global,
+    source: &[u8],
+    script: &[u8],
+    journal: &[u8],
+    out: &mut W,
+) -> Result<(), RunFault>
+    ensures judged { OnOk result (Judges source.now script.now journal.now (W.contents out.old) (W.contents out.new)) }
+    ensures fault { IfErr result (LeavesUnjudged source.now script.now journal.now (W.contents out.old) (W.contents out.new)) }
+    ensures cause { IfErr result (IsCheckFault source.now script.now journal.now) }
+{
+    let ast = match orc_syntax::parse(alloc, source) {
+        Ok(ast) => ast,
+        Err(fault) => return Err(RunFault::Syntax(fault)),
+    };
+    let answers = match read_script(alloc, script) {
+        Ok(answers) => answers,
+        Err(fault) => return Err(RunFault::Script(fault)),
+    };
+    let program = match checked(alloc, &ast, &answers) {
+        Ok(program) => program,
+        Err(fault) => return Err(RunFault::Scope(fault)),
+    };
+    let journal = match read_journal(alloc, journal, &answers) {
+        Ok(journal) => journal,
+        Err(fault) => return Err(RunFault::Journal(fault)),
+    };
+    let verdict = match check_journal(alloc, &program, &answers, &journal) {
+        Ok(verdict) => verdict,
+        Err(fault) => return Err(RunFault::Check(fault)),
+    };
+    let Ok(line) = line_of(alloc, journal.len(), verdict.state) else {
+        return Err(RunFault::Write(WriteFault));
+    };
+    match write_text(out, line.as_slice()) {
+        Ok(()) => Ok(()),
+        Err(fault) => Err(RunFault::Write(fault)),
+    }
+}
