@@ -1,6 +1,6 @@
 //! Files and streams in memory, and a command line over them.
 
-use orc_run::{Files, ReadFault, command};
+use orc_run::{Files, Options, ReadFault, Summary, command, run_text};
 use std::alloc::Global;
 use std::io;
 use std::io::Write;
@@ -134,4 +134,33 @@ pub fn run_row<'a>(alloc: Global, row: &Row<'a>) -> Result<(Done, bool), Fail> {
     }
     let may = listed && done.status == row.status && done.err.as_str() == row.err;
     Ok((done, may))
+}
+
+/// The sources and outcomes of the rows that differ from what they may be.
+pub fn wrong(alloc: Global, rows: &[Row]) -> Result<String, Fail> {
+    let mut wrong = String::new(alloc);
+    for row in rows {
+        let (done, may) = run_row(alloc, row)?;
+        if !may {
+            let line = format!(in alloc; "{:?}: {done:?}\n", row.source)?;
+            wrong.push_str(line.as_str())?;
+        }
+    }
+    Ok(wrong)
+}
+
+/// What a run is told to have done: how it ended, how many entries its journal has, its time, and the text that it wrote.
+pub fn summary(
+    alloc: Global,
+    source: &[u8],
+    script: &[u8],
+    limit: u64,
+) -> Result<(Summary, String), Fail> {
+    let mut out = Vec::new(alloc);
+    let options = Options {
+        limit,
+        journal: false,
+    };
+    let summary = run_text(alloc, source, script, &options, &mut out)?;
+    Ok((summary, String::from_utf8(out)?))
 }

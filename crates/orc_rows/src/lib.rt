@@ -2,12 +2,18 @@
 #![tactic(auto)]
 
 #[cfg(test)]
+mod calculus;
+#[cfg(test)]
 mod command_lines;
 #[cfg(test)]
 mod documents;
 #[cfg(test)]
 mod harness;
 #[cfg(test)]
+mod journals;
+#[cfg(test)]
 mod programs;
 #[cfg(test)]
 mod scope_rows;
+#[cfg(test)]
+mod sources;

@@ -1,21 +1,7 @@
 //! Programs, and all that their runs may do.
 
-use crate::harness::{Row, refused, run_row, runs};
-use std::alloc::Global;
+use crate::harness::{Row, refused, runs, wrong};
 use std::test::Fail;
-
-// The sources and outcomes of the rows that differ from what they may be.
-fn wrong(alloc: Global, rows: &[Row]) -> Result<String, Fail> {
-    let mut wrong = String::new(alloc);
-    for row in rows {
-        let (done, may) = run_row(alloc, row)?;
-        if !may {
-            let line = format!(in alloc; "{:?}: {done:?}\n", row.source)?;
-            wrong.push_str(line.as_str())?;
-        }
-    }
-    Ok(wrong)
-}
 
 #[test]
 fn runs_plain_terms(rt: HostRuntime) -> Result<(), Fail> {
