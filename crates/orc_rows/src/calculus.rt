@@ -191,10 +191,10 @@ fn cuts_a_metronome(rt: HostRuntime) -> Result<(), Fail> {
     let (told, text) = summary(rt.alloc(), source, b"", 50)?;
     assert_eq!(rt; told.end, End::Limit);
     assert_eq!(rt; told.entries, 50);
-    let mut lines = 0;
+    let mut lines = 0_u64;
     for line in text.as_str().lines() {
         assert_eq!(rt; line, "signal");
-        lines += 1;
+        lines = lines.saturating_add(1);
     }
     assert_eq!(rt; told.published, lines);
     Ok(())

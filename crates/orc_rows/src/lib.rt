@@ -17,3 +17,5 @@ mod programs;
 mod scope_rows;
 #[cfg(test)]
 mod sources;
+#[cfg(test)]
+mod syntax_rows;
