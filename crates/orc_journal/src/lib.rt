@@ -4,6 +4,7 @@
 mod journal;
 mod kind;
 mod reading;
+mod rows;
 mod text;
 mod writing;
 
