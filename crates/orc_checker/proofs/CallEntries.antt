@@ -2,7 +2,7 @@
 use Rattle.orc_checker.proofs.Flagging.{reflag_leaf, reflag_leaf_settled}
 use Rattle.orc_rules.specs.Idle.{has_halted}
 use Rattle.orc_checker.specs.Settling.{Settles}
-use Rattle.std.proofs.Common.{◌≡◌, ℕ, suc, List, [], ◌∷◌, ◌++◌, length, map, Some, refl, sym, ap, ◌∙◌, subst, inr, cond, length-set, true}
+use Rattle.std.proofs.Common.{◌≡◌, ℕ, suc, List, [], ◌∷◌, ◌++◌, length, map, Some, refl, sym, ap, ◌∙◌, subst, inr, length-set, true}
 use Rattle.std.specs.Prelude.{slice_set}
 use Rattle.orc_rules.specs.declared.value.Value.{Value}
 use Rattle.orc_rules.specs.declared.value.Answer.{Answer}
@@ -20,30 +20,31 @@ use Rattle.orc_rules.specs.Timed.{Context, CallMade, nth_of, calls_after}
 use Rattle.orc_rules.specs.Journal.{Place, moment}
 use Rattle.orc_checker.specs.Arena.{leaf, at, close, close_param, env_of}
 use Rattle.orc_checker.specs.Names.{AreOrdered}
-use Rattle.orc_checker.specs.Calls.{Rest, Keeps, told, after_call, NextFound, IsCall, DueNow}
+use Rattle.orc_checker.specs.Calls.{Rest, Keeps, told, AddsCall, NextFound, IsCall, DueNow}
 use Rattle.orc_checker.specs.Checker.{State, EntersBy, AreCells}
 use Rattle.orc_checker.proofs.Moves.{node, written, turn, staying, Stays}
 use Rattle.orc_checker.proofs.Scopes.{close-site}
-use Rattle.orc_checker.proofs.CallsMade.{kept_length, map-more, is_due}
+use Rattle.orc_checker.proofs.CallsMade.{kept_length, map-more, counted-more, is_due}
 
 -- what is kept after one more call
-pub keeps_call : (x : Context) (p : Place) (r : Rest) (k m : ℕ) (args : List Value) (cs : List ℕ) (c : Called) → Keeps x p.now p.calls p.to_cancel r → r.to_cancel ≡ [] → k ≡ suc (length r.calls) → NextFound x.sites r m args c.found → c.at ≡ r.time
-    → Keeps x p.now (calls_after (moment p) (calls k m args cs)) [] (after_call r c (is_scripted x.sites m) m args)
-keeps_call x p r k m args cs c keeps free is_k found time =
+pub keeps_call : (x : Context) (p : Place) (r r' : Rest) (k m : ℕ) (args : List Value) (cs : List ℕ) (c : Called) → Keeps x p.now p.calls p.to_cancel r → r.to_cancel ≡ [] → k ≡ suc (length r.calls) → NextFound x.sites r m args c.found → c.at ≡ r.time
+    → AddsCall c (is_scripted x.sites m) m args r r' → Keeps x p.now (calls_after (moment p) (calls k m args cs)) [] r'
+keeps_call x p r r' k m args cs c keeps free is_k found time adds =
     let made : CallMade = record { number = k; site = m; args = args; nth = nth_of m args p.calls; at = p.now } in
-    record {
+    subst (Keeps x p.now (made ∷ p.calls) []) (sym adds.same)
+    (record {
       time = keeps.time;
-      calls_are = map-more told r.calls c ∙ (λ j. keeps.calls_are j ++ (found p.calls keeps.keys_are j, (time ∙ sym keeps.time) j) ∷ []);
-      keys_are = ap (λ z. cond (is_scripted x.sites m) (z ++ (m, args) ∷ []) z) keeps.keys_are;
+      calls_are = map-more told r.calls c ∙ (λ j. keeps.calls_are j ++ (found p.calls keeps.counted j, (time ∙ sym keeps.time) j) ∷ []);
+      counted = counted-more x.sites r.counts r'.counts p.calls made keeps.counted adds.counted;
       numbered = (is_k ∙ ap suc (kept_length x p.now p.calls p.to_cancel r keeps), keeps.numbered);
       due = sym free;
       cancels_are = keeps.cancels_are;
-    }
+    })
 
 pub call-enters : (code : ℕ → Term) (sites : List Site) (s s' : State) (i q m k w f e : ℕ) (ps : List Param) (args : List Value) (c : Called) → at s.nodes q i (Leaf (Token m f e)) → code f ≡ site w ps
     → (AreOrdered s.scopes → values_of (map (close_param (env_of s.cells s.scopes e)) ps) ≡ Some args)
     → s'.nodes ≡ slice_set s.nodes i (node (Leaf (Waits k)) q) → s'.flags ≡ s.flags → s'.halts ≡ s.halts → s'.scopes ≡ s.scopes → s'.cells ≡ s.cells → s'.marks ≡ s.marks → k ≡ suc (length s.rest.calls)
-    → NextFound sites s.rest w args c.found → c.at ≡ s.rest.time → s'.rest ≡ after_call s.rest c (is_scripted sites w) w args → s.rest.to_cancel ≡ [] → EntersBy sites code (entry.Call m k w args) s s'
+    → NextFound sites s.rest w args c.found → c.at ≡ s.rest.time → AddsCall c (is_scripted sites w) w args s.rest s'.rest → s.rest.to_cancel ≡ [] → EntersBy sites code (entry.Call m k w args) s s'
 call-enters code sites s s' i q m k w f e ps args c a is values nodes flags halts scopes cells marks is_k found time rest free x of_sites p sp =
     let env = env_of s.cells s.scopes in
     let b = written s s' i q (Token m f e) (Waits k) a refl refl (staying s s' scopes cells) tt nodes in
@@ -65,8 +66,8 @@ call-enters code sites s s' i q m k w f e ps args c a is values nodes flags halt
         scopes = subst AreOrdered (sym scopes) sp.scopes;
         cells = subst (AreCells p.cells) (sym cells) sp.cells;
         rest =
-            subst (λ z. Keeps x p.now (calls_after (moment p) act) [] z) (sym (rest ∙ ap (λ z. after_call s.rest c (is_scripted z w) w args) (sym of_sites)))
-            (keeps_call x p s.rest k w args t.inside c sp.rest free is_k (subst (λ z. NextFound z s.rest w args c.found) (sym of_sites) found) time);
+            keeps_call x p s.rest s'.rest k w args t.inside c sp.rest free is_k (subst (λ z. NextFound z s.rest w args c.found) (sym of_sites) found) time
+            (subst (λ z. AddsCall c (is_scripted z w) w args s.rest s'.rest) (sym of_sites) rest);
       },
     )
 

@@ -3,14 +3,16 @@ use Rattle.std.proofs.Common.{◌≡◌, ◌<◌, ◌+◌, ◌-◌, ℕ, zero, s
 use Rattle.std.specs.Prelude.{◌&&◌, ◌^◌}
 use Rattle.std.specs.Prelude.{slice_get, option_map}
 use Rattle.std.specs.List.{count_by}
-use Rattle.std.proofs.lemmas.List.Sums.{sum_by-cons, sum_by_push}
+use Rattle.std.specs.Bool.{MatchBool}
+use Rattle.std.proofs.lemmas.List.Sums.{sum_by-cons}
 use Rattle.orc_rules.specs.declared.value.Value.{Value}
 use Rattle.orc_rules.specs.declared.value.Answer.{Answer}
 use Rattle.orc_rules.specs.declared.value.Found.{Found}
 use Rattle.orc_rules.specs.Sites.{Site, built_in, scripted, find, site_answer, is_script, is_scripted, values_eq}
 use Rattle.orc_rules.specs.Timed.{Context, CallMade, nth_of, says_of, IsIn, IsDue}
 use Rattle.orc_checker.specs.declared.rest.Called.{Called}
-use Rattle.orc_checker.specs.Calls.{Rest, told, told_of, keys_of, is_key, AreNumbered, NextFound, IsCall, DueNow, Keeps}
+use Rattle.orc_checker.specs.Calls.{Rest, told, told_of, AreCounted, AreNumbered, NextFound, IsCall, DueNow, Keeps}
+use Rattle.orc_checker.specs.Counting.{nth_in, CountsOne}
 use Rattle.orc_checker.proofs.Lists.{get-more}
 
 -- only a script's answers depend on how many calls there were
@@ -19,25 +21,32 @@ script_counts None args n n' h = refl
 script_counts (Some (built_in b)) args n n' h = refl
 script_counts (Some (scripted ls)) args n n' h = absurd (cc h)
 
-count-append : {X : Type 0} (p : X → Bool) (xs : List X) (y : X) → count_by p (xs ++ y ∷ []) ≡ count_by p xs + cond (p y) 1 0
-count-append p xs y = sum_by_push (λ x. cond (p x) 1 0) xs y
-
 count-cons : {X : Type 0} (p : X → Bool) (x : X) (xs : List X) → count_by p (x ∷ xs) ≡ cond (p x) 1 0 + count_by p xs
 count-cons p x xs = sum_by-cons (λ z. cond (p z) 1 0) x xs
 
--- the keys that are kept count the calls of a site that a script answers
-pub keys_count : (sites : List Site) (m : ℕ) (args : List Value) (calls : List CallMade) → is_scripted sites m ≡ true → count_by (is_key m args) (keys_of sites calls) ≡ count_by (λ c. nat_eq m (CallMade.site c) && values_eq args (CallMade.args c)) calls
-keys_count sites m args [] h = refl
-keys_count sites m args (c ∷ cs) h = go (keys_count sites m args cs h) (is_scripted sites c.site) refl (nat_eq m c.site) refl ∙ sym (count-cons (λ c. nat_eq m (CallMade.site c) && values_eq args (CallMade.args c)) c cs)
+-- the calls that scripts answer are counted after one more call
+pub counted-more : (sites : List Site) (counts counts' : List (List ℕ × ℕ)) (calls : List CallMade) (c : CallMade) → AreCounted sites counts calls → MatchBool (is_scripted sites c.site) (CountsOne c.site c.args counts counts') (counts' ≡ counts) → AreCounted sites counts' (c ∷ calls)
+counted-more sites counts counts' calls c are adds m args h =
+    go (is_scripted sites c.site) refl adds ∙ ap suc (sym (count-cons (λ d. nat_eq m (CallMade.site d) && values_eq args (CallMade.args d)) c calls))
   where
-    go : (count_by (is_key m args) (keys_of sites cs) ≡ count_by (λ c. nat_eq m (CallMade.site c) && values_eq args (CallMade.args c)) cs) → (b : Bool) → is_scripted sites c.site ≡ b → (e : Bool) → nat_eq m c.site ≡ e → count_by (is_key m args) (cond b (keys_of sites cs ++ (c.site, c.args) ∷ []) (keys_of sites cs)) ≡ cond (nat_eq m c.site && values_eq args c.args) 1 0 + count_by (λ c. nat_eq m (CallMade.site c) && values_eq args (CallMade.args c)) cs
-    go same true s e is = omega (arith, count-append (is_key m args) (keys_of sites cs) (c.site, c.args), same)
-    go same false s true is = absurd (cc (sym h ∙ ap (is_scripted sites) (eqb-true m c.site is) ∙ s))
-    go same false s false is = same ∙ (let e : 0 ≡ cond (nat_eq m c.site && values_eq args c.args) 1 0 = sym (ap {B = ℕ} (λ z. cond (z && values_eq args c.args) 1 0) is) in omega (arith, e))
+    before : nth_in counts m args ≡ nth_of m args calls
+    before = are m args h
 
-pub next_found : (sites : List Site) (r : Rest) (m : ℕ) (args : List Value) (n : ℕ) (found : Found) (b : Bool) → is_scripted sites m ≡ b → (b ≡ true → n ≡ suc (count_by (is_key m args) r.keys)) → found ≡ find sites m args n → NextFound sites r m args found
-next_found sites r m args n found true is n_is h calls keys = h ∙ ap (find sites m args) (n_is refl ∙ ap suc (ap (count_by (is_key m args)) keys ∙ keys_count sites m args calls is))
-next_found sites r m args n found false is n_is h calls keys = h ∙ script_counts (slice_get sites m) args n (nth_of m args calls) is
+    counted : (b : Bool) → cond b (suc (nth_in counts m args)) (nth_in counts m args) ≡ suc (cond b 1 0 + count_by (λ d. nat_eq m (CallMade.site d) && values_eq args (CallMade.args d)) calls)
+    counted true = omega (arith, before)
+    counted false = omega (arith, before)
+
+    go : (b : Bool) → is_scripted sites c.site ≡ b → MatchBool b (CountsOne c.site c.args counts counts') (counts' ≡ counts) → nth_in counts' m args ≡ suc (cond (nat_eq m c.site && values_eq args c.args) 1 0 + count_by (λ d. nat_eq m (CallMade.site d) && values_eq args (CallMade.args d)) calls)
+    go true s adds = adds m args ∙ counted (nat_eq m c.site && values_eq args c.args)
+    go false s same = ap (λ z. nth_in z m args) same ∙ other (nat_eq m c.site) refl
+      where
+        other : (e : Bool) → nat_eq m c.site ≡ e → nth_in counts m args ≡ suc (cond (nat_eq m c.site && values_eq args c.args) 1 0 + count_by (λ d. nat_eq m (CallMade.site d) && values_eq args (CallMade.args d)) calls)
+        other true is = absurd (cc (sym h ∙ ap (is_scripted sites) (eqb-true m c.site is) ∙ s))
+        other false is = rw is (omega (arith, before))
+
+pub next_found : (sites : List Site) (r : Rest) (m : ℕ) (args : List Value) (n : ℕ) (found : Found) (b : Bool) → is_scripted sites m ≡ b → (b ≡ true → n ≡ nth_in r.counts m args) → found ≡ find sites m args n → NextFound sites r m args found
+next_found sites r m args n found true is n_is h calls are = h ∙ ap (find sites m args) (n_is refl ∙ are m args is)
+next_found sites r m args n found false is n_is h calls are = h ∙ script_counts (slice_get sites m) args n (nth_of m args calls) is
 
 length-told : (sites : List Site) (calls : List CallMade) → length (told_of sites calls) ≡ length calls
 length-told sites [] = refl

@@ -6,7 +6,7 @@ use Rattle.std.proofs.lemmas.List.{reverse-append}
 use Rattle.orc_rules.specs.declared.entry.Entry.TheVariants as entry
 use Rattle.orc_rules.specs.Term.{Term}
 use Rattle.orc_rules.specs.Marked.{Marked}
-use Rattle.orc_checker.specs.Calls.{Rest, told}
+use Rattle.orc_checker.specs.Calls.{Rest, AreCounted, told}
 use Rattle.orc_checker.specs.Checker.{State, Draws, Enters, AreCells}
 use Rattle.orc_checker.specs.Names.{AreOrdered}
 
@@ -47,6 +47,6 @@ cancel-enters code s s' k nodes scopes cells marks halts flags rest x p sp =
         mark = sp.mark ∙ ap length (sym marks);
         scopes = subst AreOrdered (sym scopes) sp.scopes;
         cells = subst (AreCells p.cells) (sym cells) sp.cells;
-        rest = record { time = kept.time ∙ ap Rest.time rest; calls_are = ap (map told) (sym (ap Rest.calls rest)) ∙ kept.calls_are; keys_are = sym (ap Rest.keys rest) ∙ kept.keys_are; numbered = kept.numbered; due = refl; cancels_are = kept.cancels_are ∙ ap Rest.cancels rest };
+        rest = record { time = kept.time ∙ ap Rest.time rest; calls_are = ap (map told) (sym (ap Rest.calls rest)) ∙ kept.calls_are; counted = subst (λ z. AreCounted x.sites z p.calls) (ap Rest.counts rest) kept.counted; numbered = kept.numbered; due = refl; cancels_are = kept.cancels_are ∙ ap Rest.cancels rest };
       },
     )

@@ -106,7 +106,7 @@ pub record Caught (s s' : State) (j c left right parent : ℕ) (side due : List 
 -- what is kept besides the term, with other cancels due
 pub kept_due : (x : Context) (p : Place) (r r' : Rest) (due : List ℕ) → Keeps x p.now p.calls p.to_cancel r → r' ≡ record r { to_cancel = due } → Keeps x p.now p.calls due r'
 kept_due x p r r' due k is =
-    subst (Keeps x p.now p.calls due) (sym is) (record { time = k.time; calls_are = k.calls_are; keys_are = k.keys_are; numbered = k.numbered; due = refl; cancels_are = k.cancels_are })
+    subst (Keeps x p.now p.calls due) (sym is) (record { time = k.time; calls_are = k.calls_are; counted = k.counted; numbered = k.numbered; due = refl; cancels_are = k.cancels_are })
 
 and_false : (b : Bool) → (b && false) ≡ false
 and_false true = refl

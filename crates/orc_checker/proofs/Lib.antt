@@ -8,6 +8,7 @@ pub mod Catching
 pub mod Change
 pub mod Climbing
 pub mod Closing
+pub mod Counting
 pub mod Defining
 pub mod Dropping
 pub mod DueCalls

@@ -167,6 +167,6 @@ tick-follows x code s s' t source law free still next later is p sp =
             mark = sp.mark;
             scopes = sp.scopes;
             cells = sp.cells;
-            rest = record { time = refl; calls_are = r.calls_are; keys_are = r.keys_are; numbered = r.numbered; due = r.due; cancels_are = r.cancels_are };
+            rest = record { time = refl; calls_are = r.calls_are; counted = r.counted; numbered = r.numbered; due = r.due; cancels_are = r.cancels_are };
           }),
     )

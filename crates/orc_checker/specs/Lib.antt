@@ -2,6 +2,7 @@ pub mod Arena
 pub mod Around
 pub mod Calls
 pub mod Checker
+pub mod Counting
 pub mod Dropping
 pub mod DueTimes
 pub mod Grafting

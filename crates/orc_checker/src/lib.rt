@@ -4,10 +4,12 @@
 pub mod arena;
 mod calling;
 mod cancel;
+pub mod counts;
 pub mod due;
 mod feed;
 mod flags;
 pub mod halts;
+pub mod key;
 mod label;
 pub mod looking;
 pub mod marked;

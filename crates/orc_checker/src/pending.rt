@@ -85,7 +85,7 @@ impl Rest {
 
     /// The time goes on.
     pub(crate) fn set_time(&mut self, time: u64)
-        ensures { self.new ≡ record { calls = self.old.calls; keys = self.old.keys; time = time; to_cancel = self.old.to_cancel; cancels = self.old.cancels } }
+        ensures { self.new ≡ record { calls = self.old.calls; counts = self.old.counts; time = time; to_cancel = self.old.to_cancel; cancels = self.old.cancels } }
     {
         self.time = time;
     }

@@ -1,12 +1,11 @@
 // What of a journal isn't in its term: the time, the calls made, and the cancels due.
 
-ghost use Rattle.std.specs.Prelude.{◌≡◌, ◌∷◌, List, [], map, false, reverse, suc, length, slice_get, IfOk, IfSome, OnOk, OnErr};
-ghost use Rattle.std.specs.List.{count_by};
-ghost use Rattle.orc_checker.specs.Calls.{Rest as Aside, key_of, is_key, after_call, NextFound, IsCall, DueNow};
+ghost use Rattle.std.specs.Prelude.{◌≡◌, ◌∷◌, List, [], false, reverse, length, slice_get, IfOk, IfSome, OnOk, OnErr};
+ghost use Rattle.orc_checker.specs.Calls.{Rest as Aside, AddsCall, NextFound, IsCall, DueNow};
 
+use crate::counts::Counts;
 use crate::room::push_within;
 use orc_rules::answers::Answers;
-use orc_rules::builtin::are_same;
 use orc_rules::entry::RuleFault;
 use orc_rules::value::{Answer, Args, Found};
 use std::alloc::Global;
@@ -20,18 +19,12 @@ pub struct Called {
     pub node: usize,
 }
 
-/// The site and the arguments of a call, where the site's answers depend on how many such calls there were.
-#[derive(Drop)]
-pub struct Key {
-    pub site: u32,
-    pub args: Args,
-}
-
-/// The calls by their numbers, the time, and the calls whose cancel is due, the next one last. Cancels come due where they are recorded.
+/// The calls by their numbers, the counts of those whose site's answers depend on how many such calls there were, the time, and the calls
+/// whose cancel is due, the next one last. Cancels come due where they are recorded.
 #[derive(Drop)]
 pub struct Rest {
     pub(crate) calls: Vec<Called>,
-    pub(crate) keys: Vec<Key>,
+    pub(crate) counts: Counts,
     pub(crate) time: u64,
     pub(crate) to_cancel: Vec<u64>,
     pub(crate) cancels: bool,
@@ -40,34 +33,21 @@ pub struct Rest {
 impl Model for Rest {
     ghost Value = { Aside };
 
-    ghost view = { λ r. record { calls = r.calls.items; keys = map key_of r.keys.items; time = r.time; to_cancel = reverse r.to_cancel.items; cancels = r.cancels } };
+    ghost view = { λ r. record { calls = r.calls.items; counts = r.counts; time = r.time; to_cancel = reverse r.to_cancel.items; cancels = r.cancels } };
 }
 
 impl Rest {
     /// Time 0 and no calls.
     pub(crate) fn new(alloc: Global, cancels: bool) -> Rest
-        ensures { result ≡ record { calls = []; keys = []; time = 0; to_cancel = []; cancels = cancels } }
+        ensures { result ≡ record { calls = []; counts = []; time = 0; to_cancel = []; cancels = cancels } }
     {
         Rest {
             calls: Vec::new(alloc),
-            keys: Vec::new(alloc),
+            counts: Counts::new(alloc),
             time: 0,
             to_cancel: Vec::new(alloc),
             cancels,
         }
-    }
-
-    /// Which call with this site and these arguments the next one is, from 1.
-    fn nth(&self, site: u32, args: &Args) -> u64
-        ensures { result ≡ suc (count_by (is_key site args.now) self.now.keys) }
-    {
-        let mut nth = 1;
-        for key in &self.keys {
-            if key.site == site && are_same(args.as_slice(), key.args.as_slice()) {
-                nth += 1;
-            }
-        }
-        nth
     }
 
     /// What the table says of the next call of a site with these arguments.
@@ -75,13 +55,13 @@ impl Rest {
         ensures { NextFound answers.now.sites self.now site args.now result }
     {
         if answers.is_scripted(site) {
-            answers.find(site, args, self.nth(site, args))
+            answers.find(site, args, self.counts.nth(site, args))
         } else {
             answers.find(site, args, 1)
         }
     }
 
-    /// Adds a call; where its site `counts` its calls, its key too. Where a growth is refused nothing changes.
+    /// Adds a call, which is counted where its site `counts` its calls. Where a growth is refused nothing changes.
     pub(crate) fn add(
         &mut self,
         called: Called,
@@ -89,16 +69,12 @@ impl Rest {
         site: u32,
         args: &Args,
     ) -> Result<(), RuleFault>
-        ensures added { OnOk result (self.new ≡ after_call self.old called counts site args.now) }
+        ensures added { OnOk result (AddsCall called counts site args.now self.old self.new) }
         ensures refused { OnErr result (self.new ≡ self.old) }
     {
         self.calls.try_reserve(1).map_err(|_| RuleFault::Memory)?;
         if counts {
-            let key = Key {
-                site,
-                args: args.copied(),
-            };
-            self.keys.push(key).map_err(|_| RuleFault::Memory)?;
+            self.counts.add(site, args).map_err(|_| RuleFault::Memory)?;
         }
         push_within(&mut self.calls, called);
         Ok(())

@@ -7,7 +7,7 @@ use Rattle.orc_rules.specs.Nodes.{code, unfold_node, param_of}
 use Rattle.orc_rules.specs.Term.{site}
 use Rattle.orc_checker.specs.Names.{AreArguments}
 use Rattle.orc_checker.specs.Checker.{State}
-use Rattle.orc_checker.specs.Calls.{Rest, NextFound, after_call}
+use Rattle.orc_checker.specs.Calls.{Rest, NextFound, AddsCall}
 use Rattle.orc_checker.proofs.Moves.{node}
 use Rattle.orc_checker.proofs.CallEntries.{call-enters}
 use Rattle.orc_checker.proofs.Hints.{can_turn}
@@ -35,7 +35,7 @@ returns-clause-done c =
     c.in_ok-next_call.ensures
     (subst (λ (z : State). NextFound sites z.rest c.args.site c.args.args.now c.found.result) v c.found.ensures)
     (c.time.ensures ∙ ap (λ (z : State). Rest.time z.rest) v)
-    (c.in_ok-add.ensures.added ∙ (λ j. after_call (State.rest (v j)) called (c.is_scripted.ensures j) c.args.site c.args.args.now))
+    (subst (λ z. AddsCall called z c.args.site c.args.args.now s.rest c.add.new.self) c.is_scripted.ensures (subst (λ (z : State). AddsCall called c.is_scripted.result c.args.site c.args.args.now z.rest c.add.new.self) v c.in_ok-add.ensures.added))
     c.in_ok-spot.ensures.free
 
 pub write_node-requires : goal.write_node-requires

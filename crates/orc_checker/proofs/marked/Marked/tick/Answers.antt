@@ -7,7 +7,7 @@ use Rattle.orc_checker.proofs.Ticking.{tick-follows}
 use Rattle.orc_checker.proofs.marked.Marked.tick.Goals as goal
 
 abbrev timed : ℕ → Rest → Rest
-timed t r = record { calls = r.calls; keys = r.keys; time = t; to_cancel = r.to_cancel; cancels = r.cancels }
+timed t r = record { calls = r.calls; counts = r.counts; time = t; to_cancel = r.to_cancel; cancels = r.cancels }
 
 abbrev with_rest : State → Rest → State
 with_rest s r = record { nodes = s.nodes; scopes = s.scopes; cells = s.cells; marks = s.marks; halts = s.halts; flags = s.flags; rest = r }
