@@ -6,6 +6,7 @@ mod calling;
 mod cancel;
 pub mod counts;
 pub mod due;
+pub mod endings;
 mod feed;
 mod flags;
 pub mod halts;
@@ -33,5 +34,6 @@ mod tick;
 mod void;
 pub mod walk;
 
+pub use endings::Side;
 pub use looking::Next;
 pub use marked::Marked;

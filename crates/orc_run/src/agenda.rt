@@ -1,6 +1,6 @@
 //! What can come next in a run: the tokens that can move, in the order of their turns, and the calls by their due times.
 
-use orc_checker::{Marked, Next};
+use orc_checker::{Marked, Next, Side};
 use orc_rules::entry::Entry;
 use orc_rules::program::Program;
 use orc_rules::value::Answer;
@@ -10,13 +10,6 @@ use std::collections::{BTreeMap, BinaryHeap, VecDeque};
 
 // No site takes more.
 const MOST_ARGUMENTS: usize = 16;
-
-/// A side that ends an opened pruning or an entered otherwise once it has halted, by the number of the cell or of the otherwise.
-#[derive(Clone, Copy)]
-enum Side {
-    Right(u64),
-    Left(u64),
-}
 
 /// A token whose turn comes; `listed` where it stands in the lists of all cells for which it still waits.
 #[derive(Clone, Copy)]
@@ -31,8 +24,8 @@ struct Turn {
 pub struct Agenda {
     tokens: VecDeque<Turn>,
     waiting: BTreeMap<u64, Vec<u64>>,
-    /// The right sides of prunings and left sides of otherwises that stood when they were looked at last.
-    sides: VecDeque<Side>,
+    /// The sides that have halted and were not ended yet. Some of them may be gone.
+    halted: VecDeque<Side>,
     /// The due time and the number of each call that has one, the least first.
     due: BinaryHeap<Reverse<(u64, u64)>>,
 }
@@ -56,7 +49,7 @@ impl Agenda {
         Ok(Agenda {
             tokens,
             waiting: BTreeMap::new(alloc),
-            sides: VecDeque::new(alloc),
+            halted: VecDeque::new(alloc),
             due: BinaryHeap::new(alloc),
         })
     }
@@ -78,25 +71,21 @@ impl Agenda {
                 Some(next) => return Ok(Choice::Entry(token_entry(marked, turn.token, next))),
             }
         }
-        match self.choose_side(marked)? {
+        match self.choose_side(marked) {
             Some(entry) => Ok(Choice::Entry(entry)),
             None => Ok(self.choose_call(marked)),
         }
     }
 
     // The end of a pruning or of an otherwise whose side has halted. Those that stand no more are forgotten.
-    fn choose_side(&mut self, marked: &Marked) -> Result<Option<Entry>, AllocError> {
-        for _ in 0..self.sides.len() {
-            let Some(side) = self.sides.pop_back() else {
-                break;
-            };
-            match has_halted(marked, side) {
-                None => {}
-                Some(true) => return Ok(Some(side_entry(marked, side))),
-                Some(false) => self.sides.push_front(side)?,
+    fn choose_side(&mut self, marked: &Marked) -> Option<Entry> {
+        for _ in 0..self.halted.len() {
+            let side = self.halted.pop_front()?;
+            if has_halted(marked, side) {
+                return Some(side_entry(marked, side));
             }
         }
-        Ok(None)
+        None
     }
 
     // Puts a token that waits into the lists of its cells.
@@ -138,23 +127,16 @@ impl Agenda {
         Choice::Nothing
     }
 
-    /// Takes note of what an entry has made: new tokens, a call, or tokens that wait no more.
+    /// Takes note of what an entry has made: sides that have halted, new tokens, a call, or tokens that wait no more.
     pub fn note(&mut self, entry: &Entry, marked: &Marked) -> Result<(), AllocError> {
+        marked.add_halted(entry, &mut self.halted)?;
         match entry {
-            Entry::Open(_, cell, a, b) => {
-                self.sides.push_back(Side::Right(*cell))?;
+            Entry::Open(_, _, a, b) | Entry::Fork(_, a, b) => {
                 self.join(*a)?;
                 self.join(*b)?;
             }
-            Entry::Fork(_, a, b) => {
-                self.join(*a)?;
-                self.join(*b)?;
-            }
-            Entry::Other(s, a) => {
-                self.sides.push_back(Side::Left(*s))?;
-                self.join(*a)?;
-            }
-            Entry::Seq(_, a)
+            Entry::Other(_, a)
+            | Entry::Seq(_, a)
             | Entry::Def(_, a)
             | Entry::Send(_, a, _)
             | Entry::Return(_, a, _)
@@ -189,12 +171,13 @@ impl Agenda {
     }
 }
 
-// Whether a side has halted. None where its pruning or otherwise doesn't stand.
-fn has_halted(marked: &Marked, side: Side) -> Option<bool> {
-    match side {
+// Whether a side stands and has halted.
+fn has_halted(marked: &Marked, side: Side) -> bool {
+    let halted = match side {
         Side::Right(cell) => marked.right_has_halted(cell),
         Side::Left(otherwise) => marked.left_has_halted(otherwise),
-    }
+    };
+    halted == Some(true)
 }
 
 // The entry that a halted side makes possible.
