@@ -1,18 +1,18 @@
--- The set of due calls, read as a list.
+-- The nodes with due times, read as a list.
 use Rattle.std.proofs.Common.{◌≡◌, ◌≤◌, ℕ, List, [], ◌∷◌, refl, sym, ap, ◌∙◌, arith, inl, inr, ◌⊎◌, Bool, true, false, cond, nat_eq, nat_lt, eqb-true}
-use Rattle.std.specs.Prelude.{◌||◌}
+use Rattle.std.specs.Prelude.{◌||◌, Some, slice_get}
 use Rattle.std.specs.List.{list_any}
 use Rattle.std.specs.Ordering.{nat_cmp, ordering_then, is_eq, is_gt}
 use Rattle.std.specs.declared.cmp.Ordering.{Ordering}
 use Rattle.std.specs.declared.cmp.Ordering.TheVariants.{Less, Equal, Greater}
 use Rattle.std.proofs.lemmas.Bool.Decides.{nat_tests}
 use Rattle.orc_rules.specs.Timed.{IsIn}
-use Rattle.orc_checker.specs.DueTimes.{IsDueAt, Adds, Removes, IsLeast}
+use Rattle.orc_checker.specs.DueTimes.{IsNoted}
 
-abbrev pub Call : Type 0
-Call = ℕ × ℕ
+abbrev pub Timed : Type 0
+Timed = ℕ × ℕ
 
-abbrev pub compared : Call → Call → Ordering
+abbrev pub compared : Timed → Timed → Ordering
 compared a b = ordering_then (nat_cmp a.0 b.0) (nat_cmp a.1 b.1)
 
 same_number : (x y : ℕ) → is_eq (nat_cmp x y) ≡ true → x ≡ y
@@ -28,78 +28,70 @@ both Less b h = cc h
 both Equal b h = (refl, h)
 both Greater b h = cc h
 
-pub same_call : (a b : Call) → is_eq (compared a b) ≡ true → (a.0 ≡ b.0) × (a.1 ≡ b.1)
-same_call a b h = let w = both (nat_cmp a.0 b.0) (nat_cmp a.1 b.1) h in (same_number a.0 b.0 w.0, same_number a.1 b.1 w.1)
+same_node : (a b : Timed) → is_eq (compared a b) ≡ true → (a.0 ≡ b.0) × (a.1 ≡ b.1)
+same_node a b h = let w = both (nat_cmp a.0 b.0) (nat_cmp a.1 b.1) h in (same_number a.0 b.0 w.0, same_number a.1 b.1 w.1)
 
 itself : (x : ℕ) → nat_cmp x x ≡ Equal
 itself x = grind (arith, nat_tests)
 
-pub call_itself : (a : Call) → is_eq (compared a a) ≡ true
-call_itself a = ap (λ z. is_eq (ordering_then z (nat_cmp a.1 a.1))) (itself a.0) ∙ ap is_eq (itself a.1)
+node_itself : (a : Timed) → is_eq (compared a a) ≡ true
+node_itself a = ap (λ z. is_eq (ordering_then z (nat_cmp a.1 a.1))) (itself a.0) ∙ ap is_eq (itself a.1)
 
 not_later : (x y : ℕ) (o : Ordering) → is_gt (ordering_then (nat_cmp x y) o) ≡ false → x ≤ y
 not_later x y o h = grind (arith, nat_tests)
 
 -- to stand in the list is to be found in it
-pub found : (a : Call) (ks : List Call) → IsIn a ks → list_any (λ b. is_eq (compared a b)) ks ≡ true
+found : (a : Timed) (ks : List Timed) → IsIn a ks → list_any (λ b. is_eq (compared a b)) ks ≡ true
 found a [] h = elim h [ ]
-found a (k ∷ ks) (inl e) = ap (λ z. z || list_any (λ b. is_eq (compared a b)) ks) (ap (λ z. is_eq (compared a z)) (sym e) ∙ call_itself a)
+found a (k ∷ ks) (inl e) = ap (λ z. z || list_any (λ b. is_eq (compared a b)) ks) (ap (λ z. is_eq (compared a z)) (sym e) ∙ node_itself a)
 found a (k ∷ ks) (inr h) = ap (λ z. is_eq (compared a k) || z) (found a ks h) ∙ or_true (is_eq (compared a k))
   where
     or_true : (b : Bool) → (b || true) ≡ true
     or_true true = refl
     or_true false = refl
 
-pub stands : (a : Call) (ks : List Call) → list_any (λ b. is_eq (compared a b)) ks ≡ true → IsIn a ks
+stands : (a : Timed) (ks : List Timed) → list_any (λ b. is_eq (compared a b)) ks ≡ true → IsIn a ks
 stands a [] h = cc h
 stands a (k ∷ ks) h = go (is_eq (compared a k)) refl h (λ z. stands a ks z)
   where
     go : (b : Bool) → is_eq (compared a k) ≡ b → (b || list_any (λ b. is_eq (compared a b)) ks) ≡ true → (list_any (λ b. is_eq (compared a b)) ks ≡ true → IsIn a ks) → IsIn a (k ∷ ks)
-    go true e h f = let w = same_call a k e in inl (λ i. (w.0 i, w.1 i))
+    go true e h f = let w = same_node a k e in inl (λ i. (w.0 i, w.1 i))
     go false e h f = inr (f h)
 
-abbrev pub is_found : List Call → Call → Bool
+abbrev is_found : List Timed → Timed → Bool
 is_found ks a = list_any (λ b. is_eq (compared a b)) ks
 
--- what the list has after the call at t is put in (b ≡ true) or taken out
-abbrev pub Sets : Bool → ℕ → ℕ → List Call → List Call → Type 0
-Sets b t k old new = (a : Call) → is_found new a ≡ cond (is_eq (compared (t, k) a)) b (is_found old a)
+-- what the list has after the node with time t is put in
+abbrev pub Sets : ℕ → ℕ → List Timed → List Timed → Type 0
+Sets t i old new = (a : Timed) → is_found new a ≡ cond (is_eq (compared (t, i) a)) true (is_found old a)
 
-pub adds : (t k : ℕ) (old new : List Call) → Sets true t k old new → Adds t k old new
-adds t k old new sets u j = (out, back)
-  where
-    out : IsDueAt new u j → ((u ≡ t) × (j ≡ k)) ⊎ IsDueAt old u j
-    out h = go (is_eq (compared (t, k) (u, j))) refl (sym (sets (u, j)) ∙ found (u, j) new h)
-      where
-        go : (b : Bool) → is_eq (compared (t, k) (u, j)) ≡ b → cond b true (is_found old (u, j)) ≡ true → ((u ≡ t) × (j ≡ k)) ⊎ IsDueAt old u j
-        go true e h = let w = same_call (t, k) (u, j) e in inl (sym w.0, sym w.1)
-        go false e h = inr (stands (u, j) old h)
+module _ (t i : ℕ) (old new : List Timed) (sets : Sets t i old new) where
+  pub puts : IsNoted new t i
+  puts = stands (t, i) new (sets (t, i) ∙ ap (λ z. cond z true (is_found old (t, i))) (node_itself (t, i)))
 
-    back : ((u ≡ t) × (j ≡ k)) ⊎ IsDueAt old u j → IsDueAt new u j
-    back h = stands (u, j) new (sets (u, j) ∙ go (is_eq (compared (t, k) (u, j))) refl h)
-      where
-        go : (b : Bool) → is_eq (compared (t, k) (u, j)) ≡ b → ((u ≡ t) × (j ≡ k)) ⊎ IsDueAt old u j → cond b true (is_found old (u, j)) ≡ true
-        go true e h = refl
-        go false e (inl same) = absurd (cc (sym e ∙ ap (λ (z : Call). is_eq (compared (t, k) z)) (λ i. (same.0 i, same.1 i)) ∙ call_itself (t, k)))
-        go false e (inr h) = found (u, j) old h
+  pub keeps : (u j : ℕ) → IsNoted old u j → IsNoted new u j
+  keeps u j h = stands (u, j) new (sets (u, j) ∙ go (is_eq (compared (t, i) (u, j))))
+    where
+      go : (b : Bool) → cond b true (is_found old (u, j)) ≡ true
+      go true = refl
+      go false = found (u, j) old h
 
-pub removes : (t k : ℕ) (old new : List Call) → Sets false t k old new → Removes t k old new
-removes t k old new sets u j = (out, back)
-  where
-    out : IsDueAt new u j → IsDueAt old u j × ((u ≡ t) × (j ≡ k) → ⊥)
-    out h = go (is_eq (compared (t, k) (u, j))) refl (sym (sets (u, j)) ∙ found (u, j) new h)
-      where
-        go : (b : Bool) → is_eq (compared (t, k) (u, j)) ≡ b → cond b false (is_found old (u, j)) ≡ true → IsDueAt old u j × ((u ≡ t) × (j ≡ k) → ⊥)
-        go true e h = absurd (cc h)
-        go false e h = (stands (u, j) old h, λ same. absurd (cc (sym e ∙ ap (λ (z : Call). is_eq (compared (t, k) z)) (λ i. (same.0 i, same.1 i)) ∙ call_itself (t, k))))
+-- the first one is the earliest
+pub none_earlier : (a : Timed) (ks : List Timed) → ((b : Timed) → is_found ks b ≡ true → is_gt (compared a b) ≡ false) → (u j : ℕ) → IsNoted ks u j → a.0 ≤ u
+none_earlier a ks below u j h = not_later a.0 u (nat_cmp a.1 j) (below (u, j) (found (u, j) ks h))
 
-    back : IsDueAt old u j × ((u ≡ t) × (j ≡ k) → ⊥) → IsDueAt new u j
-    back h = stands (u, j) new (sets (u, j) ∙ go (is_eq (compared (t, k) (u, j))) refl)
-      where
-        go : (b : Bool) → is_eq (compared (t, k) (u, j)) ≡ b → cond b false (is_found old (u, j)) ≡ true
-        go true e = let w = same_call (t, k) (u, j) e in absurd (h.1 (sym w.0, sym w.1))
-        go false e = found (u, j) old h.0
+of_first : {X : Type 0} → X → List X → X
+of_first d [] = d
+of_first d (x ∷ xs) = x
 
--- the first call is the least
-pub least_from : (a : Call) (ks : List Call) → is_found ks a ≡ true → ((b : Call) → IsIn b ks → is_gt (compared a b) ≡ false) → IsLeast ks a.0
-least_from a ks h below = ((a.1, stands a ks h), λ u k i. not_later a.0 u (nat_cmp a.1 k) (below (u, k) i))
+of_rest : {X : Type 0} → List X → List X
+of_rest [] = []
+of_rest (x ∷ xs) = xs
+
+pub same_rest : {X : Type 0} (x y : X) (xs ys : List X) → x ∷ xs ≡ y ∷ ys → xs ≡ ys
+unfolding of_rest
+same_rest x y xs ys e = ap of_rest e
+
+pub head_of : (ks : List Timed) (a : Timed) → slice_get ks 0 ≡ Some a → (later : List Timed) × (ks ≡ a ∷ later)
+head_of [] a h = absurd (cc h)
+head_of (k ∷ ks) a h = let e : k ≡ a = cc h in (ks, ap (λ (z : Timed). z ∷ ks) e)

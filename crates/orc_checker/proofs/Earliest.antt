@@ -1,63 +1,106 @@
--- The least due time, node by node of a list.
-use Rattle.std.proofs.Common.{◌≡◌, ◌≤◌, ◌<◌, ℕ, zero, suc, List, length, get_or, Option, Some, None, refl, sym, ap, ◌∙◌, subst, inl, inr, ◌⊎◌, ⊎_elim, arith, Bool, true, false, cond, nat_lt}
-use Rattle.std.proofs.lemmas.Bool.Decides.{nat_tests}
-use Rattle.std.specs.Prelude.{slice_get, IfSome, IfNone}
+-- The least due time, by the notes.
+use Rattle.std.proofs.Common.{◌≡◌, ◌<◌, ◌+◌, ℕ, zero, suc, List, [], ◌∷◌, ◌++◌, length, get_or, Option, Some, None, refl, sym, ap, ◌∙◌, subst, inl, inr, ◌⊎◌, ⊎_elim, arith, length-append, false}
+use Rattle.std.specs.Prelude.{slice_get, slice_set, IfSome, IfNone}
+use Rattle.std.specs.Bool.{Decides}
+use Rattle.orc_rules.specs.Timed.{IsIn}
 use Rattle.orc_checker.specs.declared.arena.Node.{Node}
+use Rattle.orc_checker.specs.declared.arena.Kind.TheVariants.{Leaf}
+use Rattle.orc_checker.specs.declared.arena.Tip.TheVariants.{Waits}
 use Rattle.orc_checker.specs.declared.rest.Called.{Called}
-use Rattle.orc_checker.specs.Hints.{restless, IsListed, AreListed}
-use Rattle.orc_checker.specs.NextDue.{IsDueOf, IsDueAt, IsNextBelow, IsNext, earlier}
+use Rattle.orc_checker.specs.Settling.{kind_at}
+use Rattle.orc_checker.specs.DueTimes.{IsNoted, IsFirst}
+use Rattle.orc_checker.specs.NextDue.{IsTime, IsDueOf, IsDueAt, IsNext, AreNoted}
+use Rattle.orc_checker.proofs.Hints.{some_in}
+use Rattle.orc_checker.proofs.Lists.{get-append, get-more}
 
 same_some : {X : Type 0} (x y : X) → Some x ≡ Some y → x ≡ y
 same_some x y e = cc e
 
 -- a call is due once
+pub time_once : (c : Called) (t u : ℕ) → IsTime c t → IsTime c u → t ≡ u
+time_once c t u a b = let d : a.delay ≡ b.delay = cc (sym a.found ∙ b.found) in omega (arith, a.sum, b.sum, d)
+
 pub due_once : (calls : List Called) (k t u : ℕ) → IsDueOf calls k t → IsDueOf calls k u → t ≡ u
 due_once calls k t u a b =
     let i : a.index ≡ b.index = omega (arith, a.is_k, b.is_k) in
     let c : a.by ≡ b.by = same_some a.by b.by (sym a.there ∙ ap (slice_get calls) i ∙ b.there) in
-    let d : a.delay ≡ b.delay = cc (sym a.found ∙ ap Called.found c ∙ b.found) in
-    omega (arith, a.sum, b.sum, ap Called.at c, d)
+    time_once b.by t u (subst (λ z. IsTime z t) c a.time) b.time
 
-pub at_once : (nodes : List Node) (calls : List Called) (i t u : ℕ) → IsDueAt nodes calls i t → IsDueAt nodes calls i u → t ≡ u
-at_once nodes calls i t u a b = let k : a.0 ≡ b.0 = cc (sym a.1 ∙ b.1) in due_once calls b.0 t u (subst (λ z. IsDueOf calls z t) k a.2) b.2
+-- a node's call that is never due
+module _ (nodes : List Node) (calls : List Called) (i k t : ℕ) (is : kind_at nodes i ≡ Leaf (Waits k)) where
+  its_call : IsDueAt nodes calls i t → IsDueOf calls k t
+  its_call d = let s : d.0 ≡ k = cc (sym d.1 ∙ is) in subst (λ z. IsDueOf calls z t) s d.2
 
-below_or : (i n : ℕ) → i < suc n → (i < n) ⊎ (i ≡ n)
-below_or zero zero lt = inr refl
-below_or zero (suc n) lt = inl (omega arith)
-below_or (suc i) zero lt = absurd (omega (arith, lt))
-below_or (suc i) (suc n) lt = ⊎_elim (λ (a : i < n). inl (omega (arith, a))) (λ e. inr (ap suc e)) (below_or i n (omega (arith, lt)))
+  pub waits_never : ((u : ℕ) → IsDueOf calls k u → ⊥) → Decides false (IsDueAt nodes calls i t)
+  waits_never never = (λ e. absurd (cc e), λ d. absurd (never t (its_call d)))
 
-pub none_below : (nodes : List Node) (calls : List Called) (list : List ℕ) → IsNextBelow nodes calls list 0 None
-none_below nodes calls list i t lt d = absurd (omega (arith, lt))
+abbrev IsNotedAt : ℕ → ℕ → List (ℕ × ℕ) → Type 0
+IsNotedAt t i due = IsNoted due t i
 
-module _ (nodes : List Node) (calls : List Called) (list : List ℕ) (n : ℕ) where
-  abbrev here : ℕ
-  here = get_or list n 0
+-- the first note of a node that is due then says the least time
+pub next_first : (nodes : List Node) (calls : List Called) (due : List (ℕ × ℕ)) (t i : ℕ) → AreNoted nodes calls due → IsFirst due (t, i) → IsDueAt nodes calls i t → IsNext nodes calls (Some t)
+next_first nodes calls due t i h first d = ((i, d), λ j u e. first.1 u j (h.noted j u e))
 
-  due_here : (i t : ℕ) → i ≡ n → IsDueAt nodes calls (get_or list i 0) t → IsDueAt nodes calls here t
-  due_here i t e d = subst (λ z. IsDueAt nodes calls (get_or list z 0) t) e d
+pub next_none : (nodes : List Node) (calls : List Called) (due : List (ℕ × ℕ)) → AreNoted nodes calls due → due ≡ [] → IsNext nodes calls None
+next_none nodes calls due h is i t d = let z : IsIn {X = ℕ × ℕ} (t, i) [] = subst (IsNotedAt t i) is (h.noted i t d) in elim z [ ]
 
-  pub one_further : (o r : Option ℕ) → IsNextBelow nodes calls list n o → IfSome r (IsDueAt nodes calls here) → IfNone r ((t : ℕ) → IsDueAt nodes calls here t → ⊥) → IsNextBelow nodes calls list (suc n) (earlier o r)
-  one_further None None h some none = λ i t lt d. ⊎_elim (λ (a : i < n). h i t a d) (λ e. none t (due_here i t e d)) (below_or i n lt)
-  one_further None (Some u) h some none = ((here, some), λ i t lt d. ⊎_elim (λ (a : i < n). absurd (h i t a d)) (λ e. omega (arith, at_once nodes calls here u t some (due_here i t e d))) (below_or i n lt))
-  one_further (Some t) None h some none = (h.0, λ i u lt d. ⊎_elim (λ (a : i < n). h.1 i u a d) (λ e. absurd (none u (due_here i u e d))) (below_or i n lt))
-  one_further (Some t) (Some u) h some none = go (nat_lt u t) refl
-    where
-      go : (b : Bool) → nat_lt u t ≡ b → IsNextBelow nodes calls list (suc n) (Some (cond b u t))
-      go true e =
-          let lt : u < t = grind (arith, nat_tests) in
-          ((here, some), λ i v l d. ⊎_elim (λ (a : i < n). omega (arith, lt, h.1 i v a d)) (λ e. omega (arith, at_once nodes calls here u v some (due_here i v e d))) (below_or i n l))
-      go false e =
-          let le : t ≤ u = grind (arith, nat_tests) in
-          (h.0, λ i v l d. ⊎_elim (λ (a : i < n). h.1 i v a d) (λ e. omega (arith, le, at_once nodes calls here u v some (due_here i v e d))) (below_or i n l))
-
--- a node that is due is in the list
-pub next_of_all : (nodes : List Node) (calls : List Called) (list : List ℕ) (n : ℕ) (o : Option ℕ) → AreListed nodes list → length list ≤ n → IsNextBelow nodes calls list n o → IsNext nodes calls o
-next_of_all nodes calls list n o all le h = go o h
+-- the note of a node that isn't due then goes
+pub noted_less : (nodes : List Node) (calls : List Called) (due later : List (ℕ × ℕ)) (t i : ℕ) → AreNoted nodes calls due → due ≡ (t, i) ∷ later → (IsDueAt nodes calls i t → ⊥) → AreNoted nodes calls later
+noted_less nodes calls due later t i h is over = record { made = h.made; noted = λ j u d. go j u d (subst (IsNotedAt u j) is (h.noted j u d)) }
   where
-    listed : (i t : ℕ) → IsDueAt nodes calls i t → IsListed i list
-    listed i t d = all i (ap restless d.1)
+    go : (j u : ℕ) → IsDueAt nodes calls j u → IsNoted ((t, i) ∷ later) u j → IsNoted later u j
+    go j u d (inl e) = absurd (over (subst (λ (z : ℕ × ℕ). IsDueAt nodes calls z.1 z.0) e d))
+    go j u d (inr a) = a
 
-    go : (o : Option ℕ) → IsNextBelow nodes calls list n o → IsNext nodes calls o
-    go None h = λ i t d. let w = listed i t d in h w.0 t (omega (arith, le, w.1)) (subst (λ z. IsDueAt nodes calls z t) (sym w.2) d)
-    go (Some t) h = (h.0, λ i u d. let w = listed i u d in h.1 w.0 u (omega (arith, le, w.1)) (subst (λ z. IsDueAt nodes calls z u) (sym w.2) d))
+-- more is noted
+pub noted_more : (nodes : List Node) (calls : List Called) (due due' : List (ℕ × ℕ)) → ((t i : ℕ) → IsNoted due t i → IsNoted due' t i) → AreNoted nodes calls due → AreNoted nodes calls due'
+noted_more nodes calls due due' kept h = record { made = h.made; noted = λ i t d. kept t i (h.noted i t d) }
+
+-- a node that is written, or one that was there
+set_kind : (nodes : List Node) (i j : ℕ) (y : Node) → ((j ≡ i) × (kind_at (slice_set nodes i y) j ≡ y.kind)) ⊎ (kind_at (slice_set nodes i y) j ≡ kind_at nodes j)
+set_kind [] i j y = inr refl
+set_kind (x ∷ nodes) zero zero y = inl (refl, refl)
+set_kind (x ∷ nodes) zero (suc j) y = inr refl
+set_kind (x ∷ nodes) (suc i) zero y = inr refl
+set_kind (x ∷ nodes) (suc i) (suc j) y = ⊎_elim (λ w. inl (ap suc w.0, w.1)) (λ e. inr e) (set_kind nodes i j y)
+
+-- a node waits for a new call, and is noted
+module _ (nodes nodes' : List Node) (calls calls' : List Called) (due due' : List (ℕ × ℕ)) (i q k : ℕ) (c : Called) (o : Option ℕ) (h : AreNoted nodes calls due) (new : k ≡ suc (length calls)) (written : nodes' ≡ slice_set nodes i (record { kind = Leaf (Waits k); parent = q })) (added : calls' ≡ calls ++ c ∷ [])
+    (is_due : IfSome o (IsTime c)) (never : IfNone o ((t : ℕ) → IsTime c t → ⊥)) (noted : IfSome o (λ t. IsNoted due' t i)) (kept : (t j : ℕ) → IsNoted due t j → IsNoted due' t j) where
+  longer : length calls' ≡ length calls + 1
+  longer = ap length added ∙ length-append calls (c ∷ [])
+
+  its : (t : ℕ) (o : Option ℕ) → IfSome o (IsTime c) → IfNone o ((u : ℕ) → IsTime c u → ⊥) → IfSome o (λ u. IsNoted due' u i) → IsTime c t → IsNoted due' t i
+  its t None a b n d = absurd (b t d)
+  its t (Some u) a b n d = subst (λ z. IsNoted due' z i) (time_once c u t a d) n
+
+  kinds : (j : ℕ) → ((j ≡ i) × (kind_at nodes' j ≡ Leaf (Waits k))) ⊎ (kind_at nodes' j ≡ kind_at nodes j)
+  kinds j = subst (λ z. ((j ≡ i) × (kind_at z j ≡ Leaf (Waits k))) ⊎ (kind_at z j ≡ kind_at nodes j)) (sym written) (set_kind nodes i j (record { kind = Leaf (Waits k); parent = q }))
+
+  due_new : (t : ℕ) → IsDueOf calls' k t → IsTime c t
+  due_new t d =
+      ⊎_elim
+      (λ e. absurd (omega (arith, new, d.is_k, some_in calls d.index d.by e)))
+      (λ e. subst (λ z. IsTime z t) (sym e.1) d.time)
+      (get-more calls c d.index d.by (subst (λ z. slice_get z d.index ≡ Some d.by) added d.there))
+
+  due_old : (j t : ℕ) → j < length calls + 1 → IsDueOf calls' j t → IsDueOf calls j t
+  due_old j t lt d =
+      record {
+        index = d.index;
+        is_k = d.is_k;
+        by = d.by;
+        there = ⊎_elim (λ e. e) (λ e. absurd (omega (arith, lt, d.is_k, e.0))) (get-more calls c d.index d.by (subst (λ z. slice_get z d.index ≡ Some d.by) added d.there));
+        time = d.time;
+      }
+
+  pub noted_call : AreNoted nodes' calls' due'
+  noted_call =
+      record {
+        made = λ j m e. ⊎_elim (λ w. let s : m ≡ k = cc (sym e ∙ w.1) in omega (arith, s, new, longer)) (λ w. omega (arith, h.made j m (sym w ∙ e), longer)) (kinds j);
+        noted = λ j t d.
+            ⊎_elim
+            (λ w. let s : d.0 ≡ k = cc (sym d.1 ∙ w.1) in subst (IsNoted due' t) (sym w.0) (its t o is_due never noted (due_new t (subst (λ z. IsDueOf calls' z t) s d.2))))
+            (λ w. let e = sym w ∙ d.1 in kept t j (h.noted j t (d.0, e, due_old d.0 t (omega (arith, h.made j d.0 e)) d.2)))
+            (kinds j);
+      }

@@ -17,7 +17,7 @@ use Rattle.orc_checker.specs.Settling.{kind_at}
 use Rattle.orc_checker.specs.Names.{Carries}
 use Rattle.orc_checker.specs.Rising.{nowhere, pass_kind, pass_node}
 use Rattle.orc_checker.specs.Grafting.{relink}
-use Rattle.orc_checker.specs.Hints.{lets, Skips, IsAbove, AreHints, restless, AreListed, IsHintBelow, Follows, CanBecome, IsBeside, lifted}
+use Rattle.orc_checker.specs.Hints.{lets, Skips, IsAbove, AreHints, restless, AreListed, IsHintBelow, Follows, CanBecome, CanWake, IsBeside, lifted}
 use Rattle.orc_checker.proofs.Trees.{hits-both, hit}
 use Rattle.orc_checker.proofs.Lists.{get-set_same, get-set_other, get-append, get-end, get-more}
 
@@ -29,7 +29,7 @@ same_some : {X : Type 0} (x y : X) → Some x ≡ Some y → x ≡ y
 unfolding of_some
 same_some x y e = ap (of_some x) e
 
-some_or : {X : Type 0} (xs : List X) (i : ℕ) (d x : X) → slice_get xs i ≡ Some x → get_or xs i d ≡ x
+pub some_or : {X : Type 0} (xs : List X) (i : ℕ) (d x : X) → slice_get xs i ≡ Some x → get_or xs i d ≡ x
 some_or [] i d x h = cc h
 some_or (y ∷ xs) zero d x h = same_some y x h
 some_or (y ∷ xs) (suc i) d x h = some_or xs i d x h
@@ -80,10 +80,10 @@ goes_followed nodes nodes' f i x y a b l =
     subst (λ z. IsAbove nodes' i z) v.2.parent (one_above nodes' i v.0 w.0 v.1 (ap (slice_get nodes') v.2.parent ∙ w.1) (w.2.passes i l))
 
 itself : (x : Node) → Follows x x
-itself x = record { parent = refl; passes = λ i e. e; rests = λ e. e }
+itself x = record { parent = refl; passes = λ i e. e }
 
 -- a node is written
-pub hints_written : (nodes : List Node) (hints : List ℕ) (i : ℕ) (y : Node) → CanBecome nodes i y → AreHints nodes hints → AreHints (slice_set nodes i y) hints
+pub hints_written : (nodes : List Node) (hints : List ℕ) (i : ℕ) (y : Node) → CanWake nodes i y → AreHints nodes hints → AreHints (slice_set nodes i y) hints
 hints_written nodes hints i y can h = hints_on nodes (slice_set nodes i y) hints (goes_followed nodes (slice_set nodes i y) each) (length-set nodes i y) h
   where
     each : AreFollowed nodes (slice_set nodes i y)
@@ -289,7 +289,23 @@ pub listed_none : AreListed [] []
 listed_none i h = cc h
 
 pub listed_written : (nodes : List Node) (list : List ℕ) (i : ℕ) (y : Node) → CanBecome nodes i y → AreListed nodes list → AreListed (slice_set nodes i y) list
-listed_written nodes list i y can all j h = all j (back nodes i j y (λ x e. (can x e).rests) h)
+listed_written nodes list i y can all j h = all j (back nodes i j y (λ x e. (can x e).1) h)
+
+kind_set : (nodes : List Node) (i j : ℕ) (y : Node) → (kind_at (slice_set nodes i y) j ≡ kind_at nodes j) ⊎ (j ≡ i)
+kind_set [] i j y = inl refl
+kind_set (x ∷ nodes) zero zero y = inr refl
+kind_set (x ∷ nodes) zero (suc j) y = inl refl
+kind_set (x ∷ nodes) (suc i) zero y = inl refl
+kind_set (x ∷ nodes) (suc i) (suc j) y = ⊎_elim (λ e. inl e) (λ e. inr (ap suc e)) (kind_set nodes i j y)
+
+-- a node is written, and listed
+pub listed_woken : (nodes : List Node) (list : List ℕ) (i : ℕ) (y : Node) → AreListed nodes list → AreListed (slice_set nodes i y) (list ++ i ∷ [])
+listed_woken nodes list i y all j h =
+    let longer = length-append list (i ∷ []) in
+    ⊎_elim
+    (λ e. let w = all j (sym (ap restless e) ∙ h) in (w.0, omega (arith, w.1, longer), get_or_append_left list (i ∷ []) 0 w.0 w.1 ∙ w.2))
+    (λ e. (length list, omega (arith, longer), get_or-append_seam list i [] 0 ∙ sym e))
+    (kind_set nodes i j y)
 
 kind_more : (nodes : List Node) (y : Node) (j : ℕ) → (kind_at (nodes ++ y ∷ []) j ≡ kind_at nodes j) ⊎ (j ≡ length nodes)
 kind_more [] y zero = inr refl
@@ -339,11 +355,21 @@ listed_less nodes list list' k still lt len last others all i h =
     (λ (a : w.0 + 1 ≡ length list → ⊥). (w.0, omega (arith, a, w.1, len), others w.0 off (omega (arith, a, w.1)) ∙ w.2))
     (same_or (w.0 + 1) (length list))
 
--- a node that lets nothing through can become any
+-- a node that lets nothing through can become any, which may move from now on
+pub can_wake : (nodes nodes' : List Node) (q i : ℕ) (k l : Kind) → nodes' ≡ nodes → at nodes q i k → ((v : ℕ) → lets k v ≡ false) → CanWake nodes' i (record { kind = l; parent = q })
+can_wake nodes nodes' q i k l is a none x e =
+    let s : record { kind = k; parent = q } ≡ x = same_some _ x (sym a ∙ ap (λ z. slice_get z i) (sym is) ∙ e) in
+    record { parent = ap Node.parent s; passes = λ v h. absurd (cc (sym (none v) ∙ ap (λ z. lets (Node.kind z) v) s ∙ h)) }
+
+-- one that can't move
+pub can_rest : (nodes nodes' : List Node) (q i : ℕ) (k l : Kind) → nodes' ≡ nodes → at nodes q i k → ((v : ℕ) → lets k v ≡ false) → restless l ≡ false → CanBecome nodes' i (record { kind = l; parent = q })
+can_rest nodes nodes' q i k l is a none rests x e = (can_wake nodes nodes' q i k l is a none x e, λ h. absurd (cc (sym rests ∙ h)))
+
+-- one that can move can become any
 pub can_turn : (nodes nodes' : List Node) (q i : ℕ) (k l : Kind) → nodes' ≡ nodes → at nodes q i k → ((v : ℕ) → lets k v ≡ false) → restless k ≡ true → CanBecome nodes' i (record { kind = l; parent = q })
 can_turn nodes nodes' q i k l is a none moves x e =
     let s : record { kind = k; parent = q } ≡ x = same_some _ x (sym a ∙ ap (λ z. slice_get z i) (sym is) ∙ e) in
-    record { parent = ap Node.parent s; passes = λ v h. absurd (cc (sym (none v) ∙ ap (λ z. lets (Node.kind z) v) s ∙ h)); rests = λ h. sym (ap (λ z. restless (Node.kind z)) s) ∙ moves }
+    (can_wake nodes nodes' q i k l is a none x e, λ h. sym (ap (λ z. restless (Node.kind z)) s) ∙ moves)
 
 -- a token's node
 pub can_publish : (nodes nodes' : List Node) (q i s : ℕ) (k : Tip) (l : Kind) → nodes' ≡ nodes → at nodes q i (Leaf k) → Carries s k → CanBecome nodes' i (record { kind = l; parent = q })
@@ -367,7 +393,7 @@ can_publish nodes nodes' q i s k l is a c = can_turn nodes nodes' q i (Leaf k) l
 pub can_pass : (nodes : List Node) (i : ℕ) → CanBecome nodes i (pass_node (get_or nodes i nowhere))
 can_pass nodes i x e =
     let s = some_or nodes i nowhere x e in
-    record { parent = ap Node.parent s; passes = λ v h. go (Node.kind (get_or nodes i nowhere)) v (ap (λ z. lets (Node.kind z) v) s ∙ h); rests = λ h. sym (ap (λ z. restless (Node.kind z)) s) ∙ its (Node.kind (get_or nodes i nowhere)) h }
+    (record { parent = ap Node.parent s; passes = λ v h. go (Node.kind (get_or nodes i nowhere)) v (ap (λ z. lets (Node.kind z) v) s ∙ h) }, λ h. sym (ap (λ z. restless (Node.kind z)) s) ∙ its (Node.kind (get_or nodes i nowhere)) h)
   where
     go : (k : Kind) (v : ℕ) → lets k v ≡ true → lets (pass_kind k) v ≡ true
     go (Leaf t) v h = h
@@ -385,11 +411,11 @@ can_pass nodes i x e =
 
 -- a node goes
 pub can_go : (nodes : List Node) (i : ℕ) → CanBecome nodes i (record { kind = Leaf Gone; parent = Node.parent (get_or nodes i nowhere) })
-can_go nodes i x e = record { parent = ap Node.parent (some_or nodes i nowhere x e); passes = λ v h. refl; rests = λ h. cc h }
+can_go nodes i x e = (record { parent = ap Node.parent (some_or nodes i nowhere x e); passes = λ v h. refl }, λ h. cc h)
 
 -- a pruning ends
 pub can_end : (nodes : List Node) (i part q : ℕ) → q ≡ Node.parent (get_or nodes i nowhere) → CanBecome nodes i (record { kind = One Passed part; parent = q })
-can_end nodes i part q is x e = record { parent = is ∙ ap Node.parent (some_or nodes i nowhere x e); passes = λ v h. refl; rests = λ h. cc h }
+can_end nodes i part q is x e = (record { parent = is ∙ ap Node.parent (some_or nodes i nowhere x e); passes = λ v h. refl }, λ h. cc h)
 
 pub parent_there : (nodes nodes' : List Node) (q i : ℕ) (k : Kind) → nodes' ≡ nodes → at nodes q i k → q ≡ Node.parent (get_or nodes' i nowhere)
 parent_there nodes nodes' q i k is a = ap Node.parent (sym (some_or nodes' i nowhere _ (ap (λ z. slice_get z i) is ∙ a)))

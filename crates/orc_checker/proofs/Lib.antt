@@ -27,6 +27,7 @@ pub mod Listing
 pub mod Lists
 pub mod Losing
 pub mod Moves
+pub mod Noting
 pub mod Opening
 pub mod Parameters
 pub mod Paths

@@ -103,16 +103,16 @@ module _ (x : Context) (code : ℕ → Term) (s : State) (p : Place) (sp : Spell
       let r = sp.rest in
       let m = made_there x.sites p.calls d.index (told d.by) r.numbered (ap (λ z. slice_get z d.index) (sym r.calls_are) ∙ map_there s.rest.calls d.index d.by d.there) in (
         k,
-        d.answer,
+        d.time.answer,
         pends,
         record {
           by = m.by;
           is_made = m.is_made;
           is_k = m.number ∙ sym d.is_k;
-          delay = d.delay;
-          says = ap (λ z. z.0) m.tells ∙ d.found;
-          sum = d.sum ∙ ap (λ z. z + d.delay) (sym (ap (λ z. z.1) m.tells));
-          fits = d.fits;
+          delay = d.time.delay;
+          says = ap (λ z. z.0) m.tells ∙ d.time.found;
+          sum = d.time.sum ∙ ap (λ z. z + d.time.delay) (sym (ap (λ z. z.1) m.tells));
+          fits = d.time.fits;
         },
       )
 
@@ -133,11 +133,13 @@ module _ (x : Context) (code : ℕ → Term) (s : State) (p : Place) (sp : Spell
             is_k = sym due.is_k ∙ o.number;
             by = c.by;
             there = c.there;
-            answer = a;
-            delay = due.delay;
-            found = ap (λ z. z.0) c.tells ∙ due.says;
-            sum = due.sum ∙ ap (λ z. z + due.delay) (sym (ap (λ z. z.1) c.tells));
-            fits = due.fits;
+            time = record {
+              answer = a;
+              delay = due.delay;
+              found = ap (λ z. z.0) c.tells ∙ due.says;
+              sum = due.sum ∙ ap (λ z. z + due.delay) (sym (ap (λ z. z.1) c.tells));
+              fits = due.fits;
+            };
           },
         ),
       )

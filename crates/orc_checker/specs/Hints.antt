@@ -1,10 +1,10 @@
 -- The nodes as their own type keeps them: with a hint for each, by which a walk upward leaves out what lets everything through, and a list of
--- those that can still move or be due.
+-- those that can still move.
 use Rattle.std.specs.Prelude.{◌≡◌, ◌<◌, ◌⊎◌, ◌+◌, ℕ, zero, suc, List, Bool, true, false, nat_eq, length, Some, slice_get, slice_set, slice_index_or}
 use Rattle.orc_checker.specs.declared.arena.Node.{Node}
 use Rattle.orc_checker.specs.declared.arena.Kind.{Kind}
 use Rattle.orc_checker.specs.declared.arena.Kind.TheVariants.{Leaf, One, Two}
-use Rattle.orc_checker.specs.declared.arena.Tip.TheVariants.{Gone, Token, Bears, Waits}
+use Rattle.orc_checker.specs.declared.arena.Tip.TheVariants.{Gone, Token, Bears}
 use Rattle.orc_checker.specs.declared.arena.Single.TheVariants.{Entered, Passed}
 use Rattle.orc_checker.specs.declared.arena.Double.TheVariants.{Both, Side}
 use Rattle.orc_checker.specs.Rising.{nowhere}
@@ -39,11 +39,10 @@ pub record AreHints (nodes : List Node) (hints : List ℕ) : Type 0 where
   pub len : length hints ≡ length nodes
   pub each : (i j : ℕ) → slice_get hints i ≡ Some j → IsAbove nodes i j
 
--- whether a node can move or be due by itself, now or later
+-- whether a node can move by itself, now or later
 abbrev pub restless : Kind → Bool
 restless (Leaf (Token s f e)) = true
 restless (Leaf (Bears s v)) = true
-restless (Leaf (Waits k)) = true
 restless (One (Entered m g e) p) = true
 restless (Two (Side c) p q) = true
 restless _ = false
@@ -59,14 +58,17 @@ AreListed nodes list = (i : ℕ) → restless (kind_at nodes i) ≡ true → IsL
 abbrev pub IsHintBelow : List Node → List ℕ → ℕ → ℕ → ℕ → Type 0
 IsHintBelow nodes hints i parent hint = (hint ≡ i) ⊎ ((y : Node) × (slice_get nodes parent ≡ Some y) × (lets y.kind i ≡ true) × (hint ≡ slice_index_or hints parent parent))
 
--- a node becomes another: it stays below the same one, goes on to let through what it let through, and can still move or be due only if it could
+-- a node becomes another: it stays below the same one, and goes on to let through what it let through
 pub record Follows (x y : Node) : Type 0 where
   pub parent : y.parent ≡ x.parent
   pub passes : (i : ℕ) → lets x.kind i ≡ true → lets y.kind i ≡ true
-  pub rests : restless y.kind ≡ true → restless x.kind ≡ true
 
+abbrev pub CanWake : List Node → ℕ → Node → Type 0
+CanWake nodes i y = (x : Node) → slice_get nodes i ≡ Some x → Follows x y
+
+-- the same, and it can still move only if it could
 abbrev pub CanBecome : List Node → ℕ → Node → Type 0
-CanBecome nodes i y = (x : Node) → slice_get nodes i ≡ Some x → Follows x y
+CanBecome nodes i y = (x : Node) → slice_get nodes i ≡ Some x → Follows x y × (restless y.kind ≡ true → restless x.kind ≡ true)
 
 -- node j is a `|` that stands below the same node as node i, before which it was made
 abbrev pub IsBeside : List Node → ℕ → ℕ → Type 0

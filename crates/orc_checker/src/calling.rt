@@ -14,8 +14,9 @@ use crate::arena::{Kind, Node, Tip};
 use crate::flags::settle;
 use crate::marked::Marked;
 use crate::names::are_arguments;
+use crate::pending::time_of;
 use crate::rest::{Called, is_due_now};
-use crate::room::push_within;
+use crate::room::{push_within, reserve};
 use orc_rules::answers::Answers;
 use orc_rules::entry::RuleFault;
 use orc_rules::program::{Program, TermNode};
@@ -65,6 +66,7 @@ impl Marked {
             at: self.rest.time(),
             node: spot.at,
         };
+        self.due.note(time_of(called), spot.at)?;
         self.rest
             .add(called, answers.is_scripted(site), site, args)?;
         self.nodes.write_node(
@@ -127,8 +129,8 @@ impl Marked {
         let pending = self.pending(k)?;
         self.next_mark(a)?;
         is_due_now(pending.called, Answer::Value(v), self.rest.time())?;
-        self.marks.try_reserve(1).map_err(|_| RuleFault::Memory)?;
-        self.nodes.write_node(
+        reserve(&mut self.nodes, &mut self.flags, &mut self.marks).map_err(|_| RuleFault::Memory)?;
+        self.nodes.wake(
             pending.at,
             Node {
                 kind: Kind::Leaf(Tip::Bears(a, v)),

@@ -1,57 +1,68 @@
-//! The calls that pend and are due some day, by their due times.
+// The nodes that wait, by the due times of their calls.
 
-ghost use Rattle.std.specs.Prelude.{◌≡◌, ℕ, [], List, OnOk, OnErr, MatchOption};
-ghost use Rattle.orc_checker.specs.DueTimes.{Adds, Removes, IsLeast};
+ghost use Rattle.std.specs.Prelude.{◌≡◌, ℕ, [], List, IfSome, OnOk, MatchOption};
+ghost use Rattle.orc_checker.specs.DueTimes.{IsFirst, IsNoted, Drops};
 
+use orc_rules::entry::RuleFault;
 use std::alloc::{AllocError, Global};
 use std::collections::BTreeSet;
 use std::marker::Model;
 
-/// Calls with their due times.
+/// Nodes with due times, the earliest first. A node may stay that waits no more.
 #[derive(Drop)]
-pub struct Due {
-    calls: BTreeSet<(u64, u64)>,
+pub(crate) struct Due {
+    nodes: BTreeSet<(u64, usize)>,
 }
 
 impl Model for Due {
     ghost Value = { List (ℕ × ℕ) };
 
-    ghost view = { λ d. d.calls.keys };
+    ghost view = { λ d. d.nodes.keys };
 }
 
 impl Due {
-    /// No calls.
-    pub fn new(alloc: Global) -> Due
+    /// No nodes.
+    pub(crate) fn new(alloc: Global) -> Due
         ensures { result ≡ [] }
     {
         Due {
-            calls: BTreeSet::new(alloc),
+            nodes: BTreeSet::new(alloc),
         }
     }
 
-    /// A call is due at that time. Where memory is refused nothing changes.
-    pub fn add(&mut self, time: u64, call: u64) -> Result<(), AllocError>
-        ensures added { OnOk result (Adds time call self.old self.new) }
-        ensures refused { OnErr result (self.new ≡ self.old) }
+    /// Puts a node in, where there is a time.
+    fn put(&mut self, time: Option<u64>, node: usize) -> Result<(), AllocError>
+        ensures noted { OnOk result (IfSome time (λ t. IsNoted self.new t node)) }
+        ensures kept { (t i : ℕ) → IsNoted self.old t i → IsNoted self.new t i }
     {
-        self.calls.insert((time, call))?;
+        if let Some(t) = time {
+            self.nodes.insert((t, node))?;
+        }
         Ok(())
     }
 
-    /// A call is due no more at that time.
-    pub fn remove(&mut self, time: u64, call: u64)
-        ensures { Removes time call self.old self.new }
+    /// Notes when what a node will wait for is due, where it ever is. The error is refused memory; what was noted stays.
+    pub(crate) fn note(&mut self, time: Option<u64>, node: usize) -> Result<(), RuleFault>
+        ensures noted { OnOk result (IfSome time (λ t. IsNoted self.new t node)) }
+        ensures kept { (t i : ℕ) → IsNoted self.old t i → IsNoted self.new t i }
     {
-        let _was_due = self.calls.remove(&(time, call));
+        self.put(time, node).map_err(|_| RuleFault::Memory)
     }
 
-    /// The least due time.
-    pub fn least(&self) -> Option<u64>
-        ensures { MatchOption result (self.now ≡ []) (IsLeast self.now) }
+    /// The earliest time with its node.
+    pub(crate) fn first(&self) -> Option<(u64, usize)>
+        ensures { MatchOption result (self.now ≡ []) (IsFirst self.now) }
     {
-        match self.calls.first() {
-            Some(first) => Some(first.0),
+        match self.nodes.first() {
+            Some(first) => Some(*first),
             None => None,
         }
+    }
+
+    /// Drops the first.
+    pub(crate) fn drop_first(&mut self)
+        ensures { Drops self.old self.new }
+    {
+        let _first = self.nodes.pop_first();
     }
 }

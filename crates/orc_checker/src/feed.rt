@@ -1,10 +1,12 @@
 // Publications that a `>x>` takes.
 
-ghost use Rattle.std.specs.Prelude.{◌≡◌, ◌+◌, ◌<◌, ◌≤◌, length, IfOk, OnErr};
+ghost use Rattle.std.specs.Prelude.{◌≡◌, ◌+◌, ◌<◌, ◌≤◌, false, length, IfOk, OnErr};
 ghost use Rattle.orc_rules.specs.Nodes.{code};
 ghost use Rattle.orc_rules.specs.declared.entry.Entry.TheVariants as entry;
 ghost use Rattle.orc_checker.specs.Checker.{Enters};
 ghost use Rattle.orc_checker.specs.Grafting.{Grafts};
+ghost use Rattle.orc_checker.specs.NextDue.{waits, NoMoreWait};
+ghost use Rattle.orc_checker.specs.declared.arena.Kind.TheVariants.{Leaf as AtLeaf};
 
 use crate::arena::{Bound, Double, Kind, Node, Scope, Single, Tip};
 use crate::flags::settle;
@@ -29,6 +31,7 @@ fn graft(nodes: &mut Nodes, at: usize, tip: Tip)
     requires room { 2 ≤ nodes.old.room }
     ensures grafts { Grafts nodes.old.items at tip nodes.new.items }
     ensures len { length nodes.new.items ≡ length nodes.old.items + 2 }
+    ensures calls { waits (AtLeaf tip) ≡ false → NoMoreWait nodes.old.items nodes.new.items }
 {
     let parent = nodes.node_at(at).parent;
     let both = nodes.len();

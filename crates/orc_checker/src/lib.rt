@@ -5,7 +5,7 @@ pub mod arena;
 mod calling;
 mod cancel;
 pub mod counts;
-pub mod due;
+mod due;
 pub mod endings;
 mod feed;
 mod flags;

@@ -2,7 +2,7 @@
 
 ghost use Rattle.std.specs.Prelude.{◌≡◌, ◌∷◌, ◌++◌, [], ◌+◌, ◌≤◌, ◌<◌, ◌^◌, List, length, slice_get, slice_set, slice_index_or, vec_len, vec_capacity, IfOk};
 ghost use Rattle.orc_checker.specs.Grafting.{relink};
-ghost use Rattle.orc_checker.specs.Hints.{lets, lifted, restless, AreListed, IsAbove, IsHintBelow, IsBeside, CanBecome};
+ghost use Rattle.orc_checker.specs.Hints.{lets, lifted, restless, AreListed, IsAbove, IsHintBelow, IsBeside, CanBecome, CanWake};
 ghost use Rattle.orc_checker.specs.Rising.{nowhere};
 
 use crate::arena::{Double, Kind, Node, Single, Tip};
@@ -12,12 +12,12 @@ use std::marker::Model;
 
 /// The nodes, each with a hint: itself, or a node above it to which all on the way let through what it publishes, and stay as they are.
 /// A walk upward goes from hint to hint, so that what it costs doesn't grow with the number of `|` on its way.
-/// What asks whether something can move, or is due, goes over the list of restless nodes, so that what it costs doesn't grow with what is over.
+/// What asks whether something can move goes over the list of restless nodes, so that what it costs doesn't grow with what is over or waits for a call.
 #[derive(Drop)]
 pub(crate) struct Nodes {
     items: Vec<Node>,
     hints: Vec<usize>,
-    /// The numbers of all nodes that can move or be due by themselves, now or later, and of some that can't any more.
+    /// The numbers of all nodes that can move by themselves, now or later, and of some that can't any more.
     restless: Vec<usize>,
 }
 
@@ -69,13 +69,12 @@ fn lets_through(kind: Kind, part: usize) -> bool
     }
 }
 
-// Whether a node can move or be due by itself, now or later.
+// Whether a node can move by itself, now or later.
 fn is_restless(kind: Kind) -> bool
     ensures { result ≡ restless kind }
 {
     match kind {
         Kind::Leaf(Tip::Token(_, _, _)) | Kind::Leaf(Tip::Bears(_, _)) => true,
-        Kind::Leaf(Tip::Waits(_)) => true,
         Kind::One(Single::Entered(_, _, _), _) => true,
         Kind::Two(Double::Side(_), _, _) => true,
         _ => false,
@@ -193,7 +192,7 @@ impl Nodes {
         hint_at(&self.hints, i)
     }
 
-    /// The numbers of all nodes that can move or be due by themselves, now or later, and of some that can't any more.
+    /// The numbers of all nodes that can move by themselves, now or later, and of some that can't any more.
     pub(crate) fn restless(&self) -> &Vec<usize>
         ensures { AreListed self.now.items result.now.items }
     {
@@ -231,13 +230,23 @@ impl Nodes {
         push_within(&mut self.restless, number);
     }
 
-    /// Writes a node that is there.
+    /// Writes a node that is there, and can move only if it could before.
     pub(crate) fn write_node(&mut self, i: usize, node: Node)
         requires { CanBecome self.old.items i node }
         ensures items { self.new.items ≡ slice_set self.old.items i node }
         ensures room { self.new.room ≡ self.old.room }
     {
         set_item(&mut self.items, i, node);
+    }
+
+    /// Writes a node that is there and may move from now on.
+    pub(crate) fn wake(&mut self, i: usize, node: Node)
+        requires room { 1 ≤ self.old.room }
+        requires node { CanWake self.old.items i node }
+        ensures { self.new.items ≡ slice_set self.old.items i node }
+    {
+        set_item(&mut self.items, i, node);
+        push_within(&mut self.restless, i);
     }
 
     /// Puts a node, with all that is below it, below the `|` of number `both` in its place.

@@ -1,14 +1,33 @@
 // When the calls that wait are due.
 
 ghost use Rattle.std.specs.Prelude.{◌≡◌, ℕ, List, IfSome, IfNone};
-ghost use Rattle.orc_checker.specs.NextDue.{IsDueOf, IsDueAt, IsNext, earlier};
+ghost use Rattle.std.specs.Bool.{Decides};
+ghost use Rattle.orc_checker.specs.NextDue.{AreNoted, IsDueOf, IsDueAt, IsNext, IsTime};
 
 use crate::arena::{Kind, Tip};
+use crate::due::Due;
 use crate::nodes::Nodes;
 use crate::rest::{Called, Rest};
 use orc_rules::value::Found;
 
-/// When a call is due.
+/// When a call that was made is due.
+pub(crate) fn time_of(made: Called) -> Option<u64>
+    ensures due { IfSome result (IsTime made) }
+    ensures never { IfNone result ((t : ℕ) → IsTime made t → ⊥) }
+{
+    match made.found {
+        Found::Never => None,
+        Found::After(_, delay) => {
+            if delay > u64::MAX - made.at {
+                None
+            } else {
+                Some(made.at + delay)
+            }
+        }
+    }
+}
+
+/// When the call of that number is due.
 fn due_of(calls: &Vec<Called>, call: u64) -> Option<u64>
     ensures due { IfSome result (IsDueOf calls.now.items call) }
     ensures never { IfNone result ((t : ℕ) → IsDueOf calls.now.items call t → ⊥) }
@@ -18,62 +37,49 @@ fn due_of(calls: &Vec<Called>, call: u64) -> Option<u64>
     }
     match calls.get((call - 1) as usize) {
         None => None,
-        Some(made) => match made.found {
-            Found::Never => None,
-            Found::After(_, delay) => {
-                if delay > u64::MAX - made.at {
-                    None
-                } else {
-                    Some(made.at + delay)
-                }
-            }
-        },
+        Some(made) => time_of(*made),
     }
 }
 
-/// When the call for which a node waits is due.
-fn due_at(nodes: &Nodes, calls: &Vec<Called>, i: usize) -> Option<u64>
-    ensures due { IfSome result (IsDueAt nodes.now.items calls.now.items i) }
-    ensures never { IfNone result ((t : ℕ) → IsDueAt nodes.now.items calls.now.items i t → ⊥) }
+/// Whether a node waits for a call that is due at that time.
+fn waits_until(nodes: &Nodes, calls: &Vec<Called>, i: usize, time: u64) -> bool
+    ensures { Decides result (IsDueAt nodes.now.items calls.now.items i time) }
 {
     let Kind::Leaf(tip) = nodes.node_at(i).kind else {
-        return None;
+        return false;
     };
     match tip {
-        Tip::Waits(call) => due_of(calls, call),
-        _ => None,
+        Tip::Waits(call) => match due_of(calls, call) {
+            Some(due) => due == time,
+            None => false,
+        },
+        _ => false,
     }
 }
 
-/// The earlier of two times.
-fn earlier(first: Option<u64>, second: Option<u64>) -> Option<u64>
-    ensures { result ≡ earlier first second }
+/// The least due time of the calls that wait. Those before it that wait no more go out of the notes.
+fn next_due(nodes: &Nodes, calls: &Vec<Called>, due: &mut Due) -> Option<u64>
+    requires { AreNoted nodes.now.items calls.now.items due.old }
+    ensures next { IsNext nodes.now.items calls.now.items result }
+    ensures noted { AreNoted nodes.now.items calls.now.items due.new }
 {
-    match (first, second) {
-        (Some(t), Some(u)) => { if u < t { Some(u) } else { Some(t) } }
-        (None, _) => second,
-        (_, None) => first,
+    while let Some((time, node)) = due.first() {
+        if waits_until(nodes, calls, node, time) {
+            return Some(time);
+        }
+        due.drop_first();
     }
-}
-
-/// The least due time of the calls that wait.
-pub(crate) fn next_due(nodes: &Nodes, calls: &Vec<Called>) -> Option<u64>
-    ensures { IsNext nodes.now.items calls.now.items result }
-{
-    let list = nodes.restless();
-    let mut least = None;
-    for i in 0..list.len() {
-        least = earlier(least, due_at(nodes, calls, list[i]));
-    }
-    least
+    None
 }
 
 impl Rest {
     /// The least due time of the calls for which nodes wait.
-    pub(crate) fn next_due(&self, nodes: &Nodes) -> Option<u64>
-        ensures { IsNext nodes.now.items self.now.calls result }
+    pub(crate) fn next_due(&self, nodes: &Nodes, due: &mut Due) -> Option<u64>
+        requires { AreNoted nodes.now.items self.now.calls due.old }
+        ensures next { IsNext nodes.now.items self.now.calls result }
+        ensures noted { AreNoted nodes.now.items self.now.calls due.new }
     {
-        next_due(nodes, &self.calls)
+        next_due(nodes, &self.calls, due)
     }
 
     /// The time.

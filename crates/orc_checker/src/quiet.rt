@@ -16,11 +16,12 @@ use orc_rules::program::Program;
 
 impl Marked {
     /// The least due time of the pending calls, in units of logical time. None where none of them is ever due.
-    pub fn next_due(&self) -> Option<u64>
-        ensures { (x : Context) (l : Listing) (p : Place) → Spells x (code l) self.now p → IsNextDue x (moment p) result }
+    pub fn next_due(&mut self) -> Option<u64>
+        ensures next { (x : Context) (l : Listing) (p : Place) → Spells x (code l) self.old p → IsNextDue x (moment p) result }
+        ensures same { self.new ≡ self.old }
     {
         program_is_source();
-        self.rest.next_due(&self.nodes)
+        self.rest.next_due(&self.nodes, &mut self.due)
     }
 
     /// Whether a rule that is no return can be used, with the program's definitions.

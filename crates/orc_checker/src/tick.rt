@@ -19,7 +19,7 @@ impl Marked {
         if self.rest.is_due() {
             return Err(RuleFault::Cancel);
         }
-        let Some(due) = self.rest.next_due(&self.nodes) else {
+        let Some(due) = self.rest.next_due(&self.nodes, &mut self.due) else {
             return Err(RuleFault::Time);
         };
         if due != t || due <= self.rest.now() {

@@ -1,10 +1,11 @@
-use Rattle.std.proofs.Common.{◌+◌, ◌∷◌, ◌++◌, [], ◌∙◌, ap, sym, subst, length, arith, length-append}
+use Rattle.std.proofs.Common.{refl, ◌+◌, ◌∷◌, ◌++◌, [], ◌∙◌, ap, sym, subst, length, arith, length-append}
 use Rattle.orc_checker.specs.declared.arena.Node.{Node}
 use Rattle.orc_checker.specs.declared.arena.Kind.TheVariants.{Leaf, Two}
 use Rattle.orc_checker.specs.declared.arena.Double.TheVariants.{Both}
 use Rattle.orc_checker.specs.Hints.{IsBeside, lifted}
 use Rattle.orc_checker.proofs.Moves.{node}
 use Rattle.orc_checker.proofs.Hints.{length_lifted}
+use Rattle.orc_checker.proofs.Noting.{wait_on, wait_more, wait_lifted}
 use Rattle.orc_checker.proofs.Feeding.{beside_there, grafts}
 use Rattle.orc_checker.proofs.feed.graft.Goals as goal
 
@@ -36,3 +37,6 @@ returns-clause-len c =
       length-append nodes (node (Two Both c.args.at (c.len-both.result + 1)) c.node_at-parent.result.parent ∷ []),
       length-append c.push_within.new.self.items (node (Leaf c.args.tip) c.len-both.result ∷ []),
     )
+
+pub returns-clause-calls : goal.returns-clause-calls
+returns-clause-calls c still = wait_on _ _ _ (wait_on _ _ _ (wait_more _ _ _ c.push_within.ensures.items refl) (wait_more _ _ _ c.push_within-2.ensures.items still)) (wait_lifted _ _ _ _ c.lift.ensures.items)

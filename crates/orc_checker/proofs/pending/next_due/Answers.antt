@@ -1,24 +1,17 @@
-use Rattle.std.proofs.Common.{◌≡◌, ◌+◌, suc, sym, subst, arith}
-use Rattle.std.proofs.lemmas.List.{get_or_read}
-use Rattle.std.specs.Prelude.{IfSome, IfNone}
-use Rattle.orc_checker.specs.NextDue.{IsNextBelow, IsDueAt, earlier}
-use Rattle.orc_checker.proofs.Earliest.{none_below, one_further, next_of_all}
+use Rattle.std.proofs.Common.{sym, ap, ◌∙◌, subst, true, false}
+use Rattle.orc_checker.specs.NextDue.{AreNoted}
+use Rattle.orc_checker.proofs.Earliest.{next_first, next_none, noted_less}
 use Rattle.orc_checker.proofs.pending.next_due.Goals as goal
 
-pub loop-i-init : goal.loop-i-init
-loop-i-init c = none_below c.args.nodes.now.items c.args.calls.now.items c.restless-list.result.now.items
+pub returns-then-waits_until-clause-next : goal.returns-then-waits_until-clause-next
+returns-then-waits_until-clause-next c = next_first c.args.nodes.now.items c.args.calls.now.items c.loop-time.due c.in-Some.time c.in-Some.node c.loop-time.invariant c.in-Some.ensures (c.waits_until.ensures.0 c.if-waits_until.true)
 
-pub loop-i-preserved : goal.loop-i-preserved
-loop-i-preserved c =
-    let nodes = c.args.nodes.now.items in
-    let calls = c.args.calls.now.items in
-    let list = c.restless-list.result.now.items in
-    let here = get_or_read list _ _ (omega (arith, c.loop-i-test.true, c.len-i-end.ensures, c.restless-list.result.now.ok.0)) c.index.ensures 0 in
-    subst (λ z. IsNextBelow nodes calls list (c.loop-i.i + 1) z) (sym c.earlier-least.ensures)
-    (let e : suc c.loop-i.i ≡ c.loop-i.i + 1 = omega arith in
-    subst (λ z. IsNextBelow nodes calls list z (earlier c.loop-i.least c.due_at.result)) e
-    (one_further nodes calls list c.loop-i.i c.loop-i.least c.due_at.result c.loop-i.invariant
-    (subst (λ z. IfSome c.due_at.result (IsDueAt nodes calls z)) here c.due_at.ensures.due) (subst (λ z. IfNone c.due_at.result ((t : _) → IsDueAt nodes calls z t → ⊥)) here c.due_at.ensures.never)))
+pub loop-time-preserved : goal.loop-time-preserved
+loop-time-preserved c =
+    let first = c.in-Some.ensures in
+    let is = first.0.1 in
+    subst (AreNoted c.args.nodes.now.items c.args.calls.now.items) (sym (c.drop_first.ensures _ _ is))
+    (noted_less c.args.nodes.now.items c.args.calls.now.items c.loop-time.due first.0.0 c.in-Some.time c.in-Some.node c.loop-time.invariant is (λ d. absurd (cc (sym c.if-waits_until.false ∙ c.waits_until.ensures.1 d))))
 
-pub returns : goal.returns
-returns c = next_of_all c.args.nodes.now.items c.args.calls.now.items c.restless-list.result.now.items c.loop-i.i c.loop-i.least c.restless-list.ensures (omega (arith, c.len-i-end.ensures, c.loop-i-test.false, c.restless-list.result.now.ok.0)) c.loop-i.invariant
+pub returns-clause-next : goal.returns-clause-next
+returns-clause-next c = next_none c.args.nodes.now.items c.args.calls.now.items c.loop-time.due c.loop-time.invariant c.in_default.ensures

@@ -1,4 +1,4 @@
-use Rattle.std.proofs.Common.{ap, sym, subst, ◌∙◌, length, get_or, reverse, length-set}
+use Rattle.std.proofs.Common.{refl, ap, sym, subst, ◌∙◌, length, get_or, reverse, length-set}
 use Rattle.std.specs.Prelude.{slice_set}
 use Rattle.orc_checker.specs.declared.arena.Node.{Node}
 use Rattle.orc_checker.specs.declared.arena.Bound.TheVariants.{Is}
@@ -11,6 +11,8 @@ use Rattle.orc_checker.specs.Checker.{State}
 use Rattle.orc_checker.proofs.Moves.{node}
 use Rattle.orc_checker.proofs.Catching.{catch-applies}
 use Rattle.orc_checker.proofs.Hints.{can_end}
+use Rattle.orc_checker.specs.Calls.{Rest}
+use Rattle.orc_checker.proofs.Noting.{still_noted, wait_on, wait_written, wait_dropped}
 use Rattle.orc_checker.proofs.marked.Marked.bind.Goals as goal
 
 pub returns-clause-done : goal.returns-clause-done
@@ -49,3 +51,6 @@ returns-clause-done c t =
 
 pub write_node-requires : goal.write_node-requires
 write_node-requires c = can_end c.self.inside.nodes.items c.in-Bound.at c.in-Two.left _ (ap Node.parent c.node_at-pruning.ensures)
+
+pub invariant_of-self : goal.invariant_of-self
+invariant_of-self c = still_noted _ _ _ _ _ (wait_on _ _ _ (wait_written _ _ _ _ c.write_node.ensures.items refl) (wait_dropped _ _ _ c.drop_nodes.ensures.dropped)) (ap Rest.calls c.set_due.ensures) c.self.invariant

@@ -1,4 +1,4 @@
-use Rattle.std.proofs.Common.{refl, ◌∙◌, ap, subst, map, []}
+use Rattle.std.proofs.Common.{refl, sym, ◌∙◌, ap, subst, map, [], suc, length}
 use Rattle.std.specs.Prelude.{slice_set, slice_index_or}
 use Rattle.orc_checker.specs.declared.arena.Kind.TheVariants.{Leaf}
 use Rattle.orc_checker.specs.declared.arena.Tip.TheVariants.{Waits}
@@ -11,6 +11,8 @@ use Rattle.orc_checker.specs.Calls.{Rest, NextFound, AddsCall}
 use Rattle.orc_checker.proofs.Moves.{node}
 use Rattle.orc_checker.proofs.CallEntries.{call-enters}
 use Rattle.orc_checker.proofs.Hints.{can_turn}
+use Rattle.orc_checker.proofs.Earliest.{noted_call, noted_more}
+use Rattle.orc_checker.proofs.Noting.{still_noted, same_wait}
 use Rattle.orc_checker.proofs.marked.Marked.call.Goals as goal
 
 pub returns-clause-done : goal.returns-clause-done
@@ -40,3 +42,14 @@ returns-clause-done c =
 
 pub write_node-requires : goal.write_node-requires
 write_node-requires c = can_turn c.args.self.now.nodes _ _ _ _ _ (ap State.nodes c.self.view_is) c.in_ok-spot.ensures.there (λ v. refl) refl
+
+pub invariant_of-self : goal.invariant_of-self
+invariant_of-self c = noted_more _ _ _ _ c.note.ensures.kept c.self.invariant
+
+pub invariant_of-self-in_err-add : goal.invariant_of-self-in_err-add
+invariant_of-self-in_err-add c = still_noted _ _ _ _ _ (same_wait _ _ refl) (ap Rest.calls c.in_err-add.ensures.refused) (noted_more _ _ _ _ c.note.ensures.kept c.self.invariant)
+
+pub invariant_of-self-2 : goal.invariant_of-self-2
+invariant_of-self-2 c =
+    noted_call _ _ _ _ _ _ c.in_ok-spot.spot.at c.in_ok-spot.spot.parent c.args.k _ c.time_of.result c.self.invariant (c.in_ok-next_call.ensures ∙ ap (λ (z : State). suc (length (Rest.calls z.rest))) (sym c.self.view_is)) c.write_node.ensures.items
+    (ap Rest.calls c.in_ok-add.ensures.added.same) c.time_of.ensures.due c.time_of.ensures.never c.in_ok-note.ensures.noted c.note.ensures.kept

@@ -12,6 +12,7 @@ use Rattle.orc_checker.proofs.Moves.{node}
 use Rattle.orc_checker.proofs.Answering.{one_more}
 use Rattle.orc_checker.proofs.Defining.{def-enters}
 use Rattle.orc_checker.proofs.Hints.{can_turn}
+use Rattle.orc_checker.proofs.Noting.{still_noted, wait_written}
 use Rattle.orc_checker.proofs.marked.Marked.def.Goals as goal
 
 pub returns-clause-done : goal.returns-clause-done
@@ -46,3 +47,6 @@ returns-clause-done c = λ table cancels p reached.
 
 pub write_node-requires : goal.write_node-requires
 write_node-requires c = can_turn c.args.self.now.nodes _ _ _ _ _ (ap State.nodes c.self.view_is) c.in_ok-spot.ensures.there (λ v. refl) refl
+
+pub invariant_of-self-2 : goal.invariant_of-self-2
+invariant_of-self-2 c = still_noted _ _ _ _ _ (wait_written _ _ _ _ c.write_node.ensures.items refl) refl c.self.invariant

@@ -7,7 +7,8 @@ use Rattle.orc_checker.specs.Checker.{State}
 use Rattle.orc_checker.specs.Calls.{Rest}
 use Rattle.orc_checker.proofs.Moves.{node}
 use Rattle.orc_checker.proofs.CallEntries.{halt-enters, due_at}
-use Rattle.orc_checker.proofs.Hints.{can_turn}
+use Rattle.orc_checker.proofs.Hints.{can_rest}
+use Rattle.orc_checker.proofs.Noting.{still_noted, wait_written}
 use Rattle.orc_checker.proofs.marked.Marked.given_up.Goals as goal
 
 pub returns-clause-done : goal.returns-clause-done
@@ -23,4 +24,7 @@ returns-clause-done c code =
     (record { free = c.in_ok-pending.ensures.free; scopes = ap State.scopes v; cells = ap State.cells v; marks = ap (λ (z : State). length z.marks) v; rest = ap State.rest v; halts = ap State.halts v })
 
 pub write_node-requires : goal.write_node-requires
-write_node-requires c = can_turn c.args.self.now.nodes _ _ _ _ _ (ap State.nodes c.self.view_is) c.in_ok-pending.ensures.there (λ v. refl) refl
+write_node-requires c = can_rest c.args.self.now.nodes _ _ _ _ _ (ap State.nodes c.self.view_is) c.in_ok-pending.ensures.there (λ v. refl) refl
+
+pub invariant_of-self : goal.invariant_of-self
+invariant_of-self c = still_noted _ _ _ _ _ (wait_written _ _ _ _ c.write_node.ensures.items refl) refl c.self.invariant

@@ -1,4 +1,4 @@
-use Rattle.std.proofs.Common.{ap, sym, ◌∙◌, length, length-set}
+use Rattle.std.proofs.Common.{refl, ap, sym, ◌∙◌, length, length-set}
 use Rattle.std.specs.Prelude.{slice_set}
 use Rattle.orc_checker.specs.declared.arena.Bound.TheVariants.{Void}
 use Rattle.orc_checker.specs.declared.arena.Single.TheVariants.{Passed}
@@ -7,6 +7,7 @@ use Rattle.orc_checker.specs.Checker.{State}
 use Rattle.orc_checker.proofs.Moves.{node}
 use Rattle.orc_checker.proofs.Losing.{lose-applies}
 use Rattle.orc_checker.proofs.Hints.{can_end, parent_there}
+use Rattle.orc_checker.proofs.Noting.{still_noted, wait_on, wait_written, wait_dropped}
 use Rattle.orc_checker.proofs.marked.Marked.lost.Goals as goal
 
 pub returns-clause-done : goal.returns-clause-done
@@ -35,3 +36,6 @@ pub write_node-requires : goal.write_node-requires
 write_node-requires c =
     let o = c.in_ok-pruning.pruning in
     can_end c.self.inside.nodes.items o.at o.left o.parent (parent_there c.args.self.now.nodes _ o.parent o.at _ (ap State.nodes c.self.view_is) c.in_ok-pruning.ensures.there)
+
+pub invariant_of-self : goal.invariant_of-self
+invariant_of-self c = still_noted _ _ _ _ _ (wait_on _ _ _ (wait_written _ _ _ _ c.write_node.ensures.items refl) (wait_dropped _ _ _ c.drop_nodes.ensures.dropped)) refl c.self.invariant

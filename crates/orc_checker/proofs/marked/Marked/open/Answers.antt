@@ -11,6 +11,9 @@ use Rattle.orc_checker.proofs.Moves.{node}
 use Rattle.orc_checker.proofs.Opening.{open-enters}
 use Rattle.orc_checker.proofs.Answering.{set_two, two_more}
 use Rattle.orc_checker.proofs.Hints.{can_turn}
+use Rattle.orc_checker.specs.declared.arena.Node.{Node}
+use Rattle.orc_checker.specs.NextDue.{waits}
+use Rattle.orc_checker.proofs.Noting.{still_noted, same_wait, wait_on, wait_written, wait_more}
 use Rattle.orc_checker.proofs.marked.Marked.open.Goals as goal
 
 pub returns-clause-done : goal.returns-clause-done
@@ -47,3 +50,10 @@ returns-clause-done c =
 
 pub write_node-requires : goal.write_node-requires
 write_node-requires c = can_turn c.args.self.now.nodes _ _ _ _ _ (c.reserve.ensures.nodes ∙ ap State.nodes c.self.view_is) c.in_ok-spot.ensures.there (λ v. refl) refl
+
+pub invariant_of-self-2 : goal.invariant_of-self-2
+invariant_of-self-2 c =
+    still_noted _ _ _ _ _
+    (wait_on _ _ _ (wait_on _ _ _ (same_wait _ _ c.reserve.ensures.nodes) (wait_written _ _ _ _ c.write_node.ensures.items refl))
+    (wait_on _ _ _ (wait_more _ _ _ c.push_within-3.ensures.items (ap (λ (z : Node). waits z.kind) c.token_node.ensures)) (wait_more _ _ _ c.push_within-4.ensures.items (ap (λ (z : Node). waits z.kind) c.token_node-2.ensures))))
+    refl c.self.invariant

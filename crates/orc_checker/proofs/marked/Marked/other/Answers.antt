@@ -5,6 +5,9 @@ use Rattle.orc_checker.specs.Halting.{halt_flag}
 use Rattle.orc_checker.proofs.Moves.{other-enters}
 use Rattle.orc_checker.proofs.Answering.{set_one, one_more}
 use Rattle.orc_checker.proofs.Hints.{can_turn}
+use Rattle.orc_checker.specs.declared.arena.Node.{Node}
+use Rattle.orc_checker.specs.NextDue.{waits}
+use Rattle.orc_checker.proofs.Noting.{still_noted, same_wait, wait_on, wait_written, wait_more}
 use Rattle.orc_checker.proofs.marked.Marked.other.Goals as goal
 
 pub returns-clause-done : goal.returns-clause-done
@@ -24,3 +27,9 @@ returns-clause-done c =
 
 pub write_node-requires : goal.write_node-requires
 write_node-requires c = can_turn c.args.self.now.nodes _ _ _ _ _ (c.reserve.ensures.nodes ∙ ap State.nodes c.self.view_is) c.in_ok-spot.ensures.there (λ v. refl) refl
+
+pub invariant_of-self-2 : goal.invariant_of-self-2
+invariant_of-self-2 c =
+    still_noted _ _ _ _ _
+    (wait_on _ _ _ (wait_on _ _ _ (same_wait _ _ c.reserve.ensures.nodes) (wait_written _ _ _ _ c.write_node.ensures.items refl)) (wait_more _ _ _ c.push_within.ensures.items (ap (λ (z : Node). waits z.kind) c.token_node.ensures)))
+    refl c.self.invariant

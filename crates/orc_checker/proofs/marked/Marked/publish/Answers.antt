@@ -1,4 +1,4 @@
-use Rattle.std.proofs.Common.{ap, ◌∙◌, subst, length, length-set, true}
+use Rattle.std.proofs.Common.{refl, ap, ◌∙◌, subst, length, length-set, true}
 use Rattle.std.specs.Prelude.{slice_set}
 use Rattle.orc_checker.specs.declared.arena.Kind.TheVariants.{Leaf}
 use Rattle.orc_checker.specs.declared.arena.Tip.TheVariants.{Ended}
@@ -9,6 +9,7 @@ use Rattle.orc_checker.specs.Settling.{Settles}
 use Rattle.orc_checker.proofs.Moves.{node}
 use Rattle.orc_checker.proofs.Publishing.{publish-enters}
 use Rattle.orc_checker.proofs.Hints.{can_publish}
+use Rattle.orc_checker.proofs.Noting.{still_noted, wait_on, wait_written, wait_passed}
 use Rattle.orc_checker.proofs.marked.Marked.publish.Goals as goal
 
 pub returns-clause-done : goal.returns-clause-done
@@ -27,3 +28,6 @@ returns-clause-done c =
 
 pub write_node-requires : goal.write_node-requires
 write_node-requires c = can_publish c.args.self.now.nodes _ _ _ c.args.s _ _ (ap State.nodes c.self.view_is) c.in_ok-bearer.ensures.there c.in_ok-bearer.ensures.carries
+
+pub invariant_of-self : goal.invariant_of-self
+invariant_of-self c = still_noted _ _ _ _ _ (wait_on _ _ _ (wait_written _ _ _ _ c.write_node.ensures.items refl) (wait_passed _ _ c.rise.ensures.passes)) refl c.self.invariant

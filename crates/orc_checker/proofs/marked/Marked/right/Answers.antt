@@ -8,6 +8,7 @@ use Rattle.orc_checker.specs.Checker.{State}
 use Rattle.orc_checker.proofs.Moves.{node}
 use Rattle.orc_checker.proofs.Resuming.{resume-enters}
 use Rattle.orc_checker.proofs.Hints.{can_turn}
+use Rattle.orc_checker.proofs.Noting.{still_noted, wait_on, wait_written, wait_dropped}
 use Rattle.orc_checker.proofs.marked.Marked.right.Goals as goal
 
 pub returns-clause-done : goal.returns-clause-done
@@ -36,3 +37,6 @@ returns-clause-done c code =
 
 pub write_node-requires : goal.write_node-requires
 write_node-requires c = can_turn c.args.self.now.nodes _ _ _ _ _ (ap State.nodes c.self.view_is) c.in_ok-otherwise.ensures.there (λ v. refl) refl
+
+pub invariant_of-self-2 : goal.invariant_of-self-2
+invariant_of-self-2 c = still_noted _ _ _ _ _ (wait_on _ _ _ (wait_written _ _ _ _ c.write_node.ensures.items refl) (wait_dropped _ _ _ c.drop_nodes.ensures.dropped)) refl c.self.invariant

@@ -1,4 +1,4 @@
-use Rattle.std.proofs.Common.{◌≡◌, ◌+◌, ◌∷◌, ◌++◌, [], ap, sym, ◌∙◌, subst, length, get_or, length-append, length-set, true, false, arith, rules}
+use Rattle.std.proofs.Common.{refl, ◌≡◌, ◌+◌, ◌∷◌, ◌++◌, [], ap, sym, ◌∙◌, subst, length, get_or, length-append, length-set, true, false, arith, rules}
 use Rattle.std.specs.Prelude.{slice_set}
 use Rattle.orc_checker.specs.declared.arena.Node.{Node}
 use Rattle.orc_checker.specs.declared.arena.Scope.{Scope}
@@ -15,6 +15,7 @@ use Rattle.orc_checker.proofs.Moves.{node}
 use Rattle.orc_checker.proofs.Answering.{one_more}
 use Rattle.orc_checker.proofs.Sending.{send-enters}
 use Rattle.orc_checker.proofs.Hints.{can_publish, one_in}
+use Rattle.orc_checker.proofs.Noting.{still_noted, same_wait, wait_on, wait_written, wait_passed}
 use Rattle.orc_checker.proofs.marked.Marked.send.Goals as goal
 
 pub returns-clause-done : goal.returns-clause-done
@@ -57,3 +58,9 @@ graft-requires c =
     let t = c.in_ok-bearer.bearer in
     let len = c.rise.ensures.len ∙ ap length c.write_node.ensures.items ∙ length-set c.reserve.new.nodes.items t.at (node (Leaf Ended) t.parent) ∙ ap length c.reserve.ensures.nodes in
     record { there = omega (arith, len, one_in c.self.inside.nodes.items c.in-Fed.at c.in-One.single c.in-One.field-1 (sym (ap Node.kind c.node_at.ensures) ∙ c.in-One.is)); room = search rules }
+
+pub invariant_of-self-2 : goal.invariant_of-self-2
+invariant_of-self-2 c =
+    still_noted _ _ _ _ _
+    (wait_on _ _ _ (wait_on _ _ _ (same_wait _ _ c.reserve.ensures.nodes) (wait_written _ _ _ _ c.write_node.ensures.items refl)) (wait_on _ _ _ (wait_passed _ _ c.rise.ensures.passes) (c.graft.ensures.calls refl)))
+    refl c.self.invariant

@@ -8,6 +8,7 @@ use Rattle.orc_checker.specs.Checker.{State}
 use Rattle.orc_checker.proofs.Moves.{node}
 use Rattle.orc_checker.proofs.Voiding.{void-enters}
 use Rattle.orc_checker.proofs.Hints.{can_turn}
+use Rattle.orc_checker.proofs.Noting.{still_noted, wait_written}
 use Rattle.orc_checker.proofs.marked.Marked.void.Goals as goal
 
 pub returns-clause-done : goal.returns-clause-done
@@ -25,3 +26,6 @@ returns-clause-done c =
 
 pub write_node-requires : goal.write_node-requires
 write_node-requires c = can_turn c.args.self.now.nodes _ _ _ _ _ (ap State.nodes c.self.view_is) c.in_ok-spot.ensures.there (λ v. refl) refl
+
+pub invariant_of-self : goal.invariant_of-self
+invariant_of-self c = still_noted _ _ _ _ _ (wait_written _ _ _ _ c.write_node.ensures.items refl) refl c.self.invariant

@@ -7,6 +7,6 @@ pub invariant_of-self : goal.invariant_of-self
 invariant_of-self c =
     let n = c.self.inside in
     let can = subst (λ (z : Stock). CanBecome z.items c.args.i c.args.node) (sym c.self.view_is) c.requires in (
-      subst (λ z. AreHints z n.hints.items) (sym c.set_item.ensures.items) (hints_written n.items.items n.hints.items c.args.i c.args.node can c.self.invariant.0),
+      subst (λ z. AreHints z n.hints.items) (sym c.set_item.ensures.items) (hints_written n.items.items n.hints.items c.args.i c.args.node (λ x e. (can x e).0) c.self.invariant.0),
       subst (λ z. AreListed z n.restless.items) (sym c.set_item.ensures.items) (listed_written n.items.items n.restless.items c.args.i c.args.node can c.self.invariant.1),
     )
