@@ -126,6 +126,29 @@ hints_more nodes hints y hint h below =
 pub hint_is_above : (nodes : List Node) (hints : List ℕ) (i : ℕ) → AreHints nodes hints → IsAbove nodes i (get_or hints i i)
 hint_is_above nodes hints i h = ⊎_elim (λ s. h.each i (get_or hints i i) s) (λ s. (0, sym s)) (there_or_not hints i i)
 
+set_there : {X : Type 0} (xs : List X) (i : ℕ) (x y : X) → slice_get (slice_set xs i x) i ≡ Some y → y ≡ x
+set_there [] i x y h = cc h
+set_there (z ∷ xs) zero x y h = sym (same_some x y h)
+set_there (z ∷ xs) (suc i) x y h = set_there xs i x y h
+
+-- a hint goes on to that of the node above
+pub hints_shorter : (nodes : List Node) (hints : List ℕ) (i further : ℕ) (x : Node) → slice_get nodes (get_or hints i i) ≡ Some x → IsHintBelow nodes hints (get_or hints i i) x.parent further → AreHints nodes hints → AreHints nodes (slice_set hints i further)
+hints_shorter nodes hints i further x a below h =
+    record {
+      len = length-set hints i further ∙ h.len;
+      each = λ j k e. ⊎_elim
+          (λ (same : j ≡ i). subst (λ z. IsAbove nodes z k) (sym same) (subst (IsAbove nodes i) (sym (set_there hints i further k (ap (slice_get (slice_set hints i further)) (sym same) ∙ e))) (above_all nodes i (get_or hints i i) further (hint_is_above nodes hints i h) on)))
+          (λ off. h.each j k (sym (get-set_other hints i j further off) ∙ e))
+          (same_or j i);
+    }
+  where
+    on : IsAbove nodes (get_or hints i i) further
+    on =
+        ⊎_elim
+        (λ e. (0, sym e))
+        (λ w. above_all nodes (get_or hints i i) x.parent further (one_above nodes (get_or hints i i) x w.0 a w.1 w.2) (subst (IsAbove nodes x.parent) (sym w.3) (hint_is_above nodes hints x.parent h)))
+        below
+
 pub hints_none : AreHints [] []
 hints_none = record { len = refl; each = λ i j e. cc e }
 

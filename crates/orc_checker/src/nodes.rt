@@ -105,7 +105,18 @@ fn hint_at(hints: &Vec<usize>, i: usize) -> usize
     }
 }
 
-// The hint of a new node.
+// Writes a hint that is there.
+fn set_hint(hints: &mut Vec<usize>, i: usize, hint: usize)
+    ensures items { hints.new.items ≡ slice_set hints.old.items i hint }
+    ensures len { vec_len hints.new ≡ vec_len hints.old }
+    ensures capacity { vec_capacity hints.new ≡ vec_capacity hints.old }
+{
+    if let Some(slot) = hints.get_mut(i) {
+        *slot = hint;
+    }
+}
+
+// The hint of a node below `parent`, where it had none.
 fn hint_below(items: &Vec<Node>, hints: &Vec<usize>, i: usize, parent: usize) -> usize
     ensures { IsHintBelow items.now.items hints.now.items i parent result }
 {
@@ -190,6 +201,18 @@ impl Nodes {
         ensures { IsAbove self.now.items i result }
     {
         hint_at(&self.hints, i)
+    }
+
+    /// A node's hint goes on to that of the node above it, where that one lets through. Walks that do so at each hint on their way halve it for
+    /// those that come after them.
+    pub(crate) fn shorten(&mut self, i: usize)
+        ensures { self.new ≡ self.old }
+    {
+        let hint = hint_at(&self.hints, i);
+        if let Some(node) = self.get(hint) {
+            let further = hint_below(&self.items, &self.hints, hint, node.parent);
+            set_hint(&mut self.hints, i, further);
+        }
     }
 
     /// The numbers of all nodes that can move by themselves, now or later, and of some that can't any more.
