@@ -1,5 +1,5 @@
 -- The least due time, by the notes.
-use Rattle.std.proofs.Common.{◌≡◌, ◌<◌, ◌+◌, ℕ, zero, suc, List, [], ◌∷◌, ◌++◌, length, get_or, Option, Some, None, refl, sym, ap, ◌∙◌, subst, inl, inr, ◌⊎◌, ⊎_elim, arith, length-append, false}
+use Rattle.std.proofs.Common.{◌≡◌, ◌<◌, ◌+◌, ℕ, zero, suc, List, [], ◌∷◌, ◌++◌, length, Option, Some, None, refl, sym, ap, ◌∙◌, subst, inl, inr, ◌⊎◌, ⊎_elim, arith, length-append, false}
 use Rattle.std.specs.Prelude.{slice_get, slice_set, IfSome, IfNone}
 use Rattle.std.specs.Bool.{Decides}
 use Rattle.orc_rules.specs.Timed.{IsIn}
@@ -11,7 +11,7 @@ use Rattle.orc_checker.specs.Settling.{kind_at}
 use Rattle.orc_checker.specs.DueTimes.{IsNoted, IsFirst}
 use Rattle.orc_checker.specs.NextDue.{IsTime, IsDueOf, IsDueAt, IsNext, AreNoted}
 use Rattle.orc_checker.proofs.Hints.{some_in}
-use Rattle.orc_checker.proofs.Lists.{get-append, get-more}
+use Rattle.orc_checker.proofs.Lists.{get-more}
 
 same_some : {X : Type 0} (x y : X) → Some x ≡ Some y → x ≡ y
 same_some x y e = cc e

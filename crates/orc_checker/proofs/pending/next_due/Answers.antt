@@ -1,4 +1,4 @@
-use Rattle.std.proofs.Common.{sym, ap, ◌∙◌, subst, true, false}
+use Rattle.std.proofs.Common.{sym, ◌∙◌, subst}
 use Rattle.orc_checker.specs.NextDue.{AreNoted}
 use Rattle.orc_checker.proofs.Earliest.{next_first, next_none, noted_less}
 use Rattle.orc_checker.proofs.pending.next_due.Goals as goal
