@@ -1,7 +1,7 @@
 // Which parts of a marked term can move.
 
-ghost use Rattle.std.specs.Prelude.{◌≡◌, ◌≤◌, ℕ, true, false, List, length, is_some};
-ghost use Rattle.orc_rules.specs.Idle.{is_ready};
+ghost use Rattle.std.specs.Prelude.{◌≡◌, ◌≤◌, ◌||◌, ℕ, true, false, List, length, is_some};
+ghost use Rattle.orc_rules.specs.Idle.{is_ready, has_void};
 ghost use Rattle.orc_rules.specs.Nodes.{code, definitions, param_of};
 ghost use Rattle.orc_rules.specs.Term.{values_of};
 ghost use Rattle.orc_checker.specs.Arena.{close_param, env_of};
@@ -44,6 +44,13 @@ fn are_values(scopes: &Vec<Scope>, cells: &Vec<Bound>, operands: &[Operand], sco
     }
 }
 
+/// Whether a token on a call of a site can move in a scope: all operands are values, or one is void.
+fn is_callable(scopes: &Vec<Scope>, cells: &Vec<Bound>, operands: &[Operand], scope: usize) -> bool
+    ensures { AreOrdered scopes.now.items → result ≡ (is_some (values_of (params_in cells.now.items scopes.now.items scope operands.now)) || has_void (params_in cells.now.items scopes.now.items scope operands.now)) }
+{
+    are_values(scopes, cells, operands, scope) || has_void(scopes, cells, operands, scope)
+}
+
 /// Whether a node of the program can move in a scope by itself. Its parts by whose moves it can move too are marked in `active`.
 fn wakes(
     program: &Program,
@@ -61,13 +68,7 @@ fn wakes(
     match program.node(node) {
         TermNode::Stop => false,
         TermNode::Operand(operand) => is_ready(scopes, cells, operand, scope),
-        TermNode::Site(_, list) => {
-            let operands = program.operands(list);
-            if are_values(scopes, cells, operands, scope) {
-                return true;
-            }
-            has_void(scopes, cells, operands, scope)
-        }
+        TermNode::Site(_, list) => is_callable(scopes, cells, program.operands(list), scope),
         TermNode::Call(number, _) => match definition(program, number) {
             Some(_) => true,
             None => false,
@@ -103,6 +104,14 @@ fn can_term_move(
     ensures moves { AreHalts (code program.now) halts.now.items → AreOrdered scopes.now.items → result ≡ term_moves (definitions program.now) (code program.now) cells.now.items scopes.now.items scope node }
     ensures len { length active.new.items ≡ length active.old.items }
 {
+    // Most tokens that can't move wait on these, whose parts needn't be looked at.
+    match program.node(node) {
+        TermNode::Operand(operand) => return is_ready(scopes, cells, operand, scope),
+        TermNode::Site(_, list) => {
+            return is_callable(scopes, cells, program.operands(list), scope);
+        }
+        _ => {}
+    }
     program_is_source();
     for i in 0..node {
         write_flag(active, i, false);

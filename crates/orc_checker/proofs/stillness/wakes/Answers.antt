@@ -30,25 +30,15 @@ returns-in-Operand-clause-wakes c are ordered =
     (ap (λ z. can_move (definitions l) (close env z)) (c.node.ensures.term ∙ ap (unfold_node (code l) l.lists) c.in-Operand.is) ∙ ap (can_move (definitions l)) (close-of-param env (param_of c.in-Operand.operand))
     ∙ sym (c.is_ready.ensures ordered))
 
-pub returns-then-are_values-clause-wakes : goal.returns-then-are_values-clause-wakes
-returns-then-are_values-clause-wakes c are ordered =
+pub returns-in-Site-clause-wakes : goal.returns-in-Site-clause-wakes
+returns-in-Site-clause-wakes c are ordered =
     let l = c.args.program.now in
     let env = env_of c.args.cells.now.items c.args.scopes.now.items c.args.scope in
-    let ps = c.operands-operands.result.now in
+    let ps = c.operands.result.now in
     wakes_itself (term_moves (definitions l) (code l) c.args.cells.now.items c.args.scopes.now.items c.args.scope) _ _ c.args.node _ refl
-    (ap (λ z. can_move (definitions l) (close env z)) (c.node.ensures.term ∙ ap (unfold_node (code l) l.lists) c.in-Site.is ∙ ap (λ z. site c.in-Site.field-0 (map param_of z)) (sym c.operands-operands.ensures.value))
+    (ap (λ z. can_move (definitions l) (close env z)) (c.node.ensures.term ∙ ap (unfold_node (code l) l.lists) c.in-Site.is ∙ ap (λ z. site c.in-Site.field-0 (map param_of z)) (sym c.operands.ensures.value))
     ∙ ap (can_move (definitions l)) (close-site env c.in-Site.field-0 (map param_of ps))
-    ∙ ap (λ z. z || has_void (params_in c.args.cells.now.items c.args.scopes.now.items c.args.scope ps)) (sym (c.are_values.ensures ordered) ∙ c.if-are_values.true))
-
-pub returns-else-are_values-clause-wakes : goal.returns-else-are_values-clause-wakes
-returns-else-are_values-clause-wakes c are ordered =
-    let l = c.args.program.now in
-    let env = env_of c.args.cells.now.items c.args.scopes.now.items c.args.scope in
-    let ps = c.operands-operands.result.now in
-    wakes_itself (term_moves (definitions l) (code l) c.args.cells.now.items c.args.scopes.now.items c.args.scope) _ _ c.args.node _ refl
-    (ap (λ z. can_move (definitions l) (close env z)) (c.node.ensures.term ∙ ap (unfold_node (code l) l.lists) c.in-Site.is ∙ ap (λ z. site c.in-Site.field-0 (map param_of z)) (sym c.operands-operands.ensures.value))
-    ∙ ap (can_move (definitions l)) (close-site env c.in-Site.field-0 (map param_of ps))
-    ∙ (λ j. (sym (c.are_values.ensures ordered) ∙ c.if-are_values.false) j || sym (c.has_void.ensures ordered) j))
+    ∙ sym (c.is_callable.ensures ordered))
 
 pub returns-in-Some-clause-wakes : goal.returns-in-Some-clause-wakes
 returns-in-Some-clause-wakes c are ordered =
