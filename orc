@@ -27,6 +27,7 @@ build() {
     else
         say "building the program for the first time: every proof is checked, on $jobs processors."
         say "That takes ten minutes to an hour; the next call starts at once. The log is build.log."
+        say "It may be broken off: the next call goes on from there."
     fi
     # Side by side, each crate after those that it stands on; then the program alone.
     (cd "$top" && rt all check --jobs "$jobs") 2>&1 | tee "$log" | progress || true
@@ -40,15 +41,17 @@ build() {
     say "built in $((SECONDS - started)) s"
 }
 
-# A line for each crate that is done.
+# A line for each crate that is done. Its name stands at the head of what is said of it.
 progress() {
     total=$(grep -cE '^[a-z_]+:' "$top/crates.txt")
     done=0
+    name=
     while IFS= read -r line; do
         case $line in
+        '== '*) name=${line#'== '} ;;
         *logic=proved*)
             done=$((done + 1))
-            say "proved $done of $total crates"
+            say "proved $name, $done of $total crates ($((SECONDS - started)) s so far)"
             ;;
         esac
     done

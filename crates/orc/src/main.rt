@@ -2,9 +2,12 @@
 #![tactic(auto)]
 
 use orc_run::{Files, ReadFault, command};
-use std::io::ErrorKind;
+use std::io::{ErrorKind, Read};
 use std::process::ExitCode;
-use std::{env, fs, rt};
+use std::{env, fs, io, rt};
+
+/// A byte more than the longest text that any command takes, in bytes: so much of a file tells that it is too long.
+const MOST: u64 = 1_073_741_825;
 
 /// The files of the system.
 #[derive(Drop)]
@@ -12,9 +15,16 @@ struct SystemFiles<'a, R> {
     rt: &'a R,
 }
 
+/// The first bytes of a file, `MOST` at most: a device may have no end.
+fn read_front<R: rt::Files + AllocGlobal>(rt: &R, path: &str) -> io::Result<Vec<u8>> {
+    let mut bytes = Vec::new(rt.alloc());
+    fs::open(rt, path)?.take(MOST).read_to_end(&mut bytes)?;
+    Ok(bytes)
+}
+
 impl<R: rt::Files + AllocGlobal> Files for SystemFiles<'_, R> {
     fn read(&mut self, path: &str) -> Result<Vec<u8>, ReadFault> {
-        fs::read(self.rt, path).map_err(|error| match error.kind() {
+        read_front(self.rt, path).map_err(|error| match error.kind() {
             ErrorKind::OutOfMemory => ReadFault::Memory,
             _ => ReadFault::Failed,
         })

@@ -1,0 +1,35 @@
+// A heap that refuses one request: preloaded before a program, the one whose number, counted from 1, stands in REFUSE. The file that is
+// open as descriptor 9 gets a byte when it does, so that whoever runs the program knows whether that many requests came.
+typedef __SIZE_TYPE__ size_t;
+
+extern char **environ;
+void *__libc_malloc(size_t);
+void *__libc_realloc(void *, size_t);
+long write(int, const void *, size_t);
+
+static size_t wanted(void) {
+    size_t number = 0;
+    for (char **word = environ; word && *word; word++) {
+        const char *name = "REFUSE=";
+        const char *at = *word;
+        while (*name && *at == *name) at++, name++;
+        if (*name) continue;
+        while (*at >= '0' && *at <= '9') number = number * 10 + (size_t)(*at++ - '0');
+    }
+    return number;
+}
+
+static int is_refused(void) {
+    static size_t requests;
+    if (++requests != wanted()) return 0;
+    write(9, "!", 1);
+    return 1;
+}
+
+void *malloc(size_t bytes) {
+    return is_refused() ? 0 : __libc_malloc(bytes);
+}
+
+void *realloc(void *old, size_t bytes) {
+    return is_refused() ? 0 : __libc_realloc(old, bytes);
+}
