@@ -7,6 +7,19 @@ use std::convert::AsStr;
 
 const VERSION: &str = "0.1.0 (proved with rattle-kit-13b logic dac8208d650f15bf)";
 
+/// What stands below the list of commands.
+const CODES: &str = "Faults, each one line on standard error, a code with its place:
+  S, C  the source's text, its names    (a byte, counted from 0)
+  L, J  the script, the journal's text  (a line, counted from 1)
+  K     an entry of the journal         (counted from 1)
+  E     the engine
+
+Status:
+  0  halted, or done                    4  cut by the limit, or full
+  1  a fault in one of the files        5  memory was refused
+  2  the command line was refused       6  a file or the output failed
+  3  quiet: it waits for ever           7  the engine is at fault";
+
 /// What a command line asks for.
 #[derive(Clone, Copy, Debug)]
 pub enum Job<'a> {
@@ -80,6 +93,7 @@ fn orc_command<'a>(alloc: Global) -> Result<Command<'a>, AllocError> {
     Command::new(alloc, "orc")
         .version(VERSION)
         .about("Run programs of the Orc calculus, and check their journals")
+        .after_help(CODES)
         .subcommand_required(true)
         .arg_required_else_help(true)
         .subcommand(run_command(alloc)?)?

@@ -1,7 +1,8 @@
 //! What a command line does, over the files and the streams that it is given.
 
-ghost use Rattle.std.specs.Prelude.{◌≡◌, ◌<◌, IfOk};
-ghost use Rattle.orc_run.specs.Commands.{failure_status};
+ghost use Rattle.std.specs.Prelude.{◌≡◌, ◌≢◌, ◌<◌, IfOk, IfErr};
+ghost use Rattle.std.specs.Io.KnownBytes.{Keeps};
+ghost use Rattle.orc_run.specs.Commands.{failure_status, IsDone, IsUnread, LeavesUndone};
 
 use crate::arguments::{Job, read_words};
 use crate::faults::RunFault;
@@ -47,7 +48,8 @@ impl Failure<'_> {
 
 /// Reports a command line that asks for help or for the version, or was refused: the status.
 fn refuse<W: Write, V: Write>(error: &clap::Error, out: &mut W, err: &mut V) -> u8
-    ensures { result < 8 }
+    ensures status { result < 8 × result ≢ 1 × result ≢ 7 }
+    ensures refused { result ≡ 2 → Keeps (W.contents out.old) (W.contents out.new) }
 {
     if error.kind() == ErrorKind::OutOfMemory {
         let _ = writeln!(err, "orc: memory");
@@ -66,7 +68,9 @@ fn refuse<W: Write, V: Write>(error: &clap::Error, out: &mut W, err: &mut V) -> 
     }
 }
 
-fn read<'a, F: Files>(path: &'a str, files: &mut F) -> Result<Vec<u8>, Failure<'a>> {
+fn read<'a, F: Files>(path: &'a str, files: &mut F) -> Result<Vec<u8>, Failure<'a>>
+    ensures { IfErr result IsUnread }
+{
     match files.read(path) {
         Ok(bytes) => Ok(bytes),
         Err(fault) => Err(Failure::Unread(path, fault)),
@@ -78,7 +82,9 @@ fn read_script<'a, F: Files>(
     alloc: Global,
     path: Option<&'a str>,
     files: &mut F,
-) -> Result<Vec<u8>, Failure<'a>> {
+) -> Result<Vec<u8>, Failure<'a>>
+    ensures { IfErr result IsUnread }
+{
     match path {
         Some(path) => read(path, files),
         None => Ok(Vec::new(alloc)),
@@ -86,13 +92,15 @@ fn read_script<'a, F: Files>(
 }
 
 /// Does what a command line asks for: the status.
+#[tactic(auto, using(crate::proofs::Statuses::unread, crate::proofs::Statuses::unrun, crate::proofs::Statuses::unjudged, crate::proofs::Statuses::unprinted))]
 fn do_job<'a, F: Files, W: Write>(
     alloc: Global,
     job: Job<'a>,
     files: &mut F,
     out: &mut W,
 ) -> Result<u8, Failure<'a>>
-    ensures { IfOk result (λ status. status < 8) }
+    ensures done { IfOk result IsDone }
+    ensures undone { IfErr result (λ f. LeavesUndone f (W.contents out.old) (W.contents out.new)) }
 {
     match job {
         Job::Run {
@@ -139,7 +147,9 @@ fn do_job<'a, F: Files, W: Write>(
 /// Does one command line, whose first word is the program's name, and gives the process's status.
 ///
 /// FILE, JOURNAL and the script are read in this order, before anything else. Standard output is `out`, standard error `err`; what
-/// standard error doesn't take changes no status.
+/// standard error doesn't take changes no status. Where the status says that a file's text, the command line or the engine was at
+/// fault, nothing was written to standard output.
+#[tactic(auto, using(crate::proofs::Statuses::kept, crate::proofs::Statuses::untouched))]
 pub fn command<S, F, W, V>(
     alloc: Global,
     words: &[S],
@@ -152,7 +162,10 @@ where
     F: Files,
     W: Write,
     V: Write,
-    ensures { result < 8 }
+    ensures status { result < 8 }
+    ensures fault { result ≡ 1 → Keeps (W.contents out.old) (W.contents out.new) }
+    ensures refused { result ≡ 2 → Keeps (W.contents out.old) (W.contents out.new) }
+    ensures broken { result ≡ 7 → Keeps (W.contents out.old) (W.contents out.new) }
 {
     let job = match read_words(alloc, words) {
         Err(error) => return refuse(&error, out, err),
