@@ -1,6 +1,6 @@
 //! Prunings, otherwises, definitions, time and scripts: what runs may publish, how they end, and when.
 
-use crate::harness::{Row, refused, runs, summary, wrong};
+use crate::harness::{Row, refused, run_row, runs, summary, wrong};
 use orc_run::End;
 use std::test::Fail;
 
@@ -197,6 +197,13 @@ fn cuts_a_metronome(rt: HostRuntime) -> Result<(), Fail> {
         lines = lines.saturating_add(1);
     }
     assert_eq!(rt; told.published, lines);
+    let outs = [text.as_str()];
+    let row = Row {
+        words: &["--limit", "50"],
+        ..runs(source, 4, &outs)
+    };
+    let (done, may) = run_row(rt.alloc(), &row)?;
+    assert!(rt; may, "{done:?}");
     Ok(())
 }
 
@@ -209,5 +216,10 @@ fn runs_races_one_after_another(rt: HostRuntime) -> Result<(), Fail> {
     assert_eq!(rt; told.end, End::Halted);
     assert_eq!(rt; told.now, 0);
     assert_eq!(rt; text.as_str(), "1100\n");
+    let row = Row {
+        script: NEVER,
+        ..runs(source, 0, &["1100\n"])
+    };
+    assert!(rt; run_row(rt.alloc(), &row)?.1);
     Ok(())
 }

@@ -1,7 +1,6 @@
 //! Programs printed, and journals written.
 
-use crate::harness::{MemoryFiles, Row, ShortWriter, orc, run_row, runs};
-use orc_run::command;
+use crate::harness::{Row, orc, run_row, runs};
 use std::test::Fail;
 
 #[test]
@@ -34,33 +33,6 @@ fn prints_no_text_that_spells_nothing(rt: HostRuntime) -> Result<(), Fail> {
     assert_eq!(rt; done.status, 6);
     assert_eq!(rt; done.out.as_str(), "");
     assert_eq!(rt; done.err.as_str(), "orc: read b.orc\n");
-    Ok(())
-}
-
-// What a writer has that takes four bytes of a text, one at a time.
-#[test]
-fn leaves_a_front_of_a_text(rt: HostRuntime) -> Result<(), Fail> {
-    let alloc = rt.alloc();
-    let rows: [(&[&str], &[u8]); 2] = [
-        (&["orc", "print", "a.orc"], b"Add("),
-        (&["orc", "run", "a.orc", "--journal"], b"orc-"),
-    ];
-    for (words, front) in rows {
-        let mut files = MemoryFiles {
-            alloc,
-            files: &[("a.orc", b"Add(1,2)")],
-        };
-        let mut out = ShortWriter {
-            taken: Vec::new(alloc),
-            room: 4,
-            at_once: 1,
-        };
-        let mut err = Vec::new(alloc);
-        let status = command(alloc, words, &mut files, &mut out, &mut err);
-        assert_eq!(rt; status, 6);
-        assert_eq!(rt; out.taken.as_slice(), front);
-        assert_eq!(rt; err.as_slice(), b"orc: write\n".as_slice());
-    }
     Ok(())
 }
 

@@ -24,15 +24,21 @@ impl Files for MemoryFiles<'_> {
     }
 }
 
-/// Files of which none can be read, for this reason.
+/// Files of which the first `good` that are asked for are empty, and the next one can't be read, for this reason.
 #[derive(Drop)]
 pub struct FailingFiles {
+    pub alloc: Global,
+    pub good: usize,
     pub fault: ReadFault,
 }
 
 impl Files for FailingFiles {
     fn read(&mut self, _path: &str) -> Result<Vec<u8>, ReadFault> {
-        Err(self.fault)
+        if self.good == 0 {
+            return Err(self.fault);
+        }
+        self.good -= 1;
+        Ok(Vec::new(self.alloc))
     }
 }
 
@@ -60,6 +66,30 @@ impl Write for ShortWriter {
     }
 }
 
+impl ShortWriter {
+    pub fn new(alloc: Global, room: usize, at_once: usize) -> ShortWriter {
+        ShortWriter {
+            taken: Vec::new(alloc),
+            room,
+            at_once,
+        }
+    }
+}
+
+/// A writer that takes nothing, and says so in place of failing.
+#[derive(Drop)]
+pub struct IdleWriter;
+
+impl Write for IdleWriter {
+    fn write(&mut self, _bytes: &[u8]) -> io::Result<usize> {
+        Ok(0)
+    }
+
+    fn flush(&mut self) -> io::Result<()> {
+        Ok(())
+    }
+}
+
 /// What a command line did.
 #[derive(Debug, Drop)]
 pub struct Done {
@@ -68,17 +98,65 @@ pub struct Done {
     pub err: String,
 }
 
+impl Done {
+    /// What a check said: a line on standard output where it says yes, else one on standard error.
+    pub fn said(&self) -> &str {
+        if self.status == 0 {
+            self.out.as_str()
+        } else {
+            self.err.as_str()
+        }
+    }
+}
+
+/// Does one command line over files in memory and a standard output: the status, and what standard error has.
+pub fn orc_into<W: Write>(
+    alloc: Global,
+    words: &[&str],
+    files: &[(&str, &[u8])],
+    out: &mut W,
+) -> Result<(u8, String), Fail> {
+    let mut files = MemoryFiles { alloc, files };
+    let mut err = Vec::new(alloc);
+    let status = command(alloc, words, &mut files, out, &mut err);
+    Ok((status, String::from_utf8(err)?))
+}
+
 /// Does one command line over files in memory.
 pub fn orc(alloc: Global, words: &[&str], files: &[(&str, &[u8])]) -> Result<Done, Fail> {
-    let mut files = MemoryFiles { alloc, files };
     let mut out = Vec::new(alloc);
-    let mut err = Vec::new(alloc);
-    let status = command(alloc, words, &mut files, &mut out, &mut err);
+    let (status, err) = orc_into(alloc, words, files, &mut out)?;
     Ok(Done {
         status,
         out: String::from_utf8(out)?,
-        err: String::from_utf8(err)?,
+        err,
     })
+}
+
+/// Runs a program with a limit of entries, and writes its journal.
+pub fn recorded(alloc: Global, source: &[u8], script: &[u8], limit: &str) -> Result<Done, Fail> {
+    let words = [
+        "orc",
+        "run",
+        "a.orc",
+        "--script",
+        "a.script",
+        "--limit",
+        limit,
+        "--journal",
+    ];
+    orc(alloc, &words, &[("a.orc", source), ("a.script", script)])
+}
+
+/// Checks a journal of a program.
+pub fn checked(alloc: Global, source: &[u8], script: &[u8], journal: &[u8]) -> Result<Done, Fail> {
+    let words = ["orc", "check", "a.orc", "a.journal", "--script", "a.script"];
+    let files = [
+        ("a.orc", source),
+        ("a.journal", journal),
+        ("a.script", script),
+    ];
+    orc(alloc, &words, &files)
 }
 
 /// A program, and all that its run may do: the status, standard error, and standard output, which is one of `outs`.

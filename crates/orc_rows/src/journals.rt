@@ -1,6 +1,6 @@
-//! Journals: what checking them says, and that those that runs write are taken.
+//! Journals: what checking them says.
 
-use crate::harness::orc;
+use crate::harness::checked;
 use std::alloc::Global;
 use std::test::Fail;
 
@@ -10,35 +10,18 @@ const SUM: &str = "(1 | 2) >x> Add(x, 10)";
 
 const LATE: &str = "(Rwait(3) >> Ift(false)) ; 9";
 
-// The status, standard output and standard error of a check.
-fn checked(
-    alloc: Global,
-    source: &[u8],
-    script: &[u8],
-    journal: &[u8],
-) -> Result<(u8, String, String), Fail> {
-    let words = ["orc", "check", "a.orc", "a.journal", "--script", "a.script"];
-    let files = [
-        ("a.orc", source),
-        ("a.journal", journal),
-        ("a.script", script),
-    ];
-    let done = orc(alloc, &words, &files)?;
-    Ok((done.status, done.out, done.err))
-}
-
 // A line for each journal of which a check says something else than this.
 fn wrong(alloc: Global, rows: &[(&str, &str, u8, &str)]) -> Result<String, Fail> {
     let mut wrong = String::new(alloc);
     for (source, journal, status, said) in rows {
-        let (got, out, err) = checked(alloc, source.as_bytes(), b"", journal.as_bytes())?;
-        let text = if *status == 0 {
-            out.as_str()
+        let done = checked(alloc, source.as_bytes(), b"", journal.as_bytes())?;
+        let (out, err) = if *status == 0 {
+            (*said, "")
         } else {
-            err.as_str()
+            ("", *said)
         };
-        if got != *status || text != *said {
-            let line = format!(in alloc; "{journal}: {got} {out}{err}\n")?;
+        if done.status != *status || done.out.as_str() != out || done.err.as_str() != err {
+            let line = format!(in alloc; "{journal}: {done:?}\n")?;
             wrong.push_str(line.as_str())?;
         }
     }
@@ -123,9 +106,82 @@ fn follows_a_fallback_in_time(rt: HostRuntime) -> Result<(), Fail> {
     Ok(())
 }
 
+// Nested prunings of one name, and a void argument in an otherwise.
+#[test]
+fn follows_cells(rt: HostRuntime) -> Result<(), Fail> {
+    let rows: [(&str, &str, u8, &str); 4] = [
+        (
+            "def g(a) = Add(a, x) <x< 1\ng(x) <x< 10",
+            "orc-journal 1\nopen 1 1 2 3\ndef 2 4\nopen 4 2 5 6\nbind 6 2 1\nbind 3 1 10\ncall 5 1 Add(10, 1)\nreturn 1 7 11\npublish 7 11\n",
+            0,
+            "ok 8 Halted\n",
+        ),
+        // The call's first argument has no value yet.
+        (
+            "def g(a) = Add(a, x) <x< 1\ng(x) <x< 10",
+            "orc-journal 1\nopen 1 1 2 3\ndef 2 4\nopen 4 2 5 6\nbind 6 2 1\ncall 5 1 Add(10, 1)\n",
+            1,
+            "orc: K at entry 5: Form\n",
+        ),
+        (
+            "(Add(x, 1) <x< stop) ; 7",
+            "orc-journal 1\nother 1 2\nopen 2 1 3 4\nend 4\nlost 1\nvoid 3\nright 1 5\npublish 5 7\n",
+            0,
+            "ok 7 Halted\n",
+        ),
+        // The call that the void argument ends is still there.
+        (
+            "(Add(x, 1) <x< stop) ; 7",
+            "orc-journal 1\nother 1 2\nopen 2 1 3 4\nend 4\nlost 1\nright 1 5\n",
+            1,
+            "orc: K at entry 5: Halted\n",
+        ),
+    ];
+    assert_eq!(rt; wrong(rt.alloc(), rows.as_slice())?.as_str(), "");
+    Ok(())
+}
+
+// A journal of the first version against a script of several answers.
+#[test]
+fn counts_the_answers_of_a_line(rt: HostRuntime) -> Result<(), Fail> {
+    let source = b"Try() ; Try() ; Try() ; 0";
+    let journal =
+        b"orc-journal 1\nother 1 2\nother 2 3\nother 3 4\ncall 4 1 Try()\nreturn 1 halt\nright 3 5\ncall 5 2 Try()\nreturn 2 halt\nright 2 6\ncall 6 3 Try()\nreturn 3 7 5\npublish 7 5\n";
+    let rows: [(&[u8], u8, &str, &str); 3] = [
+        (b"Try() = halt then halt then 5", 0, "ok 12 Halted\n", ""),
+        (
+            b"Try() = halt then halt",
+            1,
+            "",
+            "orc: K at entry 11: Answer\n",
+        ),
+        (
+            b"Try() = halt then 4 then 5",
+            1,
+            "",
+            "orc: K at entry 8: Answer\n",
+        ),
+    ];
+    for (script, status, out, err) in rows {
+        let done = checked(rt.alloc(), source, script, journal)?;
+        assert_eq!(rt; done.status, status, "at {script:?}");
+        assert_eq!(rt; done.out.as_str(), out);
+        assert_eq!(rt; done.err.as_str(), err);
+    }
+    Ok(())
+}
+
 #[test]
 fn reads_journals_line_by_line(rt: HostRuntime) -> Result<(), Fail> {
-    let rows: [(&str, &str, u8, &str); 10] = [
+    let rows: [(&str, &str, u8, &str); 13] = [
+        ("1", "orc-journal 2\r\npublish 1 1\r\n", 1, "orc: J1\n"),
+        (
+            "1",
+            "orc-journal 2\npublish 1 1\r\n",
+            1,
+            "orc: J2 at line 2\n",
+        ),
+        ("1", "orc-journal 2\n\n", 1, "orc: J2 at line 2\n"),
         ("1", "", 1, "orc: J1\n"),
         ("1", "publish 1 1\n", 1, "orc: J1\n"),
         ("1", "orc-journal 1", 1, "orc: J1\n"),
@@ -161,7 +217,7 @@ fn checks_each_front_of_a_journal(rt: HostRuntime) -> Result<(), Fail> {
             lines = lines.saturating_add(1);
             line_ends = true;
         }
-        let (status, out, err) = checked(alloc, SUM.as_bytes(), b"", front)?;
+        let done = checked(alloc, SUM.as_bytes(), b"", front)?;
         let said = if end < header.len() {
             format!(in alloc; "orc: J1\n")?
         } else if !line_ends {
@@ -173,101 +229,8 @@ fn checks_each_front_of_a_journal(rt: HostRuntime) -> Result<(), Fail> {
             let entries = lines.saturating_sub(1);
             format!(in alloc; "ok {entries} Running\n")?
         };
-        let text = if status == 0 { out } else { err };
-        assert_eq!(rt; text.as_str(), said.as_str(), "at {end}");
+        assert_eq!(rt; done.said(), said.as_str(), "at {end}");
         line_ends = false;
-    }
-    Ok(())
-}
-
-// What a run writes with --journal is taken, with the run's end; with another script the answers are refused.
-#[test]
-fn takes_what_runs_write(rt: HostRuntime) -> Result<(), Fail> {
-    let alloc = rt.alloc();
-    let rows: [(&str, &str, u8, &str, &str); 14] = [
-        ("1", "", 0, " Halted\n", ""),
-        (SUM, "", 0, " Halted\n", ""),
-        (
-            "x <x< (Rwait(2) >> 20 | Rwait(1) >> 10)",
-            "",
-            0,
-            " Halted\n",
-            "",
-        ),
-        ("x <x< (1 | 2)", "", 0, " Halted\n", ""),
-        (LATE, "", 0, " Halted\n", ""),
-        ("(Add(x, 1) <x< stop) ; 7", "", 0, " Halted\n", ""),
-        (
-            "def f(x, y) = x\nf(1, y) <y< Never()",
-            "Never() = never",
-            3,
-            " Quiet\n",
-            "",
-        ),
-        (
-            "((Add(x, y) ; 5) <x< stop) <y< Never()",
-            "Never() = never",
-            3,
-            " Quiet\n",
-            "",
-        ),
-        ("(1 ; 2) >x> Add(x, 1)", "", 0, " Halted\n", ""),
-        ("val x = 1 | 2\nAdd(x, x)", "", 0, " Halted\n", ""),
-        (
-            "Flip() | Flip() | Flip() | Flip()",
-            "Flip() = 1 then halt then 3 after 2",
-            0,
-            " Halted\n",
-            "Flip() = 1",
-        ),
-        (
-            "Try() ; Try() ; Try() ; 0",
-            "Try() = halt then halt then 5",
-            0,
-            " Halted\n",
-            "Try() = halt",
-        ),
-        (
-            "A() | A()",
-            "A() = never then 1",
-            3,
-            " Quiet\n",
-            "A() = never",
-        ),
-        (
-            "def m() = signal | Rwait(1) >> m()\nm()",
-            "",
-            4,
-            " Running\n",
-            "",
-        ),
-    ];
-    for (source, script, status, state, cut) in rows {
-        let words = [
-            "orc",
-            "run",
-            "a.orc",
-            "--script",
-            "a.script",
-            "--limit",
-            "50",
-            "--journal",
-        ];
-        let files = [
-            ("a.orc", source.as_bytes()),
-            ("a.script", script.as_bytes()),
-        ];
-        let run = orc(alloc, &words, &files)?;
-        assert_eq!(rt; run.status, status, "at {source}");
-        let journal = run.out.as_bytes();
-        let (status, out, err) = checked(alloc, source.as_bytes(), script.as_bytes(), journal)?;
-        assert_eq!(rt; status, 0, "at {source}: {err}");
-        assert!(rt; out.as_str().ends_with(state), "at {source}: {out}");
-        if !cut.is_empty() {
-            let (status, _, err) = checked(alloc, source.as_bytes(), cut.as_bytes(), journal)?;
-            assert_eq!(rt; status, 1, "at {source}");
-            assert!(rt; err.as_str().ends_with(": Answer\n"), "at {source}: {err}");
-        }
     }
     Ok(())
 }

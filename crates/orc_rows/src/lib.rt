@@ -14,8 +14,14 @@ mod journals;
 #[cfg(test)]
 mod programs;
 #[cfg(test)]
+mod replays;
+#[cfg(test)]
 mod scope_rows;
 #[cfg(test)]
+mod script_rows;
+#[cfg(test)]
 mod sources;
+#[cfg(test)]
+mod streams;
 #[cfg(test)]
 mod syntax_rows;

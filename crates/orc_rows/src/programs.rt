@@ -53,6 +53,12 @@ fn binds_and_waits(rt: HostRuntime) -> Result<(), Fail> {
             0,
             &["1\n"],
         ),
+        // One more unit than there is time for.
+        runs(
+            b"Rwait(9223372036854775807) >> Rwait(9223372036854775807) >> Rwait(2) >> 1",
+            3,
+            &[""],
+        ),
         Row {
             script: b"A() = 1 after 2 then 2\n",
             ..runs(b"A() | A()", 0, &["2\n1\n"])
@@ -134,7 +140,17 @@ fn refuses_sources(rt: HostRuntime) -> Result<(), Fail> {
         refused(b"1 >x> x(2)", "orc: C6 at 6\n"),
         refused(b"Add", "orc: C2 at 0\n"),
         refused(b"x", "orc: C1 at 0\n"),
+        refused(b"val x = 1 x(2)", "orc: C6 at 10\n"),
         refused(b"def f() = 1\nf(2)", "orc: C3 at 12\n"),
+        refused(b"def f(a) = a\nf()", "orc: C3 at 13\n"),
+        refused(
+            b"def f(a,b,c,d,e,g,h,i,j,k,l,m,n,o,p,q,r) = a\n1",
+            "orc: C8 at 38\n",
+        ),
+        refused(
+            b"Add(1,2,3,4,5,6,7,8,9,0,1,2,3,4,5,6,(7))",
+            "orc: C8 at 37\n",
+        ),
         refused(b"def f() = 1\ndef f() = 2\nf()", "orc: C4 at 16\n"),
     ];
     assert_eq!(rt; wrong(rt.alloc(), rows.as_slice())?.as_str(), "");

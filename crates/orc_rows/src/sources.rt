@@ -1,6 +1,6 @@
 //! Sources at the limits of length and depth.
 
-use crate::harness::{orc, refused, run_row, runs, summary};
+use crate::harness::{checked, orc, recorded, refused, run_row, runs, summary};
 use orc_run::End;
 use std::alloc::{AllocError, Global};
 use std::test::Fail;
@@ -56,6 +56,10 @@ fn counts_operators(rt: HostRuntime) -> Result<(), Fail> {
     assert_eq!(rt; told.end, End::Halted);
     assert_eq!(rt; told.entries, 8001);
     assert!(rt; text.as_bytes() == lines.as_slice());
+    let run = recorded(alloc, &most, b"", "8001")?;
+    assert_eq!(rt; run.status, 0);
+    let check = checked(alloc, &most, b"", run.out.as_bytes())?;
+    assert_eq!(rt; check.out.as_str(), "ok 8001 Halted\n");
     let more = nested(alloc, b"1 | ", b"1", b"", 4001)?;
     assert!(rt; run_row(alloc, &refused(&more, "orc: S5 at 16002\n"))?.1);
     // Operators inside brackets that have been closed count too.

@@ -1,0 +1,199 @@
+//! Files that can't be read, and streams that don't take what is written.
+
+use crate::harness::{FailingFiles, IdleWriter, MemoryFiles, ShortWriter, checked, orc, orc_into};
+use orc_run::{ReadFault, command};
+use std::alloc::Global;
+use std::test::Fail;
+
+const FILES: [(&str, &[u8]); 3] = [
+    ("a.orc", b"Pair(1, 9) | (Pair(2, 9) ; 6)"),
+    ("a.script", b"Pair(1, _) = 5 after 2\nPair(_, _) = halt\n"),
+    ("a.journal", b"orc-journal 2\nfork 1 2 3\n"),
+];
+
+const RUN: &[&str] = &["orc", "run", "a.orc", "--script", "a.script"];
+
+const CHECK: &[&str] = &["orc", "check", "a.orc", "a.journal", "--script", "a.script"];
+
+const PRINT: &[&str] = &["orc", "print", "a.orc"];
+
+// A writer that takes one byte a call and fails at the first call, the second and so on, until it takes all: what it has is always
+// a front of the text.
+#[test]
+fn fails_at_each_call_of_a_writer(rt: HostRuntime) -> Result<(), Fail> {
+    let alloc = rt.alloc();
+    let rows: [(&[&str], &str); 5] = [
+        (RUN, "6\n5\n"),
+        (CHECK, "ok 1 Running\n"),
+        (PRINT, "Pair(1, 9) | (Pair(2, 9) ; 6)\n"),
+        (
+            &[
+                "orc",
+                "run",
+                "a.orc",
+                "--script",
+                "a.script",
+                "--limit",
+                "1",
+                "--journal",
+            ],
+            "orc-journal 2\nfork 1 2 3\n",
+        ),
+        (&["orc", "print", "--help"], ""),
+    ];
+    for (words, text) in rows {
+        let whole = orc(alloc, words, FILES.as_slice())?;
+        assert!(rt; text.is_empty() || whole.out.as_str() == text, "{whole:?}");
+        let bytes = whole.out.as_bytes();
+        for room in 0..bytes.len() {
+            let mut out = ShortWriter::new(alloc, room, 1);
+            let (status, err) = orc_into(alloc, words, FILES.as_slice(), &mut out)?;
+            assert_eq!(rt; status, 6, "at {words:?} {room}");
+            assert!(rt;
+                out.taken.as_slice() == &bytes[..room],
+                "at {words:?} {room}"
+            );
+            assert_eq!(rt; err.as_str(), "orc: write\n");
+        }
+        let mut out = ShortWriter::new(alloc, bytes.len(), 1);
+        let (status, err) = orc_into(alloc, words, FILES.as_slice(), &mut out)?;
+        assert_eq!(rt; status, whole.status, "at {words:?}");
+        assert!(rt; out.taken.as_slice() == bytes, "at {words:?}");
+        assert_eq!(rt; err.as_str(), "");
+    }
+    Ok(())
+}
+
+// A program that publishes nothing writes nothing, and so needs no writer.
+#[test]
+fn fails_at_a_writer_that_takes_nothing(rt: HostRuntime) -> Result<(), Fail> {
+    let alloc = rt.alloc();
+    for words in [RUN, CHECK, PRINT, &["orc", "--version"]] {
+        let (status, err) = orc_into(alloc, words, FILES.as_slice(), &mut IdleWriter)?;
+        assert_eq!(rt; status, 6, "at {words:?}");
+        assert_eq!(rt; err.as_str(), "orc: write\n", "at {words:?}");
+    }
+    let files: [(&str, &[u8]); 1] = [("a.orc", b"stop")];
+    let (status, err) = orc_into(alloc, &["orc", "run", "a.orc"], &files, &mut IdleWriter)?;
+    assert_eq!(rt; status, 0);
+    assert_eq!(rt; err.as_str(), "");
+    Ok(())
+}
+
+// A writer that takes 2 bytes and then fails has a front of the text, however many bytes it takes at once.
+#[test]
+fn fails_at_a_short_writer(rt: HostRuntime) -> Result<(), Fail> {
+    let alloc = rt.alloc();
+    let files: [(&str, &[u8]); 1] = [("a.orc", b"Add(100, 23)")];
+    for at_once in [1, 2, 10] {
+        let mut out = ShortWriter::new(alloc, 2, at_once);
+        let (status, err) = orc_into(alloc, &["orc", "run", "a.orc"], &files, &mut out)?;
+        assert_eq!(rt; status, 6);
+        assert_eq!(rt; out.taken.as_slice(), b"12".as_slice());
+        assert_eq!(rt; err.as_str(), "orc: write\n");
+    }
+    Ok(())
+}
+
+// Text that standard error doesn't take changes no status, whatever went wrong.
+#[test]
+fn keeps_its_status_without_standard_error(rt: HostRuntime) -> Result<(), Fail> {
+    let alloc = rt.alloc();
+    let rows: [(&[&str], u8); 4] = [
+        (&["orc", "run", "a.journal"], 1),
+        (&["orc", "run", "b.orc"], 6),
+        (&["orc", "run"], 2),
+        (RUN, 0),
+    ];
+    for (words, expected) in rows {
+        let mut files = MemoryFiles {
+            alloc,
+            files: FILES.as_slice(),
+        };
+        let mut out = Vec::new(alloc);
+        let mut err = ShortWriter::new(alloc, 3, 2);
+        let status = command(alloc, words, &mut files, &mut out, &mut err);
+        assert_eq!(rt; status, expected, "at {words:?}");
+        let status = command(alloc, words, &mut files, &mut out, &mut IdleWriter);
+        assert_eq!(rt; status, expected, "at {words:?}");
+    }
+    Ok(())
+}
+
+// FILE, JOURNAL and the script are read in this order, before anything else: here each is empty, so that FILE is no program.
+#[test]
+fn blames_the_first_file_that_is_not_read(rt: HostRuntime) -> Result<(), Fail> {
+    let alloc = rt.alloc();
+    let rows: [(&[&str], usize, &str); 6] = [
+        (RUN, 0, "orc: read a.orc\n"),
+        (RUN, 1, "orc: read a.script\n"),
+        (CHECK, 0, "orc: read a.orc\n"),
+        (CHECK, 1, "orc: read a.journal\n"),
+        (CHECK, 2, "orc: read a.script\n"),
+        (PRINT, 0, "orc: read a.orc\n"),
+    ];
+    for (words, good, line) in rows {
+        for (fault, expected, said) in [
+            (ReadFault::Failed, 6, line),
+            (ReadFault::Memory, 5, "orc: memory\n"),
+        ] {
+            let mut files = FailingFiles { alloc, good, fault };
+            let mut out = Vec::new(alloc);
+            let mut err = Vec::new(alloc);
+            let status = command(alloc, words, &mut files, &mut out, &mut err);
+            assert_eq!(rt; status, expected, "at {words:?}");
+            assert!(rt; out.is_empty(), "at {words:?}");
+            assert_eq!(rt; String::from_utf8(err)?.as_str(), said, "at {words:?}");
+        }
+    }
+    Ok(())
+}
+
+// The files of a check, and the line that one of them is answered with.
+#[derive(Clone, Copy)]
+struct Faulty<'a> {
+    source: &'a [u8],
+    script: &'a [u8],
+    journal: &'a [u8],
+    line: &'a str,
+}
+
+fn is_blamed(alloc: Global, files: &Faulty) -> Result<bool, Fail> {
+    let done = checked(alloc, files.source, files.script, files.journal)?;
+    Ok(done.status == 1 && done.out.is_empty() && done.err.as_str() == files.line)
+}
+
+// What stands in the files that were read is looked at only then: the source, the script, the names and the journal.
+#[test]
+fn blames_the_first_file_at_fault(rt: HostRuntime) -> Result<(), Fail> {
+    let entry = Faulty {
+        source: b"A()",
+        script: b"A() = 1",
+        journal: b"orc-journal 2\nend 1\n",
+        line: "orc: K at entry 1: Form\n",
+    };
+    let header = Faulty {
+        journal: b"",
+        line: "orc: J1\n",
+        ..entry
+    };
+    let name = Faulty {
+        source: b"B()",
+        line: "orc: C7 at 0\n",
+        ..header
+    };
+    let script = Faulty {
+        script: b"?",
+        line: "orc: L1 at line 1\n",
+        ..name
+    };
+    let source = Faulty {
+        source: b"(",
+        line: "orc: S4 at 1: Expression\n",
+        ..script
+    };
+    for files in [entry, header, name, script, source].as_slice() {
+        assert!(rt; is_blamed(rt.alloc(), files)?, "at {:?}", files.source);
+    }
+    Ok(())
+}
