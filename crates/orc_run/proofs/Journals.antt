@@ -8,11 +8,11 @@ use Rattle.orc_rules.specs.Sites.{Table}
 use Rattle.orc_rules.specs.Nodes.{Listing, source}
 use Rattle.orc_rules.specs.Timed.{Context}
 use Rattle.orc_rules.specs.Journal.{Place, Journal, Leads, begin}
-use Rattle.orc_rules.specs.Text.{line, output}
+use Rattle.orc_rules.specs.Text.{line, output, Fits}
 use Rattle.orc_rules.specs.Trace.{published}
 use Rattle.orc_journal.specs.declared.journal.Version.TheVariants.{Two}
 use Rattle.orc_journal.specs.Texts.{header, entry_lines, counts, count}
-use Rattle.orc_journal.proofs.Stripping.{count_more}
+use Rattle.orc_journal.proofs.Stripping.{are_more, count_more}
 use Rattle.orc_checker.specs.Checker.{Applies}
 use Rattle.orc_run.specs.Lines.{Kept, with_line}
 use Rattle.orc_run.specs.Running.{kept, written}
@@ -51,9 +51,9 @@ text-one_more names es e =
     append_assoc (header Two) (entry_lines names es) (line names e) ∙ ap (λ (z : List ℕ). header Two ++ z) more
 
 -- a story grows by an entry that the marked term takes
-pub grows : (l : Listing) (t : Table) (old new : Story) (e : Entry) → Applies l t e old.marked new.marked
+pub grows : (l : Listing) (t : Table) (old new : Story) (e : Entry) → Applies l t e old.marked new.marked → (old.lines.kept ≡ true → Fits t.names e)
     → new.published ≡ old.published ++ published (e ∷ []) → new.entries ≡ old.entries + 1 → new.lines ≡ with_line old.lines (line t.names e) → Grows l t e old new
-grows l t old new e applies values entries lines keeps es p told =
+grows l t old new e applies line_is values entries lines keeps es p told =
     let (q, leads, spells) = applies true p (es, told.leads) told.spells in (
       q,
       leads,
@@ -62,6 +62,7 @@ grows l t old new e applies values entries lines keeps es p told =
         spells = spells;
         values = values ∙ (ap (λ vs. vs ++ published (e ∷ [])) told.values ∙ sym (published-append es (e ∷ [])));
         count = omega (arith, entries, told.count, length-append es (e ∷ []));
+        fits = λ k. are_more t.names Two es e (told.fits k) (line_is (ap Kept.kept (told.text k))) refl;
         text = λ k. lines ∙ (ap (λ (z : Kept). with_line z (line t.names e)) (told.text k) ∙ kept_as (text-one_more t.names es e));
       },
     )

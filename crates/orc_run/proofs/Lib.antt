@@ -1,3 +1,4 @@
+pub mod Accepting
 pub mod Journals
 pub mod Outputs
 pub mod Statuses

@@ -1,19 +1,29 @@
 -- What the check of a journal's text does.
-use Rattle.std.specs.Prelude.{◌≡◌, ◌≢◌, ℕ, List, ◌++◌, length, codes, decimal}
+use Rattle.std.specs.Prelude.{◌≡◌, ◌≢◌, ◌⊎◌, ℕ, List, ◌++◌, length, codes, decimal, true}
 use Rattle.std.specs.declared.option.Option.{Option}
 use Rattle.std.specs.Io.KnownBytes.{Keeps, Appends}
 use Rattle.orc_rules.specs.declared.entry.RuleFault.TheVariants as reason
 use Rattle.orc_rules.specs.declared.entry.State.{State}
+use Rattle.orc_rules.specs.declared.entry.State.TheVariants as state
 use Rattle.orc_rules.specs.Sites.{Table}
 use Rattle.orc_rules.specs.Nodes.{Listing, source}
 use Rattle.orc_rules.specs.Verdict.{IsVerdict, IsFault as Faults}
+use Rattle.orc_syntax.specs.declared.fault.SyntaxFault.TheVariants as syntax
+use Rattle.orc_syntax.specs.Text.{IsLimit}
+use Rattle.orc_scope.specs.declared.fault.FaultKind.TheVariants as scope
+use Rattle.orc_site.specs.declared.script.ScriptFault.TheVariants as script
 use Rattle.orc_site.specs.Script.{Says}
+use Rattle.orc_journal.specs.declared.text.JournalFault.TheVariants as journal
 use Rattle.orc_journal.specs.Texts.{Written, IsJournal, IsFault as IsBadText}
 use Rattle.orc_checker.specs.Checker.{context}
 use Rattle.orc_verdict.specs.Verdicts.{records_cancels}
 use Rattle.orc_run.specs.Faults.{state_word}
 use Rattle.orc_run.specs.Output.{AppendsPrefix}
-use Rattle.orc_run.specs.Running.{IsProgramOf, IsFaultOf}
+use Rattle.orc_run.specs.Running.{IsProgramOf, IsFaultOf, Runs}
+use Rattle.orc_run.specs.declared.ending.End.{End}
+use Rattle.orc_run.specs.declared.ending.End.TheVariants as ends
+use Rattle.orc_run.specs.declared.ending.Summary.{Summary}
+use Rattle.orc_run.specs.declared.running.Options.{Options}
 use Rattle.orc_run.specs.declared.faults.RunFault.{RunFault}
 use Rattle.orc_run.specs.declared.faults.RunFault.TheVariants as fault
 
@@ -43,3 +53,29 @@ IsCheckFault text script journal (fault.Check f) = (l : Listing) × (t : Table) 
 IsCheckFault text script journal fault.Memory = ⊥
 IsCheckFault text script journal fault.Broken = ⊥
 IsCheckFault text script journal f = IsFaultOf text script f
+
+-- ---- the journal of a run
+
+-- a text that a run of the source with the script wrote as its journal, of which the summary tells
+abbrev pub IsOfRun : List ℕ → List ℕ → List ℕ → Summary → Type 0
+IsOfRun text script journal s = (options : Options) × (options.journal ≡ true) × Runs text script options s journal
+
+-- how a run that ended so stands
+abbrev pub StandsSo : End → State → Type 0
+StandsSo ends.Halted s = s ≡ state.Halted
+StandsSo ends.Quiet s = s ≡ state.Quiet
+StandsSo _ s = Unit {0}
+
+-- the yes to it: the run's number of entries, and how it stands
+abbrev pub Accepts : Summary → Option (List ℕ) → Option (List ℕ) → Type 0
+Accepts s old new = (stands : State) × StandsSo s.end stands × Appends old new (verdict_line s.entries stands)
+
+-- what else may be said of it: the source or the journal is beyond a limit, memory was refused, or the output failed
+abbrev pub IsBeyond : RunFault → Type 0
+IsBeyond (fault.Syntax f) = (f ≡ syntax.Memory) ⊎ IsLimit f
+IsBeyond (fault.Scope f) = f.kind ≡ scope.Memory
+IsBeyond (fault.Script f) = f ≡ script.Memory
+IsBeyond (fault.Journal f) = (f ≡ journal.Long) ⊎ (f ≡ journal.Memory)
+IsBeyond (fault.Check f) = (f.why ≡ reason.Deep) ⊎ (f.why ≡ reason.Memory)
+IsBeyond (fault.Write w) = Unit {0}
+IsBeyond _ = ⊥

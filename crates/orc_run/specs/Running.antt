@@ -7,6 +7,8 @@ use Rattle.orc_rules.specs.Nodes.{Listing}
 use Rattle.orc_rules.specs.Text.{output}
 use Rattle.orc_rules.specs.Trace.{published}
 use Rattle.orc_rules.specs.declared.entry.Entry.{Entry}
+use Rattle.orc_journal.specs.declared.journal.Version.TheVariants.{Two}
+use Rattle.orc_journal.specs.Texts.{AreOf}
 use Rattle.orc_syntax.specs.Tree.{Source}
 use Rattle.orc_syntax.specs.Text.{SpellsText, IsFault, IfFault}
 use Rattle.orc_scope.specs.Checking.{Checks}
@@ -39,12 +41,13 @@ pub record Tells (s : Summary) (o : Outcome) : Type 0 where
   pub now : s.now ≡ o.now
   pub published : s.published ≡ length (published o.journal)
 
--- a run of the program with these sites, of which the summary tells and the text shows what is wanted
+-- a run of the program with these sites, of which the summary tells and the text shows what is wanted; each entry of a journal that is written has a line
 pub record IsTold (l : Listing) (t : Table) (options : Options) (s : Summary) (text : List ℕ) : Type 0 where
   pub outcome : Outcome
   pub is_run : IsRun l t options.limit outcome
   pub tells : Tells s outcome
   pub shows : text ≡ written options.journal t.names outcome.journal
+  pub fits : options.journal ≡ true → AreOf t.names Two outcome.journal
 
 -- the source's program runs so with the sites that the script says
 abbrev pub Runs : List ℕ → List ℕ → Options → Summary → List ℕ → Type 0

@@ -10,7 +10,7 @@ use Rattle.orc_rules.specs.Marked.{erase}
 use Rattle.orc_rules.specs.Journal.{Place, Journal, Leads, begin, moment}
 use Rattle.orc_rules.specs.Trace.{published}
 use Rattle.orc_journal.specs.declared.journal.Version.TheVariants.{Two}
-use Rattle.orc_journal.specs.Texts.{count, journal_text}
+use Rattle.orc_journal.specs.Texts.{AreOf, count, journal_text}
 use Rattle.orc_checker.specs.Checker.{State, Spells, context as context_of}
 use Rattle.orc_run.specs.declared.ending.End.{End}
 use Rattle.orc_run.specs.declared.ending.End.TheVariants as ends
@@ -31,13 +31,14 @@ pub record Story : Type 0 where
   pub entries : ℕ
   pub lines : Kept
 
--- the story of this journal, which leads by the rules from the program's term to this place; `keeps` says whether the journal's text is kept
+-- the story of this journal, which leads by the rules from the program's term to this place; `keeps` says whether the journal's text is kept, for which each entry has a line
 pub record IsStory (l : Listing) (t : Table) (keeps : Bool) (story : Story) (es : List Entry) (p : Place) : Type 0 where
   pub leads : Journal (context l t) (begin (source l)) es p
   pub spells : Spells (context l t) (code l) story.marked p
   pub values : story.published ≡ published es
   pub count : story.entries ≡ length es
   pub text : keeps ≡ true → story.lines ≡ record { kept = true; text = text_of t.names es }
+  pub fits : keeps ≡ true → AreOf t.names Two es
 
 -- the entry leads on from each place where the old story can stand, and the new story tells it
 abbrev pub Grows : Listing → Table → Entry → Story → Story → Type 0

@@ -1,7 +1,8 @@
 //! From a journal's text to the verdict on it.
 
 ghost use Rattle.std.specs.Prelude.{◌≡◌, length, IfOk, IfErr, OnOk};
-ghost use Rattle.orc_run.specs.Checked.{verdict_line, Judges, LeavesUnjudged, IsCheckFault};
+ghost use Rattle.orc_run.specs.Checked.{verdict_line, Accepts, Judges, LeavesUnjudged, IsBeyond, IsCheckFault, IsOfRun};
+ghost use Rattle.orc_run.specs.declared.ending.Summary.{Summary as RunSummary};
 
 use crate::faults::{RunFault, StateWord};
 use crate::output::{WriteFault, write_text};
@@ -37,6 +38,9 @@ pub fn check_text<W: Write>(
     ensures judged { OnOk result (Judges source.now script.now journal.now (W.contents out.old) (W.contents out.new)) }
     ensures fault { IfErr result (LeavesUnjudged source.now script.now journal.now (W.contents out.old) (W.contents out.new)) }
     ensures cause { IfErr result (IsCheckFault source.now script.now journal.now) }
+    // What a run of this source and script wrote as its journal is accepted, unless a limit stands against it.
+    ensures accepted { (s : RunSummary) → IsOfRun source.now script.now journal.now s → OnOk result (Accepts s (W.contents out.old) (W.contents out.new)) }
+    ensures beyond { (s : RunSummary) → IsOfRun source.now script.now journal.now s → IfErr result IsBeyond }
 {
     let ast = match orc_syntax::parse(alloc, source) {
         Ok(ast) => ast,
@@ -46,6 +50,7 @@ pub fn check_text<W: Write>(
         Ok(answers) => answers,
         Err(fault) => return Err(RunFault::Script(fault)),
     };
+    answers.are_apart();
     let program = match checked(alloc, &ast, &answers) {
         Ok(program) => program,
         Err(fault) => return Err(RunFault::Scope(fault)),

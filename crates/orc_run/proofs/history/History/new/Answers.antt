@@ -16,7 +16,7 @@ returns c t =
     record {
       journal = [];
       place = begin (source l);
-      told = record { leads = refl; spells = c.in_ok-new.ensures (context l t) refl; values = c.new-2.ensures.items; count = refl; text = kept };
+      told = record { leads = refl; spells = c.in_ok-new.ensures (context l t) refl; values = c.new-2.ensures.items; count = refl; text = kept; fits = λ k. tt };
       paid = refl;
       turns_are = refl;
     }

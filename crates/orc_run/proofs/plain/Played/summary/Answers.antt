@@ -20,4 +20,5 @@ returns c l t options played =
         published = ap length (c.published.ensures ∙ told.values);
       };
       shows = shows l t options.journal _ reached.journal reached.place told;
+      fits = told.fits;
     }
