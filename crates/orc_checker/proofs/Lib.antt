@@ -33,6 +33,7 @@ pub mod Parameters
 pub mod Paths
 pub mod Pends
 pub mod Publishing
+pub mod Ranking
 pub mod Reached
 pub mod Replaying
 pub mod Resuming

@@ -12,6 +12,7 @@ pub mod Labelling
 pub mod Names
 pub mod NextDue
 pub mod Parameters
+pub mod Ranks
 pub mod Replaying
 pub mod Rising
 pub mod Settling

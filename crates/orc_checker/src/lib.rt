@@ -22,6 +22,7 @@ mod pending;
 mod pruning;
 mod publish;
 mod quiet;
+mod ranks;
 mod reading;
 pub mod replay;
 pub mod rest;

@@ -69,6 +69,12 @@ module _ (l : Listing) (t : Table) (e : Entry) (s s' : State) (applies : Applies
       let is = exact (context l t cancels) a.0 a.2 in
       (a.0, (a.1, omega (arith, is, fits)), a.2, omega (arith, is))
 
+  pub takes_bounded : (levels levels' : ℕ) → ((x : Context) (p : Place) → Spells x (code l) s' p → depth (erase p.marked) ≤ levels') → levels' ≤ most_levels → Takes l t e s levels s' levels'
+  takes_bounded levels levels' bounded fits cancels p reached sp deep =
+      let a = applies cancels p reached sp in
+      let less = bounded (context l t cancels) a.0 a.2 in
+      (a.0, (a.1, omega (arith, less, fits)), a.2, less)
+
   pub stops_deep : (levels : ℕ) → IsExact levels → most_levels < levels → Stops l t e s Deep
   stops_deep levels exact over cancels p reached sp =
       let a = applies cancels p reached sp in

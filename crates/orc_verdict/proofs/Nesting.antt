@@ -1,5 +1,5 @@
 -- How deep a marked term nests, from its nodes.
-use Rattle.std.proofs.Common.{◌≡◌, ◌+◌, ℕ, suc, max, List, [], ◌∷◌, ◌++◌, refl, sym, ap, ◌∙◌, subst, arith}
+use Rattle.std.proofs.Common.{◌≡◌, ◌≤◌, ◌+◌, ℕ, suc, max, length, List, [], ◌∷◌, ◌++◌, refl, sym, ap, ◌∙◌, subst, arith}
 use Rattle.orc_rules.specs.Term.{Term}
 use Rattle.orc_rules.specs.Marked.{erase}
 use Rattle.orc_rules.specs.Refusal.{depth}
@@ -18,7 +18,8 @@ use Rattle.orc_checker.specs.Settling.{kind_at}
 use Rattle.orc_checker.proofs.Moving.{kind_of}
 use Rattle.orc_rules.specs.Term.{put}
 use Rattle.orc_verdict.specs.Depth.{own_levels, step_down, with_levels}
-use Rattle.orc_verdict.specs.Heights.{AreHeights}
+use Rattle.orc_checker.specs.Ranks.{levels_below, AreLevelsAtMost}
+use Rattle.orc_verdict.specs.Heights.{height, AreHeights, AreAtMost}
 use Rattle.orc_verdict.proofs.Deepening.{put_depth}
 
 close_depth : (e : Env) (f : Term) → depth (close e f) ≡ depth f
@@ -107,3 +108,27 @@ pub place_depth : (x : Context) (code : ℕ → Term) (levels : List ℕ) (s : S
 place_depth x code levels s p d are sp h =
     let dr = sp.drawn in
     h _ dr.tree dr.holds dr.root ∙ sym (spelled_depth levels code (env_of s.cells s.scopes) are dr.tree) ∙ ap (λ m. depth (erase m)) (sym dr.marked)
+
+-- ---- at most
+
+below_end : (levels : List ℕ) → height levels (length levels) ≡ 1
+below_end [] = refl
+below_end (b ∷ levels) = below_end levels
+
+-- each node adds a level, and the lowest has no more than a term of the program
+depth_most : (levels : List ℕ) (most : ℕ) → AreAtMost levels most → (t : Tree) → tree_depth levels t ≤ levels_below t + most
+depth_most levels most low (leaf i (Token s f e)) = omega (arith, low f)
+depth_most levels most low (leaf i Gone) = omega (arith, low (length levels), below_end levels)
+depth_most levels most low (leaf i Ended) = omega (arith, low (length levels), below_end levels)
+depth_most levels most low (leaf i (Bears s v)) = omega (arith, low (length levels), below_end levels)
+depth_most levels most low (leaf i (Waits k)) = omega (arith, low (length levels), below_end levels)
+depth_most levels most low (one i (Feeds x g e) t) = omega (arith, low g, depth_most levels most low t)
+depth_most levels most low (one i (Entered m g e) t) = omega (arith, low g, depth_most levels most low t)
+depth_most levels most low (one i Passed t) = omega (arith, depth_most levels most low t)
+depth_most levels most low (two i d t u) = omega (arith, depth_most levels most low t, depth_most levels most low u)
+
+pub place_most : (x : Context) (code : ℕ → Term) (levels : List ℕ) (s : State) (p : Place) (n most : ℕ) → AreHeights code levels → AreAtMost levels most → Spells x code s p → AreLevelsAtMost s.nodes n → depth (erase p.marked) ≤ n + most
+place_most x code levels s p n most are low sp few =
+    let dr = sp.drawn in
+    let here : depth (erase p.marked) ≡ tree_depth levels dr.tree = ap (λ m. depth (erase m)) dr.marked ∙ spelled_depth levels code (env_of s.cells s.scopes) are dr.tree in
+    omega (arith, here, depth_most levels most low dr.tree, few _ dr.tree dr.holds dr.root)

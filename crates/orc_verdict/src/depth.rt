@@ -1,6 +1,6 @@
 // How deep a marked term nests.
 
-ghost use Rattle.std.specs.Prelude.{◌≡◌, ◌+◌, ◌++◌, IfOk, OnOk};
+ghost use Rattle.std.specs.Prelude.{◌≡◌, ◌≤◌, ◌+◌, ◌++◌, ℕ, List, IfOk, IfSome, OnOk};
 ghost use Rattle.orc_rules.specs.Journal.{Place};
 ghost use Rattle.orc_rules.specs.Marked.{erase};
 ghost use Rattle.orc_rules.specs.Nodes.{Listing, code};
@@ -10,7 +10,7 @@ ghost use Rattle.orc_checker.specs.Checker.{Spells};
 ghost use Rattle.orc_checker.specs.Dropping.{parts_of};
 ghost use Rattle.orc_checker.specs.Settling.{kind_at};
 ghost use Rattle.orc_verdict.specs.Depth.{own_levels, step_down, with_levels};
-ghost use Rattle.orc_verdict.specs.Heights.{AreHeights};
+ghost use Rattle.orc_verdict.specs.Heights.{AreHeights, AreAtMost};
 
 use crate::heights::Heights;
 use orc_checker::Marked;
@@ -97,4 +97,16 @@ pub fn depth_of(alloc: Global, heights: &Heights, marked: &Marked) -> Result<usi
     }
     // Each node stands once in the term, so that all were looked at.
     Err(AllocError)
+}
+
+/// As many levels as the marked term has at most, by how many of its nodes stand one below the other; `most` is as many as the deepest of
+/// the program's terms has. None where that isn't known.
+pub(crate) fn most_depth(marked: &Marked, most: usize) -> Option<usize>
+    ensures { IfSome result (λ d. (x : Context) (l : Listing) (p : Place) (heights : List ℕ) → AreHeights (code l) heights → AreAtMost heights most → Spells x (code l) marked.now p → depth (erase p.marked) ≤ d) }
+{
+    let levels = marked.levels_below()?;
+    match levels.checked_add(most) {
+        Some(sum) => Some(sum),
+        None => None,
+    }
 }

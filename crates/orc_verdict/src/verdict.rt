@@ -12,7 +12,7 @@ ghost use Rattle.orc_verdict.specs.Deepening.{deepening};
 ghost use Rattle.orc_verdict.specs.Heights.{AreHeights, AreAtMost};
 ghost use Rattle.orc_verdict.specs.Verdicts.{records_cancels, Takes, Stops, IsCutShort};
 
-use crate::depth::depth_of;
+use crate::depth::{depth_of, most_depth};
 use crate::heights::Heights;
 use crate::reasons::first_reason;
 use orc_checker::Marked;
@@ -91,6 +91,13 @@ fn take(
             return Ok(());
         }
         None => {}
+    }
+    match most_depth(&taken.marked, most) {
+        Some(levels) if levels <= MOST_LEVELS => {
+            taken.levels = levels;
+            return Ok(());
+        }
+        _ => {}
     }
     match depth_of(alloc, heights, &taken.marked) {
         Ok(levels) => {

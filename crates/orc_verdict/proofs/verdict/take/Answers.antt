@@ -1,6 +1,6 @@
 use Rattle.std.proofs.Common.{◌∙◌, ◌+◌, ap, subst, arith}
 use Rattle.orc_verdict.specs.Reasons.{RefusedFor}
-use Rattle.orc_verdict.proofs.Judging.{stops_refused, takes_within, takes_exactly, stops_deep, stops_there}
+use Rattle.orc_verdict.proofs.Judging.{stops_refused, takes_within, takes_exactly, takes_bounded, stops_deep, stops_there}
 use Rattle.orc_verdict.proofs.verdict.take.Goals as goal
 
 pub returns-in-Some-clause-refused : goal.returns-in-Some-clause-refused
@@ -33,3 +33,10 @@ returns-else-levels-gt-MOST_LEVELS-clause-done c are low =
 
 pub returns-in-Err-depth_of-clause-refused : goal.returns-in-Err-depth_of-clause-refused
 returns-in-Err-depth_of-clause-refused c are = stops_there c.args.program.now c.args.answers.now c.args.entry.now c.args.taken.now.marked c.step.new.self c.in-Ok.ensures.done c.meets_and_leads.ensures
+
+pub returns-in-Some-most_depth-clause-done : goal.returns-in-Some-most_depth-clause-done
+returns-in-Some-most_depth-clause-done c are low =
+    let l = c.args.program.now in
+    takes_bounded l c.args.answers.now c.args.entry.now c.args.taken.now.marked c.step.new.self c.in-Ok.ensures.done c.args.taken.now.levels c.in-Some-most_depth.levels
+    (λ x p sp. c.in-Some-most_depth.ensures x l p c.args.heights.now are low sp)
+    (omega (arith, c.if-levels-le-MOST_LEVELS.true))

@@ -6,6 +6,8 @@ use Rattle.orc_checker.specs.Grafting.{relink}
 use Rattle.orc_checker.specs.Hints.{Stock, AreHints, AreListed, IsBeside, lifted}
 use Rattle.orc_checker.proofs.Hints.{hints_lifted, listed_lifted}
 use Rattle.orc_checker.proofs.Moves.{node}
+use Rattle.orc_checker.specs.Ranks.{AreRankedBut}
+use Rattle.orc_checker.proofs.Ranking.{ranked_stay, stay_lifted}
 use Rattle.orc_checker.proofs.nodes.Nodes.lift.Goals as goal
 
 pub invariant_of-self : goal.invariant_of-self
@@ -20,4 +22,5 @@ invariant_of-self c =
     c.set_item-2.ensures.items ∙ (λ j. slice_set (below j) (Node.parent (x j)) (node ((c.relinked.ensures ∙ ap (λ (z : Node). relink z.kind i c.args.both) y) j) (Node.parent (y j)))) in (
       subst (λ z. AreHints z n.hints.items) (sym is) (hints_lifted nodes n.hints.items i c.args.both (subst (λ (z : Stock). IsBeside z.items i c.args.both) (sym c.self.view_is) c.requires) c.self.invariant.0),
       subst (λ z. AreListed z n.restless.items) (sym is) (listed_lifted nodes n.restless.items i c.args.both c.self.invariant.1),
+      λ known. c.rank_again-are_ranked.ensures.now known (subst (λ z. AreRankedBut z n.ranks.items i) (sym is) (ranked_stay nodes (lifted nodes i c.args.both) n.ranks.items i (stay_lifted nodes i c.args.both) (c.self.invariant.2 (c.rank_again-are_ranked.ensures.before known)))),
     )

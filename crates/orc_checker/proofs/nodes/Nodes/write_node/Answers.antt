@@ -1,6 +1,8 @@
 use Rattle.std.proofs.Common.{sym, subst}
 use Rattle.orc_checker.specs.Hints.{Stock, AreHints, AreListed, CanBecome}
 use Rattle.orc_checker.proofs.Hints.{hints_written, listed_written}
+use Rattle.orc_checker.specs.Ranks.{AreRanked}
+use Rattle.orc_checker.proofs.Ranking.{ranked_written}
 use Rattle.orc_checker.proofs.nodes.Nodes.write_node.Goals as goal
 
 pub invariant_of-self : goal.invariant_of-self
@@ -9,4 +11,5 @@ invariant_of-self c =
     let can = subst (λ (z : Stock). CanBecome z.items c.args.i c.args.node) (sym c.self.view_is) c.requires in (
       subst (λ z. AreHints z n.hints.items) (sym c.set_item.ensures.items) (hints_written n.items.items n.hints.items c.args.i c.args.node (λ x e. (can x e).0) c.self.invariant.0),
       subst (λ z. AreListed z n.restless.items) (sym c.set_item.ensures.items) (listed_written n.items.items n.restless.items c.args.i c.args.node can c.self.invariant.1),
+      λ known. subst (λ z. AreRanked z n.ranks.items) (sym c.set_item.ensures.items) (ranked_written n.items.items n.ranks.items c.args.i c.args.node (λ x e. (can x e).0) (c.self.invariant.2 known)),
     )
