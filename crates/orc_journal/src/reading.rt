@@ -1,6 +1,6 @@
 //! Reading entries from lines.
 
-ghost use Rattle.std.specs.Prelude.{◌≡◌, ◌++◌, List, length, option_map, ℕ, IfSome, Some, ◌<◌, ◌≤◌, ◌^◌, ◌-◌, negsuc};
+ghost use Rattle.std.specs.Prelude.{◌≡◌, ◌++◌, ◌∷◌, [], List, length, option_map, ℕ, IfSome, Some, ◌<◌, ◌≤◌, ◌^◌, ◌-◌, negsuc};
 ghost use Rattle.orc_rules.specs.Digits.{Gives, digits_at};
 ghost use Rattle.orc_journal.specs.Reading.{after, is_plain, number_at, value_at, number_field, value_field, pair_field, sent_field, outcome_field, split_name, name_at, values_at, arguments_at, call_field, all_kinds, kind_from, fields_at, entry_at};
 ghost use Rattle.orc_rules.specs.Text.{line, Fits};
@@ -16,13 +16,19 @@ use orc_rules::value::{Args, Value};
 pub(crate) fn after<'a>(text: &[u8], bytes: &'a [u8]) -> Option<&'a [u8]>
     ensures { Gives (λ r. r.now) result (after text.now bytes.now) }
 {
-    match text {
-        [] => Some(bytes),
-        [c, text @ ..] => match bytes {
-            [] => None,
-            [b, bytes @ ..] => if *b == *c { after(text, bytes) } else { None },
-        },
+    let mut left = text;
+    let mut rest = bytes;
+    while let [c, others @ ..] = left {
+        let [b, behind @ ..] = rest else {
+            return None;
+        };
+        if *b != *c {
+            return None;
+        }
+        left = others;
+        rest = behind;
     }
+    Some(rest)
 }
 
 // Whether a digit stands first, and no second one after a zero.
@@ -186,35 +192,48 @@ fn call_field<'a>(bytes: &'a [u8], answers: &Answers) -> Option<((u32, Args), &'
     Some(((site, args), rest))
 }
 
-const KINDS: [Kind; 16] = [
-    Kind::Call,
-    Kind::Return,
-    Kind::Send,
-    Kind::Fork,
-    Kind::Publish,
-    Kind::Seq,
-    Kind::End,
-    Kind::Open,
-    Kind::Bind,
-    Kind::Def,
-    Kind::Void,
-    Kind::Other,
-    Kind::Lost,
-    Kind::Right,
-    Kind::Tick,
-    Kind::Cancel,
-];
+// The word of this kind.
+fn word_at(kind: Kind, bytes: &[u8]) -> Option<(Kind, &[u8])>
+    ensures { Gives (λ x. (x.0, x.1.now)) result (kind_from (kind ∷ []) bytes.now) }
+{
+    match after(kind.word(), bytes) {
+        Some(rest) => Some((kind, rest)),
+        None => None,
+    }
+}
 
-// The word with which a line begins.
+// The word of one of two kinds.
+fn either_at(kind: Kind, other: Kind, bytes: &[u8]) -> Option<(Kind, &[u8])>
+    ensures { Gives (λ x. (x.0, x.1.now)) result (kind_from (kind ∷ other ∷ []) bytes.now) }
+{
+    match after(kind.word(), bytes) {
+        Some(rest) => Some((kind, rest)),
+        None => word_at(other, bytes),
+    }
+}
+
+// The word with which a line begins, by its first letter.
 fn kind_at(bytes: &[u8]) -> Option<(Kind, &[u8])>
     ensures { Gives (λ x. (x.0, x.1.now)) result (kind_from all_kinds bytes.now) }
 {
-    for kind in &KINDS {
-        if let Some(rest) = after(kind.word(), bytes) {
-            return Some((*kind, rest));
-        }
+    let [first, ..] = bytes else {
+        return None;
+    };
+    match *first {
+        b'c' => either_at(Kind::Call, Kind::Cancel, bytes),
+        b'r' => either_at(Kind::Return, Kind::Right, bytes),
+        b's' => either_at(Kind::Send, Kind::Seq, bytes),
+        b'o' => either_at(Kind::Open, Kind::Other, bytes),
+        b'f' => word_at(Kind::Fork, bytes),
+        b'p' => word_at(Kind::Publish, bytes),
+        b'e' => word_at(Kind::End, bytes),
+        b'b' => word_at(Kind::Bind, bytes),
+        b'd' => word_at(Kind::Def, bytes),
+        b'v' => word_at(Kind::Void, bytes),
+        b'l' => word_at(Kind::Lost, bytes),
+        b't' => word_at(Kind::Tick, bytes),
+        _ => None,
     }
-    None
 }
 
 #[tactic(auto, unfolding(crate::specs::Reading::fields_at))]
