@@ -35,7 +35,6 @@ pub mod Pends
 pub mod Publishing
 pub mod Ranking
 pub mod Reached
-pub mod Replaying
 pub mod Resuming
 pub mod Rising
 pub mod Scopes

@@ -13,7 +13,6 @@ pub mod Names
 pub mod NextDue
 pub mod Parameters
 pub mod Ranks
-pub mod Replaying
 pub mod Rising
 pub mod Settling
 pub mod Stillness

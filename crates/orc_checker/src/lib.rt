@@ -24,7 +24,6 @@ mod publish;
 mod quiet;
 mod ranks;
 mod reading;
-pub mod replay;
 pub mod rest;
 mod room;
 mod routines;

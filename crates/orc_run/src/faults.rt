@@ -4,12 +4,12 @@ ghost use Rattle.std.specs.Prelude.{◌≡◌, Some};
 ghost use Rattle.orc_run.specs.Faults.{syntax_line, what_word, scope_line, journal_line, reason_word, state_word, line, status};
 
 use crate::output::WriteFault;
-use orc_checker::replay::CheckFault;
 use orc_journal::JournalFault;
 use orc_rules::entry::{RuleFault, State};
 use orc_scope::{FaultKind, ScopeFault};
 use orc_site::ScriptFault;
 use orc_syntax::{SyntaxFault, What};
+use orc_verdict::CheckFault;
 use std::error::Error;
 use std::fmt;
 

@@ -15,4 +15,4 @@ pub use applying::apply;
 pub use depth::depth_of;
 pub use heights::Heights;
 pub use reasons::first_reason;
-pub use verdict::{Verdict, check_journal};
+pub use verdict::{CheckFault, Verdict, check_journal};

@@ -16,7 +16,6 @@ use crate::depth::{depth_of, most_depth};
 use crate::heights::Heights;
 use crate::reasons::first_reason;
 use orc_checker::Marked;
-use orc_checker::replay::CheckFault;
 use orc_journal::{Journal, Version};
 use orc_rules::answers::Answers;
 use orc_rules::entry::{Entry, RuleFault, State};
@@ -32,6 +31,13 @@ const MOST_LEVELS: usize = 10_000;
 pub struct Verdict {
     pub state: State,
     pub now: u64,
+}
+
+/// Where a journal is refused: the number of the entry, from 1, and the reason; 0 where memory was refused before the first.
+#[derive(Clone, Copy, PartialEq, Eq, Debug)]
+pub struct CheckFault {
+    pub at: u64,
+    pub why: RuleFault,
 }
 
 /// The marked term after the entries that were taken, and a number of levels that it doesn't exceed.
