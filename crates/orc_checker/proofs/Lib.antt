@@ -21,6 +21,7 @@ pub mod Growth
 pub mod Halting
 pub mod Hints
 pub mod Inside
+pub mod KeptSides
 pub mod Labelling
 pub mod Leaving
 pub mod Listing

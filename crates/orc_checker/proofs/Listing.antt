@@ -1,4 +1,4 @@
--- Where no node of the list can move, none can.
+-- Where no token of the list can move, none can.
 use Rattle.std.proofs.Common.{◌≡◌, ◌≤◌, ◌<◌, ℕ, List, length, get_or, refl, ap, sym, ◌∙◌, arith, Bool, true, false}
 use Rattle.orc_rules.specs.Term.{Term, Definition}
 use Rattle.orc_checker.specs.declared.arena.Node.{Node}
@@ -11,11 +11,11 @@ use Rattle.orc_checker.specs.declared.arena.Single.TheVariants.{Feeds, Entered, 
 use Rattle.orc_checker.specs.declared.arena.Double.TheVariants.{Both, Side}
 use Rattle.orc_checker.specs.Settling.{kind_at}
 use Rattle.orc_checker.specs.Hints.{restless, AreListed}
-use Rattle.orc_checker.specs.Stillness.{node_moves}
+use Rattle.orc_checker.specs.Stillness.{token_moves}
 
-module _ (defs : List Definition) (code : ℕ → Term) (cells : List Bound) (scopes : List Scope) (flags : List Bool) where
+module _ (defs : List Definition) (code : ℕ → Term) (cells : List Bound) (scopes : List Scope) where
   abbrev moves : Kind → Bool
-  moves = node_moves defs code cells scopes flags
+  moves = token_moves defs code cells scopes
 
   over : (k : Kind) → restless k ≡ false → moves k ≡ false
   over (Leaf Gone) h = refl
@@ -24,10 +24,10 @@ module _ (defs : List Definition) (code : ℕ → Term) (cells : List Bound) (sc
   over (Leaf (Bears s v)) h = cc h
   over (Leaf (Waits k)) h = refl
   over (One (Feeds x g e) p) h = refl
-  over (One (Entered m g e) p) h = cc h
+  over (One (Entered m g e) p) h = refl
   over (One Passed p) h = refl
   over (Two Both p q) h = refl
-  over (Two (Side c) p q) h = cc h
+  over (Two (Side c) p q) h = refl
 
   pub none_moves : (nodes : List Node) (list : List ℕ) (n : ℕ) → AreListed nodes list → length list ≤ n → ((k : ℕ) → k < n → moves (kind_at nodes (get_or list k 0)) ≡ false) → (i : ℕ) → moves (kind_at nodes i) ≡ false
   none_moves nodes list n all le still i = go (restless (kind_at nodes i)) refl

@@ -21,7 +21,7 @@ use Rattle.orc_checker.specs.Calls.{AreNumbered, told, told_of}
 use Rattle.orc_checker.specs.Checker.{State, Spells, Follows}
 use Rattle.orc_checker.specs.Settling.{kind_at}
 use Rattle.orc_checker.specs.NextDue.{IsDueAt, IsNext}
-use Rattle.orc_checker.specs.Stillness.{node_moves, DoMove}
+use Rattle.orc_checker.specs.Stillness.{DoStir}
 use Rattle.orc_checker.proofs.Lists.{get-append, get-end, get-more}
 use Rattle.orc_checker.proofs.Change.{says_of as found_there}
 use Rattle.orc_checker.proofs.Pends.{waits_for, pends_around}
@@ -149,10 +149,10 @@ module _ (x : Context) (code : ℕ → Term) (s : State) (p : Place) (sp : Spell
   next_is (Some t) h = (due_pends h.0.0 t h.0.1, λ u d. let w = pends_due u d in h.1 w.0 u w.1)
 
 -- whether some node can move says whether the term can
-pub movement : (x : Context) (code : ℕ → Term) (s : State) (p : Place) (defs : List Definition) (b : Bool) → Spells x code s p → DoMove (node_moves defs code s.cells s.scopes s.flags) s.nodes b → b ≡ can_move defs (erase p.marked)
+pub movement : (x : Context) (code : ℕ → Term) (s : State) (p : Place) (defs : List Definition) (b : Bool) → Spells x code s p → DoStir defs code s.cells s.scopes s.flags s.nodes b → b ≡ can_move defs (erase p.marked)
 movement x code s p defs b sp m =
     let d = sp.drawn in
-    moves_are defs code s.cells s.scopes s.flags s.halts s.nodes d.flags.are_halts (length s.scopes) 0 d.tree d.holds d.flags.each d.once b m ∙ ap (λ z. can_move defs (erase z)) (sym d.marked)
+    moves_are defs code s.cells s.scopes s.flags s.halts s.nodes d.flags.are_halts d.flags.len (length s.scopes) 0 d.tree d.holds d.flags.each d.once b m ∙ ap (λ z. can_move defs (erase z)) (sym d.marked)
 
 pub tick-follows : (x : Context) (code : ℕ → Term) (s s' : State) (t : ℕ) → ((i : ℕ) → IsSource (code i)) → TickByTest → s.rest.to_cancel ≡ []
     → ((p : Place) → Spells x code s p → can_move x.definitions (erase p.marked) ≡ false) → IsNext s.nodes s.rest.calls (Some t) → s.rest.time < t

@@ -1,5 +1,5 @@
 -- The nodes as their own type keeps them: with a hint for each, by which a walk upward leaves out what lets everything through, and a list of
--- those that can still move.
+-- those with tokens.
 use Rattle.std.specs.Prelude.{◌≡◌, ◌<◌, ◌⊎◌, ◌+◌, ℕ, zero, suc, List, Bool, true, false, nat_eq, length, Some, slice_get, slice_set, slice_index_or}
 use Rattle.orc_checker.specs.declared.arena.Node.{Node}
 use Rattle.orc_checker.specs.declared.arena.Kind.{Kind}
@@ -39,12 +39,10 @@ pub record AreHints (nodes : List Node) (hints : List ℕ) : Type 0 where
   pub len : length hints ≡ length nodes
   pub each : (i j : ℕ) → slice_get hints i ≡ Some j → IsAbove nodes i j
 
--- whether a node can move by itself, now or later
+-- whether a node has a token, which can move now or later
 abbrev pub restless : Kind → Bool
 restless (Leaf (Token s f e)) = true
 restless (Leaf (Bears s v)) = true
-restless (One (Entered m g e) p) = true
-restless (Two (Side c) p q) = true
 restless _ = false
 
 abbrev pub IsListed : ℕ → List ℕ → Type 0
@@ -66,7 +64,7 @@ pub record Follows (x y : Node) : Type 0 where
 abbrev pub CanWake : List Node → ℕ → Node → Type 0
 CanWake nodes i y = (x : Node) → slice_get nodes i ≡ Some x → Follows x y
 
--- the same, and it can still move only if it could
+-- the same, and it has a token only if it had one
 abbrev pub CanBecome : List Node → ℕ → Node → Type 0
 CanBecome nodes i y = (x : Node) → slice_get nodes i ≡ Some x → Follows x y × (restless y.kind ≡ true → restless x.kind ≡ true)
 

@@ -15,4 +15,5 @@ pub mod Parameters
 pub mod Ranks
 pub mod Rising
 pub mod Settling
+pub mod Sides
 pub mod Stillness

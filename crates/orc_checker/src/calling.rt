@@ -155,7 +155,13 @@ impl Marked {
                 parent: pending.parent,
             },
         );
-        settle(&self.nodes, &mut self.flags, pending.at, true);
+        settle(
+            &self.nodes,
+            &mut self.flags,
+            &mut self.candidates,
+            pending.at,
+            true,
+        );
         Ok(())
     }
 }

@@ -6,6 +6,7 @@ ghost use Rattle.orc_rules.specs.declared.entry.Entry.TheVariants as entry;
 ghost use Rattle.orc_checker.specs.Checker.{Enters};
 ghost use Rattle.orc_checker.specs.Grafting.{Grafts};
 ghost use Rattle.orc_checker.specs.NextDue.{waits, NoMoreWait};
+ghost use Rattle.orc_checker.specs.Sides.{NoNewSides};
 ghost use Rattle.orc_checker.specs.declared.arena.Kind.TheVariants.{Leaf as AtLeaf};
 
 use crate::arena::{Bound, Double, Kind, Node, Scope, Single, Tip};
@@ -32,6 +33,7 @@ fn graft(nodes: &mut Nodes, at: usize, tip: Tip)
     ensures grafts { Grafts nodes.old.items at tip nodes.new.items }
     ensures len { length nodes.new.items ≡ length nodes.old.items + 2 }
     ensures calls { waits (AtLeaf tip) ≡ false → NoMoreWait nodes.old.items nodes.new.items }
+    ensures sides { NoNewSides (length nodes.old.items) nodes.old.items nodes.new.items }
 {
     let parent = nodes.node_at(at).parent;
     let both = nodes.len();
@@ -88,16 +90,24 @@ impl Marked {
             outer,
         };
         push_within(&mut self.scopes, scope);
-        let token = self.nodes.len() + 1;
+        let both = self.nodes.len();
         graft(
             &mut self.nodes,
             at,
             Tip::Token(a, g, scope_count(&self.scopes)),
         );
-        push_within(&mut self.marks, token);
+        push_within(&mut self.marks, both + 1);
+        self.candidates.add(both);
+        self.candidates.add(both + 1);
         push_within(&mut self.flags, false);
         push_within(&mut self.flags, self.halts.at(g));
-        settle(&self.nodes, &mut self.flags, bearer.at, true);
+        settle(
+            &self.nodes,
+            &mut self.flags,
+            &mut self.candidates,
+            bearer.at,
+            true,
+        );
         Ok(())
     }
 }

@@ -1,10 +1,12 @@
 //! Flags of the nodes that have halted.
 
-ghost use Rattle.std.specs.Prelude.{◌≡◌, ◌&&◌, ◌⊎◌, true, false, List, Bool, length, slice_set, vec_capacity, IfSome, IfNone, slice_index_or};
+ghost use Rattle.std.specs.Prelude.{◌≡◌, ℕ, ◌&&◌, ◌⊎◌, true, false, List, Bool, length, slice_set, vec_capacity, IfSome, IfNone, slice_index_or};
 ghost use Rattle.orc_checker.specs.Settling.{flag, inner_flag, HaltsNext, EndsAt, Settles};
 ghost use Rattle.orc_checker.specs.Rising.{nowhere};
+ghost use Rattle.orc_checker.specs.Sides.{is_side_at, MayBe, AreFlagged};
 
 use crate::arena::{Kind, Single};
+use crate::candidates::{Candidates, is_side_at};
 use crate::nodes::Nodes;
 
 /// A node's flag, true where there is none.
@@ -63,17 +65,38 @@ fn halts_next(nodes: &Nodes, flags: &Vec<bool>, place: usize) -> Option<usize>
     }
 }
 
-/// Flags a node that hadn't halted, where `halted` is true, and each node above it that halts with it.
-pub(crate) fn settle(nodes: &Nodes, flags: &mut Vec<bool>, from: usize, halted: bool)
+/// Sets the flag of a place, which is a candidate where it is a side.
+fn set_flag(nodes: &Nodes, flags: &mut Vec<bool>, candidates: &mut Candidates, place: usize)
+    ensures items { flags.new.items ≡ slice_set flags.old.items place true }
+    ensures capacity { vec_capacity flags.new ≡ vec_capacity flags.old }
+    ensures known { is_side_at nodes.now.items place ≡ true → MayBe candidates.new place }
+    ensures kept { (p : ℕ) → MayBe candidates.old p → MayBe candidates.new p }
+{
+    write_flag(flags, place, true);
+    if is_side_at(nodes, place) {
+        candidates.add(place);
+    }
+}
+
+/// Flags a node that hadn't halted, where `halted` is true, and each node above it that halts with it. Sides among them are candidates.
+pub(crate) fn settle(
+    nodes: &Nodes,
+    flags: &mut Vec<bool>,
+    candidates: &mut Candidates,
+    from: usize,
+    halted: bool,
+)
+    ensures known { AreFlagged nodes.now.items flags.old.items flags.new.items candidates.new }
+    ensures kept { (p : ℕ) → MayBe candidates.old p → MayBe candidates.new p }
     ensures settles { Settles nodes.now.items flags.old.items from halted flags.new.items }
     ensures len { length flags.new.items ≡ length flags.old.items }
     ensures capacity { vec_capacity flags.new ≡ vec_capacity flags.old }
 {
     if halted {
-        write_flag(flags, from, true);
+        set_flag(nodes, flags, candidates, from);
         let mut place = from;
         while let Some(above) = halts_next(nodes, flags, place) {
-            write_flag(flags, above, true);
+            set_flag(nodes, flags, candidates, above);
             place = above;
         }
     }

@@ -4,6 +4,7 @@
 pub mod arena;
 mod calling;
 mod cancel;
+mod candidates;
 pub mod counts;
 mod due;
 pub mod endings;

@@ -10,6 +10,7 @@ ghost use Rattle.orc_checker.specs.declared.arena.Kind.TheVariants.{Leaf as AtLe
 ghost use Rattle.orc_checker.specs.declared.arena.Tip.TheVariants.{Token as IsToken};
 
 use crate::arena::{Bound, Kind, Node, Scope, Single, Tip};
+use crate::candidates::Candidates;
 use crate::due::Due;
 use crate::halts::Halts;
 use crate::names::meaning;
@@ -35,6 +36,8 @@ pub struct Marked {
     /// The node on which each cell's pruning was opened; there is no cell 0.
     pub(crate) prunings: Vec<usize>,
     pub(crate) rest: Rest,
+    /// The sides that may have halted, so that what asks for them looks at none of the others.
+    pub(crate) candidates: Candidates,
     /// The nodes that wait for calls which are due some day, so that a tick looks at none of the others.
     pub(crate) due: Due,
 }
@@ -42,12 +45,13 @@ pub struct Marked {
 impl Model for Marked {
     ghost use Rattle.orc_checker.specs.Checker.{State};
     ghost use Rattle.orc_checker.specs.NextDue.{AreNoted};
+    ghost use Rattle.orc_checker.specs.Sides.{AreKnown};
 
     ghost Value = { State };
 
     ghost view = { λ m. record { nodes = m.nodes.items; scopes = m.scopes.items; cells = m.cells.items; marks = m.marks.items; halts = m.halts; flags = m.flags.items; rest = m.rest } };
 
-    ghost invariant = { λ m. AreNoted m.nodes.items m.rest.calls m.due };
+    ghost invariant = { λ m. AreNoted m.nodes.items m.rest.calls m.due × AreKnown m.nodes.items m.flags.items m.candidates };
 }
 
 /// Where a token stands: its node in the marked term with the one above it, the program's node under it, and its scope.
@@ -113,6 +117,7 @@ impl Marked {
             flags,
             prunings,
             rest: Rest::new(alloc, cancels),
+            candidates: Candidates::new(alloc),
             due: Due::new(alloc),
         })
     }

@@ -63,6 +63,8 @@ impl Marked {
         self.nodes.push_within(token_node(b, g, spot));
         push_within(&mut self.marks, n);
         push_within(&mut self.marks, n + 1);
+        self.candidates.add(n);
+        self.candidates.add(n + 1);
         push_within(&mut self.flags, self.halts.at(f));
         push_within(&mut self.flags, self.halts.at(g));
         Ok(())
@@ -89,6 +91,7 @@ impl Marked {
         );
         self.nodes.push_within(token_node(a, f, spot));
         push_within(&mut self.marks, n);
+        self.candidates.add(n);
         push_within(&mut self.flags, self.halts.at(f));
         Ok(())
     }
@@ -114,6 +117,7 @@ impl Marked {
         );
         self.nodes.push_within(token_node(a, f, spot));
         push_within(&mut self.marks, n);
+        self.candidates.add(n);
         push_within(&mut self.flags, self.halts.at(f));
         Ok(())
     }

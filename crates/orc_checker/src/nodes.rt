@@ -14,13 +14,13 @@ use std::marker::Model;
 
 /// The nodes, each with a hint: itself, or a node above it to which all on the way let through what it publishes, and stay as they are.
 /// A walk upward goes from hint to hint, so that what it costs doesn't grow with the number of `|` on its way.
-/// What asks whether something can move goes over the list of restless nodes, so that what it costs doesn't grow with what is over or waits for a call.
+/// What asks whether a token can move goes over the list of restless nodes, so that what it costs doesn't grow with what is over or waits for a call.
 /// How deep the nodes nest is told by ranks; where a change would raise very many, they are given up.
 #[derive(Drop)]
 pub(crate) struct Nodes {
     items: Vec<Node>,
     hints: Vec<usize>,
-    /// The numbers of all nodes that can move by themselves, now or later, and of some that can't any more.
+    /// The numbers of all nodes with tokens, which can move now or later, and of some without any more.
     restless: Vec<usize>,
     /// Each node's rank is less than that of the node above it, while `are_ranked` says so.
     ranks: Vec<u32>,
@@ -76,14 +76,12 @@ fn lets_through(kind: Kind, part: usize) -> bool
     }
 }
 
-// Whether a node can move by itself, now or later.
+// Whether a node has a token, which can move now or later.
 fn is_restless(kind: Kind) -> bool
     ensures { result ≡ restless kind }
 {
     match kind {
         Kind::Leaf(Tip::Token(_, _, _)) | Kind::Leaf(Tip::Bears(_, _)) => true,
-        Kind::One(Single::Entered(_, _, _), _) => true,
-        Kind::Two(Double::Side(_), _, _) => true,
         _ => false,
     }
 }
@@ -224,7 +222,7 @@ impl Nodes {
         }
     }
 
-    /// The numbers of all nodes that can move by themselves, now or later, and of some that can't any more.
+    /// The numbers of all nodes with tokens, which can move now or later, and of some without any more.
     pub(crate) fn restless(&self) -> &Vec<usize>
         ensures { AreListed self.now.items result.now.items }
     {

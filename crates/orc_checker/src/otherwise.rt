@@ -1,6 +1,6 @@
 // The right side of an otherwise starts.
 
-ghost use Rattle.std.specs.Prelude.{◌≡◌, ◌<◌, ℕ, [], vec_len, vec_capacity, IfOk, OnErr};
+ghost use Rattle.std.specs.Prelude.{◌≡◌, ℕ, [], IfOk, OnErr};
 ghost use Rattle.orc_rules.specs.Term.{Term};
 ghost use Rattle.orc_checker.specs.Arena.{at};
 ghost use Rattle.orc_checker.specs.Checker.{Enters};
@@ -12,10 +12,9 @@ ghost use Rattle.orc_rules.specs.declared.entry.Entry.TheVariants as entry;
 use crate::arena::{Kind, Node, Single, Tip};
 use crate::flags::settle;
 use crate::marked::Marked;
-use crate::room::push_within;
+use crate::room::{push_within, reserve};
 use crate::side::{drop_nodes, nodes_of};
 use orc_rules::entry::RuleFault;
-use std::alloc::AllocError;
 
 /// Where an entered otherwise stands: its node with the one above it and that of its left side, and its right side: the program's node in a scope.
 #[derive(Clone, Copy)]
@@ -25,15 +24,6 @@ pub(crate) struct Otherwise {
     pub left: usize,
     pub node: usize,
     pub scope: usize,
-}
-
-/// Memory for one more mark.
-fn reserve_mark(marks: &mut Vec<usize>) -> Result<(), AllocError>
-    ensures marks { marks.new.items ≡ marks.old.items }
-    ensures room { IfOk result (λ _. vec_len marks.new < vec_capacity marks.new) }
-{
-    marks.try_reserve(1)?;
-    Ok(())
 }
 
 impl Marked {
@@ -85,8 +75,8 @@ impl Marked {
             return Err(RuleFault::Halted);
         }
         let side = self.side_at(otherwise.left)?;
-        reserve_mark(&mut self.marks).map_err(|_| RuleFault::Memory)?;
-        self.nodes.write_node(
+        reserve(&mut self.nodes, &mut self.flags, &mut self.marks).map_err(|_| RuleFault::Memory)?;
+        self.nodes.wake(
             otherwise.at,
             Node {
                 kind: Kind::Leaf(Tip::Token(a, otherwise.node, otherwise.scope)),
@@ -95,7 +85,13 @@ impl Marked {
         );
         drop_nodes(&mut self.nodes, &side);
         let halted = self.halts.at(otherwise.node);
-        settle(&self.nodes, &mut self.flags, otherwise.at, halted);
+        settle(
+            &self.nodes,
+            &mut self.flags,
+            &mut self.candidates,
+            otherwise.at,
+            halted,
+        );
         push_within(&mut self.marks, otherwise.at);
         Ok(())
     }

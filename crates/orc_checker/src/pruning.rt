@@ -125,11 +125,19 @@ impl Marked {
         self.nodes.push_within(token_node(b, g, spot));
         push_within(&mut self.marks, n);
         push_within(&mut self.marks, n + 1);
+        self.candidates.add(n);
+        self.candidates.add(n + 1);
         let left = self.halts.at(f);
         let right = self.halts.at(g);
         push_within(&mut self.flags, left);
         push_within(&mut self.flags, right);
-        settle(&self.nodes, &mut self.flags, spot.at, both(left, right));
+        settle(
+            &self.nodes,
+            &mut self.flags,
+            &mut self.candidates,
+            spot.at,
+            both(left, right),
+        );
         push_within(&mut self.prunings, spot.at);
         Ok(())
     }
@@ -196,7 +204,13 @@ impl Marked {
         );
         drop_nodes(&mut self.nodes, &side);
         let halted = flag_at(&self.flags, left);
-        settle(&self.nodes, &mut self.flags, at, halted);
+        settle(
+            &self.nodes,
+            &mut self.flags,
+            &mut self.candidates,
+            at,
+            halted,
+        );
         bind_cell(&mut self.cells, c, Bound::Is(v));
         self.rest.set_due(calls);
         Ok(())

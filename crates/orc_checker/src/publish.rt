@@ -34,7 +34,13 @@ impl Marked {
             },
         );
         rise(&mut self.nodes, bearer.at);
-        settle(&self.nodes, &mut self.flags, bearer.at, true);
+        settle(
+            &self.nodes,
+            &mut self.flags,
+            &mut self.candidates,
+            bearer.at,
+            true,
+        );
         Ok(())
     }
 }

@@ -111,7 +111,13 @@ impl Marked {
         );
         push_within(&mut self.marks, spot.at);
         let halted = self.halts.at(called.body);
-        settle(&self.nodes, &mut self.flags, spot.at, halted);
+        settle(
+            &self.nodes,
+            &mut self.flags,
+            &mut self.candidates,
+            spot.at,
+            halted,
+        );
         Ok(())
     }
 }

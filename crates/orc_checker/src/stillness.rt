@@ -7,9 +7,9 @@ ghost use Rattle.orc_rules.specs.Term.{values_of};
 ghost use Rattle.orc_checker.specs.Arena.{close_param, env_of};
 ghost use Rattle.orc_checker.specs.Halting.{AreHalts};
 ghost use Rattle.orc_checker.specs.Names.{AreOrdered};
-ghost use Rattle.orc_checker.specs.Stillness.{params_in, term_moves, node_moves, DoMove, Wakes};
+ghost use Rattle.orc_checker.specs.Stillness.{params_in, term_moves, token_moves, DoMove, Wakes};
 
-use crate::arena::{Bound, Double, Kind, Scope, Single, Tip};
+use crate::arena::{Bound, Kind, Scope, Tip};
 use crate::flags::{flag_at, write_flag};
 use crate::halts::Halts;
 use crate::names::meaning;
@@ -132,16 +132,15 @@ fn can_term_move(
     false
 }
 
-/// Whether a node of the marked term can move.
-fn can_node_move(
+/// Whether the token of a node can move.
+fn can_token_move(
     program: &Program,
     halts: &mut Halts,
     scopes: &Vec<Scope>,
     cells: &Vec<Bound>,
-    flags: &Vec<bool>,
     kind: Kind,
 ) -> bool
-    ensures moves { AreHalts (code program.now) halts.old → AreOrdered scopes.now.items → result ≡ node_moves (definitions program.now) (code program.now) cells.now.items scopes.now.items flags.now.items kind }
+    ensures moves { AreHalts (code program.now) halts.old → AreOrdered scopes.now.items → result ≡ token_moves (definitions program.now) (code program.now) cells.now.items scopes.now.items kind }
     ensures same { halts.new ≡ halts.old }
 {
     match kind {
@@ -155,28 +154,25 @@ fn can_node_move(
             scope,
         ),
         Kind::Leaf(Tip::Bears(_, _)) => true,
-        Kind::One(Single::Entered(_, _, _), part) => flag_at(flags, part),
-        Kind::Two(Double::Side(_), _, right) => flag_at(flags, right),
         _ => false,
     }
 }
 
-/// Whether some node can move.
+/// Whether some token can move.
 pub(crate) fn can_some_move(
     program: &Program,
     halts: &mut Halts,
     scopes: &Vec<Scope>,
     cells: &Vec<Bound>,
-    flags: &Vec<bool>,
     nodes: &Nodes,
 ) -> bool
-    ensures moves { AreHalts (code program.now) halts.old → AreOrdered scopes.now.items → DoMove (node_moves (definitions program.now) (code program.now) cells.now.items scopes.now.items flags.now.items) nodes.now.items result }
+    ensures moves { AreHalts (code program.now) halts.old → AreOrdered scopes.now.items → DoMove (token_moves (definitions program.now) (code program.now) cells.now.items scopes.now.items) nodes.now.items result }
     ensures same { halts.new ≡ halts.old }
 {
     let list = nodes.restless();
     for i in 0..list.len() {
         let kind = nodes.node_at(list[i]).kind;
-        if can_node_move(program, halts, scopes, cells, flags, kind) {
+        if can_token_move(program, halts, scopes, cells, kind) {
             return true;
         }
     }

@@ -83,7 +83,13 @@ impl Marked {
                 parent: spot.parent,
             },
         );
-        settle(&self.nodes, &mut self.flags, spot.at, true);
+        settle(
+            &self.nodes,
+            &mut self.flags,
+            &mut self.candidates,
+            spot.at,
+            true,
+        );
         Ok(())
     }
 }

@@ -1,10 +1,14 @@
-use Rattle.std.proofs.Common.{refl, ◌+◌, ◌∷◌, ◌++◌, [], ◌∙◌, ap, sym, subst, length, arith, length-append}
+use Rattle.std.proofs.Common.{refl, ◌+◌, ◌∷◌, ◌++◌, [], ◌∙◌, ap, sym, subst, length, arith, length-append, get_or}
 use Rattle.orc_checker.specs.declared.arena.Node.{Node}
 use Rattle.orc_checker.specs.declared.arena.Kind.TheVariants.{Leaf, Two}
 use Rattle.orc_checker.specs.declared.arena.Double.TheVariants.{Both}
 use Rattle.orc_checker.specs.Hints.{IsBeside, lifted}
 use Rattle.orc_checker.proofs.Moves.{node}
 use Rattle.orc_checker.proofs.Hints.{length_lifted}
+use Rattle.orc_checker.specs.Rising.{nowhere}
+use Rattle.orc_checker.specs.Sides.{is_side}
+use Rattle.orc_checker.proofs.KeptSides.{sides_on, sides_more, sides_lifted}
+use Rattle.orc_checker.proofs.Moving.{kind_of}
 use Rattle.orc_checker.proofs.Noting.{wait_on, wait_more, wait_lifted}
 use Rattle.orc_checker.proofs.Feeding.{beside_there, grafts}
 use Rattle.orc_checker.proofs.feed.graft.Goals as goal
@@ -40,3 +44,18 @@ returns-clause-len c =
 
 pub returns-clause-calls : goal.returns-clause-calls
 returns-clause-calls c still = wait_on _ _ _ (wait_on _ _ _ (wait_more _ _ _ c.push_within.ensures.items refl) (wait_more _ _ _ c.push_within-2.ensures.items still)) (wait_lifted _ _ _ _ c.lift.ensures.items)
+
+pub returns-clause-sides : goal.returns-clause-sides
+returns-clause-sides c =
+    let nodes = c.args.nodes.now.items in
+    let first = c.push_within.new.self.items in
+    let second = c.push_within-2.new.self.items in
+    let parent = Node.parent (get_or second c.args.at nowhere) in
+    let one = ap length c.push_within.ensures.items ∙ length-append nodes (node (Two Both c.args.at (c.len-both.result + 1)) c.node_at-parent.result.parent ∷ []) in
+    let e1 = c.push_within.ensures.items ∙ (λ j. nodes ++ node (Two Both c.args.at (c.len-both.ensures.count j + 1)) (Node.parent (c.node_at-parent.ensures j)) ∷ []) in
+    let e2 = c.push_within-2.ensures.items ∙ (λ j. e1 j ++ node (Leaf c.args.tip) (c.len-both.ensures.count j) ∷ []) in
+    let beside = subst (λ z. IsBeside second c.args.at z) (sym c.len-both.ensures.count) (subst (λ z. IsBeside z c.args.at (length nodes)) (sym e2) (beside_there nodes c.args.at c.args.tip c.requires.there)) in
+    let kind = kind_of second c.len-both.result parent (Two Both c.args.at (c.len-both.result + 1)) beside.1 in
+    sides_on (length nodes) nodes first c.lift.new.self.items (sides_more (length nodes) nodes first _ c.push_within.ensures.items (omega arith) (λ p lt. refl))
+    (sides_on (length nodes) first second c.lift.new.self.items (sides_more (length nodes) first second _ c.push_within-2.ensures.items (omega (arith, one)) (λ p lt. refl))
+    (sides_lifted (length nodes) second c.lift.new.self.items c.args.at c.len-both.result c.lift.ensures.items (omega (arith, c.len-both.ensures.count)) (λ p. ap (λ z. is_side z p) kind)))

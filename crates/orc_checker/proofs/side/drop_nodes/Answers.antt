@@ -1,8 +1,9 @@
-use Rattle.std.proofs.Common.{◌+◌, ◌++◌, ◌∷◌, [], ◌∙◌, ap, sym, subst, length, take, arith, length-set}
+use Rattle.std.proofs.Common.{refl, ◌+◌, ◌++◌, ◌∷◌, [], ◌∙◌, ap, sym, subst, length, take, arith, length-set}
 use Rattle.std.proofs.lemmas.List.{take_more}
 use Rattle.orc_checker.specs.declared.arena.Node.{Node}
 use Rattle.orc_checker.specs.Hints.{CanBecome}
 use Rattle.orc_checker.proofs.Dropping.{gone, dropped_on}
+use Rattle.orc_checker.proofs.KeptSides.{sides_same, sides_on, sides_written}
 use Rattle.orc_checker.proofs.Hints.{can_go}
 use Rattle.orc_checker.proofs.side.drop_nodes.Goals as goal
 
@@ -14,6 +15,7 @@ write_node-requires c =
 
 pub loop-next-preserved : goal.loop-next-preserved
 loop-next-preserved c =
+    let nodes = c.loop-next.nodes.items in
     let found = c.args.found.now.items in
     let next = c.loop-next.next in
     let i = c.index-place.result.now in (
@@ -21,4 +23,5 @@ loop-next-preserved c =
           c.write_node.ensures.items
           (take_more found next i (omega (arith, c.loop-next-test.true, c.len-next-end.ensures)) ∙ ap (λ z. take next found ++ z ∷ []) (sym c.index-place.ensures)),
       ap length c.write_node.ensures.items ∙ length-set c.loop-next.nodes.items _ _ ∙ c.loop-next.invariant.1,
+      λ n. sides_on n c.args.nodes.now.items nodes c.write_node.new.self.items (c.loop-next.invariant.2 n) (sides_written n nodes c.write_node.new.self.items i _ c.write_node.ensures.items (subst (λ z. CanBecome nodes i (gone (Node.parent z))) (sym c.node_at-parent.ensures) (can_go nodes i)) (λ p lt. refl)),
     )

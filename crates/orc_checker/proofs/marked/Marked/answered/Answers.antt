@@ -1,4 +1,4 @@
-use Rattle.std.proofs.Common.{refl, ◌∙◌, ap, rules}
+use Rattle.std.proofs.Common.{refl, ◌∙◌, ap, rules, length, length-set}
 use Rattle.std.specs.Prelude.{slice_set}
 use Rattle.orc_checker.specs.declared.arena.Kind.TheVariants.{Leaf}
 use Rattle.orc_checker.specs.declared.arena.Tip.TheVariants.{Bears}
@@ -9,6 +9,7 @@ use Rattle.orc_checker.proofs.Answering.{one_more}
 use Rattle.orc_checker.proofs.CallEntries.{return-enters, due_at}
 use Rattle.orc_checker.proofs.Hints.{can_wake}
 use Rattle.orc_checker.proofs.Noting.{still_noted, same_wait, wait_on, wait_written}
+use Rattle.orc_checker.proofs.KeptSides.{known_kept, flags_same, sides_same, sides_on, sides_woken}
 use Rattle.orc_checker.proofs.marked.Marked.answered.Goals as goal
 
 pub returns-clause-done : goal.returns-clause-done
@@ -27,4 +28,10 @@ pub wake-requires : goal.wake-requires
 wake-requires c = record { room = search rules; node = can_wake c.args.self.now.nodes _ _ _ _ _ (c.reserve.ensures.nodes ∙ ap State.nodes c.self.view_is) c.in_ok-pending.ensures.there (λ v. refl) }
 
 pub invariant_of-self-2 : goal.invariant_of-self-2
-invariant_of-self-2 c = still_noted _ _ _ _ _ (wait_on _ _ _ (same_wait _ _ c.reserve.ensures.nodes) (wait_written _ _ _ _ c.wake.ensures refl)) refl c.self.invariant
+invariant_of-self-2 c = (
+  still_noted _ _ _ _ _ (wait_on _ _ _ (same_wait _ _ c.reserve.ensures.nodes) (wait_written _ _ _ _ c.wake.ensures refl)) refl c.self.invariant.0,
+  known_kept _ _ _ _ _ _ _ c.self.invariant.1
+      (sides_on (length c.self.inside.nodes.items) _ _ _ (sides_same (length c.self.inside.nodes.items) _ _ c.reserve.ensures.nodes) (sides_woken (length c.self.inside.nodes.items) _ _ _ _ c.wake.ensures (can_wake c.args.self.now.nodes _ _ _ _ _ (c.reserve.ensures.nodes ∙ ap State.nodes c.self.view_is) c.in_ok-pending.ensures.there (λ v. refl)) (λ p lt. refl)))
+      (flags_same _ _ _ _ refl) (λ p m. m) c.reserve.ensures.flags refl
+      (ap length c.wake.ensures ∙ length-set c.reserve.new.nodes.items _ _ ∙ ap length c.reserve.ensures.nodes),
+)

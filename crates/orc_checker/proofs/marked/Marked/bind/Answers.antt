@@ -13,6 +13,7 @@ use Rattle.orc_checker.proofs.Catching.{catch-applies}
 use Rattle.orc_checker.proofs.Hints.{can_end}
 use Rattle.orc_checker.specs.Calls.{Rest}
 use Rattle.orc_checker.proofs.Noting.{still_noted, wait_on, wait_written, wait_dropped}
+use Rattle.orc_checker.proofs.KeptSides.{known_kept, sides_on, sides_written}
 use Rattle.orc_checker.proofs.marked.Marked.bind.Goals as goal
 
 pub returns-clause-done : goal.returns-clause-done
@@ -53,4 +54,7 @@ pub write_node-requires : goal.write_node-requires
 write_node-requires c = can_end c.self.inside.nodes.items c.in-Bound.at c.in-Two.left _ (ap Node.parent c.node_at-pruning.ensures)
 
 pub invariant_of-self : goal.invariant_of-self
-invariant_of-self c = still_noted _ _ _ _ _ (wait_on _ _ _ (wait_written _ _ _ _ c.write_node.ensures.items refl) (wait_dropped _ _ _ c.drop_nodes.ensures.dropped)) (ap Rest.calls c.set_due.ensures) c.self.invariant
+invariant_of-self c = (
+  still_noted _ _ _ _ _ (wait_on _ _ _ (wait_written _ _ _ _ c.write_node.ensures.items refl) (wait_dropped _ _ _ c.drop_nodes.ensures.dropped)) (ap Rest.calls c.set_due.ensures) c.self.invariant.0,
+  known_kept _ _ _ _ _ _ _ c.self.invariant.1 (sides_on (length c.self.inside.nodes.items) _ _ _ (sides_written (length c.self.inside.nodes.items) _ _ _ _ c.write_node.ensures.items (can_end c.self.inside.nodes.items c.in-Bound.at c.in-Two.left _ (ap Node.parent c.node_at-pruning.ensures)) (λ p lt. refl)) (c.drop_nodes.ensures.sides (length c.self.inside.nodes.items))) c.settle.ensures.known c.settle.ensures.kept refl c.settle.ensures.len (c.drop_nodes.ensures.len ∙ ap length c.write_node.ensures.items ∙ length-set c.self.inside.nodes.items _ _),
+)

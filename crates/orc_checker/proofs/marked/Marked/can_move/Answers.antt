@@ -1,19 +1,40 @@
-use Rattle.std.proofs.Common.{◌∙◌, ap, sym, subst}
+use Rattle.std.proofs.Common.{◌≡◌, ◌∙◌, Bool, true, false, List, ap, sym, subst}
 use Rattle.orc_rules.specs.Idle.{can_move}
 use Rattle.orc_rules.specs.Marked.{erase}
+use Rattle.orc_rules.specs.Term.{Term, Definition}
 use Rattle.orc_rules.specs.Nodes.{code, definitions}
+use Rattle.orc_checker.specs.declared.arena.Node.{Node}
+use Rattle.orc_checker.specs.declared.arena.Bound.{Bound}
+use Rattle.orc_checker.specs.declared.arena.Scope.{Scope}
 use Rattle.orc_checker.specs.Checker.{State}
 use Rattle.orc_checker.specs.Halting.{AreHalts}
 use Rattle.orc_checker.specs.Names.{AreOrdered}
-use Rattle.orc_checker.specs.Stillness.{node_moves, DoMove}
+use Rattle.orc_checker.specs.Sides.{DoesEnd}
+use Rattle.orc_checker.specs.Stillness.{token_moves, DoMove, DoStir}
+use Rattle.orc_checker.proofs.Moving.{tokens_stir, sides_stir}
 use Rattle.orc_checker.proofs.Ticking.{movement}
 use Rattle.orc_checker.proofs.marked.Marked.can_move.Goals as goal
+
+pub returns-then-does_side_end-clause-moves : goal.returns-then-does_side_end-clause-moves
+returns-then-does_side_end-clause-moves c x p own sp =
+    let l = c.args.program.now in
+    let n = c.self.inside in
+    let ends = subst (DoesEnd n.nodes.items n.flags.items) c.if-does_side_end.true c.does_side_end.ensures.ends in
+    let m = subst (λ (z : State). DoStir (definitions l) (code l) z.cells z.scopes z.flags z.nodes true) c.self.view_is (sides_stir (definitions l) (code l) n.cells.items n.scopes.items n.flags.items n.nodes.items ends) in
+    movement x (code l) c.args.self.now p (definitions l) true sp m ∙ ap (λ z. can_move z (erase p.marked)) (sym own)
+
+-- no side has halted, and a token can move or none can
+stirs : (defs : List Definition) (code : _) (cells : List Bound) (scopes : List Scope) (flags : List Bool) (nodes : List Node) (b : Bool) → DoesEnd nodes flags false → DoMove (token_moves defs code cells scopes) nodes b → DoStir defs code cells scopes flags nodes b
+stirs defs code cells scopes flags nodes true none m = tokens_stir defs code cells scopes flags nodes m
+stirs defs code cells scopes flags nodes false none m = (m, none)
 
 pub returns-clause-moves : goal.returns-clause-moves
 returns-clause-moves c x p own sp =
     let l = c.args.program.now in
     let b = c.can_some_move.result in
     let n = c.self.inside in
-    let its = subst (λ z. AreHalts (code l) n.halts → AreOrdered n.scopes.items → DoMove (node_moves (definitions l) (code l) n.cells.items n.scopes.items n.flags.items) z b) c.tidy.ensures c.can_some_move.ensures.moves in
-    let m = subst (λ (z : State). AreHalts (code l) z.halts → AreOrdered z.scopes → DoMove (node_moves (definitions l) (code l) z.cells z.scopes z.flags) z.nodes b) c.self.view_is its in
-    movement x (code l) c.args.self.now p (definitions l) b sp (m sp.drawn.flags.are_halts sp.scopes) ∙ ap (λ z. can_move z (erase p.marked)) (sym own)
+    let none = subst (DoesEnd n.nodes.items n.flags.items) c.if-does_side_end.false c.does_side_end.ensures.ends in
+    let its = subst (λ z. AreHalts (code l) n.halts → AreOrdered n.scopes.items → DoMove (token_moves (definitions l) (code l) n.cells.items n.scopes.items) z b) c.tidy.ensures c.can_some_move.ensures.moves in
+    let m = subst (λ (z : State). AreHalts (code l) z.halts → AreOrdered z.scopes → DoMove (token_moves (definitions l) (code l) z.cells z.scopes) z.nodes b) c.self.view_is its in
+    let ends = subst (λ (z : State). DoesEnd z.nodes z.flags false) c.self.view_is none in
+    movement x (code l) c.args.self.now p (definitions l) b sp (stirs (definitions l) (code l) c.args.self.now.cells c.args.self.now.scopes c.args.self.now.flags c.args.self.now.nodes b ends (m sp.drawn.flags.are_halts sp.scopes)) ∙ ap (λ z. can_move z (erase p.marked)) (sym own)

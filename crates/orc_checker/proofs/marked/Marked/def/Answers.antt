@@ -1,4 +1,4 @@
-use Rattle.std.proofs.Common.{◌≡◌, refl, ap, ◌∙◌, length, subst, [], ◌++◌}
+use Rattle.std.proofs.Common.{◌≡◌, refl, ap, ◌∙◌, length, subst, [], ◌++◌, length-set}
 use Rattle.std.specs.Prelude.{slice_set, slice_index_or}
 use Rattle.orc_rules.specs.Nodes.{code, unfold_node, definition_of}
 use Rattle.orc_rules.specs.Programs.{routine_of}
@@ -13,6 +13,7 @@ use Rattle.orc_checker.proofs.Answering.{one_more}
 use Rattle.orc_checker.proofs.Defining.{def-enters}
 use Rattle.orc_checker.proofs.Hints.{can_turn}
 use Rattle.orc_checker.proofs.Noting.{still_noted, wait_written}
+use Rattle.orc_checker.proofs.KeptSides.{known_kept, sides_written}
 use Rattle.orc_checker.proofs.marked.Marked.def.Goals as goal
 
 pub returns-clause-done : goal.returns-clause-done
@@ -49,4 +50,7 @@ pub write_node-requires : goal.write_node-requires
 write_node-requires c = can_turn c.args.self.now.nodes _ _ _ _ _ (ap State.nodes c.self.view_is) c.in_ok-spot.ensures.there (λ v. refl) refl
 
 pub invariant_of-self-2 : goal.invariant_of-self-2
-invariant_of-self-2 c = still_noted _ _ _ _ _ (wait_written _ _ _ _ c.write_node.ensures.items refl) refl c.self.invariant
+invariant_of-self-2 c = (
+  still_noted _ _ _ _ _ (wait_written _ _ _ _ c.write_node.ensures.items refl) refl c.self.invariant.0,
+  known_kept _ _ _ _ _ _ _ c.self.invariant.1 (sides_written (length c.self.inside.nodes.items) _ _ _ _ c.write_node.ensures.items (can_turn c.args.self.now.nodes _ _ _ _ _ (ap State.nodes c.self.view_is) c.in_ok-spot.ensures.there (λ v. refl) refl) (λ p lt. refl)) c.settle.ensures.known c.settle.ensures.kept refl c.settle.ensures.len (ap length c.write_node.ensures.items ∙ length-set c.self.inside.nodes.items _ _),
+)

@@ -1,4 +1,4 @@
-use Rattle.std.proofs.Common.{refl, ap, ◌∙◌, length}
+use Rattle.std.proofs.Common.{refl, ap, ◌∙◌, length, length-set}
 use Rattle.std.specs.Prelude.{slice_set}
 use Rattle.orc_rules.specs.Nodes.{code, unfold_node}
 use Rattle.orc_checker.specs.declared.arena.Kind.TheVariants.{Leaf}
@@ -7,6 +7,7 @@ use Rattle.orc_checker.specs.Checker.{State}
 use Rattle.orc_checker.proofs.Moves.{end-enters, node}
 use Rattle.orc_checker.proofs.Hints.{can_turn}
 use Rattle.orc_checker.proofs.Noting.{still_noted, wait_written}
+use Rattle.orc_checker.proofs.KeptSides.{known_kept, flags_same, sides_written}
 use Rattle.orc_checker.proofs.marked.Marked.end.Goals as goal
 
 pub returns-clause-done : goal.returns-clause-done
@@ -24,4 +25,7 @@ pub write_node-requires : goal.write_node-requires
 write_node-requires c = can_turn c.args.self.now.nodes _ _ _ _ _ (ap State.nodes c.self.view_is) c.in_ok-spot.ensures.there (λ v. refl) refl
 
 pub invariant_of-self : goal.invariant_of-self
-invariant_of-self c = still_noted _ _ _ _ _ (wait_written _ _ _ _ c.write_node.ensures.items refl) refl c.self.invariant
+invariant_of-self c = (
+  still_noted _ _ _ _ _ (wait_written _ _ _ _ c.write_node.ensures.items refl) refl c.self.invariant.0,
+  known_kept _ _ _ _ _ _ _ c.self.invariant.1 (sides_written (length c.self.inside.nodes.items) _ _ _ _ c.write_node.ensures.items (can_turn c.args.self.now.nodes _ _ _ _ _ (ap State.nodes c.self.view_is) c.in_ok-spot.ensures.there (λ v. refl) refl) (λ p lt. refl)) (flags_same _ _ _ _ refl) (λ p m. m) refl refl (ap length c.write_node.ensures.items ∙ length-set c.self.inside.nodes.items _ _),
+)

@@ -7,7 +7,9 @@ use Rattle.orc_checker.proofs.Answering.{set_two, two_more}
 use Rattle.orc_checker.proofs.Hints.{can_turn}
 use Rattle.orc_checker.specs.declared.arena.Node.{Node}
 use Rattle.orc_checker.specs.NextDue.{waits}
+use Rattle.orc_checker.specs.Sides.{is_side}
 use Rattle.orc_checker.proofs.Noting.{still_noted, same_wait, wait_on, wait_written, wait_more}
+use Rattle.orc_checker.proofs.KeptSides.{known_two, flags_same, sides_two, length_two}
 use Rattle.orc_checker.proofs.marked.Marked.fork.Goals as goal
 
 pub returns-clause-done : goal.returns-clause-done
@@ -31,8 +33,10 @@ pub write_node-requires : goal.write_node-requires
 write_node-requires c = can_turn c.args.self.now.nodes _ _ _ _ _ (c.reserve.ensures.nodes ∙ ap State.nodes c.self.view_is) c.in_ok-spot.ensures.there (λ v. refl) refl
 
 pub invariant_of-self-2 : goal.invariant_of-self-2
-invariant_of-self-2 c =
-    still_noted _ _ _ _ _
-    (wait_on _ _ _ (wait_on _ _ _ (same_wait _ _ c.reserve.ensures.nodes) (wait_written _ _ _ _ c.write_node.ensures.items refl))
-    (wait_on _ _ _ (wait_more _ _ _ c.push_within.ensures.items (ap (λ (z : Node). waits z.kind) c.token_node.ensures)) (wait_more _ _ _ c.push_within-2.ensures.items (ap (λ (z : Node). waits z.kind) c.token_node-2.ensures))))
-    refl c.self.invariant
+invariant_of-self-2 c = (
+  still_noted _ _ _ _ _
+      (wait_on _ _ _ (wait_on _ _ _ (same_wait _ _ c.reserve.ensures.nodes) (wait_written _ _ _ _ c.write_node.ensures.items refl))
+      (wait_on _ _ _ (wait_more _ _ _ c.push_within.ensures.items (ap (λ (z : Node). waits z.kind) c.token_node.ensures)) (wait_more _ _ _ c.push_within-2.ensures.items (ap (λ (z : Node). waits z.kind) c.token_node-2.ensures))))
+      refl c.self.invariant.0,
+  known_two _ _ _ _ _ _ _ c.self.invariant.1 (sides_two c.self.inside.nodes.items c.reserve.new.nodes.items c.in_ok-spot.spot.at _ c.reserve.ensures.nodes (can_turn c.args.self.now.nodes _ _ _ _ _ (c.reserve.ensures.nodes ∙ ap State.nodes c.self.view_is) c.in_ok-spot.ensures.there (λ v. refl) refl) (λ p lt. refl) _ _ _ _ (c.push_within.ensures.items ∙ ap (λ z. z ++ c.token_node.result ∷ []) c.write_node.ensures.items) c.push_within-2.ensures.items (λ p lt. ap (λ (z : Node). is_side z.kind p) c.token_node.ensures) (λ p lt. ap (λ (z : Node). is_side z.kind p) c.token_node-2.ensures)) (flags_same _ _ _ _ refl) (λ p m. c.add-2.ensures.kept p (c.add.ensures.kept p m)) _ _ _ (c.push_within-6.ensures.items ∙ ap (λ z. z ++ c.at-2.result ∷ []) (c.push_within-5.ensures.items ∙ ap (λ z. z ++ c.at.result ∷ []) c.reserve.ensures.flags)) refl (length_two c.self.inside.nodes.items c.reserve.new.nodes.items c.in_ok-spot.spot.at _ c.reserve.ensures.nodes (can_turn c.args.self.now.nodes _ _ _ _ _ (c.reserve.ensures.nodes ∙ ap State.nodes c.self.view_is) c.in_ok-spot.ensures.there (λ v. refl) refl) (λ p lt. refl) _ _ _ _ (c.push_within.ensures.items ∙ ap (λ z. z ++ c.token_node.result ∷ []) c.write_node.ensures.items) c.push_within-2.ensures.items) (c.len-n.ensures.count ∙ ap length c.reserve.ensures.nodes) (c.add-2.ensures.kept _ c.add.ensures.added) c.add-2.ensures.added,
+)

@@ -1,5 +1,5 @@
 use Rattle.orc_checker.specs.Settling.{Settles}
-use Rattle.std.proofs.Common.{refl, ◌∙◌, ap, length, subst, true}
+use Rattle.std.proofs.Common.{refl, ◌∙◌, ap, length, subst, true, length-set}
 use Rattle.std.specs.Prelude.{slice_set}
 use Rattle.orc_checker.specs.declared.arena.Kind.TheVariants.{Leaf}
 use Rattle.orc_checker.specs.declared.arena.Tip.TheVariants.{Ended}
@@ -9,6 +9,7 @@ use Rattle.orc_checker.proofs.Moves.{node}
 use Rattle.orc_checker.proofs.CallEntries.{halt-enters, due_at}
 use Rattle.orc_checker.proofs.Hints.{can_rest}
 use Rattle.orc_checker.proofs.Noting.{still_noted, wait_written}
+use Rattle.orc_checker.proofs.KeptSides.{known_kept, sides_written}
 use Rattle.orc_checker.proofs.marked.Marked.given_up.Goals as goal
 
 pub returns-clause-done : goal.returns-clause-done
@@ -27,4 +28,7 @@ pub write_node-requires : goal.write_node-requires
 write_node-requires c = can_rest c.args.self.now.nodes _ _ _ _ _ (ap State.nodes c.self.view_is) c.in_ok-pending.ensures.there (λ v. refl) refl
 
 pub invariant_of-self : goal.invariant_of-self
-invariant_of-self c = still_noted _ _ _ _ _ (wait_written _ _ _ _ c.write_node.ensures.items refl) refl c.self.invariant
+invariant_of-self c = (
+  still_noted _ _ _ _ _ (wait_written _ _ _ _ c.write_node.ensures.items refl) refl c.self.invariant.0,
+  known_kept _ _ _ _ _ _ _ c.self.invariant.1 (sides_written (length c.self.inside.nodes.items) _ _ _ _ c.write_node.ensures.items (can_rest c.args.self.now.nodes _ _ _ _ _ (ap State.nodes c.self.view_is) c.in_ok-pending.ensures.there (λ v. refl) refl) (λ p lt. refl)) c.settle.ensures.known c.settle.ensures.kept refl c.settle.ensures.len (ap length c.write_node.ensures.items ∙ length-set c.self.inside.nodes.items _ _),
+)

@@ -8,6 +8,7 @@ use Rattle.orc_checker.proofs.Moves.{node}
 use Rattle.orc_checker.proofs.Losing.{lose-applies}
 use Rattle.orc_checker.proofs.Hints.{can_end, parent_there}
 use Rattle.orc_checker.proofs.Noting.{still_noted, wait_on, wait_written, wait_dropped}
+use Rattle.orc_checker.proofs.KeptSides.{known_kept, flags_same, sides_on, sides_written}
 use Rattle.orc_checker.proofs.marked.Marked.lost.Goals as goal
 
 pub returns-clause-done : goal.returns-clause-done
@@ -38,4 +39,7 @@ write_node-requires c =
     can_end c.self.inside.nodes.items o.at o.left o.parent (parent_there c.args.self.now.nodes _ o.parent o.at _ (ap State.nodes c.self.view_is) c.in_ok-pruning.ensures.there)
 
 pub invariant_of-self : goal.invariant_of-self
-invariant_of-self c = still_noted _ _ _ _ _ (wait_on _ _ _ (wait_written _ _ _ _ c.write_node.ensures.items refl) (wait_dropped _ _ _ c.drop_nodes.ensures.dropped)) refl c.self.invariant
+invariant_of-self c = (
+  still_noted _ _ _ _ _ (wait_on _ _ _ (wait_written _ _ _ _ c.write_node.ensures.items refl) (wait_dropped _ _ _ c.drop_nodes.ensures.dropped)) refl c.self.invariant.0,
+  known_kept _ _ _ _ _ _ _ c.self.invariant.1 (sides_on (length c.self.inside.nodes.items) _ _ _ (sides_written (length c.self.inside.nodes.items) _ _ _ _ c.write_node.ensures.items (can_end c.self.inside.nodes.items c.in_ok-pruning.pruning.at c.in_ok-pruning.pruning.left c.in_ok-pruning.pruning.parent (parent_there c.args.self.now.nodes _ c.in_ok-pruning.pruning.parent c.in_ok-pruning.pruning.at _ (ap State.nodes c.self.view_is) c.in_ok-pruning.ensures.there)) (λ p lt. refl)) (c.drop_nodes.ensures.sides (length c.self.inside.nodes.items))) (flags_same _ _ _ _ refl) (λ p m. m) refl refl (c.drop_nodes.ensures.len ∙ ap length c.write_node.ensures.items ∙ length-set c.self.inside.nodes.items _ _),
+)

@@ -1,5 +1,6 @@
 use Rattle.std.proofs.Common.{refl, ◌≡◌, ◌∷◌, ◌++◌, [], ap, ◌∙◌, length, suc, subst, arith, length-append}
 use Rattle.std.specs.Prelude.{◌&&◌}
+use Rattle.std.proofs.lemmas.Bool.{ne_eqb}
 use Rattle.orc_rules.specs.Nodes.{code, unfold_node}
 use Rattle.orc_checker.specs.declared.arena.Bound.TheVariants.{Cell}
 use Rattle.orc_checker.specs.declared.arena.Tip.TheVariants.{Token}
@@ -13,7 +14,9 @@ use Rattle.orc_checker.proofs.Answering.{set_two, two_more}
 use Rattle.orc_checker.proofs.Hints.{can_turn}
 use Rattle.orc_checker.specs.declared.arena.Node.{Node}
 use Rattle.orc_checker.specs.NextDue.{waits}
+use Rattle.orc_checker.specs.Sides.{is_side}
 use Rattle.orc_checker.proofs.Noting.{still_noted, same_wait, wait_on, wait_written, wait_more}
+use Rattle.orc_checker.proofs.KeptSides.{known_two, sides_two, length_two}
 use Rattle.orc_checker.proofs.marked.Marked.open.Goals as goal
 
 pub returns-clause-done : goal.returns-clause-done
@@ -52,8 +55,10 @@ pub write_node-requires : goal.write_node-requires
 write_node-requires c = can_turn c.args.self.now.nodes _ _ _ _ _ (c.reserve.ensures.nodes ∙ ap State.nodes c.self.view_is) c.in_ok-spot.ensures.there (λ v. refl) refl
 
 pub invariant_of-self-2 : goal.invariant_of-self-2
-invariant_of-self-2 c =
-    still_noted _ _ _ _ _
-    (wait_on _ _ _ (wait_on _ _ _ (same_wait _ _ c.reserve.ensures.nodes) (wait_written _ _ _ _ c.write_node.ensures.items refl))
-    (wait_on _ _ _ (wait_more _ _ _ c.push_within-3.ensures.items (ap (λ (z : Node). waits z.kind) c.token_node.ensures)) (wait_more _ _ _ c.push_within-4.ensures.items (ap (λ (z : Node). waits z.kind) c.token_node-2.ensures))))
-    refl c.self.invariant
+invariant_of-self-2 c = (
+  still_noted _ _ _ _ _
+      (wait_on _ _ _ (wait_on _ _ _ (same_wait _ _ c.reserve.ensures.nodes) (wait_written _ _ _ _ c.write_node.ensures.items refl))
+      (wait_on _ _ _ (wait_more _ _ _ c.push_within-3.ensures.items (ap (λ (z : Node). waits z.kind) c.token_node.ensures)) (wait_more _ _ _ c.push_within-4.ensures.items (ap (λ (z : Node). waits z.kind) c.token_node-2.ensures))))
+      refl c.self.invariant.0,
+  known_two _ _ _ _ _ _ _ c.self.invariant.1 (sides_two c.self.inside.nodes.items c.reserve.new.nodes.items c.in_ok-spot.spot.at _ c.reserve.ensures.nodes (can_turn c.args.self.now.nodes _ _ _ _ _ (c.reserve.ensures.nodes ∙ ap State.nodes c.self.view_is) c.in_ok-spot.ensures.there (λ v. refl) refl) (λ p lt. ne_eqb _ p (λ e. omega (arith, lt, e, c.len-n.ensures.count, ap length c.reserve.ensures.nodes))) _ _ _ _ (c.push_within-3.ensures.items ∙ ap (λ z. z ++ c.token_node.result ∷ []) c.write_node.ensures.items) c.push_within-4.ensures.items (λ p lt. ap (λ (z : Node). is_side z.kind p) c.token_node.ensures) (λ p lt. ap (λ (z : Node). is_side z.kind p) c.token_node-2.ensures)) c.settle.ensures.known (λ p m. c.settle.ensures.kept p (c.add-2.ensures.kept p (c.add.ensures.kept p m))) _ _ _ (c.push_within-8.ensures.items ∙ ap (λ z. z ++ c.at-right.result ∷ []) (c.push_within-7.ensures.items ∙ ap (λ z. z ++ c.at-left.result ∷ []) c.reserve.ensures.flags)) c.settle.ensures.len (length_two c.self.inside.nodes.items c.reserve.new.nodes.items c.in_ok-spot.spot.at _ c.reserve.ensures.nodes (can_turn c.args.self.now.nodes _ _ _ _ _ (c.reserve.ensures.nodes ∙ ap State.nodes c.self.view_is) c.in_ok-spot.ensures.there (λ v. refl) refl) (λ p lt. ne_eqb _ p (λ e. omega (arith, lt, e, c.len-n.ensures.count, ap length c.reserve.ensures.nodes))) _ _ _ _ (c.push_within-3.ensures.items ∙ ap (λ z. z ++ c.token_node.result ∷ []) c.write_node.ensures.items) c.push_within-4.ensures.items) (c.len-n.ensures.count ∙ ap length c.reserve.ensures.nodes) (c.settle.ensures.kept _ (c.add-2.ensures.kept _ c.add.ensures.added)) (c.settle.ensures.kept _ c.add-2.ensures.added),
+)

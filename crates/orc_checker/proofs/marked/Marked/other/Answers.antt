@@ -1,4 +1,5 @@
-use Rattle.std.proofs.Common.{refl, ap, ◌∙◌, ◌++◌, ◌∷◌, [], length}
+use Rattle.std.proofs.Common.{refl, ap, ◌∙◌, ◌++◌, ◌∷◌, [], length, arith}
+use Rattle.std.proofs.lemmas.Bool.{ne_eqb}
 use Rattle.orc_rules.specs.Nodes.{code, unfold_node}
 use Rattle.orc_checker.specs.Checker.{State}
 use Rattle.orc_checker.specs.Halting.{halt_flag}
@@ -7,7 +8,9 @@ use Rattle.orc_checker.proofs.Answering.{set_one, one_more}
 use Rattle.orc_checker.proofs.Hints.{can_turn}
 use Rattle.orc_checker.specs.declared.arena.Node.{Node}
 use Rattle.orc_checker.specs.NextDue.{waits}
+use Rattle.orc_checker.specs.Sides.{is_side}
 use Rattle.orc_checker.proofs.Noting.{still_noted, same_wait, wait_on, wait_written, wait_more}
+use Rattle.orc_checker.proofs.KeptSides.{known_one, flags_same, sides_one, length_one}
 use Rattle.orc_checker.proofs.marked.Marked.other.Goals as goal
 
 pub returns-clause-done : goal.returns-clause-done
@@ -29,7 +32,9 @@ pub write_node-requires : goal.write_node-requires
 write_node-requires c = can_turn c.args.self.now.nodes _ _ _ _ _ (c.reserve.ensures.nodes ∙ ap State.nodes c.self.view_is) c.in_ok-spot.ensures.there (λ v. refl) refl
 
 pub invariant_of-self-2 : goal.invariant_of-self-2
-invariant_of-self-2 c =
-    still_noted _ _ _ _ _
-    (wait_on _ _ _ (wait_on _ _ _ (same_wait _ _ c.reserve.ensures.nodes) (wait_written _ _ _ _ c.write_node.ensures.items refl)) (wait_more _ _ _ c.push_within.ensures.items (ap (λ (z : Node). waits z.kind) c.token_node.ensures)))
-    refl c.self.invariant
+invariant_of-self-2 c = (
+  still_noted _ _ _ _ _
+      (wait_on _ _ _ (wait_on _ _ _ (same_wait _ _ c.reserve.ensures.nodes) (wait_written _ _ _ _ c.write_node.ensures.items refl)) (wait_more _ _ _ c.push_within.ensures.items (ap (λ (z : Node). waits z.kind) c.token_node.ensures)))
+      refl c.self.invariant.0,
+  known_one _ _ _ _ _ _ _ c.self.invariant.1 (sides_one c.self.inside.nodes.items c.reserve.new.nodes.items c.in_ok-spot.spot.at _ c.reserve.ensures.nodes (can_turn c.args.self.now.nodes _ _ _ _ _ (c.reserve.ensures.nodes ∙ ap State.nodes c.self.view_is) c.in_ok-spot.ensures.there (λ v. refl) refl) (λ p lt. ne_eqb _ p (λ e. omega (arith, lt, e, c.len-n.ensures.count, ap length c.reserve.ensures.nodes))) _ _ (c.push_within.ensures.items ∙ ap (λ z. z ++ c.token_node.result ∷ []) c.write_node.ensures.items) (λ p lt. ap (λ (z : Node). is_side z.kind p) c.token_node.ensures)) (flags_same _ _ _ _ refl) (λ p m. c.add.ensures.kept p m) _ _ (c.push_within-3.ensures.items ∙ ap (λ z. z ++ c.at.result ∷ []) c.reserve.ensures.flags) refl (length_one c.self.inside.nodes.items c.reserve.new.nodes.items c.in_ok-spot.spot.at _ c.reserve.ensures.nodes (can_turn c.args.self.now.nodes _ _ _ _ _ (c.reserve.ensures.nodes ∙ ap State.nodes c.self.view_is) c.in_ok-spot.ensures.there (λ v. refl) refl) (λ p lt. ne_eqb _ p (λ e. omega (arith, lt, e, c.len-n.ensures.count, ap length c.reserve.ensures.nodes))) _ _ (c.push_within.ensures.items ∙ ap (λ z. z ++ c.token_node.result ∷ []) c.write_node.ensures.items)) (c.len-n.ensures.count ∙ ap length c.reserve.ensures.nodes) c.add.ensures.added,
+)

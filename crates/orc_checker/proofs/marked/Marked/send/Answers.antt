@@ -16,6 +16,8 @@ use Rattle.orc_checker.proofs.Answering.{one_more}
 use Rattle.orc_checker.proofs.Sending.{send-enters}
 use Rattle.orc_checker.proofs.Hints.{can_publish, one_in}
 use Rattle.orc_checker.proofs.Noting.{still_noted, same_wait, wait_on, wait_written, wait_passed}
+use Rattle.orc_checker.specs.Sides.{NoNewSides}
+use Rattle.orc_checker.proofs.KeptSides.{known_two, sides_same, sides_on, sides_written, sides_passed}
 use Rattle.orc_checker.proofs.marked.Marked.send.Goals as goal
 
 pub returns-clause-done : goal.returns-clause-done
@@ -61,6 +63,16 @@ graft-requires c =
 
 pub invariant_of-self-2 : goal.invariant_of-self-2
 invariant_of-self-2 c =
-    still_noted _ _ _ _ _
-    (wait_on _ _ _ (wait_on _ _ _ (same_wait _ _ c.reserve.ensures.nodes) (wait_written _ _ _ _ c.write_node.ensures.items refl)) (wait_on _ _ _ (wait_passed _ _ c.rise.ensures.passes) (c.graft.ensures.calls refl)))
-    refl c.self.invariant
+    let n = length c.self.inside.nodes.items in
+    let t = c.in_ok-bearer.bearer in
+    let can = can_publish c.args.self.now.nodes _ _ _ c.args.s _ _ (c.reserve.ensures.nodes ∙ ap State.nodes c.self.view_is) c.in_ok-bearer.ensures.there c.in_ok-bearer.ensures.carries in
+    let len : length c.rise.new.nodes.items ≡ n = c.rise.ensures.len ∙ ap length c.write_node.ensures.items ∙ length-set c.reserve.new.nodes.items t.at (node (Leaf Ended) t.parent) ∙ ap length c.reserve.ensures.nodes in (
+      still_noted _ _ _ _ _
+          (wait_on _ _ _ (wait_on _ _ _ (same_wait _ _ c.reserve.ensures.nodes) (wait_written _ _ _ _ c.write_node.ensures.items refl)) (wait_on _ _ _ (wait_passed _ _ c.rise.ensures.passes) (c.graft.ensures.calls refl)))
+          refl c.self.invariant.0,
+      known_two _ _ _ _ _ _ _ c.self.invariant.1
+          (sides_on n _ _ _ (sides_same n _ _ c.reserve.ensures.nodes)
+          (sides_on n _ _ _ (sides_written n _ _ _ _ c.write_node.ensures.items can (λ p lt. refl)) (sides_on n _ _ _ (sides_passed n _ _ c.rise.ensures.passes) (subst (λ z. NoNewSides z c.rise.new.nodes.items c.graft.new.nodes.items) len c.graft.ensures.sides))))
+          c.settle.ensures.known (λ p m. c.settle.ensures.kept p (c.add-2.ensures.kept p (c.add.ensures.kept p m))) _ _ _ (c.push_within-4.ensures.items ∙ ap (λ z. z ++ c.at.result ∷ []) (c.push_within-3.ensures.items ∙ ap (λ z. z ++ false ∷ []) c.reserve.ensures.flags)) c.settle.ensures.len
+          (c.graft.ensures.len ∙ ap (λ z. z + 2) len) (c.len-both.ensures.count ∙ len) (c.settle.ensures.kept _ (c.add-2.ensures.kept _ c.add.ensures.added)) (c.settle.ensures.kept _ c.add-2.ensures.added),
+    )

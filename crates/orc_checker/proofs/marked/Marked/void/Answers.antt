@@ -1,4 +1,4 @@
-use Rattle.std.proofs.Common.{refl, ap, ◌∙◌, length, subst, true}
+use Rattle.std.proofs.Common.{refl, ap, ◌∙◌, length, subst, true, length-set}
 use Rattle.std.specs.Prelude.{slice_set}
 use Rattle.orc_rules.specs.Nodes.{code}
 use Rattle.orc_checker.specs.declared.arena.Kind.TheVariants.{Leaf}
@@ -9,6 +9,7 @@ use Rattle.orc_checker.proofs.Moves.{node}
 use Rattle.orc_checker.proofs.Voiding.{void-enters}
 use Rattle.orc_checker.proofs.Hints.{can_turn}
 use Rattle.orc_checker.proofs.Noting.{still_noted, wait_written}
+use Rattle.orc_checker.proofs.KeptSides.{known_kept, sides_written}
 use Rattle.orc_checker.proofs.marked.Marked.void.Goals as goal
 
 pub returns-clause-done : goal.returns-clause-done
@@ -28,4 +29,7 @@ pub write_node-requires : goal.write_node-requires
 write_node-requires c = can_turn c.args.self.now.nodes _ _ _ _ _ (ap State.nodes c.self.view_is) c.in_ok-spot.ensures.there (λ v. refl) refl
 
 pub invariant_of-self : goal.invariant_of-self
-invariant_of-self c = still_noted _ _ _ _ _ (wait_written _ _ _ _ c.write_node.ensures.items refl) refl c.self.invariant
+invariant_of-self c = (
+  still_noted _ _ _ _ _ (wait_written _ _ _ _ c.write_node.ensures.items refl) refl c.self.invariant.0,
+  known_kept _ _ _ _ _ _ _ c.self.invariant.1 (sides_written (length c.self.inside.nodes.items) _ _ _ _ c.write_node.ensures.items (can_turn c.args.self.now.nodes _ _ _ _ _ (ap State.nodes c.self.view_is) c.in_ok-spot.ensures.there (λ v. refl) refl) (λ p lt. refl)) c.settle.ensures.known c.settle.ensures.kept refl c.settle.ensures.len (ap length c.write_node.ensures.items ∙ length-set c.self.inside.nodes.items _ _),
+)
