@@ -1,17 +1,15 @@
 -- What a change of the nodes and of their flags leaves of the candidates.
 use Rattle.std.proofs.Common.{◌≡◌, ◌<◌, ◌≤◌, ◌+◌, ℕ, zero, suc, List, [], ◌∷◌, ◌++◌, length, get_or, Option, Some, None, refl, sym, ap, ◌∙◌, subst, inl, inr, ◌⊎◌, ⊎_elim, arith, Bool, true, false, cond, nat_eq, eqb-true, length-append, length-set}
-use Rattle.std.proofs.lemmas.Bool.{ne_eqb}
 use Rattle.std.proofs.lemmas.List.{get_or_append_left}
 use Rattle.std.specs.Prelude.{slice_get, slice_set, option_map, ◌&&◌}
 use Rattle.orc_rules.specs.Timed.{IsIn}
 use Rattle.orc_checker.specs.declared.arena.Node.{Node}
 use Rattle.orc_checker.specs.declared.arena.Kind.{Kind}
 use Rattle.orc_checker.specs.declared.arena.Kind.TheVariants.{Leaf, One, Two}
-use Rattle.orc_checker.specs.declared.arena.Tip.TheVariants.{Gone}
 use Rattle.orc_checker.specs.declared.arena.Single.TheVariants.{Feeds, Entered, Passed}
 use Rattle.orc_checker.specs.declared.arena.Double.TheVariants.{Both, Side}
 use Rattle.orc_checker.specs.Grafting.{relink}
-use Rattle.orc_checker.specs.Hints.{CanBecome, CanWake, Follows, lifted}
+use Rattle.orc_checker.specs.Hints.{CanBecome, CanWake, lifted}
 use Rattle.orc_checker.specs.Rising.{nowhere, pass_kind, pass_node, Passes}
 use Rattle.orc_checker.specs.Settling.{kind_at, parent_at}
 use Rattle.orc_checker.specs.Sides.{Places, MayBe, is_side, is_side_at, is_set, has_ended, DoesEnd, AreKnown, NoNewSides, AreFlagged}

@@ -1,4 +1,4 @@
-use Rattle.std.proofs.Common.{◌≡◌, ◌<◌, ◌≤◌, ◌∙◌, ap, sym, subst, arith, ⊎_elim, length}
+use Rattle.std.proofs.Common.{◌≤◌, ◌∙◌, ap, sym, arith, ⊎_elim}
 use Rattle.orc_checker.specs.Sides.{has_ended}
 use Rattle.orc_checker.proofs.Hints.{next_or}
 use Rattle.orc_checker.proofs.KeptSides.{beyond, less_or}

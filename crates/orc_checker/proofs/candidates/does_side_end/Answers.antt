@@ -1,4 +1,4 @@
-use Rattle.std.proofs.Common.{◌≡◌, ◌∙◌, sym}
+use Rattle.std.proofs.Common.{◌∙◌, sym}
 use Rattle.orc_checker.proofs.KeptSides.{known_again, known_less}
 use Rattle.orc_checker.proofs.candidates.does_side_end.Goals as goal
 

@@ -1,10 +1,10 @@
 use Rattle.std.proofs.Common.{◌≡◌, ◌∙◌, ap, sym, subst, refl, map, Bool, true, false}
 use Rattle.std.specs.Prelude.{◌||◌, is_some}
-use Rattle.orc_rules.specs.Idle.{can_move, has_void}
+use Rattle.orc_rules.specs.Idle.{can_move}
 use Rattle.orc_rules.specs.Nodes.{code, unfold_node, param_of, HasParts, definitions}
 use Rattle.orc_rules.specs.Term.{site}
 use Rattle.orc_checker.specs.Arena.{close, env_of}
-use Rattle.orc_checker.specs.Stillness.{term_moves, params_in}
+use Rattle.orc_checker.specs.Stillness.{term_moves}
 use Rattle.orc_checker.proofs.Closing.{close-stop, close-par, close-seq, close-other, close-prune}
 use Rattle.orc_checker.proofs.Scopes.{close-of-param, close-site, close-call}
 use Rattle.orc_checker.proofs.Settling.{close_halted}

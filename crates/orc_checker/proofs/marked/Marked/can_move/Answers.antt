@@ -1,7 +1,7 @@
-use Rattle.std.proofs.Common.{◌≡◌, ◌∙◌, Bool, true, false, List, ap, sym, subst}
+use Rattle.std.proofs.Common.{◌∙◌, Bool, true, false, List, ap, sym, subst}
 use Rattle.orc_rules.specs.Idle.{can_move}
 use Rattle.orc_rules.specs.Marked.{erase}
-use Rattle.orc_rules.specs.Term.{Term, Definition}
+use Rattle.orc_rules.specs.Term.{Definition}
 use Rattle.orc_rules.specs.Nodes.{code, definitions}
 use Rattle.orc_checker.specs.declared.arena.Node.{Node}
 use Rattle.orc_checker.specs.declared.arena.Bound.{Bound}
