@@ -10,7 +10,7 @@ ghost use Rattle.orc_checker.specs.Sides.{NoNewSides};
 ghost use Rattle.orc_checker.specs.declared.arena.Kind.TheVariants.{Leaf as AtLeaf};
 
 use crate::arena::{Bound, Double, Kind, Node, Scope, Single, Tip};
-use crate::flags::settle;
+use crate::flags::{push_flag, settle};
 use crate::marked::Marked;
 use crate::nodes::Nodes;
 use crate::room::{push_within, reserve};
@@ -97,10 +97,9 @@ impl Marked {
             Tip::Token(a, g, scope_count(&self.scopes)),
         );
         push_within(&mut self.marks, both + 1);
-        self.candidates.add(both);
-        self.candidates.add(both + 1);
-        push_within(&mut self.flags, false);
-        push_within(&mut self.flags, self.halts.at(g));
+        push_flag(&mut self.flags, &mut self.candidates, both, false);
+        let halted = self.halts.at(g);
+        push_flag(&mut self.flags, &mut self.candidates, both + 1, halted);
         settle(
             &self.nodes,
             &mut self.flags,

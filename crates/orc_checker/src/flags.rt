@@ -1,6 +1,6 @@
 //! Flags of the nodes that have halted.
 
-ghost use Rattle.std.specs.Prelude.{◌≡◌, ℕ, ◌&&◌, ◌⊎◌, true, false, List, Bool, length, slice_set, vec_capacity, IfSome, IfNone, slice_index_or};
+ghost use Rattle.std.specs.Prelude.{◌≡◌, vec_len, [], ◌<◌, ◌≤◌, ◌∷◌, ◌++◌, ℕ, ◌&&◌, ◌⊎◌, true, false, List, Bool, length, slice_set, vec_capacity, IfSome, IfNone, slice_index_or};
 ghost use Rattle.orc_checker.specs.Settling.{flag, inner_flag, HaltsNext, EndsAt, Settles};
 ghost use Rattle.orc_checker.specs.Rising.{nowhere};
 ghost use Rattle.orc_checker.specs.Sides.{is_side_at, MayBe, AreFlagged};
@@ -8,6 +8,7 @@ ghost use Rattle.orc_checker.specs.Sides.{is_side_at, MayBe, AreFlagged};
 use crate::arena::{Kind, Single};
 use crate::candidates::{Candidates, is_side_at};
 use crate::nodes::Nodes;
+use crate::room::push_within;
 
 /// A node's flag, true where there is none.
 pub(crate) fn flag_at(flags: &Vec<bool>, i: usize) -> bool
@@ -62,6 +63,25 @@ fn halts_next(nodes: &Nodes, flags: &Vec<bool>, place: usize) -> Option<usize>
         Some(parent)
     } else {
         None
+    }
+}
+
+/// Adds the flag of a new place, which is a candidate where the flag is set.
+pub(crate) fn push_flag(
+    flags: &mut Vec<bool>,
+    candidates: &mut Candidates,
+    place: usize,
+    flag: bool,
+)
+    requires { vec_len flags.old < vec_capacity flags.old }
+    ensures items { flags.new.items ≡ flags.old.items ++ flag ∷ [] }
+    ensures capacity { vec_capacity flags.old ≤ vec_capacity flags.new }
+    ensures known { flag ≡ true → MayBe candidates.new place }
+    ensures kept { (p : ℕ) → MayBe candidates.old p → MayBe candidates.new p }
+{
+    push_within(flags, flag);
+    if flag {
+        candidates.add(place);
     }
 }
 

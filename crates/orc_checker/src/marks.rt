@@ -6,6 +6,7 @@ ghost use Rattle.orc_checker.specs.Checker.{Enters};
 ghost use Rattle.orc_rules.specs.declared.entry.Entry.TheVariants as entry;
 
 use crate::arena::{Double, Kind, Node, Single, Tip};
+use crate::flags::push_flag;
 use crate::marked::{Marked, token_node};
 use crate::room::{push_within, reserve};
 use orc_rules::entry::RuleFault;
@@ -63,10 +64,10 @@ impl Marked {
         self.nodes.push_within(token_node(b, g, spot));
         push_within(&mut self.marks, n);
         push_within(&mut self.marks, n + 1);
-        self.candidates.add(n);
-        self.candidates.add(n + 1);
-        push_within(&mut self.flags, self.halts.at(f));
-        push_within(&mut self.flags, self.halts.at(g));
+        let left = self.halts.at(f);
+        let right = self.halts.at(g);
+        push_flag(&mut self.flags, &mut self.candidates, n, left);
+        push_flag(&mut self.flags, &mut self.candidates, n + 1, right);
         Ok(())
     }
 
@@ -91,8 +92,8 @@ impl Marked {
         );
         self.nodes.push_within(token_node(a, f, spot));
         push_within(&mut self.marks, n);
-        self.candidates.add(n);
-        push_within(&mut self.flags, self.halts.at(f));
+        let halted = self.halts.at(f);
+        push_flag(&mut self.flags, &mut self.candidates, n, halted);
         Ok(())
     }
 
@@ -117,8 +118,8 @@ impl Marked {
         );
         self.nodes.push_within(token_node(a, f, spot));
         push_within(&mut self.marks, n);
-        self.candidates.add(n);
-        push_within(&mut self.flags, self.halts.at(f));
+        let halted = self.halts.at(f);
+        push_flag(&mut self.flags, &mut self.candidates, n, halted);
         Ok(())
     }
 }

@@ -12,7 +12,7 @@ ghost use Rattle.orc_checker.specs.declared.arena.Kind.TheVariants.{Two as AtTwo
 ghost use Rattle.orc_rules.specs.declared.entry.Entry.TheVariants as entry;
 
 use crate::arena::{Bound, Double, Kind, Node, Scope, Single};
-use crate::flags::{both, flag_at, settle};
+use crate::flags::{both, flag_at, push_flag, settle};
 use crate::marked::{Marked, Spot, token_node};
 use crate::room::{push_within, reserve};
 use crate::side::{drop_nodes, falling_calls, nodes_of};
@@ -125,12 +125,10 @@ impl Marked {
         self.nodes.push_within(token_node(b, g, spot));
         push_within(&mut self.marks, n);
         push_within(&mut self.marks, n + 1);
-        self.candidates.add(n);
-        self.candidates.add(n + 1);
         let left = self.halts.at(f);
         let right = self.halts.at(g);
-        push_within(&mut self.flags, left);
-        push_within(&mut self.flags, right);
+        push_flag(&mut self.flags, &mut self.candidates, n, left);
+        push_flag(&mut self.flags, &mut self.candidates, n + 1, right);
         settle(
             &self.nodes,
             &mut self.flags,

@@ -26,7 +26,7 @@ returns-clause-done c =
     next
     b_is
     (set_two c.args.self.now.nodes _ _ _ t.at _ _ _ _ _ (c.reserve.ensures.nodes ∙ ap State.nodes v) (c.push_within.ensures.items ∙ ap (λ z. z ++ c.token_node.result ∷ []) c.write_node.ensures.items) c.push_within-2.ensures.items c.token_node.ensures c.token_node-2.ensures)
-    (c.push_within-6.ensures.items ∙ (λ j. (c.push_within-5.ensures.items ∙ (λ j. (c.reserve.ensures.flags ∙ ap State.flags v) j ++ (c.at.ensures ∙ ap (λ (z : State). halt_flag z.halts k.f) v) j ∷ [])) j ++ (c.at-2.ensures ∙ ap (λ (z : State). halt_flag z.halts k.g) v) j ∷ []))
+    (c.push_flag-2.ensures.items ∙ (λ j. (c.push_flag.ensures.items ∙ (λ j. (c.reserve.ensures.flags ∙ ap State.flags v) j ++ (c.at-left.ensures ∙ ap (λ (z : State). halt_flag z.halts k.f) v) j ∷ [])) j ++ (c.at-right.ensures ∙ ap (λ (z : State). halt_flag z.halts k.g) v) j ∷ []))
     (record { free = c.in_ok-spot.ensures.free; scopes = ap State.scopes v; cells = ap State.cells v; marks = two_more c.args.self.now.marks _ _ _ _ _ c.args.a c.args.b (c.reserve.ensures.marks ∙ ap State.marks v) c.push_within-3.ensures.items c.push_within-4.ensures.items next b_is; rest = ap State.rest v; halts = ap State.halts v })
 
 pub write_node-requires : goal.write_node-requires
@@ -38,5 +38,5 @@ invariant_of-self-2 c = (
       (wait_on _ _ _ (wait_on _ _ _ (same_wait _ _ c.reserve.ensures.nodes) (wait_written _ _ _ _ c.write_node.ensures.items refl))
       (wait_on _ _ _ (wait_more _ _ _ c.push_within.ensures.items (ap (λ (z : Node). waits z.kind) c.token_node.ensures)) (wait_more _ _ _ c.push_within-2.ensures.items (ap (λ (z : Node). waits z.kind) c.token_node-2.ensures))))
       refl c.self.invariant.0,
-  known_two _ _ _ _ _ _ _ c.self.invariant.1 (sides_two c.self.inside.nodes.items c.reserve.new.nodes.items c.in_ok-spot.spot.at _ c.reserve.ensures.nodes (can_turn c.args.self.now.nodes _ _ _ _ _ (c.reserve.ensures.nodes ∙ ap State.nodes c.self.view_is) c.in_ok-spot.ensures.there (λ v. refl) refl) (λ p lt. refl) _ _ _ _ (c.push_within.ensures.items ∙ ap (λ z. z ++ c.token_node.result ∷ []) c.write_node.ensures.items) c.push_within-2.ensures.items (λ p lt. ap (λ (z : Node). is_side z.kind p) c.token_node.ensures) (λ p lt. ap (λ (z : Node). is_side z.kind p) c.token_node-2.ensures)) (flags_same _ _ _ _ refl) (λ p m. c.add-2.ensures.kept p (c.add.ensures.kept p m)) _ _ _ (c.push_within-6.ensures.items ∙ ap (λ z. z ++ c.at-2.result ∷ []) (c.push_within-5.ensures.items ∙ ap (λ z. z ++ c.at.result ∷ []) c.reserve.ensures.flags)) refl (length_two c.self.inside.nodes.items c.reserve.new.nodes.items c.in_ok-spot.spot.at _ c.reserve.ensures.nodes (can_turn c.args.self.now.nodes _ _ _ _ _ (c.reserve.ensures.nodes ∙ ap State.nodes c.self.view_is) c.in_ok-spot.ensures.there (λ v. refl) refl) (λ p lt. refl) _ _ _ _ (c.push_within.ensures.items ∙ ap (λ z. z ++ c.token_node.result ∷ []) c.write_node.ensures.items) c.push_within-2.ensures.items) (c.len-n.ensures.count ∙ ap length c.reserve.ensures.nodes) (c.add-2.ensures.kept _ c.add.ensures.added) c.add-2.ensures.added,
+  known_two _ _ _ _ _ _ _ c.self.invariant.1 (sides_two c.self.inside.nodes.items c.reserve.new.nodes.items c.in_ok-spot.spot.at _ c.reserve.ensures.nodes (can_turn c.args.self.now.nodes _ _ _ _ _ (c.reserve.ensures.nodes ∙ ap State.nodes c.self.view_is) c.in_ok-spot.ensures.there (λ v. refl) refl) (λ p lt. refl) _ _ _ _ (c.push_within.ensures.items ∙ ap (λ z. z ++ c.token_node.result ∷ []) c.write_node.ensures.items) c.push_within-2.ensures.items (λ p lt. ap (λ (z : Node). is_side z.kind p) c.token_node.ensures) (λ p lt. ap (λ (z : Node). is_side z.kind p) c.token_node-2.ensures)) (flags_same _ _ _ _ refl) (λ p m. c.push_flag-2.ensures.kept p (c.push_flag.ensures.kept p m)) _ _ _ (c.push_flag-2.ensures.items ∙ ap (λ z. z ++ c.at-right.result ∷ []) (c.push_flag.ensures.items ∙ ap (λ z. z ++ c.at-left.result ∷ []) c.reserve.ensures.flags)) refl (length_two c.self.inside.nodes.items c.reserve.new.nodes.items c.in_ok-spot.spot.at _ c.reserve.ensures.nodes (can_turn c.args.self.now.nodes _ _ _ _ _ (c.reserve.ensures.nodes ∙ ap State.nodes c.self.view_is) c.in_ok-spot.ensures.there (λ v. refl) refl) (λ p lt. refl) _ _ _ _ (c.push_within.ensures.items ∙ ap (λ z. z ++ c.token_node.result ∷ []) c.write_node.ensures.items) c.push_within-2.ensures.items) (c.len-n.ensures.count ∙ ap length c.reserve.ensures.nodes) (λ e. c.push_flag-2.ensures.kept _ (c.push_flag.ensures.known e)) c.push_flag-2.ensures.known,
 )

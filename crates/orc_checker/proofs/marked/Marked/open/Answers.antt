@@ -34,7 +34,7 @@ returns-clause-done c =
     let right = halt_flag s.halts k.g in
     let is_left : c.at-left.result ≡ left = c.at-left.ensures ∙ ap (λ (z : State). halt_flag z.halts k.f) v in
     let is_right : c.at-right.result ≡ right = c.at-right.ensures ∙ ap (λ (z : State). halt_flag z.halts k.g) v in
-    let flags : c.push_within-8.new.items.items ≡ (s.flags ++ left ∷ []) ++ right ∷ [] = c.push_within-8.ensures.items ∙ (λ j. (c.push_within-7.ensures.items ∙ (λ j. (c.reserve.ensures.flags ∙ ap State.flags v) j ++ is_left j ∷ [])) j ++ is_right j ∷ []) in
+    let flags : c.push_flag-2.new.flags.items ≡ (s.flags ++ left ∷ []) ++ right ∷ [] = c.push_flag-2.ensures.items ∙ (λ j. (c.push_flag.ensures.items ∙ (λ j. (c.reserve.ensures.flags ∙ ap State.flags v) j ++ is_left j ∷ [])) j ++ is_right j ∷ []) in
     open-enters terms s _ t.at t.parent c.args.s t.node t.scope c.in_ok-spot.ensures.there c.len-n.result c.args.c c.args.a c.args.b k.f k.x k.g
     (c.node.ensures.term ∙ ap (unfold_node terms c.args.program.now.lists) k.is)
     (c.len-n.ensures.count ∙ ap length (c.reserve.ensures.nodes ∙ ap State.nodes v))
@@ -46,7 +46,7 @@ returns-clause-done c =
     (c.push_within-2.ensures.items ∙ ap (λ z. z ++ Cell c.args.c ∷ []) (c.reserve_cell.ensures.cells ∙ ap State.cells v))
     (ap State.halts v)
     (c.settle.ensures.len ∙ ap length flags)
-    (subst (λ z. Settles c.push_within-4.new.self.items z t.at (left && right) c.settle.new.flags.items) flags (subst (λ z. Settles c.push_within-4.new.self.items c.push_within-8.new.items.items t.at z c.settle.new.flags.items) (c.both.ensures ∙ (λ j. is_left j && is_right j)) c.settle.ensures.settles))
+    (subst (λ z. Settles c.push_within-4.new.self.items z t.at (left && right) c.settle.new.flags.items) flags (subst (λ z. Settles c.push_within-4.new.self.items c.push_flag-2.new.flags.items t.at z c.settle.new.flags.items) (c.both.ensures ∙ (λ j. is_left j && is_right j)) c.settle.ensures.settles))
     (two_more s.marks _ _ _ _ _ c.args.a c.args.b (c.reserve.ensures.marks ∙ ap State.marks v) c.push_within-5.ensures.items c.push_within-6.ensures.items next b_is)
     (ap State.rest v)
     c.in_ok-spot.ensures.free
@@ -60,5 +60,5 @@ invariant_of-self-2 c = (
       (wait_on _ _ _ (wait_on _ _ _ (same_wait _ _ c.reserve.ensures.nodes) (wait_written _ _ _ _ c.write_node.ensures.items refl))
       (wait_on _ _ _ (wait_more _ _ _ c.push_within-3.ensures.items (ap (λ (z : Node). waits z.kind) c.token_node.ensures)) (wait_more _ _ _ c.push_within-4.ensures.items (ap (λ (z : Node). waits z.kind) c.token_node-2.ensures))))
       refl c.self.invariant.0,
-  known_two _ _ _ _ _ _ _ c.self.invariant.1 (sides_two c.self.inside.nodes.items c.reserve.new.nodes.items c.in_ok-spot.spot.at _ c.reserve.ensures.nodes (can_turn c.args.self.now.nodes _ _ _ _ _ (c.reserve.ensures.nodes ∙ ap State.nodes c.self.view_is) c.in_ok-spot.ensures.there (λ v. refl) refl) (λ p lt. ne_eqb _ p (λ e. omega (arith, lt, e, c.len-n.ensures.count, ap length c.reserve.ensures.nodes))) _ _ _ _ (c.push_within-3.ensures.items ∙ ap (λ z. z ++ c.token_node.result ∷ []) c.write_node.ensures.items) c.push_within-4.ensures.items (λ p lt. ap (λ (z : Node). is_side z.kind p) c.token_node.ensures) (λ p lt. ap (λ (z : Node). is_side z.kind p) c.token_node-2.ensures)) c.settle.ensures.known (λ p m. c.settle.ensures.kept p (c.add-2.ensures.kept p (c.add.ensures.kept p m))) _ _ _ (c.push_within-8.ensures.items ∙ ap (λ z. z ++ c.at-right.result ∷ []) (c.push_within-7.ensures.items ∙ ap (λ z. z ++ c.at-left.result ∷ []) c.reserve.ensures.flags)) c.settle.ensures.len (length_two c.self.inside.nodes.items c.reserve.new.nodes.items c.in_ok-spot.spot.at _ c.reserve.ensures.nodes (can_turn c.args.self.now.nodes _ _ _ _ _ (c.reserve.ensures.nodes ∙ ap State.nodes c.self.view_is) c.in_ok-spot.ensures.there (λ v. refl) refl) (λ p lt. ne_eqb _ p (λ e. omega (arith, lt, e, c.len-n.ensures.count, ap length c.reserve.ensures.nodes))) _ _ _ _ (c.push_within-3.ensures.items ∙ ap (λ z. z ++ c.token_node.result ∷ []) c.write_node.ensures.items) c.push_within-4.ensures.items) (c.len-n.ensures.count ∙ ap length c.reserve.ensures.nodes) (c.settle.ensures.kept _ (c.add-2.ensures.kept _ c.add.ensures.added)) (c.settle.ensures.kept _ c.add-2.ensures.added),
+  known_two _ _ _ _ _ _ _ c.self.invariant.1 (sides_two c.self.inside.nodes.items c.reserve.new.nodes.items c.in_ok-spot.spot.at _ c.reserve.ensures.nodes (can_turn c.args.self.now.nodes _ _ _ _ _ (c.reserve.ensures.nodes ∙ ap State.nodes c.self.view_is) c.in_ok-spot.ensures.there (λ v. refl) refl) (λ p lt. ne_eqb _ p (λ e. omega (arith, lt, e, c.len-n.ensures.count, ap length c.reserve.ensures.nodes))) _ _ _ _ (c.push_within-3.ensures.items ∙ ap (λ z. z ++ c.token_node.result ∷ []) c.write_node.ensures.items) c.push_within-4.ensures.items (λ p lt. ap (λ (z : Node). is_side z.kind p) c.token_node.ensures) (λ p lt. ap (λ (z : Node). is_side z.kind p) c.token_node-2.ensures)) c.settle.ensures.known (λ p m. c.settle.ensures.kept p (c.push_flag-2.ensures.kept p (c.push_flag.ensures.kept p m))) _ _ _ (c.push_flag-2.ensures.items ∙ ap (λ z. z ++ c.at-right.result ∷ []) (c.push_flag.ensures.items ∙ ap (λ z. z ++ c.at-left.result ∷ []) c.reserve.ensures.flags)) c.settle.ensures.len (length_two c.self.inside.nodes.items c.reserve.new.nodes.items c.in_ok-spot.spot.at _ c.reserve.ensures.nodes (can_turn c.args.self.now.nodes _ _ _ _ _ (c.reserve.ensures.nodes ∙ ap State.nodes c.self.view_is) c.in_ok-spot.ensures.there (λ v. refl) refl) (λ p lt. ne_eqb _ p (λ e. omega (arith, lt, e, c.len-n.ensures.count, ap length c.reserve.ensures.nodes))) _ _ _ _ (c.push_within-3.ensures.items ∙ ap (λ z. z ++ c.token_node.result ∷ []) c.write_node.ensures.items) c.push_within-4.ensures.items) (c.len-n.ensures.count ∙ ap length c.reserve.ensures.nodes) (λ e. c.settle.ensures.kept _ (c.push_flag-2.ensures.kept _ (c.push_flag.ensures.known e))) (λ e. c.settle.ensures.kept _ (c.push_flag-2.ensures.known e)),
 )

@@ -30,8 +30,8 @@ returns-clause-done c =
     let scope : Scope = record { name = f.x; bound = Is c.args.v; outer = f.outer } in
     let scopes = c.push_within.ensures.items ∙ ap (λ z. z ++ scope ∷ []) (c.try_reserve.ensures.items ∙ ap State.scopes v) in
     let count : c.scope_count.result ≡ length s.scopes + 1 = c.scope_count.ensures ∙ ap length scopes ∙ length-append s.scopes (scope ∷ []) in
-    let flags : c.push_within-4.new.items.items ≡ (s.flags ++ false ∷ []) ++ halt_flag s.halts f.g ∷ [] =
-    c.push_within-4.ensures.items ∙ (λ j. (c.push_within-3.ensures.items ∙ (λ j. (c.reserve.ensures.flags ∙ ap State.flags v) j ++ false ∷ [])) j ++ (c.at.ensures ∙ ap (λ (z : State). halt_flag z.halts f.g) v) j ∷ []) in
+    let flags : c.push_flag-2.new.flags.items ≡ (s.flags ++ false ∷ []) ++ halt_flag s.halts f.g ∷ [] =
+    c.push_flag-2.ensures.items ∙ (λ j. (c.push_flag.ensures.items ∙ (λ j. (c.reserve.ensures.flags ∙ ap State.flags v) j ++ false ∷ [])) j ++ (c.at-halted.ensures ∙ ap (λ (z : State). halt_flag z.halts f.g) v) j ∷ []) in
     send-enters terms s _ t.at t.parent c.args.s c.in-Fed.at f.x f.g f.outer c.in-One.field-1 c.args.a t.tip c.args.v c.rise.new.nodes.items
     c.in_ok-bearer.ensures.there c.in_ok-bearer.ensures.lives c.in_ok-bearer.ensures.bears
     (subst (IsTaker s.nodes t.at) c.in-Fed.is (subst (λ (z : State). IsTaker z.nodes t.at c.in-Some.taker) v c.in-Some.ensures.taker))
@@ -73,6 +73,6 @@ invariant_of-self-2 c =
       known_two _ _ _ _ _ _ _ c.self.invariant.1
           (sides_on n _ _ _ (sides_same n _ _ c.reserve.ensures.nodes)
           (sides_on n _ _ _ (sides_written n _ _ _ _ c.write_node.ensures.items can (λ p lt. refl)) (sides_on n _ _ _ (sides_passed n _ _ c.rise.ensures.passes) (subst (λ z. NoNewSides z c.rise.new.nodes.items c.graft.new.nodes.items) len c.graft.ensures.sides))))
-          c.settle.ensures.known (λ p m. c.settle.ensures.kept p (c.add-2.ensures.kept p (c.add.ensures.kept p m))) _ _ _ (c.push_within-4.ensures.items ∙ ap (λ z. z ++ c.at.result ∷ []) (c.push_within-3.ensures.items ∙ ap (λ z. z ++ false ∷ []) c.reserve.ensures.flags)) c.settle.ensures.len
-          (c.graft.ensures.len ∙ ap (λ z. z + 2) len) (c.len-both.ensures.count ∙ len) (c.settle.ensures.kept _ (c.add-2.ensures.kept _ c.add.ensures.added)) (c.settle.ensures.kept _ c.add-2.ensures.added),
+          c.settle.ensures.known (λ p m. c.settle.ensures.kept p (c.push_flag-2.ensures.kept p (c.push_flag.ensures.kept p m))) _ _ _ (c.push_flag-2.ensures.items ∙ ap (λ z. z ++ c.at-halted.result ∷ []) (c.push_flag.ensures.items ∙ ap (λ z. z ++ false ∷ []) c.reserve.ensures.flags)) c.settle.ensures.len
+          (c.graft.ensures.len ∙ ap (λ z. z + 2) len) (c.len-both.ensures.count ∙ len) (λ e. c.settle.ensures.kept _ (c.push_flag-2.ensures.kept _ (c.push_flag.ensures.known e))) (λ e. c.settle.ensures.kept _ (c.push_flag-2.ensures.known e)),
     )

@@ -24,7 +24,7 @@ returns-clause-done c =
     (c.len-n.ensures.count ∙ ap length (c.reserve.ensures.nodes ∙ ap State.nodes v))
     next
     (set_one c.args.self.now.nodes _ _ t.at _ _ _ (c.reserve.ensures.nodes ∙ ap State.nodes v) (c.push_within.ensures.items ∙ ap (λ z. z ++ c.token_node.result ∷ []) c.write_node.ensures.items) c.token_node.ensures)
-    (c.push_within-3.ensures.items ∙ (λ j. (c.reserve.ensures.flags ∙ ap State.flags v) j ++ (c.at.ensures ∙ ap (λ (z : State). halt_flag z.halts k.f) v) j ∷ []))
+    (c.push_flag.ensures.items ∙ (λ j. (c.reserve.ensures.flags ∙ ap State.flags v) j ++ (c.at-halted.ensures ∙ ap (λ (z : State). halt_flag z.halts k.f) v) j ∷ []))
     (record { free = c.in_ok-spot.ensures.free; scopes = ap State.scopes v; cells = ap State.cells v; marks = one_more c.args.self.now.marks _ _ _ c.args.a (c.reserve.ensures.marks ∙ ap State.marks v) c.push_within-2.ensures.items next; rest = ap State.rest v; halts = ap State.halts v })
 
 pub write_node-requires : goal.write_node-requires
@@ -35,5 +35,5 @@ invariant_of-self-2 c = (
   still_noted _ _ _ _ _
       (wait_on _ _ _ (wait_on _ _ _ (same_wait _ _ c.reserve.ensures.nodes) (wait_written _ _ _ _ c.write_node.ensures.items refl)) (wait_more _ _ _ c.push_within.ensures.items (ap (λ (z : Node). waits z.kind) c.token_node.ensures)))
       refl c.self.invariant.0,
-  known_one _ _ _ _ _ _ _ c.self.invariant.1 (sides_one c.self.inside.nodes.items c.reserve.new.nodes.items c.in_ok-spot.spot.at _ c.reserve.ensures.nodes (can_turn c.args.self.now.nodes _ _ _ _ _ (c.reserve.ensures.nodes ∙ ap State.nodes c.self.view_is) c.in_ok-spot.ensures.there (λ v. refl) refl) (λ p lt. refl) _ _ (c.push_within.ensures.items ∙ ap (λ z. z ++ c.token_node.result ∷ []) c.write_node.ensures.items) (λ p lt. ap (λ (z : Node). is_side z.kind p) c.token_node.ensures)) (flags_same _ _ _ _ refl) (λ p m. c.add.ensures.kept p m) _ _ (c.push_within-3.ensures.items ∙ ap (λ z. z ++ c.at.result ∷ []) c.reserve.ensures.flags) refl (length_one c.self.inside.nodes.items c.reserve.new.nodes.items c.in_ok-spot.spot.at _ c.reserve.ensures.nodes (can_turn c.args.self.now.nodes _ _ _ _ _ (c.reserve.ensures.nodes ∙ ap State.nodes c.self.view_is) c.in_ok-spot.ensures.there (λ v. refl) refl) (λ p lt. refl) _ _ (c.push_within.ensures.items ∙ ap (λ z. z ++ c.token_node.result ∷ []) c.write_node.ensures.items)) (c.len-n.ensures.count ∙ ap length c.reserve.ensures.nodes) c.add.ensures.added,
+  known_one _ _ _ _ _ _ _ c.self.invariant.1 (sides_one c.self.inside.nodes.items c.reserve.new.nodes.items c.in_ok-spot.spot.at _ c.reserve.ensures.nodes (can_turn c.args.self.now.nodes _ _ _ _ _ (c.reserve.ensures.nodes ∙ ap State.nodes c.self.view_is) c.in_ok-spot.ensures.there (λ v. refl) refl) (λ p lt. refl) _ _ (c.push_within.ensures.items ∙ ap (λ z. z ++ c.token_node.result ∷ []) c.write_node.ensures.items) (λ p lt. ap (λ (z : Node). is_side z.kind p) c.token_node.ensures)) (flags_same _ _ _ _ refl) c.push_flag.ensures.kept _ _ (c.push_flag.ensures.items ∙ ap (λ z. z ++ c.at-halted.result ∷ []) c.reserve.ensures.flags) refl (length_one c.self.inside.nodes.items c.reserve.new.nodes.items c.in_ok-spot.spot.at _ c.reserve.ensures.nodes (can_turn c.args.self.now.nodes _ _ _ _ _ (c.reserve.ensures.nodes ∙ ap State.nodes c.self.view_is) c.in_ok-spot.ensures.there (λ v. refl) refl) (λ p lt. refl) _ _ (c.push_within.ensures.items ∙ ap (λ z. z ++ c.token_node.result ∷ []) c.write_node.ensures.items)) (c.len-n.ensures.count ∙ ap length c.reserve.ensures.nodes) c.push_flag.ensures.known,
 )
