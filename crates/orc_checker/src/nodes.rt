@@ -7,7 +7,7 @@ ghost use Rattle.orc_checker.specs.Ranks.{AreLevelsAtMost};
 ghost use Rattle.orc_checker.specs.Rising.{nowhere};
 
 use crate::arena::{Double, Kind, Node, Single, Tip};
-use crate::ranks::{rank_again, rank_at, rank_last};
+use crate::ranks::Ranks;
 use crate::room::push_within;
 use std::alloc::{AllocError, Global};
 use std::marker::Model;
@@ -15,28 +15,26 @@ use std::marker::Model;
 /// The nodes, each with a hint: itself, or a node above it to which all on the way let through what it publishes, and stay as they are.
 /// A walk upward goes from hint to hint, so that what it costs doesn't grow with the number of `|` on its way.
 /// What asks whether a token can move goes over the list of restless nodes, so that what it costs doesn't grow with what is over or waits for a call.
-/// How deep the nodes nest is told by ranks; where a change would raise very many, they are given up.
+/// How deep the nodes nest is told by their ranks.
 #[derive(Drop)]
 pub(crate) struct Nodes {
     items: Vec<Node>,
     hints: Vec<usize>,
     /// The numbers of all nodes with tokens, which can move now or later, and of some without any more.
     restless: Vec<usize>,
-    /// Each node's rank is less than that of the node above it, while `are_ranked` says so.
-    ranks: Vec<u32>,
-    are_ranked: bool,
+    ranks: Ranks,
 }
 
 impl Model for Nodes {
-    ghost use Rattle.std.specs.Prelude.{◌≡◌, ◌-◌, min, true, vec_len, vec_capacity};
+    ghost use Rattle.std.specs.Prelude.{◌-◌, min, vec_len, vec_capacity};
     ghost use Rattle.orc_checker.specs.Hints.{Stock, AreHints, AreListed};
-    ghost use Rattle.orc_checker.specs.Ranks.{AreRanked};
+    ghost use Rattle.orc_checker.specs.Ranks.{AreKept};
 
     ghost Value = { Stock };
 
     ghost view = { λ n. record { items = n.items.items; room = min (vec_capacity n.items - vec_len n.items) (min (vec_capacity n.hints - vec_len n.hints) (vec_capacity n.restless - vec_len n.restless)) } };
 
-    ghost invariant = { λ n. AreHints n.items.items n.hints.items × AreListed n.items.items n.restless.items × (n.are_ranked ≡ true → AreRanked n.items.items n.ranks.items) };
+    ghost invariant = { λ n. AreHints n.items.items n.hints.items × AreListed n.items.items n.restless.items × AreKept n.items.items n.ranks };
 }
 
 // The node of that number, one that is gone where there is none.
@@ -161,8 +159,7 @@ impl Nodes {
             items,
             hints,
             restless,
-            ranks: Vec::new(alloc),
-            are_ranked: true,
+            ranks: Ranks::new(alloc),
         })
     }
 
@@ -233,11 +230,11 @@ impl Nodes {
     pub(crate) fn levels_below(&self) -> Option<usize>
         ensures { IfSome result (AreLevelsAtMost self.now.items) }
     {
-        if !self.are_ranked {
+        if !self.ranks.are_kept {
             return None;
         }
         match item(&self.items, 0).kind {
-            Kind::One(_, part) if part != 0 => Some(rank_at(&self.ranks, part) as usize + 1),
+            Kind::One(_, part) if part != 0 => Some(self.ranks.most as usize + 1),
             _ => None,
         }
     }
@@ -266,14 +263,12 @@ impl Nodes {
         ensures items { self.new.items ≡ self.old.items ++ node ∷ [] }
         ensures room { self.old.room ≤ self.new.room + 1 }
     {
-        let were_ranked = self.are_ranked;
         let number = self.items.len();
         let hint = hint_below(&self.items, &self.hints, number, node.parent);
         push_within(&mut self.items, node);
         push_within(&mut self.hints, hint);
         push_within(&mut self.restless, number);
-        let are_ranked = rank_last(&self.items, &mut self.ranks, were_ranked, number);
-        self.are_ranked = are_ranked;
+        self.ranks.add(number, node);
     }
 
     /// Writes a node that is there, and can move only if it could before.
@@ -301,7 +296,6 @@ impl Nodes {
         ensures items { self.new.items ≡ lifted self.old.items i both }
         ensures room { self.new.room ≡ self.old.room }
     {
-        let were_ranked = self.are_ranked;
         let node = item(&self.items, i);
         set_item(
             &mut self.items,
@@ -320,7 +314,6 @@ impl Nodes {
                 parent: above.parent,
             },
         );
-        let are_ranked = rank_again(&self.items, &mut self.ranks, were_ranked, i);
-        self.are_ranked = are_ranked;
+        self.ranks.lift(i, both);
     }
 }

@@ -1,104 +1,105 @@
 // Ranks of the nodes, which tell how many stand one below the other.
 
-ghost use Rattle.std.specs.Prelude.{◌≡◌, ◌<◌, ◌∷◌, ◌++◌, [], true, slice_index_or, slice_set, length, IfSome};
-ghost use Rattle.orc_checker.specs.Ranks.{rank, AreRanked, AreRankedBut, AreLevelsAtMost};
-ghost use Rattle.orc_checker.specs.Rising.{nowhere};
+ghost use Rattle.std.specs.Prelude.{◌≡◌, ◌<◌, ◌⊎◌, ◌∷◌, ◌++◌, [], List, length, slice_index_or, IfSome};
+ghost use Rattle.orc_checker.specs.Hints.{lifted};
+ghost use Rattle.orc_checker.specs.Ranks.{rank, AreKept, AreLevelsAtMost};
+ghost use Rattle.orc_checker.specs.declared.arena.Node.{Node as NodeOf};
 
-use crate::arena::Node;
+use crate::arena::{Kind, Node};
 use crate::marked::Marked;
+use std::alloc::Global;
 
-// A walk that raises more ranks would cost more than it is worth.
-const MOST_RAISED: u32 = 512;
+/// For each node a number that is greater than that of the node above it, while `are_kept` says so; none is greater than `most`.
+/// A node that is put in between takes a number that is free, so that no other has to change.
+#[derive(Drop)]
+pub(crate) struct Ranks {
+    pub numbers: Vec<u32>,
+    pub most: u32,
+    pub are_kept: bool,
+}
 
-/// The rank of that node, 0 where it has none.
-pub(crate) fn rank_at(ranks: &Vec<u32>, i: usize) -> u32
-    ensures { result ≡ rank ranks.now.items i }
+// How many numbers are left free above a node that comes below another: so many sends can put a `|` there.
+const FREE: u32 = 7;
+
+// How much greater a new node's number is than that of the node above it.
+fn step_below(kind: Kind) -> u32
+    ensures { 0 < result }
 {
-    match ranks.get(i) {
+    match kind {
+        Kind::Two(_, _, _) => 1,
+        _ => FREE + 1,
+    }
+}
+
+// The number of a new node, where there is one for it.
+fn rank_below(numbers: &Vec<u32>, number: usize, node: Node) -> Option<u32>
+    ensures { IfSome result (λ r. (number ≡ 0) ⊎ ((Node.parent node < length numbers.now.items) × (rank numbers.now.items (Node.parent node) < r))) }
+{
+    if number == 0 {
+        return Some(0);
+    }
+    match numbers.get(node.parent) {
+        Some(above) => match above.checked_add(step_below(node.kind)) {
+            Some(rank) => Some(rank),
+            None => None,
+        },
+        None => None,
+    }
+}
+
+fn rank_at(numbers: &Vec<u32>, i: usize) -> u32
+    ensures { result ≡ rank numbers.now.items i }
+{
+    match numbers.get(i) {
         Some(rank) => *rank,
         None => 0,
     }
 }
 
-// Writes a rank that is there. Whether it is.
-fn write_rank(ranks: &mut Vec<u32>, i: usize, rank: u32) -> bool
-    ensures items { ranks.new.items ≡ slice_set ranks.old.items i rank }
-    ensures there { result ≡ true → i < length ranks.old.items }
-{
-    match ranks.get_mut(i) {
-        Some(slot) => {
-            *slot = rank;
-            true
+impl Ranks {
+    /// Ranks of no nodes.
+    pub(crate) fn new(alloc: Global) -> Ranks
+        ensures { AreKept [] result }
+    {
+        Ranks {
+            numbers: Vec::new(alloc),
+            most: 0,
+            are_kept: true,
         }
-        None => false,
     }
-}
 
-// The node above, 0 where there is none.
-fn parent_of(items: &Vec<Node>, i: usize) -> usize
-    ensures { result ≡ Node.parent (slice_index_or items.now.items i nowhere) }
-{
-    match items.get(i) {
-        Some(node) => node.parent,
-        None => 0,
-    }
-}
-
-/// Raises the ranks above a node, each as far as it must be. Whether that was done.
-pub(crate) fn raise(items: &Vec<Node>, ranks: &mut Vec<u32>, from: usize) -> bool
-    ensures { result ≡ true → AreRankedBut items.now.items ranks.old.items from → AreRanked items.now.items ranks.new.items }
-{
-    let mut place = from;
-    for _raised in 0..MOST_RAISED {
-        if place == 0 {
-            return true;
+    /// Ranks a node that came behind so many others.
+    pub(crate) fn add(&mut self, number: usize, node: Node)
+        ensures { (nodes : List NodeOf) → length nodes ≡ number → AreKept nodes self.old → AreKept (nodes ++ node ∷ []) self.new }
+    {
+        let were_kept = self.are_kept;
+        self.are_kept = false;
+        if !were_kept || self.numbers.len() != number {
+            return;
         }
-        let parent = parent_of(items, place);
-        let own = rank_at(ranks, place);
-        if own < rank_at(ranks, parent) {
-            return true;
+        let Some(rank) = rank_below(&self.numbers, number, node) else {
+            return;
+        };
+        match self.numbers.push(rank) {
+            Ok(()) => {
+                self.most = self.most.max(rank);
+                self.are_kept = true;
+            }
+            Err(_) => {}
         }
-        if own >= MOST_RAISED || !write_rank(ranks, parent, own + 1) {
-            return false;
+    }
+
+    /// A node goes below another one, which was put in its place.
+    pub(crate) fn lift(&mut self, i: usize, both: usize)
+        ensures { (nodes : List NodeOf) → AreKept nodes self.old → AreKept (lifted nodes i both) self.new }
+    {
+        if both < self.numbers.len() {
+            if rank_at(&self.numbers, both) < rank_at(&self.numbers, i) {
+                return;
+            }
         }
-        place = parent;
+        self.are_kept = false;
     }
-    false
-}
-
-/// Ranks a new node. Whether all are ranked now.
-pub(crate) fn rank_last(
-    items: &Vec<Node>,
-    ranks: &mut Vec<u32>,
-    are_ranked: bool,
-    number: usize,
-) -> bool
-    ensures before { result ≡ true → are_ranked ≡ true }
-    ensures now { result ≡ true → AreRankedBut items.now.items ranks.old.items number → AreRanked items.now.items ranks.new.items }
-{
-    if !are_ranked {
-        return false;
-    }
-    match ranks.push(0) {
-        Ok(()) => raise(items, ranks, number),
-        Err(_) => false,
-    }
-}
-
-/// Ranks a node that stands elsewhere now. Whether all are ranked now.
-pub(crate) fn rank_again(
-    items: &Vec<Node>,
-    ranks: &mut Vec<u32>,
-    are_ranked: bool,
-    number: usize,
-) -> bool
-    ensures before { result ≡ true → are_ranked ≡ true }
-    ensures now { result ≡ true → AreRankedBut items.now.items ranks.old.items number → AreRanked items.now.items ranks.new.items }
-{
-    if !are_ranked {
-        return false;
-    }
-    raise(items, ranks, number)
 }
 
 impl Marked {

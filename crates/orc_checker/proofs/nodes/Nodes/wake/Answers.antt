@@ -1,7 +1,7 @@
 use Rattle.std.proofs.Common.{sym, subst}
 use Rattle.orc_checker.specs.Hints.{Stock, AreHints, AreListed, CanWake}
 use Rattle.orc_checker.proofs.Hints.{hints_written, listed_woken}
-use Rattle.orc_checker.specs.Ranks.{AreRanked}
+use Rattle.orc_checker.specs.Ranks.{AreKept}
 use Rattle.orc_checker.proofs.Ranking.{ranked_written}
 use Rattle.orc_checker.proofs.nodes.Nodes.wake.Goals as goal
 
@@ -11,5 +11,5 @@ invariant_of-self c =
     let can = subst (λ (z : Stock). CanWake z.items c.args.i c.args.node) (sym c.self.view_is) c.requires.node in (
       subst (λ z. AreHints z n.hints.items) (sym c.set_item.ensures.items) (hints_written n.items.items n.hints.items c.args.i c.args.node can c.self.invariant.0),
       subst (λ z. AreListed z c.push_within.new.items.items) (sym c.set_item.ensures.items) (subst (AreListed _) (sym c.push_within.ensures.items) (listed_woken n.items.items n.restless.items c.args.i c.args.node c.self.invariant.1)),
-      λ known. subst (λ z. AreRanked z n.ranks.items) (sym c.set_item.ensures.items) (ranked_written n.items.items n.ranks.items c.args.i c.args.node can (c.self.invariant.2 known)),
+      subst (λ z. AreKept z n.ranks) (sym c.set_item.ensures.items) (ranked_written n.items.items n.ranks c.args.i c.args.node can c.self.invariant.2),
     )
