@@ -6,13 +6,13 @@ use Rattle.std.proofs.Math.ListN.{get_or-map}
 use Rattle.std.proofs.lemmas.List.{map-set, map-append, length-map}
 use Rattle.std.proofs.lemmas.Slice.Eq.{bytes_eq-Decides}
 use Rattle.orc_rules.specs.declared.answers.Named.{Named}
-use Rattle.orc_rules.specs.Sites.{Line, Site, scripted, site_named, site_with, names_with, sites_with, with_line, IsBare, AreNames, IsTable}
-use Rattle.orc_rules.specs.Tables.{table, names_of, site_of}
+use Rattle.orc_rules.specs.Sites.{Line, Site, Table, scripted, site_named, site_with, names_with, sites_with, with_line, IsBare, AreNames, IsTable}
+use Rattle.orc_rules.specs.Tables.{table, table_with, names_of, site_of}
 
-some_apart : (at : ℕ) → ◌≡◌ {A = Option ℕ} None (Some at) → ⊥
+pub some_apart : (at : ℕ) → ◌≡◌ {A = Option ℕ} None (Some at) → ⊥
 some_apart at e = absurd cc
 
-same_some : (x y : ℕ) → ◌≡◌ {A = Option ℕ} (Some x) (Some y) → x ≡ y
+pub same_some : (x y : ℕ) → ◌≡◌ {A = Option ℕ} (Some x) (Some y) → x ≡ y
 same_some x y e = cc
 
 -- a name that is there stays alone
@@ -39,7 +39,7 @@ none_apart : (o : Option ℕ) → option_map suc o ≡ None → o ≡ None
 none_apart None e = refl
 none_apart (Some k) e = absurd cc
 
-new_name : (n name : List ℕ) (ns : List (List ℕ)) → site_named (n ∷ ns) name ≡ None → (bytes_eq n name ≡ false) × (site_named ns name ≡ None)
+pub new_name : (n name : List ℕ) (ns : List (List ℕ)) → site_named (n ∷ ns) name ≡ None → (bytes_eq n name ≡ false) × (site_named ns name ≡ None)
 new_name n name ns e = go (bytes_eq n name) e where
   go : (b : Bool) → cond b (Some 0) (option_map suc (site_named ns name)) ≡ None → (b ≡ false) × (site_named ns name ≡ None)
   go true p = absurd cc
@@ -97,23 +97,23 @@ unchanged ns at x y old same rule =
     let sites = map-set_same (λ (n : Named). site_of n.rule) ns at x y (rule ∙ ap (λ (n : Named). site_of n.rule) old) in
     λ i. record { names = names i; sites = sites i }
 
+pub same_names : (ns : List Named) (at : ℕ) (x y : Named) → y ≡ get_or ns at y → x.name.items ≡ y.name.items → names_of (slice_set ns at x) ≡ names_of ns
+same_names ns at x y old same = map-set_same (λ (n : Named). n.name.items) ns at x y (same ∙ ap (λ (n : Named). n.name.items) old)
+
 pub still_table : (ns : List Named) (at : ℕ) (x y : Named) → IsTable (table ns) → y ≡ get_or ns at y → x.name.items ≡ y.name.items → IsTable (table (slice_set ns at x))
 still_table ns at x y is old same =
-    let names : names_of (slice_set ns at x) ≡ names_of ns = map-set_same (λ (n : Named). n.name.items) ns at x y (same ∙ ap (λ (n : Named). n.name.items) old) in
+    let names = same_names ns at x y old same in
     let count : length (map (λ (n : Named). site_of n.rule) (slice_set ns at x)) ≡ length (names_of (slice_set ns at x)) = length-map (slice_set ns at x) (λ (n : Named). site_of n.rule) ∙ sym (length-map (slice_set ns at x) (λ (n : Named). n.name.items)) in
     (subst AreNames (sym names) is.0, sym count, subst (λ (t : List (List ℕ)). length t < 2 ^ 32) (sym names) is.2)
 
-names_more : (ns ms : List Named) (x : Named) (name : List ℕ) → ms ≡ ns ++ x ∷ [] → x.name.items ≡ name → names_of ms ≡ names_of ns ++ name ∷ []
+pub names_more : (ns ms : List Named) (x : Named) (name : List ℕ) → ms ≡ ns ++ x ∷ [] → x.name.items ≡ name → names_of ms ≡ names_of ns ++ name ∷ []
 names_more ns ms x name same named = ap names_of same ∙ map-append (λ (n : Named). n.name.items) ns (x ∷ []) ∙ ap (λ (t : List ℕ). names_of ns ++ t ∷ []) named
 
--- a site that is added stands behind the others
-pub added : (ns ms : List Named) (x : Named) (name : List ℕ) (l : Line) → IsTable (table ns) → ms ≡ ns ++ x ∷ [] → x.name.items ≡ name → site_of x.rule ≡ scripted (l ∷ []) → site_named (names_of ns) name ≡ None
-    → table ms ≡ with_line (table ns) name l
-added ns ms x name l is same named rule none =
-    let names : names_of ms ≡ names_with (names_of ns) name = names_more ns ms x name same named ∙ sym (new_names (names_of ns) name none) in
-    let sites : map (λ (n : Named). site_of n.rule) ms ≡ sites_with (names_of ns) (map (λ (n : Named). site_of n.rule) ns) name l =
-    ap (map (λ (n : Named). site_of n.rule)) same ∙ map-append (λ (n : Named). site_of n.rule) ns (x ∷ []) ∙ ap (λ (s : Site). map (λ (n : Named). site_of n.rule) ns ++ s ∷ []) rule
-    ∙ sym (new_sites (names_of ns) (map (λ (n : Named). site_of n.rule) ns) name l is.1 none) in
+-- a site of a new name, with its first line, stands behind the others
+pub added : (t : Table) (name : List ℕ) (l : Line) → IsTable t → site_named t.names name ≡ None → table_with t name (scripted (l ∷ [])) ≡ with_line t name l
+added t name l is none =
+    let names = sym (new_names t.names name none) in
+    let sites = sym (new_sites t.names t.sites name l is.1 none) in
     λ i. record { names = names i; sites = sites i }
 
 pub more_table : (ns ms : List Named) (x : Named) (name : List ℕ) → IsTable (table ns) → ms ≡ ns ++ x ∷ [] → x.name.items ≡ name → IsBare name → length (names_of ns) + 1 < 2 ^ 32 → site_named (names_of ns) name ≡ None → IsTable (table ms)

@@ -15,6 +15,7 @@ pub mod Listed
 pub mod Lookup
 pub mod Lost
 pub mod Numbered
+pub mod Numbers
 pub mod Numerals
 pub mod Passed
 pub mod Pending
