@@ -39,7 +39,7 @@ use Rattle.orc_journal.specs.Texts.{Written, header, entry_lines, AreOf, NoLine,
 use Rattle.orc_journal.proofs.Stripping.{strip, whole_same}
 use Rattle.orc_checker.specs.Checker.{context as context_of}
 use Rattle.orc_verdict.specs.Verdicts.{records_cancels}
-use Rattle.orc_run.specs.Running.{written, IsTold}
+use Rattle.orc_run.specs.Running.{IsProgramOf, IsTold, written}
 use Rattle.orc_run.specs.Runs.{context, EndsAt, IsRun, Outcome}
 use Rattle.orc_run.specs.Checked.{verdict_line, StandsSo, IsBeyond, IsOfRun}
 use Rattle.orc_run.specs.declared.ending.End.{End}
@@ -76,9 +76,9 @@ run_of l m t limit o d s r =
 -- ---- the journal's text
 
 -- the run, told by what the checker read of source and script
-pub told_of : (text script journal : List ℕ) (s : Summary) (m : Listing) (u : Table) (r : Source) → IsOfRun text script journal s → Says script u → SpellsText text r → Checks u.names r (Ok m)
+pub told_of : (text script journal : List ℕ) (s : Summary) (m : Listing) (u : Table) → IsOfRun text script journal s → Says script u → IsProgramOf text u m
     → (options : Options) × (options.journal ≡ true) × IsTold m u options s journal
-told_of text script journal s m u r of says spells checks =
+told_of text script journal s m u of says (r, spells, checks) =
     let (options, kept, run) = of in
     let (l, t, said, (z, spelt, checked), told) = run in
     let table : t ≡ u = same_table script t u said says in

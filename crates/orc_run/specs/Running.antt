@@ -62,14 +62,21 @@ abbrev pub LeavesAtFault : List ℕ → List ℕ → Options → Option (List �
 LeavesAtFault source script options old new (fault.Write w) = (s : Summary) × (text : List ℕ) × Runs source script options s text × AppendsPrefix old new text
 LeavesAtFault source script options old new _ = Keeps old new
 
--- a fault of the source or of the script is one that it has: of its text, unless memory ran out, or of the source's names
+-- why no program is loaded: its source or its script has this fault, of the source's text, unless memory ran out, or of its names
+abbrev pub IsLoadFault : List ℕ → List ℕ → RunFault → Type 0
+IsLoadFault source script (fault.Syntax f) = IfFault (Err f) (IsFault source)
+IsLoadFault source script (fault.Scope f) = (s : Source) × (t : Table) × SpellsText source s × Says script t × Checks t.names s (Err f)
+IsLoadFault source script (fault.Script f) = IsBad script f
+IsLoadFault source script _ = ⊥
+
+-- the fault of a run: why no program is loaded, or one that is neither of the source nor of the script
 abbrev pub IsFaultOf : List ℕ → List ℕ → RunFault → Type 0
-IsFaultOf source script (fault.Syntax f) = IfFault (Err f) (IsFault source)
-IsFaultOf source script (fault.Scope f) = (s : Source) × (t : Table) × SpellsText source s × Says script t × Checks t.names s (Err f)
-IsFaultOf source script (fault.Script f) = IsBad script f
 IsFaultOf source script (fault.Journal f) = ⊥
 IsFaultOf source script (fault.Check f) = ⊥
-IsFaultOf source script _ = Unit {0}
+IsFaultOf source script fault.Memory = Unit {0}
+IsFaultOf source script fault.Broken = Unit {0}
+IsFaultOf source script (fault.Write w) = Unit {0}
+IsFaultOf source script f = IsLoadFault source script f
 
 -- a fault that is neither of the source, nor of the script, nor of the output
 abbrev pub IsOther : RunFault → Type 0

@@ -5,11 +5,10 @@ ghost use Rattle.orc_run.specs.Checked.{verdict_line, Accepts, Judges, LeavesUnj
 ghost use Rattle.orc_run.specs.declared.ending.Summary.{Summary as RunSummary};
 
 use crate::faults::{RunFault, StateWord};
+use crate::loading::load;
 use crate::output::{WriteFault, write_text};
-use crate::running::checked;
 use orc_journal::read_journal;
 use orc_rules::entry::State;
-use orc_site::read_script;
 use orc_verdict::check_journal;
 use std::alloc::{AllocError, Global};
 use std::io::Write;
@@ -42,24 +41,13 @@ pub fn check_text<W: Write>(
     ensures accepted { (s : RunSummary) → IsOfRun source.now script.now journal.now s → OnOk result (Accepts s (W.contents out.old) (W.contents out.new)) }
     ensures beyond { (s : RunSummary) → IsOfRun source.now script.now journal.now s → IfErr result IsBeyond }
 {
-    let ast = match orc_syntax::parse(alloc, source) {
-        Ok(ast) => ast,
-        Err(fault) => return Err(RunFault::Syntax(fault)),
-    };
-    let answers = match read_script(alloc, script) {
-        Ok(answers) => answers,
-        Err(fault) => return Err(RunFault::Script(fault)),
-    };
-    answers.are_apart();
-    let program = match checked(alloc, &ast, &answers) {
-        Ok(program) => program,
-        Err(fault) => return Err(RunFault::Scope(fault)),
-    };
-    let journal = match read_journal(alloc, journal, &answers) {
+    let loaded = load(alloc, source, script)?;
+    loaded.answers.are_apart();
+    let journal = match read_journal(alloc, journal, &loaded.answers) {
         Ok(journal) => journal,
         Err(fault) => return Err(RunFault::Journal(fault)),
     };
-    let verdict = match check_journal(alloc, &program, &answers, &journal) {
+    let verdict = match check_journal(alloc, &loaded.program, &loaded.answers, &journal) {
         Ok(verdict) => verdict,
         Err(fault) => return Err(RunFault::Check(fault)),
     };

@@ -10,6 +10,7 @@ mod history;
 mod inputs;
 mod judging;
 mod lines;
+mod loading;
 mod output;
 mod plain;
 mod printing;

@@ -4,9 +4,6 @@ ghost use Rattle.std.specs.Prelude.{◌≡◌, ℕ, List, length, IfOk, IfErr, O
 ghost use Rattle.std.specs.Io.KnownBytes.{Appends};
 ghost use Rattle.orc_rules.specs.Sites.{Table};
 ghost use Rattle.orc_rules.specs.Nodes.{Listing};
-ghost use Rattle.orc_syntax.specs.Tree.{Source};
-ghost use Rattle.orc_syntax.specs.Ast.{IsAst};
-ghost use Rattle.orc_scope.specs.Checking.{Checks};
 ghost use Rattle.orc_run.specs.Output.{AppendsPrefix};
 ghost use Rattle.orc_run.specs.Runs.{IsPlayed};
 ghost use Rattle.orc_run.specs.Running.{Ran, LeavesAtFault, IsFaultOf, IsOther, IsTold, kept};
@@ -15,14 +12,12 @@ ghost use Rattle.orc_run.specs.declared.running.Options.{Options as RunOptions};
 use crate::ending::Summary;
 use crate::faults::RunFault;
 use crate::history::History;
+use crate::loading::load;
 use crate::output::{WriteFault, write_text};
 use crate::plain::{PlayFault, Played, play};
 use crate::publications::write_values;
 use orc_rules::answers::Answers;
 use orc_rules::program::Program;
-use orc_scope::{FaultKind, ScopeFault};
-use orc_site::read_script;
-use orc_syntax::{Ast, Span};
 use std::alloc::Global;
 use std::io::Write;
 
@@ -33,21 +28,6 @@ pub struct Options {
     pub limit: u64,
     /// Whether the journal is written, in place of what was published.
     pub journal: bool,
-}
-
-const NO_MEMORY: ScopeFault = ScopeFault {
-    kind: FaultKind::Memory,
-    span: Span { start: 0, end: 0 },
-};
-
-/// The program of a tree.
-pub(crate) fn checked(alloc: Global, ast: &Ast, answers: &Answers) -> Result<Program, ScopeFault>
-    ensures { (s : Source) → IsAst ast.now s → Checks answers.now.names s result }
-{
-    match answers.names(alloc) {
-        Ok(names) => orc_scope::check(alloc, ast, names.as_slice()),
-        Err(_) => Err(NO_MEMORY),
-    }
 }
 
 // Runs a program.
@@ -114,22 +94,11 @@ pub fn run_text<W: Write>(
     ensures fault { IfErr result (LeavesAtFault source.now script.now options.now (W.contents out.old) (W.contents out.new)) }
     ensures cause { IfErr result (IsFaultOf source.now script.now) }
 {
-    let ast = match orc_syntax::parse(alloc, source) {
-        Ok(ast) => ast,
-        Err(fault) => return Err(RunFault::Syntax(fault)),
-    };
-    let answers = match read_script(alloc, script) {
-        Ok(answers) => answers,
-        Err(fault) => return Err(RunFault::Script(fault)),
-    };
-    let program = match checked(alloc, &ast, &answers) {
-        Ok(program) => program,
-        Err(fault) => return Err(RunFault::Scope(fault)),
-    };
-    let played = run_program(alloc, &program, &answers, options)?;
+    let loaded = load(alloc, source, script)?;
+    let played = run_program(alloc, &loaded.program, &loaded.answers, options)?;
     let summary = played.summary();
-    if let Err(fault) = write_run(alloc, &played.history, options.journal, out) {
-        return Err(RunFault::Write(fault));
+    match write_run(alloc, &played.history, options.journal, out) {
+        Ok(()) => Ok(summary),
+        Err(fault) => Err(RunFault::Write(fault)),
     }
-    Ok(summary)
 }

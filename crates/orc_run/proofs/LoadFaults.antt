@@ -1,0 +1,67 @@
+-- Faults of a source and of its script are faults of its run and of its check.
+use Rattle.std.proofs.Common.{ℕ, List}
+use Rattle.std.specs.declared.option.Option.{Option}
+use Rattle.std.specs.Io.KnownBytes.{Keeps}
+use Rattle.orc_run.specs.Running.{IsFaultOf, IsLoadFault, LeavesAtFault}
+use Rattle.orc_run.specs.Checked.{IsBeyond, IsCheckFault, IsOfRun, LeavesUnjudged}
+use Rattle.orc_run.specs.declared.ending.Summary.{Summary}
+use Rattle.orc_run.specs.declared.faults.RunFault.{RunFault}
+use Rattle.orc_run.specs.declared.faults.RunFault.TheVariants as fault
+use Rattle.orc_run.specs.declared.running.Options.{Options}
+use Rattle.orc_run.proofs.Accepting.{names_beyond, script_beyond, syntax_beyond}
+
+pub of_run : (source script : List ℕ) (f : RunFault) → IsLoadFault source script f → IsFaultOf source script f
+of_run source script (fault.Syntax f) h = h
+of_run source script (fault.Scope f) h = h
+of_run source script (fault.Script f) h = h
+of_run source script (fault.Journal f) h = h
+of_run source script (fault.Check f) h = h
+of_run source script fault.Memory h = tt
+of_run source script fault.Broken h = tt
+of_run source script (fault.Write w) h = tt
+
+pub run_left : (source script : List ℕ) (options : Options) (old new : Option (List ℕ)) (f : RunFault) → IsLoadFault source script f → Keeps old new → LeavesAtFault source script options old new f
+run_left source script options old new (fault.Syntax f) h keeps = keeps
+run_left source script options old new (fault.Scope f) h keeps = keeps
+run_left source script options old new (fault.Script f) h keeps = keeps
+run_left source script options old new (fault.Journal f) h keeps = keeps
+run_left source script options old new (fault.Check f) h keeps = keeps
+run_left source script options old new fault.Memory h keeps = keeps
+run_left source script options old new fault.Broken h keeps = keeps
+run_left source script options old new (fault.Write w) h keeps = absurd h
+
+pub of_check : (source script journal : List ℕ) (f : RunFault) → IsLoadFault source script f → IsCheckFault source script journal f
+of_check source script journal (fault.Syntax f) h = h
+of_check source script journal (fault.Scope f) h = h
+of_check source script journal (fault.Script f) h = h
+of_check source script journal (fault.Journal f) h = absurd h
+of_check source script journal (fault.Check f) h = absurd h
+of_check source script journal fault.Memory h = h
+of_check source script journal fault.Broken h = h
+of_check source script journal (fault.Write w) h = tt
+
+pub check_left : (source script journal : List ℕ) (old new : Option (List ℕ)) (f : RunFault) → IsLoadFault source script f → Keeps old new → LeavesUnjudged source script journal old new f
+check_left source script journal old new (fault.Syntax f) h keeps = keeps
+check_left source script journal old new (fault.Scope f) h keeps = keeps
+check_left source script journal old new (fault.Script f) h keeps = keeps
+check_left source script journal old new (fault.Journal f) h keeps = keeps
+check_left source script journal old new (fault.Check f) h keeps = keeps
+check_left source script journal old new fault.Memory h keeps = keeps
+check_left source script journal old new fault.Broken h keeps = keeps
+check_left source script journal old new (fault.Write w) h keeps = absurd h
+
+pub beyond : (source script journal : List ℕ) (s : Summary) (f : RunFault) → IsOfRun source script journal s → IsLoadFault source script f → IsBeyond f
+beyond source script journal s (fault.Syntax f) of h =
+    let (options, kept, run) = of in
+    let (l, t, said, (z, spelt, checked), told) = run in
+    syntax_beyond source z f spelt h
+beyond source script journal s (fault.Scope f) of (r, u, spells, says, blamed) = names_beyond source script journal s u r f of says spells blamed
+beyond source script journal s (fault.Script f) of h =
+    let (options, kept, run) = of in
+    let (l, t, said, program, told) = run in
+    script_beyond script t f said h
+beyond source script journal s (fault.Journal f) of h = absurd h
+beyond source script journal s (fault.Check f) of h = absurd h
+beyond source script journal s fault.Memory of h = h
+beyond source script journal s fault.Broken of h = h
+beyond source script journal s (fault.Write w) of h = absurd h

@@ -1,0 +1,59 @@
+//! From a source and a script to the program that is run or checked.
+
+ghost use Rattle.std.specs.Prelude.{IfOk, IfErr};
+ghost use Rattle.orc_syntax.specs.Tree.{Source};
+ghost use Rattle.orc_syntax.specs.Ast.{IsAst};
+ghost use Rattle.orc_scope.specs.Checking.{Checks};
+ghost use Rattle.orc_site.specs.Script.{Says};
+ghost use Rattle.orc_run.specs.Running.{IsProgramOf, IsLoadFault};
+
+use crate::faults::RunFault;
+use orc_rules::answers::Answers;
+use orc_rules::program::Program;
+use orc_scope::{FaultKind, ScopeFault};
+use orc_site::read_script;
+use orc_syntax::{Ast, Span, parse};
+use std::alloc::Global;
+
+/// A program, and what answers its calls.
+#[derive(Drop)]
+pub struct Loaded {
+    pub program: Program,
+    pub answers: Answers,
+}
+
+const NO_MEMORY: ScopeFault = ScopeFault {
+    kind: FaultKind::Memory,
+    span: Span { start: 0, end: 0 },
+};
+
+// The program of a tree.
+fn checked(alloc: Global, ast: &Ast, answers: &Answers) -> Result<Program, ScopeFault>
+    ensures { (s : Source) → IsAst ast.now s → Checks answers.now.names s result }
+{
+    match answers.names(alloc) {
+        Ok(names) => orc_scope::check(alloc, ast, names.as_slice()),
+        Err(_) => Err(NO_MEMORY),
+    }
+}
+
+/// The program that a source spells, with the built-in sites and those of a script. The fault is the first of one of the source's text, one of the
+/// script and one of the source's names.
+pub fn load(alloc: Global, source: &[u8], script: &[u8]) -> Result<Loaded, RunFault>
+    ensures says { IfOk result (λ p. Says script.now p.answers) }
+    ensures spells { IfOk result (λ p. IsProgramOf source.now p.answers p.program) }
+    ensures fault { IfErr result (IsLoadFault source.now script.now) }
+{
+    let ast = match parse(alloc, source) {
+        Ok(ast) => ast,
+        Err(fault) => return Err(RunFault::Syntax(fault)),
+    };
+    let answers = match read_script(alloc, script) {
+        Ok(answers) => answers,
+        Err(fault) => return Err(RunFault::Script(fault)),
+    };
+    match checked(alloc, &ast, &answers) {
+        Ok(program) => Ok(Loaded { program, answers }),
+        Err(fault) => Err(RunFault::Scope(fault)),
+    }
+}
