@@ -150,6 +150,13 @@ impl Program {
         }
     }
 
+    /// How many lists of operands there are.
+    pub fn list_count(&self) -> usize
+        ensures { result ≡ length self.now.lists }
+    {
+        self.terms.lists.len()
+    }
+
     /// The node of the main term.
     pub fn source(&self) -> usize
         ensures { result ≡ self.now.root }

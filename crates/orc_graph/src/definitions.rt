@@ -1,0 +1,93 @@
+//! The definitions, their parameters one behind another.
+
+ghost use Rattle.std.specs.Prelude.{◌≡◌, ◌++◌, ◌∷◌, [], length, map, slice_get, option_map, MatchOption, OnOk};
+ghost use Rattle.orc_graph.specs.Ranges.{params_at};
+
+use crate::numbers::{GraphFault, Range, part, place, put, short};
+use std::alloc::Global;
+use std::marker::Model;
+
+/// A definition: where its parameters stand, and the node of its body.
+#[derive(Clone, Copy)]
+pub(crate) struct Body {
+    pub(crate) params: Range,
+    pub(crate) node: u32,
+}
+
+/// Definitions by their numbers.
+#[derive(Drop)]
+pub(crate) struct Definitions {
+    names: Vec<u32>,
+    bodies: Vec<Body>,
+}
+
+impl Model for Definitions {
+    ghost use Rattle.std.specs.Prelude.{List, map, length};
+    ghost use Rattle.orc_rules.specs.Nodes.{Routine};
+    ghost use Rattle.orc_graph.specs.Bodies.{routine_in, AreInside};
+
+    ghost Value = { List Routine };
+
+    ghost view = { λ d. map (routine_in d.names.items) d.bodies.items };
+
+    ghost invariant = { λ d. AreInside (length d.names.items) d.bodies.items };
+}
+
+// The definition of that number.
+fn body_at(bodies: &Vec<Body>, number: usize) -> Option<Body>
+    ensures { result ≡ slice_get bodies.now.items number }
+{
+    match bodies.get(number) {
+        Some(body) => Some(*body),
+        None => None,
+    }
+}
+
+impl Definitions {
+    /// No definitions.
+    pub(crate) fn new(alloc: Global) -> Definitions
+        ensures { result ≡ [] }
+    {
+        Definitions {
+            names: Vec::new(alloc),
+            bodies: Vec::new(alloc),
+        }
+    }
+
+    /// Adds a definition at the end: its parameters and the node of its body.
+    pub(crate) fn push(&mut self, params: &[u32], body: usize) -> Result<(), GraphFault>
+        ensures { OnOk result (self.new ≡ self.old ++ record { params = params.now; body = body } ∷ []) }
+    {
+        let node = short(body)?;
+        let params = place(&mut self.names, params)?;
+        put(&mut self.bodies, Body { params, node })?;
+        Ok(())
+    }
+
+    /// How many definitions there are.
+    pub(crate) fn len(&self) -> usize
+        ensures { result ≡ length self.now }
+    {
+        self.bodies.len()
+    }
+
+    /// The node of the body of the definition with that number.
+    pub(crate) fn body(&self, number: usize) -> Option<u32>
+        ensures { result ≡ option_map (λ r. r.body) (slice_get self.now number) }
+    {
+        match body_at(&self.bodies, number) {
+            Some(body) => Some(body.node),
+            None => None,
+        }
+    }
+
+    /// The parameters of the definition with that number, none where there is no such definition.
+    pub(crate) fn params(&self, number: usize) -> &[u32]
+        ensures { result.now ≡ params_at self.now number }
+    {
+        match body_at(&self.bodies, number) {
+            Some(body) => part(&self.names, body.params),
+            None => &[],
+        }
+    }
+}

@@ -1,0 +1,189 @@
+//! The graph of a program.
+
+ghost use Rattle.std.specs.Prelude.{◌≡◌, ◌≤◌, ◌++◌, ◌∷◌, [], length, map, slice_get, slice_index_or, option_map, IfOk, IfErr};
+ghost use Rattle.orc_rules.specs.Nodes.{ArePartsFirst, node_of, unfold_node, code};
+ghost use Rattle.orc_graph.specs.Graph.{term_node};
+ghost use Rattle.orc_graph.specs.Ranges.{params_at};
+
+use crate::definitions::Definitions;
+use crate::lists::Lists;
+use crate::node::Node;
+use crate::numbers::{GraphFault, put, short};
+use orc_rules::param::Operand;
+use orc_rules::program::{Program, TermNode};
+use std::alloc::Global;
+use std::marker::Model;
+
+/// A program's terms as nodes of 24 bytes, its lists of operands, its definitions and the node of its main term, all by the same numbers as
+/// in the program. Nothing of it changes once it is built.
+pub struct Graph {
+    nodes: Vec<Node>,
+    lists: Lists,
+    definitions: Definitions,
+    root: u32,
+}
+
+impl Model for Graph {
+    ghost use Rattle.std.specs.Prelude.{map};
+    ghost use Rattle.orc_rules.specs.Nodes.{Listing, ArePartsFirst};
+    ghost use Rattle.orc_graph.specs.Graph.{term_node};
+
+    ghost Value = { Listing };
+
+    ghost view = { λ g. record { nodes = map term_node g.nodes.items; lists = g.lists; routines = g.definitions; root = g.root } };
+
+    ghost invariant = { λ g. ArePartsFirst (map term_node g.nodes.items) };
+}
+
+// Written out, so that each exit of a function that has a graph drops it by one call.
+impl Drop for Graph {
+    fn drop(self) {
+        let Graph {
+            nodes,
+            lists,
+            definitions,
+            root: _,
+        } = self;
+        drop(nodes);
+        drop(lists);
+        drop(definitions);
+    }
+}
+
+// The same node with short numbers.
+fn short_node(node: TermNode) -> Result<Node, GraphFault>
+    ensures { IfOk result (λ short. term_node short ≡ node) }
+{
+    Ok(match node {
+        TermNode::Stop => Node::Stop,
+        TermNode::Operand(Operand::Name(x)) => Node::Name(x),
+        TermNode::Operand(Operand::Is(value)) => Node::Is(value),
+        TermNode::Site(site, list) => Node::Site(site, short(list)?),
+        TermNode::Call(definition, list) => Node::Call(definition, short(list)?),
+        TermNode::Par(f, g) => Node::Par(short(f)?, short(g)?),
+        TermNode::Seq(f, x, g) => Node::Seq(short(f)?, x, short(g)?),
+        TermNode::Prune(f, x, g) => Node::Prune(short(f)?, x, short(g)?),
+        TermNode::Other(f, g) => Node::Other(short(f)?, short(g)?),
+    })
+}
+
+fn short_nodes(alloc: Global, program: &Program) -> Result<Vec<Node>, GraphFault>
+    ensures { IfOk result (λ nodes. map term_node nodes.items ≡ program.now.nodes) }
+{
+    let mut nodes = Vec::new(alloc);
+    for id in 0..program.len() {
+        let node = short_node(program.node(id))?;
+        put(&mut nodes, node)?;
+    }
+    Ok(nodes)
+}
+
+fn lists_of(alloc: Global, program: &Program) -> Result<Lists, GraphFault>
+    ensures { IfOk result (λ lists. lists ≡ program.now.lists) }
+{
+    let mut lists = Lists::new(alloc);
+    for list in 0..program.list_count() {
+        lists.push(program.operands(list))?;
+    }
+    Ok(lists)
+}
+
+fn definitions_of(alloc: Global, program: &Program) -> Result<Definitions, GraphFault>
+    ensures { IfOk result (λ definitions. definitions ≡ program.now.routines) }
+{
+    let mut definitions = Definitions::new(alloc);
+    for definition in program.definitions() {
+        definitions.push(&definition.params, definition.body)?;
+    }
+    Ok(definitions)
+}
+
+impl Graph {
+    /// The graph of a program: it has the same nodes, lists, definitions and main term. `Memory` is the only fault: memory was refused, or a
+    /// number of the program takes more than 32 bits.
+    pub fn build(alloc: Global, program: &Program) -> Result<Graph, GraphFault>
+        ensures same { IfOk result (λ graph. graph ≡ program.now) }
+        ensures why { IfErr result (λ fault. fault ≡ GraphFault.Memory) }
+    {
+        let root = short(program.source())?;
+        program.are_parts_first();
+        let nodes = short_nodes(alloc, program)?;
+        let lists = lists_of(alloc, program)?;
+        let definitions = definitions_of(alloc, program)?;
+        Ok(Graph {
+            nodes,
+            lists,
+            definitions,
+            root,
+        })
+    }
+
+    /// How many nodes there are.
+    pub fn len(&self) -> usize
+        ensures { result ≡ length self.now.nodes }
+    {
+        self.nodes.len()
+    }
+
+    // The node of that number, `stop` where there is none.
+    fn node_or_stop(&self, id: usize) -> Node
+        ensures { term_node result ≡ node_of self.now.nodes id }
+    {
+        match self.nodes.get(id) {
+            Some(node) => *node,
+            None => Node::Stop,
+        }
+    }
+
+    // Each node stands behind its parts.
+    fn are_parts_first(&self)
+        ensures { ArePartsFirst self.now.nodes }
+    {
+        let _nodes = &self.nodes;
+    }
+
+    /// The node of that number, `stop` where there is none: its term is made of those of its parts.
+    pub fn node(&self, id: usize) -> Node
+        ensures node { term_node result ≡ node_of self.now.nodes id }
+        ensures term { code self.now id ≡ unfold_node (code self.now) self.now.lists (term_node result) }
+    {
+        self.are_parts_first();
+        self.node_or_stop(id)
+    }
+
+    /// The operands of the list with that number, none where there is no such list.
+    pub fn operands(&self, list: usize) -> &[Operand]
+        ensures value { result.now ≡ slice_index_or self.now.lists list [] }
+        ensures len { length result.now ≤ 16 }
+    {
+        self.lists.get(list)
+    }
+
+    /// The node of the main term.
+    pub fn root(&self) -> u32
+        ensures { result ≡ self.now.root }
+    {
+        self.root
+    }
+
+    /// How many definitions there are.
+    pub fn definitions(&self) -> usize
+        ensures { result ≡ length self.now.routines }
+    {
+        self.definitions.len()
+    }
+
+    /// The node of the body of the definition with that number. None where there is no such definition.
+    pub fn body(&self, definition: usize) -> Option<u32>
+        ensures { result ≡ option_map (λ r. r.body) (slice_get self.now.routines definition) }
+    {
+        self.definitions.body(definition)
+    }
+
+    /// The parameters of the definition with that number, none where there is no such definition.
+    pub fn params(&self, definition: usize) -> &[u32]
+        ensures { result.now ≡ params_at self.now.routines definition }
+    {
+        self.definitions.params(definition)
+    }
+}

@@ -1,0 +1,70 @@
+//! The lists of operands, one behind another.
+
+ghost use Rattle.std.specs.Prelude.{◌≡◌, ◌++◌, ◌∷◌, ◌≤◌, [], length, map, slice_index_or, slice_get, OnOk};
+
+use crate::numbers::{GraphFault, Range, part, place, put};
+use orc_rules::param::Operand;
+use std::alloc::Global;
+use std::marker::Model;
+
+/// Lists of 16 operands at most, by their numbers.
+#[derive(Drop)]
+pub(crate) struct Lists {
+    operands: Vec<Operand>,
+    ranges: Vec<Range>,
+}
+
+impl Model for Lists {
+    ghost use Rattle.std.specs.Prelude.{List, map, length};
+    ghost use Rattle.orc_rules.specs.declared.param.Operand.{Operand as Argument};
+    ghost use Rattle.orc_graph.specs.Ranges.{cut, AreWithin};
+
+    ghost Value = { List (List Argument) };
+
+    ghost view = { λ l. map (cut l.operands.items) l.ranges.items };
+
+    ghost invariant = { λ l. AreWithin (length l.operands.items) l.ranges.items };
+}
+
+// The range of that number.
+fn range_at(ranges: &Vec<Range>, number: usize) -> Option<Range>
+    ensures { result ≡ slice_get ranges.now.items number }
+{
+    match ranges.get(number) {
+        Some(range) => Some(*range),
+        None => None,
+    }
+}
+
+impl Lists {
+    /// No lists.
+    pub(crate) fn new(alloc: Global) -> Lists
+        ensures { result ≡ [] }
+    {
+        Lists {
+            operands: Vec::new(alloc),
+            ranges: Vec::new(alloc),
+        }
+    }
+
+    /// Adds a list at the end.
+    pub(crate) fn push(&mut self, operands: &[Operand]) -> Result<(), GraphFault>
+        requires { length operands.now ≤ 16 }
+        ensures { OnOk result (self.new ≡ self.old ++ operands.now ∷ []) }
+    {
+        let range = place(&mut self.operands, operands)?;
+        put(&mut self.ranges, range)?;
+        Ok(())
+    }
+
+    /// The list of that number, none where there is no such list.
+    pub(crate) fn get(&self, number: usize) -> &[Operand]
+        ensures value { result.now ≡ slice_index_or self.now number [] }
+        ensures len { length result.now ≤ 16 }
+    {
+        match range_at(&self.ranges, number) {
+            Some(range) => part(&self.operands, range),
+            None => &[],
+        }
+    }
+}

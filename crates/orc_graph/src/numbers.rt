@@ -1,0 +1,62 @@
+//! The numbers of a graph, of 32 bits each, and what grows.
+
+ghost use Rattle.orc_graph.specs.Ranges.{cut};
+ghost use Rattle.std.specs.Prelude.{◌≡◌, ◌++◌, ◌∷◌, ◌+◌, ◌≤◌, [], length, IfOk, OnOk, if◌then◌else◌, is_ok};
+
+/// Why no graph is made of a program.
+#[derive(Clone, Copy, Debug, PartialEq, Eq)]
+pub enum GraphFault {
+    /// Memory was refused, or a number of the program takes more than 32 bits.
+    Memory,
+}
+
+/// Where a list begins in a longer one, and where it ends.
+#[derive(Clone, Copy)]
+pub(crate) struct Range {
+    pub(crate) start: u32,
+    pub(crate) end: u32,
+}
+
+/// The same number in 32 bits.
+pub(crate) fn short(number: usize) -> Result<u32, GraphFault>
+    ensures { IfOk result (λ short. short ≡ number) }
+{
+    if number > 0xffff_ffff {
+        return Err(GraphFault::Memory);
+    }
+    Ok(number as u32)
+}
+
+/// Adds an item at the end.
+pub(crate) fn put<T: Copy + Drop>(items: &mut Vec<T>, item: T) -> Result<(), GraphFault>
+    ensures { items.new.items ≡ (if is_ok result then items.old.items ++ item ∷ [] else items.old.items) }
+{
+    match items.push(item) {
+        Ok(()) => Ok(()),
+        Err(_) => Err(GraphFault::Memory),
+    }
+}
+
+/// Adds a list at the end: where it stands.
+pub(crate) fn place<T: Copy + Drop>(items: &mut Vec<T>, list: &[T]) -> Result<Range, GraphFault>
+    ensures start { IfOk result (λ range. range.start ≡ length items.old.items) }
+    ensures end { IfOk result (λ range. range.end ≡ length items.old.items + length list.now) }
+    ensures items { items.new.items ≡ (if is_ok result then items.old.items ++ list.now else items.old.items) }
+{
+    let start = short(items.len())?;
+    let count = short(list.len())?;
+    let end = short(start as usize + count as usize)?;
+    match items.extend_from_slice(list) {
+        Ok(()) => Ok(Range { start, end }),
+        Err(_) => Err(GraphFault::Memory),
+    }
+}
+
+/// The list that a range names.
+pub(crate) fn part<T: Copy>(items: &[T], range: Range) -> &[T]
+    requires order { range.start ≤ range.end }
+    requires within { range.end ≤ length items.now }
+    ensures { result.now ≡ cut items.now range }
+{
+    &items[range.start as usize..range.end as usize]
+}
