@@ -18,6 +18,7 @@ pub data Term : Type 0 where
   other : Term → Term → Term
   pending : ℕ → Term
   opened : Term → ℕ → Term → Term
+  deriving Discrete as Term-discrete
 
 -- a definition: its parameters and its body
 pub record Definition : Type 0 where

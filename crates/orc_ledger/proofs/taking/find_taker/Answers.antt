@@ -1,0 +1,43 @@
+use Rattle.std.proofs.Common.{◌≡◌, ◌≤◌, ◌-◌, ℕ, List, length, get_or, ◌∙◌, arith, false, Some}
+use Rattle.std.specs.Prelude.{slice_get}
+use Rattle.orc_ledger.specs.declared.records.Entered.TheVariants.{Feed}
+use Rattle.orc_ledger.specs.declared.records.Step.{Step}
+use Rattle.orc_ledger.proofs.Outwards.{there, before-it, on-feed, on-aid, on-try, at-whole}
+use Rattle.orc_ledger.proofs.taking.find_taker.Goals as goal
+
+abbrev unread : Step
+unread = record { entered = Feed 0 0 0; outer = 0; group = 0; depth = 0; published = false }
+
+found : (ss : List Step) (i : ℕ) → (i ≡ 0 → ⊥) → i ≤ length ss → slice_get ss (i - 1) ≡ Some (get_or ss (i - 1) unread)
+found ss i off le = there ss (i - 1) unread (omega (arith, off, le))
+
+pub returns-in-Feed : goal.returns-in-Feed
+returns-in-Feed c code env left =
+    let ss : List Step = c.args.steps.now in
+    let i = c.loop-at.at in
+    c.loop-at.invariant.way code env left ∙ on-feed ss c.requires.outwards i (get_or ss (i - 1) unread) c.loop-at-test.true (found ss i c.loop-at-test.true c.loop-at.invariant.within) c.in-Feed.name c.in-Feed.node c.in-Feed.scope c.in-Feed.is code env left
+
+pub returns-in-Aid : goal.returns-in-Aid
+returns-in-Aid c code env left =
+    let ss : List Step = c.args.steps.now in
+    let i = c.loop-at.at in
+    (_, c.loop-at.invariant.way code env left ∙ on-aid ss c.requires.outwards i (get_or ss (i - 1) unread) c.loop-at-test.true (found ss i c.loop-at-test.true c.loop-at.invariant.within) c.in-Aid.cell c.in-Aid.is code env left)
+
+pub loop-at-smaller : goal.loop-at-smaller
+loop-at-smaller c =
+    let ss : List Step = c.args.steps.now in
+    let i = c.loop-at.at in
+    omega (arith, c.loop-at-test.true, before-it ss c.requires.outwards i (get_or ss (i - 1) unread) c.loop-at-test.true (found ss i c.loop-at-test.true c.loop-at.invariant.within))
+
+pub loop-at-preserved : goal.loop-at-preserved
+loop-at-preserved c =
+    let ss : List Step = c.args.steps.now in
+    let i = c.loop-at.at in
+    let got = found ss i c.loop-at-test.true c.loop-at.invariant.within in
+    record {
+      within = omega (arith, c.loop-at.invariant.within, before-it ss c.requires.outwards i (get_or ss (i - 1) unread) c.loop-at-test.true got);
+      way = λ code env left. c.loop-at.invariant.way code env left ∙ on-try ss c.requires.outwards i (get_or ss (i - 1) unread) c.loop-at-test.true got c.in-Try.field-0 c.in-Try.is code env left;
+    }
+
+pub returns : goal.returns
+returns c code env left = c.loop-at.invariant.way code env left ∙ at-whole c.args.steps.now c.loop-at.at c.loop-at-test.false code env left

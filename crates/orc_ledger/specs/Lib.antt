@@ -1,0 +1,11 @@
+pub mod Calls
+pub mod Doing
+pub mod Homes
+pub mod Kept
+pub mod Next
+pub mod Records
+pub mod Same
+pub mod Spelling
+pub mod Taking
+pub mod Told
+pub mod Tokens

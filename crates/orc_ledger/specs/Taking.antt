@@ -1,0 +1,33 @@
+-- What takes a publication.
+use Rattle.std.specs.Prelude.{◌≡◌, ◌≤◌, ℕ, List, [], ◌∷◌, Bool, Some, slice_get}
+use Rattle.orc_rules.specs.Term.{Term}
+use Rattle.orc_names.specs.Scopes.{Env, close, without}
+use Rattle.orc_ledger.specs.Spelling.{Path, whole, feeding, aiding, trying, seen}
+use Rattle.orc_ledger.specs.Records.{path}
+use Rattle.orc_ledger.specs.declared.records.Step.{Step}
+use Rattle.orc_ledger.specs.declared.taking.Taker.{Taker}
+use Rattle.orc_ledger.specs.declared.taking.Taker.TheVariants as by
+
+-- the nearest that takes a publication from a path: the path of its left or right side
+abbrev pub taker : Path → Path
+taker whole = whole
+taker (feeding x g p) = feeding x g p
+taker (aiding c p) = aiding c p
+taker (trying n p) = taker p
+
+-- the otherwises that a publication from a path leaves, the innermost first
+abbrev pub crossed : Path → List ℕ
+crossed (trying n p) = n ∷ crossed p
+crossed _ = []
+
+abbrev pub AreOutwards : List Step → Type 0
+AreOutwards steps = (k : ℕ) (p : Step) → slice_get steps k ≡ Some p → p.outer ≤ k
+
+abbrev pub Takes : (ℕ → Term) → (ℕ → Env) → (ℕ → Bool) → List Step → ℕ → Taker → Type 0
+Takes code env left steps from by.Whole = taker (seen left (path code env steps from)) ≡ whole
+Takes code env left steps from (by.Feed x node scope outer) = taker (seen left (path code env steps from)) ≡ feeding x (close (without x (env scope)) (code node)) (seen left (path code env steps outer))
+Takes code env left steps from (by.Aid c) = (p : Path) × (taker (seen left (path code env steps from)) ≡ aiding c p)
+
+-- the same whatever the names stand for and whatever has been left
+abbrev pub GoesTo : List Step → ℕ → Taker → Type 0
+GoesTo steps from t = (code : ℕ → Term) (env : ℕ → Env) (left : ℕ → Bool) → Takes code env left steps from t

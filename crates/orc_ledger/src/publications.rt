@@ -1,0 +1,87 @@
+//! What a token publishes: a publication of the program, or what a `>x>` takes.
+
+ghost use Rattle.std.specs.Prelude.{◌≡◌, ◌+◌, ◌<◌, ◌≤◌, ◌∷◌, [], length, slice_index_or, IfOk, IfErr, OnErr};
+ghost use Rattle.orc_rules.specs.Nodes.{code};
+ghost use Rattle.orc_rules.specs.Term.{param};
+ghost use Rattle.orc_rules.specs.declared.param.Param.TheVariants.{Is};
+ghost use Rattle.orc_rules.specs.declared.entry.Entry.TheVariants.{Send, Publish};
+ghost use Rattle.orc_names.specs.Scopes.{close, without};
+ghost use Rattle.orc_ledger.specs.Spelling.{whole, feeding};
+ghost use Rattle.orc_ledger.specs.Taking.{taker, crossed};
+ghost use Rattle.orc_ledger.specs.Records.{its_env, its_path, standing};
+ghost use Rattle.orc_ledger.specs.Calls.{Crosses, IsRefused};
+ghost use Rattle.orc_ledger.specs.declared.records.Standing.TheVariants.{At};
+
+use crate::ledger::{Ledger, LedgerFault, Program, push_within, reserve, write};
+use crate::records::{Standing, Token};
+use crate::taking::leave_others;
+use orc_names::{Bound, Scope};
+use orc_rules::entry::Entry;
+use orc_rules::value::Value;
+
+impl<P: Program> Ledger<P> {
+    /// A publication of the program: nothing round the token takes it.
+    fn publish(&mut self, index: usize, token: Token, value: Value) -> Result<(), LedgerFault>
+        requires there { index < length self.old.tokens }
+        requires is { token ≡ slice_index_or self.old.tokens index token }
+        requires form { standing (code P.listing) (its_env (code P.listing) self.old) token.standing ≡ param (Is value) }
+        requires takes { taker (its_path (code P.listing) self.old token.step) ≡ whole }
+        ensures done { IfOk result (λ _. Crosses self.old self.new token [] [] (crossed (its_path (code P.listing) self.old token.step)) (Publish token.serial value)) }
+        ensures refused { OnErr result (self.new ≡ self.old) }
+        ensures why { IfErr result (λ fault. IsRefused self.old 0 0 0 fault) }
+    {
+        self.within(0, 0, 0)?;
+        write(&mut self.journal, &Entry::Publish(token.serial, value))?;
+        self.entries += 1;
+        self.tokens.swap_remove(index);
+        leave_others(&mut self.steps, token.step);
+        Ok(())
+    }
+
+    /// A `>x>` takes what the token publishes: a token on a copy of its right side.
+    fn send(
+        &mut self,
+        index: usize,
+        token: Token,
+        value: Value,
+        name: u32,
+        right: usize,
+        scope: usize,
+        outer: usize,
+    ) -> Result<(), LedgerFault>
+        requires there { index < length self.old.tokens }
+        requires is { token ≡ slice_index_or self.old.tokens index token }
+        requires form { standing (code P.listing) (its_env (code P.listing) self.old) token.standing ≡ param (Is value) }
+        requires takes { taker (its_path (code P.listing) self.old token.step) ≡ feeding name (close (without name (its_env (code P.listing) self.old scope)) (code P.listing right)) (its_path (code P.listing) self.old outer) }
+        requires fits { (scope ≤ length self.old.scopes) × (outer ≤ length self.old.steps) }
+        ensures done { IfOk result (λ _. Crosses self.old self.new token (record { serial = self.old.next_mark; standing = At right (length self.old.scopes + 1); step = outer } ∷ []) (record { name = name; bound = Bound.Is value; outer = scope } ∷ []) (crossed (its_path (code P.listing) self.old token.step)) (Send token.serial self.old.next_mark value)) }
+        ensures refused { OnErr result (self.new ≡ self.old) }
+        ensures why { IfErr result (λ fault. IsRefused self.old 0 0 0 fault) }
+    {
+        self.within(0, 0, 0)?;
+        reserve(&mut self.scopes)?;
+        let mark = self.next_mark;
+        write(&mut self.journal, &Entry::Send(token.serial, mark, value))?;
+        self.entries += 1;
+        self.tokens.swap_remove(index);
+        leave_others(&mut self.steps, token.step);
+        push_within(
+            &mut self.scopes,
+            Scope {
+                name,
+                bound: Bound::Is(value),
+                outer: scope,
+            },
+        );
+        push_within(
+            &mut self.tokens,
+            Token {
+                serial: mark,
+                standing: Standing::At(right, self.scopes.len()),
+                step: outer,
+            },
+        );
+        self.next_mark = mark + 1;
+        Ok(())
+    }
+}
