@@ -1,0 +1,94 @@
+//! How many calls there were of each site with the same arguments.
+
+ghost use Rattle.std.specs.Prelude.{◌≡◌, ◌≤◌, [], OnOk, OnErr};
+ghost use Rattle.orc_calls.specs.Counting.{nth_in, CountsOne, CountsCall, NextFound};
+
+use crate::key::Key;
+use orc_rules::answers::Answers;
+use orc_rules::value::{Args, Found};
+use std::alloc::{AllocError, Global};
+use std::collections::BTreeMap;
+use std::marker::Model;
+
+/// Which call the next one is of a site with the same arguments, from 1, by their key; 1 where there is no such key. Only the calls of sites
+/// that scripts answer are counted, since no other site's answers depend on it. Which calls of a run are counted is `AreCounted`.
+#[derive(Drop)]
+pub struct Counts {
+    next: BTreeMap<Vec<u64>, u64>,
+    alloc: Global,
+}
+
+impl Model for Counts {
+    ghost use Rattle.std.specs.Prelude.{ℕ, ◌≤◌, List, map};
+    ghost use Rattle.std.specs.List.{All};
+    ghost use Rattle.std.specs.Map.{values_of};
+    ghost use Rattle.orc_calls.specs.Counting.{entry_of};
+
+    ghost Value = { List (List ℕ × ℕ) };
+
+    ghost view = { λ c. map entry_of c.next.entries };
+
+    ghost invariant = { λ c. All (λ n. 1 ≤ n) (values_of c.next.entries) };
+}
+
+impl Counts {
+    /// No calls.
+    pub fn new(alloc: Global) -> Counts
+        ensures { result ≡ [] }
+    {
+        Counts {
+            next: BTreeMap::new(alloc),
+            alloc,
+        }
+    }
+
+    /// Which call of a site with these arguments the next one is, from 1; 1 for a site whose calls aren't counted.
+    pub fn nth(&self, site: u32, args: &Args) -> u64
+        ensures nth { result ≡ nth_in self.now site args.now }
+        ensures from_1 { 1 ≤ result }
+    {
+        let key = Key::of(site, args);
+        match self.next.get(key.as_slice()) {
+            Some(next) => *next,
+            None => 1,
+        }
+    }
+
+    /// What the table of sites says of the next call of a site with these arguments.
+    pub fn found(&self, answers: &Answers, site: u32, args: &Args) -> Found
+        ensures { NextFound answers.now.sites self.now site args.now result }
+    {
+        if answers.is_scripted(site) {
+            answers.find(site, args, self.nth(site, args))
+        } else {
+            answers.find(site, args, 1)
+        }
+    }
+
+    /// A call of a site with these arguments is made: it is counted where the table has a script for the site. The error is refused memory;
+    /// nothing changes then.
+    pub fn add(&mut self, answers: &Answers, site: u32, args: &Args) -> Result<(), AllocError>
+        ensures added { OnOk result (CountsCall answers.now.sites site args.now self.old self.new) }
+        ensures refused { OnErr result (self.new ≡ self.old) }
+    {
+        if answers.is_scripted(site) {
+            self.add_one(site, args)?;
+        }
+        Ok(())
+    }
+
+    // One more call of a site with these arguments. Where memory is refused nothing changes.
+    fn add_one(&mut self, site: u32, args: &Args) -> Result<(), AllocError>
+        ensures added { OnOk result (CountsOne site args.now self.old self.new) }
+        ensures refused { OnErr result (self.new ≡ self.old) }
+    {
+        let Some(next) = self.nth(site, args).checked_add(1) else {
+            // No memory holds 2^64 calls.
+            return Err(AllocError);
+        };
+        let key = Key::of(site, args);
+        let words = Vec::from_slice(self.alloc, key.as_slice())?;
+        self.next.insert(words, next)?;
+        Ok(())
+    }
+}

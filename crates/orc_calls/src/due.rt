@@ -1,0 +1,36 @@
+//! When a call is due.
+
+ghost use Rattle.std.specs.Prelude.{◌≡◌, IfOk, IfErr};
+ghost use Rattle.orc_calls.specs.Due.{due_by, DueNow, IsNotDue};
+
+use orc_rules::entry::RuleFault;
+use orc_rules::value::{Answer, Found};
+
+/// The time at which a call is due, in units of logical time: that of the call and its delay. None where the table says never, or the sum is
+/// over the greatest time, 2^64 - 1.
+pub fn due_time(found: Found, made_at: u64) -> Option<u64>
+    ensures { result ≡ due_by made_at found }
+{
+    match found {
+        Found::Never => None,
+        Found::After(_, delay) => made_at.checked_add(delay),
+    }
+}
+
+/// Whether a call is due now with this answer. The error is Answer where the table says another one or never, and Time where the call is due
+/// at another time or over the greatest one.
+pub fn check_due(found: Found, made_at: u64, answer: Answer, now: u64) -> Result<(), RuleFault>
+    ensures due { IfOk result (λ _. DueNow made_at found answer now) }
+    ensures not_due { IfErr result (λ r. IsNotDue made_at found answer now r) }
+{
+    match found {
+        Found::After(given, delay) if given == answer => {
+            if made_at.checked_add(delay) == Some(now) {
+                Ok(())
+            } else {
+                Err(RuleFault::Time)
+            }
+        }
+        _ => Err(RuleFault::Answer),
+    }
+}

@@ -1,0 +1,76 @@
+// A site with its arguments as a list of numbers, by which a map finds them.
+
+ghost use Rattle.std.specs.Prelude.{◌≡◌, ◌<◌, ◌++◌, ◌∷◌, [], length};
+ghost use Rattle.orc_calls.specs.Counting.{kind_of, amount_of, key};
+
+use orc_rules::value::{Args, Value};
+use std::marker::Model;
+
+/// The site, and two numbers for each argument: its kind, and which of its kind it is.
+#[derive(Drop)]
+pub(crate) struct Key {
+    words: [u64; 33],
+    len: usize,
+}
+
+impl Model for Key {
+    ghost use Rattle.std.specs.Prelude.{ℕ, ◌≤◌, List, take};
+
+    ghost Value = { List ℕ };
+
+    ghost view = { λ k. take k.len k.words };
+
+    ghost invariant = { λ k. k.len ≤ 33 };
+}
+
+fn kind_of(value: Value) -> u64
+    ensures { result ≡ kind_of value }
+{
+    match value {
+        Value::Number(n) => { if n < 0 { 1 } else { 0 } }
+        Value::Truth(_) => 2,
+        Value::Signal => 3,
+    }
+}
+
+fn amount_of(value: Value) -> u64
+    ensures { result ≡ amount_of value }
+{
+    match value {
+        Value::Number(n) => n.unsigned_abs(),
+        Value::Truth(truth) => { if truth { 1 } else { 0 } }
+        Value::Signal => 0,
+    }
+}
+
+impl Key {
+    /// The key of a site with these arguments.
+    pub(crate) fn of(site: u32, args: &Args) -> Key
+        ensures { result ≡ key site args.now }
+    {
+        let mut key = Key {
+            words: [site as u64; 33],
+            len: 1,
+        };
+        for value in args.as_slice() {
+            key.push(kind_of(*value));
+            key.push(amount_of(*value));
+        }
+        key
+    }
+
+    fn push(&mut self, word: u64)
+        requires { length self.old < 33 }
+        ensures { self.new ≡ self.old ++ word ∷ [] }
+    {
+        self.words[self.len] = word;
+        self.len += 1;
+    }
+
+    /// The numbers in their order.
+    pub(crate) fn as_slice(&self) -> &[u64]
+        ensures { result.now ≡ self.now }
+    {
+        &self.words[..self.len]
+    }
+}

@@ -1,0 +1,9 @@
+//! The calls of a run: how many there were of each site with the same arguments, what the table of sites says of the next one, and when a call is due.
+#![tactic(auto)]
+
+mod counts;
+mod due;
+mod key;
+
+pub use counts::Counts;
+pub use due::{check_due, due_time};
