@@ -1,14 +1,14 @@
 -- A new book is lawful, and what its tables note is so: the definitions ask nothing that can't be.
-use Rattle.std.proofs.Common.{◌≡◌, ◌≤◌, ℕ, zero, suc, List, [], ◌∷◌, refl, sym, ap, subst, arith, inl, inr, Option, Some, None, false}
+use Rattle.std.proofs.Common.{◌≡◌, ◌≤◌, ℕ, zero, suc, List, [], ◌∷◌, ◌+◌, refl, sym, ap, subst, arith, inl, inr, Option, Some, None, Bool, true, false, cond, nat_eq}
 use Rattle.std.specs.Prelude.{slice_get}
 use Rattle.orc_rules.specs.Nodes.{Listing, source}
 use Rattle.orc_rules.specs.Sites.{Site}
 use Rattle.orc_rules.specs.Journal.{begin}
 use Rattle.orc_rules.specs.Timed.{IsIn}
 use Rattle.orc_names.specs.declared.names.Bound.TheVariants as bound
-use Rattle.orc_ledger.specs.Records.{Records, Lawful}
+use Rattle.orc_ledger.specs.Records.{Records, Lawful, group_at}
 use Rattle.orc_ledger.specs.Homes.{home, home_by, Nest, AreNests}
-use Rattle.orc_ledger.specs.Next.{Numbers, AreGrouped, IsSide}
+use Rattle.orc_ledger.specs.Next.{AreGrouped, IsSide, opens, numbers_of}
 use Rattle.orc_ledger.specs.Told.{AreTold}
 use Rattle.orc_ledger.specs.declared.records.Standing.TheVariants.{At}
 use Rattle.orc_ledger.specs.declared.records.Token.{Token}
@@ -39,9 +39,6 @@ abbrev pub the_root : ℕ → Option Nest
 the_root zero = Some (record { step = 0; parent = 0 })
 the_root (suc k) = None
 
-abbrev pub in_the_root : Numbers
-in_the_root = record { token = λ t. 0; call = λ c. 0; number = λ g. 0; parent = λ g. 0 }
-
 no_own : (c d : ℕ) → slice_get (bound.Void ∷ []) c ≡ Some (bound.Cell d) → c ≡ d
 no_own zero d h = cc h
 no_own (suc c) d h = cc h
@@ -67,7 +64,7 @@ is_root : (g : ℕ) (n : Nest) → the_root g ≡ Some n → g ≡ 0
 is_root zero n h = refl
 is_root (suc k) n h = cc h
 
-pub begun-grouped : (limit root : ℕ) → AreGrouped in_the_root (begun limit root)
+pub begun-grouped : (limit root : ℕ) → AreGrouped (numbers_of (begun limit root)) (begun limit root)
 begun-grouped limit root =
     record {
       homes = [];
@@ -75,14 +72,20 @@ begun-grouped limit root =
       groups = the_root;
       nests = record { root = λ g n h e. is_root g n h; above = λ g n k p h e i. cc i; there = λ g n k h e. absurd (omega (arith, one_root g n h, e)) };
       root = (record { step = 0; parent = 0 }, refl, refl);
-      tokens = λ t i. (record { step = 0; parent = 0 }, refl, home_is t i);
+      tokens = λ t i. (record { step = 0; parent = 0 }, group_is t i, home_is t i);
       calls = λ c i. elim i [ ];
       sides = λ g i. elim i [ ];
       listed = λ i w k h e. absurd (omega (arith, one_root i w h, e));
+      once = λ i. omega arith;
+      feeds = λ k p h. cc h;
     }
   where
     first : Token
     first = record { serial = 1; standing = At root 0; step = 0 }
+
+    group_is : (t : Token) → IsIn t (Records.tokens (begun limit root)) → the_root (group_at [] t.step) ≡ Some (record { step = 0; parent = 0 })
+    group_is t (inl e) = ap (λ (z : Token). the_root (group_at [] z.step)) e
+    group_is t (inr i) = elim i [ ]
 
     home_is : (t : Token) → IsIn t (Records.tokens (begun limit root)) → 0 ≡ home [] t.step
     home_is t (inl e) = ap (λ (z : Token). home [] z.step) (sym e)
@@ -110,9 +113,6 @@ abbrev two_groups : ℕ → Option Nest
 two_groups zero = Some (record { step = 0; parent = 0 })
 two_groups (suc zero) = Some (record { step = 1; parent = 0 })
 two_groups (suc (suc k)) = None
-
-abbrev by_two : Numbers
-by_two = record { token = λ t. t.step; call = λ c. 0; number = λ g. 1; parent = λ g. 0 }
 
 abbrev nest_is : ℕ → ℕ → Nest
 nest_is a b = record { step = a; parent = b }
@@ -152,7 +152,7 @@ side_homes : (k : ℕ) (p : Step) → slice_get (aid_step ∷ []) k ≡ Some p �
 side_homes zero p h = ap (λ (z : Step). home_by (1 ∷ []) 1 z z.entered) (sym (one_step 0 p h).1)
 side_homes (suc k) p h = cc h
 
-pub side-grouped : (limit root : ℕ) → AreGrouped by_two (with_side (begun limit root))
+pub side-grouped : (limit root : ℕ) → AreGrouped (numbers_of (with_side (begun limit root))) (with_side (begun limit root))
 side-grouped limit root =
     record {
       homes = 1 ∷ [];
@@ -164,18 +164,27 @@ side-grouped limit root =
       calls = λ c i. elim i [ ];
       sides = of_side;
       listed = listed;
+      once = λ i. once i (nat_eq i 1);
+      feeds = feeds;
     }
   where
-    in_groups : (t : Token) → IsIn t (Records.tokens (with_side (begun limit root))) → (w : Nest) × (two_groups t.step ≡ Some w) × (w.step ≡ home (1 ∷ []) t.step)
-    in_groups t (inl e) = (nest_is 0 0, ap (λ (z : Token). two_groups z.step) e, ap (λ (z : Token). home (1 ∷ []) z.step) (sym e))
-    in_groups t (inr (inl e)) = (nest_is 1 0, ap (λ (z : Token). two_groups z.step) e, ap (λ (z : Token). home (1 ∷ []) z.step) (sym e))
+    in_groups : (t : Token) → IsIn t (Records.tokens (with_side (begun limit root))) → (w : Nest) × (two_groups (group_at (aid_step ∷ []) t.step) ≡ Some w) × (w.step ≡ home (1 ∷ []) t.step)
+    in_groups t (inl e) = (nest_is 0 0, ap (λ (z : Token). two_groups (group_at (aid_step ∷ []) z.step)) e, ap (λ (z : Token). home (1 ∷ []) z.step) (sym e))
+    in_groups t (inr (inl e)) = (nest_is 1 0, ap (λ (z : Token). two_groups (group_at (aid_step ∷ []) z.step)) e, ap (λ (z : Token). home (1 ∷ []) z.step) (sym e))
     in_groups t (inr (inr i)) = elim i [ ]
 
-    of_side : (g : Group) → IsIn g (aid_group ∷ []) → (w : Nest) × (k : ℕ) × (p : Step) × (two_groups 1 ≡ Some w) × (w.parent ≡ 0) × (w.step ≡ suc k) × (slice_get (aid_step ∷ []) k ≡ Some p) × (p.outer ≡ g.outer) × IsSide p.entered g.side
-    of_side g (inl e) = (nest_is 1 0, 0, aid_step, refl, refl, refl, refl, ap (λ (z : Group). z.outer) (sym e), subst (λ (z : Group). IsSide (Aid 1) z.side) (sym e) refl)
+    of_side : (g : Group) → IsIn g (aid_group ∷ []) → (w : Nest) × (k : ℕ) × (p : Step) × (two_groups g.number ≡ Some w) × (w.parent ≡ group_at (aid_step ∷ []) g.outer) × (w.step ≡ suc k) × (slice_get (aid_step ∷ []) k ≡ Some p) × (p.outer ≡ g.outer) × IsSide p.entered g.side
+    of_side g (inl e) = (nest_is 1 0, 0, aid_step, ap (λ (z : Group). two_groups z.number) e, ap (λ (z : Group). group_at (aid_step ∷ []) z.outer) (sym e), refl, refl, ap (λ (z : Group). z.outer) (sym e), subst (λ (z : Group). IsSide (Aid 1) z.side) (sym e) refl)
     of_side g (inr i) = elim i [ ]
 
-    listed : (i : ℕ) (w : Nest) (k : ℕ) → two_groups i ≡ Some w → w.step ≡ suc k → (g : Group) × IsIn g (aid_group ∷ []) × (1 ≡ i)
+    once : (i : ℕ) (b : Bool) → cond {A = ℕ} b 1 0 + 0 ≤ 1
+    once i true = omega arith
+    once i false = omega arith
+
+    feeds : (k : ℕ) (p : Step) → slice_get (aid_step ∷ []) k ≡ Some p → opens p.entered ≡ false → p.group ≡ group_at (aid_step ∷ []) p.outer
+    feeds k p h off = cc (ap (λ (z : Step). opens z.entered) (one_step k p h).1, off)
+
+    listed : (i : ℕ) (w : Nest) (k : ℕ) → two_groups i ≡ Some w → w.step ≡ suc k → (g : Group) × IsIn g (aid_group ∷ []) × (g.number ≡ i)
     listed zero w k h e = absurd (omega (arith, step_is (nest_is 0 0) w h, e))
     listed (suc zero) w k h e = (aid_group, inl refl, refl)
     listed (suc (suc i)) w k h e = cc h

@@ -161,6 +161,21 @@ pub record Resumes (s s' : Records) (g : Group) (n node scope : ℕ) : Type 0 wh
   pub steps : s'.steps ≡ s.steps
   pub cells : s'.cells ≡ s.cells
 
+-- the group g goes, and nothing else
+pub record Closes (s s' : Records) (g : Group) : Type 0 where
+  pub limit : s'.limit ≡ s.limit
+  pub journal : s'.journal ≡ s.journal
+  pub entries : s'.entries ≡ s.entries
+  pub mark : s'.next_mark ≡ s.next_mark
+  pub now : s'.now ≡ s.now
+  pub made : s'.made ≡ s.made
+  pub tokens : s'.tokens ≡ s.tokens
+  pub calls : s'.calls ≡ s.calls
+  pub groups : (w : Group → ℕ) → weight w s'.groups + w g ≡ weight w s.groups
+  pub scopes : s'.scopes ≡ s.scopes
+  pub steps : s'.steps ≡ s.steps
+  pub cells : s'.cells ≡ s.cells
+
 -- the path is inside the left side of otherwise n
 abbrev pub within : ℕ → Path → Bool
 within n whole = false

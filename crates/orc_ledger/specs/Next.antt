@@ -1,5 +1,5 @@
 -- What a book does next, as a function of its records and of the groups that the tables note.
-use Rattle.std.specs.Prelude.{◌≡◌, ℕ, zero, suc, ◌+◌, ◌^◌, List, [], ◌∷◌, cond, nat_eq, nat_lt, Option, Some, None, slice_get}
+use Rattle.std.specs.Prelude.{◌≡◌, ℕ, zero, suc, ◌+◌, ◌^◌, List, [], ◌∷◌, Bool, true, false, cond, nat_eq, nat_lt, ◌≤◌, Option, Some, None, slice_get}
 use Rattle.orc_rules.specs.declared.value.Found.{Found}
 use Rattle.orc_rules.specs.declared.value.Found.TheVariants.{After, Never}
 use Rattle.orc_rules.specs.Term.{Term, Definition}
@@ -11,7 +11,7 @@ use Rattle.orc_ledger.specs.Homes.{home, AreHomes, Nest, AreNests}
 use Rattle.orc_ledger.specs.declared.records.Token.{Token}
 use Rattle.orc_ledger.specs.declared.records.Call.{Call}
 use Rattle.orc_ledger.specs.declared.records.Entered.{Entered}
-use Rattle.orc_ledger.specs.declared.records.Entered.TheVariants.{Aid, Try}
+use Rattle.orc_ledger.specs.declared.records.Entered.TheVariants.{Feed, Aid, Try}
 use Rattle.orc_ledger.specs.declared.records.Step.{Step}
 use Rattle.orc_ledger.specs.declared.records.Side.{Side}
 use Rattle.orc_ledger.specs.declared.records.Side.TheVariants.{Right, Left}
@@ -71,6 +71,12 @@ IsSide (Aid c) (Right d) = c ≡ d
 IsSide (Try m) (Left n g scope) = m ≡ n
 IsSide _ _ = ⊥
 
+-- the step enters a side that is a group
+abbrev pub opens : Entered → Bool
+opens (Feed x g scope) = false
+opens (Aid c) = true
+opens (Try n) = true
+
 -- what the tables keep of groups: each token, call and group is in the group of its home; each group has a step of its side
 pub record AreGrouped (n : Numbers) (s : Records) : Type 0 where
   pub homes : List ℕ
@@ -82,6 +88,10 @@ pub record AreGrouped (n : Numbers) (s : Records) : Type 0 where
   pub calls : (c : Call) → IsIn c s.calls → (w : Nest) × (groups (n.call c) ≡ Some w) × (w.step ≡ home homes c.step)
   pub sides : (g : Group) → IsIn g s.groups → (w : Nest) × (k : ℕ) × (p : Step) × (groups (n.number g) ≡ Some w) × (w.parent ≡ n.parent g) × (w.step ≡ suc k) × (slice_get s.steps k ≡ Some p) × (p.outer ≡ g.outer) × IsSide p.entered g.side
   pub listed : (i : ℕ) (w : Nest) (k : ℕ) → groups i ≡ Some w → w.step ≡ suc k → (g : Group) × IsIn g s.groups × (n.number g ≡ i)
+  -- no two have one number
+  pub once : (i : ℕ) → weight (λ (g : Group). is_this i (n.number g)) s.groups ≤ 1
+  -- the left side of a `>x>` is in the group round it
+  pub feeds : (k : ℕ) (p : Step) → slice_get s.steps k ≡ Some p → opens p.entered ≡ false → p.group ≡ group_at s.steps p.outer
 
 -- ---- what comes next
 

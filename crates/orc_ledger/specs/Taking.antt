@@ -1,5 +1,5 @@
 -- What takes a publication.
-use Rattle.std.specs.Prelude.{◌≡◌, ◌≤◌, ℕ, List, [], ◌∷◌, Bool, Some, slice_get}
+use Rattle.std.specs.Prelude.{◌≡◌, ◌≤◌, ℕ, zero, suc, List, [], ◌∷◌, Bool, Option, Some, None, slice_get}
 use Rattle.orc_rules.specs.Term.{Term}
 use Rattle.orc_names.specs.Scopes.{Env, close, without}
 use Rattle.orc_ledger.specs.Spelling.{Path, whole, feeding, aiding, trying, seen}
@@ -31,3 +31,17 @@ Takes code env left steps from (by.Aid c) = (p : Path) × (taker (seen left (pat
 -- the same whatever the names stand for and whatever has been left
 abbrev pub GoesTo : List Step → ℕ → Taker → Type 0
 GoesTo steps from t = (code : ℕ → Term) (env : ℕ → Env) (left : ℕ → Bool) → Takes code env left steps from t
+
+abbrev pub outer_of : Option Step → ℕ
+outer_of (Some p) = p.outer
+outer_of None = 0
+
+-- the step round a step; round step 0 there is none but itself
+abbrev pub outer_at : List Step → ℕ → ℕ
+outer_at ss zero = 0
+outer_at ss (suc k) = outer_of (slice_get ss k)
+
+-- n steps outwards from a step
+abbrev pub reach : List Step → ℕ → ℕ → ℕ
+reach ss zero i = i
+reach ss (suc n) i = outer_at ss (reach ss n i)
