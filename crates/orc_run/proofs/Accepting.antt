@@ -71,6 +71,7 @@ run_of l m t limit o d s r =
       ends = subst (λ (y : Context). EndsAt y limit o.journal r.place o.end) x r.ends;
       paid = r.paid;
       now = r.now;
+      within = r.within;
     }
 
 -- ---- the journal's text

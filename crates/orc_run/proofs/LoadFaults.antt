@@ -2,7 +2,7 @@
 use Rattle.std.proofs.Common.{ℕ, List}
 use Rattle.std.specs.declared.option.Option.{Option}
 use Rattle.std.specs.Io.KnownBytes.{Keeps}
-use Rattle.orc_run.specs.Running.{IsFaultOf, IsLoadFault, LeavesAtFault}
+use Rattle.orc_run.specs.Running.{IsFaultOf, IsLoadFault, IsOther, LeavesAtFault, Loads}
 use Rattle.orc_run.specs.Checked.{IsBeyond, IsCheckFault, IsOfRun, LeavesUnjudged}
 use Rattle.orc_run.specs.declared.ending.Summary.{Summary}
 use Rattle.orc_run.specs.declared.faults.RunFault.{RunFault}
@@ -16,9 +16,19 @@ of_run source script (fault.Scope f) h = h
 of_run source script (fault.Script f) h = h
 of_run source script (fault.Journal f) h = h
 of_run source script (fault.Check f) h = h
-of_run source script fault.Memory h = tt
-of_run source script fault.Broken h = tt
+of_run source script fault.Memory h = absurd h
+of_run source script fault.Broken h = absurd h
 of_run source script (fault.Write w) h = tt
+
+pub of_other : (source script : List ℕ) (f : RunFault) → Loads source script → IsOther f → IsFaultOf source script f
+of_other source script (fault.Syntax f) loads h = absurd h
+of_other source script (fault.Scope f) loads h = absurd h
+of_other source script (fault.Script f) loads h = absurd h
+of_other source script (fault.Journal f) loads h = absurd h
+of_other source script (fault.Check f) loads h = absurd h
+of_other source script fault.Memory loads h = loads
+of_other source script fault.Broken loads h = loads
+of_other source script (fault.Write w) loads h = absurd h
 
 pub run_left : (source script : List ℕ) (options : Options) (old new : Option (List ℕ)) (f : RunFault) → IsLoadFault source script f → Keeps old new → LeavesAtFault source script options old new f
 run_left source script options old new (fault.Syntax f) h keeps = keeps
@@ -59,7 +69,7 @@ beyond source script journal s (fault.Scope f) of (r, u, spells, says, blamed) =
 beyond source script journal s (fault.Script f) of h =
     let (options, kept, run) = of in
     let (l, t, said, program, told) = run in
-    script_beyond script t f said h
+    script_beyond script t f said h.1
 beyond source script journal s (fault.Journal f) of h = absurd h
 beyond source script journal s (fault.Check f) of h = absurd h
 beyond source script journal s fault.Memory of h = h

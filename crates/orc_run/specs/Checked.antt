@@ -16,7 +16,7 @@ use Rattle.orc_site.specs.Script.{Says}
 use Rattle.orc_journal.specs.declared.text.JournalFault.TheVariants as journal
 use Rattle.orc_journal.specs.Texts.{Written, IsJournal, IsFault as IsBadText}
 use Rattle.orc_checker.specs.Checker.{context}
-use Rattle.orc_verdict.specs.Verdicts.{records_cancels}
+use Rattle.orc_verdict.specs.Verdicts.{records_cancels, IsCutShort}
 use Rattle.orc_run.specs.Faults.{state_word}
 use Rattle.orc_run.specs.Output.{AppendsPrefix}
 use Rattle.orc_run.specs.Running.{IsProgramOf, IsFaultOf, Runs}
@@ -50,6 +50,7 @@ abbrev pub IsCheckFault : List ℕ → List ℕ → List ℕ → RunFault → Ty
 IsCheckFault text script journal (fault.Journal f) = (l : Listing) × (t : Table) × Says script t × IsProgramOf text t l × IsBadText t.names journal f
 IsCheckFault text script journal (fault.Check f) = (l : Listing) × (t : Table) × (j : Written) × Says script t × IsProgramOf text t l × IsJournal t.names journal j
     × (f.why ≢ reason.Memory → Faults (context l t (records_cancels j.version)) (source l) j.entries f.at f.why)
+    × (f.why ≡ reason.Memory → IsCutShort (context l t (records_cancels j.version)) (source l) j.entries f.at)
 IsCheckFault text script journal fault.Memory = ⊥
 IsCheckFault text script journal fault.Broken = ⊥
 IsCheckFault text script journal f = IsFaultOf text script f

@@ -62,19 +62,23 @@ abbrev pub LeavesAtFault : List ℕ → List ℕ → Options → Option (List �
 LeavesAtFault source script options old new (fault.Write w) = (s : Summary) × (text : List ℕ) × Runs source script options s text × AppendsPrefix old new text
 LeavesAtFault source script options old new _ = Keeps old new
 
--- why no program is loaded: its source or its script has this fault, of the source's text, unless memory ran out, or of its names
+-- why no program is loaded: this fault is one of the source's text, unless memory ran out; of the script, where the text is a program's; or of its names, where the script is one too
 abbrev pub IsLoadFault : List ℕ → List ℕ → RunFault → Type 0
 IsLoadFault source script (fault.Syntax f) = IfFault (Err f) (IsFault source)
 IsLoadFault source script (fault.Scope f) = (s : Source) × (t : Table) × SpellsText source s × Says script t × Checks t.names s (Err f)
-IsLoadFault source script (fault.Script f) = IsBad script f
+IsLoadFault source script (fault.Script f) = ((s : Source) × SpellsText source s) × IsBad script f
 IsLoadFault source script _ = ⊥
 
--- the fault of a run: why no program is loaded, or one that is neither of the source nor of the script
+-- the source spells a program, with the sites that the script says
+abbrev pub Loads : List ℕ → List ℕ → Type 0
+Loads source script = (l : Listing) × (t : Table) × Says script t × IsProgramOf source t l
+
+-- the fault of a run: why no program is loaded; or one of memory or the engine, where one is; or one of the output
 abbrev pub IsFaultOf : List ℕ → List ℕ → RunFault → Type 0
 IsFaultOf source script (fault.Journal f) = ⊥
 IsFaultOf source script (fault.Check f) = ⊥
-IsFaultOf source script fault.Memory = Unit {0}
-IsFaultOf source script fault.Broken = Unit {0}
+IsFaultOf source script fault.Memory = Loads source script
+IsFaultOf source script fault.Broken = Loads source script
 IsFaultOf source script (fault.Write w) = Unit {0}
 IsFaultOf source script f = IsLoadFault source script f
 

@@ -1,5 +1,5 @@
 -- What a run of a program is.
-use Rattle.std.specs.Prelude.{◌≡◌, ℕ, List, [], ◌∷◌, ◌++◌, length, Bool, true}
+use Rattle.std.specs.Prelude.{◌≡◌, ◌≤◌, ℕ, List, [], ◌∷◌, ◌++◌, length, Bool, true}
 use Rattle.orc_rules.specs.declared.value.Value.{Value}
 use Rattle.orc_rules.specs.declared.entry.Entry.{Entry}
 use Rattle.orc_rules.specs.Term.{Halted}
@@ -56,12 +56,12 @@ pub record IsReached (l : Listing) (t : Table) (keeps : Bool) (turns : ℕ) (sto
 abbrev pub Settles : Listing → Table → Story → Story → Type 0
 Settles l t old new = (keeps : Bool) (es : List Entry) (p : Place) → IsStory l t keeps old es p → IsReached l t keeps (count es) new
 
--- a run of at most `limit` entries, cancels not counted, ends so: Halted where its term has halted, Quiet by the definition of quiet, Limit with as many entries as the limit
+-- a run with this limit of entries, cancels not counted, ends so: Halted where its term has halted, Quiet by the definition of quiet, Limit with as many entries as the limit where it isn't quiet, Full never
 abbrev pub EndsAt : Context → ℕ → List Entry → Place → End → Type 0
 EndsAt x limit es p ends.Halted = Halted (erase p.marked)
 EndsAt x limit es p ends.Quiet = IsQuiet x (moment p)
-EndsAt x limit es p ends.Limit = count es ≡ limit
-EndsAt x limit es p ends.Full = Unit {0}
+EndsAt x limit es p ends.Limit = (count es ≡ limit) × (IsQuiet x (moment p) → ⊥)
+EndsAt x limit es p ends.Full = ⊥
 EndsAt x limit es p ends.Memory = Unit {0}
 
 -- what a whole run was: its journal, how it ended, and the time at its end
@@ -70,16 +70,18 @@ pub record Outcome : Type 0 where
   pub end : End
   pub now : ℕ
 
--- a run of the program with these sites: the journal leads by the rules from the program's term to a place where it ends so and no cancel is due
+-- a run of the program with these sites: the journal has at most `limit` entries, cancels not counted, and leads by the rules from the program's term to a place where it ends so and no cancel is due
 pub record IsRun (l : Listing) (t : Table) (limit : ℕ) (outcome : Outcome) : Type 0 where
   pub place : Place
   pub leads : Journal (context l t) (begin (source l)) outcome.journal place
   pub ends : EndsAt (context l t) limit outcome.journal place outcome.end
   pub paid : place.to_cancel ≡ []
   pub now : outcome.now ≡ place.now
+  pub within : count outcome.journal ≤ limit
 
 -- a story whose run has ended so
 pub record IsPlayed (l : Listing) (t : Table) (keeps : Bool) (limit : ℕ) (story : Story) (end : End) : Type 0 where
   pub turns : ℕ
   pub reached : IsReached l t keeps turns story
+  pub within : turns ≤ limit
   pub ends : EndsAt (context l t) limit reached.journal reached.place end

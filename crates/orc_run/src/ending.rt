@@ -10,9 +10,9 @@ pub enum End {
     Halted,
     /// Nothing can happen any more, though the term has not halted.
     Quiet,
-    /// The journal has as many entries as the limit allows, and something can still happen.
+    /// The journal has as many entries as the limit allows, and the run is not quiet.
     Limit,
-    /// The term would nest too deep.
+    /// A number that the engine keeps of a run has reached its greatest value. The plain engine has no such number.
     Full,
     /// Memory was refused.
     Memory,

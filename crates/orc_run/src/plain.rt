@@ -31,16 +31,12 @@ pub enum PlayFault {
 
 // What an entry that was not applied ends.
 fn refusal(history: History, fault: RuleFault) -> Result<Played, PlayFault>
-    ensures { (l : Listing) (t : Table) (keeps : Bool) (turns limit : ℕ) → IsReached l t keeps turns history → IfOk result (λ p. IsPlayed l t keeps limit p.history p.end) }
+    ensures { (l : Listing) (t : Table) (keeps : Bool) (turns limit : ℕ) → turns ≤ limit → IsReached l t keeps turns history → IfOk result (λ p. IsPlayed l t keeps limit p.history p.end) }
 {
     match fault {
         RuleFault::Memory => Ok(Played {
             history,
             end: End::Memory,
-        }),
-        RuleFault::Deep => Ok(Played {
-            history,
-            end: End::Full,
         }),
         _ => Err(PlayFault::Broken),
     }
@@ -48,7 +44,7 @@ fn refusal(history: History, fault: RuleFault) -> Result<Played, PlayFault>
 
 // How a run ends where nothing can come next.
 fn rest(mut history: History, program: &Program) -> Result<Played, PlayFault>
-    ensures { (t : Table) (keeps : Bool) (turns limit : ℕ) → IsReached program.now t keeps turns history → IfOk result (λ p. IsPlayed program.now t keeps limit p.history p.end) }
+    ensures { (t : Table) (keeps : Bool) (turns limit : ℕ) → turns ≤ limit → IsReached program.now t keeps turns history → IfOk result (λ p. IsPlayed program.now t keeps limit p.history p.end) }
 {
     if history.marked().has_halted() {
         return Ok(Played {
@@ -63,6 +59,22 @@ fn rest(mut history: History, program: &Program) -> Result<Played, PlayFault>
         });
     }
     Err(PlayFault::Broken)
+}
+
+// How a run ends whose journal has as many entries as the limit.
+fn cut(mut history: History, program: &Program, limit: u64) -> Played
+    ensures { (t : Table) (keeps : Bool) → IsReached program.now t keeps limit history → IsPlayed program.now t keeps limit result.history result.end }
+{
+    if !history.is_quiet(program) {
+        return Played {
+            history,
+            end: End::Limit,
+        };
+    }
+    Played {
+        history,
+        end: End::Quiet,
+    }
 }
 
 // Records the cancels that are due, one after another.
@@ -122,10 +134,7 @@ pub fn play(
         }
     }
     match agenda.choose(program, history.marked()) {
-        Ok(Choice::Entry(_)) => Ok(Played {
-            history,
-            end: End::Limit,
-        }),
+        Ok(Choice::Entry(_)) => Ok(cut(history, program, limit)),
         Ok(Choice::Nothing) => rest(history, program),
         Err(_) => Ok(Played {
             history,

@@ -8,19 +8,20 @@ use Rattle.orc_run.proofs.plain.rest.Goals as goal
 
 -- Halted is answered where the checker's test says so,
 pub returns-then-has_halted : goal.returns-then-has_halted
-returns-then-has_halted c t keeps turns limit reached =
+returns-then-has_halted c t keeps turns limit within reached =
     let l = c.args.program.now in
     let place = reached.place in
     let spells = subst (λ m. Spells (context l t) (code l) m place) (sym c.marked.ensures) reached.told.spells in
-    record { turns = turns; reached = reached; ends = test_halted (erase place.marked) (sym (c.has_halted.ensures (context l t) l place spells) ∙ c.if-has_halted.true) }
+    record { turns = turns; within = within; reached = reached; ends = test_halted (erase place.marked) (sym (c.has_halted.ensures (context l t) l place spells) ∙ c.if-has_halted.true) }
 
 -- and Quiet where its test does.
 pub returns-then-is_quiet : goal.returns-then-is_quiet
-returns-then-is_quiet c t keeps turns limit reached =
+returns-then-is_quiet c t keeps turns limit within reached =
     let l = c.args.program.now in
     let told = subst (λ (s : Story). IsStory l t keeps s reached.journal reached.place) (sym c.is_quiet.ensures.same) reached.told in
     record {
       turns = turns;
+      within = within;
       reached = record { journal = reached.journal; place = reached.place; told = told; paid = reached.paid; turns_are = reached.turns_are };
       ends = (c.is_quiet.ensures.quiet (context l t) reached.place refl reached.told.spells).0 c.if-is_quiet.true;
     }

@@ -1,4 +1,4 @@
-use Rattle.std.proofs.Common.{◌∙◌, ap, length, subst, sym, refl}
+use Rattle.std.proofs.Common.{◌≤◌, ◌∙◌, ap, length, subst, sym, refl}
 use Rattle.orc_rules.specs.Nodes.{code}
 use Rattle.orc_checker.specs.Checker.{Spells}
 use Rattle.orc_run.specs.Runs.{context}
@@ -12,7 +12,7 @@ returns c l t options played =
     let told = reached.told in
     record {
       outcome = record { journal = reached.journal; end = c.args.self.now.end; now = reached.place.now };
-      is_run = record { place = reached.place; leads = told.leads; ends = played.ends; paid = reached.paid; now = refl };
+      is_run = record { place = reached.place; leads = told.leads; ends = played.ends; paid = reached.paid; now = refl; within = subst (λ n. n ≤ options.limit) (sym reached.turns_are) played.within };
       tells = record {
         end = refl;
         entries = c.entries.ensures ∙ told.count;
