@@ -52,34 +52,43 @@ fn script_argument<'a>(alloc: Global) -> Arg<'a> {
         .help("The answers of the program's own sites [default: none]")
 }
 
-fn run_command<'a>(alloc: Global) -> Result<Command<'a>, AllocError> {
-    let limit = Arg::new(alloc, "limit")
+fn limit_argument<'a>(alloc: Global) -> Arg<'a> {
+    Arg::new(alloc, "limit")
         .long("limit")
         .value_name("N")
         .value_parser(value_parser!(u64).range(1..=10_000_000))
         .default_value("100000")
-        .help("The greatest number of journal entries, 1 to 10000000");
-    let journal = Arg::new(alloc, "journal")
+        .help("The greatest number of journal entries, 1 to 10000000")
+}
+
+fn journal_flag<'a>(alloc: Global) -> Arg<'a> {
+    Arg::new(alloc, "journal")
         .long("journal")
         .action(ArgAction::SetTrue)
-        .help("Write the run's journal instead of what it publishes");
+        .help("Write the run's journal instead of what it publishes")
+}
+
+fn journal_argument<'a>(alloc: Global) -> Arg<'a> {
+    Arg::new(alloc, "journal")
+        .value_name("JOURNAL")
+        .required(true)
+        .help("The journal's text")
+}
+
+fn run_command<'a>(alloc: Global) -> Result<Command<'a>, AllocError> {
     Command::new(alloc, "run")
         .about("Run a program and write what it publishes")
         .arg(file_argument(alloc))?
         .arg(script_argument(alloc))?
-        .arg(limit)?
-        .arg(journal)
+        .arg(limit_argument(alloc))?
+        .arg(journal_flag(alloc))
 }
 
 fn check_command<'a>(alloc: Global) -> Result<Command<'a>, AllocError> {
-    let journal = Arg::new(alloc, "journal")
-        .value_name("JOURNAL")
-        .required(true)
-        .help("The journal's text");
     Command::new(alloc, "check")
         .about("Check a journal against a program, by the rules")
         .arg(file_argument(alloc))?
-        .arg(journal)?
+        .arg(journal_argument(alloc))?
         .arg(script_argument(alloc))
 }
 

@@ -92,17 +92,18 @@ impl fmt::Display for ScopeLine {
 
     fn fmt<W: fmt::Write>(&self, f: &mut fmt::Formatter<W>) -> fmt::Result {
         let start = self.0.span.start;
-        match self.0.kind {
-            FaultKind::Unbound => write!(f, "C1 at {start}"),
-            FaultKind::NotValue => write!(f, "C2 at {start}"),
-            FaultKind::Arity { want: _, got: _ } => write!(f, "C3 at {start}"),
-            FaultKind::DefinedTwice => write!(f, "C4 at {start}"),
-            FaultKind::ParameterTwice => write!(f, "C5 at {start}"),
-            FaultKind::CallOfVariable => write!(f, "C6 at {start}"),
-            FaultKind::NoSite => write!(f, "C7 at {start}"),
-            FaultKind::TooMany => write!(f, "C8 at {start}"),
-            FaultKind::Memory => write!(f, "C9"),
-        }
+        let code = match self.0.kind {
+            FaultKind::Unbound => "C1",
+            FaultKind::NotValue => "C2",
+            FaultKind::Arity { want: _, got: _ } => "C3",
+            FaultKind::DefinedTwice => "C4",
+            FaultKind::ParameterTwice => "C5",
+            FaultKind::CallOfVariable => "C6",
+            FaultKind::NoSite => "C7",
+            FaultKind::TooMany => "C8",
+            FaultKind::Memory => return write!(f, "C9"),
+        };
+        write!(f, "{code} at {start}")
     }
 }
 

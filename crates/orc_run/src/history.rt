@@ -19,12 +19,22 @@ use std::alloc::{AllocError, Global};
 use std::marker::Model;
 
 /// A run so far. Of its journal the publications and the number of entries are kept, and the text where it is asked for.
-#[derive(Drop)]
 pub struct History {
     marked: Marked,
     published: Vec<Value>,
     entries: u64,
     lines: Lines,
+}
+
+impl Drop for History {
+    fn drop(self) {
+        let History {
+            marked: _,
+            published: _,
+            entries: _,
+            lines: _,
+        } = self;
+    }
 }
 
 impl Model for History {

@@ -16,10 +16,19 @@ use orc_syntax::{Ast, Span, parse};
 use std::alloc::Global;
 
 /// A program, and what answers its calls.
-#[derive(Drop)]
 pub struct Loaded {
     pub program: Program,
     pub answers: Answers,
+}
+
+// Written out, so that a caller's proof sees one call and not the drop of each field.
+impl Drop for Loaded {
+    fn drop(self) {
+        let Loaded {
+            program: _,
+            answers: _,
+        } = self;
+    }
 }
 
 const NO_MEMORY: ScopeFault = ScopeFault {
