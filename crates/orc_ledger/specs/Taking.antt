@@ -45,3 +45,9 @@ outer_at ss (suc k) = outer_of (slice_get ss k)
 abbrev pub reach : List Step → ℕ → ℕ → ℕ
 reach ss zero i = i
 reach ss (suc n) i = outer_at ss (reach ss n i)
+
+-- a `>x>` that takes a publication stands at a step round that of the token
+abbrev pub IsOnWay : List Step → ℕ → Taker → Type 0
+IsOnWay steps from by.Whole = Unit {0}
+IsOnWay steps from (by.Feed x node scope outer) = (n : ℕ) × (reach steps n from ≡ outer)
+IsOnWay steps from (by.Aid c) = Unit {0}

@@ -1,13 +1,13 @@
 //! What a token publishes: a publication of the program, or what a `>x>` takes.
 
-ghost use Rattle.std.specs.Prelude.{◌≡◌, ◌+◌, ◌<◌, ◌≤◌, ◌∷◌, [], length, slice_index_or, IfOk, IfErr, OnErr};
+ghost use Rattle.std.specs.Prelude.{◌≡◌, ◌+◌, ◌<◌, ◌≤◌, ◌∷◌, [], ℕ, length, slice_index_or, IfOk, IfErr, OnErr};
 ghost use Rattle.orc_rules.specs.Nodes.{code};
 ghost use Rattle.orc_rules.specs.Term.{param};
 ghost use Rattle.orc_rules.specs.declared.param.Param.TheVariants.{Is};
 ghost use Rattle.orc_rules.specs.declared.entry.Entry.TheVariants.{Send, Publish};
 ghost use Rattle.orc_names.specs.Scopes.{close, without};
 ghost use Rattle.orc_ledger.specs.Spelling.{whole, feeding};
-ghost use Rattle.orc_ledger.specs.Taking.{taker, crossed};
+ghost use Rattle.orc_ledger.specs.Taking.{taker, crossed, reach};
 ghost use Rattle.orc_ledger.specs.Records.{its_env, its_path, standing};
 ghost use Rattle.orc_ledger.specs.Calls.{Crosses, IsRefused};
 ghost use Rattle.orc_ledger.specs.declared.records.Standing.TheVariants.{At};
@@ -53,6 +53,7 @@ impl<P: Program> Ledger<P> {
         requires is { token ≡ slice_index_or self.old.tokens index token }
         requires form { standing (code P.listing) (its_env (code P.listing) self.old) token.standing ≡ param (Is value) }
         requires takes { taker (its_path (code P.listing) self.old token.step) ≡ feeding name (close (without name (its_env (code P.listing) self.old scope)) (code P.listing right)) (its_path (code P.listing) self.old outer) }
+        requires way { (n : ℕ) × (reach self.old.steps n token.step ≡ outer) }
         requires fits { (scope ≤ length self.old.scopes) × (outer ≤ length self.old.steps) }
         ensures done { IfOk result (λ _. Crosses self.old self.new token (record { serial = self.old.next_mark; standing = At right (length self.old.scopes + 1); step = outer } ∷ []) (record { name = name; bound = Bound.Is value; outer = scope } ∷ []) (crossed (its_path (code P.listing) self.old token.step)) (Send token.serial self.old.next_mark value)) }
         ensures refused { OnErr result (self.new ≡ self.old) }

@@ -5,7 +5,7 @@ ghost use Rattle.orc_rules.specs.Term.{Term};
 ghost use Rattle.orc_names.specs.Scopes.{Env};
 ghost use Rattle.orc_ledger.specs.Records.{path, has_left};
 ghost use Rattle.orc_ledger.specs.Spelling.{seen};
-ghost use Rattle.orc_ledger.specs.Taking.{GoesTo, AreOutwards, crossed};
+ghost use Rattle.orc_ledger.specs.Taking.{GoesTo, IsOnWay, AreOutwards, crossed};
 ghost use Rattle.orc_ledger.specs.Calls.{Publishes};
 
 use crate::records::{Entered, Step};
@@ -23,7 +23,8 @@ pub enum Taker {
 pub(crate) fn find_taker(steps: &[Step], from: usize) -> Taker
     requires within { from ≤ length steps.now }
     requires outwards { AreOutwards steps.now }
-    ensures { GoesTo steps.now from result }
+    ensures takes { GoesTo steps.now from result }
+    ensures way { IsOnWay steps.now from result }
 {
     let mut at = from;
     while at != 0 {

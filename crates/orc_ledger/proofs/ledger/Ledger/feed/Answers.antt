@@ -9,6 +9,7 @@ use Rattle.orc_ledger.specs.declared.records.Entered.TheVariants.{Feed}
 use Rattle.orc_ledger.specs.declared.records.Step.{Step}
 use Rattle.orc_ledger.proofs.Made.{turns, token_in}
 use Rattle.orc_ledger.proofs.Leaves.{feed-lawful}
+use Rattle.orc_ledger.proofs.Grouped.{fed-grouped}
 use Rattle.orc_ledger.proofs.ledger.Ledger.feed.Goals as goal
 
 pub invariant_of-self-2 : goal.invariant_of-self-2
@@ -31,7 +32,7 @@ invariant_of-self-2 g c =
     let births : List Token = born s a.token s.next_mark a.left a.scope (length s.steps + 1) ∷ [] in
     let tokens : c.push_within-2.new.items.items ≡ swap_remove s.tokens a.index a.token ++ births = c.push_within-2.ensures.items ∙ ap (λ (z : List Token). z ++ born s a.token s.next_mark a.left a.scope c.len.result ∷ []) rest ∙ ap (λ (n : ℕ). swap_remove s.tokens a.index a.token ++ born s a.token s.next_mark a.left a.scope n ∷ []) count in
     let T : IsFed s a.token a.scope a.left a.name a.right s' = turns s s' a.token a.index births [] (step ∷ []) [] [] (Seq a.token.serial b.next_mark) there is refl journal refl (omega arith) refl refl (tokens) refl (sym (append-nil s.scopes)) (steps) (sym (append-nil s.groups)) (sym (append-nil s.cells)) in
-    record { lawful = feed-lawful g.P.Program.listing g.P.Program.sites s c.self.invariant.lawful a.token (token_in s.tokens a.index a.token there is) c.requires.at.0 a.scope c.requires.at.1 a.left a.name a.right c.requires.at.2 s' room T }
+    record { lawful = feed-lawful g.P.Program.listing g.P.Program.sites s c.self.invariant.lawful a.token (token_in s.tokens a.index a.token there is) c.requires.at.0 a.scope c.requires.at.1 a.left a.name a.right c.requires.at.2 s' room T; grouped = fed-grouped g.P.Program.listing g.P.Program.sites s c.self.invariant.lawful c.self.invariant.grouped a.token (token_in s.tokens a.index a.token there is) a.scope a.left a.name a.right s' T }
 
 pub returns-clause-done : goal.returns-clause-done
 returns-clause-done g c =

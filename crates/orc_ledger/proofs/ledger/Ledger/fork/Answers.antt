@@ -7,6 +7,7 @@ use Rattle.orc_ledger.specs.Calls.{born, IsForked}
 use Rattle.orc_ledger.specs.declared.records.Token.{Token}
 use Rattle.orc_ledger.proofs.Made.{turns, token_in}
 use Rattle.orc_ledger.proofs.Leaves.{fork-lawful}
+use Rattle.orc_ledger.proofs.Grouped.{forked-grouped}
 use Rattle.orc_ledger.proofs.ledger.Ledger.fork.Goals as goal
 
 pub invariant_of-self-2 : goal.invariant_of-self-2
@@ -24,7 +25,7 @@ invariant_of-self-2 g c =
     let births : List Token = born s a.token s.next_mark a.left a.scope a.token.step ∷ born s a.token (s.next_mark + 1) a.right a.scope a.token.step ∷ [] in
     let tokens : c.push_within-2.new.items.items ≡ swap_remove s.tokens a.index a.token ++ births = c.push_within-2.ensures.items ∙ ap (λ (z : List Token). z ++ born s a.token (s.next_mark + 1) a.right a.scope a.token.step ∷ []) (c.push_within.ensures.items ∙ ap (λ (z : List Token). z ++ born s a.token s.next_mark a.left a.scope a.token.step ∷ []) rest) ∙ append_assoc (swap_remove s.tokens a.index a.token) (born s a.token s.next_mark a.left a.scope a.token.step ∷ []) (born s a.token (s.next_mark + 1) a.right a.scope a.token.step ∷ []) in
     let T : IsForked s a.token a.scope a.left a.right s' = turns s s' a.token a.index births [] [] [] [] (Fork a.token.serial b.next_mark (b.next_mark + 1)) there is refl journal refl (omega arith) refl refl (tokens) refl (sym (append-nil s.scopes)) (sym (append-nil s.steps)) (sym (append-nil s.groups)) (sym (append-nil s.cells)) in
-    record { lawful = fork-lawful g.P.Program.listing g.P.Program.sites s c.self.invariant.lawful a.token (token_in s.tokens a.index a.token there is) c.requires.at.0 a.scope c.requires.at.1 a.left a.right c.requires.at.2 s' room T }
+    record { lawful = fork-lawful g.P.Program.listing g.P.Program.sites s c.self.invariant.lawful a.token (token_in s.tokens a.index a.token there is) c.requires.at.0 a.scope c.requires.at.1 a.left a.right c.requires.at.2 s' room T; grouped = forked-grouped g.P.Program.listing g.P.Program.sites s c.self.invariant.lawful c.self.invariant.grouped a.token (token_in s.tokens a.index a.token there is) a.scope a.left a.right s' T }
 
 pub returns-clause-done : goal.returns-clause-done
 returns-clause-done g c =

@@ -11,6 +11,7 @@ use Rattle.orc_ledger.specs.Records.{Records, its_env, its_path, standing}
 use Rattle.orc_ledger.specs.Calls.{Crosses, Publishes}
 use Rattle.orc_ledger.proofs.Made.{crosses, token_in, step_in}
 use Rattle.orc_ledger.proofs.Sending.{publish-lawful}
+use Rattle.orc_ledger.proofs.Grouped.{published-grouped}
 use Rattle.orc_ledger.proofs.ledger.Ledger.publish.Goals as goal
 
 pub leave_others-requires-clause-within : goal.leave_others-requires-clause-within
@@ -43,7 +44,7 @@ invariant_of-self-2 g c =
     let marks : Publishes ns s.steps s'.steps = c.leave_others.ensures cd (its_env cd s) in
     let takes : taker (its_path cd s a.token.step) ≡ whole = rw (← c.self.view_is) at c.requires.takes in
     let T : Crosses s s' a.token [] [] ns (Publish a.token.serial a.value) = crosses s s' a.token a.index [] [] ns (Publish a.token.serial a.value) there is refl journal refl (omega arith) refl refl (left ∙ sym (append-nil (swap_remove s.tokens a.index a.token))) refl (sym (append-nil s.scopes)) marks refl refl in
-    record { lawful = publish-lawful l g.P.Program.sites s c.self.invariant.lawful a.token (token_in s.tokens a.index a.token there is) a.value form takes room s' T }
+    record { lawful = publish-lawful l g.P.Program.sites s c.self.invariant.lawful a.token (token_in s.tokens a.index a.token there is) a.value form takes room s' T; grouped = published-grouped g.P.Program.listing g.P.Program.sites s c.self.invariant.lawful c.self.invariant.grouped a.token s' ns (Publish a.token.serial a.value) T }
 
 pub returns-clause-done : goal.returns-clause-done
 returns-clause-done g c =

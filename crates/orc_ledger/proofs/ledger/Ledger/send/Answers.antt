@@ -9,13 +9,14 @@ use Rattle.orc_names.specs.declared.names.Bound.TheVariants.{Is}
 use Rattle.orc_names.specs.declared.names.Scope.{Scope}
 use Rattle.orc_names.specs.Scopes.{close, without}
 use Rattle.orc_ledger.specs.Spelling.{feeding}
-use Rattle.orc_ledger.specs.Taking.{taker, crossed}
+use Rattle.orc_ledger.specs.Taking.{taker, crossed, reach}
 use Rattle.orc_ledger.specs.Records.{Records, its_env, its_path, standing}
 use Rattle.orc_ledger.specs.Calls.{Crosses, Publishes}
 use Rattle.orc_ledger.specs.declared.records.Standing.TheVariants.{At}
 use Rattle.orc_ledger.specs.declared.records.Token.{Token}
 use Rattle.orc_ledger.proofs.Made.{crosses, token_in, step_in}
 use Rattle.orc_ledger.proofs.Sending.{send-lawful}
+use Rattle.orc_ledger.proofs.Grouped.{sent-grouped}
 use Rattle.orc_ledger.proofs.ledger.Ledger.send.Goals as goal
 
 pub leave_others-requires-clause-within : goal.leave_others-requires-clause-within
@@ -54,7 +55,8 @@ invariant_of-self-2 g c =
     let births : List Token = record { serial = s.next_mark; standing = At a.right (length s.scopes + 1); step = a.outer } ∷ [] in
     let tokens : c.push_within-2.new.items.items ≡ swap_remove s.tokens a.index a.token ++ births = c.push_within-2.ensures.items ∙ ap (λ (z : List Token). z ++ record { serial = s.next_mark; standing = At a.right c.len.result; step = a.outer } ∷ []) left ∙ ap (λ (n : ℕ). swap_remove s.tokens a.index a.token ++ record { serial = s.next_mark; standing = At a.right n; step = a.outer } ∷ []) count in
     let T : Crosses s s' a.token births (name ∷ []) ns (Send a.token.serial b.next_mark a.value) = crosses s s' a.token a.index births (name ∷ []) ns (Send a.token.serial b.next_mark a.value) there is refl journal refl (omega arith) refl refl (tokens) refl (scopes) marks refl refl in
-    record { lawful = send-lawful l g.P.Program.sites s c.self.invariant.lawful a.token (token_in s.tokens a.index a.token there is) a.value form a.name a.right a.scope a.outer fits.0 fits.1 takes room s' T }
+    let way : (n : ℕ) × (reach s.steps n a.token.step ≡ a.outer) = rw (← c.self.view_is) at c.requires.way in
+    record { lawful = send-lawful l g.P.Program.sites s c.self.invariant.lawful a.token (token_in s.tokens a.index a.token there is) a.value form a.name a.right a.scope a.outer fits.0 fits.1 takes room s' T; grouped = sent-grouped g.P.Program.listing g.P.Program.sites s c.self.invariant.lawful c.self.invariant.grouped a.token (token_in s.tokens a.index a.token there is) s' (record { serial = s.next_mark; standing = At a.right (length s.scopes + 1); step = a.outer }) (name ∷ []) ns (Send a.token.serial b.next_mark a.value) T way.0 way.1 }
 
 pub returns-clause-done : goal.returns-clause-done
 returns-clause-done g c =
