@@ -10,7 +10,7 @@ use Rattle.orc_rules.specs.declared.entry.Entry.TheVariants as entry
 use Rattle.orc_rules.specs.Journal.{moment, event_of, AreEventsOf}
 use Rattle.orc_rules.specs.Lost.{IsSource, AreSource}
 use Rattle.orc_rules.specs.Numbered.{cell, once}
-use Rattle.orc_rules.specs.Trace.{IsOutside, IsSettled, AreInside, RunsAreInside, publications, published, JournalIsExplained}
+use Rattle.orc_rules.specs.Trace.{IsOutside, LeavesAlone, AreInside, RunsAreInside, publications, published, JournalIsExplained}
 use Rattle.orc_rules.proofs.Numbered.{index, name_is, once_same, once_other, once_least}
 use Rattle.orc_rules.proofs.Explained.{journal_is_timed_run}
 use Rattle.orc_rules.proofs.Inside.{IsRunning, open_times, source_runs, source_opens, gains, sheds, IsWithin, step_runs, step_opens, step_within, step_new}
@@ -113,7 +113,7 @@ module _ (x : Context) (ds : AreSource x.definitions) where
   outside_more c (ticks t) es l o = o
   outside_more c (cancels k) es l o = o
 
-  settled_more : (c : ℕ) (e : Event) (es : List Event) → Leaves c e → IsSettled c es → IsSettled c (e ∷ es)
+  settled_more : (c : ℕ) (e : Event) (es : List Event) → Leaves c e → LeavesAlone c es → LeavesAlone c (e ∷ es)
   settled_more c (does (calls k m args cs)) es l o = o
   settled_more c (does (returns k v)) es l o = o
   settled_more c (does (binds d v)) es l o = (differs c d l.1, o)
@@ -124,7 +124,7 @@ module _ (x : Context) (ds : AreSource x.definitions) where
   settled_more c (ticks t) es l o = o
   settled_more c (cancels k) es l o = o
 
-  stays_gone : (c : ℕ) (s s' : Moment) (es : List Event) → IsHeld s → IsGone c s → Run x s es s' → IsOutside c es × IsSettled c es
+  stays_gone : (c : ℕ) (s s' : Moment) (es : List Event) → IsHeld s → IsGone c s → Run x s es s' → IsOutside c es × LeavesAlone c es
   stays_gone c s s' [] held g r = (tt, tt)
   stays_gone c s s' (e ∷ es) held g (mid, h, r) =
       let l = leaves_gone c s mid e held g h in

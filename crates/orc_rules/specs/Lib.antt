@@ -2,6 +2,7 @@ pub mod Digits
 pub mod Final
 pub mod Idle
 pub mod Journal
+pub mod Kinds
 pub mod Labels
 pub mod Lost
 pub mod Marked

@@ -1,5 +1,6 @@
 -- Why an entry is refused.
 use Rattle.std.specs.Prelude.{◌≡◌, ℕ, suc, ◌<◌, ◌≤◌, max, List, [], ◌∷◌, Some, slice_get}
+use Rattle.orc_rules.specs.declared.limits.TheConstants.{MOST_LEVELS}
 use Rattle.orc_rules.specs.declared.param.Param.{Param}
 use Rattle.orc_rules.specs.declared.value.Answer.{Answer}
 use Rattle.orc_rules.specs.declared.value.Answer.TheVariants.{Value as Gives, Halt}
@@ -140,17 +141,13 @@ MeetsBefore x p e Time = Meets x p e reason.Cancel × Meets x p e Mark × Meets 
 MeetsBefore x p e reason.Halted = Meets x p e reason.Cancel × Meets x p e Mark × Meets x p e Form × Meets x p e Number × Meets x p e reason.Answer × Meets x p e Time
 MeetsBefore x p e _ = Meets x p e reason.Cancel × Meets x p e Mark × Meets x p e Form × Meets x p e Number × Meets x p e reason.Answer × Meets x p e Time × Meets x p e reason.Halted
 
--- the most levels that a checked term may have
-abbrev pub most_levels : ℕ
-most_levels = 10000
-
 -- the checker takes the entry: it leads from p to q, whose term isn't too deep
 abbrev pub IsTaken : Context → Place → Entry → Place → Type 0
-IsTaken x p e q = Leads x p e q × (depth (erase q.marked) ≤ most_levels)
+IsTaken x p e q = Leads x p e q × (depth (erase q.marked) ≤ MOST_LEVELS)
 
 -- the first reason why the entry is refused at p; memory is refused only where nothing else is wrong
 abbrev pub IsRefused : Context → Place → Entry → RuleFault → Type 0
-IsRefused x p e Deep = (q : Place) × Leads x p e q × (most_levels < depth (erase q.marked))
+IsRefused x p e Deep = (q : Place) × Leads x p e q × (MOST_LEVELS < depth (erase q.marked))
 IsRefused x p e Memory = (q : Place) × IsTaken x p e q
 IsRefused x p e r = MeetsBefore x p e r × (Meets x p e r → ⊥)
 

@@ -1,6 +1,8 @@
 -- The text of values, of publications and of a journal's entries.
 use Rattle.std.specs.Prelude.{ℕ, List, [], ◌∷◌, ◌++◌, length, true, false, codes, decimal, slice_index_or, ◌<◌, ◌≤◌, ◌^◌, pos, negsuc}
 use Rattle.std.specs.Fmt.{signed_decimal}
+use Rattle.orc_rules.specs.declared.limits.TheConstants.{MOST_ARGUMENTS}
+use Rattle.orc_rules.specs.Kinds.{kind_of, word_of}
 use Rattle.orc_rules.specs.declared.value.Value.{Value}
 use Rattle.orc_rules.specs.declared.value.Value.TheVariants.{Number, Truth, Signal}
 use Rattle.orc_rules.specs.declared.entry.Entry.{Entry}
@@ -34,23 +36,7 @@ call names site args = codes " " ++ slice_index_or names site [] ++ arguments ar
 
 -- the word with which a line begins
 abbrev pub word : Entry → List ℕ
-word (End _) = codes "end"
-word (Fork _ _ _) = codes "fork"
-word (Seq _ _) = codes "seq"
-word (Other _ _) = codes "other"
-word (Def _ _) = codes "def"
-word (Void _) = codes "void"
-word (Open _ _ _ _) = codes "open"
-word (Send _ _ _) = codes "send"
-word (Call _ _ _ _) = codes "call"
-word (Return _ _ _) = codes "return"
-word (ReturnHalt _) = codes "return"
-word (Bind _ _ _) = codes "bind"
-word (Lost _) = codes "lost"
-word (Right _ _) = codes "right"
-word (Publish _ _) = codes "publish"
-word (Tick _) = codes "tick"
-word (Cancel _) = codes "cancel"
+word e = word_of (kind_of e)
 
 -- the fields of a line
 abbrev pub fields : List (List ℕ) → Entry → List ℕ
@@ -96,7 +82,7 @@ abbrev pub AreValues : List Value → Type 0
 AreValues [] = Unit {0}
 AreValues (v ∷ vs) = IsValue v × AreValues vs
 
--- what has a line: numbers of 64 bits, a site of the table, at most 16 arguments
+-- what has a line: numbers of 64 bits, a site of the table, no more arguments than a call may have
 abbrev pub Fits : List (List ℕ) → Entry → Type 0
 Fits names (End s) = s < 2 ^ 64
 Fits names (Fork s a b) = (s < 2 ^ 64) × ((a < 2 ^ 64) × (b < 2 ^ 64))
@@ -106,7 +92,7 @@ Fits names (Def s a) = (s < 2 ^ 64) × (a < 2 ^ 64)
 Fits names (Void s) = s < 2 ^ 64
 Fits names (Open s c a b) = (s < 2 ^ 64) × ((c < 2 ^ 64) × ((a < 2 ^ 64) × (b < 2 ^ 64)))
 Fits names (Send s a v) = (s < 2 ^ 64) × ((a < 2 ^ 64) × IsValue v)
-Fits names (Call s k m args) = (s < 2 ^ 64) × ((k < 2 ^ 64) × ((m < length names) × (length args ≤ 16) × AreValues args))
+Fits names (Call s k m args) = (s < 2 ^ 64) × ((k < 2 ^ 64) × ((m < length names) × (length args ≤ MOST_ARGUMENTS) × AreValues args))
 Fits names (Return k a v) = (k < 2 ^ 64) × ((a < 2 ^ 64) × IsValue v)
 Fits names (ReturnHalt k) = k < 2 ^ 64
 Fits names (Bind s c v) = (s < 2 ^ 64) × ((c < 2 ^ 64) × IsValue v)

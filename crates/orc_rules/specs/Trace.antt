@@ -41,17 +41,17 @@ IsOutside c (does (calls k m args cs) ∷ es) = (IsIn c cs → ⊥) × IsOutside
 IsOutside c (e ∷ es) = IsOutside c es
 
 -- the cell is neither bound nor lost in these events
-abbrev pub IsSettled : ℕ → List Event → Type 0
-IsSettled c [] = Unit {0}
-IsSettled c (does (binds d v) ∷ es) = (c ≢ d) × IsSettled c es
-IsSettled c (does (loses d) ∷ es) = (c ≢ d) × IsSettled c es
-IsSettled c (e ∷ es) = IsSettled c es
+abbrev pub LeavesAlone : ℕ → List Event → Type 0
+LeavesAlone c [] = Unit {0}
+LeavesAlone c (does (binds d v) ∷ es) = (c ≢ d) × LeavesAlone c es
+LeavesAlone c (does (loses d) ∷ es) = (c ≢ d) × LeavesAlone c es
+LeavesAlone c (e ∷ es) = LeavesAlone c es
 
 -- after a cell is bound or lost no later call stands inside its right side, and each cell is bound or lost at most once
 abbrev pub AreInside : List Event → Type 0
 AreInside [] = Unit {0}
-AreInside (does (binds c v) ∷ es) = IsOutside c es × IsSettled c es × AreInside es
-AreInside (does (loses c) ∷ es) = IsOutside c es × IsSettled c es × AreInside es
+AreInside (does (binds c v) ∷ es) = IsOutside c es × LeavesAlone c es × AreInside es
+AreInside (does (loses c) ∷ es) = IsOutside c es × LeavesAlone c es × AreInside es
 AreInside (e ∷ es) = AreInside es
 
 -- every run of a source's term is so

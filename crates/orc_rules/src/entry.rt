@@ -1,5 +1,9 @@
 //! The entries of a journal, what they show, and why they are refused.
 
+ghost use Rattle.std.specs.Prelude.{◌≡◌};
+ghost use Rattle.orc_rules.specs.Kinds.{kind_of};
+
+use crate::kind::Kind;
 use crate::value::{Answer, Args, Value};
 
 /// One line of a journal. S, A, B are marks, C cells, K calls.
@@ -39,6 +43,33 @@ pub enum Entry {
     Tick(u64),
     /// `cancel K`
     Cancel(u64),
+}
+
+impl Entry {
+    /// What it is.
+    pub fn kind(&self) -> Kind
+        ensures { result ≡ kind_of self.now }
+    {
+        match self {
+            Entry::End(..) => Kind::End,
+            Entry::Fork(..) => Kind::Fork,
+            Entry::Seq(..) => Kind::Seq,
+            Entry::Other(..) => Kind::Other,
+            Entry::Def(..) => Kind::Def,
+            Entry::Void(..) => Kind::Void,
+            Entry::Open(..) => Kind::Open,
+            Entry::Send(..) => Kind::Send,
+            Entry::Call(..) => Kind::Call,
+            Entry::Return(..) => Kind::Return,
+            Entry::ReturnHalt(..) => Kind::ReturnHalt,
+            Entry::Bind(..) => Kind::Bind,
+            Entry::Lost(..) => Kind::Lost,
+            Entry::Right(..) => Kind::Right,
+            Entry::Publish(..) => Kind::Publish,
+            Entry::Tick(..) => Kind::Tick,
+            Entry::Cancel(..) => Kind::Cancel,
+        }
+    }
 }
 
 /// What a step shows.

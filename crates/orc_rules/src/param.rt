@@ -1,8 +1,10 @@
 //! Parameters, and the operands of a source.
 
 ghost use Rattle.std.specs.Prelude.{◌≡◌, ◌≤◌, ◌<◌, ◌++◌, ◌∷◌, [], List, length, take};
+ghost use Rattle.orc_rules.specs.declared.limits.TheConstants.{MOST_ARGUMENTS};
 ghost use Rattle.orc_rules.specs.declared.param.Operand.{Operand as Argument};
 
+use crate::limits::MOST_ARGUMENTS;
 use crate::value::Value;
 use std::marker::Model;
 
@@ -22,10 +24,10 @@ pub enum Operand {
     Is(Value),
 }
 
-/// At most 16 operands, in place.
+/// At most `MOST_ARGUMENTS` operands, in place.
 #[derive(Drop)]
 pub struct Operands {
-    operands: [Operand; 16],
+    operands: [Operand; MOST_ARGUMENTS],
     len: usize,
 }
 
@@ -34,7 +36,7 @@ impl Model for Operands {
 
     ghost view = { λ p. take p.len p.operands };
 
-    ghost invariant = { λ p. p.len ≤ 16 };
+    ghost invariant = { λ p. p.len ≤ MOST_ARGUMENTS };
 }
 
 impl Operands {
@@ -43,14 +45,14 @@ impl Operands {
         ensures { result ≡ [] }
     {
         Operands {
-            operands: [Operand::Is(Value::Signal); 16],
+            operands: [Operand::Is(Value::Signal); MOST_ARGUMENTS],
             len: 0,
         }
     }
 
     /// Adds an operand at the end.
     pub fn push(&mut self, operand: Operand)
-        requires { length self.old < 16 }
+        requires { length self.old < MOST_ARGUMENTS }
         ensures { self.new ≡ self.old ++ operand ∷ [] }
     {
         self.operands[self.len] = operand;
@@ -60,7 +62,7 @@ impl Operands {
     /// The operands in their order.
     pub fn as_slice(&self) -> &[Operand]
         ensures value { result.now ≡ self.now }
-        ensures len { length result.now ≤ 16 }
+        ensures len { length result.now ≤ MOST_ARGUMENTS }
     {
         &self.operands[..self.len]
     }

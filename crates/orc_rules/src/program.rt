@@ -1,6 +1,7 @@
 //! A program's terms as numbered nodes, parts before wholes.
 
 ghost use Rattle.std.specs.Prelude.{◌≡◌, ℕ, ◌≤◌, ◌++◌, ◌∷◌, [], List, length, map, IfOk, OnOk, OnErr, slice_get, slice_index_or, option_map};
+ghost use Rattle.orc_rules.specs.declared.limits.TheConstants.{MOST_ARGUMENTS};
 ghost use Rattle.orc_rules.specs.Nodes.{node_of, unfold_node, code, HasParts, ArePartsFirst, Listing, Routine, Terms as Listed};
 ghost use Rattle.orc_rules.specs.Programs.{listing, routine_of};
 
@@ -142,7 +143,7 @@ impl Program {
     /// The operands of that list, none where there is no such list.
     pub fn operands(&self, list: usize) -> &[Operand]
         ensures value { result.now ≡ slice_index_or self.now.lists list [] }
-        ensures len { length result.now ≤ 16 }
+        ensures len { length result.now ≤ MOST_ARGUMENTS }
     {
         match self.terms.lists.get(list) {
             Some(operands) => operands.as_slice(),

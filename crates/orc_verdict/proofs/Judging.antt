@@ -10,7 +10,8 @@ use Rattle.orc_rules.specs.Nodes.{Listing, Routine, code, source, definition_of}
 use Rattle.orc_rules.specs.Sites.{Table}
 use Rattle.orc_rules.specs.Timed.{Context}
 use Rattle.orc_rules.specs.Journal.{Place, Journal, begin}
-use Rattle.orc_rules.specs.Refusal.{Meets, MeetsAndLeads, IsTaken, IsRefused, depth, most_levels}
+use Rattle.orc_rules.specs.declared.limits.TheConstants.{MOST_LEVELS}
+use Rattle.orc_rules.specs.Refusal.{Meets, MeetsAndLeads, IsTaken, IsRefused, depth}
 use Rattle.orc_rules.specs.Verdict.{AreTaken, FaultFrom}
 use Rattle.orc_checker.specs.Checker.{State, Spells, Begins, Applies, context}
 use Rattle.orc_verdict.specs.Deepening.{deepening}
@@ -52,7 +53,7 @@ bodies_from l levels most are low (r ∷ rs) zero d h =
 bodies_from l levels most are low (r ∷ rs) (suc k) d h = bodies_from l levels most are low rs k d h
 
 module _ (l : Listing) (t : Table) (e : Entry) (s s' : State) (applies : Applies l t e s s') where
-  pub takes_within : (heights : List ℕ) (most levels levels' : ℕ) → AreHeights (code l) heights → AreAtMost heights most → levels' ≡ levels + deepening most e → levels' ≤ most_levels → Takes l t e s levels s' levels'
+  pub takes_within : (heights : List ℕ) (most levels levels' : ℕ) → AreHeights (code l) heights → AreAtMost heights most → levels' ≡ levels + deepening most e → levels' ≤ MOST_LEVELS → Takes l t e s levels s' levels'
   takes_within heights most levels levels' are low is fits cancels p reached sp deep =
       let a = applies cancels p reached sp in
       let more = deepens_at_most (context l t cancels) p e a.0 most (bodies_from l heights most are low l.routines) a.1 in
@@ -63,19 +64,19 @@ module _ (l : Listing) (t : Table) (e : Entry) (s s' : State) (applies : Applies
   abbrev pub IsExact : ℕ → Type 0
   IsExact levels = (x : Context) (p : Place) → Spells x (code l) s' p → levels ≡ depth (erase p.marked)
 
-  pub takes_exactly : (levels levels' : ℕ) → IsExact levels' → levels' ≤ most_levels → Takes l t e s levels s' levels'
+  pub takes_exactly : (levels levels' : ℕ) → IsExact levels' → levels' ≤ MOST_LEVELS → Takes l t e s levels s' levels'
   takes_exactly levels levels' exact fits cancels p reached sp deep =
       let a = applies cancels p reached sp in
       let is = exact (context l t cancels) a.0 a.2 in
       (a.0, (a.1, omega (arith, is, fits)), a.2, omega (arith, is))
 
-  pub takes_bounded : (levels levels' : ℕ) → ((x : Context) (p : Place) → Spells x (code l) s' p → depth (erase p.marked) ≤ levels') → levels' ≤ most_levels → Takes l t e s levels s' levels'
+  pub takes_bounded : (levels levels' : ℕ) → ((x : Context) (p : Place) → Spells x (code l) s' p → depth (erase p.marked) ≤ levels') → levels' ≤ MOST_LEVELS → Takes l t e s levels s' levels'
   takes_bounded levels levels' bounded fits cancels p reached sp deep =
       let a = applies cancels p reached sp in
       let less = bounded (context l t cancels) a.0 a.2 in
       (a.0, (a.1, omega (arith, less, fits)), a.2, less)
 
-  pub stops_deep : (levels : ℕ) → IsExact levels → most_levels < levels → Stops l t e s Deep
+  pub stops_deep : (levels : ℕ) → IsExact levels → MOST_LEVELS < levels → Stops l t e s Deep
   stops_deep levels exact over cancels p reached sp =
       let a = applies cancels p reached sp in
       (a.0, a.1, omega (arith, exact (context l t cancels) a.0 a.2, over))

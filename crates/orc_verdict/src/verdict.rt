@@ -3,9 +3,9 @@
 ghost use Rattle.std.specs.Prelude.{◌≡◌, ◌≢◌, ◌<◌, ◌≤◌, ◌+◌, length, slice_get, Some, IfOk, IfErr, IfSome};
 ghost use Rattle.orc_rules.specs.Journal.{Place};
 ghost use Rattle.orc_rules.specs.Nodes.{code, definitions, source};
-ghost use Rattle.orc_rules.specs.Refusal.{most_levels};
 ghost use Rattle.orc_rules.specs.Timed.{Context};
 ghost use Rattle.orc_rules.specs.Verdict.{IsAt, IsVerdict, IsFault};
+ghost use Rattle.orc_rules.specs.declared.limits.TheConstants.{MOST_LEVELS};
 ghost use Rattle.orc_rules.specs.declared.entry.RuleFault.TheVariants as reason;
 ghost use Rattle.orc_checker.specs.Checker.{Spells, context};
 ghost use Rattle.orc_verdict.specs.Deepening.{deepening};
@@ -20,11 +20,9 @@ use orc_journal::{Journal, Version};
 use orc_rules::answers::Answers;
 use orc_rules::entry::{Entry, RuleFault, State};
 use orc_rules::laws::{meets_and_leads, tests_are_right};
+use orc_rules::limits::MOST_LEVELS;
 use orc_rules::program::Program;
 use std::alloc::Global;
-
-/// The most levels that a checked term may have.
-const MOST_LEVELS: usize = 10_000;
 
 /// Where a journal has brought a run, and the time there, in units of logical time.
 #[derive(Clone, Copy, PartialEq, Eq, Debug)]
@@ -60,7 +58,7 @@ fn deepening(most: usize, entry: &Entry) -> usize
 
 /// The sum, where a checked term may have as many levels.
 fn allowed(levels: usize, more: usize) -> Option<usize>
-    ensures { IfSome result (λ n. (n ≡ levels + more) × (n ≤ most_levels)) }
+    ensures { IfSome result (λ n. (n ≡ levels + more) × (n ≤ MOST_LEVELS)) }
 {
     match levels.checked_add(more) {
         Some(sum) => { if sum <= MOST_LEVELS { Some(sum) } else { None } }
