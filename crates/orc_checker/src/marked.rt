@@ -25,7 +25,6 @@ use std::alloc::{AllocError, Global};
 use std::marker::Model;
 
 /// A marked term, with what its journal has used up so far.
-#[derive(Drop)]
 pub struct Marked {
     pub(crate) nodes: Nodes,
     pub(crate) scopes: Vec<Scope>,
@@ -40,6 +39,24 @@ pub struct Marked {
     pub(crate) candidates: Candidates,
     /// The nodes that wait for calls which are due some day, so that a tick looks at none of the others.
     pub(crate) due: Due,
+}
+
+// Written out, so that a caller's proof sees one call and not the drop of each field.
+impl Drop for Marked {
+    fn drop(self) {
+        let Marked {
+            nodes: _,
+            scopes: _,
+            cells: _,
+            marks: _,
+            halts: _,
+            flags: _,
+            prunings: _,
+            rest: _,
+            candidates: _,
+            due: _,
+        } = self;
+    }
 }
 
 impl Model for Marked {
