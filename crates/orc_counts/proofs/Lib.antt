@@ -1,0 +1,4 @@
+pub mod Lists
+pub mod Invariant
+pub mod Marks
+pub mod Runs

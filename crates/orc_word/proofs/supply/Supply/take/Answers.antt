@@ -1,0 +1,14 @@
+use Rattle.std.proofs.Common.{◌≡◌, ◌<◌, ◌≤◌, ℕ, List, [], ◌∷◌, Some, None, Bool, true, false, refl, sym, ap, ◌∙◌, subst, arith, rules}
+use Rattle.orc_word.specs.declared.view.View.{View}
+use Rattle.orc_word.specs.declared.view.View.TheVariants.{Supplies, Parting, Idle, Names, Spent}
+use Rattle.orc_word.specs.declared.bits.Bits.{Bits}
+use Rattle.orc_word.specs.declared.bits.Bit.TheVariants.{Published, Killed}
+use Rattle.orc_word.specs.Words.{group_of, no_bits, with_bit, IsPass, seen_of, won_of, Covers}
+use Rattle.orc_word.proofs.Keeps.{takes}
+use Rattle.orc_word.proofs.supply.Supply.take.Goals as goal
+
+pub split_seat-seat-requires : goal.split_seat-seat-requires
+split_seat-seat-requires g c =
+    let here = c.self.invariant in
+    let named = ap (λ t. t.table_id) c.shared.ensures ∙ c.args.groups.now.named in
+    (here.0 ∙ sym named, omega (arith, c.args.groups.now.planned.1, ap (λ t. t.words) named), takes _ _ _ _ here.2 (omega (arith, c.if-self-eq0.false)))

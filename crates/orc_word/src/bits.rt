@@ -1,0 +1,17 @@
+//! The two bits of a group's word.
+
+/// A bit of a group's word.
+#[derive(Clone, Copy)]
+pub enum Bit {
+    /// The group has published.
+    Published,
+    /// The group is killed.
+    Killed,
+}
+
+/// Both bits of a group's word.
+#[derive(Clone, Copy)]
+pub struct Bits {
+    pub published: bool,
+    pub killed: bool,
+}

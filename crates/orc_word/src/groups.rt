@@ -1,0 +1,198 @@
+//! The words of groups, and the calls on them.
+ghost use Rattle.std.specs.Prelude.{◌≡◌, true, false, ℕ, List, ◌<◌, Some, None, IsSome, MatchResult, MatchOption, cond};
+ghost use Rattle.orc_word.specs.declared.view.View.{View};
+ghost use Rattle.orc_word.specs.declared.view.View.TheVariants.{Idle, Ended, Names};
+ghost use Rattle.orc_word.specs.Words.{Rule, group_of, seen_of, won_of, no_bits, with_bit, has, Covers};
+
+use crate::bits::{Bit, Bits};
+use crate::last::{Last, Left};
+use crate::naming::Naming;
+use crate::pass::Pass;
+use crate::plays::{Counts, Enter, Leave, Look, MarkKilled, MarkPublished, Open, Peek};
+use crate::view::{Plan, View};
+use crate::words::Words;
+use atomic_table::{Shared, Table};
+use std::alloc::Global;
+use std::marker::PhantomData;
+
+/// A word's count is what is left of it by this number.
+const COUNT: u64 = 4294967296;
+
+/// Bit 32.
+const PUBLISHED: u64 = 4294967296;
+
+/// Bit 33.
+const KILLED: u64 = 8589934592;
+
+/// The words of groups, which all threads share.
+#[derive(Drop)]
+pub struct Groups<J: Naming> {
+    pub(crate) table: Table<(), View, Plan, Counts, Global>,
+    pub(crate) of: PhantomData<J>,
+    pub ghost named: { table.shared.table_id ≡ J.table },
+    pub ghost planned: { (table.shared.key.groups ≡ J.table.words) × (0 < J.table.words) × (J.table.slots ≡ 0) },
+}
+
+impl<J: Naming> Groups<J> {
+    pub(crate) fn shared(&self) -> &Shared<(), View, Plan, Counts>
+        ensures { result.now ≡ self.now.table.shared }
+    {
+        &self.table.shared
+    }
+
+    /// Opens the group `group` (below the number of words), whose bits are clear then, and the idle pass names it.
+    ///
+    /// The idle pass comes back, and no word is changed, where the word counts a pass, or where another call changes it meanwhile.
+    pub fn open(&self, idle: Pass<J>, group: u32) -> Result<Pass<J>, Pass<J>>
+        requires group { group < J.table.words }
+        requires idle { group_of idle ≡ None }
+        ensures { MatchResult result (λ pass. pass ≡ Names group no_bits no_bits) (λ back. back ≡ idle) }
+    {
+        let Pass {
+            group: none,
+            mut seat,
+            of,
+        } = idle;
+        let shared = &self.table.shared;
+        let word = group as usize;
+        let found = shared.load::<Peek>(&mut seat, word);
+        let is_left = found % COUNT == 0;
+        if is_left && shared.compare_exchange::<Open>(&mut seat, word, found, 1) == found {
+            Ok(Pass {
+                group: Some(group),
+                seat,
+                of,
+            })
+        } else {
+            Err(Pass {
+                group: none,
+                seat,
+                of,
+            })
+        }
+    }
+
+    /// The idle pass comes to name the group of `with`, whose count goes up by 1. It has seen none of the group's bits.
+    pub fn enter(&self, with: &Pass<J>, idle: Pass<J>) -> Pass<J>
+        requires names { IsSome (group_of with.now) }
+        requires idle { group_of idle ≡ None }
+        ensures group { group_of result ≡ group_of with.now }
+        ensures clear { (seen_of result ≡ no_bits) × (won_of result ≡ no_bits) }
+    {
+        let Pass {
+            group: none,
+            mut seat,
+            of,
+        } = idle;
+        let Some(group) = with.group else {
+            return Pass {
+                group: none,
+                seat,
+                of,
+            };
+        };
+        let shared = &self.table.shared;
+        shared.fetch_add::<Enter>(&mut seat, group as usize, 1);
+        Pass {
+            group: Some(group),
+            seat,
+            of,
+        }
+    }
+
+    /// The pass is idle again, and its group's count goes down by 1. `last` is there exactly where the count became 0.
+    pub fn leave(&self, pass: Pass<J>) -> Left<J>
+        requires { IsSome (group_of pass) }
+        ensures { MatchOption result.last (result.pass ≡ Idle) (λ last. (result.pass ≡ Ended last.group) × (group_of pass ≡ Some last.group)) }
+    {
+        let Pass {
+            group,
+            mut seat,
+            of,
+        } = pass;
+        let Some(group) = group else {
+            return Left {
+                pass: Pass {
+                    group: None,
+                    seat,
+                    of,
+                },
+                last: None,
+            };
+        };
+        let shared = &self.table.shared;
+        let found = shared.fetch_sub::<Leave>(&mut seat, group as usize, 1);
+        let is_last = found % COUNT == 1;
+        let last = if is_last {
+            Some(Last {
+                group,
+                of: PhantomData,
+            })
+        } else {
+            None
+        };
+        let pass = Pass {
+            group: None,
+            seat,
+            of,
+        };
+        Left { pass, last }
+    }
+
+    /// Sets a bit of the pass's group, and says whether it was clear. A pass that has seen the bit set is answered `false`.
+    pub fn mark(&self, pass: &mut Pass<J>, bit: Bit) -> bool
+        requires { IsSome (group_of pass.old) }
+        ensures group { group_of pass.new ≡ group_of pass.old }
+        ensures seen { seen_of pass.new ≡ with_bit bit (seen_of pass.old) }
+        ensures again { has bit (seen_of pass.old) ≡ true → result ≡ false }
+        ensures won { won_of pass.new ≡ cond result (with_bit bit (won_of pass.old)) (won_of pass.old) }
+    {
+        let Some(group) = pass.group else {
+            return false;
+        };
+        let shared = &self.table.shared;
+        let word = group as usize;
+        match bit {
+            Bit::Published => {
+                let found = shared.fetch_or::<MarkPublished>(&mut pass.seat, word, PUBLISHED);
+                found / PUBLISHED % 2 == 0
+            }
+            Bit::Killed => {
+                let found = shared.fetch_or::<MarkKilled>(&mut pass.seat, word, KILLED);
+                found / KILLED % 2 == 0
+            }
+        }
+    }
+
+    /// The bits of the pass's group. They are at least those that the pass has seen before.
+    pub fn look(&self, pass: &mut Pass<J>) -> Bits
+        requires { IsSome (group_of pass.old) }
+        ensures group { group_of pass.new ≡ group_of pass.old }
+        ensures seen { seen_of pass.new ≡ result }
+        ensures won { won_of pass.new ≡ won_of pass.old }
+        ensures covers { Covers (seen_of pass.old) result }
+    {
+        let Some(group) = pass.group else {
+            return Bits {
+                published: false,
+                killed: false,
+            };
+        };
+        let shared = &self.table.shared;
+        let found = shared.load::<Look>(&mut pass.seat, group as usize);
+        Bits {
+            published: found / PUBLISHED % 2 == 1,
+            killed: found / KILLED % 2 == 1,
+        }
+    }
+
+    /// The last words, which meet the rule.
+    pub fn close(self) -> Words
+        ensures { (views : List View) × Rule self.table.shared.key result views }
+    {
+        let Groups { table, of: _ } = self;
+        Words {
+            closed: table.close(),
+        }
+    }
+}

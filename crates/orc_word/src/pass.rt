@@ -1,0 +1,38 @@
+//! Passes: each is idle or names one group.
+ghost use Rattle.std.specs.Prelude.{◌≡◌};
+
+use crate::naming::Naming;
+use crate::view::View;
+use atomic_table::Seat;
+use std::marker::{Model, PhantomData};
+
+/// A right that is idle or names a group. To a contract it is its view.
+#[derive(Drop)]
+pub struct Pass<J: Naming> {
+    pub(crate) group: Option<u32>,
+    pub(crate) seat: Seat<(), View>,
+    pub(crate) of: PhantomData<J>,
+}
+
+impl<J: Naming> Model for Pass<J> {
+    ghost use Rattle.std.specs.Prelude.{◌≡◌, []};
+    ghost use Rattle.orc_word.specs.declared.view.View.{View};
+    ghost use Rattle.orc_word.specs.Words.{IsPass};
+
+    ghost Value = { View };
+
+    ghost view = { λ p. p.seat.me.0 };
+
+    ghost invariant = { λ p. (p.seat.table_id ≡ J.table) × (p.seat.me.1 ≡ []) × IsPass J.table.words p.group p.seat.me.0 };
+}
+
+impl<J: Naming> Pass<J> {
+    ghost use Rattle.orc_word.specs.Words.{group_of};
+
+    /// The group that it names; none where it is idle.
+    pub fn group(&self) -> Option<u32>
+        ensures { result ≡ group_of self.now }
+    {
+        self.group
+    }
+}

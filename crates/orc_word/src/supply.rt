@@ -1,0 +1,86 @@
+//! Supplies of idle passes.
+ghost use Rattle.std.specs.Prelude.{◌≡◌, ◌+◌, ◌<◌, None, MatchOption};
+ghost use Rattle.orc_word.specs.Words.{group_of};
+ghost use Rattle.orc_word.specs.declared.view.View.TheVariants.{Idle};
+
+use crate::groups::Groups;
+use crate::naming::Naming;
+use crate::pass::Pass;
+use crate::plays::{Bound, GiveBack, PartWith, SetAside, TakeOne};
+use crate::view::View;
+use atomic_table::Seat;
+use std::marker::{Model, PhantomData};
+
+/// Passes that are still to be taken. To a contract it is their number.
+#[derive(Drop)]
+pub struct Supply<J: Naming> {
+    pub(crate) passes: u32,
+    pub(crate) seat: Seat<(), View>,
+    pub(crate) of: PhantomData<J>,
+}
+
+impl<J: Naming> Model for Supply<J> {
+    ghost use Rattle.std.specs.Prelude.{◌≡◌, ℕ, []};
+    ghost use Rattle.orc_word.specs.declared.view.View.TheVariants.{Supplies};
+
+    ghost Value = { ℕ };
+
+    ghost view = { λ s. s.passes };
+
+    ghost invariant = { λ s. (s.seat.table_id ≡ J.table) × (s.seat.me.1 ≡ []) × (s.seat.me.0 ≡ Supplies s.passes) };
+}
+
+impl<J: Naming> Supply<J> {
+    /// An idle pass; none exactly where the supply is empty.
+    pub fn take(&mut self, groups: &Groups<J>) -> Option<Pass<J>>
+        ensures { MatchOption result ((self.old ≡ 0) × (self.new ≡ 0)) (λ pass. (pass ≡ Idle) × (self.old ≡ self.new + 1)) }
+    {
+        if self.passes == 0 {
+            return None;
+        }
+        let seat = groups.shared().split_seat::<TakeOne>(&mut self.seat);
+        self.passes -= 1;
+        Some(Pass {
+            group: None,
+            seat,
+            of: PhantomData,
+        })
+    }
+
+    /// A supply of `passes` passes out of this one; none, with nothing changed, exactly where this one has fewer.
+    pub fn part(&mut self, groups: &Groups<J>, passes: u32) -> Option<Supply<J>>
+        ensures { MatchOption result ((self.old < passes) × (self.new ≡ self.old)) (λ supply. (supply ≡ passes) × (self.old ≡ self.new + passes)) }
+    {
+        if self.passes < passes {
+            return None;
+        }
+        let shared = groups.shared();
+        // A split knows nothing but its seat's view. So the number is put into the view first, by an exchange that changes no word.
+        let aside = passes as u64;
+        shared.compare_exchange::<SetAside>(&mut self.seat, 0, aside, aside);
+        let seat = shared.split_seat::<PartWith>(&mut self.seat);
+        self.passes -= passes;
+        Some(Supply {
+            passes,
+            seat,
+            of: PhantomData,
+        })
+    }
+
+    /// Takes an idle pass back.
+    pub fn give(&mut self, groups: &Groups<J>, pass: Pass<J>)
+        requires { group_of pass ≡ None }
+        ensures { self.new ≡ self.old + 1 }
+    {
+        let Pass {
+            group: _,
+            seat,
+            of: _,
+        } = pass;
+        let shared = groups.shared();
+        shared.join_seat::<GiveBack>(&mut self.seat, seat);
+        // The load shows that the supply has fewer than 2^31 passes, so that one more can be counted.
+        shared.load::<Bound>(&mut self.seat, 0);
+        self.passes += 1;
+    }
+}

@@ -1,0 +1,66 @@
+//! Words that have no name yet.
+ghost use Rattle.std.specs.Prelude.{◌≡◌, ◌<◌, ◌≤◌, ◌^◌, [], IfOk};
+ghost use Rattle.orc_word.specs.declared.view.View.TheVariants.{Supplies};
+
+use crate::groups::Groups;
+use crate::naming::Naming;
+use crate::plays::Counts;
+use crate::supply::Supply;
+use crate::view::{Plan, View};
+use atomic_table::{Seat, Table};
+use std::alloc::{AllocError, Global};
+use std::marker::PhantomData;
+
+/// Words that have no name yet, and the supply of all their passes.
+#[derive(Drop)]
+pub struct Unnamed {
+    table: Table<(), View, Plan, Counts, Global>,
+    seat: Seat<(), View>,
+    passes: u32,
+    pub ghost full: { (seat.table_id ≡ table.shared.table_id) × (seat.me.1 ≡ []) × (seat.me.0 ≡ Supplies passes) },
+    pub ghost planned: { (table.shared.key.groups ≡ table.shared.table_id.words) × (table.shared.key.passes ≡ passes) × (0 < table.shared.table_id.words) × (table.shared.table_id.slots ≡ 0) },
+}
+
+impl Unnamed {
+    /// The words of `groups` groups (1 to 65,536), all 0, and a supply of `passes` passes (fewer than 2^31). Its error is refused memory.
+    pub fn new(alloc: Global, groups: u32, passes: u32) -> Result<Unnamed, AllocError>
+        requires groups { (0 < groups) × (groups ≤ 65536) }
+        requires passes { passes < 2 ^ 31 }
+        ensures { IfOk result (λ made. (made.table.shared.table_id.words ≡ groups) × (made.passes ≡ passes)) }
+    {
+        let mut words = Vec::new(alloc);
+        for _ in 0..groups {
+            words.push(0)?;
+        }
+        let plan = Plan { groups, passes };
+        let (table, seat) = Table::of_words(alloc, words.as_slice(), &plan)?;
+        Ok(Unnamed {
+            table,
+            seat,
+            passes,
+        })
+    }
+
+    /// The words and the supply of all their passes, under a name. The caller picks the name of this table.
+    pub fn named<J: Naming>(self) -> (Groups<J>, Supply<J>)
+        requires { self.table.shared.table_id ≡ J.table }
+        ensures words { result.0.table.shared.key ≡ self.table.shared.key }
+        ensures passes { result.1 ≡ self.passes }
+    {
+        let Unnamed {
+            table,
+            seat,
+            passes,
+        } = self;
+        let groups = Groups {
+            table,
+            of: PhantomData,
+        };
+        let supply = Supply {
+            passes,
+            seat,
+            of: PhantomData,
+        };
+        (groups, supply)
+    }
+}

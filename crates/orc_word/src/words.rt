@@ -1,0 +1,37 @@
+//! The words after the end.
+ghost use Rattle.std.specs.Prelude.{◌≡◌, ◌<◌, ℕ, List, length, slice_index};
+ghost use Rattle.std.specs.Slots.{slots_items, slots_len, IsFull};
+
+use atomic_table::Closed;
+use std::alloc::Global;
+use std::marker::Model;
+
+/// The words that a table closed with, by their groups' numbers. To a contract it is their list.
+pub struct Words {
+    pub(crate) closed: Closed<(), Global>,
+}
+
+impl Model for Words {
+    ghost Value = { List ℕ };
+
+    ghost view = { λ w. slots_items w.closed.words };
+
+    ghost invariant = { λ w. IsFull w.closed.words × (slots_len w.closed.slots ≡ 0) };
+}
+
+impl Words {
+    /// The word of a group: its count in bits 0 to 31, published in bit 32, killed in bit 33.
+    pub fn word(&self, group: u32) -> u64
+        requires { group < length self.now }
+        ensures { result ≡ slice_index self.now group }
+    {
+        self.closed.word(group as usize)
+    }
+}
+
+impl Drop for Words {
+    fn drop(self) {
+        let Words { closed } = self;
+        closed.free();
+    }
+}
