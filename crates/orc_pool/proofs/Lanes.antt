@@ -1,0 +1,45 @@
+-- A list of lanes, read and changed at one place.
+use Rattle.std.proofs.Common.{◌≡◌, ℕ, zero, suc, ◌<◌, Bool, true, false, true≢false, List, [], ◌∷◌, ◌++◌, map, length, replicate, set, get_or, Option, Some, None, is_some, MatchOption, slice_get, slice_set, sym, refl, ap, ◌∙◌, subst, arith}
+use Rattle.std.proofs.lemmas.List.{map-set}
+use Rattle.crossbeam_deque.specs.Handles.{worker_deque, worker_view, stealer_deque}
+use Rattle.orc_pool.specs.declared.own.Own.{Own}
+use Rattle.orc_pool.specs.declared.queues.Lane.{Lane}
+use Rattle.orc_pool.specs.History.{view_of}
+use Rattle.orc_pool.specs.Words.{own_name, own_view}
+
+some_eq : {A : Type 0} (x y : A) → Some x ≡ Some y → x ≡ y
+some_eq x y e = grind arith
+
+module _ {A B : Type 0} where
+  pub map_at : (f : A → B) (l : List A) (i : ℕ) (x : A) → slice_get l i ≡ Some x → slice_get (map f l) i ≡ Some (f x)
+  map_at f [] i x e = grind arith
+  map_at f (y ∷ ys) zero x e = ap (λ (z : A). Some (f z)) (some_eq y x e)
+  map_at f (y ∷ ys) (suc i) x e = map_at f ys i x e
+
+  pub map_set_same : (f : A → B) (l : List A) (i : ℕ) (x y : A) → slice_get l i ≡ Some x → f y ≡ f x → map f (set l i y) ≡ map f l
+  map_set_same f [] i x y e s = refl
+  map_set_same f (z ∷ zs) zero x y e s = λ k. (s ∙ ap f (sym (some_eq z x e))) k ∷ map f zs
+  map_set_same f (z ∷ zs) (suc i) x y e s = ap (λ (l : List B). f z ∷ l) (map_set_same f zs i x y e s)
+
+pub get_at : {A : Type 0} (l : List A) (i : ℕ) (x : A) → i < length l → x ≡ get_or l i x → slice_get l i ≡ Some x
+get_at [] i x h e = absurd (omega arith)
+get_at (y ∷ ys) zero x h e = ap Some (sym e)
+get_at (y ∷ ys) (suc i) x h e = get_at ys i x (omega arith) e
+
+module _ {T : Type 0} where
+  pub own_taken : (l : List (Lane T)) (i : ℕ) (x y : Lane T) (r : Option (Own T)) → slice_get l i ≡ Some x → r ≡ x.own → y.own ≡ None
+      → MatchOption r
+      ((map (λ (z : Lane T). is_some z.own) (set l i y) ≡ map (λ (z : Lane T). is_some z.own) l) × ¬ (slice_get (map (λ (z : Lane T). is_some z.own) l) i ≡ Some true))
+      (λ own. (slice_get (map (λ (z : Lane T). is_some z.own) l) i ≡ Some true) × (map (λ (z : Lane T). is_some z.own) (set l i y) ≡ set (map (λ (z : Lane T). is_some z.own) l) i false)
+      × (slice_get (map (λ (z : Lane T). stealer_deque z.thief) l) i ≡ Some (own_name own)) × (own_view own ≡ view_of true [] []))
+  own_taken l i x y None at is gone =
+      let f : Lane T → Bool = λ z. is_some z.own in
+      let was : is_some x.own ≡ false = ap (λ (o : Option (Own T)). is_some o) (sym is) in
+      let now : is_some y.own ≡ false = ap (λ (o : Option (Own T)). is_some o) gone in
+      (map_set_same f l i x y at (now ∙ sym was), λ e. true≢false (some_eq true false (sym e ∙ map_at f l i x at ∙ ap Some was)))
+  own_taken l i x y (Some own) at is gone =
+      let f : Lane T → Bool = λ z. is_some z.own in
+      let was : is_some x.own ≡ true = ap (λ (o : Option (Own T)). is_some o) (sym is) in
+      let now : is_some y.own ≡ false = ap (λ (o : Option (Own T)). is_some o) gone in
+      let p = x.paired own (sym is) in
+      (map_at f l i x at ∙ ap Some was, map-set f l i y ∙ ap (λ (b : Bool). set (map f l) i b) now, map_at (λ (z : Lane T). stealer_deque z.thief) l i x at ∙ ap Some (sym p.0), p.1)

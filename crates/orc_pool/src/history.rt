@@ -1,0 +1,51 @@
+//! The rule of a queue: the history of its pushes, pops and thefts. No value of these types is made.
+ghost use Rattle.std.specs.Prelude.{true, false, []};
+ghost use Rattle.orc_pool.specs.History.{Kept, view_of, IsPush, IsPop, IsTheft, WasEmpty};
+
+use crossbeam_deque::protocol::{Outcome, Protocol};
+use std::collections::LinkedList;
+
+/// One event of a queue. A theft has the number of the port that made it: the owner's is 0, each thief has one of its own.
+pub enum Event<T> {
+    Pushed(T),
+    Popped(T),
+    Stolen(u64, T),
+}
+
+/// What a port has seen of the history, and what it stole.
+pub struct View<T> {
+    pub owns: bool,
+    pub seen: LinkedList<Event<T>>,
+    pub stolen: LinkedList<T>,
+}
+
+/// The rule: there is one history, and each port knows its part of it.
+pub struct OneHistory;
+
+impl<T> Protocol<T, View<T>> for OneHistory {
+    ghost holds = { Kept };
+
+    ghost first = { view_of true [] [] };
+
+    ghost guest = { view_of false [] [] };
+}
+
+pub struct Pushes;
+
+impl<T> Outcome<T, View<T>> for Pushes {
+    ghost then = { IsPush };
+}
+
+pub struct Pops;
+
+impl<T> Outcome<T, View<T>> for Pops {
+    ghost then = { IsPop };
+
+    ghost empty = { WasEmpty };
+}
+
+pub struct Thefts;
+
+impl<T> Outcome<T, View<T>> for Thefts {
+    ghost then = { IsTheft };
+}

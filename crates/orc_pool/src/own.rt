@@ -1,0 +1,47 @@
+//! The end of a queue that its worker owns.
+ghost use Rattle.std.specs.Prelude.{◌≡◌, true};
+ghost use Rattle.crossbeam_deque.specs.Handles.{worker_view, worker_flavor};
+
+use crate::history::{OneHistory, Pops, Pushes, View};
+use crossbeam_deque::Worker;
+use std::alloc::Global;
+
+pub(crate) type Deque<T> = Worker<T, Global, View<T>, OneHistory>;
+
+/// The end of a queue that its worker owns.
+#[derive(Drop)]
+pub struct Own<T: Drop> {
+    pub(crate) worker: Deque<T>,
+    ghost owns: { (worker_view worker).owns ≡ true },
+    ghost lifo: { worker_flavor worker ≡ 1 },
+}
+
+impl<T: Drop> Own<T> {
+    ghost use Rattle.std.specs.Prelude.{◌≤◌, ◌+◌, [], ◌∷◌, MatchResult, MatchOption};
+    ghost use Rattle.orc_pool.specs.History.{IsPush, IsPop, WasEmpty};
+    ghost use Rattle.orc_pool.specs.Words.{own_view, slots, pushed};
+
+    pub(crate) fn of(worker: Deque<T>) -> Own<T>
+        requires { ((worker_view worker).owns ≡ true) × (worker_flavor worker ≡ 1) }
+        ensures { result.worker ≡ worker }
+    {
+        Own { worker }
+    }
+
+    /// Pushes a task. Gives it back, and changes nothing, where the queue could not grow: so only where its slots are used up.
+    pub fn push(&mut self, task: T) -> Result<(), T>
+        ensures rule { MatchResult result (λ _. IsPush (own_view self.old) (task ∷ []) (own_view self.new)) (λ back. (back ≡ task) × (own_view self.new ≡ own_view self.old)) }
+        ensures counted { MatchResult result (λ _. pushed self.new ≡ pushed self.old + 1) (λ _. (slots self.old ≤ pushed self.old) × (pushed self.new ≡ pushed self.old)) }
+        ensures slots { slots self.old ≤ slots self.new }
+    {
+        self.worker.push_as::<Pushes>(task)
+    }
+
+    /// The task that was pushed last of those in the queue. None only where the queue was empty at one moment of the call.
+    pub fn pop(&mut self) -> Option<T>
+        ensures rule { MatchOption result ((own_view self.new ≡ own_view self.old) × WasEmpty (own_view self.old)) (λ task. IsPop (own_view self.old) (task ∷ []) (own_view self.new)) }
+        ensures slots { (pushed self.new ≤ pushed self.old) × (slots self.old ≤ slots self.new) }
+    {
+        self.worker.pop_as::<Pops>()
+    }
+}

@@ -1,0 +1,80 @@
+//! The queues of all workers.
+ghost use Rattle.std.specs.Prelude.{◌≡◌, ◌≤◌, true, []};
+ghost use Rattle.std.specs.Option.{ForSome};
+ghost use Rattle.crossbeam_deque.specs.Handles.{worker_view, worker_deque, worker_capacity, worker_index, stealer_deque};
+ghost use Rattle.orc_pool.specs.History.{view_of};
+
+use crate::own::{Deque, Own};
+use crate::theft::{Theft, Thief};
+use std::alloc::{AllocError, Global};
+
+/// The slots that a queue begins with.
+const SLOTS: usize = 64;
+
+/// One queue: its end, until its worker takes it, and the stealer that each thief gets a copy of.
+#[derive(Drop)]
+pub struct Lane<T: Drop> {
+    pub(crate) own: Option<Own<T>>,
+    pub(crate) thief: Thief<T>,
+    ghost paired: { ForSome own (λ o. (worker_deque o.worker ≡ stealer_deque thief) × (worker_view o.worker ≡ view_of true [] []) × (64 ≤ worker_capacity o.worker) × (worker_index o.worker ≡ 0)) },
+}
+
+impl<T: Drop> Lane<T> {
+    ghost use Rattle.std.specs.Prelude.{IfOk, is_some};
+
+    fn new(alloc: Global) -> Result<Lane<T>, AllocError>
+        ensures { IfOk result (λ lane. is_some lane.own ≡ true) }
+    {
+        let worker = Deque::<T>::lifo_as(alloc, SLOTS)?;
+        let thief = worker.stealer()?;
+        let own = Some(Own::of(worker));
+        Ok(Lane { own, thief })
+    }
+}
+
+/// Queues, one for each of a number of workers.
+#[derive(Drop)]
+pub struct Queues<T: Drop> {
+    pub(crate) lanes: Vec<Lane<T>>,
+}
+
+impl<T: Drop> Queues<T> {
+    ghost use Rattle.std.specs.Prelude.{false, Some, IfSome, MatchOption, IfOk, length, replicate, slice_get, slice_set};
+    ghost use Rattle.orc_pool.specs.Words.{own_view, slots, pushed, theft_view, own_name, theft_name, names, free};
+
+    /// As many queues as are asked for, all empty. Its error is refused memory.
+    pub fn new(alloc: Global, count: usize) -> Result<Queues<T>, AllocError>
+        ensures free { IfOk result (λ queues. free queues ≡ replicate count true) }
+        ensures names { IfOk result (λ queues. length (names queues) ≡ count) }
+    {
+        let mut lanes = Vec::with_capacity(alloc, count)?;
+        for _ in 0..count {
+            lanes.push(Lane::new(alloc)?)?;
+        }
+        Ok(Queues { lanes })
+    }
+
+    /// The end of the queue `at`, counted from 0, for its owner: once for each queue. None where there are not so many, or where it was taken before.
+    pub fn own(&mut self, at: usize) -> Option<Own<T>>
+        ensures same { names self.new ≡ names self.old }
+        ensures own { MatchOption result ((free self.new ≡ free self.old) × ¬ (slice_get (free self.old) at ≡ Some true)) (λ own. (slice_get (free self.old) at ≡ Some true) × (free self.new ≡ slice_set (free self.old) at false) × (slice_get (names self.old) at ≡ Some (own_name own)) × (own_view own ≡ view_of true [] [])) }
+        ensures room { IfSome result (λ own. (64 ≤ slots own) × (pushed own ≡ 0)) }
+    {
+        if at >= self.lanes.len() {
+            return None;
+        }
+        let lane = &mut self.lanes[at];
+        lane.own.take()
+    }
+
+    /// A new right to steal from the queue `at`, counted from 0. None exactly where there are not so many; its error is refused memory.
+    pub fn theft(&self, at: usize) -> Result<Option<Theft<T>>, AllocError>
+        ensures theft { IfOk result (λ found. MatchOption found (length (names self.now) ≤ at) (λ theft. (slice_get (names self.now) at ≡ Some (theft_name theft)) × (theft_view theft ≡ view_of false [] []))) }
+    {
+        let Some(lane) = self.lanes.get(at) else {
+            return Ok(None);
+        };
+        let stealer = lane.thief.clone()?;
+        Ok(Some(Theft::by(stealer)))
+    }
+}

@@ -1,0 +1,48 @@
+//! The right to steal from a queue.
+ghost use Rattle.std.specs.Prelude.{◌≡◌, false};
+ghost use Rattle.crossbeam_deque.specs.Handles.{view, IsPassOf, stealer_deque};
+
+use crate::history::{OneHistory, Thefts, View};
+use crossbeam_deque::{Pass, Steal, Stealer};
+use std::alloc::Global;
+
+pub(crate) type Thief<T> = Stealer<T, Global, View<T>, OneHistory>;
+
+/// How often a theft that met another call is tried again. Each time another theft or pop has had success.
+const TRIES: u32 = 1_048_576;
+
+/// The right to steal from a queue.
+#[derive(Drop)]
+pub struct Theft<T: Drop> {
+    pub(crate) stealer: Thief<T>,
+    pub(crate) pass: Pass<T, View<T>>,
+    ghost of: { IsPassOf (stealer_deque stealer) pass },
+    ghost guest: { (view pass).owns ≡ false },
+}
+
+impl<T: Drop> Theft<T> {
+    ghost use Rattle.std.specs.Prelude.{[], ◌∷◌, MatchOption};
+    ghost use Rattle.orc_pool.specs.History.{IsTheft, view_of};
+    ghost use Rattle.orc_pool.specs.Words.{theft_view};
+
+    pub(crate) fn by(stealer: Thief<T>) -> Theft<T>
+        ensures { (stealer_deque result.stealer ≡ stealer_deque stealer) × (theft_view result ≡ view_of false [] []) }
+    {
+        let pass = stealer.pass();
+        Theft { stealer, pass }
+    }
+
+    /// The task that was pushed first of those in the queue. None where the queue was empty, or where others were at it all the time.
+    pub fn steal(&mut self) -> Option<T>
+        ensures { MatchOption result (theft_view self.new ≡ theft_view self.old) (λ task. IsTheft (theft_view self.old) (task ∷ []) (theft_view self.new)) }
+    {
+        for _ in 0..TRIES {
+            match self.stealer.steal_as::<Thefts>(&mut self.pass) {
+                Steal::Success(task) => return Some(task),
+                Steal::Empty => return None,
+                Steal::Retry => {}
+            }
+        }
+        None
+    }
+}
