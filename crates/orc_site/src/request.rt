@@ -1,0 +1,35 @@
+//! What is asked of a site.
+
+ghost use Rattle.std.specs.Prelude.{◌≡◌, ◌≤◌};
+
+use orc_rules::value::Args;
+
+/// A call of a site.
+#[derive(Drop)]
+pub struct Request {
+    /// The call's number, from 1 on.
+    pub number: u64,
+    /// The site's number in the table of sites.
+    pub site: u32,
+    pub args: Args,
+    /// How many calls of this site with these arguments the run has made, this one included: from 1 on.
+    pub nth: u64,
+    /// The logical time of the call.
+    pub made_at: u64,
+    pub ghost from_one: { 1 ≤ nth },
+}
+
+impl Request {
+    /// The same request again.
+    pub fn copied(&self) -> Request
+        ensures { result ≡ self.now }
+    {
+        Request {
+            number: self.number,
+            site: self.site,
+            args: self.args.copied(),
+            nth: self.nth,
+            made_at: self.made_at,
+        }
+    }
+}

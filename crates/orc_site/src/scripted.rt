@@ -1,0 +1,42 @@
+//! Sites that the table answers.
+
+ghost use Rattle.std.specs.Prelude.{◌≡◌, false, IfOk};
+
+use crate::request::Request;
+use crate::site_call::SiteCall;
+use crate::sites::Sites;
+use orc_rules::answers::Answers;
+use std::alloc::AllocError;
+
+/// Makes calls that the table of sites answers. They need no memory and wait for nobody.
+#[derive(Drop)]
+pub struct Scripted<'a> {
+    answers: &'a Answers,
+}
+
+impl<'a> Scripted<'a> {
+    /// Sites that this table answers.
+    pub fn new(answers: &'a Answers) -> Scripted<'a>
+        ensures { result.answers.now ≡ answers.now }
+    {
+        Scripted { answers }
+    }
+}
+
+impl<'a> Sites for Scripted<'a> {
+    type Call = SiteCall<'a>;
+
+    fn call(&self, request: &Request) -> Result<SiteCall<'a>, AllocError>
+        ensures { IfOk result (λ call. (call.answers.now ≡ self.now.answers.now) × (call.request ≡ request.now) × (call.moment ≡ request.now.made_at)) }
+    {
+        Ok(SiteCall::new(self.answers, request.copied()))
+    }
+
+    fn cancel(&self, _number: u64) {}
+
+    fn may_wait(&self) -> bool
+        ensures { result ≡ false }
+    {
+        false
+    }
+}

@@ -1,0 +1,173 @@
+//! A call that the table of sites answers.
+
+ghost use Rattle.std.specs.Prelude.{◌≡◌, true, None};
+ghost use Rattle.orc_site.specs.Time.{found, due_from, answer_of, is_due};
+ghost use Rattle.orc_site.specs.declared.site_call.State.TheVariants.{Waiting, Never as StateNever, Done};
+ghost use Rattle.orc_site.specs.declared.due.Due.TheVariants.{At, Never as DueNever};
+
+use crate::due::{Due, due_after};
+use crate::request::Request;
+use crate::sites::SiteFuture;
+use futures::Future;
+use futures::task::{Context, Poll, Source, Waker};
+use orc_rules::answers::Answers;
+use orc_rules::value::{Answer, Found};
+
+/// How far a call has come.
+#[derive(Clone, Copy, Debug, PartialEq, Eq)]
+pub enum State {
+    /// It was not polled yet.
+    Fresh,
+    /// It is due at this time.
+    Waiting(u64),
+    Never,
+    Done(Answer),
+}
+
+/// A call under way. Its source fires when the due time comes, and keeps no waker then.
+#[derive(Drop)]
+pub struct SiteCall<'a> {
+    answers: &'a Answers,
+    request: Request,
+    moment: u64,
+    state: State,
+    source: Source,
+    waker: Option<Waker>,
+    ghost waiting: { (time : _) → state ≡ Waiting time → due_from request.made_at (found answers.now request) ≡ At time },
+    ghost never: { state ≡ StateNever → due_from request.made_at (found answers.now request) ≡ DueNever },
+    ghost done: { (answer : _) → state ≡ Done answer → (answer ≡ answer_of (found answers.now request)) × (is_due (due_from request.made_at (found answers.now request)) moment ≡ true) },
+    ghost woken: { is_due (due_from request.made_at (found answers.now request)) moment ≡ true → waker ≡ None },
+}
+
+impl<'a> SiteCall<'a> {
+    /// A call that the table answers. Its first moment is the time of the request.
+    pub fn new(answers: &'a Answers, request: Request) -> SiteCall<'a>
+        ensures { (result.answers.now ≡ answers.now) × (result.request ≡ request) × (result.moment ≡ request.made_at) }
+    {
+        let moment = request.made_at;
+        SiteCall {
+            answers,
+            request,
+            moment,
+            state: State::Fresh,
+            source: Source::new(),
+            waker: None,
+        }
+    }
+}
+
+fn reply(found: Found) -> Answer
+    ensures { result ≡ answer_of found }
+{
+    match found {
+        Found::After(answer, _) => answer,
+        Found::Never => Answer::Halt,
+    }
+}
+
+impl SiteCall<'_> {
+    ghost use Rattle.futures.specs.Poll.{OnPending};
+    ghost use Rattle.futures.specs.Task.{Covers, Keeps};
+    ghost use Rattle.orc_site.specs.Call.{IsExact, IsSameCall};
+    ghost use Rattle.orc_site.specs.declared.site_call.State.TheVariants.{Fresh as StateFresh};
+
+    fn find(&self) -> Found
+        ensures { result ≡ found self.now.answers.now self.now.request }
+    {
+        self.answers
+            .find(self.request.site, &self.request.args, self.request.nth)
+    }
+
+    // Computes when the answer comes.
+    fn begin(&mut self)
+        ensures same { IsSameCall self.old self.new × (self.new.moment ≡ self.old.moment) }
+        ensures begun { ¬ (self.new.state ≡ StateFresh) }
+    {
+        self.state = match due_after(self.request.made_at, self.find()) {
+            Due::At(time) => State::Waiting(time),
+            Due::Never => State::Never,
+        };
+    }
+
+    // Answers from the due time on, and registers before it.
+    fn advance(&mut self, cx: &mut Context<'_>) -> Poll<Answer>
+        requires { ¬ (self.old.state ≡ StateFresh) }
+        ensures same { IsSameCall self.old self.new × (self.new.moment ≡ self.old.moment) }
+        ensures exact { IsExact result self.old }
+        ensures registered { OnPending result (Covers cx.new (λ source. source ≡ self.new.source.id)) }
+        ensures kept { Keeps cx.old cx.new }
+    {
+        match self.state {
+            State::Done(answer) => Poll::Ready(answer),
+            State::Waiting(time) if time <= self.moment => {
+                let answer = reply(self.find());
+                self.state = State::Done(answer);
+                Poll::Ready(answer)
+            }
+            State::Fresh | State::Waiting(_) | State::Never => {
+                cx.register(&self.source, &mut self.waker)
+            }
+        }
+    }
+}
+
+impl Future for SiteCall<'_> {
+    ghost use Rattle.std.specs.Prelude.{⊤};
+    ghost use Rattle.futures.specs.Poll.{IfReady, OnPending};
+    ghost use Rattle.futures.specs.Task.{Covers, Keeps};
+    ghost use Rattle.orc_site.specs.Call.{IsReply, IsExact, IsSameCall};
+
+    type Output = Answer;
+
+    ghost needs = { λ call source. source ≡ call.source.id };
+
+    ghost gives = { IsReply };
+
+    /// Ready exactly where the due time isn't later than the moment, with the table's answer, and again so at each later poll. Where it pends it has
+    /// registered.
+    fn poll(&mut self, cx: &mut Context<'_>) -> Poll<Answer>
+        ensures value { IfReady result (IsReply self.old) }
+        ensures again { OnPending result ⊤ }
+        ensures same { OnPending result ((x : _) → IsReply self.new x → IsReply self.old x) }
+        ensures registered { OnPending result (Covers cx.new (λ source. source ≡ self.new.source.id)) }
+        ensures kept { Keeps cx.old cx.new }
+        ensures exact { IsExact result self.old }
+        ensures call { IsSameCall self.old self.new × (self.new.moment ≡ self.old.moment) }
+    {
+        if self.state == State::Fresh {
+            self.begin();
+        }
+        self.advance(cx)
+    }
+}
+
+impl SiteFuture for SiteCall<'_> {
+    ghost use Rattle.std.specs.Prelude.{max};
+    ghost use Rattle.orc_site.specs.Call.{due_of, IsSameCall};
+
+    ghost moment = { λ call. call.moment };
+
+    ghost when = { due_of };
+
+    ghost always = { λ _. tt };
+
+    ghost early = { λ call answer is. is.0 };
+
+    fn at(&mut self, now: u64)
+        ensures moment { self.new.moment ≡ max self.old.moment now }
+        ensures when { due_of self.new ≡ due_of self.old }
+        ensures same { IsSameCall self.old self.new }
+    {
+        let moment = self.moment.max(now);
+        if let Due::At(time) = self.due()
+            && time <= moment
+        {
+            self.waker = None;
+        }
+        self.moment = moment;
+    }
+
+    fn due(&self) -> Due {
+        due_after(self.request.made_at, self.find())
+    }
+}
