@@ -5,22 +5,25 @@ use Rattle.orc_rules.specs.declared.value.Value.{Value}
 use Rattle.orc_rules.specs.declared.value.Value.TheVariants.{Signal}
 use Rattle.orc_rules.specs.declared.entry.Entry.{Entry}
 use Rattle.orc_rules.specs.declared.entry.Entry.TheVariants.{Send, Call, Return, Bind, Publish}
-use Rattle.orc_journal.specs.declared.rows.Shape.{Shape}
-use Rattle.orc_journal.specs.declared.rows.Shape.TheVariants as shapes
+use Rattle.orc_rules.specs.declared.kind.Kind.{Kind}
+use Rattle.orc_rules.specs.declared.kind.Kind.TheVariants as kinds
+use Rattle.orc_rules.specs.declared.limits.TheConstants.{MOST_ARGUMENTS}
 use Rattle.orc_journal.specs.declared.rows.Parts.{Parts}
 use Rattle.orc_journal.specs.declared.rows.Called.{Called}
 use Rattle.orc_journal.specs.declared.rows.Row.{Row}
 use Rattle.orc_journal.specs.declared.rows.Row.TheVariants.{Narrow, Wide}
-use Rattle.orc_journal.specs.Rows.{Contents, no_parts, no_call, parts_in, value_at, call_by, entry_by, entry_from, entry_of, parts_for, grown, with_value, with_call, with_entry, HasArguments, HasCall, HasFew, IsPlaced, IsThere, ArePlaced, IsWithin, AreWithin, Keeps, Names}
+use Rattle.orc_journal.specs.Rows.{Contents, no_parts, no_call, parts_in, value_at, call_by, plain, given, entry_by, entry_from, entry_of, grown, HasArguments, HasCall, HasValue, IsPlain, IsPlaced, IsThere, ArePlaced, IsWithin, AreWithin, Keeps, Names, StandsFor}
+use Rattle.orc_journal.specs.Texts.{Written, journal_with}
+use Rattle.orc_journal.specs.declared.journal.Version.{Version}
 
 -- ---- parts
 
 parts_kept : (ws more : List Parts) (r : Row) → IsThere ws r → parts_in (ws ++ more) r ≡ parts_in ws r
-parts_kept ws more (Narrow shape a b c) there = refl
+parts_kept ws more (Narrow kind a b c) there = refl
 parts_kept ws more (Wide at) there = get_or_append_left ws more no_parts at there
 
 there_kept : (ws more : List Parts) (r : Row) → IsThere ws r → IsThere (ws ++ more) r
-there_kept ws more (Narrow shape a b c) there = tt
+there_kept ws more (Narrow kind a b c) there = tt
 there_kept ws more (Wide at) there = omega (arith, there, length-append ws more)
 
 -- ---- calls
@@ -43,25 +46,25 @@ has_call_kept t vs cs ps at has =
     (omega (arith, has.0, length-append t.calls cs), subst (λ (c : Called). HasArguments (t.values ++ vs) c) (sym same) (arguments_more t.values vs (get_or t.calls at no_call) has.1))
 
 call_stays : (t : Contents) (vs : List Value) (cs : List Called) (ps : List Parts) (a b at : ℕ) → HasCall t at
-    → entry_by (grown t vs cs ps) shapes.Call a b at 0 ≡ entry_by t shapes.Call a b at 0
+    → entry_by (grown t vs cs ps) kinds.Call a b at 0 ≡ entry_by t kinds.Call a b at 0
 call_stays t vs cs ps a b at has =
     ap (call_by (t.values ++ vs) a b) (get_or_append_left t.calls cs no_call at has.0) ∙ call_kept t.values vs a b (get_or t.calls at no_call) has.1
 
-placed_kept : (t : Contents) (vs : List Value) (cs : List Called) (ps : List Parts) (shape : Shape) (at : ℕ) → IsPlaced t shape at → IsPlaced (grown t vs cs ps) shape at
-placed_kept t vs cs ps shapes.Send at lt = omega (arith, lt, length-append t.values vs)
-placed_kept t vs cs ps shapes.Return at lt = omega (arith, lt, length-append t.values vs)
-placed_kept t vs cs ps shapes.Bind at lt = omega (arith, lt, length-append t.values vs)
-placed_kept t vs cs ps shapes.Publish at lt = omega (arith, lt, length-append t.values vs)
-placed_kept t vs cs ps shapes.Call at has = has_call_kept t vs cs ps at has
+placed_kept : (t : Contents) (vs : List Value) (cs : List Called) (ps : List Parts) (kind : Kind) (at : ℕ) → IsPlaced t kind at → IsPlaced (grown t vs cs ps) kind at
+placed_kept t vs cs ps kinds.Send at lt = omega (arith, lt, length-append t.values vs)
+placed_kept t vs cs ps kinds.Return at lt = omega (arith, lt, length-append t.values vs)
+placed_kept t vs cs ps kinds.Bind at lt = omega (arith, lt, length-append t.values vs)
+placed_kept t vs cs ps kinds.Publish at lt = omega (arith, lt, length-append t.values vs)
+placed_kept t vs cs ps kinds.Call at has = has_call_kept t vs cs ps at has
 placed_kept t vs cs ps _ at _ = tt
 
-entry_kept : (t : Contents) (vs : List Value) (cs : List Called) (ps : List Parts) (shape : Shape) (a b at d : ℕ) → IsPlaced t shape at
-    → entry_by (grown t vs cs ps) shape a b at d ≡ entry_by t shape a b at d
-entry_kept t vs cs ps shapes.Send a b at d lt = ap (Send a b) (get_or_append_left t.values vs Signal at lt)
-entry_kept t vs cs ps shapes.Return a b at d lt = ap (Return a b) (get_or_append_left t.values vs Signal at lt)
-entry_kept t vs cs ps shapes.Bind a b at d lt = ap (Bind a b) (get_or_append_left t.values vs Signal at lt)
-entry_kept t vs cs ps shapes.Publish a b at d lt = ap (Publish a) (get_or_append_left t.values vs Signal at lt)
-entry_kept t vs cs ps shapes.Call a b at d has = call_stays t vs cs ps a b at has
+entry_kept : (t : Contents) (vs : List Value) (cs : List Called) (ps : List Parts) (kind : Kind) (a b at d : ℕ) → IsPlaced t kind at
+    → entry_by (grown t vs cs ps) kind a b at d ≡ entry_by t kind a b at d
+entry_kept t vs cs ps kinds.Send a b at d lt = ap (Send a b) (get_or_append_left t.values vs Signal at lt)
+entry_kept t vs cs ps kinds.Return a b at d lt = ap (Return a b) (get_or_append_left t.values vs Signal at lt)
+entry_kept t vs cs ps kinds.Bind a b at d lt = ap (Bind a b) (get_or_append_left t.values vs Signal at lt)
+entry_kept t vs cs ps kinds.Publish a b at d lt = ap (Publish a) (get_or_append_left t.values vs Signal at lt)
+entry_kept t vs cs ps kinds.Call a b at d has = call_stays t vs cs ps a b at has
 entry_kept t vs cs ps _ a b at d _ = refl
 
 -- ---- rows
@@ -70,13 +73,18 @@ pub keeps_grown : (t : Contents) (vs : List Value) (cs : List Called) (ps : List
 keeps_grown t vs cs ps r within =
     let p : Parts = parts_in t.wides r in
     let same : parts_in (t.wides ++ ps) r ≡ p = parts_kept t.wides ps r within.0 in
-    let placed : ArePlaced (grown t vs cs ps) p = placed_kept t vs cs ps p.shape p.third within.1 in
+    let placed : ArePlaced (grown t vs cs ps) p = placed_kept t vs cs ps p.kind p.third within.1 in
     let there : IsThere (t.wides ++ ps) r = there_kept t.wides ps r within.0 in
-    let entry : entry_from (grown t vs cs ps) p ≡ entry_from t p = entry_kept t vs cs ps p.shape p.first p.second p.third p.fourth within.1 in
+    let entry : entry_from (grown t vs cs ps) p ≡ entry_from t p = entry_kept t vs cs ps p.kind p.first p.second p.third p.fourth within.1 in
     ((there, subst (ArePlaced (grown t vs cs ps)) (sym same) placed), ap (entry_from (grown t vs cs ps)) same ∙ entry)
 
-pub keeps_same : (t : Contents) → Keeps t t
-keeps_same t r within = (within, refl)
+-- with a value more
+abbrev pub with_value : Contents → Value → Contents
+with_value t v = record { values = t.values ++ v ∷ []; calls = t.calls; wides = t.wides }
+
+-- with a call more, and its arguments
+abbrev pub with_call : Contents → ℕ → List Value → Contents
+with_call t site args = record { values = t.values ++ args; calls = t.calls ++ record { site = site; count = length args; start = length t.values } ∷ []; wides = t.wides }
 
 pub keeps_both : (t u w : Contents) → Keeps t u → Keeps u w → Keeps t w
 keeps_both t u w first second r within =
@@ -95,14 +103,6 @@ keeps_call t site args =
     let c : Called = record { site = site; count = length args; start = length t.values } in
     subst (Keeps t) (λ i. record { values = t.values ++ args; calls = t.calls ++ c ∷ []; wides = append-nil t.wides i }) (keeps_grown t args (c ∷ []) [])
 
-pub keeps_entry : (t : Contents) (e : Entry) → Keeps t (with_entry t e)
-keeps_entry t (Send s a v) = keeps_value t v
-keeps_entry t (Return k a v) = keeps_value t v
-keeps_entry t (Bind s c v) = keeps_value t v
-keeps_entry t (Publish s v) = keeps_value t v
-keeps_entry t (Call s k m args) = keeps_call t m args
-keeps_entry t _ = keeps_same t
-
 pub rows_kept : (t u : Contents) (rs : List Row) → Keeps t u → AreWithin t rs → map (entry_of u) rs ≡ map (entry_of t) rs
 rows_kept t u [] keeps w = refl
 rows_kept t u (r ∷ rs) keeps w = λ i. (keeps r w.0).1 i ∷ rows_kept t u rs keeps w.1 i
@@ -115,9 +115,18 @@ pub within_more : (t : Contents) (rs : List Row) (r : Row) → AreWithin t rs �
 within_more t [] r w h = (h, tt)
 within_more t (q ∷ rs) r w h = (w.0, within_more t rs r w.1 h)
 
--- with one more row
-pub more_rows : (t u : Contents) (rs : List Row) (r : Row) (e : Entry) → Keeps t u → AreWithin t rs → entry_of u r ≡ e → map (entry_of u) (rs ++ r ∷ []) ≡ map (entry_of t) rs ++ e ∷ []
-more_rows t u rs r e keeps w same = map-append (entry_of u) rs (r ∷ []) ∙ ap (λ (es : List Entry). es ++ entry_of u r ∷ []) (rows_kept t u rs keeps w) ∙ ap (λ (x : Entry). map (entry_of t) rs ++ x ∷ []) same
+-- the journal is the same where its rows are, whatever stands behind what they point to
+pub same_journal : (v : Version) (t u : Contents) (rs rs' : List Row) → Keeps t u → AreWithin t rs → rs' ≡ rs
+    → ◌≡◌ {A = Written} (record { version = v; entries = map (entry_of u) rs' }) (record { version = v; entries = map (entry_of t) rs })
+same_journal v t u rs rs' keeps w same = ap (λ (es : List Entry). record { version = v; entries = es }) (ap (map (entry_of u)) same ∙ rows_kept t u rs keeps w)
+
+-- with a row more it has an entry more
+pub row_more : (v : Version) (t u : Contents) (rs rs' : List Row) (r : Row) (e : Entry) → Keeps t u → AreWithin t rs → StandsFor u r e → rs' ≡ rs ++ r ∷ []
+    → AreWithin u rs' × (◌≡◌ {A = Written} (record { version = v; entries = map (entry_of u) rs' }) (journal_with (record { version = v; entries = map (entry_of t) rs }) (e ∷ [])))
+row_more v t u rs rs' r e keeps w stands more =
+    let entries : map (entry_of u) rs' ≡ map (entry_of t) rs ++ e ∷ [] =
+    ap (map (entry_of u)) more ∙ map-append (entry_of u) rs (r ∷ []) ∙ ap (λ (es : List Entry). es ++ entry_of u r ∷ []) (rows_kept t u rs keeps w) ∙ ap (λ (x : Entry). map (entry_of t) rs ++ x ∷ []) stands.1 in
+    (subst (AreWithin u) (sym more) (within_more u rs r (within_kept t u rs keeps w) stands.0), ap (λ (es : List Entry). record { version = v; entries = es }) entries)
 
 -- ---- a new row
 
@@ -130,11 +139,26 @@ own_value t v = (omega (arith, length-append t.values (v ∷ [])), get_or_at t.v
 own_arguments : (vs args : List Value) → take (length args) (drop (length vs) (vs ++ args)) ≡ args
 own_arguments vs args = ap (take (length args)) (drop_at vs args (length vs) refl) ∙ take_all (length args) args (omega arith)
 
--- an entry's parts stand for it, once what they point to is there
-abbrev pub Stands : Contents → Parts → Entry → Type 0
-Stands t p e = ArePlaced t p × (entry_from t p ≡ e)
+-- the row of parts that stand for an entry
+row_stands : (t : Contents) (r : Row) (p : Parts) (e : Entry) → Names t.wides r p → ArePlaced t p → entry_from t p ≡ e → StandsFor t r e
+row_stands t r p e names placed same = ((names.0, subst (ArePlaced t) (sym names.1) placed), ap (entry_from t) names.1 ∙ same)
 
-call_stands : (t : Contents) (s k m : ℕ) (args : List Value) → length args ≤ 16 → Stands (with_call t m args) (parts_for (length t.values) (length t.calls) (Call s k m args)) (Call s k m args)
+plain_stands : (t : Contents) (k : Kind) (a b c d : ℕ) → IsPlain k → IsPlaced t k c × (entry_by t k a b c d ≡ plain k a b c d)
+plain_stands t kinds.Send a b c d is = absurd is
+plain_stands t kinds.Return a b c d is = absurd is
+plain_stands t kinds.Bind a b c d is = absurd is
+plain_stands t kinds.Publish a b c d is = absurd is
+plain_stands t kinds.Call a b c d is = absurd is
+plain_stands t _ a b c d is = (tt, refl)
+
+given_stands : (t : Contents) (k : Kind) (a b : ℕ) (v : Value) → HasValue k → IsPlaced (with_value t v) k (length t.values) × (entry_by (with_value t v) k a b (length t.values) 0 ≡ given k a b v)
+given_stands t kinds.Send a b v has = ((own_value t v).0, ap (Send a b) (own_value t v).1)
+given_stands t kinds.Return a b v has = ((own_value t v).0, ap (Return a b) (own_value t v).1)
+given_stands t kinds.Bind a b v has = ((own_value t v).0, ap (Bind a b) (own_value t v).1)
+given_stands t kinds.Publish a b v has = ((own_value t v).0, ap (Publish a) (own_value t v).1)
+given_stands t _ a b v has = absurd has
+
+call_stands : (t : Contents) (s k m : ℕ) (args : List Value) → length args ≤ MOST_ARGUMENTS → IsPlaced (with_call t m args) kinds.Call (length t.calls) × (entry_by (with_call t m args) kinds.Call s k (length t.calls) 0 ≡ Call s k m args)
 call_stands t s k m args few =
     let c : Called = record { site = m; count = length args; start = length t.values } in
     let same = get_or_at t.calls c [] no_call (length t.calls) refl in
@@ -143,39 +167,10 @@ call_stands t s k m args few =
       ap (call_by (t.values ++ args) s k) same ∙ ap (Call s k m) (own_arguments t.values args),
     )
 
-pub stands : (t : Contents) (e : Entry) → HasFew e → Stands (with_entry t e) (parts_for (length t.values) (length t.calls) e) e
-stands t (Send s a v) few = ((own_value t v).0, ap (Send s a) (own_value t v).1)
-stands t (Return k a v) few = ((own_value t v).0, ap (Return k a) (own_value t v).1)
-stands t (Bind s c v) few = ((own_value t v).0, ap (Bind s c) (own_value t v).1)
-stands t (Publish s v) few = ((own_value t v).0, ap (Publish s) (own_value t v).1)
-stands t (Call s k m args) few = call_stands t s k m args few
-stands t _ few = (tt, refl)
+-- ---- what is added to the tables
 
-wides_stay : (t : Contents) (e : Entry) → (with_entry t e).wides ≡ t.wides
-wides_stay t (Send s a v) = refl
-wides_stay t (Return k a v) = refl
-wides_stay t (Bind s c v) = refl
-wides_stay t (Publish s v) = refl
-wides_stay t (Call s k m args) = refl
-wides_stay t _ = refl
-
--- the row of an entry, when its parts were added and then what they point to
-pub row_stands : (t : Contents) (e : Entry) (r : Row) → HasFew e → Names t.wides r (parts_for (length t.values) (length t.calls) e) → IsWithin (with_entry t e) r × (entry_of (with_entry t e) r ≡ e)
-row_stands t e r few names =
-    let p : Parts = parts_for (length t.values) (length t.calls) e in
-    let now : Names (with_entry t e).wides r p = subst (λ (ws : List Parts). Names ws r p) (sym (wides_stay t e)) names in
-    let stand = stands t e few in
-    ((now.0, subst (ArePlaced (with_entry t e)) (sym now.1) stand.0), ap (entry_from (with_entry t e)) now.1 ∙ stand.1)
-
--- with parts more, and then with what an entry's parts point to
-pub keeps_added : (t u w : Contents) (e : Entry) → (more : List Parts) × (u ≡ grown t [] [] more) → w ≡ with_entry u e → Keeps t w
-keeps_added t u w e added named =
-    let first : Keeps t u = subst (Keeps t) (sym added.1) (keeps_grown t [] [] added.0) in
-    let second : Keeps u w = subst (Keeps u) (sym named) (keeps_entry u e) in
-    keeps_both t u w first second
-
-pub as_many_values : (t u : Contents) → (more : List Parts) × (u ≡ grown t [] [] more) → length t.values ≡ length u.values
-as_many_values t u added = ap length (sym (append-nil t.values)) ∙ ap (λ (x : Contents). length x.values) (sym added.1)
-
-pub as_many_calls : (t u : Contents) → (more : List Parts) × (u ≡ grown t [] [] more) → length t.calls ≡ length u.calls
-as_many_calls t u added = ap length (sym (append-nil t.calls)) ∙ ap (λ (x : Contents). length x.calls) (sym added.1)
+-- parts of numbers alone
+pub plain_added : (t u : Contents) (r : Row) (k : Kind) (a b c d : ℕ) → IsPlain k → Names u.wides r (record { kind = k; first = a; second = b; third = c; fourth = d }) → StandsFor u r (plain k a b c d)
+plain_added t u r k a b c d is names =
+    let one = plain_stands u k a b c d is in
+    row_stands u r (record { kind = k; first = a; second = b; third = c; fourth = d }) (plain k a b c d) names one.0 one.1

@@ -1,8 +1,8 @@
 -- Reading as a loop does.
 use Rattle.std.proofs.Common.{◌≡◌, ℕ, zero, suc, ◌+◌, ◌-◌, ◌<◌, ◌≤◌, List, [], ◌∷◌, ◌++◌, length, get_or, take, drop, Option, Some, None, refl, sym, ap, ◌∙◌, append_assoc, arith}
 use Rattle.orc_rules.specs.declared.value.Value.{Value}
-use Rattle.orc_journal.specs.declared.kind.Kind.{Kind}
-use Rattle.orc_journal.specs.Kinds.{kind_word}
+use Rattle.orc_rules.specs.Kinds.{word_of}
+use Rattle.orc_rules.specs.declared.kind.Kind.{Kind}
 use Rattle.orc_journal.specs.Reading.{kind_from, ◌>>=◌, after, split_name, value_at, values_at}
 
 -- ---- the bytes before a bracket
@@ -50,7 +50,7 @@ one_up i = omega arith
 
 -- ---- kinds, one after the other
 
-pub kind_next : (ks : List Kind) (i : ℕ) (bytes : List ℕ) (d : Kind) (total : Option (Kind × List ℕ)) → i < length ks → after (kind_word (get_or ks i d)) bytes ≡ None
+pub kind_next : (ks : List Kind) (i : ℕ) (bytes : List ℕ) (d : Kind) (total : Option (Kind × List ℕ)) → i < length ks → after (word_of (get_or ks i d)) bytes ≡ None
     → kind_from (drop i ks) bytes ≡ total → kind_from (drop (i + 1) ks) bytes ≡ total
 kind_next [] i bytes d total lt h e = absurd (omega (arith, lt))
 kind_next (k ∷ ks) zero bytes d total lt h e = sym (rw h refl) ∙ e

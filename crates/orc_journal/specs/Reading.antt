@@ -9,10 +9,11 @@ use Rattle.orc_rules.specs.declared.entry.Entry.TheVariants.{End, Fork, Seq, Oth
 use Rattle.orc_journal.specs.declared.journal.Version.{Version}
 use Rattle.orc_journal.specs.declared.journal.Version.TheVariants as versions
 use Rattle.orc_journal.specs.Texts.{header}
-use Rattle.orc_journal.specs.declared.kind.Kind.{Kind}
-use Rattle.orc_journal.specs.declared.kind.Kind.TheVariants as kinds
+use Rattle.orc_rules.specs.Kinds.{word_of}
+use Rattle.orc_rules.specs.declared.kind.Kind.{Kind}
+use Rattle.orc_rules.specs.declared.kind.Kind.TheVariants as kinds
+use Rattle.orc_rules.specs.declared.limits.TheConstants.{MOST_ARGUMENTS}
 use Rattle.orc_rules.specs.Sites.{site_named}
-use Rattle.orc_journal.specs.Kinds.{kind_word}
 
 infixl 10 ◌>>=◌
 abbrev pub ◌>>=◌ : {A B : Type 0} → Option A → (A → Option B) → Option B
@@ -105,7 +106,7 @@ values_at (suc n) bytes = do
 unfoldable pub arguments_at : List ℕ → Option (List Value × List ℕ)
 arguments_at bytes = do
   r ← after (codes "(") bytes
-  or_else (option_map (λ r. ([], r)) (after (codes ")") r)) (values_at 16 r)
+  or_else (option_map (λ r. ([], r)) (after (codes ")") r)) (values_at MOST_ARGUMENTS r)
 
 unfoldable pub call_field : List (List ℕ) → List ℕ → Option ((ℕ × List Value) × List ℕ)
 call_field names bytes = do
@@ -114,12 +115,13 @@ call_field names bytes = do
   vs ← arguments_at s.1
   Some ((s.0, vs.0), vs.1)
 
+-- the kinds by their words: a line that begins with `return` may be of either kind
 abbrev pub all_kinds : List Kind
 all_kinds = kinds.Call ∷ kinds.Return ∷ kinds.Send ∷ kinds.Fork ∷ kinds.Publish ∷ kinds.Seq ∷ kinds.End ∷ kinds.Open ∷ kinds.Bind ∷ kinds.Def ∷ kinds.Void ∷ kinds.Other ∷ kinds.Lost ∷ kinds.Right ∷ kinds.Tick ∷ kinds.Cancel ∷ []
 
 abbrev pub kind_from : List Kind → List ℕ → Option (Kind × List ℕ)
 kind_from [] bytes = None
-kind_from (k ∷ ks) bytes = or_else (option_map (λ r. (k, r)) (after (kind_word k) bytes)) (kind_from ks bytes)
+kind_from (k ∷ ks) bytes = or_else (option_map (λ r. (k, r)) (after (word_of k) bytes)) (kind_from ks bytes)
 
 abbrev pub returned : ℕ → Option (ℕ × Value) → Entry
 returned k None = ReturnHalt k
@@ -137,6 +139,7 @@ fields_at names kinds.Open bytes = made (λ x. Open x.0 x.1.0 x.1.1.0 x.1.1.1) (
 fields_at names kinds.Send bytes = made (λ x. Send x.0 x.1.0 x.1.1) (both number_field sent_field) bytes
 fields_at names kinds.Call bytes = made (λ x. Call x.0 x.1.0 x.1.1.0 x.1.1.1) (both number_field (both number_field (call_field names))) bytes
 fields_at names kinds.Return bytes = made (λ x. returned x.0 x.1) (both number_field outcome_field) bytes
+fields_at names kinds.ReturnHalt bytes = made (λ x. returned x.0 x.1) (both number_field outcome_field) bytes
 fields_at names kinds.Bind bytes = made (λ x. Bind x.0 x.1.0 x.1.1) (both number_field sent_field) bytes
 fields_at names kinds.Lost bytes = made (λ x. Lost x) number_field bytes
 fields_at names kinds.Right bytes = made (λ x. Right x.0 x.1) pair_field bytes

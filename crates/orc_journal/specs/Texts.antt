@@ -3,6 +3,7 @@ use Rattle.std.specs.Prelude.{◌≡◌, ◌⊎◌, ℕ, suc, ◌+◌, ◌<◌, 
 use Rattle.std.specs.List.{flat_map}
 use Rattle.orc_rules.specs.declared.entry.Entry.{Entry}
 use Rattle.orc_rules.specs.declared.entry.Entry.TheVariants.{Cancel}
+use Rattle.orc_rules.specs.declared.limits.TheConstants.{LONGEST_JOURNAL, MOST_ENTRIES}
 use Rattle.orc_rules.specs.Text.{line, Fits}
 use Rattle.orc_journal.specs.declared.journal.Version.{Version}
 use Rattle.orc_journal.specs.declared.journal.Version.TheVariants.{One, Two}
@@ -13,6 +14,10 @@ use Rattle.orc_journal.specs.declared.text.JournalFault.TheVariants.{Header, Lin
 pub record Written : Type 0 where
   pub version : Version
   pub entries : List Entry
+
+-- a journal with more entries behind its own
+abbrev pub journal_with : Written → List Entry → Written
+journal_with j es = record { version = j.version; entries = j.entries ++ es }
 
 -- the first line
 abbrev pub header : Version → List ℕ
@@ -45,18 +50,18 @@ abbrev pub count : List Entry → ℕ
 count [] = 0
 count (e ∷ es) = if counts e then suc (count es) else count es
 
--- the text of a journal of at most 1,073,741,824 bytes, of which at most 10,000,000 entries count
+-- the text of a journal that is no longer than a journal may be, and of which no more entries count than a journal may have
 pub record IsJournal (names : List (List ℕ)) (text : List ℕ) (j : Written) : Type 0 where
   pub whole : text ≡ journal_text names j
   pub each : AreOf names j.version j.entries
-  pub size : length text ≤ 1073741824
-  pub limit : count j.entries ≤ 10000000
+  pub size : length text ≤ LONGEST_JOURNAL
+  pub limit : count j.entries ≤ MOST_ENTRIES
 
 -- a text that begins with the lines of a journal
 pub record Begins (names : List (List ℕ)) (text : List ℕ) (v : Version) (es : List Entry) (rest : List ℕ) : Type 0 where
   pub front : text ≡ header v ++ (entry_lines names es ++ rest)
   pub each : AreOf names v es
-  pub size : length text ≤ 1073741824
+  pub size : length text ≤ LONGEST_JOURNAL
 
 -- no line of an entry of that version stands first
 abbrev pub NoLine : List (List ℕ) → Version → List ℕ → Type 0
@@ -64,7 +69,7 @@ NoLine names v rest = (e : Entry) (more : List ℕ) → Fits names e → is_of v
 
 -- why a text isn't read
 abbrev pub IsFault : List (List ℕ) → List ℕ → JournalFault → Type 0
-IsFault names text Header = (length text ≤ 1073741824) × ((v : Version) (rest : List ℕ) → text ≡ header v ++ rest → ⊥)
-IsFault names text (Line n) = (v : Version) × (es : List Entry) × (rest : List ℕ) × Begins names text v es rest × (count es ≤ 10000000) × (n ≡ length es + 2) × (0 < length rest) × NoLine names v rest
-IsFault names text Long = (1073741824 < length text) ⊎ ((v : Version) × (es : List Entry) × (rest : List ℕ) × Begins names text v es rest × (10000000 < count es))
+IsFault names text Header = (length text ≤ LONGEST_JOURNAL) × ((v : Version) (rest : List ℕ) → text ≡ header v ++ rest → ⊥)
+IsFault names text (Line n) = (v : Version) × (es : List Entry) × (rest : List ℕ) × Begins names text v es rest × (count es ≤ MOST_ENTRIES) × (n ≡ length es + 2) × (0 < length rest) × NoLine names v rest
+IsFault names text Long = (LONGEST_JOURNAL < length text) ⊎ ((v : Version) × (es : List Entry) × (rest : List ℕ) × Begins names text v es rest × (MOST_ENTRIES < count es))
 IsFault names text Memory = Unit {0}

@@ -1,12 +1,18 @@
 //! A journal in memory.
 
-ghost use Rattle.std.specs.Prelude.{◌≡◌, ◌+◌, ◌++◌, ◌∷◌, [], length, map, OnOk, OnErr};
+ghost use Rattle.std.specs.Prelude.{◌≡◌, ◌+◌, ◌≤◌, ◌++◌, ◌∷◌, [], List, length, map, take, OnOk, OnErr};
 ghost use Rattle.std.specs.List.{slice_get};
-ghost use Rattle.orc_journal.specs.Rows.{entry_of, AreWithin};
-ghost use Rattle.orc_journal.specs.Texts.{Written};
+ghost use Rattle.orc_rules.specs.declared.entry.Entry.{Entry as EntryOf};
+ghost use Rattle.orc_rules.specs.declared.entry.Entry.TheVariants.{Send, Call, Return, Bind, Publish, Cancel};
+ghost use Rattle.orc_rules.specs.declared.limits.TheConstants.{MOST_ARGUMENTS};
+ghost use Rattle.orc_journal.specs.Rows.{entry_of, given, AreWithin, HasValue};
+ghost use Rattle.orc_journal.specs.Texts.{Written, journal_with};
 
+use crate::room::make_room;
 use crate::rows::{Row, Tables};
 use orc_rules::entry::Entry;
+use orc_rules::kind::Kind;
+use orc_rules::value::Value;
 use std::alloc::{AllocError, Global};
 use std::marker::Model;
 
@@ -68,14 +74,121 @@ impl Journal {
         rows.len() as u64 + 1
     }
 
+    /// Makes room for the rows of that many entries more, so that adding them asks for memory less often. The error is refused memory; the
+    /// entries stay as they are.
+    pub fn reserve(&mut self, entries: usize) -> Result<(), AllocError>
+        ensures { self.new ≡ self.old }
+    {
+        self.rows.try_reserve(entries)
+    }
+
     /// Adds an entry at the end. The error is refused memory, and then nothing changes.
     pub fn push(&mut self, entry: &Entry) -> Result<(), AllocError>
         ensures added { OnOk result (self.new ≡ record { version = self.old.version; entries = self.old.entries ++ entry.now ∷ [] }) }
         ensures refused { OnErr result (self.new ≡ self.old) }
     {
+        make_room(&mut self.rows)?;
         let row = self.tables.add(entry)?;
-        self.rows.push(row)?;
+        self.rows.push_reserved(row);
         Ok(())
+    }
+
+    // Adds an entry with a value at the end. Where memory is refused nothing changes.
+    fn push_given(
+        &mut self,
+        kind: Kind,
+        first: u64,
+        second: u64,
+        value: Value,
+    ) -> Result<(), AllocError>
+        requires { HasValue kind }
+        ensures added { OnOk result (self.new ≡ journal_with self.old (given kind first second value ∷ [])) }
+        ensures refused { OnErr result (self.new ≡ self.old) }
+    {
+        make_room(&mut self.rows)?;
+        let row = self.tables.add_given(kind, first, second, value)?;
+        self.rows.push_reserved(row);
+        Ok(())
+    }
+
+    /// Adds a `send` as `push` does, without an `Entry`, which has room for a call's arguments.
+    pub fn push_send(&mut self, token: u64, mark: u64, value: Value) -> Result<(), AllocError>
+        ensures added { OnOk result (self.new ≡ journal_with self.old (Send token mark value ∷ [])) }
+        ensures refused { OnErr result (self.new ≡ self.old) }
+    {
+        self.push_given(Kind::Send, token, mark, value)
+    }
+
+    /// Adds a `return` with a value as `push` does, without an `Entry`.
+    pub fn push_return(&mut self, call: u64, mark: u64, value: Value) -> Result<(), AllocError>
+        ensures added { OnOk result (self.new ≡ journal_with self.old (Return call mark value ∷ [])) }
+        ensures refused { OnErr result (self.new ≡ self.old) }
+    {
+        self.push_given(Kind::Return, call, mark, value)
+    }
+
+    /// Adds a `publish` as `push` does, without an `Entry`.
+    pub fn push_publish(&mut self, token: u64, value: Value) -> Result<(), AllocError>
+        ensures added { OnOk result (self.new ≡ journal_with self.old (Publish token value ∷ [])) }
+        ensures refused { OnErr result (self.new ≡ self.old) }
+    {
+        self.push_given(Kind::Publish, token, 0, value)
+    }
+
+    /// Adds a `call` as `push` does, without an `Entry`: the arguments, 16 at most, are copied once.
+    pub fn push_call(
+        &mut self,
+        token: u64,
+        call: u64,
+        site: u32,
+        args: &[Value],
+    ) -> Result<(), AllocError>
+        requires { length args.now ≤ MOST_ARGUMENTS }
+        ensures added { OnOk result (self.new ≡ journal_with self.old (Call token call site args.now ∷ [])) }
+        ensures refused { OnErr result (self.new ≡ self.old) }
+    {
+        make_room(&mut self.rows)?;
+        let row = self.tables.add_call(token, call, site, args)?;
+        self.rows.push_reserved(row);
+        Ok(())
+    }
+
+    // Keeps the first entries alone.
+    fn truncate(&mut self, len: usize)
+        ensures { self.new ≡ record { version = self.old.version; entries = take len self.old.entries } }
+    {
+        self.rows.truncate(len);
+    }
+
+    // Adds the cancels of these calls. Where memory is refused some of them may have been added.
+    fn push_cancels(&mut self, calls: &[u64]) -> Result<(), AllocError>
+        ensures added { OnOk result (self.new ≡ journal_with self.old (map Cancel calls.now)) }
+        ensures begun { (es : List EntryOf) × (self.new ≡ journal_with self.old es) }
+    {
+        for call in calls {
+            self.push(&Entry::Cancel(*call))?;
+        }
+        Ok(())
+    }
+
+    /// Adds a `bind` and, behind it, the cancels of these calls in their order. The error is refused memory, and then nothing changes.
+    pub fn push_bind(
+        &mut self,
+        token: u64,
+        cell: u64,
+        value: Value,
+        cancelled: &[u64],
+    ) -> Result<(), AllocError>
+        ensures added { OnOk result (self.new ≡ journal_with self.old (Bind token cell value ∷ map Cancel cancelled.now)) }
+        ensures refused { OnErr result (self.new ≡ self.old) }
+    {
+        let len = self.rows.len();
+        self.push_given(Kind::Bind, token, cell, value)?;
+        let pushed = self.push_cancels(cancelled);
+        if pushed.is_err() {
+            self.truncate(len);
+        }
+        pushed
     }
 
     /// The entry at a place, from 0.

@@ -2,8 +2,8 @@
 #![tactic(auto)]
 
 mod journal;
-mod kind;
 mod reading;
+mod room;
 mod rows;
 mod text;
 mod writing;

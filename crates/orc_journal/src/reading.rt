@@ -4,12 +4,14 @@ ghost use Rattle.std.specs.Prelude.{◌≡◌, ◌++◌, ◌∷◌, [], List, le
 ghost use Rattle.orc_rules.specs.Digits.{Gives, digits_at};
 ghost use Rattle.orc_journal.specs.Reading.{after, is_plain, number_at, value_at, number_field, value_field, pair_field, sent_field, outcome_field, split_name, name_at, values_at, arguments_at, call_field, all_kinds, kind_from, fields_at, entry_at};
 ghost use Rattle.orc_rules.specs.Text.{line, Fits};
+ghost use Rattle.orc_rules.specs.declared.limits.TheConstants.{MOST_ARGUMENTS};
 ghost use Rattle.orc_rules.specs.declared.entry.Entry.{Entry as EntryOf};
 
-use crate::kind::Kind;
 use orc_rules::answers::Answers;
 use orc_rules::digits::digits_at;
 use orc_rules::entry::Entry;
+use orc_rules::kind::Kind;
+use orc_rules::limits::MOST_ARGUMENTS;
 use orc_rules::value::{Args, Value};
 
 // The bytes after a text.
@@ -166,13 +168,13 @@ fn arguments_at(bytes: &[u8]) -> Option<(Args, &[u8])>
     values_at(rest)
 }
 
-// One to 16 values with commas between them, and the bracket.
+// One to `MOST_ARGUMENTS` values with commas between them, and the bracket.
 fn values_at(bytes: &[u8]) -> Option<(Args, &[u8])>
-    ensures { Gives (λ x. (x.0, x.1.now)) result (values_at 16 bytes.now) }
+    ensures { Gives (λ x. (x.0, x.1.now)) result (values_at MOST_ARGUMENTS bytes.now) }
 {
     let mut args = Args::new();
     let mut rest = bytes;
-    for _ in 0..16usize {
+    for _ in 0..MOST_ARGUMENTS {
         let (value, behind) = value_at(rest)?;
         args.push(value);
         if let Some(behind) = after(b")", behind) {
@@ -283,7 +285,7 @@ fn fields_at<'a>(kind: Kind, bytes: &'a [u8], answers: &Answers) -> Option<(Entr
             let ((site, args), rest) = call_field(rest, answers)?;
             Some((Entry::Call(s, k, site, args), rest))
         }
-        Kind::Return => {
+        Kind::Return | Kind::ReturnHalt => {
             let (k, rest) = number_field(bytes)?;
             let (outcome, rest) = outcome_field(rest)?;
             match outcome {

@@ -1,42 +1,24 @@
 //! The entries of a journal in 16 bytes each, with tables of what doesn't fit there.
 
 ghost use Rattle.std.specs.Prelude.{◌≡◌, ◌≤◌, List, [], length, slice_index_or, IfOk, IfSome, OnOk, OnErr};
-ghost use Rattle.orc_journal.specs.Rows.{last_of, parts_for, parts_in, no_call, value_at, call_by, entry_of, grown, with_value, with_call, with_entry, HasCall, HasFew, IsThere, IsWithin, Keeps, Names};
+ghost use Rattle.orc_rules.specs.declared.limits.TheConstants.{MOST_ARGUMENTS};
+ghost use Rattle.orc_rules.specs.declared.entry.Entry.TheVariants.{Call};
+ghost use Rattle.orc_journal.specs.Rows.{last_of, parts_in, no_call, value_at, call_by, entry_of, grown, plain, given, HasCall, HasValue, IsPlain, IsThere, IsWithin, Keeps, Names, StandsFor};
 ghost use Rattle.orc_journal.specs.declared.rows.Parts.{Parts as PartsOf};
 
+use crate::room::put;
 use orc_rules::entry::Entry;
+use orc_rules::kind::Kind;
 use orc_rules::value::{Args, Value};
 use std::alloc::{AllocError, Global};
 use std::marker::Model;
 use std::mem::size_of;
 
-/// What an entry is.
-#[derive(Clone, Copy)]
-pub enum Shape {
-    End,
-    Fork,
-    Seq,
-    Other,
-    Def,
-    Void,
-    Open,
-    Send,
-    Call,
-    Return,
-    ReturnHalt,
-    Bind,
-    Lost,
-    Right,
-    Publish,
-    Tick,
-    Cancel,
-}
-
 /// An entry's numbers in the order of its line, 0 for those that it hasn't. The third number is the place of its value among the values,
 /// and a call's that of its site and arguments among the calls.
 #[derive(Clone, Copy)]
 pub struct Parts {
-    pub shape: Shape,
+    pub kind: Kind,
     pub first: u64,
     pub second: u64,
     pub third: u64,
@@ -46,7 +28,7 @@ pub struct Parts {
 /// An entry by its first three numbers, of 32 bits each, and a fourth that they tell; else by the place of its parts.
 #[derive(Clone, Copy)]
 pub enum Row {
-    Narrow(Shape, u32, u32, u32),
+    Narrow(Kind, u32, u32, u32),
     Wide(usize),
 }
 
@@ -78,11 +60,11 @@ impl Model for Tables {
     ghost view = { λ t. record { values = t.values.items; calls = t.calls.items; wides = t.wides.items } };
 }
 
-fn numbered(shape: Shape, first: u64, second: u64, third: u64, fourth: u64) -> Parts
-    ensures { result ≡ record { shape = shape; first = first; second = second; third = third; fourth = fourth } }
+fn numbered(kind: Kind, first: u64, second: u64, third: u64, fourth: u64) -> Parts
+    ensures { result ≡ record { kind = kind; first = first; second = second; third = third; fourth = fourth } }
 {
     Parts {
-        shape,
+        kind,
         first,
         second,
         third,
@@ -90,37 +72,12 @@ fn numbered(shape: Shape, first: u64, second: u64, third: u64, fourth: u64) -> P
     }
 }
 
-// The parts of an entry whose value stands behind that many values, or whose call behind that many calls.
-fn parts_of(entry: &Entry, values: usize, calls: usize) -> Parts
-    ensures { result ≡ parts_for values calls entry.now }
-{
-    match entry {
-        Entry::End(s) => numbered(Shape::End, *s, 0, 0, 0),
-        Entry::Fork(s, a, b) => numbered(Shape::Fork, *s, *a, *b, 0),
-        Entry::Seq(s, a) => numbered(Shape::Seq, *s, *a, 0, 0),
-        Entry::Other(s, a) => numbered(Shape::Other, *s, *a, 0, 0),
-        Entry::Def(s, a) => numbered(Shape::Def, *s, *a, 0, 0),
-        Entry::Void(s) => numbered(Shape::Void, *s, 0, 0, 0),
-        Entry::Open(s, c, a, b) => numbered(Shape::Open, *s, *c, *a, *b),
-        Entry::Send(s, a, _) => numbered(Shape::Send, *s, *a, values as u64, 0),
-        Entry::Call(s, k, _, _) => numbered(Shape::Call, *s, *k, calls as u64, 0),
-        Entry::Return(k, a, _) => numbered(Shape::Return, *k, *a, values as u64, 0),
-        Entry::ReturnHalt(k) => numbered(Shape::ReturnHalt, *k, 0, 0, 0),
-        Entry::Bind(s, c, _) => numbered(Shape::Bind, *s, *c, values as u64, 0),
-        Entry::Lost(c) => numbered(Shape::Lost, *c, 0, 0, 0),
-        Entry::Right(s, a) => numbered(Shape::Right, *s, *a, 0, 0),
-        Entry::Publish(s, _) => numbered(Shape::Publish, *s, 0, values as u64, 0),
-        Entry::Tick(t) => numbered(Shape::Tick, *t, 0, 0, 0),
-        Entry::Cancel(k) => numbered(Shape::Cancel, *k, 0, 0, 0),
-    }
-}
-
 // The fourth number of a narrow row by its third: the two marks of an `open` follow one another.
-fn last_of(shape: Shape, third: u32) -> u64
-    ensures { result ≡ last_of shape third }
+fn last_of(kind: Kind, third: u32) -> u64
+    ensures { result ≡ last_of kind third }
 {
-    match shape {
-        Shape::Open => third as u64 + 1,
+    match kind {
+        Kind::Open => third as u64 + 1,
         _ => 0,
     }
 }
@@ -142,8 +99,8 @@ fn narrow(parts: Parts) -> Option<Row>
     let first = short(parts.first)?;
     let second = short(parts.second)?;
     let third = short(parts.third)?;
-    if parts.fourth == last_of(parts.shape, third) {
-        Some(Row::Narrow(parts.shape, first, second, third))
+    if parts.fourth == last_of(parts.kind, third) {
+        Some(Row::Narrow(parts.kind, first, second, third))
     } else {
         None
     }
@@ -151,7 +108,7 @@ fn narrow(parts: Parts) -> Option<Row>
 
 // The arguments of a call.
 fn args_of(values: &[Value]) -> Args
-    requires { length values.now ≤ 16 }
+    requires { length values.now ≤ MOST_ARGUMENTS }
     ensures { result ≡ values.now }
 {
     let mut args = Args::new();
@@ -183,42 +140,6 @@ impl Tables {
         }
     }
 
-    fn add_value(&mut self, value: Value) -> Result<(), AllocError>
-        ensures added { OnOk result (self.new ≡ with_value self.old value) }
-        ensures refused { OnErr result (self.new ≡ self.old) }
-    {
-        self.values.push(value)?;
-        Ok(())
-    }
-
-    fn add_call(&mut self, site: u32, args: &[Value]) -> Result<(), AllocError>
-        requires { length args.now ≤ 16 }
-        ensures added { OnOk result (self.new ≡ with_call self.old site args.now) }
-        ensures refused { OnErr result (Keeps self.old self.new) }
-    {
-        let start = self.values.len();
-        let count = args.len() as u8;
-        self.values.extend_from_slice(args)?;
-        self.calls.push(Called { site, count, start })?;
-        Ok(())
-    }
-
-    // Adds what an entry's parts point to.
-    fn add_named(&mut self, entry: &Entry) -> Result<(), AllocError>
-        ensures added { OnOk result (self.new ≡ with_entry self.old entry.now) }
-        ensures refused { OnErr result (Keeps self.old self.new) }
-        ensures few { HasFew entry.now }
-    {
-        match entry {
-            Entry::Send(_, _, v) => self.add_value(*v),
-            Entry::Return(_, _, v) => self.add_value(*v),
-            Entry::Bind(_, _, v) => self.add_value(*v),
-            Entry::Publish(_, v) => self.add_value(*v),
-            Entry::Call(_, _, site, args) => self.add_call(*site, args.as_slice()),
-            _ => Ok(()),
-        }
-    }
-
     // A row of these parts.
     fn add_parts(&mut self, parts: Parts) -> Result<Row, AllocError>
         ensures names { IfOk result (λ r. Names self.new.wides r parts) }
@@ -228,19 +149,89 @@ impl Tables {
             return Ok(row);
         }
         let at = self.wides.len();
-        self.wides.push(parts)?;
+        put(&mut self.wides, parts)?;
         Ok(Row::Wide(at))
+    }
+
+    // The row of an entry of numbers alone.
+    fn add_plain(
+        &mut self,
+        kind: Kind,
+        first: u64,
+        second: u64,
+        third: u64,
+        fourth: u64,
+    ) -> Result<Row, AllocError>
+        requires { IsPlain kind }
+        ensures kept { Keeps self.old self.new }
+        ensures row { IfOk result (λ r. StandsFor self.new r (plain kind first second third fourth)) }
+    {
+        self.add_parts(numbered(kind, first, second, third, fourth))
+    }
+
+    /// The row of an entry with a value. The error is refused memory.
+    pub(crate) fn add_given(
+        &mut self,
+        kind: Kind,
+        first: u64,
+        second: u64,
+        value: Value,
+    ) -> Result<Row, AllocError>
+        requires { HasValue kind }
+        ensures kept { Keeps self.old self.new }
+        ensures row { IfOk result (λ r. StandsFor self.new r (given kind first second value)) }
+    {
+        let at = self.values.len() as u64;
+        let row = self.add_parts(numbered(kind, first, second, at, 0))?;
+        put(&mut self.values, value)?;
+        Ok(row)
+    }
+
+    /// The row of a call. The error is refused memory.
+    pub(crate) fn add_call(
+        &mut self,
+        token: u64,
+        call: u64,
+        site: u32,
+        args: &[Value],
+    ) -> Result<Row, AllocError>
+        requires { length args.now ≤ MOST_ARGUMENTS }
+        ensures kept { Keeps self.old self.new }
+        ensures row { IfOk result (λ r. StandsFor self.new r (Call token call site args.now)) }
+    {
+        let at = self.calls.len() as u64;
+        let start = self.values.len();
+        let count = args.len() as u8;
+        let row = self.add_parts(numbered(Kind::Call, token, call, at, 0))?;
+        self.values.extend_from_slice(args)?;
+        put(&mut self.calls, Called { site, count, start })?;
+        Ok(row)
     }
 
     /// The row of an entry, with what it points to behind the other rows'. The error is refused memory.
     pub(crate) fn add(&mut self, entry: &Entry) -> Result<Row, AllocError>
         ensures kept { Keeps self.old self.new }
-        ensures row { IfOk result (λ r. IsWithin self.new r × (entry_of self.new r ≡ entry.now)) }
+        ensures row { IfOk result (λ r. StandsFor self.new r entry.now) }
     {
-        let parts = parts_of(entry, self.values.len(), self.calls.len());
-        let row = self.add_parts(parts)?;
-        self.add_named(entry)?;
-        Ok(row)
+        match entry {
+            Entry::End(s) => self.add_plain(Kind::End, *s, 0, 0, 0),
+            Entry::Fork(s, a, b) => self.add_plain(Kind::Fork, *s, *a, *b, 0),
+            Entry::Seq(s, a) => self.add_plain(Kind::Seq, *s, *a, 0, 0),
+            Entry::Other(s, a) => self.add_plain(Kind::Other, *s, *a, 0, 0),
+            Entry::Def(s, a) => self.add_plain(Kind::Def, *s, *a, 0, 0),
+            Entry::Void(s) => self.add_plain(Kind::Void, *s, 0, 0, 0),
+            Entry::Open(s, c, a, b) => self.add_plain(Kind::Open, *s, *c, *a, *b),
+            Entry::Send(s, a, v) => self.add_given(Kind::Send, *s, *a, *v),
+            Entry::Call(s, k, site, args) => self.add_call(*s, *k, *site, args.as_slice()),
+            Entry::Return(k, a, v) => self.add_given(Kind::Return, *k, *a, *v),
+            Entry::ReturnHalt(k) => self.add_plain(Kind::ReturnHalt, *k, 0, 0, 0),
+            Entry::Bind(s, c, v) => self.add_given(Kind::Bind, *s, *c, *v),
+            Entry::Lost(c) => self.add_plain(Kind::Lost, *c, 0, 0, 0),
+            Entry::Right(s, a) => self.add_plain(Kind::Right, *s, *a, 0, 0),
+            Entry::Publish(s, v) => self.add_given(Kind::Publish, *s, 0, *v),
+            Entry::Tick(t) => self.add_plain(Kind::Tick, *t, 0, 0, 0),
+            Entry::Cancel(k) => self.add_plain(Kind::Cancel, *k, 0, 0, 0),
+        }
     }
 
     fn parts_at(&self, row: Row) -> Parts
@@ -248,8 +239,8 @@ impl Tables {
         ensures { result ≡ parts_in self.now.wides row }
     {
         match row {
-            Row::Narrow(shape, a, b, c) => {
-                numbered(shape, a as u64, b as u64, c as u64, last_of(shape, c))
+            Row::Narrow(kind, a, b, c) => {
+                numbered(kind, a as u64, b as u64, c as u64, last_of(kind, c))
             }
             Row::Wide(at) => self.wides[at],
         }
@@ -270,24 +261,24 @@ impl Tables {
         ensures { result ≡ entry_of self.now row }
     {
         let p = self.parts_at(row);
-        match p.shape {
-            Shape::End => Entry::End(p.first),
-            Shape::Fork => Entry::Fork(p.first, p.second, p.third),
-            Shape::Seq => Entry::Seq(p.first, p.second),
-            Shape::Other => Entry::Other(p.first, p.second),
-            Shape::Def => Entry::Def(p.first, p.second),
-            Shape::Void => Entry::Void(p.first),
-            Shape::Open => Entry::Open(p.first, p.second, p.third, p.fourth),
-            Shape::Send => Entry::Send(p.first, p.second, value_at(&self.values, p.third)),
-            Shape::Call => self.call(p.first, p.second, p.third),
-            Shape::Return => Entry::Return(p.first, p.second, value_at(&self.values, p.third)),
-            Shape::ReturnHalt => Entry::ReturnHalt(p.first),
-            Shape::Bind => Entry::Bind(p.first, p.second, value_at(&self.values, p.third)),
-            Shape::Lost => Entry::Lost(p.first),
-            Shape::Right => Entry::Right(p.first, p.second),
-            Shape::Publish => Entry::Publish(p.first, value_at(&self.values, p.third)),
-            Shape::Tick => Entry::Tick(p.first),
-            Shape::Cancel => Entry::Cancel(p.first),
+        match p.kind {
+            Kind::End => Entry::End(p.first),
+            Kind::Fork => Entry::Fork(p.first, p.second, p.third),
+            Kind::Seq => Entry::Seq(p.first, p.second),
+            Kind::Other => Entry::Other(p.first, p.second),
+            Kind::Def => Entry::Def(p.first, p.second),
+            Kind::Void => Entry::Void(p.first),
+            Kind::Open => Entry::Open(p.first, p.second, p.third, p.fourth),
+            Kind::Send => Entry::Send(p.first, p.second, value_at(&self.values, p.third)),
+            Kind::Call => self.call(p.first, p.second, p.third),
+            Kind::Return => Entry::Return(p.first, p.second, value_at(&self.values, p.third)),
+            Kind::ReturnHalt => Entry::ReturnHalt(p.first),
+            Kind::Bind => Entry::Bind(p.first, p.second, value_at(&self.values, p.third)),
+            Kind::Lost => Entry::Lost(p.first),
+            Kind::Right => Entry::Right(p.first, p.second),
+            Kind::Publish => Entry::Publish(p.first, value_at(&self.values, p.third)),
+            Kind::Tick => Entry::Tick(p.first),
+            Kind::Cancel => Entry::Cancel(p.first),
         }
     }
 }

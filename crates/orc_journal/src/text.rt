@@ -12,6 +12,7 @@ use crate::journal::{Journal, Version};
 use crate::reading::{after, read_entry};
 use orc_rules::answers::Answers;
 use orc_rules::entry::Entry;
+use orc_rules::limits::{LONGEST_JOURNAL, MOST_ENTRIES};
 use std::alloc::{AllocError, Global};
 
 /// Why a journal isn't read.
@@ -21,7 +22,7 @@ pub enum JournalFault {
     Header,
     /// J2: the first line that is none of an entry, counted from 1.
     Line(usize),
-    /// J3: over 1,073,741,824 bytes, or over 10,000,000 entries besides the cancels.
+    /// J3: over `LONGEST_JOURNAL` bytes, or over `MOST_ENTRIES` entries besides the cancels.
     Long,
     /// J4: memory was refused.
     Memory,
@@ -55,7 +56,7 @@ fn is_known(version: Version, entry: &Entry) -> bool
 }
 
 // How many entries count for the limit, with one more.
-fn count_with(counted: usize, entry: &Entry) -> usize
+fn count_with(counted: u64, entry: &Entry) -> u64
     requires { counted < 2 ^ 63 }
     ensures { result ≡ (if counts entry.now then counted + 1 else counted) }
 {
@@ -88,7 +89,7 @@ pub fn read_journal(alloc: Global, text: &[u8], answers: &Answers) -> Result<Jou
     // A journal's text is read as that journal, unless memory is refused.
     ensures only { (j : Written) → IsJournal answers.now.names text.now j → MatchResult result (λ k. k ≡ j) (λ f. f ≡ MemoryFault) }
 {
-    if text.len() > 1 << 30 {
+    if text.len() > LONGEST_JOURNAL {
         return Err(JournalFault::Long);
     }
     let Some((version, rest)) = read_header(text) else {
@@ -96,14 +97,14 @@ pub fn read_journal(alloc: Global, text: &[u8], answers: &Answers) -> Result<Jou
     };
     answers.are_apart();
     let mut journal = Journal::new(alloc, version);
-    let mut counted: usize = 0;
+    let mut counted: u64 = 0;
     let mut rest = rest;
     while !rest.is_empty() {
         let Some((entry, behind)) = next_entry(version, rest, answers) else {
             return Err(JournalFault::Line(journal.len() + 2));
         };
         counted = count_with(counted, &entry);
-        if counted > 10_000_000 {
+        if counted > MOST_ENTRIES {
             return Err(JournalFault::Long);
         }
         if journal.push(&entry).is_err() {

@@ -3,10 +3,8 @@
 ghost use Rattle.std.specs.Prelude.{◌≡◌, ◌++◌, ◌<◌, OnOk, codes, decimal, List, length, slice_index_or, map, ◌∷◌, []};
 ghost use Rattle.std.specs.Fmt.{signed_decimal};
 ghost use Rattle.orc_rules.specs.Text.{value_text, closing, arguments, number, value, call, word, fields, line, output, IsNamed};
-ghost use Rattle.orc_journal.specs.Kinds.{kind, kind_word};
 ghost use Rattle.orc_rules.specs.declared.value.Value.{Value as Datum};
 
-use crate::kind::kind_of;
 use orc_rules::answers::Answers;
 use orc_rules::entry::Entry;
 use orc_rules::value::{Args, Value};
@@ -135,9 +133,19 @@ fn push_fields(out: &mut Vec<u8>, entry: &Entry, answers: &Answers) -> Result<()
             push_number(out, *a)?;
             push_number(out, *b)?;
         }
-        Entry::Send(s, a, v) | Entry::Return(s, a, v) | Entry::Bind(s, a, v) => {
+        Entry::Send(s, a, v) => {
             push_number(out, *s)?;
             push_number(out, *a)?;
+            push_value_field(out, *v)?;
+        }
+        Entry::Return(k, a, v) => {
+            push_number(out, *k)?;
+            push_number(out, *a)?;
+            push_value_field(out, *v)?;
+        }
+        Entry::Bind(s, c, v) => {
+            push_number(out, *s)?;
+            push_number(out, *c)?;
             push_value_field(out, *v)?;
         }
         Entry::Publish(s, v) => {
@@ -162,7 +170,7 @@ pub fn write_entry(entry: &Entry, answers: &Answers, out: &mut Vec<u8>) -> Resul
     requires { IsNamed answers.now.names entry.now }
     ensures { OnOk result (out.new.items ≡ out.old.items ++ line answers.now.names entry.now) }
 {
-    out.extend_from_slice(kind_of(entry).word())?;
+    out.extend_from_slice(entry.kind().word())?;
     push_fields(out, entry, answers)?;
     out.push(b'\n')?;
     Ok(())
