@@ -1,0 +1,34 @@
+# What the checks of the built program share. A check sources this, counts with `pass` and `fail`, and ends with `finish`.
+# shellcheck shell=bash disable=SC2034
+set -u
+shopt -s extglob
+top=$(cd "$(dirname "$(readlink -f "${BASH_SOURCE[0]}")")/.." && pwd)
+program=${ORC_PROGRAM:-$top/crates/orc/out/orc}
+if [ ! -x "$program" ]; then
+    echo "the program isn't built: there is no $program" >&2
+    exit 1
+fi
+# A folder that goes when the check ends.
+place=$(mktemp -d)
+trap 'rm -rf "$place"' EXIT
+passed=0
+failed=0
+
+pass() { passed=$((passed + 1)); }
+
+# fail TEXT..: one more that is wrong. The first few are told.
+fail() {
+    failed=$((failed + 1))
+    if [ "$failed" -le 20 ]; then printf '%s\n' "$@"; fi
+}
+
+# is_so NAME WANTED GOT: what comes out is what has to.
+is_so() {
+    if [ "$2" = "$3" ]; then pass; else fail "$1: wanted is" "$2" "but it gives" "$3"; fi
+}
+
+# The last line, 'N passed, M failed', and the status.
+finish() {
+    echo "$passed passed, $failed failed"
+    [ "$failed" = 0 ]
+}
