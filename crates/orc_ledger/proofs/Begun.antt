@@ -27,6 +27,7 @@ begun limit root =
       now = 0;
       made = 0;
       tokens = record { serial = 1; standing = At root 0; step = 0 } ∷ [];
+      slots = record { serial = 1; standing = At root 0; step = 0 } ∷ [];
       calls = [];
       scopes = [];
       steps = [];

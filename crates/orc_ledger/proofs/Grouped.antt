@@ -3,7 +3,6 @@ use Rattle.std.proofs.Common.{◌≡◌, ◌≤◌, ◌<◌, ℕ, zero, suc, ◌
 use Rattle.std.proofs.lemmas.Bool.{eqb-true, ltb-false}
 use Rattle.std.specs.Prelude.{slice_get, nat_lt, ◌||◌}
 use Rattle.orc_rules.specs.declared.entry.Entry.{Entry}
-use Rattle.orc_rules.specs.Term.{Term}
 use Rattle.orc_rules.specs.Nodes.{Listing, code}
 use Rattle.orc_rules.specs.Sites.{Site}
 use Rattle.orc_rules.specs.Timed.{IsIn}
@@ -12,7 +11,7 @@ use Rattle.orc_names.specs.declared.names.Bound.TheVariants.{Cell}
 use Rattle.orc_names.specs.declared.names.Scope.{Scope}
 use Rattle.orc_ledger.specs.Same.{weight, only, but, None}
 use Rattle.orc_ledger.specs.Spelling.{aiding, inside}
-use Rattle.orc_ledger.specs.Records.{Records, Sound, Lawful, its_env, raw_path, group_at, group_of, depth_at, token_out, call_out, group_out, is_out, side_out}
+use Rattle.orc_ledger.specs.Records.{Records, Lawful, its_env, raw_path, group_at, group_of, depth_at, group_out, side_out}
 use Rattle.orc_ledger.specs.Calls.{Turns, Crosses, Exchanges, Drops, Resumes, Closes, IsFree, born, IsEnded, IsForked, IsFed, IsTried, IsOpened, token_goes, call_goes, group_goes, is_inside, bare}
 use Rattle.orc_ledger.specs.Homes.{home, home_by, aids, Nest}
 use Rattle.orc_ledger.specs.Taking.{outer_of, outer_at, reach}
@@ -27,13 +26,13 @@ use Rattle.orc_ledger.specs.declared.records.Side.{Side}
 use Rattle.orc_ledger.specs.declared.records.Side.TheVariants.{Right, Left}
 use Rattle.orc_ledger.specs.declared.records.Group.{Group}
 use Rattle.orc_ledger.proofs.Weight.{weight-in, weight-parts, weight-none, none-weaker, none-alike, none-in}
-use Rattle.orc_ledger.proofs.Growth.{or_false, both_false, path-none}
+use Rattle.orc_ledger.proofs.Growth.{or_false, path-none}
 use Rattle.orc_ledger.proofs.Homes.{inn-home, inn-step}
 use Rattle.orc_ledger.proofs.Someone.{some-in, this_one, some_same, token_within, call_within, get-within}
-use Rattle.orc_ledger.proofs.Emptied.{none-of, this_is}
+use Rattle.orc_ledger.proofs.Emptied.{this_is}
 use Rattle.orc_ledger.proofs.Passing.{ticked}
 use Rattle.orc_ledger.proofs.Places.{IsPlaced, is_placed, test-placed, placed-test, IsSided, is_sided, test-sided, sided-test, all-of, all-in, not_false}
-use Rattle.orc_ledger.proofs.Nests.{AreNested, alike-group, placed-alike, nested-alike, homes', placed-more, sided-more, nested-fed, placed-fed, opened_groups, grown, placed-own, nested-opened, open_groups, placed-still, nested-closed}
+use Rattle.orc_ledger.proofs.Nests.{AreNested, placed-alike, nested-alike, homes', placed-more, sided-more, nested-fed, placed-fed, opened_groups, grown, placed-own, nested-opened, open_groups, placed-still, nested-closed}
 
 -- ---- what is kept, in the form that weights carry
 

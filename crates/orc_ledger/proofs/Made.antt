@@ -1,6 +1,5 @@
 -- From the lists that a call leaves to what it says of them.
-use Rattle.std.proofs.Common.{◌≡◌, ◌≤◌, ◌<◌, ℕ, ◌+◌, List, [], ◌∷◌, ◌++◌, sym, ap, ◌∙◌, subst, arith, length, get_or}
-use Rattle.std.specs.List.{swap_remove}
+use Rattle.std.proofs.Common.{◌≡◌, ◌≤◌, ℕ, ◌+◌, List, [], ◌∷◌, ◌++◌, ap, ◌∙◌, arith, length}
 use Rattle.orc_rules.specs.declared.entry.Entry.{Entry}
 use Rattle.orc_rules.specs.Timed.{IsIn}
 use Rattle.orc_names.specs.declared.names.Bound.{Bound}
@@ -15,18 +14,19 @@ use Rattle.orc_ledger.specs.Calls.{Turns, Crosses, Publishes}
 use Rattle.orc_ledger.specs.declared.records.Token.{Token}
 use Rattle.orc_ledger.specs.declared.records.Step.{Step}
 use Rattle.orc_ledger.specs.declared.records.Group.{Group}
-use Rattle.orc_ledger.proofs.Weight.{weight-append, weight-swap_remove, in-got, none-in}
+use Rattle.orc_ledger.proofs.Weight.{weight-append, none-in}
 use Rattle.orc_ledger.proofs.Growth.{or_false}
+use Rattle.orc_ledger.proofs.Sound.{given}
 
-pub token_in : (ts : List Token) (i : ℕ) (t : Token) → i < length ts → t ≡ get_or ts i t → IsIn t ts
-token_in ts i t h is = subst (λ u. IsIn u ts) (sym is) (in-got ts i t h)
+-- the next mark is no free slot's
+pub later_mark : (l : Listing) (sites : List Site) (s : Records) (L : Lawful l sites s) (t : Token) → IsIn t s.tokens → 1 ≤ s.next_mark
+later_mark l sites s L t i = omega (arith, given l sites s L t i)
 
-pub turns : (s s' : Records) (t : Token) (i : ℕ) (births : List Token) (ss : List Scope) (ps : List Step) (gs : List Group) (cs : List Bound) (e : Entry)
-    → i < length s.tokens → t ≡ get_or s.tokens i t
+pub turns : (s s' : Records) (t : Token) (births : List Token) (ss : List Scope) (ps : List Step) (gs : List Group) (cs : List Bound) (e : Entry)
     → s'.limit ≡ s.limit → s'.journal ≡ s.journal ++ e ∷ [] → s'.entries ≡ s.entries + 1 → s'.next_mark ≡ s.next_mark + length births → s'.now ≡ s.now → s'.made ≡ s.made
-    → s'.tokens ≡ swap_remove s.tokens i t ++ births → s'.calls ≡ s.calls → s'.scopes ≡ s.scopes ++ ss → s'.steps ≡ s.steps ++ ps → s'.groups ≡ s.groups ++ gs → s'.cells ≡ s.cells ++ cs
+    → ((w : Token → ℕ) → weight w s'.tokens + w t ≡ weight w s.tokens + weight w births) → s'.calls ≡ s.calls → s'.scopes ≡ s.scopes ++ ss → s'.steps ≡ s.steps ++ ps → s'.groups ≡ s.groups ++ gs → s'.cells ≡ s.cells ++ cs
     → Turns s s' t births ss ps gs cs e
-turns s s' t i births ss ps gs cs e there is limit journal entries mark now made tokens calls scopes steps groups cells =
+turns s s' t births ss ps gs cs e limit journal entries mark now made tokens calls scopes steps groups cells =
     record {
       limit = limit;
       journal = journal;
@@ -34,7 +34,7 @@ turns s s' t i births ss ps gs cs e there is limit journal entries mark now made
       mark = mark;
       now = now;
       made = made;
-      tokens = λ w. omega (arith, ap (weight w) tokens, weight-append w (swap_remove s.tokens i t) births, weight-swap_remove w s.tokens i t there, ap w is);
+      tokens = tokens;
       calls = calls;
       groups = λ w. ap (weight w) groups ∙ weight-append w s.groups gs;
       scopes = scopes;
@@ -45,12 +45,11 @@ turns s s' t i births ss ps gs cs e there is limit journal entries mark now made
 pub step_in : (l : Listing) (sites : List Site) (s : Records) (L : Lawful l sites s) (t : Token) → IsIn t s.tokens → t.step ≤ length s.steps
 step_in l sites s L t i = ltb-false (length s.steps) t.step (or_false (is_out (length s.scopes) t.standing) (nat_lt (length s.steps) t.step) (none-in (token_out (length s.scopes) (length s.steps)) s.tokens t L.sound.tokens i)).1
 
-pub crosses : (s s' : Records) (t : Token) (i : ℕ) (births : List Token) (ss : List Scope) (ns : List ℕ) (e : Entry)
-    → i < length s.tokens → t ≡ get_or s.tokens i t
+pub crosses : (s s' : Records) (t : Token) (births : List Token) (ss : List Scope) (ns : List ℕ) (e : Entry)
     → s'.limit ≡ s.limit → s'.journal ≡ s.journal ++ e ∷ [] → s'.entries ≡ s.entries + 1 → s'.next_mark ≡ s.next_mark + length births → s'.now ≡ s.now → s'.made ≡ s.made
-    → s'.tokens ≡ swap_remove s.tokens i t ++ births → s'.calls ≡ s.calls → s'.scopes ≡ s.scopes ++ ss → Publishes ns s.steps s'.steps → s'.groups ≡ s.groups → s'.cells ≡ s.cells
+    → ((w : Token → ℕ) → weight w s'.tokens + w t ≡ weight w s.tokens + weight w births) → s'.calls ≡ s.calls → s'.scopes ≡ s.scopes ++ ss → Publishes ns s.steps s'.steps → s'.groups ≡ s.groups → s'.cells ≡ s.cells
     → Crosses s s' t births ss ns e
-crosses s s' t i births ss ns e there is limit journal entries mark now made tokens calls scopes steps groups cells =
+crosses s s' t births ss ns e limit journal entries mark now made tokens calls scopes steps groups cells =
     record {
       limit = limit;
       journal = journal;
@@ -58,7 +57,7 @@ crosses s s' t i births ss ns e there is limit journal entries mark now made tok
       mark = mark;
       now = now;
       made = made;
-      tokens = λ w. omega (arith, ap (weight w) tokens, weight-append w (swap_remove s.tokens i t) births, weight-swap_remove w s.tokens i t there, ap w is);
+      tokens = tokens;
       calls = calls;
       groups = groups;
       scopes = scopes;

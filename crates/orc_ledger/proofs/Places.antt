@@ -1,9 +1,9 @@
 -- Where steps and sides stand among the groups, as tests: weights carry them from one book to the next.
-use Rattle.std.proofs.Common.{◌≡◌, ◌≤◌, ℕ, zero, suc, List, [], ◌∷◌, refl, sym, ap, ◌∙◌, arith, inl, inr, Bool, true, false, cond, nat_eq, eq-eqb, not, Option, Some, None as Nothing, length}
+use Rattle.std.proofs.Common.{◌≡◌, ◌≤◌, ℕ, zero, suc, List, refl, ap, ◌∙◌, Bool, true, false, nat_eq, eq-eqb, not, Option, Some, None as Nothing, length}
 use Rattle.std.proofs.lemmas.Bool.{eqb-true, ltb-false, le-ltb}
 use Rattle.std.specs.Prelude.{slice_get, nat_lt, ◌&&◌}
 use Rattle.orc_rules.specs.Timed.{IsIn}
-use Rattle.orc_ledger.specs.Same.{weight, only, None}
+use Rattle.orc_ledger.specs.Same.{None}
 use Rattle.orc_ledger.specs.Records.{group_at}
 use Rattle.orc_ledger.specs.Homes.{home, Nest}
 use Rattle.orc_ledger.specs.Next.{IsSide}

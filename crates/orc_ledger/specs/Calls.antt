@@ -1,7 +1,7 @@
 -- What the calls of a book do to its records.
 use Rattle.std.specs.Prelude.{ℕ, ◌+◌, ◌≡◌, ◌≤◌, ◌<◌, ◌⊎◌, ◌↔◌, List, [], ◌∷◌, ◌++◌, Bool, true, false, cond, nat_eq, map, length, slice_set}
 use Rattle.orc_rules.specs.declared.entry.Entry.{Entry}
-use Rattle.orc_rules.specs.declared.entry.Entry.TheVariants.{End, Fork, Seq, Other, Open, Right as Right_}
+use Rattle.orc_rules.specs.declared.entry.Entry.TheVariants.{End, Fork, Seq, Other, Open, Void as Void_, Right as Right_}
 use Rattle.orc_rules.specs.Term.{Term}
 use Rattle.orc_rules.specs.Timed.{IsIn, IsRising}
 use Rattle.orc_rules.specs.Numbered.{once}
@@ -83,6 +83,9 @@ module _ (s : Records) (t : Token) where
 
   abbrev pub IsEnded : Records → Type 0
   IsEnded s' = Turns s s' t [] [] [] [] [] (End t.serial)
+
+  abbrev pub IsVoided : Records → Type 0
+  IsVoided s' = Turns s s' t [] [] [] [] [] (Void_ t.serial)
 
   abbrev pub IsForked : ℕ → ℕ → ℕ → Records → Type 0
   IsForked scope f g s' = Turns s s' t (born s.next_mark f scope t.step ∷ born (s.next_mark + 1) g scope t.step ∷ []) [] [] [] [] (Fork t.serial s.next_mark (s.next_mark + 1))

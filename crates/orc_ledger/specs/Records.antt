@@ -52,6 +52,7 @@ pub record Records : Type 0 where
   pub now : ℕ
   pub made : ℕ  -- how many calls were made
   pub tokens : List Token
+  pub slots : List Token  -- where each token is found; one with serial 0 is none
   pub calls : List Call  -- those that pend
   pub scopes : List Scope
   pub steps : List Step

@@ -1,26 +1,21 @@
 -- Tokens in slots.
-use Rattle.std.specs.Prelude.{◌≡◌, ℕ, List, [], ◌∷◌, Option, Some, None, slice_get, Bool, false, nat_eq, ◌||◌}
+use Rattle.std.specs.Prelude.{◌≡◌, ◌≤◌, ℕ, List, [], ◌∷◌, Some, slice_get, Bool, cond, nat_lt}
 use Rattle.orc_ledger.specs.declared.records.Token.{Token}
 
--- what callers see of the tokens: themselves, and the next serial
-pub record Stock : Type 0 where
+-- what callers see of a table of tokens: its slots, and how many tokens more find room
+pub record Slots : Type 0 where
   pub items : List Token
-  pub next : ℕ
+  pub room : ℕ
+
+-- a slot whose token has serial 0 is free
+abbrev pub is_live : Token → Bool
+is_live t = nat_lt 0 t.serial
 
 -- the tokens in the slots
-abbrev pub live : List (Option Token) → List Token
+abbrev pub live : List Token → List Token
 live [] = []
-live (None ∷ ss) = live ss
-live (Some t ∷ ss) = t ∷ live ss
+live (t ∷ ts) = cond (is_live t) (t ∷ live ts) (live ts)
 
--- each token's serial has its slot
-abbrev pub AreNumbered : List (Option Token) → List ℕ → Type 0
-AreNumbered slots numbers = (k : ℕ) (t : Token) → slice_get slots k ≡ Some (Some t) → slice_get numbers t.serial ≡ Some k
-
-abbrev pub is_serial : ℕ → Token → Bool
-is_serial serial t = nat_eq serial t.serial
-
--- the token has one of these serials
-abbrev pub is_one_of : List ℕ → Token → Bool
-is_one_of [] t = false
-is_one_of (s ∷ ss) t = is_serial s t || is_one_of ss t
+-- a token is in this slot
+abbrev pub IsHeld : List Token → ℕ → Token → Type 0
+IsHeld slots slot t = (slice_get slots slot ≡ Some t) × (1 ≤ t.serial)

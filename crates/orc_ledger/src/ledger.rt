@@ -3,7 +3,8 @@
 ghost use Rattle.std.specs.Prelude.{◌≡◌, ◌+◌, ◌<◌, ◌≤◌, ◌++◌, ◌∷◌, [], ℕ, length, vec_len, vec_capacity, IfErr, OnOk, OnErr};
 ghost use Rattle.orc_ledger.specs.Calls.{HasRoom, IsRefused};
 
-use crate::records::{Call, Group, Step, Token};
+use crate::records::{Call, Group, Step};
+use crate::tokens::Tokens;
 use orc_journal::{Journal, Version};
 use orc_names::{Bound, Scope};
 use orc_rules::entry::Entry;
@@ -39,7 +40,7 @@ pub struct Ledger<P: Program> {
     pub(crate) next_mark: u64,
     pub(crate) time: u64,
     pub(crate) made: u64,
-    pub(crate) tokens: Vec<Token>,
+    pub(crate) tokens: Tokens,
     pub(crate) calls: Vec<Call>,
     pub(crate) scopes: Vec<Scope>,
     pub(crate) steps: Vec<Step>,
@@ -51,22 +52,24 @@ pub struct Ledger<P: Program> {
 impl<P: Program> Model for Ledger<P> {
     ghost use Rattle.orc_ledger.specs.Records.{Records};
     ghost use Rattle.orc_ledger.specs.Kept.{Kept};
+    ghost use Rattle.orc_ledger.specs.Tokens.{live};
 
     ghost Value = { Records };
 
-    ghost view = { λ b. record { limit = b.limit; journal = b.journal.entries; entries = b.entries; next_mark = b.next_mark; now = b.time; made = b.made; tokens = b.tokens.items; calls = b.calls.items; scopes = b.scopes.items; steps = b.steps.items; groups = b.groups.items; cells = b.cells.items } };
+    ghost view = { λ b. record { limit = b.limit; journal = b.journal.entries; entries = b.entries; next_mark = b.next_mark; now = b.time; made = b.made; tokens = live b.tokens.items; slots = b.tokens.items; calls = b.calls.items; scopes = b.scopes.items; steps = b.steps.items; groups = b.groups.items; cells = b.cells.items } };
 
-    ghost invariant = { λ b. Kept P.listing P.sites (record { limit = b.limit; journal = b.journal.entries; entries = b.entries; next_mark = b.next_mark; now = b.time; made = b.made; tokens = b.tokens.items; calls = b.calls.items; scopes = b.scopes.items; steps = b.steps.items; groups = b.groups.items; cells = b.cells.items }) };
+    ghost invariant = { λ b. Kept P.listing P.sites (record { limit = b.limit; journal = b.journal.entries; entries = b.entries; next_mark = b.next_mark; now = b.time; made = b.made; tokens = live b.tokens.items; slots = b.tokens.items; calls = b.calls.items; scopes = b.scopes.items; steps = b.steps.items; groups = b.groups.items; cells = b.cells.items }) };
 }
 
 /// Adds an item where there is room.
+// In place: a call of `push` would put the item together on the stack first.
+#[inline(always)]
 pub(crate) fn push_within<T: Drop>(items: &mut Vec<T>, item: T)
     requires { vec_len items.old < vec_capacity items.old }
     ensures items { items.new.items ≡ items.old.items ++ item ∷ [] }
     ensures capacity { vec_capacity items.old ≤ vec_capacity items.new }
 {
-    let pushed = items.push(item);
-    prove!(pushed.is_ok());
+    items.push_reserved(item);
 }
 
 // Makes room for one more item.

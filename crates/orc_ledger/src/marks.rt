@@ -1,14 +1,17 @@
-//! The moves of marks: an end, a fork, and the left side of a `>x>`.
+//! The entries of a token that stands at a node: an end, a void token, a fork, the left side of a `>x>` and of an otherwise, a pruning.
 
-ghost use Rattle.std.specs.Prelude.{◌≡◌, ◌+◌, ◌<◌, ℕ, length, slice_index_or, IfOk, IfErr, OnErr};
+ghost use Rattle.std.specs.Prelude.{◌≡◌, ◌+◌, ℕ, length, IfOk, IfErr, OnErr};
 ghost use Rattle.orc_rules.specs.Nodes.{code};
-ghost use Rattle.orc_rules.specs.Term.{stop, par, seq};
-ghost use Rattle.orc_ledger.specs.Records.{group_at, depth_at};
-ghost use Rattle.orc_ledger.specs.Calls.{IsRefused, IsEnded, IsForked, IsFed};
+ghost use Rattle.orc_rules.specs.Term.{stop, par, seq, prune, other};
+ghost use Rattle.orc_rules.specs.Journal.{IsVoid};
+ghost use Rattle.orc_ledger.specs.Records.{its_env, standing, group_at, depth_at};
+ghost use Rattle.orc_ledger.specs.Tokens.{IsHeld};
+ghost use Rattle.orc_ledger.specs.Calls.{IsRefused, IsFree, IsEnded, IsVoided, IsForked, IsFed, IsTried, IsOpened, born};
 ghost use Rattle.orc_ledger.specs.declared.records.Standing.TheVariants.{At};
 
 use crate::ledger::{Ledger, LedgerFault, Program, push_within, reserve, write};
-use crate::records::{Entered, Standing, Step, Token};
+use crate::records::{Entered, Group, Side, Standing, Step, Token};
+use orc_names::{Bound, Scope};
 use orc_rules::entry::Entry;
 
 // The group of a token that took this step last.
@@ -39,9 +42,8 @@ pub(crate) fn depth_at(steps: &Vec<Step>, step: usize) -> u32
 
 impl<P: Program> Ledger<P> {
     /// `stop`: the token goes.
-    fn end(&mut self, index: usize, token: Token) -> Result<(), LedgerFault>
-        requires there { index < length self.old.tokens }
-        requires is { token ≡ slice_index_or self.old.tokens index token }
+    fn end(&mut self, slot: usize, token: Token) -> Result<(), LedgerFault>
+        requires held { IsHeld self.old.slots slot token }
         requires at { (node : ℕ) × (scope : ℕ) × (token.standing ≡ At node scope) × (code P.listing node ≡ stop) }
         ensures done { IfOk result (λ _. IsEnded self.old token self.new) }
         ensures refused { OnErr result (self.new ≡ self.old) }
@@ -50,69 +52,81 @@ impl<P: Program> Ledger<P> {
         self.within(0, 0, 0)?;
         write(&mut self.journal, &Entry::End(token.serial))?;
         self.entries += 1;
-        self.tokens.swap_remove(index);
+        self.tokens.remove(slot);
         Ok(())
     }
 
-    /// `f | g`: a token on each side.
+    /// A variable without a value, or a call with such an argument: the token goes.
+    fn void(&mut self, slot: usize, token: Token) -> Result<(), LedgerFault>
+        requires held { IsHeld self.old.slots slot token }
+        requires void { IsVoid (standing (code P.listing) (its_env (code P.listing) self.old) token.standing) }
+        ensures done { IfOk result (λ _. IsVoided self.old token self.new) }
+        ensures refused { OnErr result (self.new ≡ self.old) }
+        ensures why { IfErr result (λ fault. IsRefused self.old 0 0 0 fault) }
+    {
+        self.within(0, 0, 0)?;
+        write(&mut self.journal, &Entry::Void(token.serial))?;
+        self.entries += 1;
+        self.tokens.remove(slot);
+        Ok(())
+    }
+
+    /// `f | g`: a token on each side, the left one in the same slot. Gives the right one's slot.
     fn fork(
         &mut self,
-        index: usize,
+        slot: usize,
         token: Token,
         scope: usize,
         left: usize,
         right: usize,
-    ) -> Result<(), LedgerFault>
-        requires there { index < length self.old.tokens }
-        requires is { token ≡ slice_index_or self.old.tokens index token }
+    ) -> Result<usize, LedgerFault>
+        requires held { IsHeld self.old.slots slot token }
         requires at { (node : ℕ) × (token.standing ≡ At node scope) × (code P.listing node ≡ par (code P.listing left) (code P.listing right)) }
         ensures done { IfOk result (λ _. IsForked self.old token scope left right self.new) }
+        ensures left { IfOk result (λ _. IsHeld self.new.slots slot (born self.old token self.old.next_mark left scope token.step)) }
+        ensures right { IfOk result (λ other. IsHeld self.new.slots other (born self.old token (self.old.next_mark + 1) right scope token.step)) }
         ensures refused { OnErr result (self.new ≡ self.old) }
         ensures why { IfErr result (λ fault. IsRefused self.old 1 0 0 fault) }
     {
         self.within(1, 0, 0)?;
-        reserve(&mut self.tokens)?;
+        self.tokens.reserve()?;
         let mark = self.next_mark;
         write(
             &mut self.journal,
             &Entry::Fork(token.serial, mark, mark + 1),
         )?;
         self.entries += 1;
-        self.tokens.swap_remove(index);
-        push_within(
-            &mut self.tokens,
+        self.next_mark = mark + 2;
+        self.tokens.replace(
+            slot,
             Token {
                 serial: mark,
                 standing: Standing::At(left, scope),
                 step: token.step,
             },
         );
-        push_within(
-            &mut self.tokens,
-            Token {
-                serial: mark + 1,
-                standing: Standing::At(right, scope),
-                step: token.step,
-            },
-        );
-        self.next_mark = mark + 2;
-        Ok(())
+        let other = self.tokens.add(Token {
+            serial: mark + 1,
+            standing: Standing::At(right, scope),
+            step: token.step,
+        });
+        Ok(other)
     }
 
-    /// `f >x> g`: a token on the left side.
+    /// `f >x> g`: a token on the left side, in the same slot.
     fn feed(
         &mut self,
-        index: usize,
+        slot: usize,
         token: Token,
         scope: usize,
         left: usize,
         name: u32,
         right: usize,
     ) -> Result<(), LedgerFault>
-        requires there { index < length self.old.tokens }
-        requires is { token ≡ slice_index_or self.old.tokens index token }
+        requires held { IsHeld self.old.slots slot token }
         requires at { (node : ℕ) × (token.standing ≡ At node scope) × (code P.listing node ≡ seq (code P.listing left) name (code P.listing right)) }
         ensures done { IfOk result (λ _. IsFed self.old token scope left name right self.new) }
+        ensures left { IfOk result (λ _. IsHeld self.new.slots slot (born self.old token self.old.next_mark left scope (length self.old.steps + 1))) }
         ensures refused { OnErr result (self.new ≡ self.old) }
         ensures why { IfErr result (λ fault. IsRefused self.old 0 0 (depth_at self.old.steps token.step + 1) fault) }
     {
@@ -126,7 +140,8 @@ impl<P: Program> Ledger<P> {
         let mark = self.next_mark;
         write(&mut self.journal, &Entry::Seq(token.serial, mark))?;
         self.entries += 1;
-        self.tokens.swap_remove(index);
+        self.next_mark = mark + 1;
+        let step = self.steps.len() + 1;
         push_within(
             &mut self.steps,
             Step {
@@ -137,15 +152,150 @@ impl<P: Program> Ledger<P> {
                 published: false,
             },
         );
-        push_within(
-            &mut self.tokens,
+        self.tokens.replace(
+            slot,
             Token {
                 serial: mark,
                 standing: Standing::At(left, scope),
-                step: self.steps.len(),
+                step,
             },
         );
-        self.next_mark = mark + 1;
         Ok(())
+    }
+
+    /// `f ; g`: a token on the left side, in the same slot, in a new group with this number.
+    fn other(
+        &mut self,
+        slot: usize,
+        token: Token,
+        scope: usize,
+        left: usize,
+        right: usize,
+        number: u32,
+    ) -> Result<(), LedgerFault>
+        requires held { IsHeld self.old.slots slot token }
+        requires at { (node : ℕ) × (token.standing ≡ At node scope) × (code P.listing node ≡ other (code P.listing left) (code P.listing right)) }
+        requires free { IsFree self.old number }
+        ensures done { IfOk result (λ _. IsTried self.old token scope left right number self.new) }
+        ensures left { IfOk result (λ _. IsHeld self.new.slots slot (born self.old token self.old.next_mark left scope (length self.old.steps + 1))) }
+        ensures refused { OnErr result (self.new ≡ self.old) }
+        ensures why { IfErr result (λ fault. IsRefused self.old 0 1 0 fault) }
+    {
+        self.within(0, 1, 0)?;
+        reserve(&mut self.steps)?;
+        reserve(&mut self.groups)?;
+        let depth = depth_at(&self.steps, token.step);
+        let mark = self.next_mark;
+        write(&mut self.journal, &Entry::Other(token.serial, mark))?;
+        self.entries += 1;
+        self.next_mark = mark + 1;
+        let step = self.steps.len() + 1;
+        push_within(
+            &mut self.steps,
+            Step {
+                entered: Entered::Try(token.serial),
+                outer: token.step,
+                group: number,
+                depth,
+                published: false,
+            },
+        );
+        push_within(
+            &mut self.groups,
+            Group {
+                side: Side::Left(token.serial, right, scope),
+                outer: token.step,
+                number,
+            },
+        );
+        self.tokens.replace(
+            slot,
+            Token {
+                serial: mark,
+                standing: Standing::At(left, scope),
+                step,
+            },
+        );
+        Ok(())
+    }
+
+    /// `f <x< g`: a token on each side with a new cell between them, the left one in the same slot, the right one in a new group with this
+    /// number. Gives the right one's slot.
+    fn prune(
+        &mut self,
+        slot: usize,
+        token: Token,
+        scope: usize,
+        left: usize,
+        name: u32,
+        right: usize,
+        number: u32,
+    ) -> Result<usize, LedgerFault>
+        requires held { IsHeld self.old.slots slot token }
+        requires at { (node : ℕ) × (token.standing ≡ At node scope) × (code P.listing node ≡ prune (code P.listing left) name (code P.listing right)) }
+        requires free { IsFree self.old number }
+        ensures done { IfOk result (λ _. IsOpened self.old token scope left name right number self.new) }
+        ensures left { IfOk result (λ _. IsHeld self.new.slots slot (born self.old token self.old.next_mark left (length self.old.scopes + 1) token.step)) }
+        ensures right { IfOk result (λ other. IsHeld self.new.slots other (born self.old token (self.old.next_mark + 1) right scope (length self.old.steps + 1))) }
+        ensures refused { OnErr result (self.new ≡ self.old) }
+        ensures why { IfErr result (λ fault. IsRefused self.old 1 1 0 fault) }
+    {
+        self.within(1, 1, 0)?;
+        self.tokens.reserve()?;
+        reserve(&mut self.scopes)?;
+        reserve(&mut self.steps)?;
+        reserve(&mut self.groups)?;
+        reserve(&mut self.cells)?;
+        let mark = self.next_mark;
+        let cell = self.cells.len() as u64;
+        write(
+            &mut self.journal,
+            &Entry::Open(token.serial, cell, mark, mark + 1),
+        )?;
+        self.entries += 1;
+        self.next_mark = mark + 2;
+        let inner = self.scopes.len() + 1;
+        let step = self.steps.len() + 1;
+        push_within(
+            &mut self.scopes,
+            Scope {
+                name,
+                bound: Bound::Cell(cell),
+                outer: scope,
+            },
+        );
+        push_within(
+            &mut self.steps,
+            Step {
+                entered: Entered::Aid(cell),
+                outer: token.step,
+                group: number,
+                depth: 0,
+                published: false,
+            },
+        );
+        push_within(
+            &mut self.groups,
+            Group {
+                side: Side::Right(cell),
+                outer: token.step,
+                number,
+            },
+        );
+        push_within(&mut self.cells, Bound::Cell(cell));
+        self.tokens.replace(
+            slot,
+            Token {
+                serial: mark,
+                standing: Standing::At(left, inner),
+                step: token.step,
+            },
+        );
+        let other = self.tokens.add(Token {
+            serial: mark + 1,
+            standing: Standing::At(right, scope),
+            step,
+        });
+        Ok(other)
     }
 }

@@ -7,6 +7,7 @@ ghost use Rattle.orc_rules.specs.declared.param.Param.TheVariants.{Is};
 ghost use Rattle.orc_rules.specs.declared.entry.Entry.TheVariants.{Send, Publish};
 ghost use Rattle.orc_names.specs.Scopes.{close, without};
 ghost use Rattle.orc_ledger.specs.Spelling.{whole, feeding};
+ghost use Rattle.orc_ledger.specs.Tokens.{IsHeld};
 ghost use Rattle.orc_ledger.specs.Taking.{taker, crossed, reach};
 ghost use Rattle.orc_ledger.specs.Records.{its_env, its_path, standing};
 ghost use Rattle.orc_ledger.specs.Calls.{Crosses, IsRefused};
@@ -21,9 +22,8 @@ use orc_rules::value::Value;
 
 impl<P: Program> Ledger<P> {
     /// A publication of the program: nothing round the token takes it.
-    fn publish(&mut self, index: usize, token: Token, value: Value) -> Result<(), LedgerFault>
-        requires there { index < length self.old.tokens }
-        requires is { token ≡ slice_index_or self.old.tokens index token }
+    fn publish(&mut self, slot: usize, token: Token, value: Value) -> Result<(), LedgerFault>
+        requires held { IsHeld self.old.slots slot token }
         requires form { standing (code P.listing) (its_env (code P.listing) self.old) token.standing ≡ param (Is value) }
         requires takes { taker (its_path (code P.listing) self.old token.step) ≡ whole }
         ensures done { IfOk result (λ _. Crosses self.old self.new token [] [] (crossed (its_path (code P.listing) self.old token.step)) (Publish token.serial value)) }
@@ -33,15 +33,15 @@ impl<P: Program> Ledger<P> {
         self.within(0, 0, 0)?;
         write(&mut self.journal, &Entry::Publish(token.serial, value))?;
         self.entries += 1;
-        self.tokens.swap_remove(index);
         leave_others(&mut self.steps, token.step);
+        self.tokens.remove(slot);
         Ok(())
     }
 
-    /// A `>x>` takes what the token publishes: a token on a copy of its right side.
+    /// A `>x>` takes what the token publishes: a token on a copy of its right side, in the same slot.
     fn send(
         &mut self,
-        index: usize,
+        slot: usize,
         token: Token,
         value: Value,
         name: u32,
@@ -49,13 +49,13 @@ impl<P: Program> Ledger<P> {
         scope: usize,
         outer: usize,
     ) -> Result<(), LedgerFault>
-        requires there { index < length self.old.tokens }
-        requires is { token ≡ slice_index_or self.old.tokens index token }
+        requires held { IsHeld self.old.slots slot token }
         requires form { standing (code P.listing) (its_env (code P.listing) self.old) token.standing ≡ param (Is value) }
         requires takes { taker (its_path (code P.listing) self.old token.step) ≡ feeding name (close (without name (its_env (code P.listing) self.old scope)) (code P.listing right)) (its_path (code P.listing) self.old outer) }
         requires way { (n : ℕ) × (reach self.old.steps n token.step ≡ outer) }
         requires fits { (scope ≤ length self.old.scopes) × (outer ≤ length self.old.steps) }
         ensures done { IfOk result (λ _. Crosses self.old self.new token (record { serial = self.old.next_mark; standing = At right (length self.old.scopes + 1); step = outer } ∷ []) (record { name = name; bound = Bound.Is value; outer = scope } ∷ []) (crossed (its_path (code P.listing) self.old token.step)) (Send token.serial self.old.next_mark value)) }
+        ensures right { IfOk result (λ _. IsHeld self.new.slots slot (record { serial = self.old.next_mark; standing = At right (length self.old.scopes + 1); step = outer })) }
         ensures refused { OnErr result (self.new ≡ self.old) }
         ensures why { IfErr result (λ fault. IsRefused self.old 0 0 0 fault) }
     {
@@ -64,8 +64,9 @@ impl<P: Program> Ledger<P> {
         let mark = self.next_mark;
         write(&mut self.journal, &Entry::Send(token.serial, mark, value))?;
         self.entries += 1;
-        self.tokens.swap_remove(index);
+        self.next_mark = mark + 1;
         leave_others(&mut self.steps, token.step);
+        let inner = self.scopes.len() + 1;
         push_within(
             &mut self.scopes,
             Scope {
@@ -74,15 +75,14 @@ impl<P: Program> Ledger<P> {
                 outer: scope,
             },
         );
-        push_within(
-            &mut self.tokens,
+        self.tokens.replace(
+            slot,
             Token {
                 serial: mark,
-                standing: Standing::At(right, self.scopes.len()),
+                standing: Standing::At(right, inner),
                 step: outer,
             },
         );
-        self.next_mark = mark + 1;
         Ok(())
     }
 }

@@ -1,160 +1,154 @@
-//! The tokens by their serials.
+//! The tokens, each in a slot.
 
-ghost use Rattle.std.specs.Prelude.{◌≡◌, ◌+◌, ℕ, Some, None, true, false, IfOk, IfSome, IfNone, MatchOption, OnOk, OnErr, slice_get, vec_len, vec_capacity, ◌≤◌};
-ghost use Rattle.orc_rules.specs.Timed.{IsIn};
-ghost use Rattle.orc_ledger.specs.Same.{weight, but};
-ghost use Rattle.orc_ledger.specs.Records.{has_serial};
-ghost use Rattle.orc_ledger.specs.Tokens.{AreNumbered, is_serial, is_one_of};
+ghost use Rattle.std.specs.Prelude.{◌≡◌, [], ◌+◌, ◌≤◌, ℕ, Some, None, length, IfSome, IfNone, OnOk, IfErr, slice_get, slice_set, vec_len, vec_capacity};
+ghost use Rattle.orc_ledger.specs.Same.{weight};
+ghost use Rattle.orc_ledger.specs.Tokens.{live, IsHeld};
 ghost use Rattle.orc_ledger.specs.declared.records.Token.{Token as Its};
 
-use crate::ledger::push_within;
-use crate::records::Token;
-use std::alloc::{AllocError, Global};
+use crate::ledger::LedgerFault;
+use crate::records::{Standing, Token};
+use std::alloc::Global;
 use std::marker::Model;
 
-/// The tokens in slots, and for each serial that was given out the slot that it got. A slot that is free is used again.
+/// The tokens in slots. A slot whose token has serial 0 is free, and is used again: a token is found by its slot, and its serial tells whether
+/// it is still the one that was put there.
 #[derive(Drop)]
 pub(crate) struct Tokens {
-    slots: Vec<Option<Token>>,
+    slots: Vec<Token>,
+    // Slots that became free. A slot may stand here that is in use again, so each is tested when it is taken.
     free: Vec<usize>,
-    numbers: Vec<usize>,
+    count: usize,
 }
 
 impl Model for Tokens {
-    ghost use Rattle.std.specs.Prelude.{length};
-    ghost use Rattle.orc_ledger.specs.Tokens.{Stock, live, AreNumbered};
+    ghost use Rattle.std.specs.Prelude.{◌≡◌, ◌-◌, length, vec_len, vec_capacity};
+    ghost use Rattle.orc_ledger.specs.Tokens.{Slots, live};
 
-    ghost Value = { Stock };
+    ghost Value = { Slots };
 
-    ghost view = { λ t. record { items = live t.slots.items; next = length t.numbers.items } };
+    ghost view = { λ t. record { items = t.slots.items; room = vec_capacity t.slots - vec_len t.slots } };
 
-    ghost invariant = { λ t. AreNumbered t.slots.items t.numbers.items };
+    ghost invariant = { λ t. t.count ≡ length (live t.slots.items) };
 }
 
-// A token and its slot.
-#[derive(Clone, Copy)]
-struct Spot {
-    slot: usize,
-    token: Token,
-}
+// What stands in a free slot.
+const NOBODY: Token = Token {
+    serial: 0,
+    standing: Standing::At(0, 0),
+    step: 0,
+};
 
-fn slot_at(numbers: &Vec<usize>, serial: u64) -> Option<usize>
-    ensures there { IfSome result (λ k. slice_get numbers.now.items serial ≡ Some k) }
-    ensures none { IfNone result (slice_get numbers.now.items serial ≡ None) }
+// Writes into a slot that is there.
+fn put(slots: &mut Vec<Token>, slot: usize, token: Token)
+    ensures items { slots.new.items ≡ slice_set slots.old.items slot token }
+    ensures len { vec_len slots.new ≡ vec_len slots.old }
+    ensures capacity { vec_capacity slots.new ≡ vec_capacity slots.old }
 {
-    match numbers.get(serial as usize) {
-        Some(slot) => Some(*slot),
-        None => None,
+    if let Some(place) = slots.get_mut(slot) {
+        *place = token;
     }
 }
 
-fn token_at(slots: &Vec<Option<Token>>, slot: usize) -> Option<Token>
-    ensures there { IfSome result (λ t. slice_get slots.now.items slot ≡ Some (Some t)) }
-    ensures none { IfNone result ((t : Its) → slice_get slots.now.items slot ≡ Some (Some t) → ⊥) }
+// A slot that is free, where the stack knows one.
+fn free_slot(slots: &Vec<Token>, free: &mut Vec<usize>) -> Option<usize>
+    ensures { IfSome result (λ slot. (free : Its) × (slice_get slots.now.items slot ≡ Some free) × (free.serial ≡ 0)) }
 {
+    let slot = free.pop()?;
     match slots.get(slot) {
-        Some(content) => *content,
-        None => None,
-    }
-}
-
-// The token with this serial, and its slot.
-fn find(slots: &Vec<Option<Token>>, numbers: &Vec<usize>, serial: u64) -> Option<Spot>
-    ensures found { IfSome result (λ s. (slice_get slots.now.items s.slot ≡ Some (Some s.token)) × (s.token.serial ≡ serial)) }
-    ensures none { IfNone result (AreNumbered slots.now.items numbers.now.items → (k : ℕ) (t : Its) → slice_get slots.now.items k ≡ Some (Some t) → t.serial ≡ serial → ⊥) }
-{
-    let slot = match slot_at(numbers, serial) {
-        Some(slot) => slot,
-        None => return None,
-    };
-    let token = match token_at(slots, slot) {
-        Some(token) => token,
-        None => return None,
-    };
-    if token.serial == serial {
-        Some(Spot { slot, token })
-    } else {
-        None
-    }
-}
-
-// Whether a slot is free.
-fn is_free(slots: &Vec<Option<Token>>, slot: usize) -> bool
-    ensures { result ≡ true → slice_get slots.now.items slot ≡ Some None }
-{
-    match slots.get(slot) {
-        Some(None) => true,
-        _ => false,
+        Some(token) if token.serial == 0 => Some(slot),
+        _ => None,
     }
 }
 
 impl Tokens {
-    /// The token with this serial.
-    pub(crate) fn get(&self, serial: u64) -> Option<Token>
-        ensures { MatchOption result (weight (has_serial serial) self.now.items ≡ 0) (λ t. IsIn t self.now.items × (t.serial ≡ serial)) }
+    /// No tokens.
+    pub(crate) fn new(alloc: Global) -> Tokens
+        ensures { result.items ≡ [] }
     {
-        match find(&self.slots, &self.numbers, serial) {
-            None => None,
-            Some(spot) => Some(spot.token),
+        Tokens {
+            slots: Vec::new(alloc),
+            free: Vec::new(alloc),
+            count: 0,
         }
     }
 
-    /// Takes the token with this serial out, where there is one.
-    pub(crate) fn take(&mut self, serial: u64) -> Option<Token>
-        ensures next { self.new.next ≡ self.old.next }
-        ensures taken { (w : Its → ℕ) → weight w self.new.items ≡ weight (but (is_serial serial) w) self.old.items }
-        ensures token { MatchOption result (weight (has_serial serial) self.old.items ≡ 0) (λ t. IsIn t self.old.items × (t.serial ≡ serial)) }
+    /// How many tokens there are.
+    pub(crate) fn len(&self) -> usize
+        ensures { result ≡ length (live self.now.items) }
     {
-        match find(&self.slots, &self.numbers, serial) {
-            None => None,
-            Some(spot) => {
-                self.slots[spot.slot] = None;
-                Some(spot.token)
+        self.count
+    }
+
+    /// The token with this serial, which isn't 0, if it is in this slot.
+    pub(crate) fn get(&self, slot: usize, serial: u64) -> Option<Token>
+        requires { 1 ≤ serial }
+        ensures held { IfSome result (λ t. IsHeld self.now.items slot t × (t.serial ≡ serial)) }
+        ensures none { IfNone result ((t : Its) → IsHeld self.now.items slot t → t.serial ≡ serial → ⊥) }
+    {
+        match self.slots.get(slot) {
+            Some(token) if token.serial == serial => Some(*token),
+            _ => None,
+        }
+    }
+
+    /// Makes room for one more token.
+    pub(crate) fn reserve(&mut self) -> Result<(), LedgerFault>
+        ensures items { self.new.items ≡ self.old.items }
+        ensures room { OnOk result (1 ≤ self.new.room) }
+        ensures why { IfErr result (λ fault. fault ≡ LedgerFault.Memory) }
+    {
+        if self.slots.try_reserve(1).is_err() {
+            return Err(LedgerFault::Memory);
+        }
+        // With this much, a slot that becomes free is always noted.
+        if self.free.len() == self.free.capacity() && self.free.try_reserve(1).is_err() {
+            return Err(LedgerFault::Memory);
+        }
+        Ok(())
+    }
+
+    /// Puts a token into a slot, and gives its number.
+    pub(crate) fn add(&mut self, token: Token) -> usize
+        requires room { 1 ≤ self.old.room }
+        requires serial { 1 ≤ token.serial }
+        ensures held { IsHeld self.new.items result token }
+        ensures others { (k : ℕ) (t : Its) → IsHeld self.old.items k t → IsHeld self.new.items k t }
+        ensures added { (w : Its → ℕ) → weight w (live self.new.items) ≡ weight w (live self.old.items) + w token }
+    {
+        let end = self.slots.len();
+        self.count += 1;
+        match free_slot(&self.slots, &mut self.free) {
+            Some(slot) => {
+                put(&mut self.slots, slot, token);
+                slot
+            }
+            None => {
+                self.slots.push_reserved(token);
+                end
             }
         }
     }
 
-    /// Takes the tokens with these serials out, where there are such.
-    pub(crate) fn drain(&mut self, serials: &[u64])
-        ensures next { self.new.next ≡ self.old.next }
-        ensures drained { (w : Its → ℕ) → weight w self.new.items ≡ weight (but (is_one_of serials.now) w) self.old.items }
+    /// Another token takes the slot of one that goes.
+    pub(crate) fn replace(&mut self, slot: usize, token: Token)
+        requires held { (t : Its) × IsHeld self.old.items slot t }
+        requires serial { 1 ≤ token.serial }
+        ensures items { self.new.items ≡ slice_set self.old.items slot token }
+        ensures room { self.new.room ≡ self.old.room }
     {
-        let mut i = 0;
-        while i < serials.len() {
-            let _token = self.take(serials[i]);
-            i += 1;
-        }
+        put(&mut self.slots, slot, token);
     }
 
-    /// Puts a token in, which has the next serial. Where memory is refused nothing changes.
-    pub(crate) fn add(&mut self, token: Token) -> Result<(), AllocError>
-        requires { token.serial ≡ self.old.next }
-        ensures next { OnOk result (self.new.next ≡ self.old.next + 1) }
-        ensures added { OnOk result ((w : Its → ℕ) → weight w self.new.items ≡ weight w self.old.items + w token) }
-        ensures refused { OnErr result (self.new ≡ self.old) }
+    /// A token goes, and its slot is free.
+    pub(crate) fn remove(&mut self, slot: usize)
+        requires { (t : Its) × IsHeld self.old.items slot t }
+        ensures items { (free : Its) × (free.serial ≡ 0) × (self.new.items ≡ slice_set self.old.items slot free) }
+        ensures room { self.new.room ≡ self.old.room }
     {
-        self.numbers.try_reserve(1)?;
-        self.slots.try_reserve(1)?;
-        let slot = self.slots.len();
-        push_within(&mut self.slots, Some(token));
-        push_within(&mut self.numbers, slot);
-        Ok(())
-    }
-
-    /// Puts a token, which has the next serial, into a slot that is free. Where there is none, or memory is refused, nothing changes.
-    pub(crate) fn add_again(&mut self, token: Token, slot: usize) -> Result<bool, AllocError>
-        requires { token.serial ≡ self.old.next }
-        ensures next { IfOk result (λ b. b ≡ true → self.new.next ≡ self.old.next + 1) }
-        ensures added { IfOk result (λ b. b ≡ true → (w : Its → ℕ) → weight w self.new.items ≡ weight w self.old.items + w token) }
-        ensures same { IfOk result (λ b. b ≡ false → self.new ≡ self.old) }
-        ensures refused { OnErr result (self.new ≡ self.old) }
-    {
-        self.numbers.try_reserve(1)?;
-        if !is_free(&self.slots, slot) {
-            return Ok(false);
+        put(&mut self.slots, slot, NOBODY);
+        self.count -= 1;
+        if self.free.len() < self.free.capacity() {
+            self.free.push_reserved(slot);
         }
-        self.slots[slot] = Some(token);
-        push_within(&mut self.numbers, slot);
-        Ok(true)
     }
 }

@@ -1,23 +1,55 @@
-use Rattle.std.proofs.Common.{◌≡◌, ℕ, [], ◌∷◌, ◌++◌, length, sym, ap, ◌∙◌, subst, arith, Some}
+use Rattle.std.proofs.Common.{◌≡◌, [], ◌∷◌, ◌++◌, length, ap, ◌∙◌, arith}
+use Rattle.std.specs.Prelude.{slice_get, slice_set}
 use Rattle.orc_ledger.specs.Same.{weight}
-use Rattle.orc_ledger.specs.Tokens.{live, AreNumbered}
-use Rattle.orc_ledger.specs.declared.records.Token.{Token}
-use Rattle.orc_ledger.proofs.Slots.{live-push, numbered-push}
+use Rattle.orc_ledger.specs.Tokens.{live, IsHeld}
+use Rattle.orc_ledger.proofs.Slots.{count-weight, live-short, filled, pushed, set-there, set-elsewhere, not-there, got-end, got-more}
 use Rattle.orc_ledger.proofs.tokens.Tokens.add.Goals as goal
 
-pub invariant_of-self-2 : goal.invariant_of-self-2
-invariant_of-self-2 c =
+pub overflow_add-self : goal.overflow_add-self
+overflow_add-self c =
     let b = c.self.inside in
-    let t : Token = c.args.token in
-    let serial : t.serial ≡ length b.numbers.items = rw (← c.self.view_is) at c.requires in
-    let slots : c.push_within.new.items.items ≡ b.slots.items ++ Some t ∷ [] = c.push_within.ensures.items ∙ ap (λ z. z ++ Some t ∷ []) c.in_ok-try_reserve-2.ensures.items in
-    let slot : c.len-slot.result ≡ length b.slots.items = omega (arith, c.len-slot.ensures, ap length c.in_ok-try_reserve-2.ensures.items) in
-    let numbers : c.push_within-2.new.items.items ≡ b.numbers.items ++ length b.slots.items ∷ [] = c.push_within-2.ensures.items ∙ ap (λ z. z ++ c.len-slot.result ∷ []) c.in_ok-try_reserve.ensures.items ∙ ap (λ (n : ℕ). b.numbers.items ++ n ∷ []) slot in
-    subst (AreNumbered c.push_within.new.items.items) (sym numbers) (subst (λ z. AreNumbered z (b.numbers.items ++ length b.slots.items ∷ [])) (sym slots) (numbered-push b.slots.items b.numbers.items t serial c.self.invariant))
+    omega (arith, c.self.invariant, live-short b.slots.items, c.len-end.ensures)
 
-pub returns-clause-added : goal.returns-clause-added
-returns-clause-added c w =
+pub invariant_of-self : goal.invariant_of-self
+invariant_of-self c =
     let b = c.self.inside in
-    let t : Token = c.args.token in
-    let slots : c.push_within.new.items.items ≡ b.slots.items ++ Some t ∷ [] = c.push_within.ensures.items ∙ ap (λ z. z ++ Some t ∷ []) c.in_ok-try_reserve-2.ensures.items in
-    rw (← c.self.view_is) (ap (λ z. weight w (live z)) slots ∙ live-push b.slots.items t w)
+    let f = c.free_slot.ensures in
+    omega (arith, c.self.invariant, ap (λ z. length (live z)) c.put.ensures.items, count-weight (live (slice_set b.slots.items c.in-Some.slot c.args.token)), count-weight (live b.slots.items), filled (λ t. 1) b.slots.items c.in-Some.slot c.in-Some.ensures.0 c.args.token c.in-Some.ensures.1 c.in-Some.ensures.2 c.requires.serial)
+
+pub invariant_of-self-in-None : goal.invariant_of-self-in-None
+invariant_of-self-in-None c =
+    let b = c.self.inside in
+    omega (arith, c.self.invariant, ap (λ z. length (live z)) c.push_reserved.ensures.items, count-weight (live (b.slots.items ++ c.args.token ∷ [])), count-weight (live b.slots.items), pushed (λ t. 1) b.slots.items c.args.token c.requires.serial)
+
+pub returns-in-Some-clause-held : goal.returns-in-Some-clause-held
+returns-in-Some-clause-held c =
+    let b = c.self.inside in
+    (ap (λ z. slice_get z c.in-Some.slot) c.put.ensures.items ∙ set-there b.slots.items c.in-Some.slot c.in-Some.ensures.0 c.args.token c.in-Some.ensures.1, c.requires.serial)
+
+pub returns-in-Some-clause-others : goal.returns-in-Some-clause-others
+returns-in-Some-clause-others c k t h =
+    let b = c.self.inside in
+    let i : IsHeld b.slots.items k t = rw (← c.self.view_is) at h in
+    (ap (λ z. slice_get z k) c.put.ensures.items ∙ set-elsewhere b.slots.items c.in-Some.slot k c.args.token (not-there b.slots.items c.in-Some.slot k c.in-Some.ensures.0 t c.in-Some.ensures.1 c.in-Some.ensures.2 i) ∙ i.0, i.1)
+
+pub returns-in-Some-clause-added : goal.returns-in-Some-clause-added
+returns-in-Some-clause-added c w =
+    let b = c.self.inside in
+    rw (← c.self.view_is) (ap (λ z. weight w (live z)) c.put.ensures.items ∙ filled w b.slots.items c.in-Some.slot c.in-Some.ensures.0 c.args.token c.in-Some.ensures.1 c.in-Some.ensures.2 c.requires.serial)
+
+pub returns-in-None-clause-held : goal.returns-in-None-clause-held
+returns-in-None-clause-held c =
+    let b = c.self.inside in
+    let last : c.len-end.result ≡ length b.slots.items = omega (arith, c.len-end.ensures) in
+    (ap (λ z. slice_get z c.len-end.result) c.push_reserved.ensures.items ∙ ap (slice_get (b.slots.items ++ c.args.token ∷ [])) last ∙ got-end b.slots.items c.args.token, c.requires.serial)
+
+pub returns-in-None-clause-others : goal.returns-in-None-clause-others
+returns-in-None-clause-others c k t h =
+    let b = c.self.inside in
+    let i : IsHeld b.slots.items k t = rw (← c.self.view_is) at h in
+    (ap (λ z. slice_get z k) c.push_reserved.ensures.items ∙ got-more b.slots.items c.args.token k t i.0, i.1)
+
+pub returns-in-None-clause-added : goal.returns-in-None-clause-added
+returns-in-None-clause-added c w =
+    let b = c.self.inside in
+    rw (← c.self.view_is) (ap (λ z. weight w (live z)) c.push_reserved.ensures.items ∙ pushed w b.slots.items c.args.token c.requires.serial)
