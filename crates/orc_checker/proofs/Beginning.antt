@@ -3,7 +3,7 @@ use Rattle.std.proofs.Common.{◌≡◌, Bool, ℕ, zero, suc, List, [], ◌∷�
 use Rattle.orc_checker.specs.declared.arena.Tip.TheVariants.{Token}
 use Rattle.orc_checker.specs.declared.arena.Kind.TheVariants.{Leaf, One}
 use Rattle.orc_checker.specs.declared.arena.Single.TheVariants.{Passed}
-use Rattle.orc_checker.specs.declared.arena.Bound.TheVariants.{Void}
+use Rattle.orc_names.specs.declared.names.Bound.TheVariants.{Void}
 use Rattle.orc_rules.specs.Nodes.{Listing, code, source}
 use Rattle.orc_checker.specs.Halting.{halt_flag, AreHalts}
 use Rattle.orc_checker.specs.Arena.{leaf, one}

@@ -13,29 +13,31 @@ use Rattle.orc_checker.specs.declared.arena.Tip.TheVariants.{Token, Bears, Waits
 use Rattle.orc_checker.specs.declared.arena.Kind.TheVariants.{Leaf}
 use Rattle.orc_checker.specs.declared.rest.Called.{Called}
 use Rattle.orc_rules.specs.Term.{Term, site, values_of}
-use Rattle.orc_rules.specs.Sites.{Site, is_scripted}
+use Rattle.orc_rules.specs.Sites.{Site}
 use Rattle.orc_rules.specs.Step.{calls}
 use Rattle.orc_rules.specs.Marked.{token, in_call, Replaces}
 use Rattle.orc_rules.specs.Timed.{Context, CallMade, nth_of, calls_after}
 use Rattle.orc_rules.specs.Journal.{Place, moment}
-use Rattle.orc_checker.specs.Arena.{leaf, at, close, close_param, env_of}
-use Rattle.orc_checker.specs.Names.{AreOrdered}
-use Rattle.orc_checker.specs.Calls.{Rest, Keeps, told, AddsCall, NextFound, IsCall, DueNow}
+use Rattle.orc_checker.specs.Arena.{leaf, at}
+use Rattle.orc_names.specs.Scopes.{close, close_param, env_of}
+use Rattle.orc_names.specs.Names.{AreOrdered}
+use Rattle.orc_checker.specs.Calls.{Rest, Keeps, told, AddsCall, IsCall, IsDueNow}
+use Rattle.orc_calls.specs.Counting.{NextFound}
 use Rattle.orc_checker.specs.Checker.{State, EntersBy, AreCells}
 use Rattle.orc_checker.proofs.Moves.{node, written, turn, staying, Stays}
-use Rattle.orc_checker.proofs.Scopes.{close-site}
-use Rattle.orc_checker.proofs.CallsMade.{kept_length, map-more, counted-more, is_due}
+use Rattle.orc_names.proofs.Scopes.{close-site}
+use Rattle.orc_checker.proofs.CallsMade.{kept_length, map-more, is_due}
 
 -- what is kept after one more call
-pub keeps_call : (x : Context) (p : Place) (r r' : Rest) (k m : ℕ) (args : List Value) (cs : List ℕ) (c : Called) → Keeps x p.now p.calls p.to_cancel r → r.to_cancel ≡ [] → k ≡ suc (length r.calls) → NextFound x.sites r m args c.found → c.at ≡ r.time
-    → AddsCall c (is_scripted x.sites m) m args r r' → Keeps x p.now (calls_after (moment p) (calls k m args cs)) [] r'
+pub keeps_call : (x : Context) (p : Place) (r r' : Rest) (k m : ℕ) (args : List Value) (cs : List ℕ) (c : Called) → Keeps x p.now p.calls p.to_cancel r → r.to_cancel ≡ [] → k ≡ suc (length r.calls) → NextFound x.sites r.counts m args c.found → c.at ≡ r.time
+    → AddsCall x.sites c m args r r' → Keeps x p.now (calls_after (moment p) (calls k m args cs)) [] r'
 keeps_call x p r r' k m args cs c keeps free is_k found time adds =
     let made : CallMade = record { number = k; site = m; args = args; nth = nth_of m args p.calls; at = p.now } in
     subst (Keeps x p.now (made ∷ p.calls) []) (sym adds.same)
     (record {
       time = keeps.time;
       calls_are = map-more told r.calls c ∙ (λ j. keeps.calls_are j ++ (found p.calls keeps.counted j, (time ∙ sym keeps.time) j) ∷ []);
-      counted = counted-more x.sites r.counts r'.counts p.calls made keeps.counted adds.counted;
+      counted = adds.counted p.calls made refl refl keeps.counted;
       numbered = (is_k ∙ ap suc (kept_length x p.now p.calls p.to_cancel r keeps), keeps.numbered);
       due = sym free;
       cancels_are = keeps.cancels_are;
@@ -44,7 +46,7 @@ keeps_call x p r r' k m args cs c keeps free is_k found time adds =
 pub call-enters : (code : ℕ → Term) (sites : List Site) (s s' : State) (i q m k w f e : ℕ) (ps : List Param) (args : List Value) (c : Called) → at s.nodes q i (Leaf (Token m f e)) → code f ≡ site w ps
     → (AreOrdered s.scopes → values_of (map (close_param (env_of s.cells s.scopes e)) ps) ≡ Some args)
     → s'.nodes ≡ slice_set s.nodes i (node (Leaf (Waits k)) q) → s'.flags ≡ s.flags → s'.halts ≡ s.halts → s'.scopes ≡ s.scopes → s'.cells ≡ s.cells → s'.marks ≡ s.marks → k ≡ suc (length s.rest.calls)
-    → NextFound sites s.rest w args c.found → c.at ≡ s.rest.time → AddsCall c (is_scripted sites w) w args s.rest s'.rest → s.rest.to_cancel ≡ [] → EntersBy sites code (entry.Call m k w args) s s'
+    → NextFound sites s.rest.counts w args c.found → c.at ≡ s.rest.time → AddsCall sites c w args s.rest s'.rest → s.rest.to_cancel ≡ [] → EntersBy sites code (entry.Call m k w args) s s'
 call-enters code sites s s' i q m k w f e ps args c a is values nodes flags halts scopes cells marks is_k found time rest free x of_sites p sp =
     let env = env_of s.cells s.scopes in
     let b = written s s' i q (Token m f e) (Waits k) a refl refl (staying s s' scopes cells) tt nodes in
@@ -66,12 +68,12 @@ call-enters code sites s s' i q m k w f e ps args c a is values nodes flags halt
         scopes = subst AreOrdered (sym scopes) sp.scopes;
         cells = subst (AreCells p.cells) (sym cells) sp.cells;
         rest =
-            keeps_call x p s.rest s'.rest k w args t.inside c sp.rest free is_k (subst (λ z. NextFound z s.rest w args c.found) (sym of_sites) found) time
-            (subst (λ z. AddsCall c (is_scripted z w) w args s.rest s'.rest) (sym of_sites) rest);
+            keeps_call x p s.rest s'.rest k w args t.inside c sp.rest free is_k (subst (λ z. NextFound z s.rest.counts w args c.found) (sym of_sites) found) time
+            (subst (λ z. AddsCall z c w args s.rest s'.rest) (sym of_sites) rest);
       },
     )
 
-pub return-enters : (code : ℕ → Term) (sites : List Site) (s s' : State) (i q k a : ℕ) (v : Value) (c : Called) → at s.nodes q i (Leaf (Waits k)) → IsCall s.rest k c → DueNow c (Gives v) s.rest.time
+pub return-enters : (code : ℕ → Term) (sites : List Site) (s s' : State) (i q k a : ℕ) (v : Value) (c : Called) → at s.nodes q i (Leaf (Waits k)) → IsCall s.rest k c → IsDueNow c (Gives v) s.rest.time
     → s'.nodes ≡ slice_set s.nodes i (node (Leaf (Bears a v)) q) → s'.flags ≡ s.flags → a ≡ length s.marks → Stays s s' (suc a) → EntersBy sites code (entry.Return k a v) s s'
 return-enters code sites s s' i q k a v c is_at call due nodes flags next st x of_sites p sp =
     let b = written s s' i q (Waits k) (Bears a v) is_at refl refl (staying s s' st.scopes st.cells) tt nodes in
@@ -90,7 +92,7 @@ return-enters code sites s s' i q k a v c is_at call due nodes flags next st x o
       },
     )
 
-pub halt-enters : (code : ℕ → Term) (sites : List Site) (s s' : State) (i q k : ℕ) (c : Called) → at s.nodes q i (Leaf (Waits k)) → IsCall s.rest k c → DueNow c Halt s.rest.time
+pub halt-enters : (code : ℕ → Term) (sites : List Site) (s s' : State) (i q k : ℕ) (c : Called) → at s.nodes q i (Leaf (Waits k)) → IsCall s.rest k c → IsDueNow c Halt s.rest.time
     → s'.nodes ≡ slice_set s.nodes i (node (Leaf Ended) q) → length s'.flags ≡ length s.flags → Settles s'.nodes s.flags i true s'.flags → Stays s s' (length s.marks) → EntersBy sites code (entry.ReturnHalt k) s s'
 halt-enters code sites s s' i q k c is_at call due nodes len settles st x of_sites p sp =
     let b = written s s' i q (Waits k) Ended is_at refl refl (staying s s' st.scopes st.cells) tt nodes in
@@ -110,5 +112,5 @@ halt-enters code sites s s' i q k c is_at call due nodes len settles st x of_sit
     )
 
 -- the same time, said otherwise
-pub due_at : (c : Called) (a : Answer) (t u : ℕ) → t ≡ u → DueNow c a t → DueNow c a u
-due_at c a t u e d = subst (DueNow c a) e d
+pub due_at : (c : Called) (a : Answer) (t u : ℕ) → t ≡ u → IsDueNow c a t → IsDueNow c a u
+due_at c a t u e d = subst (IsDueNow c a) e d

@@ -4,8 +4,8 @@ use Rattle.std.specs.Prelude.{slice_get, slice_set, ◌&&◌}
 use Rattle.orc_rules.specs.declared.value.Value.{Value}
 use Rattle.orc_rules.specs.declared.entry.Entry.TheVariants as entry
 use Rattle.orc_checker.specs.declared.arena.Node.{Node}
-use Rattle.orc_checker.specs.declared.arena.Bound.{Bound as Put}
-use Rattle.orc_checker.specs.declared.arena.Bound.TheVariants.{Is, Cell}
+use Rattle.orc_names.specs.declared.names.Bound.{Bound as Put}
+use Rattle.orc_names.specs.declared.names.Bound.TheVariants.{Is, Cell}
 use Rattle.orc_checker.specs.declared.arena.Tip.{Tip}
 use Rattle.orc_checker.specs.declared.arena.Tip.TheVariants.{Ended}
 use Rattle.orc_checker.specs.declared.arena.Single.TheVariants.{Feeds, Entered, Passed}
@@ -25,10 +25,12 @@ use Rattle.orc_rules.specs.Nodes.{Listing, code}
 use Rattle.orc_rules.specs.Sites.{Table}
 use Rattle.orc_rules.specs.Numbered.{IsNumbered, call, cell, times}
 use Rattle.orc_rules.proofs.Sources.{emits_source}
-use Rattle.orc_checker.specs.Arena.{Tree, leaf, one, two, place, hits, count, at, Holds, living_kind, StandOnce, IsTopped, spelled, env_of, given, Frame, on_one, on_left, on_right, plug}
+use Rattle.orc_checker.specs.Arena.{Tree, leaf, one, two, place, hits, count, at, Holds, living_kind, StandOnce, IsTopped, spelled, Frame, on_one, on_left, on_right, plug}
+use Rattle.orc_names.specs.Scopes.{env_of, given}
 use Rattle.orc_checker.specs.Around.{above}
 use Rattle.orc_checker.specs.Rising.{takes, rest, under, nowhere, Stands, IsTaker}
-use Rattle.orc_checker.specs.Names.{AreOrdered, BearsValue}
+use Rattle.orc_checker.specs.Bearers.{BearsValue}
+use Rattle.orc_names.specs.Names.{AreOrdered}
 use Rattle.orc_checker.specs.Settling.{flag, HasFlags, Settles}
 use Rattle.orc_checker.specs.Calls.{Rest, Keeps}
 use Rattle.orc_checker.specs.Dropping.{calls_at, AreNodesOf, AreRising, IsDropped}
@@ -40,12 +42,12 @@ use Rattle.orc_checker.proofs.Moves.{node}
 use Rattle.orc_checker.proofs.Settling.{flag_says, flagged_kept, flag-set_other}
 use Rattle.orc_checker.proofs.Flagging.{reflag_settled, flag-set_at}
 use Rattle.orc_checker.proofs.Publishing.{goes_up}
-use Rattle.orc_checker.proofs.Filling.{code-stays}
+use Rattle.orc_names.proofs.Filling.{code-stays}
 use Rattle.orc_checker.proofs.Binding.{binds_in}
-use Rattle.orc_checker.proofs.Inside.{Confined}
+use Rattle.orc_names.proofs.Inside.{Confined}
 use Rattle.orc_checker.proofs.Leaving.{Drops, drops, pruned_holds, pruned_once, calls_counted}
 use Rattle.orc_checker.proofs.Ending.{Over, own_filled, left_filled, stays_so, ends_drawn, times_left, are_dropped, unhalted_under}
-use Rattle.orc_checker.proofs.Reached.{reached_numbered, reached_source, reached_confined}
+use Rattle.orc_names.proofs.Reached.{reached_numbered, reached_source, reached_confined}
 
 -- the right side that takes it is the first one around
 pub record IsCaught (k : List Frame) (c j : ℕ) : Type 0 where
@@ -153,9 +155,9 @@ catch-applies l t s s' i q m j c left right parent d tip v side due between is_a
     (st.nodes ∙ (λ z. slice_set s.nodes j (node (One Passed (sym same.left z)) (sym same.parent z)))) st.dropped in
     let stays : (w : Put) (e u : ℕ) → fill (given w) e (terms u) ≡ terms u = λ w e u. code-stays (given w) e l.lists l.nodes u in
     let own = sp.cells.3 in
-    let numbered = reached_numbered l t cancels p r in
+    let numbered = reached_numbered l t.sites cancels r.0 p r.1 in
     let around = stays_so terms stays s s' p.marked j c (Is v) o own st.unbound cells st.scopes
-    (subst (Confined c) o.was (reached_confined l t cancels p r c), omega (arith, IsNumbered.single numbered (cell c), ap (times (cell c)) o.was)) in
+    (subst (Confined c) o.was (reached_confined l t.sites cancels r.0 p r.1 c), omega (arith, IsNumbered.single numbered (cell c), ap (times (cell c)) o.was)) in
     let first : Emits m p.mark v (spelled terms env (leaf i tip)) (publishes v) (spelled terms env (leaf i Ended)) = subst (λ z. Emits m p.mark v z (publishes v) ended) (sym (bears sp.scopes)) emits in
     let up = goes_up terms env k (leaf i tip) (leaf i Ended) first in
     let after_tree = plug b.around (one j Passed b.left) in
@@ -191,7 +193,7 @@ catch-applies l t s s' i q m j c left right parent d tip v side due between is_a
     let same_cancels : cancels ≡ s.rest.cancels = sp.rest.cancels_are in
     let dropped : s.rest.cancels ≡ true → AreDropped (pending_of (erase p.marked)) (pending_of (erase after_marked)) due =
     λ e. let rising = recorded e in
-    are_dropped p.marked after_marked due (λ z. times (call z) (spelled terms env side_tree)) (reached_source l t cancels p r) (emits_source shown (reached_source l t cancels p r)) (λ z. IsNumbered.single numbered (call z))
+    are_dropped p.marked after_marked due (λ z. times (call z) (spelled terms env side_tree)) (reached_source l t.sites cancels r.0 p r.1) (emits_source shown (reached_source l t.sites cancels r.0 p r.1)) (λ z. IsNumbered.single numbered (call z))
     (λ z. omega (arith, times_left terms stays s s' p.marked j c (Is v) o own st.unbound cells st.scopes (call z) around))
     (λ z. rising.1 z ∙ calls_counted s.nodes n terms env z j side_tree side ho.2 all)
     rising.0 in

@@ -12,17 +12,18 @@ use Rattle.orc_rules.specs.Nodes.{param_of, Listing, definition_of, definitions}
 use Rattle.orc_rules.specs.Idle.{has_halted}
 use Rattle.orc_rules.specs.Marked.{token, Replaces}
 use Rattle.orc_rules.specs.Timed.{Context}
-use Rattle.orc_checker.specs.declared.arena.Scope.{Scope}
+use Rattle.orc_names.specs.declared.names.Scope.{Scope}
 use Rattle.orc_checker.specs.declared.arena.Tip.TheVariants.{Token}
 use Rattle.orc_checker.specs.declared.arena.Kind.TheVariants.{Leaf}
-use Rattle.orc_checker.specs.Arena.{Env, leaf, at, spelled, env_of, close, close_param}
+use Rattle.orc_checker.specs.Arena.{leaf, at, spelled}
+use Rattle.orc_names.specs.Scopes.{Env, env_of, close, close_param}
 use Rattle.orc_checker.specs.Checker.{State, Follows, AreCells}
-use Rattle.orc_checker.specs.Names.{AreOrdered}
+use Rattle.orc_names.specs.Names.{AreOrdered}
 use Rattle.orc_checker.specs.Halting.{halt_flag}
 use Rattle.orc_checker.specs.Settling.{Settles}
 use Rattle.orc_checker.specs.Parameters.{Adds}
 use Rattle.orc_checker.proofs.Flagging.{reflag_leaf_settled}
-use Rattle.orc_checker.proofs.Scopes.{close-call, env-kept}
+use Rattle.orc_names.proofs.Scopes.{close-call, env-kept}
 use Rattle.orc_checker.proofs.Opening.{keeps_free}
 use Rattle.orc_checker.proofs.Moves.{node, written, turn, scope_there}
 

@@ -10,6 +10,8 @@ use Rattle.orc_checker.specs.declared.rest.Called.{Called}
 use Rattle.orc_checker.specs.Settling.{kind_at}
 use Rattle.orc_checker.specs.DueTimes.{IsNoted, IsFirst}
 use Rattle.orc_checker.specs.NextDue.{IsTime, IsDueOf, IsDueAt, IsNext, AreNoted}
+use Rattle.orc_calls.specs.Due.{due_by}
+use Rattle.orc_calls.proofs.Times.{is_due as is_due_by}
 use Rattle.orc_checker.proofs.Hints.{some_in}
 use Rattle.orc_checker.proofs.Lists.{get-more}
 
@@ -18,7 +20,7 @@ same_some x y e = cc e
 
 -- a call is due once
 pub time_once : (c : Called) (t u : ℕ) → IsTime c t → IsTime c u → t ≡ u
-time_once c t u a b = let d : a.delay ≡ b.delay = cc (sym a.found ∙ b.found) in omega (arith, a.sum, b.sum, d)
+time_once c t u a b = let d : a.1.delay ≡ b.1.delay = cc (sym a.1.says ∙ b.1.says) in omega (arith, a.1.sum, b.1.sum, d)
 
 pub due_once : (calls : List Called) (k t u : ℕ) → IsDueOf calls k t → IsDueOf calls k u → t ≡ u
 due_once calls k t u a b =
@@ -66,13 +68,13 @@ set_kind (x ∷ nodes) (suc i) (suc j) y = ⊎_elim (λ w. inl (ap suc w.0, w.1)
 
 -- a node waits for a new call, and is noted
 module _ (nodes nodes' : List Node) (calls calls' : List Called) (due due' : List (ℕ × ℕ)) (i q k : ℕ) (c : Called) (o : Option ℕ) (h : AreNoted nodes calls due) (new : k ≡ suc (length calls)) (written : nodes' ≡ slice_set nodes i (record { kind = Leaf (Waits k); parent = q })) (added : calls' ≡ calls ++ c ∷ [])
-    (is_due : IfSome o (IsTime c)) (never : IfNone o ((t : ℕ) → IsTime c t → ⊥)) (noted : IfSome o (λ t. IsNoted due' t i)) (kept : (t j : ℕ) → IsNoted due t j → IsNoted due' t j) where
+    (is_due : o ≡ due_by c.at c.found) (noted : IfSome o (λ t. IsNoted due' t i)) (kept : (t j : ℕ) → IsNoted due t j → IsNoted due' t j) where
   longer : length calls' ≡ length calls + 1
   longer = ap length added ∙ length-append calls (c ∷ [])
 
-  its : (t : ℕ) (o : Option ℕ) → IfSome o (IsTime c) → IfNone o ((u : ℕ) → IsTime c u → ⊥) → IfSome o (λ u. IsNoted due' u i) → IsTime c t → IsNoted due' t i
-  its t None a b n d = absurd (b t d)
-  its t (Some u) a b n d = subst (λ z. IsNoted due' z i) (time_once c u t a d) n
+  its : (t : ℕ) (o : Option ℕ) → o ≡ due_by c.at c.found → IfSome o (λ u. IsNoted due' u i) → IsTime c t → IsNoted due' t i
+  its t None e n d = absurd (cc (e ∙ is_due_by c.at c.found d.0 t d.1))
+  its t (Some u) e n d = let same : u ≡ t = cc (e ∙ is_due_by c.at c.found d.0 t d.1) in subst (λ z. IsNoted due' z i) same n
 
   kinds : (j : ℕ) → ((j ≡ i) × (kind_at nodes' j ≡ Leaf (Waits k))) ⊎ (kind_at nodes' j ≡ kind_at nodes j)
   kinds j = subst (λ z. ((j ≡ i) × (kind_at z j ≡ Leaf (Waits k))) ⊎ (kind_at z j ≡ kind_at nodes j)) (sym written) (set_kind nodes i j (record { kind = Leaf (Waits k); parent = q }))
@@ -100,7 +102,7 @@ module _ (nodes nodes' : List Node) (calls calls' : List Called) (due due' : Lis
         made = λ j m e. ⊎_elim (λ w. let s : m ≡ k = cc (sym e ∙ w.1) in omega (arith, s, new, longer)) (λ w. omega (arith, h.made j m (sym w ∙ e), longer)) (kinds j);
         noted = λ j t d.
             ⊎_elim
-            (λ w. let s : d.0 ≡ k = cc (sym d.1 ∙ w.1) in subst (IsNoted due' t) (sym w.0) (its t o is_due never noted (due_new t (subst (λ z. IsDueOf calls' z t) s d.2))))
+            (λ w. let s : d.0 ≡ k = cc (sym d.1 ∙ w.1) in subst (IsNoted due' t) (sym w.0) (its t o is_due noted (due_new t (subst (λ z. IsDueOf calls' z t) s d.2))))
             (λ w. let e = sym w ∙ d.1 in kept t j (h.noted j t (d.0, e, due_old d.0 t (omega (arith, h.made j d.0 e)) d.2)))
             (kinds j);
       }

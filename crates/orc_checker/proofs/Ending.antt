@@ -2,8 +2,8 @@
 use Rattle.std.proofs.Common.{◌≡◌, ◌≤◌, ◌+◌, ℕ, zero, suc, List, [], ◌∷◌, ◌++◌, length, get_or, Option, Some, None, refl, sym, ap, ◌∙◌, subst, arith, inl, inr, ◌⊎◌, ⊎_elim, Bool, true, false, cond, nat_eq, eq-eqb}
 use Rattle.std.proofs.lemmas.Bool.{ne_eqb, eqb-true}
 use Rattle.std.specs.Prelude.{slice_get, slice_set, ◌&&◌}
-use Rattle.orc_checker.specs.declared.arena.Bound.{Bound}
-use Rattle.orc_checker.specs.declared.arena.Bound.TheVariants.{Is, Cell, Void}
+use Rattle.orc_names.specs.declared.names.Bound.{Bound}
+use Rattle.orc_names.specs.declared.names.Bound.TheVariants.{Is, Cell, Void}
 use Rattle.orc_checker.specs.declared.arena.Single.TheVariants.{Feeds, Entered, Passed}
 use Rattle.orc_checker.specs.declared.arena.Double.TheVariants.{Both, Side}
 use Rattle.orc_checker.specs.declared.arena.Kind.TheVariants.{One}
@@ -15,7 +15,8 @@ use Rattle.orc_rules.specs.Idle.{calls_of, has_halted}
 use Rattle.orc_rules.specs.Numbered.{Name, call, cell, once, times}
 use Rattle.orc_rules.proofs.Numbered.{once_same, times_replaced, times_filled}
 use Rattle.orc_rules.proofs.Counts.{pending_by_marks}
-use Rattle.orc_checker.specs.Arena.{Env, Tree, one, two, place, hits, Holds, StandOnce, IsTopped, spelled, env_of, given, current, Frame, on_one, on_left, on_right, plug}
+use Rattle.orc_checker.specs.Arena.{Tree, one, two, place, hits, Holds, StandOnce, IsTopped, spelled, Frame, on_one, on_left, on_right, plug}
+use Rattle.orc_names.specs.Scopes.{Env, env_of, given, current}
 use Rattle.orc_checker.specs.Around.{above}
 use Rattle.orc_checker.specs.Settling.{HasFlags}
 use Rattle.orc_checker.specs.Rising.{under}
@@ -25,9 +26,10 @@ use Rattle.orc_checker.proofs.Trees.{hit, hits-both, topped-plug}
 use Rattle.orc_checker.proofs.Lists.{get-set_same, get-set_other}
 use Rattle.orc_checker.proofs.Change.{place-plug}
 use Rattle.orc_checker.proofs.Moves.{node}
-use Rattle.orc_checker.proofs.Filling.{filled, fill_env, env_of-fill, spelled-fill}
+use Rattle.orc_checker.proofs.Filled.{spelled-fill}
+use Rattle.orc_names.proofs.Filling.{filled, fill_env, env_of-fill}
 use Rattle.orc_checker.proofs.Binding.{Stays, stays_around, replaces_in}
-use Rattle.orc_checker.proofs.Inside.{Confined}
+use Rattle.orc_names.proofs.Inside.{Confined}
 use Rattle.orc_checker.proofs.Leaving.{Drops, pruned_holds, pruned_once}
 
 bound_or : Bound → Option Bound → Bound

@@ -15,10 +15,11 @@ use Rattle.orc_rules.specs.Term.{Term, param}
 use Rattle.orc_rules.specs.Marked.{Marked, token, Replaces, here, in_left, in_right, in_feeding, in_main, in_side, in_entered}
 use Rattle.orc_rules.specs.Journal.{Place}
 use Rattle.orc_rules.specs.Timed.{Context}
-use Rattle.orc_checker.specs.Arena.{Env, Tree, leaf, one, two, place, at, living_kind, spelled, env_of, close, Frame, on_one, on_left, on_right, fit, plug}
+use Rattle.orc_checker.specs.Arena.{Tree, leaf, one, two, place, at, living_kind, spelled, Frame, on_one, on_left, on_right, fit, plug}
+use Rattle.orc_names.specs.Scopes.{Env, env_of, close}
 use Rattle.orc_checker.specs.Around.{place_of, above}
 use Rattle.orc_checker.specs.Rising.{Stands, nowhere}
-use Rattle.orc_checker.specs.Names.{Carries}
+use Rattle.orc_checker.specs.Bearers.{Carries}
 use Rattle.orc_checker.specs.Checker.{State, Spells}
 use Rattle.orc_checker.specs.Labelling.{around_cells, cell_above, AreAround, StandsInside, IsLabel}
 use Rattle.orc_checker.proofs.Trees.{holds-out}

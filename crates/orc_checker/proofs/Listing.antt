@@ -2,8 +2,8 @@
 use Rattle.std.proofs.Common.{◌≡◌, ◌≤◌, ◌<◌, ℕ, List, length, get_or, refl, ap, sym, ◌∙◌, arith, Bool, true, false}
 use Rattle.orc_rules.specs.Term.{Term, Definition}
 use Rattle.orc_checker.specs.declared.arena.Node.{Node}
-use Rattle.orc_checker.specs.declared.arena.Bound.{Bound}
-use Rattle.orc_checker.specs.declared.arena.Scope.{Scope}
+use Rattle.orc_names.specs.declared.names.Bound.{Bound}
+use Rattle.orc_names.specs.declared.names.Scope.{Scope}
 use Rattle.orc_checker.specs.declared.arena.Kind.{Kind}
 use Rattle.orc_checker.specs.declared.arena.Kind.TheVariants.{Leaf, One, Two}
 use Rattle.orc_checker.specs.declared.arena.Tip.TheVariants.{Gone, Ended, Token, Bears, Waits}

@@ -4,8 +4,8 @@ use Rattle.std.specs.Prelude.{slice_get, slice_set, ◌&&◌}
 use Rattle.orc_rules.specs.declared.entry.Entry.TheVariants as entry
 use Rattle.orc_rules.specs.declared.param.Param.TheVariants as is
 use Rattle.orc_checker.specs.declared.arena.Node.{Node}
-use Rattle.orc_checker.specs.declared.arena.Bound.{Bound}
-use Rattle.orc_checker.specs.declared.arena.Bound.TheVariants.{Cell, Void}
+use Rattle.orc_names.specs.declared.names.Bound.{Bound}
+use Rattle.orc_names.specs.declared.names.Bound.TheVariants.{Cell, Void}
 use Rattle.orc_checker.specs.declared.arena.Single.TheVariants.{Passed}
 use Rattle.orc_checker.specs.declared.arena.Double.{Double}
 use Rattle.orc_checker.specs.declared.arena.Double.TheVariants.{Side}
@@ -18,10 +18,11 @@ use Rattle.orc_rules.specs.Nodes.{Listing, code}
 use Rattle.orc_rules.specs.Sites.{Table}
 use Rattle.orc_rules.specs.Numbered.{IsNumbered, cell, times}
 use Rattle.orc_rules.proofs.Tests.{halted_by_test}
-use Rattle.orc_checker.specs.Arena.{Tree, leaf, one, two, place, count, at, Holds, StandOnce, IsTopped, spelled, env_of, given, plug}
+use Rattle.orc_checker.specs.Arena.{Tree, leaf, one, two, place, count, at, Holds, StandOnce, IsTopped, spelled, plug}
+use Rattle.orc_names.specs.Scopes.{env_of, given}
 use Rattle.orc_checker.specs.Around.{above}
 use Rattle.orc_checker.specs.Rising.{Stands}
-use Rattle.orc_checker.specs.Names.{AreOrdered}
+use Rattle.orc_names.specs.Names.{AreOrdered}
 use Rattle.orc_checker.specs.Settling.{flag, HasFlags}
 use Rattle.orc_checker.specs.Dropping.{AreNodesOf, IsDropped}
 use Rattle.orc_checker.specs.Checker.{State, Applies, context, AreOwn}
@@ -32,13 +33,13 @@ use Rattle.orc_checker.proofs.Moves.{node}
 use Rattle.orc_checker.proofs.Opening.{keeps_free}
 use Rattle.orc_checker.proofs.Settling.{flag_says, flagged-out}
 use Rattle.orc_checker.proofs.Flagging.{reflag}
-use Rattle.orc_checker.proofs.Filling.{code-stays}
+use Rattle.orc_names.proofs.Filling.{code-stays}
 use Rattle.orc_checker.proofs.Binding.{replaces_in}
-use Rattle.orc_checker.proofs.Inside.{Confined}
+use Rattle.orc_names.proofs.Inside.{Confined}
 use Rattle.orc_checker.proofs.Leaving.{Drops, drops, pruned_holds, pruned_once}
 use Rattle.orc_checker.proofs.Ending.{Over, own_filled, left_filled, stays_so, ends_drawn}
 use Rattle.orc_checker.proofs.Resuming.{at_node}
-use Rattle.orc_checker.proofs.Reached.{reached_numbered, reached_confined}
+use Rattle.orc_names.proofs.Reached.{reached_numbered, reached_confined}
 
 double_or : Double → Kind → Double
 double_or d (Two e i j) = e
@@ -116,7 +117,7 @@ lose-applies l t s s' j q c left right side between is_at halted st cancels p r 
     let stays : (b : Bound) (e v : ℕ) → fill (given b) e (terms v) ≡ terms v = λ b e v. code-stays (given b) e l.lists l.nodes v in
     let own = sp.cells.3 in
     let around = stays_so terms stays s s' p.marked j c Void o own st.unbound st.cells st.scopes
-    (subst (Confined c) o.was (reached_confined l t cancels p r c), omega (arith, IsNumbered.single (reached_numbered l t cancels p r) (cell c), ap (times (cell c)) o.was)) in
+    (subst (Confined c) o.was (reached_confined l t.sites cancels r.0 p r.1 c), omega (arith, IsNumbered.single (reached_numbered l t.sites cancels r.0 p r.1) (cell c), ap (times (cell c)) o.was)) in
     let filled = left_filled terms stays s s' p.marked j c Void o own st.unbound st.cells st.scopes in
     let new = plug k (one j Passed u.left) in
     let x = in_opened (spelled terms env u.left) c (spelled terms env u.right) in

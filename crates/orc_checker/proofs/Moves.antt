@@ -13,9 +13,10 @@ use Rattle.orc_checker.specs.declared.arena.Kind.{Kind}
 use Rattle.orc_checker.specs.declared.arena.Kind.TheVariants.{Leaf, One, Two}
 use Rattle.orc_rules.specs.Term.{Term, stop, par, seq, other}
 use Rattle.orc_rules.specs.Marked.{Marked, ended, token, in_par, in_seq, in_other, Replaces, here}
-use Rattle.orc_checker.specs.Arena.{Env, Tree, leaf, one, two, hits, at, TipIn, SingleIn, living, living_kind, spelled, env_of, plug, close, without}
+use Rattle.orc_checker.specs.Arena.{Tree, leaf, one, two, hits, at, TipIn, SingleIn, living, living_kind, spelled, plug}
+use Rattle.orc_names.specs.Scopes.{Env, env_of, close, without}
 use Rattle.orc_checker.specs.Checker.{State, Draws, Spells, Enters, AreCells}
-use Rattle.orc_checker.specs.Names.{AreOrdered}
+use Rattle.orc_names.specs.Names.{AreOrdered}
 use Rattle.orc_checker.specs.Calls.{Keeps}
 use Rattle.orc_checker.specs.Halting.{halt_flag}
 use Rattle.orc_checker.specs.Settling.{HasFlags, Reflags}
@@ -27,7 +28,7 @@ use Rattle.orc_checker.proofs.Trees.{holds-out}
 use Rattle.orc_checker.proofs.Lists.{get-set_same, get-set_other, get-append, get-end, living-set, living-push}
 use Rattle.orc_checker.proofs.Change.{says_of, Becomes, changed}
 use Rattle.orc_checker.proofs.Spelling.{replaces}
-use Rattle.orc_checker.proofs.Closing.{close-stop, close-par, close-seq, close-other}
+use Rattle.orc_names.proofs.Closing.{close-stop, close-par, close-seq, close-other}
 
 abbrev pub node : Kind → ℕ → Node
 node k p = record { kind = k; parent = p }

@@ -9,14 +9,14 @@ use Rattle.orc_rules.specs.declared.param.Operand.{Operand}
 use Rattle.orc_rules.specs.declared.param.Operand.TheVariants as operand
 use Rattle.orc_rules.specs.Term.{put, put_all}
 use Rattle.orc_rules.specs.Nodes.{param_of}
-use Rattle.orc_checker.specs.declared.arena.Bound.{Bound}
-use Rattle.orc_checker.specs.declared.arena.Bound.TheVariants.{Is, Cell, Void}
-use Rattle.orc_checker.specs.declared.arena.Scope.{Scope}
-use Rattle.orc_checker.specs.Arena.{Env, given, close, close_param, current, envs_from, env_of}
-use Rattle.orc_checker.specs.Names.{AreOrdered, Means}
+use Rattle.orc_names.specs.declared.names.Bound.{Bound}
+use Rattle.orc_names.specs.declared.names.Bound.TheVariants.{Is, Cell, Void}
+use Rattle.orc_names.specs.declared.names.Scope.{Scope}
+use Rattle.orc_names.specs.Scopes.{Env, given, close, close_param, current, envs_from, env_of}
+use Rattle.orc_names.specs.Names.{AreOrdered, Means}
 use Rattle.orc_checker.specs.Checker.{AreOwn}
 use Rattle.orc_checker.specs.Parameters.{Adds}
-use Rattle.orc_checker.proofs.Scopes.{close-given, env-new, envs-before, one_env}
+use Rattle.orc_names.proofs.Scopes.{close-given, env-new, envs-before, one_env}
 use Rattle.orc_checker.proofs.Opening.{ordered_push}
 
 abbrev back : Param → Bound

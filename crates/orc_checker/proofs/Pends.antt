@@ -10,7 +10,8 @@ use Rattle.orc_checker.specs.declared.arena.Kind.TheVariants.{Leaf}
 use Rattle.orc_checker.specs.declared.arena.Tip.TheVariants.{Gone, Ended, Token, Bears, Waits}
 use Rattle.orc_checker.specs.declared.arena.Single.TheVariants.{Feeds, Entered, Passed}
 use Rattle.orc_checker.specs.declared.arena.Double.TheVariants.{Both, Side}
-use Rattle.orc_checker.specs.Arena.{Env, given, close, Tree, leaf, one, two, Holds, at, spelled, Frame, on_one, on_left, on_right, plug}
+use Rattle.orc_checker.specs.Arena.{Tree, leaf, one, two, Holds, at, spelled, Frame, on_one, on_left, on_right, plug}
+use Rattle.orc_names.specs.Scopes.{Env, given, close}
 
 -- what is put in leaves the calls that pend
 pub pending_put : (q : Param) (x : ℕ) (f : Term) → pending_of (put q x f) ≡ pending_of f

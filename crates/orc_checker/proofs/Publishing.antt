@@ -13,10 +13,12 @@ use Rattle.orc_rules.specs.Term.{Term}
 use Rattle.orc_rules.specs.Step.{publishes}
 use Rattle.orc_rules.specs.Marked.{erase, ended, Emits, emits, passes, on_main}
 use Rattle.orc_rules.specs.Marked.{on_left as emits_left, on_right as emits_right}
-use Rattle.orc_checker.specs.Arena.{Env, Tree, leaf, one, two, place, Holds, StandOnce, IsTopped, at, living_kind, spelled, env_of, Frame, on_one, on_left, on_right, plug}
+use Rattle.orc_checker.specs.Arena.{Tree, leaf, one, two, place, Holds, StandOnce, IsTopped, at, living_kind, spelled, Frame, on_one, on_left, on_right, plug}
+use Rattle.orc_names.specs.Scopes.{Env, env_of}
 use Rattle.orc_checker.specs.Rising.{takes, rest, under, risen, IsTaker, Rises}
 use Rattle.orc_checker.specs.Checker.{State, Enters, AreCells}
-use Rattle.orc_checker.specs.Names.{AreOrdered, BearsValue}
+use Rattle.orc_checker.specs.Bearers.{BearsValue}
+use Rattle.orc_names.specs.Names.{AreOrdered}
 use Rattle.orc_checker.specs.Calls.{Keeps}
 use Rattle.orc_checker.proofs.Trees.{topped-plug}
 use Rattle.orc_checker.specs.Settling.{flag, HasFlags, Settles}

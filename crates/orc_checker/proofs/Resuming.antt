@@ -13,12 +13,13 @@ use Rattle.orc_rules.specs.Term.{Term}
 use Rattle.orc_rules.specs.Marked.{token, in_other, erase, Replaces, here}
 use Rattle.orc_rules.specs.Idle.{has_halted}
 use Rattle.orc_rules.proofs.Tests.{halted_by_test}
-use Rattle.orc_checker.specs.Arena.{Tree, leaf, one, two, place, count, at, Holds, living, StandOnce, IsTopped, spelled, env_of, close, Frame, plug}
+use Rattle.orc_checker.specs.Arena.{Tree, leaf, one, two, place, count, at, Holds, living, StandOnce, IsTopped, spelled, Frame, plug}
+use Rattle.orc_names.specs.Scopes.{env_of, close}
 use Rattle.orc_checker.specs.Around.{above}
 use Rattle.orc_checker.specs.Halting.{halt_flag}
 use Rattle.orc_checker.specs.Settling.{flag, HasFlags, Settles}
 use Rattle.orc_checker.specs.Dropping.{AreNodesOf, IsDropped}
-use Rattle.orc_checker.specs.Names.{AreOrdered}
+use Rattle.orc_names.specs.Names.{AreOrdered}
 use Rattle.orc_checker.specs.Checker.{State, Enters, AreCells}
 use Rattle.orc_checker.proofs.Trees.{hit, count-plug, holds-out, living-most, spot, topped-plug}
 use Rattle.orc_checker.proofs.Change.{place-plug}

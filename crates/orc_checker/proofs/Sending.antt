@@ -5,8 +5,8 @@ use Rattle.orc_rules.specs.declared.value.Value.{Value}
 use Rattle.orc_rules.specs.declared.param.Param.TheVariants.{Is}
 use Rattle.orc_rules.specs.declared.entry.Entry.TheVariants as entry
 use Rattle.orc_checker.specs.declared.arena.Node.{Node}
-use Rattle.orc_checker.specs.declared.arena.Scope.{Scope}
-use Rattle.orc_checker.specs.declared.arena.Bound.TheVariants as bound
+use Rattle.orc_names.specs.declared.names.Scope.{Scope}
+use Rattle.orc_names.specs.declared.names.Bound.TheVariants as bound
 use Rattle.orc_checker.specs.declared.arena.Tip.{Tip}
 use Rattle.orc_checker.specs.declared.arena.Tip.TheVariants.{Ended, Token}
 use Rattle.orc_checker.specs.declared.arena.Kind.{Kind}
@@ -20,13 +20,15 @@ use Rattle.orc_checker.specs.declared.walk.Taker.TheVariants as taker
 use Rattle.orc_rules.specs.Term.{Term, param, put}
 use Rattle.orc_rules.specs.Step.{publishes, silent}
 use Rattle.orc_rules.specs.Marked.{erase, token, ended, in_seq, in_par, Emits, emits, is_fed}
-use Rattle.orc_checker.specs.Arena.{Env, Tree, leaf, one, place, Holds, StandOnce, IsTopped, at, SingleIn, living_kind, spelled, env_of, close, without, Frame, on_one, on_left, on_right, fit, plug}
+use Rattle.orc_checker.specs.Arena.{Tree, leaf, one, place, Holds, StandOnce, IsTopped, at, SingleIn, living_kind, spelled, Frame, on_one, on_left, on_right, fit, plug}
+use Rattle.orc_names.specs.Scopes.{Env, env_of, close, without}
 use Rattle.orc_checker.specs.Around.{above}
 use Rattle.orc_checker.proofs.Feeding.{place-fit}
 use Rattle.orc_checker.specs.Rising.{takes, rest, under, risen, nowhere, IsTaker, Rises}
 use Rattle.orc_checker.specs.Grafting.{grafted, Grafts}
 use Rattle.orc_checker.specs.Checker.{State, Enters, AreCells}
-use Rattle.orc_checker.specs.Names.{AreOrdered, BearsValue}
+use Rattle.orc_checker.specs.Bearers.{BearsValue}
+use Rattle.orc_names.specs.Names.{AreOrdered}
 use Rattle.orc_checker.specs.Calls.{Keeps}
 use Rattle.orc_rules.specs.Idle.{has_halted}
 use Rattle.orc_checker.specs.Halting.{halt_flag}
@@ -38,8 +40,8 @@ use Rattle.orc_checker.proofs.Lists.{get-more}
 use Rattle.orc_checker.proofs.Change.{place-plug, changed}
 use Rattle.orc_checker.proofs.Moves.{node, written, Grows}
 use Rattle.orc_checker.proofs.Rising.{plug-under, get_or-some}
-use Rattle.orc_checker.proofs.Closing.{close-more}
-use Rattle.orc_checker.proofs.Scopes.{env-kept, env-new}
+use Rattle.orc_names.proofs.Closing.{close-more}
+use Rattle.orc_names.proofs.Scopes.{env-kept, env-new}
 use Rattle.orc_checker.proofs.Spelling.{spelled-kept, taken}
 use Rattle.orc_checker.proofs.Publishing.{goes_up, place-risen, topped-risen}
 

@@ -16,7 +16,8 @@ use Rattle.orc_checker.specs.declared.arena.Node.{Node}
 use Rattle.orc_checker.specs.declared.arena.Kind.TheVariants.{Leaf}
 use Rattle.orc_checker.specs.declared.arena.Tip.TheVariants.{Waits}
 use Rattle.orc_checker.specs.declared.rest.Called.{Called}
-use Rattle.orc_checker.specs.Arena.{at, leaf, spelled, env_of}
+use Rattle.orc_checker.specs.Arena.{at, leaf, spelled}
+use Rattle.orc_names.specs.Scopes.{env_of}
 use Rattle.orc_checker.specs.Calls.{AreNumbered, told, told_of}
 use Rattle.orc_checker.specs.Checker.{State, Spells, Follows}
 use Rattle.orc_checker.specs.Settling.{kind_at}
@@ -103,16 +104,16 @@ module _ (x : Context) (code : ℕ → Term) (s : State) (p : Place) (sp : Spell
       let r = sp.rest in
       let m = made_there x.sites p.calls d.index (told d.by) r.numbered (ap (λ z. slice_get z d.index) (sym r.calls_are) ∙ map_there s.rest.calls d.index d.by d.there) in (
         k,
-        d.time.answer,
+        d.time.0,
         pends,
         record {
           by = m.by;
           is_made = m.is_made;
           is_k = m.number ∙ sym d.is_k;
-          delay = d.time.delay;
-          says = ap (λ z. z.0) m.tells ∙ d.time.found;
-          sum = d.time.sum ∙ ap (λ z. z + d.time.delay) (sym (ap (λ z. z.1) m.tells));
-          fits = d.time.fits;
+          delay = d.time.1.delay;
+          says = ap (λ z. z.0) m.tells ∙ d.time.1.says;
+          sum = d.time.1.sum ∙ ap (λ z. z + d.time.1.delay) (sym (ap (λ z. z.1) m.tells));
+          fits = d.time.1.fits;
         },
       )
 
@@ -133,13 +134,8 @@ module _ (x : Context) (code : ℕ → Term) (s : State) (p : Place) (sp : Spell
             is_k = sym due.is_k ∙ o.number;
             by = c.by;
             there = c.there;
-            time = record {
-              answer = a;
-              delay = due.delay;
-              found = ap (λ z. z.0) c.tells ∙ due.says;
-              sum = due.sum ∙ ap (λ z. z + due.delay) (sym (ap (λ z. z.1) c.tells));
-              fits = due.fits;
-            };
+            time =
+                (a, record { delay = due.delay; says = ap (λ z. z.0) c.tells ∙ due.says; sum = due.sum ∙ ap (λ z. z + due.delay) (sym (ap (λ z. z.1) c.tells)); fits = due.fits });
           },
         ),
       )

@@ -10,9 +10,10 @@ use Rattle.orc_rules.specs.Term.{Term, HasVoid}
 use Rattle.orc_rules.specs.Idle.{has_halted, has_void}
 use Rattle.orc_rules.specs.Journal.{Place, IsVoid}
 use Rattle.orc_rules.specs.Marked.{ended}
-use Rattle.orc_checker.specs.Arena.{leaf, at, env_of, close}
+use Rattle.orc_checker.specs.Arena.{leaf, at}
+use Rattle.orc_names.specs.Scopes.{env_of, close}
 use Rattle.orc_checker.specs.Checker.{State, Enters}
-use Rattle.orc_checker.specs.Names.{AreOrdered}
+use Rattle.orc_names.specs.Names.{AreOrdered}
 use Rattle.orc_checker.specs.Settling.{Settles}
 use Rattle.orc_checker.proofs.Flagging.{reflag_leaf_settled}
 use Rattle.orc_checker.proofs.Moves.{node, Stays, staying, written, token_moves}

@@ -1,9 +1,9 @@
 -- The state of the checker, and the places that it spells.
 use Rattle.std.specs.Prelude.{◌≡◌, ℕ, zero, suc, Bool, List, [], ◌∷◌, length, Some, slice_get}
 use Rattle.orc_checker.specs.declared.arena.Node.{Node}
-use Rattle.orc_checker.specs.declared.arena.Bound.{Bound}
-use Rattle.orc_checker.specs.declared.arena.Bound.TheVariants.{Cell}
-use Rattle.orc_checker.specs.declared.arena.Scope.{Scope}
+use Rattle.orc_names.specs.declared.names.Bound.{Bound}
+use Rattle.orc_names.specs.declared.names.Bound.TheVariants.{Cell}
+use Rattle.orc_names.specs.declared.names.Scope.{Scope}
 use Rattle.orc_rules.specs.declared.entry.Entry.{Entry}
 use Rattle.orc_rules.specs.Term.{Term}
 use Rattle.orc_rules.specs.Nodes.{Listing, code, source, definitions}
@@ -11,8 +11,9 @@ use Rattle.orc_rules.specs.Sites.{Site, Table}
 use Rattle.orc_rules.specs.Marked.{Marked}
 use Rattle.orc_rules.specs.Timed.{Context}
 use Rattle.orc_rules.specs.Journal.{Place, Leads, Journal, begin}
-use Rattle.orc_checker.specs.Arena.{Tree, Holds, StandOnce, IsTopped, spelled, env_of, place}
-use Rattle.orc_checker.specs.Names.{AreOrdered}
+use Rattle.orc_checker.specs.Arena.{Tree, Holds, StandOnce, IsTopped, spelled, place}
+use Rattle.orc_names.specs.Scopes.{env_of}
+use Rattle.orc_names.specs.Names.{AreOrdered}
 use Rattle.orc_checker.specs.Calls.{Rest, Keeps}
 use Rattle.orc_checker.specs.Settling.{HasFlags}
 

@@ -1,15 +1,14 @@
 pub mod Arena
 pub mod Around
+pub mod Bearers
 pub mod Calls
 pub mod Checker
-pub mod Counting
 pub mod Dropping
 pub mod DueTimes
 pub mod Grafting
 pub mod Halting
 pub mod Hints
 pub mod Labelling
-pub mod Names
 pub mod NextDue
 pub mod Parameters
 pub mod Ranks

@@ -3,10 +3,10 @@ use Rattle.std.specs.Prelude.{◌≡◌, ◌≤◌, ℕ, List, ◌++◌, length,
 use Rattle.orc_rules.specs.declared.param.Operand.{Operand}
 use Rattle.orc_rules.specs.Term.{Term, put_all}
 use Rattle.orc_rules.specs.Nodes.{param_of}
-use Rattle.orc_checker.specs.declared.arena.Bound.{Bound}
-use Rattle.orc_checker.specs.declared.arena.Scope.{Scope}
-use Rattle.orc_checker.specs.Arena.{close, close_param, env_of}
-use Rattle.orc_checker.specs.Names.{AreOrdered}
+use Rattle.orc_names.specs.declared.names.Bound.{Bound}
+use Rattle.orc_names.specs.declared.names.Scope.{Scope}
+use Rattle.orc_names.specs.Scopes.{close, close_param, env_of}
+use Rattle.orc_names.specs.Names.{AreOrdered}
 use Rattle.orc_checker.specs.Checker.{AreOwn}
 
 -- with `more` behind the scopes ss, the names of scope n are xs, and what stands for them are the operands as they are in scope e

@@ -13,10 +13,10 @@ ghost use Rattle.orc_checker.specs.declared.arena.Tip.TheVariants.{Waits};
 use crate::arena::{Kind, Node, Tip};
 use crate::flags::settle;
 use crate::marked::Marked;
-use crate::names::are_arguments;
-use crate::pending::time_of;
 use crate::rest::{Called, is_due_now};
 use crate::room::{push_within, reserve};
+use orc_calls::due_time;
+use orc_names::are_arguments;
 use orc_rules::answers::Answers;
 use orc_rules::entry::RuleFault;
 use orc_rules::program::{Program, TermNode};
@@ -66,9 +66,8 @@ impl Marked {
             at: self.rest.time(),
             node: spot.at,
         };
-        self.due.note(time_of(called), spot.at)?;
-        self.rest
-            .add(called, answers.is_scripted(site), site, args)?;
+        self.due.note(due_time(called.found, called.at), spot.at)?;
+        self.rest.add(called, answers, site, args)?;
         self.nodes.write_node(
             spot.at,
             Node {

@@ -9,12 +9,13 @@ ghost use Rattle.orc_checker.specs.NextDue.{waits, NoMoreWait};
 ghost use Rattle.orc_checker.specs.Sides.{NoNewSides};
 ghost use Rattle.orc_checker.specs.declared.arena.Kind.TheVariants.{Leaf as AtLeaf};
 
-use crate::arena::{Bound, Double, Kind, Node, Scope, Single, Tip};
+use crate::arena::{Double, Kind, Node, Single, Tip};
 use crate::flags::{push_flag, settle};
 use crate::marked::Marked;
 use crate::nodes::Nodes;
 use crate::room::{push_within, reserve};
 use crate::walk::{Taker, rise, way_up};
+use orc_names::{Bound, Scope};
 use orc_rules::entry::RuleFault;
 use orc_rules::program::Program;
 use orc_rules::value::Value;

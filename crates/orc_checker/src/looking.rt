@@ -6,9 +6,10 @@ ghost use Rattle.orc_rules.specs.Timed.{Context};
 ghost use Rattle.orc_rules.specs.Nodes.{Listing, code};
 ghost use Rattle.orc_checker.specs.Checker.{Spells};
 
-use crate::arena::{Bound, Double, Kind, Single, Tip};
+use crate::arena::{Double, Kind, Single, Tip};
 use crate::marked::{Marked, Spot};
 use crate::walk::{Taker, way_up};
+use orc_names::Bound;
 use orc_rules::param::Operand;
 use orc_rules::program::{Program, TermNode};
 use orc_rules::value::{Answer, Args, Found, Value};

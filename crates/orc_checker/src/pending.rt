@@ -2,30 +2,13 @@
 
 ghost use Rattle.std.specs.Prelude.{◌≡◌, ℕ, List, IfSome, IfNone};
 ghost use Rattle.std.specs.Bool.{Decides};
-ghost use Rattle.orc_checker.specs.NextDue.{AreNoted, IsDueOf, IsDueAt, IsNext, IsTime};
+ghost use Rattle.orc_checker.specs.NextDue.{AreNoted, IsDueOf, IsDueAt, IsNext};
 
 use crate::arena::{Kind, Tip};
 use crate::due::Due;
 use crate::nodes::Nodes;
 use crate::rest::{Called, Rest};
-use orc_rules::value::Found;
-
-/// When a call that was made is due.
-pub(crate) fn time_of(made: Called) -> Option<u64>
-    ensures due { IfSome result (IsTime made) }
-    ensures never { IfNone result ((t : ℕ) → IsTime made t → ⊥) }
-{
-    match made.found {
-        Found::Never => None,
-        Found::After(_, delay) => {
-            if delay > u64::MAX - made.at {
-                None
-            } else {
-                Some(made.at + delay)
-            }
-        }
-    }
-}
+use orc_calls::due_time;
 
 /// When the call of that number is due.
 fn due_of(calls: &Vec<Called>, call: u64) -> Option<u64>
@@ -37,7 +20,7 @@ fn due_of(calls: &Vec<Called>, call: u64) -> Option<u64>
     }
     match calls.get((call - 1) as usize) {
         None => None,
-        Some(made) => time_of(*made),
+        Some(made) => due_time(made.found, made.at),
     }
 }
 

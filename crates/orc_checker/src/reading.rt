@@ -2,15 +2,16 @@
 
 ghost use Rattle.std.specs.Prelude.{◌≡◌, ℕ, List, IfSome, IfNone};
 ghost use Rattle.orc_rules.specs.Nodes.{param_of};
-ghost use Rattle.orc_checker.specs.Arena.{close_param, env_of, Frame, Tree};
-ghost use Rattle.orc_checker.specs.Names.{AreOrdered};
+ghost use Rattle.orc_checker.specs.Arena.{Frame, Tree};
+ghost use Rattle.orc_names.specs.Scopes.{close_param, env_of};
+ghost use Rattle.orc_names.specs.Names.{AreOrdered};
 ghost use Rattle.orc_checker.specs.Rising.{takes, Stands};
 
-use crate::arena::{Bound, Node};
+use crate::arena::Node;
 use crate::marked::Marked;
-use crate::names::meaning;
 use crate::rest::Called;
 use crate::walk::{Taker, way_up};
+use orc_names::{Bound, meaning};
 use orc_rules::param::{Operand, Param};
 
 impl Marked {

@@ -1,10 +1,11 @@
 // What of a journal isn't in its term: the time, the calls made, and the cancels due.
 
 ghost use Rattle.std.specs.Prelude.{◌≡◌, ◌∷◌, List, [], false, reverse, length, slice_get, IfOk, IfSome, OnOk, OnErr};
-ghost use Rattle.orc_checker.specs.Calls.{Rest as Aside, AddsCall, NextFound, IsCall, DueNow};
+ghost use Rattle.orc_calls.specs.Counting.{CountsCall, NextFound};
+ghost use Rattle.orc_checker.specs.Calls.{Rest as Aside, AddsCall, IsCall, IsDueNow};
 
-use crate::counts::Counts;
 use crate::room::push_within;
+use orc_calls::{Counts, check_due};
 use orc_rules::answers::Answers;
 use orc_rules::entry::RuleFault;
 use orc_rules::value::{Answer, Args, Found};
@@ -36,6 +37,17 @@ impl Model for Rest {
     ghost view = { λ r. record { calls = r.calls.items; counts = r.counts; time = r.time; to_cancel = reverse r.to_cancel.items; cancels = r.cancels } };
 }
 
+// A call of a site with these arguments is counted, or memory is refused.
+fn count(counts: &mut Counts, answers: &Answers, site: u32, args: &Args) -> Result<(), RuleFault>
+    ensures added { OnOk result (CountsCall answers.now.sites site args.now counts.old counts.new) }
+    ensures refused { OnErr result (counts.new ≡ counts.old) }
+{
+    match counts.add(answers, site, args) {
+        Ok(()) => Ok(()),
+        Err(_) => Err(RuleFault::Memory),
+    }
+}
+
 impl Rest {
     /// Time 0 and no calls.
     pub(crate) fn new(alloc: Global, cancels: bool) -> Rest
@@ -52,30 +64,24 @@ impl Rest {
 
     /// What the table says of the next call of a site with these arguments.
     pub(crate) fn found(&self, answers: &Answers, site: u32, args: &Args) -> Found
-        ensures { NextFound answers.now.sites self.now site args.now result }
+        ensures { NextFound answers.now.sites self.now.counts site args.now result }
     {
-        if answers.is_scripted(site) {
-            answers.find(site, args, self.counts.nth(site, args))
-        } else {
-            answers.find(site, args, 1)
-        }
+        self.counts.found(answers, site, args)
     }
 
-    /// Adds a call, which is counted where its site `counts` its calls. Where a growth is refused nothing changes.
+    /// Adds a call of a site with these arguments, and counts it. Where a growth is refused nothing changes.
     pub(crate) fn add(
         &mut self,
         called: Called,
-        counts: bool,
+        answers: &Answers,
         site: u32,
         args: &Args,
     ) -> Result<(), RuleFault>
-        ensures added { OnOk result (AddsCall called counts site args.now self.old self.new) }
+        ensures added { OnOk result (AddsCall answers.now.sites called site args.now self.old self.new) }
         ensures refused { OnErr result (self.new ≡ self.old) }
     {
         self.calls.try_reserve(1).map_err(|_| RuleFault::Memory)?;
-        if counts {
-            self.counts.add(site, args).map_err(|_| RuleFault::Memory)?;
-        }
+        count(&mut self.counts, answers, site, args)?;
         push_within(&mut self.calls, called);
         Ok(())
     }
@@ -141,16 +147,7 @@ impl Rest {
 
 /// Whether a call's answer is this one and is due at this time.
 pub(crate) fn is_due_now(called: Called, answer: Answer, time: u64) -> Result<(), RuleFault>
-    ensures { IfOk result (λ _. DueNow called answer time) }
+    ensures { IfOk result (λ _. IsDueNow called answer time) }
 {
-    match called.found {
-        Found::After(given, delay) if given == answer => {
-            if called.at.checked_add(delay) == Some(time) {
-                Ok(())
-            } else {
-                Err(RuleFault::Time)
-            }
-        }
-        _ => Err(RuleFault::Answer),
-    }
+    check_due(called.found, called.at, answer, time)
 }

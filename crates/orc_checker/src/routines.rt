@@ -8,14 +8,15 @@ ghost use Rattle.orc_checker.specs.Checker.{Applies};
 ghost use Rattle.orc_checker.specs.Parameters.{Adds};
 ghost use Rattle.orc_rules.specs.declared.entry.Entry.TheVariants as entry;
 
-use crate::arena::{Bound, Kind, Node, Scope, Tip};
+use crate::arena::{Kind, Node, Tip};
 use crate::flags::settle;
 use crate::marked::Marked;
-use crate::names::meaning;
 use crate::room::push_within;
+use orc_names::{Bound, Scope, meaning};
 use orc_rules::entry::RuleFault;
 use orc_rules::param::Operand;
 use orc_rules::program::{Definition, Program, TermNode};
+use std::alloc::Global;
 
 /// The definition of a number.
 pub(crate) fn definition(program: &Program, number: u32) -> Option<&Definition>
@@ -48,18 +49,19 @@ fn extend_scopes(scopes: &mut Vec<Scope>, added: &Vec<Scope>) -> Result<(), Rule
 /// The scopes of a definition's parameters, the last parameter first, each the outer of the next, and the number of the last.
 /// The errors: Form where the arguments are not as many, or one of them isn't bound, and refused memory.
 fn parameter_scopes(
-    scopes: &Vec<Scope>,
-    cells: &Vec<Bound>,
+    alloc: Global,
+    scopes: &[Scope],
+    cells: &[Bound],
     params: &[u32],
     operands: &[Operand],
     scope: usize,
 ) -> Result<(Vec<Scope>, usize), RuleFault>
-    ensures { IfOk result (λ r. Adds cells.now.items scopes.now.items scope params.now operands.now r.0.items r.1) }
+    ensures { IfOk result (λ r. Adds cells.now scopes.now scope params.now operands.now r.0.items r.1) }
 {
     if params.len() != operands.len() {
         return Err(RuleFault::Form);
     }
-    let mut added = Vec::new(*scopes.allocator());
+    let mut added = Vec::new(alloc);
     let mut outer = 0;
     let mut left = params.len();
     while left > 0 {
@@ -94,6 +96,7 @@ impl Marked {
         self.next_mark(a)?;
         let operands = program.operands(list);
         let (added, scope) = parameter_scopes(
+            self.nodes.allocator(),
             &self.scopes,
             &self.cells,
             &called.params,

@@ -4,25 +4,25 @@ ghost use Rattle.std.specs.Prelude.{◌≡◌, ◌≤◌, ◌||◌, ℕ, true, f
 ghost use Rattle.orc_rules.specs.Idle.{is_ready, has_void};
 ghost use Rattle.orc_rules.specs.Nodes.{code, definitions, param_of};
 ghost use Rattle.orc_rules.specs.Term.{values_of};
-ghost use Rattle.orc_checker.specs.Arena.{close_param, env_of};
+ghost use Rattle.orc_names.specs.Scopes.{close_param, env_of};
 ghost use Rattle.orc_checker.specs.Halting.{AreHalts};
-ghost use Rattle.orc_checker.specs.Names.{AreOrdered};
+ghost use Rattle.orc_names.specs.Names.{AreOrdered};
 ghost use Rattle.orc_checker.specs.Stillness.{params_in, term_moves, token_moves, DoMove, Wakes};
 
-use crate::arena::{Bound, Kind, Scope, Tip};
+use crate::arena::{Kind, Tip};
 use crate::flags::{flag_at, write_flag};
 use crate::halts::Halts;
-use crate::names::meaning;
 use crate::nodes::Nodes;
 use crate::routines::definition;
 use crate::void::has_void;
+use orc_names::{Bound, Scope, meaning};
 use orc_rules::laws::program_is_source;
 use orc_rules::param::Operand;
 use orc_rules::program::{Program, TermNode};
 
 /// Whether a token on an operand can move in a scope: it is a value, or void.
-fn is_ready(scopes: &Vec<Scope>, cells: &Vec<Bound>, operand: Operand, scope: usize) -> bool
-    ensures { AreOrdered scopes.now.items → result ≡ is_ready (close_param (env_of cells.now.items scopes.now.items scope) (param_of operand)) }
+fn is_ready(scopes: &[Scope], cells: &[Bound], operand: Operand, scope: usize) -> bool
+    ensures { AreOrdered scopes.now → result ≡ is_ready (close_param (env_of cells.now scopes.now scope) (param_of operand)) }
 {
     match meaning(scopes, cells, operand, scope) {
         Some(Bound::Cell(_)) => false,
@@ -32,8 +32,8 @@ fn is_ready(scopes: &Vec<Scope>, cells: &Vec<Bound>, operand: Operand, scope: us
 }
 
 /// Whether all operands are values in a scope.
-fn are_values(scopes: &Vec<Scope>, cells: &Vec<Bound>, operands: &[Operand], scope: usize) -> bool
-    ensures { AreOrdered scopes.now.items → result ≡ is_some (values_of (params_in cells.now.items scopes.now.items scope operands.now)) }
+fn are_values(scopes: &[Scope], cells: &[Bound], operands: &[Operand], scope: usize) -> bool
+    ensures { AreOrdered scopes.now → result ≡ is_some (values_of (params_in cells.now scopes.now scope operands.now)) }
 {
     match operands {
         [] => true,
@@ -45,8 +45,8 @@ fn are_values(scopes: &Vec<Scope>, cells: &Vec<Bound>, operands: &[Operand], sco
 }
 
 /// Whether a token on a call of a site can move in a scope: all operands are values, or one is void.
-fn is_callable(scopes: &Vec<Scope>, cells: &Vec<Bound>, operands: &[Operand], scope: usize) -> bool
-    ensures { AreOrdered scopes.now.items → result ≡ (is_some (values_of (params_in cells.now.items scopes.now.items scope operands.now)) || has_void (params_in cells.now.items scopes.now.items scope operands.now)) }
+fn is_callable(scopes: &[Scope], cells: &[Bound], operands: &[Operand], scope: usize) -> bool
+    ensures { AreOrdered scopes.now → result ≡ (is_some (values_of (params_in cells.now scopes.now scope operands.now)) || has_void (params_in cells.now scopes.now scope operands.now)) }
 {
     are_values(scopes, cells, operands, scope) || has_void(scopes, cells, operands, scope)
 }
@@ -55,13 +55,13 @@ fn is_callable(scopes: &Vec<Scope>, cells: &Vec<Bound>, operands: &[Operand], sc
 fn wakes(
     program: &Program,
     halts: &Vec<bool>,
-    scopes: &Vec<Scope>,
-    cells: &Vec<Bound>,
+    scopes: &[Scope],
+    cells: &[Bound],
     active: &mut Vec<bool>,
     node: usize,
     scope: usize,
 ) -> bool
-    ensures wakes { AreHalts (code program.now) halts.now.items → AreOrdered scopes.now.items → Wakes (term_moves (definitions program.now) (code program.now) cells.now.items scopes.now.items scope) active.old.items active.new.items node result }
+    ensures wakes { AreHalts (code program.now) halts.now.items → AreOrdered scopes.now → Wakes (term_moves (definitions program.now) (code program.now) cells.now scopes.now scope) active.old.items active.new.items node result }
     ensures len { length active.new.items ≡ length active.old.items }
 {
     program.are_parts_first();
@@ -94,14 +94,14 @@ fn wakes(
 fn can_term_move(
     program: &Program,
     halts: &Vec<bool>,
-    scopes: &Vec<Scope>,
-    cells: &Vec<Bound>,
+    scopes: &[Scope],
+    cells: &[Bound],
     active: &mut Vec<bool>,
     node: usize,
     scope: usize,
 ) -> bool
     requires { length halts.now.items ≤ length active.old.items }
-    ensures moves { AreHalts (code program.now) halts.now.items → AreOrdered scopes.now.items → result ≡ term_moves (definitions program.now) (code program.now) cells.now.items scopes.now.items scope node }
+    ensures moves { AreHalts (code program.now) halts.now.items → AreOrdered scopes.now → result ≡ term_moves (definitions program.now) (code program.now) cells.now scopes.now scope node }
     ensures len { length active.new.items ≡ length active.old.items }
 {
     // Most tokens that can't move wait on these, whose parts needn't be looked at.
@@ -136,11 +136,11 @@ fn can_term_move(
 fn can_token_move(
     program: &Program,
     halts: &mut Halts,
-    scopes: &Vec<Scope>,
-    cells: &Vec<Bound>,
+    scopes: &[Scope],
+    cells: &[Bound],
     kind: Kind,
 ) -> bool
-    ensures moves { AreHalts (code program.now) halts.old → AreOrdered scopes.now.items → result ≡ token_moves (definitions program.now) (code program.now) cells.now.items scopes.now.items kind }
+    ensures moves { AreHalts (code program.now) halts.old → AreOrdered scopes.now → result ≡ token_moves (definitions program.now) (code program.now) cells.now scopes.now kind }
     ensures same { halts.new ≡ halts.old }
 {
     match kind {
@@ -162,11 +162,11 @@ fn can_token_move(
 pub(crate) fn can_some_move(
     program: &Program,
     halts: &mut Halts,
-    scopes: &Vec<Scope>,
-    cells: &Vec<Bound>,
+    scopes: &[Scope],
+    cells: &[Bound],
     nodes: &Nodes,
 ) -> bool
-    ensures moves { AreHalts (code program.now) halts.old → AreOrdered scopes.now.items → DoMove (token_moves (definitions program.now) (code program.now) cells.now.items scopes.now.items) nodes.now.items result }
+    ensures moves { AreHalts (code program.now) halts.old → AreOrdered scopes.now → DoMove (token_moves (definitions program.now) (code program.now) cells.now scopes.now) nodes.now.items result }
     ensures same { halts.new ≡ halts.old }
 {
     let list = nodes.restless();

@@ -5,23 +5,23 @@ ghost use Rattle.orc_rules.specs.Idle.{has_halted, has_void};
 ghost use Rattle.orc_rules.specs.Journal.{IsVoid};
 ghost use Rattle.orc_rules.specs.Nodes.{code, param_of};
 ghost use Rattle.orc_rules.specs.Term.{param};
-ghost use Rattle.orc_checker.specs.Arena.{close, close_param, env_of};
+ghost use Rattle.orc_names.specs.Scopes.{close, close_param, env_of};
 ghost use Rattle.orc_checker.specs.Checker.{Enters};
-ghost use Rattle.orc_checker.specs.Names.{AreOrdered};
+ghost use Rattle.orc_names.specs.Names.{AreOrdered};
 ghost use Rattle.orc_checker.specs.Stillness.{params_in};
 ghost use Rattle.orc_rules.specs.declared.entry.Entry.TheVariants as entry;
 
-use crate::arena::{Bound, Kind, Node, Scope, Tip};
+use crate::arena::{Kind, Node, Tip};
 use crate::flags::settle;
 use crate::marked::{Marked, Spot};
-use crate::names::meaning;
+use orc_names::{Bound, Scope, meaning};
 use orc_rules::entry::RuleFault;
 use orc_rules::param::Operand;
 use orc_rules::program::{Program, TermNode};
 
 /// Whether an operand is void in a scope.
-fn is_void(scopes: &Vec<Scope>, cells: &Vec<Bound>, operand: Operand, scope: usize) -> bool
-    ensures { result ≡ true → AreOrdered scopes.now.items → IsVoid (param (close_param (env_of cells.now.items scopes.now.items scope) (param_of operand))) }
+fn is_void(scopes: &[Scope], cells: &[Bound], operand: Operand, scope: usize) -> bool
+    ensures { result ≡ true → AreOrdered scopes.now → IsVoid (param (close_param (env_of cells.now scopes.now scope) (param_of operand))) }
 {
     match meaning(scopes, cells, operand, scope) {
         Some(Bound::Void) => true,
@@ -31,12 +31,12 @@ fn is_void(scopes: &Vec<Scope>, cells: &Vec<Bound>, operand: Operand, scope: usi
 
 /// Whether one of the operands is void in a scope.
 pub(crate) fn has_void(
-    scopes: &Vec<Scope>,
-    cells: &Vec<Bound>,
+    scopes: &[Scope],
+    cells: &[Bound],
     operands: &[Operand],
     scope: usize,
 ) -> bool
-    ensures { AreOrdered scopes.now.items → result ≡ has_void (params_in cells.now.items scopes.now.items scope operands.now) }
+    ensures { AreOrdered scopes.now → result ≡ has_void (params_in cells.now scopes.now scope operands.now) }
 {
     match operands {
         [] => false,

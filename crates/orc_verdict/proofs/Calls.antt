@@ -11,7 +11,7 @@ use Rattle.orc_rules.specs.Journal.{Place}
 use Rattle.orc_rules.specs.Refusal.{IsAnswer}
 use Rattle.orc_rules.specs.Term.{Term}
 use Rattle.orc_checker.specs.declared.rest.Called.{Called}
-use Rattle.orc_checker.specs.Calls.{Rest, AreNumbered, told, told_of, IsCall, DueNow}
+use Rattle.orc_checker.specs.Calls.{Rest, AreNumbered, told, told_of, IsCall, IsDueNow}
 use Rattle.orc_checker.specs.Checker.{State, Spells}
 use Rattle.orc_checker.proofs.Lists.{get-append, get-end}
 use Rattle.orc_checker.proofs.CallsMade.{made_there, is_due}
@@ -81,14 +81,14 @@ module _ (x : Context) (code : ℕ → Term) (s : State) (p : Place) (sp : Spell
   pub answer_none : ((c : Called) → IsCall s.rest k c → ⊥) → Decides false (IsAnswer x p k a)
   answer_none none = (λ h. cc h, λ h. let w = kept_of x code s p sp h.0 k h.2 h.3 in absurd (none w.0 w.1))
 
-  pub due_found : (c : Called) → IsCall s.rest k c → (r : _) (t : ℕ) → t ≡ p.now → Decides r (DueNow c a t) → Decides r (IsDue x.sites p.calls k a p.now)
+  pub due_found : (c : Called) → IsCall s.rest k c → (r : _) (t : ℕ) → t ≡ p.now → Decides r (IsDueNow c a t) → Decides r (IsDue x.sites p.calls k a p.now)
   due_found c call r t now dec = (
-    λ h. is_due x p.now p.calls p.to_cancel s.rest k c a sp.rest call (subst (DueNow c a) (now ∙ sp.rest.time) (dec.0 h)),
+    λ h. is_due x p.now p.calls p.to_cancel s.rest k c a sp.rest call (subst (IsDueNow c a) (now ∙ sp.rest.time) (dec.0 h)),
     λ h. let w = kept_of x code s p sp h.by k h.is_made h.is_k in
         let same = same_call s.rest k c w.0 call w.1 in
         dec.1 (record {
           delay = h.delay;
-          found = ap Called.found same ∙ found_is w.0 _ _ w.2 ∙ h.says;
+          says = ap Called.found same ∙ found_is w.0 _ _ w.2 ∙ h.says;
           sum = now ∙ h.sum ∙ ap (λ z. z + h.delay) (sym (ap Called.at same ∙ at_is w.0 _ _ w.2));
           fits = subst (λ z. z < 2 ^ 64) (sym now) h.fits;
         }),

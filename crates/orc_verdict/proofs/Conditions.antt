@@ -25,7 +25,8 @@ use Rattle.orc_checker.specs.declared.arena.Tip.TheVariants.{Gone, Ended, Token,
 use Rattle.orc_checker.specs.declared.arena.Single.TheVariants.{Feeds, Entered, Passed}
 use Rattle.orc_checker.specs.declared.arena.Double.TheVariants.{Both, Side}
 use Rattle.orc_checker.specs.declared.walk.Taker.{Taker}
-use Rattle.orc_checker.specs.Arena.{Env, Frame, Tree, close, env_of, living_kind, of_tip, spelled}
+use Rattle.orc_checker.specs.Arena.{Frame, Tree, living_kind, of_tip, spelled}
+use Rattle.orc_names.specs.Scopes.{Env, close, env_of}
 use Rattle.orc_checker.specs.Rising.{takes, Stands as StandsAt}
 use Rattle.orc_checker.specs.Settling.{flag}
 use Rattle.orc_checker.specs.Checker.{State, Spells}

@@ -11,7 +11,8 @@ use Rattle.orc_checker.specs.declared.arena.Kind.TheVariants.{Leaf, One, Two}
 use Rattle.orc_checker.specs.declared.arena.Tip.TheVariants.{Gone, Ended, Token, Bears, Waits}
 use Rattle.orc_checker.specs.declared.arena.Single.TheVariants.{Feeds, Entered, Passed}
 use Rattle.orc_checker.specs.declared.arena.Double.TheVariants.{Both, Side}
-use Rattle.orc_checker.specs.Arena.{Env, given, close, without, env_of, Tree, leaf, one, two, place, Holds, spelled}
+use Rattle.orc_checker.specs.Arena.{Tree, leaf, one, two, place, Holds, spelled}
+use Rattle.orc_names.specs.Scopes.{Env, given, close, without, env_of}
 use Rattle.orc_checker.specs.Checker.{State, Spells}
 use Rattle.orc_checker.specs.Dropping.{parts_of}
 use Rattle.orc_checker.specs.Settling.{kind_at}

@@ -13,7 +13,8 @@ use Rattle.orc_checker.specs.declared.arena.Tip.{Tip}
 use Rattle.orc_checker.specs.declared.arena.Tip.TheVariants.{Gone, Ended, Token, Bears, Waits}
 use Rattle.orc_checker.specs.declared.arena.Single.TheVariants.{Feeds, Entered, Passed}
 use Rattle.orc_checker.specs.declared.arena.Double.TheVariants.{Both, Side}
-use Rattle.orc_checker.specs.Arena.{Env, Tree, leaf, one, two, place, at, close, Holds, StandOnce, living, living_kind, of_tip, spelled, env_of, Frame, plug}
+use Rattle.orc_checker.specs.Arena.{Tree, leaf, one, two, place, at, Holds, StandOnce, living, living_kind, of_tip, spelled, Frame, plug}
+use Rattle.orc_names.specs.Scopes.{Env, close, env_of}
 use Rattle.orc_checker.specs.Around.{above}
 use Rattle.orc_checker.specs.Rising.{Stands as StandsAt}
 use Rattle.orc_checker.specs.Settling.{flag, Flagged}

@@ -7,7 +7,8 @@ use Rattle.orc_rules.specs.Marked.{Marked, in_opened, Emits, on_feeding, is_fed,
 use Rattle.orc_rules.specs.Marked.{on_left as emits_left, on_right as emits_right}
 use Rattle.orc_checker.specs.declared.arena.Single.TheVariants.{Feeds, Entered, Passed}
 use Rattle.orc_checker.specs.declared.arena.Double.TheVariants.{Both, Side}
-use Rattle.orc_checker.specs.Arena.{Env, Tree, one, two, spelled, Frame, on_one, on_left, on_right, plug}
+use Rattle.orc_checker.specs.Arena.{Tree, one, two, spelled, Frame, on_one, on_left, on_right, plug}
+use Rattle.orc_names.specs.Scopes.{Env}
 use Rattle.orc_checker.specs.Rising.{takes}
 use Rattle.orc_verdict.specs.Standing.{act_of}
 

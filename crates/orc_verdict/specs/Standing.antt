@@ -14,7 +14,7 @@ use Rattle.orc_checker.specs.declared.arena.Kind.TheVariants.{Leaf}
 use Rattle.orc_checker.specs.declared.arena.Tip.TheVariants.{Token, Bears}
 use Rattle.orc_checker.specs.declared.walk.Taker.{Taker}
 use Rattle.orc_checker.specs.declared.walk.Taker.TheVariants.{Whole, Fed, Bound}
-use Rattle.orc_checker.specs.Arena.{Env, close}
+use Rattle.orc_names.specs.Scopes.{Env, close}
 use Rattle.orc_verdict.specs.declared.standing.Standing.{Standing}
 use Rattle.orc_verdict.specs.declared.standing.Standing.TheVariants.{Nothing, Stop, On, Site, Call, Par, Seq, Prune, Other}
 

@@ -6,7 +6,7 @@ ghost use Rattle.orc_rules.specs.Refusal.{IsAnswer};
 ghost use Rattle.orc_rules.specs.Timed.{IsDue};
 ghost use Rattle.orc_rules.specs.declared.value.Found.TheVariants.{After};
 ghost use Rattle.orc_checker.specs.declared.rest.Called.{Called as CallMade};
-ghost use Rattle.orc_checker.specs.Calls.{IsCall, DueNow};
+ghost use Rattle.orc_checker.specs.Calls.{IsCall, IsDueNow};
 ghost use Rattle.orc_verdict.specs.Reasons.{Says};
 
 use orc_checker::Marked;
@@ -39,7 +39,7 @@ fn gives(called: Called, answer: Answer) -> bool
 
 /// Whether the table's answer to a call is this one, and due at this time.
 fn is_due_at(called: Called, answer: Answer, time: u64) -> bool
-    ensures { Decides result (DueNow called answer time) }
+    ensures { Decides result (IsDueNow called answer time) }
 {
     match called.found {
         Found::After(given, delay) => {

@@ -3,8 +3,8 @@
 ghost use Rattle.std.specs.Prelude.{◌≡◌, List, Option, Some, None, map, is_some, slice_get};
 ghost use Rattle.orc_rules.specs.Nodes.{code, definitions, param_of};
 ghost use Rattle.orc_rules.specs.Idle.{has_void};
-ghost use Rattle.orc_checker.specs.Arena.{close, close_param, env_of};
-ghost use Rattle.orc_checker.specs.Names.{AreOrdered};
+ghost use Rattle.orc_names.specs.Scopes.{close, close_param, env_of};
+ghost use Rattle.orc_names.specs.Names.{AreOrdered};
 ghost use Rattle.orc_verdict.specs.Standing.{are_these as these, summary, under, mark_of, args_of, is_sent, is_bound, is_whole, is_value, is_void, is_call, fits_as};
 
 use orc_checker::Marked;

@@ -2,7 +2,7 @@ use Rattle.std.proofs.Common.{◌≡◌, ◌-◌, ◌+◌, ◌<◌, suc, ap, sym
 use Rattle.std.specs.Prelude.{drop}
 use Rattle.std.proofs.Math.Seq.{drop-length}
 use Rattle.orc_rules.specs.declared.param.Operand.TheVariants.{Name}
-use Rattle.orc_checker.specs.declared.arena.Scope.{Scope}
+use Rattle.orc_names.specs.declared.names.Scope.{Scope}
 use Rattle.orc_checker.specs.Parameters.{Adds}
 use Rattle.orc_checker.proofs.Parameters.{adds-none, adds-drop}
 use Rattle.orc_checker.proofs.routines.parameter_scopes.Goals as goal
@@ -11,8 +11,8 @@ pub loop-left-init : goal.loop-left-init
 loop-left-init c =
     let xs = c.args.params.now in
     let ps = drop (length xs) c.args.operands.now in
-    let ss = c.args.scopes.now.items in
-    let cells = c.args.cells.now.items in
+    let ss = c.args.scopes.now in
+    let cells = c.args.cells.now in
     record {
       within = omega arith;
       same = c.if-params-operands.false;
@@ -23,16 +23,16 @@ pub loop-left-preserved : goal.loop-left-preserved
 loop-left-preserved c =
     let xs = c.args.params.now in
     let ps = c.args.operands.now in
-    let ss = c.args.scopes.now.items in
-    let cells = c.args.cells.now.items in
+    let ss = c.args.scopes.now in
+    let cells = c.args.cells.now in
     let more = c.loop-left.added.items in
     let i = c.loop-left.left - 1 in
     let next : suc i ≡ c.loop-left.left = omega (arith, c.loop-left-test.true) in
     let within : i < length xs = omega (arith, next, c.loop-left.invariant.within) in
     let also : i < length ps = omega (arith, within, c.loop-left.invariant.same) in
-    let k = c.len.result + c.len-in-loop-left.result in
+    let k = length ss + c.len.result in
     let s : Scope = record { name = get_or xs i 0; bound = c.in-Some.bound; outer = c.loop-left.outer } in
-    let is_k : k ≡ length ss + (length more + 1) = omega (arith, c.len.ensures ∙ c.args.scopes.now.ok.0, c.len-in-loop-left.ensures ∙ c.push_scope.new.scopes.ok.0, ap length c.in_ok-push_scope.ensures.items, length-append more (s ∷ [])) in
+    let is_k : k ≡ length ss + (length more + 1) = omega (arith, c.len.ensures ∙ c.push_scope.new.scopes.ok.0, ap length c.in_ok-push_scope.ensures.items, length-append more (s ∷ [])) in
     record {
       within = omega (arith, c.loop-left.invariant.within);
       same = c.loop-left.invariant.same;
@@ -47,4 +47,4 @@ loop-left-preserved c =
 pub returns : goal.returns
 returns c =
     let none : c.loop-left.left ≡ 0 = omega (arith, c.loop-left-test.false) in
-    subst (λ z. Adds c.args.cells.now.items c.args.scopes.now.items c.args.scope (drop z c.args.params.now) (drop z c.args.operands.now) c.loop-left.added.items c.loop-left.outer) none c.loop-left.invariant.adds
+    subst (λ z. Adds c.args.cells.now c.args.scopes.now c.args.scope (drop z c.args.params.now) (drop z c.args.operands.now) c.loop-left.added.items c.loop-left.outer) none c.loop-left.invariant.adds

@@ -6,7 +6,7 @@ abbrev pub invariant-loop-left : goal.invariant-loop-left
 invariant-loop-left l = record {
   within : l.left ≤ length l.params;
   same : length l.params ≡ length l.operands;
-  adds : Adds l.cells.items l.scopes.items l.scope (drop l.left l.params) (drop l.left l.operands) l.added.items l.outer;
+  adds : Adds l.cells l.scopes l.scope (drop l.left l.params) (drop l.left l.operands) l.added.items l.outer;
 }
 
 abbrev pub decreases-loop-left : goal.decreases-loop-left

@@ -1,7 +1,7 @@
 use Rattle.std.proofs.Common.{◌≡◌, ◌<◌, ℕ, get_or, false}
 use Rattle.orc_rules.specs.Nodes.{code, definitions}
 use Rattle.orc_checker.specs.Halting.{AreHalts}
-use Rattle.orc_checker.specs.Names.{AreOrdered}
+use Rattle.orc_names.specs.Names.{AreOrdered}
 use Rattle.orc_checker.specs.Settling.{kind_at}
 use Rattle.orc_checker.specs.Stillness.{token_moves}
 use Rattle.orc_checker.proofs.stillness.can_some_move.Given as goal
@@ -9,4 +9,4 @@ use Rattle.orc_checker.proofs.stillness.can_some_move.Given as goal
 abbrev pub invariant-loop-i : goal.invariant-loop-i
 invariant-loop-i l =
     (l.halts ≡ l.fn.halts)
-    × (AreHalts (code l.program) l.halts → AreOrdered l.scopes.items → (k : ℕ) → k < l.i → token_moves (definitions l.program) (code l.program) l.cells.items l.scopes.items (kind_at l.nodes.items (get_or l.list.items k 0)) ≡ false)
+    × (AreHalts (code l.program) l.halts → AreOrdered l.scopes → (k : ℕ) → k < l.i → token_moves (definitions l.program) (code l.program) l.cells l.scopes (kind_at l.nodes.items (get_or l.list.items k 0)) ≡ false)

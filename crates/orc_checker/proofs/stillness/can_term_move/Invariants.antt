@@ -1,7 +1,7 @@
 use Rattle.std.proofs.Common.{◌≡◌, length}
 use Rattle.orc_rules.specs.Nodes.{code, definitions}
 use Rattle.orc_checker.specs.Halting.{AreHalts}
-use Rattle.orc_checker.specs.Names.{AreOrdered}
+use Rattle.orc_names.specs.Names.{AreOrdered}
 use Rattle.orc_checker.specs.Stillness.{term_moves}
 use Rattle.orc_checker.proofs.Waking.{AreCleared, Looks}
 use Rattle.orc_checker.proofs.stillness.can_term_move.Given as goal
@@ -12,7 +12,7 @@ invariant-loop-i l = (length l.active.items ≡ length l.fn.active.items) × Are
 abbrev pub invariant-loop-above : goal.invariant-loop-above
 invariant-loop-above l =
     (length l.active.items ≡ length l.fn.active.items)
-    × (AreHalts (code l.program) l.halts.items → AreOrdered l.scopes.items → Looks (term_moves (definitions l.program) (code l.program) l.cells.items l.scopes.items l.scope) l.node l.active.items l.above)
+    × (AreHalts (code l.program) l.halts.items → AreOrdered l.scopes → Looks (term_moves (definitions l.program) (code l.program) l.cells l.scopes l.scope) l.node l.active.items l.above)
 
 abbrev pub decreases-loop-above : goal.decreases-loop-above
 decreases-loop-above l = l.above

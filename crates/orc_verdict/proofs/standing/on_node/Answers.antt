@@ -3,9 +3,9 @@ use Rattle.orc_rules.specs.Term.{param}
 use Rattle.orc_rules.specs.Nodes.{code, definitions, unfold_node, param_of}
 use Rattle.orc_rules.specs.Idle.{has_void}
 use Rattle.orc_rules.specs.declared.param.Operand.{Operand}
-use Rattle.orc_checker.specs.Arena.{close, close_param, env_of}
-use Rattle.orc_checker.proofs.Closing.{close-stop, close-par, close-seq, close-prune, close-other}
-use Rattle.orc_checker.proofs.Scopes.{close-of-param, close-site, close-call}
+use Rattle.orc_names.specs.Scopes.{close, close_param, env_of}
+use Rattle.orc_names.proofs.Closing.{close-stop, close-par, close-seq, close-prune, close-other}
+use Rattle.orc_names.proofs.Scopes.{close-of-param, close-site, close-call}
 use Rattle.orc_verdict.specs.declared.standing.Standing.TheVariants as stands
 use Rattle.orc_verdict.specs.Standing.{are_these, summary}
 use Rattle.orc_verdict.proofs.standing.on_node.Goals as goal

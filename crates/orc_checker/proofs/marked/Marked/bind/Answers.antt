@@ -1,7 +1,7 @@
 use Rattle.std.proofs.Common.{refl, ap, sym, subst, ◌∙◌, length, get_or, reverse, length-set}
 use Rattle.std.specs.Prelude.{slice_set}
 use Rattle.orc_checker.specs.declared.arena.Node.{Node}
-use Rattle.orc_checker.specs.declared.arena.Bound.TheVariants.{Is}
+use Rattle.orc_names.specs.declared.names.Bound.TheVariants.{Is}
 use Rattle.orc_checker.specs.declared.walk.Taker.TheVariants.{Bound}
 use Rattle.orc_checker.specs.Settling.{flag, Settles}
 use Rattle.orc_checker.specs.Rising.{nowhere, IsTaker}

@@ -5,9 +5,10 @@ use Rattle.orc_checker.specs.declared.arena.Tip.TheVariants.{Waits}
 use Rattle.orc_checker.specs.declared.rest.Called.{Called}
 use Rattle.orc_rules.specs.Nodes.{code, unfold_node, param_of}
 use Rattle.orc_rules.specs.Term.{site}
-use Rattle.orc_checker.specs.Names.{AreArguments}
+use Rattle.orc_names.specs.Names.{AreArguments}
 use Rattle.orc_checker.specs.Checker.{State}
-use Rattle.orc_checker.specs.Calls.{Rest, NextFound, AddsCall}
+use Rattle.orc_checker.specs.Calls.{Rest, AddsCall}
+use Rattle.orc_calls.specs.Counting.{NextFound}
 use Rattle.orc_checker.proofs.Moves.{node}
 use Rattle.orc_checker.proofs.CallEntries.{call-enters}
 use Rattle.orc_checker.proofs.Hints.{can_turn}
@@ -28,7 +29,9 @@ returns-clause-done c =
     call-enters (code l) sites s _ t.at t.parent c.args.s c.args.k c.args.site t.node t.scope ps c.args.args.now called c.in_ok-spot.ensures.there
     (c.node.ensures.term ∙ ap (unfold_node (code l) l.lists) c.in-Site.is ∙ ap (λ z. site z ps) c.if-named-site.false)
     (subst (λ z. AreArguments s.cells s.scopes t.scope z c.args.args.now) c.operands-operands.ensures.value
-    (subst (λ (z : State). AreArguments z.cells z.scopes t.scope c.operands-operands.result.now c.args.args.now) v (subst (λ z. AreArguments c.self.inside.cells.items c.self.inside.scopes.items t.scope c.operands-operands.result.now z) c.as_slice.ensures.value (c.are_arguments.ensures c.if-not-are_arguments.false))))
+    (subst (λ (z : State). AreArguments z.cells z.scopes t.scope c.operands-operands.result.now c.args.args.now) v (subst (λ ss. AreArguments c.self.inside.cells.items ss t.scope c.operands-operands.result.now c.args.args.now) c.deref.ensures.value
+    (subst (λ cs. AreArguments cs c.deref.result.now t.scope c.operands-operands.result.now c.args.args.now) c.deref-else-named-site.ensures.value
+    (subst (λ z. AreArguments c.deref-else-named-site.result.now c.deref.result.now t.scope c.operands-operands.result.now z) c.as_slice.ensures.value (c.are_arguments.ensures c.if-not-are_arguments.false))))))
     (c.write_node.ensures.items ∙ ap (λ (z : State). slice_set z.nodes t.at (node (Leaf (Waits c.args.k)) t.parent)) v)
     (ap State.flags v)
     (ap State.halts v)
@@ -36,9 +39,9 @@ returns-clause-done c =
     (ap State.cells v)
     (ap State.marks v)
     c.in_ok-next_call.ensures
-    (subst (λ (z : State). NextFound sites z.rest c.args.site c.args.args.now c.found.result) v c.found.ensures)
+    (subst (λ (z : State). NextFound sites (Rest.counts z.rest) c.args.site c.args.args.now c.found.result) v c.found.ensures)
     (c.time.ensures ∙ ap (λ (z : State). Rest.time z.rest) v)
-    (subst (λ z. AddsCall called z c.args.site c.args.args.now s.rest c.add.new.self) c.is_scripted.ensures (subst (λ (z : State). AddsCall called c.is_scripted.result c.args.site c.args.args.now z.rest c.add.new.self) v c.in_ok-add.ensures.added))
+    (subst (λ (z : State). AddsCall sites called c.args.site c.args.args.now z.rest c.add.new.self) v c.in_ok-add.ensures.added)
     c.in_ok-spot.ensures.free
 
 pub write_node-requires : goal.write_node-requires
@@ -52,7 +55,7 @@ invariant_of-self-in_err-add c = (still_noted _ _ _ _ _ (same_wait _ _ refl) (ap
 
 pub invariant_of-self-2 : goal.invariant_of-self-2
 invariant_of-self-2 c = (
-  noted_call _ _ _ _ _ _ c.in_ok-spot.spot.at c.in_ok-spot.spot.parent c.args.k _ c.time_of.result c.self.invariant.0 (c.in_ok-next_call.ensures ∙ ap (λ (z : State). suc (length (Rest.calls z.rest))) (sym c.self.view_is)) c.write_node.ensures.items
-      (ap Rest.calls c.in_ok-add.ensures.added.same) c.time_of.ensures.due c.time_of.ensures.never c.in_ok-note.ensures.noted c.note.ensures.kept,
+  noted_call _ _ _ _ _ _ c.in_ok-spot.spot.at c.in_ok-spot.spot.parent c.args.k _ c.due_time.result c.self.invariant.0 (c.in_ok-next_call.ensures ∙ ap (λ (z : State). suc (length (Rest.calls z.rest))) (sym c.self.view_is)) c.write_node.ensures.items
+      (ap Rest.calls c.in_ok-add.ensures.added.same) c.due_time.ensures c.in_ok-note.ensures.noted c.note.ensures.kept,
   known_kept _ _ _ _ _ _ _ c.self.invariant.1 (sides_written (length c.self.inside.nodes.items) _ _ _ _ c.write_node.ensures.items (can_turn c.args.self.now.nodes _ _ _ _ _ (ap State.nodes c.self.view_is) c.in_ok-spot.ensures.there (λ v. refl) refl) (λ p lt. refl)) (flags_same _ _ _ _ refl) (λ p m. m) refl refl (ap length c.write_node.ensures.items ∙ length-set c.self.inside.nodes.items _ _),
 )

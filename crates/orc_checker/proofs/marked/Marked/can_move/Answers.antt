@@ -4,11 +4,11 @@ use Rattle.orc_rules.specs.Marked.{erase}
 use Rattle.orc_rules.specs.Term.{Definition}
 use Rattle.orc_rules.specs.Nodes.{code, definitions}
 use Rattle.orc_checker.specs.declared.arena.Node.{Node}
-use Rattle.orc_checker.specs.declared.arena.Bound.{Bound}
-use Rattle.orc_checker.specs.declared.arena.Scope.{Scope}
+use Rattle.orc_names.specs.declared.names.Bound.{Bound}
+use Rattle.orc_names.specs.declared.names.Scope.{Scope}
 use Rattle.orc_checker.specs.Checker.{State}
 use Rattle.orc_checker.specs.Halting.{AreHalts}
-use Rattle.orc_checker.specs.Names.{AreOrdered}
+use Rattle.orc_names.specs.Names.{AreOrdered}
 use Rattle.orc_checker.specs.Sides.{DoesEnd}
 use Rattle.orc_checker.specs.Stillness.{token_moves, DoMove, DoStir}
 use Rattle.orc_checker.proofs.Moving.{tokens_stir, sides_stir}
@@ -34,7 +34,9 @@ returns-clause-moves c x p own sp =
     let b = c.can_some_move.result in
     let n = c.self.inside in
     let none = subst (DoesEnd n.nodes.items n.flags.items) c.if-does_side_end.false c.does_side_end.ensures.ends in
-    let its = subst (λ z. AreHalts (code l) n.halts → AreOrdered n.scopes.items → DoMove (token_moves (definitions l) (code l) n.cells.items n.scopes.items) z b) c.tidy.ensures c.can_some_move.ensures.moves in
+    let its = subst (λ z. AreHalts (code l) n.halts → AreOrdered n.scopes.items → DoMove (token_moves (definitions l) (code l) n.cells.items n.scopes.items) z b) c.tidy.ensures
+    (subst (λ ss. AreHalts (code l) n.halts → AreOrdered ss → DoMove (token_moves (definitions l) (code l) n.cells.items ss) c.tidy.new.self.items b) c.deref.ensures.value
+    (subst (λ cs. AreHalts (code l) n.halts → AreOrdered c.deref.result.now → DoMove (token_moves (definitions l) (code l) cs c.deref.result.now) c.tidy.new.self.items b) c.deref-2.ensures.value c.can_some_move.ensures.moves)) in
     let m = subst (λ (z : State). AreHalts (code l) z.halts → AreOrdered z.scopes → DoMove (token_moves (definitions l) (code l) z.cells z.scopes) z.nodes b) c.self.view_is its in
     let ends = subst (λ (z : State). DoesEnd z.nodes z.flags false) c.self.view_is none in
     movement x (code l) c.args.self.now p (definitions l) b sp (stirs (definitions l) (code l) c.args.self.now.cells c.args.self.now.scopes c.args.self.now.flags c.args.self.now.nodes b ends (m sp.drawn.flags.are_halts sp.scopes)) ∙ ap (λ z. can_move z (erase p.marked)) (sym own)

@@ -34,7 +34,9 @@ returns-clause-done c = λ table cancels p reached.
     c.in_ok-next_mark.ensures
     (subst (λ z. Adds s.cells s.scopes t.scope d.params.items z more n) c.operands-operands.ensures.value
     (subst (λ (z : State). Adds z.cells z.scopes t.scope d.params.items c.operands-operands.result.now more n) v
-    (subst (λ z. Adds c.self.inside.cells.items c.self.inside.scopes.items t.scope z c.operands-operands.result.now more n) c.deref.ensures.value c.in_ok-added.ensures)))
+    (subst (λ ss. Adds c.self.inside.cells.items ss t.scope d.params.items c.operands-operands.result.now more n) c.deref.ensures.value
+    (subst (λ cs. Adds cs c.deref.result.now t.scope d.params.items c.operands-operands.result.now more n) c.deref-2.ensures.value
+    (subst (λ z. Adds c.deref-2.result.now c.deref.result.now t.scope z c.operands-operands.result.now more n) c.deref-3.ensures.value c.in_ok-added.ensures)))))
     (c.write_node.ensures.items ∙ ap (λ (z : State). slice_set z.nodes t.at (node (Leaf (Token c.args.a d.body n)) t.parent)) v)
     (c.settle.ensures.len ∙ ap (λ (z : State). length z.flags) v)
     (subst (λ (z : State). Settles c.write_node.new.self.items z.flags t.at (halt_flag s.halts d.body) c.settle.new.flags.items) v (subst (λ b. Settles c.write_node.new.self.items c.self.inside.flags.items t.at b c.settle.new.flags.items) halted c.settle.ensures.settles))

@@ -2,7 +2,7 @@ use Rattle.std.proofs.Common.{◌∙◌, ap, sym}
 use Rattle.orc_rules.specs.Marked.{erase}
 use Rattle.orc_rules.specs.Idle.{has_halted}
 use Rattle.orc_rules.specs.Nodes.{code}
-use Rattle.orc_checker.specs.Arena.{env_of}
+use Rattle.orc_names.specs.Scopes.{env_of}
 use Rattle.orc_checker.specs.Checker.{State}
 use Rattle.orc_checker.specs.Settling.{flag}
 use Rattle.orc_checker.proofs.Settling.{flag_says}

@@ -1,6 +1,6 @@
 use Rattle.std.proofs.Common.{refl, ap, sym, ◌∙◌, length, length-set}
 use Rattle.std.specs.Prelude.{slice_set}
-use Rattle.orc_checker.specs.declared.arena.Bound.TheVariants.{Void}
+use Rattle.orc_names.specs.declared.names.Bound.TheVariants.{Void}
 use Rattle.orc_checker.specs.declared.arena.Single.TheVariants.{Passed}
 use Rattle.orc_checker.specs.declared.arena.Kind.TheVariants.{One}
 use Rattle.orc_checker.specs.Checker.{State}

@@ -4,10 +4,10 @@ use Rattle.orc_rules.specs.Journal.{IsVoid}
 use Rattle.orc_rules.specs.declared.param.Operand.{Operand}
 use Rattle.orc_rules.specs.Nodes.{code, unfold_node, param_of}
 use Rattle.orc_rules.specs.Term.{param, HasVoid}
-use Rattle.orc_checker.specs.Arena.{close, close_param, env_of}
-use Rattle.orc_checker.specs.Names.{AreOrdered}
+use Rattle.orc_names.specs.Scopes.{close, close_param, env_of}
+use Rattle.orc_names.specs.Names.{AreOrdered}
 use Rattle.orc_checker.specs.Checker.{State}
-use Rattle.orc_checker.proofs.Scopes.{close-of-param, close-site}
+use Rattle.orc_names.proofs.Scopes.{close-of-param, close-site}
 use Rattle.orc_checker.proofs.Voiding.{void_among}
 use Rattle.orc_checker.proofs.marked.Marked.on_void.Goals as goal
 
@@ -18,7 +18,9 @@ returns-in-Operand-clause-void c = λ e o.
     let p = c.in-Operand.operand in
     let is = c.node.ensures.term ∙ ap (unfold_node (code c.args.program.now) c.args.program.now.lists) c.in-Operand.is in
     subst IsVoid (sym (ap (close env) is ∙ close-of-param env (param_of p)))
-    (subst (λ (z : State). AreOrdered z.scopes → IsVoid (param (close_param (env_of z.cells z.scopes c.args.spot.scope) (param_of p)))) c.self.view_is (c.is_void.ensures e) o)
+    (subst (λ (z : State). AreOrdered z.scopes → IsVoid (param (close_param (env_of z.cells z.scopes c.args.spot.scope) (param_of p)))) c.self.view_is
+    (λ ordered. subst (λ cs. IsVoid (param (close_param (env_of cs c.self.inside.scopes.items c.args.spot.scope) (param_of p)))) c.deref-in-Operand.ensures.value
+    (subst (λ ss. AreOrdered ss → IsVoid (param (close_param (env_of c.deref-in-Operand.result.now ss c.args.spot.scope) (param_of p)))) c.deref.ensures.value (c.is_void.ensures e) ordered)) o)
 
 pub returns-in-Operand-clause-running : goal.returns-in-Operand-clause-running
 returns-in-Operand-clause-running c = λ e. ap has_halted (c.node.ensures.term ∙ ap (unfold_node (code c.args.program.now) c.args.program.now.lists) c.in-Operand.is)
@@ -32,7 +34,9 @@ returns-in-Site-clause-void c = λ e o.
     let is = c.node.ensures.term ∙ ap (unfold_node (code l) l.lists) k.is in
     let ps = map param_of (get_or l.lists k.list []) in
     let found : c.has_void.result ≡ has_void (map (close_param env) (map param_of c.operands.result.now)) =
-    subst (λ (z : State). AreOrdered z.scopes → c.has_void.result ≡ has_void (map (close_param (env_of z.cells z.scopes c.args.spot.scope)) (map param_of c.operands.result.now))) c.self.view_is c.has_void.ensures o in
+    subst (λ (z : State). AreOrdered z.scopes → c.has_void.result ≡ has_void (map (close_param (env_of z.cells z.scopes c.args.spot.scope)) (map param_of c.operands.result.now))) c.self.view_is
+    (λ ordered. subst (λ cs. c.has_void.result ≡ has_void (map (close_param (env_of cs c.self.inside.scopes.items c.args.spot.scope)) (map param_of c.operands.result.now))) c.deref-in-Site-2.ensures.value
+    (subst (λ ss. AreOrdered ss → c.has_void.result ≡ has_void (map (close_param (env_of c.deref-in-Site-2.result.now ss c.args.spot.scope)) (map param_of c.operands.result.now))) c.deref-in-Site.ensures.value c.has_void.ensures ordered)) o in
     let f = void_among (map (close_param env) (map param_of c.operands.result.now)) (sym found ∙ e) in
     subst IsVoid (sym (ap (close env) is ∙ close-site env k.field-0 ps)) (subst (λ (z : List Operand). HasVoid (map (close_param env) (map param_of z))) c.operands.ensures.value f)
 

@@ -2,7 +2,7 @@ use Rattle.std.proofs.Common.{refl, ◌≡◌, ◌∷◌, ◌++◌, [], ap, ◌�
 use Rattle.std.specs.Prelude.{◌&&◌}
 use Rattle.std.proofs.lemmas.Bool.{ne_eqb}
 use Rattle.orc_rules.specs.Nodes.{code, unfold_node}
-use Rattle.orc_checker.specs.declared.arena.Bound.TheVariants.{Cell}
+use Rattle.orc_names.specs.declared.names.Bound.TheVariants.{Cell}
 use Rattle.orc_checker.specs.declared.arena.Tip.TheVariants.{Token}
 use Rattle.orc_checker.specs.declared.arena.Kind.TheVariants.{Leaf}
 use Rattle.orc_checker.specs.Checker.{State}

@@ -1,8 +1,8 @@
 use Rattle.std.proofs.Common.{refl, ◌≡◌, ◌+◌, ◌∷◌, ◌++◌, [], ap, sym, ◌∙◌, subst, length, get_or, length-append, length-set, true, false, arith, rules}
 use Rattle.std.specs.Prelude.{slice_set}
 use Rattle.orc_checker.specs.declared.arena.Node.{Node}
-use Rattle.orc_checker.specs.declared.arena.Scope.{Scope}
-use Rattle.orc_checker.specs.declared.arena.Bound.TheVariants.{Is}
+use Rattle.orc_names.specs.declared.names.Scope.{Scope}
+use Rattle.orc_names.specs.declared.names.Bound.TheVariants.{Is}
 use Rattle.orc_checker.specs.declared.arena.Kind.TheVariants.{Leaf, One}
 use Rattle.orc_checker.specs.declared.arena.Tip.TheVariants.{Ended, Token}
 use Rattle.orc_rules.specs.Nodes.{code}

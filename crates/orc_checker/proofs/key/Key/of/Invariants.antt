@@ -1,7 +1,0 @@
--- The key has two numbers for each argument so far.
-use Rattle.std.proofs.Common.{◌≡◌, ◌*◌, suc, length, take}
-use Rattle.orc_checker.specs.Counting.{key}
-use Rattle.orc_checker.proofs.key.Key.of.Given as goal
-
-abbrev pub invariant-loop-value : goal.invariant-loop-value
-invariant-loop-value l = (l.key ≡ key l.site (take l.value-index l.value-items)) × (length l.key ≡ suc (2 * l.value-index))
