@@ -9,6 +9,7 @@ use Rattle.orc_names.specs.declared.names.Bound.TheVariants as bound
 use Rattle.orc_ledger.specs.Records.{Records, Lawful, group_at}
 use Rattle.orc_ledger.specs.Homes.{home, home_by, Nest, AreNests}
 use Rattle.orc_ledger.specs.Next.{AreGrouped, IsSide, opens, numbers_of}
+use Rattle.orc_ledger.specs.Begun.{begun}
 use Rattle.orc_ledger.specs.Told.{AreTold}
 use Rattle.orc_ledger.specs.declared.records.Standing.TheVariants.{At}
 use Rattle.orc_ledger.specs.declared.records.Token.{Token}
@@ -16,24 +17,6 @@ use Rattle.orc_ledger.specs.declared.records.Entered.TheVariants.{Aid}
 use Rattle.orc_ledger.specs.declared.records.Step.{Step}
 use Rattle.orc_ledger.specs.declared.records.Side.TheVariants.{Right}
 use Rattle.orc_ledger.specs.declared.records.Group.{Group}
-
-abbrev pub begun : ℕ → ℕ → Records
-begun limit root =
-    record {
-      limit = limit;
-      journal = [];
-      entries = 0;
-      next_mark = 2;
-      now = 0;
-      made = 0;
-      tokens = record { serial = 1; standing = At root 0; step = 0 } ∷ [];
-      slots = record { serial = 1; standing = At root 0; step = 0 } ∷ [];
-      calls = [];
-      scopes = [];
-      steps = [];
-      groups = [];
-      cells = bound.Void ∷ [];
-    }
 
 -- the root's group alone
 abbrev pub the_root : ℕ → Option Nest

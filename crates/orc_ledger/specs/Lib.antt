@@ -1,3 +1,4 @@
+pub mod Begun
 pub mod Calls
 pub mod Doing
 pub mod Homes

@@ -1,9 +1,13 @@
 //! The records under their invariant: the journal leads from the program's term to a place that they spell.
 
-ghost use Rattle.std.specs.Prelude.{◌≡◌, ◌+◌, ◌<◌, ◌≤◌, ◌++◌, ◌∷◌, [], ℕ, length, vec_len, vec_capacity, IfErr, OnOk, OnErr};
+ghost use Rattle.std.specs.Prelude.{◌≡◌, ◌+◌, ◌<◌, ◌≤◌, ◌++◌, ◌∷◌, [], ℕ, length, vec_len, vec_capacity, IfOk, IfErr, IfSome, IfNone, OnOk, OnErr};
+ghost use Rattle.orc_rules.specs.Timed.{IsIn};
+ghost use Rattle.orc_ledger.specs.Tokens.{IsHeld};
+ghost use Rattle.orc_ledger.specs.Begun.{begun};
 ghost use Rattle.orc_ledger.specs.Calls.{HasRoom, IsRefused};
+ghost use Rattle.orc_ledger.specs.declared.records.Token.{Token as Its};
 
-use crate::records::{Call, Group, Step};
+use crate::records::{Call, Group, Standing, Step, Token};
 use crate::tokens::Tokens;
 use orc_journal::{Journal, Version};
 use orc_names::{Bound, Scope};
@@ -32,7 +36,6 @@ pub enum LedgerFault {
 }
 
 /// The records of a run, with its journal.
-#[derive(Drop)]
 pub struct Ledger<P: Program> {
     pub(crate) limit: usize,
     pub(crate) journal: Journal,
@@ -59,6 +62,34 @@ impl<P: Program> Model for Ledger<P> {
     ghost view = { λ b. record { limit = b.limit; journal = b.journal.entries; entries = b.entries; next_mark = b.next_mark; now = b.time; made = b.made; tokens = live b.tokens.items; slots = b.tokens.items; calls = b.calls.items; scopes = b.scopes.items; steps = b.steps.items; groups = b.groups.items; cells = b.cells.items } };
 
     ghost invariant = { λ b. Kept P.listing P.sites (record { limit = b.limit; journal = b.journal.entries; entries = b.entries; next_mark = b.next_mark; now = b.time; made = b.made; tokens = live b.tokens.items; slots = b.tokens.items; calls = b.calls.items; scopes = b.scopes.items; steps = b.steps.items; groups = b.groups.items; cells = b.cells.items }) };
+}
+
+// Written out, so that each exit of a function that has a ledger drops it by one call.
+impl<P: Program> Drop for Ledger<P> {
+    fn drop(self) {
+        let Ledger {
+            limit: _,
+            journal,
+            entries: _,
+            next_mark: _,
+            time: _,
+            made: _,
+            tokens,
+            calls,
+            scopes,
+            steps,
+            groups,
+            cells,
+            program: _,
+        } = self;
+        drop(journal);
+        drop(tokens);
+        drop(calls);
+        drop(scopes);
+        drop(steps);
+        drop(groups);
+        drop(cells);
+    }
 }
 
 /// Adds an item where there is room.
@@ -97,6 +128,97 @@ pub(crate) fn write(journal: &mut Journal, entry: &Entry) -> Result<(), LedgerFa
 }
 
 impl<P: Program> Ledger<P> {
+    /// A new run: token 1 stands at the program's main term, whose node is `root`, in slot 0. The journal is to have at most `limit` entries beside
+    /// the cancels. The only fault is `Memory`.
+    pub fn begin(alloc: Global, limit: usize, root: usize) -> Result<Ledger<P>, LedgerFault>
+        requires limit { (1 ≤ limit) × (limit ≤ 10000000) }
+        requires root { root ≡ P.listing.root }
+        ensures begun { IfOk result (λ s. s ≡ begun limit root) }
+        ensures why { IfErr result (λ fault. fault ≡ LedgerFault.Memory) }
+    {
+        let mut cells = Vec::new(alloc);
+        reserve(&mut cells)?;
+        // There is no cell 0.
+        push_within(&mut cells, Bound::Void);
+        let tokens = Tokens::begin(
+            alloc,
+            Token {
+                serial: 1,
+                standing: Standing::At(root, 0),
+                step: 0,
+            },
+        )?;
+        Ok(Ledger {
+            limit,
+            journal: Journal::new(alloc, Version::Two),
+            entries: 0,
+            next_mark: 2,
+            time: 0,
+            made: 0,
+            tokens,
+            calls: Vec::new(alloc),
+            scopes: Vec::new(alloc),
+            steps: Vec::new(alloc),
+            groups: Vec::new(alloc),
+            cells,
+            program: PhantomData,
+        })
+    }
+
+    /// How many entries the journal has, the cancels left out.
+    pub fn entries(&self) -> usize
+        ensures { result ≡ self.now.entries }
+    {
+        self.entries
+    }
+
+    /// The most entries that the journal is to have, the cancels left out.
+    pub fn limit(&self) -> usize
+        ensures { result ≡ self.now.limit }
+    {
+        self.limit
+    }
+
+    /// The time, in logical units.
+    pub fn time(&self) -> u64
+        ensures { result ≡ self.now.now }
+    {
+        self.time
+    }
+
+    /// The number of the mark that comes next.
+    pub fn next_mark(&self) -> u64
+        ensures { result ≡ self.now.next_mark }
+    {
+        self.next_mark
+    }
+
+    /// How many tokens there are.
+    pub fn token_count(&self) -> usize
+        ensures { result ≡ length self.now.tokens }
+    {
+        self.tokens.len()
+    }
+
+    /// The token with this serial, if it is in this slot.
+    pub fn token(&self, slot: usize, serial: u64) -> Option<Token>
+        requires { 1 ≤ serial }
+        ensures held { IfSome result (λ t. IsHeld self.now.slots slot t × (t.serial ≡ serial) × IsIn t self.now.tokens) }
+        ensures gone { IfNone result ((t : Its) → IsHeld self.now.slots slot t → t.serial ≡ serial → ⊥) }
+    {
+        match self.tokens.get(slot, serial) {
+            Some(token) => Some(token),
+            None => None,
+        }
+    }
+
+    /// The journal.
+    pub fn journal(&self) -> &Journal
+        ensures { result.now.entries ≡ self.now.journal }
+    {
+        &self.journal
+    }
+
     /// Whether one more entry, so many more tokens and groups, and a token with so many left sides of a `>x>` round it, are within the limits.
     pub(crate) fn within(&self, tokens: usize, groups: usize, depth: u32) -> Result<(), LedgerFault>
         requires { (tokens ≤ 1) × (groups ≤ 1) }

@@ -42,7 +42,7 @@ pub(crate) fn depth_at(steps: &Vec<Step>, step: usize) -> u32
 
 impl<P: Program> Ledger<P> {
     /// `stop`: the token goes.
-    fn end(&mut self, slot: usize, token: Token) -> Result<(), LedgerFault>
+    pub fn end(&mut self, slot: usize, token: Token) -> Result<(), LedgerFault>
         requires held { IsHeld self.old.slots slot token }
         requires at { (node : ℕ) × (scope : ℕ) × (token.standing ≡ At node scope) × (code P.listing node ≡ stop) }
         ensures done { IfOk result (λ _. IsEnded self.old token self.new) }
@@ -57,7 +57,7 @@ impl<P: Program> Ledger<P> {
     }
 
     /// A variable without a value, or a call with such an argument: the token goes.
-    fn void(&mut self, slot: usize, token: Token) -> Result<(), LedgerFault>
+    pub fn void(&mut self, slot: usize, token: Token) -> Result<(), LedgerFault>
         requires held { IsHeld self.old.slots slot token }
         requires void { IsVoid (standing (code P.listing) (its_env (code P.listing) self.old) token.standing) }
         ensures done { IfOk result (λ _. IsVoided self.old token self.new) }
@@ -72,7 +72,7 @@ impl<P: Program> Ledger<P> {
     }
 
     /// `f | g`: a token on each side, the left one in the same slot. Gives the right one's slot.
-    fn fork(
+    pub fn fork(
         &mut self,
         slot: usize,
         token: Token,
@@ -114,7 +114,7 @@ impl<P: Program> Ledger<P> {
     }
 
     /// `f >x> g`: a token on the left side, in the same slot.
-    fn feed(
+    pub fn feed(
         &mut self,
         slot: usize,
         token: Token,
@@ -164,7 +164,7 @@ impl<P: Program> Ledger<P> {
     }
 
     /// `f ; g`: a token on the left side, in the same slot, in a new group with this number.
-    fn other(
+    pub fn other(
         &mut self,
         slot: usize,
         token: Token,
@@ -221,7 +221,7 @@ impl<P: Program> Ledger<P> {
 
     /// `f <x< g`: a token on each side with a new cell between them, the left one in the same slot, the right one in a new group with this
     /// number. Gives the right one's slot.
-    fn prune(
+    pub fn prune(
         &mut self,
         slot: usize,
         token: Token,

@@ -22,7 +22,7 @@ use orc_rules::value::Value;
 
 impl<P: Program> Ledger<P> {
     /// A publication of the program: nothing round the token takes it.
-    fn publish(&mut self, slot: usize, token: Token, value: Value) -> Result<(), LedgerFault>
+    pub fn publish(&mut self, slot: usize, token: Token, value: Value) -> Result<(), LedgerFault>
         requires held { IsHeld self.old.slots slot token }
         requires form { standing (code P.listing) (its_env (code P.listing) self.old) token.standing ≡ param (Is value) }
         requires takes { taker (its_path (code P.listing) self.old token.step) ≡ whole }
@@ -39,7 +39,7 @@ impl<P: Program> Ledger<P> {
     }
 
     /// A `>x>` takes what the token publishes: a token on a copy of its right side, in the same slot.
-    fn send(
+    pub fn send(
         &mut self,
         slot: usize,
         token: Token,

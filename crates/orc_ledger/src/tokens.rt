@@ -1,6 +1,6 @@
 //! The tokens, each in a slot.
 
-ghost use Rattle.std.specs.Prelude.{◌≡◌, [], ◌+◌, ◌≤◌, ℕ, Some, None, length, IfSome, IfNone, OnOk, IfErr, slice_get, slice_set, vec_len, vec_capacity};
+ghost use Rattle.std.specs.Prelude.{◌≡◌, [], ◌∷◌, ◌+◌, ◌≤◌, ℕ, Some, None, length, IfSome, IfNone, IfOk, OnOk, IfErr, slice_get, slice_set, vec_len, vec_capacity};
 ghost use Rattle.orc_ledger.specs.Same.{weight};
 ghost use Rattle.orc_ledger.specs.Tokens.{live, IsHeld};
 ghost use Rattle.orc_ledger.specs.declared.records.Token.{Token as Its};
@@ -61,15 +61,21 @@ fn free_slot(slots: &Vec<Token>, free: &mut Vec<usize>) -> Option<usize>
 }
 
 impl Tokens {
-    /// No tokens.
-    pub(crate) fn new(alloc: Global) -> Tokens
-        ensures { result.items ≡ [] }
+    /// One token, in slot 0. The only fault is `Memory`.
+    pub(crate) fn begin(alloc: Global, token: Token) -> Result<Tokens, LedgerFault>
+        requires { 1 ≤ token.serial }
+        ensures items { IfOk result (λ t. t.items ≡ token ∷ []) }
+        ensures why { IfErr result (λ fault. fault ≡ LedgerFault.Memory) }
     {
-        Tokens {
-            slots: Vec::new(alloc),
-            free: Vec::new(alloc),
-            count: 0,
+        let mut slots = Vec::new(alloc);
+        if slots.push(token).is_err() {
+            return Err(LedgerFault::Memory);
         }
+        Ok(Tokens {
+            slots,
+            free: Vec::new(alloc),
+            count: 1,
+        })
     }
 
     /// How many tokens there are.
