@@ -1,0 +1,228 @@
+//! From a journal to its picture.
+
+use crate::fault::DrawFault;
+use crate::labels::Texts;
+use crate::page::Page;
+use crate::rows::{Row, Rows};
+use crate::sketch::Sketch;
+use crate::slots::Slots;
+use crate::story::{Event, Moment, Shown, Span, Story};
+use crate::{svg, text};
+use orc_journal::Journal;
+use orc_rules::answers::Answers;
+use orc_rules::entry::State;
+use orc_rules::value::Value;
+use orc_syntax::Ast;
+use std::alloc::{AllocError, Global};
+
+/// The colours of a picture.
+#[derive(Clone, Copy, Debug, PartialEq, Eq)]
+pub enum Theme {
+    /// Light ones, and dark ones where the reader's program prefers them.
+    Auto,
+    Light,
+    Dark,
+}
+
+/// How a picture is written.
+#[derive(Clone, Copy, Debug, PartialEq, Eq)]
+pub enum Form {
+    Svg(Theme),
+    /// As rows of text of about so many columns.
+    Text(u64),
+}
+
+/// How a journal is drawn.
+#[derive(Clone, Copy, Debug, PartialEq, Eq)]
+pub struct Options {
+    pub form: Form,
+    /// Whether calls of built-in sites that take no time have rows too.
+    pub all: bool,
+}
+
+/// What is drawn: a program by its source and its tree, the sites that answered, and a journal that was checked against them, with what
+/// the check has said.
+#[derive(Clone, Copy)]
+pub struct Subject<'a> {
+    /// What the picture is called.
+    pub name: &'a str,
+    pub source: &'a [u8],
+    pub ast: &'a Ast<'a>,
+    pub answers: &'a Answers,
+    pub journal: &'a Journal,
+    pub state: State,
+}
+
+/// What is known of a picture before it is written.
+pub(crate) struct Picture<'a> {
+    pub name: &'a str,
+    pub summary: String,
+    pub story: Story<'a>,
+    pub rows: Rows,
+    pub slots: Slots,
+    pub publications: Vec<Publications>,
+}
+
+impl Drop for Picture<'_> {
+    fn drop(self) {
+        let Picture {
+            name: _,
+            summary: _,
+            story: _,
+            rows: _,
+            slots: _,
+            publications: _,
+        } = self;
+    }
+}
+
+/// The picture of a journal: each call from its entry to its answer, its halt or its cancel, each pruning with its winner, each otherwise
+/// whose right side began, and the publications, over logical time.
+///
+/// The journal is one that was checked. A fault is a picture of over 2,000 rows, or refused memory.
+pub fn draw(alloc: Global, subject: Subject, options: Options) -> Result<String, DrawFault> {
+    let picture = Picture::new(alloc, subject, options.all)?;
+    let written = match options.form {
+        Form::Text(width) => text::write(alloc, &picture, width)?,
+        Form::Svg(theme) => svg::write(alloc, &picture, theme)?,
+    };
+    Ok(written)
+}
+
+impl<'a> Picture<'a> {
+    fn new(alloc: Global, subject: Subject<'a>, all: bool) -> Result<Picture<'a>, DrawFault> {
+        let sketch = Sketch::new(alloc, subject.ast)?;
+        let story = Story::new(alloc, &sketch, subject.answers, subject.journal, all)?;
+        let texts = Texts {
+            alloc,
+            source: subject.source,
+            answers: subject.answers,
+            journal: subject.journal,
+        };
+        let rows = Rows::new(alloc, &story.spans, &texts)?;
+        let slots = Slots::new(alloc, &story.events, &rows, story.now)?;
+        let publications = publications_by_time(alloc, &story.events)?;
+        let summary = summary(alloc, subject, &story)?;
+        Ok(Picture {
+            name: subject.name,
+            summary,
+            story,
+            rows,
+            slots,
+            publications,
+        })
+    }
+
+    /// The span of a row.
+    pub(crate) fn span(&self, row: &Row) -> Option<Span<'a>> {
+        self.story.spans.get(row.span).copied()
+    }
+}
+
+// The most values that a summary or one time shows.
+const FEW: u64 = 6;
+
+fn state_word(state: State) -> &'static str {
+    match state {
+        State::Halted => "Halted",
+        State::Quiet => "Quiet",
+        State::Running => "Running",
+    }
+}
+
+// How many entries there are, where the run stands, and what was published.
+fn summary(alloc: Global, subject: Subject, story: &Story) -> Result<String, AllocError> {
+    let mut page = Page::new(alloc);
+    page.number(subject.journal.len() as u64);
+    page.say(" entries, ");
+    page.say(state_word(subject.state));
+    page.say(" at time ");
+    page.number(story.now);
+    page.say(", publishes ");
+    let mut count: u64 = 0;
+    for event in &story.events {
+        if let Shown::Publication(value) = event.shown {
+            if count < FEW {
+                page.say(if count == 0 { "" } else { ", " });
+                page.value(value);
+            }
+            count = count.saturating_add(1);
+        }
+    }
+    if count == 0 {
+        page.say("nothing");
+    }
+    if count > FEW {
+        page.say(" and ");
+        page.number(count.saturating_sub(FEW));
+        page.say(" more");
+    }
+    page.finish()
+}
+
+/// The publications of one time.
+#[derive(Drop)]
+pub(crate) struct Publications {
+    pub first: Moment,
+    pub count: u64,
+    values: Page,
+}
+
+impl Publications {
+    fn add(&mut self, value: Value) {
+        if self.count < FEW {
+            if self.count > 0 {
+                self.values.say(", ");
+            }
+            self.values.value(value);
+        }
+        self.count = self.count.saturating_add(1);
+    }
+
+    /// How many columns `say` writes.
+    pub(crate) fn width(&self) -> u64 {
+        if self.count > FEW {
+            digits(self.count).saturating_add(7)
+        } else {
+            self.values.len()
+        }
+    }
+
+    /// Writes the values, or how many they are.
+    pub(crate) fn say(&self, page: &mut Page) {
+        if self.count > FEW {
+            page.number(self.count);
+            page.say(" values");
+        } else {
+            page.say(self.values.as_str());
+        }
+    }
+}
+
+// The publications, those of each time together.
+fn publications_by_time(alloc: Global, events: &[Event]) -> Result<Vec<Publications>, AllocError> {
+    let mut all: Vec<Publications> = Vec::new(alloc);
+    for event in events {
+        if let Shown::Publication(value) = event.shown {
+            if all.last().map(|last| last.first.time) != Some(event.at.time) {
+                all.push(Publications {
+                    first: event.at,
+                    count: 0,
+                    values: Page::new(alloc),
+                })?;
+            }
+            if let Some(last) = all.last_mut() {
+                last.add(value);
+            }
+        }
+    }
+    Ok(all)
+}
+
+/// How many digits a number has.
+pub(crate) fn digits(number: u64) -> u64 {
+    match number.checked_ilog10() {
+        Some(tens) => tens as u64 + 1,
+        None => 1,
+    }
+}

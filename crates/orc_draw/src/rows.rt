@@ -1,0 +1,200 @@
+//! The rows of a picture: each shown span with its label, in a tree.
+
+use crate::fault::{DrawFault, MOST_ROWS};
+use crate::labels::Texts;
+use crate::story::{End, Kind, Span};
+use std::alloc::{AllocError, Global};
+
+/// A row: its span, how far it stands in, and its label.
+#[derive(Drop)]
+pub(crate) struct Row {
+    pub span: usize,
+    pub depth: u64,
+    pub label: String,
+}
+
+/// The rows, and for each span its row where it has one.
+#[derive(Drop)]
+pub(crate) struct Rows {
+    pub rows: Vec<Row>,
+    of_span: Vec<Option<usize>>,
+}
+
+// For each span the first one in it and the next one beside it, and the first one of all.
+#[derive(Drop)]
+struct Tree {
+    inner: Vec<Option<usize>>,
+    next: Vec<Option<usize>>,
+    first: Option<usize>,
+}
+
+// A span that the walk is still to reach, and how far what stands there stands in.
+#[derive(Clone, Copy)]
+struct Ahead {
+    span: usize,
+    depth: u64,
+}
+
+// Whether something in a span, or the span itself, has a row.
+fn kept_spans(alloc: Global, spans: &[Span]) -> Result<Vec<bool>, AllocError> {
+    let mut kept = Vec::new(alloc);
+    for span in spans {
+        kept.push(match span.kind {
+            Kind::Call(_) => true,
+            Kind::Pruning(_) => ends_later(span),
+            Kind::Otherwise(_) => false,
+        })?;
+    }
+    // A span stands behind the one round it.
+    for place in (0..spans.len()).rev() {
+        if kept.get(place).copied().unwrap_or(false) {
+            if let Some(outer) = spans.get(place).and_then(|span| span.outer) {
+                if let Some(round) = kept.get_mut(outer) {
+                    *round = true;
+                }
+            }
+        }
+    }
+    Ok(kept)
+}
+
+// Whether a pruning's value came at a later time than it was opened.
+fn ends_later(span: &Span) -> bool {
+    match span.end {
+        Some((_, at)) => at.time != span.began.time,
+        None => false,
+    }
+}
+
+// Whether a span has a row where it is kept: an otherwise has one only where it took its right side.
+fn is_row(span: &Span) -> bool {
+    match (span.kind, span.end) {
+        (Kind::Otherwise(_), Some((End::Resumed, _))) => true,
+        (Kind::Otherwise(_), _) => false,
+        _ => true,
+    }
+}
+
+impl Tree {
+    fn new(alloc: Global, spans: &[Span]) -> Result<Tree, AllocError> {
+        let mut tree = Tree {
+            inner: Vec::new(alloc),
+            next: Vec::new(alloc),
+            first: None,
+        };
+        for _span in spans {
+            tree.inner.push(None)?;
+            tree.next.push(None)?;
+        }
+        for place in (0..spans.len()).rev() {
+            let outer = spans.get(place).and_then(|span| span.outer);
+            let beside = tree.put_first(outer, place);
+            if let Some(next) = tree.next.get_mut(place) {
+                *next = beside;
+            }
+        }
+        Ok(tree)
+    }
+
+    // A span becomes the first one in another: the one that was.
+    fn put_first(&mut self, outer: Option<usize>, span: usize) -> Option<usize> {
+        match outer {
+            None => self.first.replace(span),
+            Some(outer) => match self.inner.get_mut(outer) {
+                Some(inner) => inner.replace(span),
+                None => None,
+            },
+        }
+    }
+
+    fn inner(&self, span: usize) -> Option<usize> {
+        self.inner.get(span).copied().flatten()
+    }
+
+    fn next(&self, span: usize) -> Option<usize> {
+        self.next.get(span).copied().flatten()
+    }
+}
+
+impl Rows {
+    /// The rows of a story's spans. A fault is refused memory, or that there are too many.
+    pub(crate) fn new(alloc: Global, spans: &[Span], texts: &Texts) -> Result<Rows, DrawFault> {
+        let kept = kept_spans(alloc, spans)?;
+        let tree = Tree::new(alloc, spans)?;
+        let mut rows = Rows {
+            rows: Vec::new(alloc),
+            of_span: Vec::new(alloc),
+        };
+        for _span in spans {
+            rows.of_span.push(None)?;
+        }
+        let mut ahead = Vec::new(alloc);
+        if let Some(span) = tree.first {
+            ahead.push(Ahead { span, depth: 0 })?;
+        }
+        rows.walk(&mut ahead, spans, &kept, &tree, texts)?;
+        Ok(rows)
+    }
+
+    // Adds the rows of what is ahead, and of all that stands in it or behind it.
+    fn walk(
+        &mut self,
+        ahead: &mut Vec<Ahead>,
+        spans: &[Span],
+        kept: &[bool],
+        tree: &Tree,
+        texts: &Texts,
+    ) -> Result<(), DrawFault> {
+        for _span in spans {
+            let Some(Ahead { span, depth }) = ahead.pop() else {
+                return Ok(());
+            };
+            if let Some(next) = tree.next(span) {
+                ahead.push(Ahead { span: next, depth })?;
+            }
+            let is_kept = kept.get(span).copied().unwrap_or(false);
+            let is_shown = is_kept && self.add(spans, span, depth, texts)?;
+            if let Some(inner) = tree.inner(span) {
+                ahead.push(Ahead {
+                    span: inner,
+                    depth: depth.saturating_add(is_shown as u64),
+                })?;
+            }
+        }
+        Ok(())
+    }
+
+    // Adds the row of a span that is kept: whether it has one.
+    fn add(
+        &mut self,
+        spans: &[Span],
+        place: usize,
+        depth: u64,
+        texts: &Texts,
+    ) -> Result<bool, DrawFault> {
+        let Some(span) = spans.get(place) else {
+            return Ok(false);
+        };
+        if !is_row(span) {
+            return Ok(false);
+        }
+        if self.rows.len() as u64 >= MOST_ROWS {
+            return Err(DrawFault::Rows);
+        }
+        if let Some(row) = self.of_span.get_mut(place) {
+            *row = Some(self.rows.len());
+        }
+        let label = texts.label(span.kind)?;
+        self.rows.push(Row {
+            span: place,
+            depth,
+            label,
+        })?;
+        Ok(true)
+    }
+
+    /// The row of a span.
+    pub(crate) fn row_of(&self, span: usize) -> Option<usize> {
+        self.of_span.get(span).copied().flatten()
+    }
+}

@@ -1,0 +1,161 @@
+//! The width of a picture, shared among its times.
+//!
+//! A time is a band as wide as its slots; between two bands lies a gap. Gaps are as wide as the time between, where the longest is at most
+//! 25 times the shortest, and else grow with the number of its binary digits.
+
+ghost use Rattle.std.specs.Prelude.{◌≤◌};
+
+use crate::slots::{Instant, Slot};
+use std::alloc::{AllocError, Global};
+
+/// How many parts a column or a pixel has: places are counted in parts.
+pub(crate) const PARTS: u64 = 1_000_000;
+
+/// How wide a picture is, and how it is shared, all in parts.
+#[derive(Clone, Copy)]
+pub(crate) struct Measure {
+    /// The width of the plot.
+    pub width: u64,
+    /// The widest slot.
+    pub slot: u64,
+    /// The least gap.
+    pub gap: u64,
+    /// What is left free at the right end.
+    pub margin: u64,
+}
+
+/// Where each instant's band begins, how wide a slot is, and where the last band ends, all in parts.
+#[derive(Drop)]
+pub(crate) struct Scale {
+    pub begins: Vec<u64>,
+    pub slot: u64,
+    pub end: u64,
+    /// Whether the gaps are in proportion to the time between.
+    pub is_true: bool,
+}
+
+// a * b / c; what is out of range is the greatest number.
+fn share(a: u64, b: u64, c: u64) -> u64 {
+    let product = (a as u128).saturating_mul(b as u128);
+    let quotient = product / (c.max(1) as u128);
+    match u64::try_from(quotient) {
+        Ok(share) => share,
+        Err(_) => u64::MAX,
+    }
+}
+
+// How many binary digits a number has.
+fn digits(number: u64) -> u64 {
+    64_u64.saturating_sub(number.leading_zeros() as u64)
+}
+
+// The times between neighbours.
+fn gaps_of(alloc: Global, instants: &[Instant]) -> Result<Vec<u64>, AllocError> {
+    let mut gaps = Vec::new(alloc);
+    let mut before: Option<u64> = None;
+    for instant in instants {
+        if let Some(time) = before {
+            gaps.push(instant.time.saturating_sub(time))?;
+        }
+        before = Some(instant.time);
+    }
+    Ok(gaps)
+}
+
+fn sum(numbers: &[u64]) -> u64 {
+    let mut sum: u64 = 0;
+    for number in numbers {
+        sum = sum.saturating_add(*number);
+    }
+    sum
+}
+
+// Whether the longest gap is at most 25 times the shortest.
+fn are_alike(gaps: &[u64]) -> bool {
+    let mut least = u64::MAX;
+    let mut greatest = 0;
+    for gap in gaps {
+        least = least.min(*gap);
+        greatest = greatest.max(*gap);
+    }
+    greatest <= least.saturating_mul(25)
+}
+
+impl Measure {
+    // The width of a slot, where there are so many.
+    fn slot(&self, total: u64) -> u64
+        ensures { result ≤ self.now.slot }
+    {
+        self.slot
+            .min(share(self.width, 6, total.saturating_mul(10)))
+    }
+
+    // What is left for the gaps.
+    fn free(&self, bands: u64) -> u64 {
+        let least = share(self.width, 4, 10);
+        let left = self.width.saturating_sub(bands);
+        least.max(left).saturating_sub(self.margin)
+    }
+}
+
+impl Scale {
+    /// Shares a width among the instants of a picture.
+    pub(crate) fn new(
+        alloc: Global,
+        instants: &[Instant],
+        total: u64,
+        measure: Measure,
+    ) -> Result<Scale, AllocError> {
+        let mut gaps = gaps_of(alloc, instants)?;
+        let is_true = are_alike(&gaps);
+        if !is_true {
+            for gap in gaps.iter_mut() {
+                *gap = digits(*gap).saturating_add(1);
+            }
+        }
+        let slot = measure.slot(total);
+        let free = measure.free(slot.saturating_mul(total));
+        let least = measure
+            .gap
+            .min(share(free, 1, (gaps.len() as u64).saturating_mul(2)));
+        let whole = sum(&gaps);
+        let mut scale = Scale {
+            begins: Vec::new(alloc),
+            slot,
+            end: 0,
+            is_true,
+        };
+        for (i, instant) in instants.iter().enumerate() {
+            scale.begins.push(scale.end)?;
+            let gap = match gaps.get(i) {
+                Some(gap) => least.max(share(free, *gap, whole)),
+                None => 0,
+            };
+            let band = slot.saturating_mul(instant.width());
+            scale.end = scale.end.saturating_add(band).saturating_add(gap);
+        }
+        Ok(scale)
+    }
+
+    /// Where an instant's band begins.
+    pub(crate) fn begin(&self, instant: usize) -> u64 {
+        self.begins.get(instant).copied().unwrap_or(0)
+    }
+
+    /// How far in its band a slot begins.
+    pub(crate) fn within(&self, slot: Slot) -> u64 {
+        self.slot.saturating_mul(slot.place)
+    }
+
+    /// Makes the whole as narrow as this, where it is wider.
+    pub(crate) fn squeeze(&mut self, width: u64) {
+        let whole = self.end;
+        if whole > width {
+            for begin in self.begins.iter_mut() {
+                *begin = share(*begin, width, whole);
+            }
+            self.slot = share(self.slot, width, whole);
+            self.end = width;
+        }
+    }
+}

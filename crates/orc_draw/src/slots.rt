@@ -1,0 +1,132 @@
+//! Where each entry stands across a picture: its time, and its slot among the entries of that time.
+
+ghost use Rattle.std.specs.Prelude.{◌≤◌};
+
+use crate::rows::Rows;
+use crate::story::{Event, Moment, Shown};
+use std::alloc::{AllocError, Global};
+
+/// A time that a picture shows, and how many slots it has.
+#[derive(Clone, Copy)]
+pub(crate) struct Instant {
+    pub time: u64,
+    pub slots: u64,
+}
+
+/// The slot of an entry: the number of its instant, and which of its slots.
+#[derive(Clone, Copy)]
+pub(crate) struct Slot {
+    pub entry: u64,
+    pub instant: usize,
+    pub place: u64,
+}
+
+/// The instants in order, and the slots in the order of their entries.
+#[derive(Drop)]
+pub(crate) struct Slots {
+    pub instants: Vec<Instant>,
+    pub slots: Vec<Slot>,
+}
+
+// Whether an entry has a slot.
+fn is_shown(event: &Event, rows: &Rows) -> bool {
+    match event.shown {
+        Shown::Span(span) => rows.row_of(span).is_some(),
+        _ => true,
+    }
+}
+
+impl Slots {
+    /// The slots of a story's events, from time 0 to its last time.
+    pub(crate) fn new(
+        alloc: Global,
+        events: &[Event],
+        rows: &Rows,
+        now: u64,
+    ) -> Result<Slots, AllocError> {
+        let mut slots = Slots {
+            instants: Vec::new(alloc),
+            slots: Vec::new(alloc),
+        };
+        slots.reach(0)?;
+        for event in events {
+            if is_shown(event, rows) {
+                slots.reach(event.at.time)?;
+                slots.add(event)?;
+            }
+        }
+        slots.reach(now)?;
+        Ok(slots)
+    }
+
+    // The last instant is the one of this time.
+    fn reach(&mut self, time: u64) -> Result<(), AllocError> {
+        if self.instants.last().map(|last| last.time) != Some(time) {
+            self.instants.push(Instant { time, slots: 0 })?;
+        }
+        Ok(())
+    }
+
+    // A cancel shares the slot of its bind.
+    fn add(&mut self, event: &Event) -> Result<(), AllocError> {
+        let is_cancel = matches!(event.shown, Shown::Cancel);
+        let instant = self.instants.len().saturating_sub(1);
+        let Some(last) = self.instants.last_mut() else {
+            return Ok(());
+        };
+        if !is_cancel || last.slots == 0 {
+            last.slots = last.slots.saturating_add(1);
+        }
+        let place = last.slots.saturating_sub(1);
+        self.slots.push(Slot {
+            entry: event.at.entry,
+            instant,
+            place,
+        })?;
+        Ok(())
+    }
+
+    /// The slot of an entry, or of the last one before it at its time, or the first of that time.
+    pub(crate) fn slot(&self, at: Moment) -> Slot {
+        let behind = self.slots.partition_point(|slot| slot.entry <= at.entry);
+        if let Some(slot) = behind.checked_sub(1).and_then(|last| self.slots.get(last)) {
+            if self.time(slot.instant) == at.time {
+                return *slot;
+            }
+        }
+        Slot {
+            entry: at.entry,
+            instant: self.instant(at.time),
+            place: 0,
+        }
+    }
+
+    fn time(&self, instant: usize) -> u64 {
+        self.instants.get(instant).map_or(0, |instant| instant.time)
+    }
+
+    // The last instant that isn't later than a time.
+    fn instant(&self, time: u64) -> usize {
+        self.instants
+            .partition_point(|instant| instant.time <= time)
+            .saturating_sub(1)
+    }
+
+    /// How many slots there are, at least one for each time.
+    pub(crate) fn total(&self) -> u64 {
+        let mut total: u64 = 0;
+        for instant in &self.instants {
+            total = total.saturating_add(instant.width());
+        }
+        total
+    }
+}
+
+impl Instant {
+    /// How many slots wide its band is.
+    pub(crate) fn width(&self) -> u64
+        ensures { 1 ≤ result }
+    {
+        self.slots.max(1)
+    }
+}

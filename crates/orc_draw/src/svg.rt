@@ -1,0 +1,664 @@
+//! A picture as SVG.
+
+use crate::legend::Legend;
+use crate::page::Page;
+use crate::picture::{Picture, Publications, Theme};
+use crate::rows::Row;
+use crate::scale::{Measure, PARTS, Scale};
+use crate::story::{Called, End, Kind, Moment, Shown, Span};
+use crate::style::{DARK, FAMILY, LIGHT};
+use crate::text::{say_due, say_end, say_fate};
+use std::alloc::{AllocError, Global};
+
+// In pixels: the top of the plot and of the first row, and the line of the publications.
+const HEAD: u64 = 52;
+
+const TOP: u64 = 98;
+
+const PUBLICATIONS: u64 = 68;
+
+// The most times that have bands, and the most publications that have lines.
+const MOST_BANDS: usize = 40;
+
+const MOST_LINES: u64 = 12;
+
+/// How large rows are, in pixels: their height, that of a bar, and that of a letter.
+#[derive(Clone, Copy)]
+struct Size {
+    row: u64,
+    bar: u64,
+    letter: u64,
+    // How far each level stands in, in parts.
+    indent: u64,
+}
+
+/// A picture on its sheet: places across are in parts of a pixel, places down in pixels.
+#[derive(Drop)]
+struct Sheet<'a> {
+    picture: &'a Picture<'a>,
+    size: Size,
+    gutter: u64,
+    left: u64,
+    right: u64,
+    width: u64,
+    scale: Scale,
+    // For each row of a call whose answer won: where the pruning was bound.
+    wins: Vec<u64>,
+}
+
+/// Writes a picture as SVG. The error is refused memory.
+pub(crate) fn write(alloc: Global, picture: &Picture, theme: Theme) -> Result<String, AllocError> {
+    let sheet = Sheet::new(alloc, picture)?;
+    let mut body = Page::new(alloc);
+    sheet.times(&mut body);
+    sheet.publications(&mut body);
+    sheet.boxes(&mut body);
+    sheet.rows(&mut body);
+    sheet.winners(&mut body);
+    let mut legend = Legend::new(sheet.bottom().saturating_add(24), sheet.width);
+    legend.write(alloc, &mut body, picture, sheet.scale.is_true);
+    let mut page = Page::new(alloc);
+    sheet.head(&mut page, theme, legend.bottom());
+    page.say(body.finish()?.as_str());
+    page.say("</svg>\n");
+    page.finish()
+}
+
+fn pixels(count: u64) -> u64 {
+    count.saturating_mul(PARTS)
+}
+
+// The size of so many rows, the deepest of which stands in so far.
+fn size_of_rows(rows: u64, depth: u64) -> Size {
+    let (row, bar, letter) = if rows <= 60 {
+        (24, 13, 12)
+    } else if rows <= 150 {
+        (16, 10, 10)
+    } else {
+        (12, 8, 9)
+    };
+    let indent = if depth <= 8 {
+        pixels(14)
+    } else {
+        pixels(112) / depth
+    };
+    Size {
+        row,
+        bar,
+        letter,
+        indent,
+    }
+}
+
+impl Size {
+    // How wide so many letters are.
+    fn letters(&self, count: u64) -> u64 {
+        count.saturating_mul(self.letter).saturating_mul(602_000)
+    }
+
+    // How wide a row's label is, with its call's number.
+    fn label(&self, row: &Row, is_call: bool) -> u64 {
+        let count = (row.label.len() as u64).saturating_add(if is_call { 6 } else { 0 });
+        pixels(16)
+            .saturating_add(row.depth.saturating_mul(self.indent))
+            .saturating_add(self.letters(count))
+    }
+}
+
+fn is_call(picture: &Picture, row: &Row) -> bool {
+    match picture.span(row) {
+        Some(
+            Span {
+                kind: Kind::Call(_),
+                ..
+            },
+        ) => true,
+        _ => false,
+    }
+}
+
+// The width of what stands left of the plot.
+fn gutter_of(picture: &Picture, size: &Size) -> u64 {
+    let mut widest = pixels(120);
+    for row in &picture.rows.rows {
+        widest = widest.max(size.label(row, is_call(picture, row)));
+    }
+    widest.min(pixels(340)).saturating_add(pixels(14))
+}
+
+fn deepest(rows: &[Row]) -> u64 {
+    let mut deepest = 0;
+    for row in rows {
+        deepest = deepest.max(row.depth);
+    }
+    deepest
+}
+
+impl<'a> Sheet<'a> {
+    fn new(alloc: Global, picture: &'a Picture<'a>) -> Result<Sheet<'a>, AllocError> {
+        let rows = &picture.rows.rows;
+        let count = rows.len() as u64;
+        let size = size_of_rows(count, deepest(rows));
+        let plot = count
+            .saturating_sub(60)
+            .saturating_mul(4)
+            .saturating_add(760);
+        let measure = Measure {
+            width: pixels(plot.min(1400)),
+            slot: pixels(13),
+            gap: pixels(16),
+            margin: 0,
+        };
+        let slots = &picture.slots;
+        let scale = Scale::new(alloc, &slots.instants, slots.total(), measure)?;
+        let gutter = gutter_of(picture, &size);
+        let left = gutter.saturating_add(pixels(10));
+        let right = left.saturating_add(scale.end).saturating_add(pixels(6));
+        let name = (picture.name.len() as u64).saturating_mul(8_600_000);
+        let summary = (picture.summary.len() as u64).saturating_mul(6_700_000);
+        let title = pixels(40).saturating_add(name).saturating_add(summary);
+        let mut sheet = Sheet {
+            picture,
+            size,
+            gutter,
+            left,
+            right,
+            width: right.saturating_add(pixels(168)).max(title),
+            scale,
+            wins: Vec::new(alloc),
+        };
+        for _row in rows {
+            sheet.wins.push(0)?;
+        }
+        sheet.find_wins();
+        Ok(sheet)
+    }
+
+    fn find_wins(&mut self) {
+        for row in &self.picture.rows.rows {
+            if let Some((End::Bound(_, Some(call)), at)) = self
+                .picture
+                .span(row)
+                .and_then(|s| s.end)
+            {
+                let place = self.across(at);
+                if let Some(won) = self.picture.rows.row_of(call) {
+                    if let Some(win) = self.wins.get_mut(won) {
+                        *win = place;
+                    }
+                }
+            }
+        }
+    }
+
+    // ---- places
+
+    // Below the last row.
+    fn bottom(&self) -> u64 {
+        self.down(self.picture.rows.rows.len())
+    }
+
+    // The upper edge of a row.
+    fn down(&self, row: usize) -> u64 {
+        TOP.saturating_add((row as u64).saturating_mul(self.size.row))
+    }
+
+    // The middle of a row, in parts.
+    fn middle(&self, row: usize) -> u64 {
+        pixels(self.down(row)).saturating_add(pixels(self.size.row) / 2)
+    }
+
+    fn band(&self, instant: usize) -> u64 {
+        self.left.saturating_add(self.scale.begin(instant))
+    }
+
+    // The middle of a moment's slot.
+    fn across(&self, at: Moment) -> u64 {
+        let slot = self.picture.slots.slot(at);
+        self.band(slot.instant)
+            .saturating_add(self.scale.within(slot))
+            .saturating_add(self.scale.slot / 2)
+    }
+
+    fn begin(&self, span: &Span) -> u64 {
+        self.across(span.began)
+    }
+
+    // Where a span ends, or the right edge.
+    fn end(&self, span: &Span) -> u64 {
+        match span.end {
+            Some((_, at)) => self.across(at),
+            None => self.right,
+        }
+    }
+
+    // ---- the frame
+
+    fn head(&self, page: &mut Page, theme: Theme, bottom: u64) {
+        let width = self.width.saturating_add(PARTS / 2) / PARTS;
+        page.form(
+            "<svg xmlns=\"http://www.w3.org/2000/svg\" width=\"@\" height=\"@\" viewBox=\"0 0 @ @\" role=\"img\"><title>",
+            &[width, bottom, width, bottom],
+        );
+        page.escaped(self.picture.name);
+        page.say(": ");
+        page.escaped(self.picture.summary.as_str());
+        page.say("</title><style>");
+        self.style(page, theme);
+        page.say(
+            "</style><rect class=\"bg\" width=\"100%\" height=\"100%\"/><text class=\"title\" x=\"12\" y=\"20\">",
+        );
+        page.escaped(self.picture.name);
+        let behind = (self.picture.name.len() as u64).saturating_mul(86) / 10;
+        page.form(
+            "</text><text class=\"axis\" x=\"@\" y=\"20\">",
+            &[behind.saturating_add(26)],
+        );
+        page.escaped(self.picture.summary.as_str());
+        page.say("</text>");
+    }
+
+    fn style(&self, page: &mut Page, theme: Theme) {
+        let letter = self.size.letter;
+        page.form("text{font:@", &[letter]);
+        page.say(FAMILY);
+        page.form("%px}", &[letter.saturating_mul(850_000)]);
+        page.say(if theme == Theme::Dark { DARK } else { LIGHT });
+        if theme == Theme::Auto {
+            page.say("@media(prefers-color-scheme:dark){");
+            page.say(DARK);
+            page.say("}");
+        }
+    }
+
+    fn times(&self, page: &mut Page) {
+        let instants = &self.picture.slots.instants;
+        let are_bands = instants.len() <= MOST_BANDS;
+        let height = self.bottom().saturating_sub(HEAD);
+        // Where the last label ends; a label that would touch it is left out.
+        let mut last: u64 = 0;
+        for (i, instant) in instants.iter().enumerate() {
+            let begin = self.band(i);
+            let width = self.scale.slot.saturating_mul(instant.width());
+            if are_bands {
+                page.form(
+                    "<rect class=\"instant\" x=\"%\" y=\"@\" width=\"%\" height=\"@\"/>\n",
+                    &[begin, HEAD, width, height],
+                );
+            }
+            let middle = begin.saturating_add(width / 2);
+            let letters = crate::picture::digits(instant.time);
+            if last == 0
+                || middle
+                    > last.saturating_add(pixels(letters.saturating_mul(7).saturating_add(12)))
+            {
+                page.form(
+                    "<text class=\"axis\" x=\"%\" y=\"@\" text-anchor=\"middle\">@</text>\n",
+                    &[middle, HEAD - 6, instant.time],
+                );
+                last = middle.saturating_add(letters.saturating_mul(3_500_000));
+                if !are_bands {
+                    page.form(
+                        "<line class=\"rule\" x1=\"%\" x2=\"%\" y1=\"@\" y2=\"@\" stroke-opacity=\".4\"/>\n",
+                        &[begin, begin, HEAD, self.bottom()],
+                    );
+                }
+            }
+        }
+        page.form(
+            "<text class=\"axis\" x=\"%\" y=\"@\" text-anchor=\"end\">time</text>\n<line class=\"rule\" x1=\"%\" x2=\"%\" y1=\"@\" y2=\"@\"/>\n",
+            &[
+                self.gutter,
+                HEAD - 6,
+                self.gutter.saturating_add(pixels(4)),
+                self.right,
+                HEAD,
+                HEAD,
+            ],
+        );
+    }
+
+    // ---- publications
+
+    fn publications(&self, page: &mut Page) {
+        page.form(
+            "<text class=\"lab\" x=\"12\" y=\"@\">publishes</text>\n",
+            &[PUBLICATIONS + 4],
+        );
+        let all = &self.picture.publications;
+        let mut count: u64 = 0;
+        for some in all {
+            count = count.saturating_add(some.count);
+        }
+        for event in &self.picture.story.events {
+            if let Shown::Publication(value) = event.shown {
+                self.publication(page, event.at, count <= MOST_LINES);
+                page.value(value);
+                page.form(" at time @</title></circle>\n", &[event.at.time]);
+            }
+        }
+        for (i, some) in all.iter().enumerate() {
+            let next = match all.get(i.saturating_add(1)) {
+                Some(next) => self.across(next.first),
+                None => self.width,
+            };
+            self.values(page, some, next.saturating_sub(pixels(10)));
+        }
+    }
+
+    // The dot of a publication, as far as its value.
+    fn publication(&self, page: &mut Page, at: Moment, has_line: bool) {
+        let place = self.across(at);
+        if has_line {
+            page.form(
+                "<line class=\"publine\" x1=\"%\" x2=\"%\" y1=\"@\" y2=\"@\"/>\n",
+                &[place, place, PUBLICATIONS, self.bottom()],
+            );
+        }
+        let radius = (self.scale.slot / 2)
+            .saturating_add(pixels(2))
+            .min(pixels(5));
+        page.form(
+            "<circle class=\"pub\" cx=\"%\" cy=\"@\" r=\"%\"><title>entry @: publish ",
+            &[place, PUBLICATIONS, radius, at.entry],
+        );
+    }
+
+    // The values of a time, where they don't reach as far as this.
+    fn values(&self, page: &mut Page, some: &Publications, limit: u64) {
+        let place = self.across(some.first);
+        let end = place.saturating_add(some.width().saturating_mul(7_300_000));
+        let is_short = end > limit;
+        if is_short && (some.count < 2 || place.saturating_add(pixels(60)) >= limit) {
+            return;
+        }
+        page.form(
+            "<text class=\"pubv\" x=\"%\" y=\"@\">",
+            &[place.saturating_sub(pixels(4)), PUBLICATIONS + 20],
+        );
+        if is_short {
+            page.form("@ values", &[some.count]);
+        } else {
+            some.say(page);
+        }
+        page.say("</text>\n");
+    }
+
+    // ---- rows
+
+    // The tinted box round the rows of what stands in a pruning.
+    fn boxes(&self, page: &mut Page) {
+        let rows = &self.picture.rows.rows;
+        for (i, row) in rows.iter().enumerate() {
+            if let Some(span) = self.picture.span(row) {
+                let count = inner_rows(rows, i, row.depth).saturating_add(1);
+                if matches!(span.kind, Kind::Pruning(_)) && count > 1 {
+                    let begin = self.begin(&span);
+                    let width = self.end(&span).saturating_sub(begin).max(pixels(2));
+                    let height = count.saturating_mul(self.size.row).saturating_sub(4);
+                    page.form(
+                        "<rect class=\"group\" x=\"%\" y=\"@\" width=\"%\" height=\"@\" rx=\"4\"/>\n",
+                        &[begin, self.down(i).saturating_add(2), width, height],
+                    );
+                }
+            }
+        }
+    }
+
+    fn rows(&self, page: &mut Page) {
+        for (i, row) in self.picture.rows.rows.iter().enumerate() {
+            if let Some(span) = self.picture.span(row) {
+                match span.kind {
+                    Kind::Call(called) => self.call(page, i, row, &span, called),
+                    _ => self.side(page, i, row, &span),
+                }
+            }
+        }
+    }
+
+    // Where the letters of a row stand.
+    fn line(&self, row: usize) -> u64 {
+        self.middle(row)
+            .saturating_add(self.size.letter.saturating_mul(350_000))
+    }
+
+    fn indent(&self, row: &Row) -> u64 {
+        pixels(12).saturating_add(row.depth.saturating_mul(self.size.indent))
+    }
+
+    fn call(&self, page: &mut Page, i: usize, row: &Row, span: &Span, called: Called) {
+        let class = class_of(span);
+        page.say("<g><title>");
+        say_tip(page, row, span, called);
+        page.say("</title><text class=\"lab");
+        page.say(if class == "cut" { " dim" } else { "" });
+        page.form("\" x=\"%\" y=\"%\">", &[self.indent(row), self.line(i)]);
+        page.escaped(row.label.as_str());
+        page.form(
+            "</text><text class=\"num\" x=\"%\" y=\"%\" text-anchor=\"end\">@</text><rect class=\"bar ",
+            &[
+                self.gutter.saturating_sub(pixels(6)),
+                self.line(i),
+                called.number,
+            ],
+        );
+        let begin = self.begin(span);
+        let end = self.end(span);
+        let height = pixels(self.size.bar) / if called.is_pause { 2 } else { 1 };
+        page.say(class);
+        page.form(
+            "\" x=\"%\" y=\"%\" width=\"%\" height=\"%\" rx=\"2\"/>",
+            &[
+                begin,
+                self.middle(i).saturating_sub(height / 2),
+                end.saturating_sub(begin).max(pixels(3)),
+                height,
+            ],
+        );
+        self.call_end(page, i, row, span, called);
+        page.say("</text></g>\n");
+    }
+
+    // The mark at a call's end, and the words behind it.
+    fn call_end(&self, page: &mut Page, i: usize, row: &Row, span: &Span, called: Called) {
+        let end = self.end(span);
+        let class = class_of(span);
+        let mut behind = end.saturating_add(pixels(6));
+        match span.end {
+            Some((End::Answered(_), _)) => {
+                let won = self.wins.get(i).copied().unwrap_or(0);
+                behind = end.max(won).saturating_add(pixels(6));
+            }
+            Some((End::Halted, _)) => page.form(
+                "<rect class=\"stopmark\" x=\"%\" y=\"%\" width=\"3\" height=\"@\"/>",
+                &[
+                    end.saturating_sub(pixels(2)),
+                    self.middle(i)
+                        .saturating_sub(pixels(self.size.bar) / 2)
+                        .saturating_sub(pixels(1)),
+                    self.size.bar.saturating_add(2),
+                ],
+            ),
+            Some(_) => {
+                self.cross(
+                    page,
+                    end,
+                    self.middle(i),
+                    self.size.bar.saturating_mul(420_000),
+                );
+                behind = end.saturating_add(pixels(8));
+            }
+            None => {}
+        }
+        page.say("<text class=\"end ");
+        page.say(class);
+        page.form("t\" x=\"%\" y=\"%\">", &[behind, self.line(i)]);
+        let is_crowded = self.picture.rows.rows.len() > 60;
+        if is_crowded && self.begin(span) > self.gutter.saturating_add(pixels(400)) {
+            page.escaped(row.label.as_str());
+            page.say(" ");
+        }
+        if is_crowded && class == "cut" {
+            page.say("cancelled");
+        } else {
+            say_fate(page, span, called);
+        }
+    }
+
+    fn cross(&self, page: &mut Page, x: u64, y: u64, reach: u64) {
+        let (left, right) = (x.saturating_sub(reach), x.saturating_add(reach));
+        let (up, down) = (y.saturating_sub(reach), y.saturating_add(reach));
+        page.form(
+            "<path class=\"x\" d=\"M% %L% %M% %L% %\"/>",
+            &[left, up, right, down, left, down, right, up],
+        );
+    }
+
+    // How far a mark reaches from its middle.
+    fn reach(&self) -> u64 {
+        (pixels(self.size.bar) / 2).min(pixels(6))
+    }
+
+    fn side(&self, page: &mut Page, i: usize, row: &Row, span: &Span) {
+        let (begin, end, middle) = (self.begin(span), self.end(span), self.middle(i));
+        page.form(
+            "<text class=\"lab scope\" x=\"%\" y=\"%\">",
+            &[self.indent(row), self.line(i)],
+        );
+        page.escaped(row.label.as_str());
+        page.say(match span.kind {
+            Kind::Pruning(_) => "</text><line class=\"span\"",
+            _ => "</text><line class=\"ospan\"",
+        });
+        page.form(
+            " x1=\"%\" x2=\"%\" y1=\"%\" y2=\"%\"/><line class=\"span\" x1=\"%\" x2=\"%\" y1=\"%\" y2=\"%\"/>\n",
+            &[
+                begin,
+                end,
+                middle,
+                middle,
+                begin,
+                begin,
+                middle.saturating_sub(pixels(4)),
+                middle.saturating_add(pixels(4)),
+            ],
+        );
+        self.side_end(page, i, span, end, middle);
+        say_end(page, span);
+        page.say("</text>\n");
+    }
+
+    // The mark at the end of a pruning or an otherwise, as far as the words behind it.
+    fn side_end(&self, page: &mut Page, i: usize, span: &Span, x: u64, y: u64) {
+        let q = self.reach();
+        let (left, right) = (x.saturating_sub(q), x.saturating_add(q));
+        let (up, down) = (y.saturating_sub(q), y.saturating_add(q));
+        let class = match span.end {
+            Some((End::Bound(value, _), at)) => {
+                page.form(
+                    "<path class=\"bind\" d=\"M% %L% %L% %L% %Z\"><title>entry @: bind ",
+                    &[x, up, right, y, x, down, left, y, at.entry],
+                );
+                page.value(value);
+                page.form(" at time @</title></path>", &[at.time]);
+                "bindt"
+            }
+            Some((End::Lost, at)) => {
+                page.form(
+                    "<circle class=\"lost\" cx=\"%\" cy=\"%\" r=\"%\"><title>entry @: lost at time @</title></circle>",
+                    &[x, y, q.saturating_sub(pixels(1)), at.entry, at.time],
+                );
+                "haltt"
+            }
+            Some((End::Resumed, at)) => {
+                page.form(
+                    "<path class=\"right\" d=\"M% %L% %L% %Z\"><title>entry @: right at time @</title></path>",
+                    &[left, up, right, y, left, down, at.entry, at.time],
+                );
+                "rightt"
+            }
+            Some(_) => {
+                self.cross(page, x, y, q / 5 * 4);
+                "cutt"
+            }
+            None => "nevt",
+        };
+        let gap = if class == "nevt" { 6 } else { 9 };
+        page.say("<text class=\"end ");
+        page.say(class);
+        page.form(
+            "\" x=\"%\" y=\"%\">",
+            &[x.saturating_add(pixels(gap)), self.line(i)],
+        );
+    }
+
+    // From the answer that won to the value that it became.
+    fn winners(&self, page: &mut Page) {
+        for (i, row) in self.picture.rows.rows.iter().enumerate() {
+            if let Some((End::Bound(_, Some(call)), at)) = self
+                .picture
+                .span(row)
+                .and_then(|s| s.end)
+            {
+                if let Some(won) = self.picture.rows.row_of(call) {
+                    if let Some(span) = self.picture.story.spans.get(call) {
+                        let (from, to) = (self.end(span), self.across(at));
+                        let (low, high) = (
+                            self.middle(won),
+                            self.middle(i).saturating_add(self.reach()),
+                        );
+                        page.form(
+                            "<path class=\"win\" d=\"M% %L% %L% %\"/>\n",
+                            &[from, low, to, low, to, high],
+                        );
+                    }
+                }
+            }
+        }
+    }
+}
+
+// How many rows stand in the one before them.
+fn inner_rows(rows: &[Row], at: usize, depth: u64) -> u64 {
+    let mut count: u64 = 0;
+    for row in rows.iter().skip(at.saturating_add(1)) {
+        if row.depth <= depth {
+            return count;
+        }
+        count = count.saturating_add(1);
+    }
+    count
+}
+
+/// The class of a call's bar.
+pub(crate) fn class_of(span: &Span) -> &'static str {
+    match span.end {
+        Some((End::Answered(_), _)) => "ok",
+        Some((End::Halted, _)) => "halt",
+        Some(_) => "cut",
+        None => "nev",
+    }
+}
+
+// What is told of a call where the reader points at it.
+fn say_tip(page: &mut Page, row: &Row, span: &Span, called: Called) {
+    page.form("call @: ", &[called.number]);
+    page.escaped(row.label.as_str());
+    page.form(
+        ", made at time @ (entry @); ",
+        &[span.began.time, span.began.entry],
+    );
+    match span.end {
+        Some((End::Answered(value), at)) => {
+            page.say("answered ");
+            page.value(value);
+            page.form(" at time @ (entry @)", &[at.time, at.entry]);
+        }
+        Some((End::Halted, at)) => page.form("halted at time @ (entry @)", &[at.time, at.entry]),
+        Some((_, at)) => {
+            page.form("cancelled at time @ (entry @), was ", &[at.time, at.entry]);
+            say_due(page, called.due);
+        }
+        None => say_fate(page, span, called),
+    }
+}

@@ -1,0 +1,314 @@
+//! A picture as rows of text.
+
+use crate::page::Page;
+use crate::picture::{Picture, digits};
+use crate::rows::Row;
+use crate::scale::{Measure, PARTS, Scale};
+use crate::story::{Called, End, Kind, Moment, Span};
+use std::alloc::{AllocError, Global};
+
+// The widest label, and the columns that belong to no label, number or plot: blanks between them, and what stands behind a bar.
+const WIDEST: u64 = 30;
+
+const NARROWEST: u64 = 9;
+
+const APART: u64 = 21;
+
+// The columns of a picture: its labels, its numbers and its plot.
+#[derive(Drop)]
+struct Columns<'a> {
+    picture: &'a Picture<'a>,
+    label: u64,
+    number: u64,
+    scale: Scale,
+}
+
+// What a bar or a line is drawn with: its first sign, what fills it, and its last sign.
+#[derive(Clone, Copy)]
+struct Stroke {
+    first: char,
+    fill: char,
+    last: char,
+}
+
+/// Writes a picture as text of about so many columns.
+pub(crate) fn write(alloc: Global, picture: &Picture, width: u64) -> Result<String, AllocError> {
+    let mut page = Page::new(alloc);
+    let columns = Columns::new(alloc, picture, width)?;
+    columns.title(&mut page);
+    columns.times(&mut page);
+    columns.publications(&mut page);
+    for row in &picture.rows.rows {
+        columns.row(&mut page, row);
+    }
+    columns.note(&mut page);
+    page.finish()
+}
+
+// The whole columns of so many parts, which were cut off at each share: a thousandth more makes up for that.
+fn columns_of(parts: u64) -> u64 {
+    parts.saturating_add(PARTS / 1_000) / PARTS
+}
+
+// How many columns a row's label takes.
+fn label_width(row: &Row) -> u64 {
+    row.depth
+        .saturating_mul(2)
+        .saturating_add(row.label.len() as u64)
+}
+
+impl<'a> Columns<'a> {
+    fn new(alloc: Global, picture: &'a Picture<'a>, width: u64) -> Result<Columns<'a>, AllocError> {
+        let mut label = NARROWEST;
+        let mut number = 1;
+        for row in &picture.rows.rows {
+            label = label.max(label_width(row));
+            if let Some(Kind::Call(called)) = picture.span(row).map(|span| span.kind) {
+                number = number.max(digits(called.number));
+            }
+        }
+        let label = label.min(WIDEST);
+        let taken = label.saturating_add(number).saturating_add(APART);
+        let room = width.saturating_sub(taken).max(1).saturating_mul(PARTS);
+        let measure = Measure {
+            width: room,
+            slot: PARTS,
+            gap: PARTS,
+            margin: PARTS,
+        };
+        let slots = &picture.slots;
+        let mut scale = Scale::new(alloc, &slots.instants, slots.total(), measure)?;
+        scale.squeeze(room);
+        Ok(Columns {
+            picture,
+            label,
+            number,
+            scale,
+        })
+    }
+
+    fn right(&self) -> u64 {
+        columns_of(self.scale.end)
+    }
+
+    fn begin(&self, instant: usize) -> u64 {
+        columns_of(self.scale.begin(instant))
+    }
+
+    // The column of a moment.
+    fn column(&self, at: Moment) -> u64 {
+        let slot = self.picture.slots.slot(at);
+        let within = columns_of(self.scale.within(slot));
+        self.begin(slot.instant).saturating_add(within)
+    }
+
+    fn title(&self, page: &mut Page) {
+        page.say(self.picture.name);
+        page.say(": ");
+        page.say(self.picture.summary.as_str());
+        page.say("\n")
+    }
+
+    // What stands left of the plot.
+    fn head(&self, page: &mut Page, label: &str, indent: u64) {
+        let length = indent.saturating_add(label.len() as u64);
+        let is_cut = length > self.label;
+        let room = self.label.saturating_sub(if is_cut { 2 } else { 0 });
+        page.fill(' ', indent.min(room));
+        let shown = room.saturating_sub(indent);
+        for byte in label.as_bytes().iter().take(shown as usize) {
+            page.byte(*byte);
+        }
+        if is_cut {
+            page.say("..")
+        } else {
+            page.fill(' ', self.label.saturating_sub(length))
+        }
+    }
+
+    // The number of a call, or blanks.
+    fn number(&self, page: &mut Page, number: Option<u64>) {
+        page.say(" ");
+        match number {
+            Some(number) => {
+                page.fill(' ', self.number.saturating_sub(digits(number)));
+                page.number(number);
+            }
+            None => page.fill(' ', self.number),
+        }
+        page.say("  ")
+    }
+
+    fn times(&self, page: &mut Page) {
+        self.head(page, "time", 0);
+        self.number(page, None);
+        let mut written: u64 = 0;
+        for (i, instant) in self.picture.slots.instants.iter().enumerate() {
+            let begin = self.begin(i);
+            if written == 0 || begin > written {
+                page.fill(' ', begin.saturating_sub(written));
+                page.number(instant.time);
+                written = begin.max(written).saturating_add(digits(instant.time));
+            }
+        }
+        page.say("\n")
+    }
+
+    fn publications(&self, page: &mut Page) {
+        let all = &self.picture.publications;
+        if all.is_empty() {
+            page.say("publishes\n");
+            return;
+        }
+        self.head(page, "publishes", 0);
+        self.number(page, None);
+        let mut written: u64 = 0;
+        for (i, some) in all.iter().enumerate() {
+            let begin = self.column(some.first);
+            let next = match all.get(i.saturating_add(1)) {
+                Some(next) => self.column(next.first),
+                None => self.right().saturating_add(40),
+            };
+            let width = some.width();
+            let fits = begin.saturating_add(width).saturating_add(2) < next;
+            if i == 0 || begin >= written {
+                page.fill(' ', begin.saturating_sub(written));
+                page.say("*");
+                written = begin.saturating_add(1);
+                if fits {
+                    page.say(" ");
+                    some.say(page);
+                    written = written.saturating_add(width).saturating_add(1);
+                }
+            }
+        }
+        page.say("\n")
+    }
+
+    fn row(&self, page: &mut Page, row: &Row) {
+        let Some(span) = self.picture.span(row) else {
+            return;
+        };
+        self.head(page, row.label.as_str(), row.depth.saturating_mul(2));
+        match span.kind {
+            Kind::Call(called) => {
+                self.number(page, Some(called.number));
+                self.bar(page, &span, call_stroke(&span));
+                say_fate(page, &span, called);
+            }
+            _ => {
+                self.number(page, None);
+                self.bar(page, &span, side_stroke(&span));
+                say_end(page, &span);
+            }
+        }
+        page.say("\n")
+    }
+
+    // A bar from where a span begins to where it ends, or to the right edge.
+    fn bar(&self, page: &mut Page, span: &Span, stroke: Stroke) {
+        let begin = self.column(span.began);
+        let end = match span.end {
+            Some((_, at)) => self.column(at),
+            None => self.right(),
+        };
+        page.fill(' ', begin);
+        if end > begin {
+            page.fill(stroke.first, 1);
+            page.fill(stroke.fill, end.saturating_sub(begin).saturating_sub(1));
+        }
+        page.fill(stroke.last, 1);
+        page.say(" ")
+    }
+
+    fn note(&self, page: &mut Page) {
+        let small = self.picture.story.small;
+        if small == 0 {
+            return;
+        }
+        page.say("(not drawn: ");
+        say_small(page, small);
+        page.say("; --all draws them)\n");
+    }
+}
+
+fn call_stroke(span: &Span) -> Stroke {
+    let (fill, last) = match span.end {
+        Some((End::Answered(_), _)) => ('=', '>'),
+        Some((End::Halted, _)) => ('=', '|'),
+        Some(_) => ('-', 'x'),
+        None => ('.', '.'),
+    };
+    Stroke {
+        first: '[',
+        fill,
+        last,
+    }
+}
+
+fn side_stroke(span: &Span) -> Stroke {
+    let last = match span.end {
+        Some((End::Bound(_, _), _)) => '#',
+        Some((End::Lost, _)) => 'o',
+        Some((End::Resumed, _)) => ';',
+        Some(_) => 'x',
+        None => '.',
+    };
+    Stroke {
+        first: ':',
+        fill: ' ',
+        last,
+    }
+}
+
+/// How many calls aren't drawn, in words.
+pub(crate) fn say_small(page: &mut Page, small: u64) {
+    page.number(small);
+    page.say(if small > 1 {
+        " built-in calls of no time"
+    } else {
+        " built-in call of no time"
+    });
+}
+
+/// How a call ends, in words.
+pub(crate) fn say_fate(page: &mut Page, span: &Span, called: Called) {
+    match (span.end, called.due) {
+        (Some((End::Answered(value), _)), _) => page.value(value),
+        (Some((End::Halted, _)), _) => page.say("halt"),
+        (Some(_), due) => {
+            page.say("cancelled, ");
+            say_due(page, due)
+        }
+        (None, Some(time)) => {
+            page.say("due at ");
+            page.number(time)
+        }
+        (None, None) => page.say("never answers"),
+    }
+}
+
+/// When a call was due, in words.
+pub(crate) fn say_due(page: &mut Page, due: Option<u64>) {
+    match due {
+        Some(time) => {
+            page.say("due ");
+            page.number(time)
+        }
+        None => page.say("never due"),
+    }
+}
+
+/// How a pruning or an otherwise ends, in words.
+pub(crate) fn say_end(page: &mut Page, span: &Span) {
+    match span.end {
+        Some((End::Bound(value, _), _)) => {
+            page.say("= ");
+            page.value(value)
+        }
+        Some((End::Lost, _)) => page.say("lost"),
+        Some((End::Resumed, _)) => page.say("right side"),
+        Some(_) => page.say("dropped"),
+        None => page.say("no value yet"),
+    }
+}
