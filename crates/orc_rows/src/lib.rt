@@ -12,6 +12,8 @@ mod harness;
 #[cfg(test)]
 mod journals;
 #[cfg(test)]
+mod parts;
+#[cfg(test)]
 mod programs;
 #[cfg(test)]
 mod replays;
