@@ -2,6 +2,7 @@ pub mod Begun
 pub mod Calls
 pub mod Doing
 pub mod Homes
+pub mod Inside
 pub mod Kept
 pub mod Next
 pub mod Records

@@ -5,6 +5,7 @@ mod ledger;
 mod marks;
 mod publications;
 mod records;
+mod sides;
 mod taking;
 mod tokens;
 mod what;

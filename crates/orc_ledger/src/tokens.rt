@@ -1,6 +1,6 @@
 //! The tokens, each in a slot.
 
-ghost use Rattle.std.specs.Prelude.{◌≡◌, [], ◌∷◌, ◌+◌, ◌≤◌, ℕ, Some, None, length, IfSome, IfNone, IfOk, OnOk, IfErr, slice_get, slice_set, vec_len, vec_capacity};
+ghost use Rattle.std.specs.Prelude.{◌≡◌, [], ◌∷◌, ◌+◌, ◌≤◌, ◌<◌, ℕ, Some, None, length, IfSome, IfNone, IfOk, OnOk, IfErr, slice_get, slice_set, vec_len, vec_capacity};
 ghost use Rattle.orc_ledger.specs.Same.{weight};
 ghost use Rattle.orc_ledger.specs.Tokens.{live, IsHeld};
 ghost use Rattle.orc_ledger.specs.declared.records.Token.{Token as Its};
@@ -83,6 +83,21 @@ impl Tokens {
         ensures { result ≡ length (live self.now.items) }
     {
         self.count
+    }
+
+    /// How many slots there are.
+    pub(crate) fn slot_count(&self) -> usize
+        ensures { result ≡ length self.now.items }
+    {
+        self.slots.len()
+    }
+
+    /// What stands in this slot.
+    pub(crate) fn at(&self, slot: usize) -> Token
+        requires { slot < length self.now.items }
+        ensures { slice_get self.now.items slot ≡ Some result }
+    {
+        self.slots[slot]
     }
 
     /// The token with this serial, which isn't 0, if it is in this slot.

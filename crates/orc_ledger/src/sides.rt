@@ -1,0 +1,218 @@
+//! Sides that end: the right side of a cell that is bound or lost, and the left side of an otherwise.
+
+ghost use Rattle.std.specs.Prelude.{◌≡◌, ◌++◌, ◌∷◌, [], ◌<◌, ℕ, true, length, map, slice_index_or, OnOk, OnErr, IfErr, slice_set};
+ghost use Rattle.orc_rules.specs.Nodes.{code};
+ghost use Rattle.orc_rules.specs.Term.{param};
+ghost use Rattle.orc_rules.specs.declared.param.Param.TheVariants.{Is};
+ghost use Rattle.orc_rules.specs.declared.entry.Entry.TheVariants.{Bind, Cancel, Lost};
+ghost use Rattle.orc_rules.specs.Timed.{IsIn};
+ghost use Rattle.orc_ledger.specs.Next.{members, numbers_of};
+ghost use Rattle.orc_ledger.specs.declared.records.Side.TheVariants.{Right};
+ghost use Rattle.orc_ledger.specs.Same.{weight, but};
+ghost use Rattle.orc_ledger.specs.Tokens.{live, IsHeld};
+ghost use Rattle.orc_ledger.specs.declared.records.Token.{Token as Its};
+ghost use Rattle.orc_ledger.specs.Spelling.{Path, aiding};
+ghost use Rattle.orc_ledger.specs.Taking.{taker};
+ghost use Rattle.orc_ledger.specs.Records.{its_env, its_path, standing, is_over};
+ghost use Rattle.orc_ledger.specs.Calls.{Drops, Closes, AreCancelled, IsRefused};
+ghost use Rattle.orc_ledger.specs.Homes.{aids};
+ghost use Rattle.orc_ledger.specs.Inside.{step_at, held_inside, stands_inside, side_inside, calls_outside, groups_outside, numbers_inside};
+
+use crate::ledger::{Ledger, LedgerFault, Program, push_within, reserve, write};
+use crate::records::{Call, Entered, Group, Side, Step, Token};
+use crate::tokens::Tokens;
+use orc_journal::Journal;
+use orc_names::Bound;
+use orc_rules::entry::Entry;
+use orc_rules::value::Value;
+
+// The step with this number; there is no step 0.
+fn step_at(steps: &Vec<Step>, step: usize) -> Option<Step>
+    ensures { result ≡ step_at steps.now.items step }
+{
+    if step == 0 {
+        return None;
+    }
+    steps.get(step - 1).copied()
+}
+
+fn is_aid(entered: Entered, cell: u64) -> bool
+    ensures { result ≡ aids cell entered }
+{
+    match entered {
+        Entered::Aid(other) => cell == other,
+        _ => false,
+    }
+}
+
+// Whether a step is inside the right side of a cell.
+fn is_inside(steps: &Vec<Step>, from: usize, cell: u64) -> bool
+    ensures { result ≡ stands_inside cell steps.now.items from }
+{
+    let mut at = from;
+    let mut left = from;
+    while left > 0 {
+        let step = match step_at(steps, at) {
+            Some(step) => step,
+            None => return false,
+        };
+        if is_aid(step.entered, cell) {
+            return true;
+        }
+        at = step.outer;
+        left -= 1;
+    }
+    false
+}
+
+// Whether a side is, that side's own included.
+fn is_side_inside(steps: &Vec<Step>, outer: usize, side: Side, cell: u64) -> bool
+    ensures { result ≡ side_inside cell steps.now.items outer side }
+{
+    match side {
+        Side::Right(other) => cell == other || is_inside(steps, outer, cell),
+        Side::Left(_, _, _) => is_inside(steps, outer, cell),
+    }
+}
+
+// The numbers of the calls that pend inside.
+fn list_inside(
+    calls: &Vec<Call>,
+    steps: &Vec<Step>,
+    cell: u64,
+    numbers: &mut Vec<u64>,
+) -> Result<(), LedgerFault>
+    ensures listed { OnOk result (numbers.new.items ≡ numbers_inside cell steps.now.items calls.now.items) }
+    ensures why { IfErr result (λ fault. fault ≡ LedgerFault.Memory) }
+{
+    numbers.clear();
+    for call in calls {
+        if is_inside(steps, call.step, cell) {
+            reserve(numbers)?;
+            push_within(numbers, call.number);
+        }
+    }
+    Ok(())
+}
+
+// Whether a slot holds a token that stands inside.
+fn is_held_inside(token: Token, steps: &Vec<Step>, cell: u64) -> bool
+    ensures { result ≡ held_inside cell steps.now.items token }
+{
+    token.serial > 0 && is_inside(steps, token.step, cell)
+}
+
+// The tokens inside go.
+fn drop_tokens(tokens: &mut Tokens, steps: &Vec<Step>, cell: u64)
+    ensures { (w : Its → ℕ) → weight w (live tokens.new.items) ≡ weight (but (λ (t : Its). stands_inside cell steps.now.items t.step) w) (live tokens.old.items) }
+{
+    let count = tokens.slot_count();
+    let mut slot = 0;
+    while slot < count {
+        let token = tokens.at(slot);
+        if is_held_inside(token, steps, cell) {
+            tokens.remove(slot);
+        }
+        slot += 1;
+    }
+}
+
+fn drop_calls(calls: &mut Vec<Call>, steps: &Vec<Step>, cell: u64)
+    ensures { calls.new.items ≡ calls_outside cell steps.now.items calls.old.items }
+{
+    calls.retain(|call| !is_inside(steps, call.step, cell));
+}
+
+fn drop_groups(groups: &mut Vec<Group>, steps: &Vec<Step>, cell: u64)
+    ensures { groups.new.items ≡ groups_outside cell steps.now.items groups.old.items }
+{
+    groups.retain(|group| !is_side_inside(steps, group.outer, group.side, cell));
+}
+
+// A cell becomes something.
+fn settle(cells: &mut Vec<Bound>, cell: u64, bound: Bound)
+    ensures { cells.new.items ≡ slice_set cells.old.items cell bound }
+{
+    if let Some(place) = cells.get_mut(cell as usize) {
+        *place = bound;
+    }
+}
+
+// Writes a bind and the cancels of these calls. Where memory is refused nothing changes.
+fn write_bind(
+    journal: &mut Journal,
+    token: u64,
+    cell: u64,
+    value: Value,
+    cancelled: &Vec<u64>,
+) -> Result<(), LedgerFault>
+    ensures added { OnOk result (journal.new ≡ record { version = journal.old.version; entries = journal.old.entries ++ Bind token cell value ∷ map Cancel cancelled.now.items }) }
+    ensures refused { OnErr result (journal.new ≡ journal.old) }
+    ensures why { IfErr result (λ fault. fault ≡ LedgerFault.Memory) }
+{
+    match journal.push_bind(token, cell, value, cancelled) {
+        Ok(()) => Ok(()),
+        Err(_) => Err(LedgerFault::Memory),
+    }
+}
+
+impl<P: Program> Ledger<P> {
+    /// The right side of a cell takes what the token publishes: all that stands inside it goes, and the calls that pended there are cancelled.
+    /// Their numbers are handed out, in rising order.
+    pub fn bind(
+        &mut self,
+        slot: usize,
+        token: Token,
+        value: Value,
+        cell: u64,
+        cancelled: &mut Vec<u64>,
+    ) -> Result<(), LedgerFault>
+        requires held { IsHeld self.old.slots slot token }
+        requires form { standing (code P.listing) (its_env (code P.listing) self.old) token.standing ≡ param (Is value) }
+        requires takes { (p : Path) × (taker (its_path (code P.listing) self.old token.step) ≡ aiding cell p) }
+        ensures done { OnOk result (Drops (code P.listing) cell (Bound.Is value) self.old self.new) }
+        ensures journal { OnOk result (self.new.journal ≡ self.old.journal ++ Bind token.serial cell value ∷ map Cancel cancelled.new.items) }
+        ensures cancelled { OnOk result (AreCancelled (code P.listing) cell self.old cancelled.new.items) }
+        ensures refused { OnErr result (self.new ≡ self.old) }
+        ensures why { IfErr result (λ fault. IsRefused self.old 0 0 0 fault) }
+    {
+        self.within(0, 0, 0)?;
+        list_inside(&self.calls, &self.steps, cell, cancelled)?;
+        cancelled.sort_unstable();
+        write_bind(&mut self.journal, token.serial, cell, value, cancelled)?;
+        self.entries += 1;
+        drop_tokens(&mut self.tokens, &self.steps, cell);
+        drop_calls(&mut self.calls, &self.steps, cell);
+        drop_groups(&mut self.groups, &self.steps, cell);
+        settle(&mut self.cells, cell, Bound::Is(value));
+        Ok(())
+    }
+    /// The right side of a cell has halted without a publication: nothing is left in it. The cell has no value then.
+    pub fn lost(&mut self, group: Group, cell: u64) -> Result<(), LedgerFault>
+        requires there { IsIn group self.old.groups }
+        requires side { group.side ≡ Right cell }
+        requires empty { members (numbers_of self.old) self.old group.number ≡ 0 }
+        ensures done { OnOk result (Drops (code P.listing) cell Bound.Void self.old self.new) }
+        ensures journal { OnOk result (self.new.journal ≡ self.old.journal ++ Lost cell ∷ []) }
+        ensures refused { OnErr result (self.new ≡ self.old) }
+        ensures why { IfErr result (λ fault. IsRefused self.old 0 0 0 fault) }
+    {
+        self.within(0, 0, 0)?;
+        write(&mut self.journal, &Entry::Lost(cell))?;
+        self.entries += 1;
+        drop_groups(&mut self.groups, &self.steps, cell);
+        settle(&mut self.cells, cell, Bound::Void);
+        Ok(())
+    }
+
+    /// The group of a left side that a publication has left has no member any more: it goes, and no entry says so.
+    pub fn close(&mut self, index: usize, group: Group)
+        requires there { index < length self.old.groups }
+        requires is { group ≡ slice_index_or self.old.groups index group }
+        requires over { is_over (code P.listing) self.old group.side ≡ true }
+        requires empty { members (numbers_of self.old) self.old group.number ≡ 0 }
+        ensures { Closes self.old self.new group }
+    {
+        self.groups.swap_remove(index);
+    }
+}
