@@ -1,16 +1,13 @@
-pub mod Answers
 pub mod Begun
 pub mod Calls
 pub mod Doing
-pub mod Dues
 pub mod Homes
 pub mod Inside
 pub mod Kept
 pub mod Next
-pub mod PendingCalls
 pub mod Records
 pub mod Same
 pub mod Spelling
 pub mod Taking
-pub mod Tokens
 pub mod Told
+pub mod Tokens
