@@ -12,7 +12,8 @@ use orc_rules::program::Program;
 use std::alloc::Global;
 
 /// Applies one entry and gives its label, none for a move of marks or a tick. The error is the first reason why the entry is refused,
-/// or Memory where there is none; then nothing has changed.
+/// or Memory where there is none; then nothing has changed. How deep the term nests afterwards is not asked: `check_journal` alone has
+/// that limit.
 pub fn apply(
     alloc: Global,
     marked: &mut Marked,

@@ -1,6 +1,6 @@
 // The first reason why an entry is refused.
 
-ghost use Rattle.std.specs.Prelude.{◌≡◌, ◌&&◌, nat_eq, suc, IfSome, IfNone};
+ghost use Rattle.std.specs.Prelude.{◌≡◌, ◌≢◌, ◌&&◌, nat_eq, suc, IfSome, IfNone};
 ghost use Rattle.std.specs.Bool.{Decides};
 ghost use Rattle.orc_rules.specs.Refusal.{HasToken, HasCall, HasCell, HasOther};
 ghost use Rattle.orc_rules.specs.declared.entry.RuleFault.TheVariants as reason;
@@ -305,7 +305,7 @@ fn is_over(marked: &Marked, program: &Program, answers: &Answers, entry: &Entry)
     }
 }
 
-/// The first reason why the entry is refused, but for depth and memory; None where there is none.
+/// The first reason why the entry is refused, never Deep or Memory; None where all conditions of the entry are met.
 /// It looks at all nodes of the term.
 pub fn first_reason(
     marked: &mut Marked,
@@ -315,6 +315,7 @@ pub fn first_reason(
 ) -> Option<RuleFault>
     ensures refused { IfSome result (λ r. RefusedFor program.now answers.now entry.now marked.old r) }
     ensures met { IfNone result (MeetsAll program.now answers.now entry.now marked.old) }
+    ensures kind { IfSome result (λ r. (r ≢ reason.Deep) × (r ≢ reason.Memory)) }
     ensures same { marked.new ≡ marked.old }
 {
     if !is_in_turn(marked, program, answers, entry) {
