@@ -40,11 +40,11 @@ use Rattle.orc_journal.proofs.Stripping.{strip, whole_same}
 use Rattle.orc_checker.specs.Checker.{context as context_of}
 use Rattle.orc_verdict.specs.Verdicts.{records_cancels}
 use Rattle.orc_run.specs.Running.{IsProgramOf, IsTold, written}
-use Rattle.orc_run.specs.Runs.{context, EndsAt, IsRun, Outcome}
+use Rattle.orc_outcome.specs.Outcome.{context, EndsAt, IsRun, Outcome}
 use Rattle.orc_run.specs.Checked.{verdict_line, StandsSo, IsBeyond, IsOfRun}
-use Rattle.orc_run.specs.declared.ending.End.{End}
-use Rattle.orc_run.specs.declared.ending.End.TheVariants as ends
-use Rattle.orc_run.specs.declared.ending.Summary.{Summary}
+use Rattle.orc_outcome.specs.declared.end.End.{End}
+use Rattle.orc_outcome.specs.declared.end.End.TheVariants as ends
+use Rattle.orc_outcome.specs.declared.end.Summary.{Summary}
 use Rattle.orc_run.specs.declared.running.Options.{Options}
 use Rattle.orc_run.specs.declared.faults.RunFault.TheVariants as fault
 

@@ -1,5 +1,5 @@
 pub mod Accepting
-pub mod Journals
 pub mod LoadFaults
 pub mod Outputs
 pub mod Statuses
+pub mod Told

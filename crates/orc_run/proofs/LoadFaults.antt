@@ -4,7 +4,7 @@ use Rattle.std.specs.declared.option.Option.{Option}
 use Rattle.std.specs.Io.KnownBytes.{Keeps}
 use Rattle.orc_run.specs.Running.{IsFaultOf, IsLoadFault, IsOther, LeavesAtFault, Loads}
 use Rattle.orc_run.specs.Checked.{IsBeyond, IsCheckFault, IsOfRun, LeavesUnjudged}
-use Rattle.orc_run.specs.declared.ending.Summary.{Summary}
+use Rattle.orc_outcome.specs.declared.end.Summary.{Summary}
 use Rattle.orc_run.specs.declared.faults.RunFault.{RunFault}
 use Rattle.orc_run.specs.declared.faults.RunFault.TheVariants as fault
 use Rattle.orc_run.specs.declared.running.Options.{Options}

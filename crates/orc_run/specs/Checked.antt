@@ -20,9 +20,9 @@ use Rattle.orc_verdict.specs.Verdicts.{records_cancels, IsCutShort}
 use Rattle.orc_run.specs.Faults.{state_word}
 use Rattle.orc_run.specs.Output.{AppendsPrefix}
 use Rattle.orc_run.specs.Running.{IsProgramOf, IsFaultOf, Runs}
-use Rattle.orc_run.specs.declared.ending.End.{End}
-use Rattle.orc_run.specs.declared.ending.End.TheVariants as ends
-use Rattle.orc_run.specs.declared.ending.Summary.{Summary}
+use Rattle.orc_outcome.specs.declared.end.End.{End}
+use Rattle.orc_outcome.specs.declared.end.End.TheVariants as ends
+use Rattle.orc_outcome.specs.declared.end.Summary.{Summary}
 use Rattle.orc_run.specs.declared.running.Options.{Options}
 use Rattle.orc_run.specs.declared.faults.RunFault.{RunFault}
 use Rattle.orc_run.specs.declared.faults.RunFault.TheVariants as fault

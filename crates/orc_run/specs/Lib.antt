@@ -1,9 +1,7 @@
 pub mod Checked
 pub mod Commands
 pub mod Faults
-pub mod Lines
 pub mod Output
 pub mod Printed
 pub mod Running
-pub mod Runs
 pub mod Status

@@ -1,5 +1,5 @@
 -- What the run of a source does.
-use Rattle.std.specs.Prelude.{◌≡◌, ℕ, List, length, Bool, true, false, Ok, Err}
+use Rattle.std.specs.Prelude.{◌≡◌, ℕ, List, Bool, true, false, Ok, Err}
 use Rattle.std.specs.declared.option.Option.{Option}
 use Rattle.std.specs.Io.KnownBytes.{Keeps, Appends}
 use Rattle.orc_rules.specs.Sites.{Table}
@@ -7,16 +7,17 @@ use Rattle.orc_rules.specs.Nodes.{Listing}
 use Rattle.orc_rules.specs.Text.{output}
 use Rattle.orc_rules.specs.Trace.{published}
 use Rattle.orc_rules.specs.declared.entry.Entry.{Entry}
+use Rattle.orc_rules.specs.declared.value.Value.{Value}
 use Rattle.orc_journal.specs.declared.journal.Version.TheVariants.{Two}
 use Rattle.orc_journal.specs.Texts.{AreOf}
 use Rattle.orc_syntax.specs.Tree.{Source}
 use Rattle.orc_syntax.specs.Text.{SpellsText, IsFault, IfFault}
 use Rattle.orc_scope.specs.Checking.{Checks}
 use Rattle.orc_site.specs.Script.{Says, IsFault as IsBad}
+use Rattle.orc_outcome.specs.Outcome.{Outcome, IsRun, Tells, text_of}
+use Rattle.orc_outcome.specs.declared.end.Summary.{Summary}
 use Rattle.orc_run.specs.Output.{AppendsPrefix}
-use Rattle.orc_run.specs.Runs.{Story, Outcome, IsRun, text_of}
 use Rattle.orc_run.specs.declared.running.Options.{Options}
-use Rattle.orc_run.specs.declared.ending.Summary.{Summary}
 use Rattle.orc_run.specs.declared.faults.RunFault.{RunFault}
 use Rattle.orc_run.specs.declared.faults.RunFault.TheVariants as fault
 
@@ -29,17 +30,10 @@ abbrev pub written : Bool → List (List ℕ) → List Entry → List ℕ
 written true names es = text_of names es
 written false names es = output (published es)
 
--- the same of what is kept of a journal
-abbrev pub kept : Bool → Story → List ℕ
-kept true story = story.lines.text
-kept false story = output story.published
-
--- the summary tells of the outcome
-pub record Tells (s : Summary) (o : Outcome) : Type 0 where
-  pub end : s.end ≡ o.end
-  pub entries : s.entries ≡ length o.journal
-  pub now : s.now ≡ o.now
-  pub published : s.published ≡ length (published o.journal)
+-- the same of what an engine answers, the values and the text of the journal
+abbrev pub kept : Bool → List Value → List ℕ → List ℕ
+kept true values text = text
+kept false values text = output values
 
 -- a run of the program with these sites, of which the summary tells and the text shows what is wanted; each entry of a journal that is written has a line
 pub record IsTold (l : Listing) (t : Table) (options : Options) (s : Summary) (text : List ℕ) : Type 0 where

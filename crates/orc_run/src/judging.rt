@@ -2,7 +2,7 @@
 
 ghost use Rattle.std.specs.Prelude.{◌≡◌, length, IfOk, IfErr, OnOk};
 ghost use Rattle.orc_run.specs.Checked.{verdict_line, Accepts, Judges, LeavesUnjudged, IsBeyond, IsCheckFault, IsOfRun};
-ghost use Rattle.orc_run.specs.declared.ending.Summary.{Summary as RunSummary};
+ghost use Rattle.orc_outcome.specs.declared.end.Summary.{Summary as RunSummary};
 
 use crate::faults::{RunFault, StateWord};
 use crate::loading::load;

@@ -1,0 +1,63 @@
+-- What a run of a program is.
+use Rattle.std.specs.Prelude.{◌≡◌, ◌≤◌, ℕ, List, [], length, Bool, true}
+use Rattle.orc_rules.specs.declared.value.Value.{Value}
+use Rattle.orc_rules.specs.declared.entry.Entry.{Entry}
+use Rattle.orc_rules.specs.Term.{Halted}
+use Rattle.orc_rules.specs.Sites.{Table}
+use Rattle.orc_rules.specs.Nodes.{Listing, definitions, source}
+use Rattle.orc_rules.specs.Timed.{Context, IsQuiet}
+use Rattle.orc_rules.specs.Marked.{erase}
+use Rattle.orc_rules.specs.Journal.{Place, Journal, begin, moment}
+use Rattle.orc_rules.specs.Trace.{published}
+use Rattle.orc_journal.specs.declared.journal.Version.TheVariants.{Two}
+use Rattle.orc_journal.specs.Texts.{AreOf, count, journal_text}
+use Rattle.orc_outcome.specs.declared.end.End.{End}
+use Rattle.orc_outcome.specs.declared.end.End.TheVariants as ends
+use Rattle.orc_outcome.specs.declared.end.Summary.{Summary}
+
+-- what a run goes by: the program's definitions and the sites, with cancels recorded
+abbrev pub context : Listing → Table → Context
+context l t = record { definitions = definitions l; sites = t.sites; cancels = true }
+
+-- the text of the journal with these entries, in the second version
+abbrev pub text_of : List (List ℕ) → List Entry → List ℕ
+text_of names es = journal_text names (record { version = Two; entries = es })
+
+-- a run with this limit of entries, cancels not counted, ends so: Halted where its term has halted, Quiet by the definition of quiet, Limit with as many entries as the limit where it isn't quiet, Full never
+abbrev pub EndsAt : Context → ℕ → List Entry → Place → End → Type 0
+EndsAt x limit es p ends.Halted = Halted (erase p.marked)
+EndsAt x limit es p ends.Quiet = IsQuiet x (moment p)
+EndsAt x limit es p ends.Limit = (count es ≡ limit) × (IsQuiet x (moment p) → ⊥)
+EndsAt x limit es p ends.Full = ⊥
+EndsAt x limit es p ends.Memory = Unit {0}
+
+-- what a whole run was: its journal, how it ended, and the time at its end
+pub record Outcome : Type 0 where
+  pub journal : List Entry
+  pub end : End
+  pub now : ℕ
+
+-- a run of the program with these sites: the journal has at most `limit` entries, cancels not counted, and leads by the rules from the program's term to a place where it ends so and no cancel is due
+pub record IsRun (l : Listing) (t : Table) (limit : ℕ) (outcome : Outcome) : Type 0 where
+  pub place : Place
+  pub leads : Journal (context l t) (begin (source l)) outcome.journal place
+  pub ends : EndsAt (context l t) limit outcome.journal place outcome.end
+  pub paid : place.to_cancel ≡ []
+  pub now : outcome.now ≡ place.now
+  pub within : count outcome.journal ≤ limit
+
+-- the summary tells of the outcome
+pub record Tells (s : Summary) (o : Outcome) : Type 0 where
+  pub end : s.end ≡ o.end
+  pub entries : s.entries ≡ length o.journal
+  pub now : s.now ≡ o.now
+  pub published : s.published ≡ length (published o.journal)
+
+-- what an engine owes: a run of the program with these sites, of which the summary tells, with what it published; and where the journal is kept its text, in which each entry has a line
+pub record IsPlayed (l : Listing) (t : Table) (keeps : Bool) (limit : ℕ) (s : Summary) (values : List Value) (text : List ℕ) : Type 0 where
+  pub outcome : Outcome
+  pub is_run : IsRun l t limit outcome
+  pub tells : Tells s outcome
+  pub shows : values ≡ published outcome.journal
+  pub writes : keeps ≡ true → text ≡ text_of t.names outcome.journal
+  pub fits : keeps ≡ true → AreOf t.names Two outcome.journal

@@ -1,0 +1,45 @@
+//! How runs end.
+
+ghost use Rattle.std.specs.Prelude.{◌≡◌};
+ghost use Rattle.orc_outcome.specs.Status.{end_status_of};
+
+/// How a run ended.
+#[derive(Clone, Copy, Debug, PartialEq, Eq)]
+pub enum End {
+    /// The term has halted: nothing can ever happen any more.
+    Halted,
+    /// Nothing can happen any more, though the term has not halted.
+    Quiet,
+    /// The journal has as many entries as the limit allows, and the run is not quiet.
+    Limit,
+    /// A number that the engine keeps of a run has reached its greatest value. The plain engine has no such number.
+    Full,
+    /// Memory was refused.
+    Memory,
+}
+
+/// What is told of a run.
+#[derive(Clone, Copy, Debug, PartialEq, Eq)]
+pub struct Summary {
+    pub end: End,
+    /// How many entries its journal has, cancels counted.
+    pub entries: u64,
+    /// The time at its end, in units of logical time.
+    pub now: u64,
+    /// How many values it published.
+    pub published: u64,
+}
+
+impl End {
+    /// The process's status of a run that ended so.
+    pub fn status(self) -> u8
+        ensures { result ≡ end_status_of self }
+    {
+        match self {
+            End::Halted => 0,
+            End::Quiet => 3,
+            End::Limit | End::Full => 4,
+            End::Memory => 5,
+        }
+    }
+}

@@ -1,0 +1,213 @@
+//! What can come next in a run: the tokens that can move, in the order of their turns, and the calls by their due times.
+
+use orc_checker::{Marked, Next, Side};
+use orc_rules::entry::Entry;
+use orc_rules::limits::MOST_ARGUMENTS;
+use orc_rules::program::Program;
+use orc_rules::value::Answer;
+use std::alloc::{AllocError, Global};
+use std::cmp::Reverse;
+use std::collections::{BTreeMap, BinaryHeap, VecDeque};
+
+/// A token whose turn comes; `listed` where it stands in the lists of all cells for which it still waits.
+#[derive(Clone, Copy)]
+struct Turn {
+    token: u64,
+    listed: bool,
+}
+
+/// Tokens take their turns one after another, so none is starved. A token that waits stands in the list of each of its cells: a call
+/// moves once one of its arguments is void, whichever that is.
+#[derive(Drop)]
+pub struct Agenda {
+    tokens: VecDeque<Turn>,
+    waiting: BTreeMap<u64, Vec<u64>>,
+    /// The sides that have halted and were not ended yet. Some of them may be gone.
+    halted: VecDeque<Side>,
+    /// The due time and the number of each call that has one, the least first.
+    due: BinaryHeap<Reverse<(u64, u64)>>,
+}
+
+/// What comes next in a run.
+#[derive(Drop)]
+pub enum Choice {
+    Entry(Entry),
+    /// No token can move, and no call will ever be due.
+    Nothing,
+}
+
+impl Agenda {
+    /// The agenda of a run's beginning: token 1.
+    pub fn new(alloc: Global) -> Result<Agenda, AllocError> {
+        let mut tokens = VecDeque::new(alloc);
+        tokens.push_back(Turn {
+            token: 1,
+            listed: false,
+        })?;
+        Ok(Agenda {
+            tokens,
+            waiting: BTreeMap::new(alloc),
+            halted: VecDeque::new(alloc),
+            due: BinaryHeap::new(alloc),
+        })
+    }
+
+    /// An entry that can come next, while no cancel is due: a move of a token, else the end of a side that has halted, else a return that is
+    /// due now, else a tick.
+    pub fn choose(&mut self, program: &Program, marked: &Marked) -> Result<Choice, AllocError> {
+        for _ in 0..self.tokens.len() {
+            let Some(turn) = self.tokens.pop_front() else {
+                break;
+            };
+            match marked.next(program, turn.token) {
+                None => {}
+                Some(Next::Wait) => {
+                    if !turn.listed {
+                        self.wait(program, marked, turn.token)?;
+                    }
+                }
+                Some(next) => return Ok(Choice::Entry(token_entry(marked, turn.token, next))),
+            }
+        }
+        match self.choose_side(marked) {
+            Some(entry) => Ok(Choice::Entry(entry)),
+            None => Ok(self.choose_call(marked)),
+        }
+    }
+
+    // The end of a pruning or of an otherwise whose side has halted. Those that stand no more are forgotten.
+    fn choose_side(&mut self, marked: &Marked) -> Option<Entry> {
+        for _ in 0..self.halted.len() {
+            let side = self.halted.pop_front()?;
+            if has_halted(marked, side) {
+                return Some(side_entry(marked, side));
+            }
+        }
+        None
+    }
+
+    // Puts a token that waits into the lists of its cells.
+    fn wait(&mut self, program: &Program, marked: &Marked, token: u64) -> Result<(), AllocError> {
+        let alloc = *self.tokens.allocator();
+        for position in 0..MOST_ARGUMENTS {
+            if let Some(cell) = marked.awaited(program, token, position) {
+                let tokens = self.waiting.entry(cell)?.or_insert(Vec::new(alloc));
+                tokens.push(token)?;
+            }
+        }
+        Ok(())
+    }
+
+    // A new token takes its turn after the others.
+    fn join(&mut self, token: u64) -> Result<(), AllocError> {
+        self.tokens.push_back(Turn {
+            token,
+            listed: false,
+        })?;
+        Ok(())
+    }
+
+    // The return of a call that is due now, else a tick to the least due time.
+    fn choose_call(&mut self, marked: &Marked) -> Choice {
+        for _ in 0..self.due.len() {
+            let Some(&Reverse((at, call))) = self.due.peek() else {
+                break;
+            };
+            let answer = marked.due(call);
+            if answer.is_some() && marked.now() < at {
+                return Choice::Entry(Entry::Tick(at));
+            }
+            self.due.pop();
+            if let Some((answer, _)) = answer {
+                return Choice::Entry(return_entry(marked, call, answer));
+            }
+        }
+        Choice::Nothing
+    }
+
+    /// Takes note of what an entry has made: sides that have halted, new tokens, a call, or tokens that wait no more.
+    pub fn note(&mut self, entry: &Entry, marked: &Marked) -> Result<(), AllocError> {
+        marked.add_halted(entry, &mut self.halted)?;
+        match entry {
+            Entry::Open(_, _, a, b) | Entry::Fork(_, a, b) => {
+                self.join(*a)?;
+                self.join(*b)?;
+            }
+            Entry::Other(_, a)
+            | Entry::Seq(_, a)
+            | Entry::Def(_, a)
+            | Entry::Send(_, a, _)
+            | Entry::Return(_, a, _)
+            | Entry::Right(_, a) => self.join(*a)?,
+            Entry::Call(_, call, _, _) => {
+                if let Some((_, at)) = marked.due(*call) {
+                    self.due.push(Reverse((at, *call)))?;
+                }
+            }
+            Entry::Bind(_, cell, _) | Entry::Lost(cell) => self.wake(*cell)?,
+            Entry::End(_)
+            | Entry::Void(_)
+            | Entry::ReturnHalt(_)
+            | Entry::Publish(_, _)
+            | Entry::Tick(_)
+            | Entry::Cancel(_) => {}
+        }
+        Ok(())
+    }
+
+    // The tokens that waited for a cell can move.
+    fn wake(&mut self, cell: u64) -> Result<(), AllocError> {
+        if let Some(tokens) = self.waiting.remove(&cell) {
+            for token in tokens {
+                self.tokens.push_back(Turn {
+                    token,
+                    listed: true,
+                })?;
+            }
+        }
+        Ok(())
+    }
+}
+
+// Whether a side stands and has halted.
+fn has_halted(marked: &Marked, side: Side) -> bool {
+    let halted = match side {
+        Side::Right(cell) => marked.right_has_halted(cell),
+        Side::Left(otherwise) => marked.left_has_halted(otherwise),
+    };
+    halted == Some(true)
+}
+
+// The entry that a halted side makes possible.
+fn side_entry(marked: &Marked, side: Side) -> Entry {
+    match side {
+        Side::Right(cell) => Entry::Lost(cell),
+        Side::Left(otherwise) => Entry::Right(otherwise, marked.new_mark()),
+    }
+}
+
+// The entry of a token's next move, with the next numbers.
+fn token_entry(marked: &Marked, token: u64, next: Next) -> Entry {
+    let mark = marked.new_mark();
+    match next {
+        Next::End => Entry::End(token),
+        Next::Fork => Entry::Fork(token, mark, mark.saturating_add(1)),
+        Next::Seq => Entry::Seq(token, mark),
+        Next::Other => Entry::Other(token, mark),
+        Next::Def => Entry::Def(token, mark),
+        Next::Void | Next::Wait => Entry::Void(token),
+        Next::Open => Entry::Open(token, marked.new_cell(), mark, mark.saturating_add(1)),
+        Next::Send(value) => Entry::Send(token, mark, value),
+        Next::Call(site, args) => Entry::Call(token, marked.new_call(), site, args),
+        Next::Bind(cell, value) => Entry::Bind(token, cell, value),
+        Next::Publish(value) => Entry::Publish(token, value),
+    }
+}
+
+// The entry of a call's return.
+fn return_entry(marked: &Marked, call: u64, answer: Answer) -> Entry {
+    match answer {
+        Answer::Value(value) => Entry::Return(call, marked.new_mark(), value),
+        Answer::Halt => Entry::ReturnHalt(call),
+    }
+}
