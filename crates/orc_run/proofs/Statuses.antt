@@ -1,12 +1,33 @@
 -- What the status of a command line tells of standard output.
-use Rattle.std.proofs.Common.{◌≡◌, ◌≢◌, ℕ, List, Option, sym}
+use Rattle.std.proofs.Common.{◌≡◌, ◌≢◌, ◌<◌, ℕ, List, Option, sym, refl, subst, ◌∙◌, arith}
 use Rattle.std.specs.Io.KnownBytes.{Keeps}
 use Rattle.std.proofs.KnownBytes.{Keeps-refl}
-use Rattle.orc_run.specs.Commands.{failure_status, IsUnread, LeavesUndone}
-use Rattle.orc_run.specs.Running.{LeavesAtFault}
+use Rattle.orc_syntax.specs.declared.fault.SyntaxFault.{SyntaxFault}
+use Rattle.orc_syntax.specs.declared.fault.SyntaxFault.TheVariants as syntax_fault
+use Rattle.orc_scope.specs.declared.fault.FaultKind.{FaultKind}
+use Rattle.orc_scope.specs.declared.fault.FaultKind.TheVariants as kind
+use Rattle.orc_site.specs.declared.script.ScriptFault.{ScriptFault}
+use Rattle.orc_site.specs.declared.script.ScriptFault.TheVariants as script
+use Rattle.orc_rules.specs.declared.entry.RuleFault.{RuleFault}
+use Rattle.orc_rules.specs.declared.entry.RuleFault.TheVariants as reason
+use Rattle.orc_journal.specs.declared.text.JournalFault.{JournalFault}
+use Rattle.orc_journal.specs.declared.text.JournalFault.TheVariants as journal
+use Rattle.orc_outcome.specs.Outcome.{EndsAt, context}
+use Rattle.orc_outcome.specs.Status.{end_status_of}
+use Rattle.orc_outcome.specs.declared.end.End.{End}
+use Rattle.orc_outcome.specs.declared.end.End.TheVariants as ends
+use Rattle.orc_outcome.specs.declared.end.Summary.{Summary}
+use Rattle.orc_run.specs.Commands.{failure_status, HasEnded, IsDone, IsUnread, LeavesUndone}
+use Rattle.orc_run.specs.Faults.{journal_status, reason_status, scope_status, script_status, syntax_status}
+use Rattle.orc_run.specs.Running.{LeavesAtFault, Runs}
+use Rattle.orc_run.specs.Status.{read_status_of}
 use Rattle.orc_run.specs.Checked.{LeavesUnjudged}
 use Rattle.orc_run.specs.Printed.{LeavesUnprinted}
 use Rattle.orc_run.specs.declared.running.Options.{Options}
+use Rattle.orc_run.specs.declared.arguments.Job.{Job}
+use Rattle.orc_run.specs.declared.arguments.Job.TheVariants as job
+use Rattle.orc_run.specs.declared.inputs.ReadFault.{ReadFault}
+use Rattle.orc_run.specs.declared.inputs.ReadFault.TheVariants as read
 use Rattle.orc_run.specs.declared.commands.Failure.{Failure}
 use Rattle.orc_run.specs.declared.commands.Failure.TheVariants as failure
 use Rattle.orc_run.specs.declared.faults.RunFault.{RunFault}
@@ -63,3 +84,119 @@ kept (failure.Fault (fault.Check f)) old new status e d k = k
 kept (failure.Fault fault.Memory) old new status e d k = k
 kept (failure.Fault fault.Broken) old new status e d k = k
 kept (failure.Fault (fault.Write w)) old new status e d k = absurd (d (sym e))
+
+-- ---- how a run ended
+
+end_in : (e : End) → (end_status_of e < 8) × (end_status_of e ≢ 1) × (end_status_of e ≢ 2) × (end_status_of e ≢ 7)
+end_in ends.Halted = (omega arith, λ h. omega (arith, h), λ h. omega (arith, h), λ h. omega (arith, h))
+end_in ends.Quiet = (omega arith, λ h. omega (arith, h), λ h. omega (arith, h), λ h. omega (arith, h))
+end_in ends.Limit = (omega arith, λ h. omega (arith, h), λ h. omega (arith, h), λ h. omega (arith, h))
+end_in ends.Full = (omega arith, λ h. omega (arith, h), λ h. omega (arith, h), λ h. omega (arith, h))
+end_in ends.Memory = (omega arith, λ h. omega (arith, h), λ h. omega (arith, h), λ h. omega (arith, h))
+
+abbrev IsFaultless : ℕ → Type 0
+IsFaultless n = (n < 8) × (n ≢ 1) × (n ≢ 2) × (n ≢ 7)
+
+zero_faultless : IsFaultless 0
+zero_faultless = (omega arith, λ h. omega (arith, h), λ h. omega (arith, h), λ h. omega (arith, h))
+
+-- what was done has no status of a fault of a file's text, of a command line or of the engine
+pub faultless : (j : Job) (old new : Option (List ℕ)) (status : ℕ) → IsDone j old new status → (status < 8) × (status ≢ 1) × (status ≢ 2) × (status ≢ 7)
+faultless (job.Run file script options) old new status (source, read, s, ran, is) = subst IsFaultless (sym is) (end_in s.end)
+faultless (job.Check file journal script) old new status (source, read, text, judges, is) = subst IsFaultless (sym is) zero_faultless
+faultless (job.Print file) old new status (source, prints, is) = subst IsFaultless (sym is) zero_faultless
+
+quiet_only : (e : End) → end_status_of e ≡ 3 → e ≡ ends.Quiet
+quiet_only ends.Halted h = absurd (omega (arith, h))
+quiet_only ends.Quiet h = refl
+quiet_only ends.Limit h = absurd (omega (arith, h))
+quiet_only ends.Full h = absurd (omega (arith, h))
+quiet_only ends.Memory h = absurd (omega (arith, h))
+
+cut_only : (e : End) → e ≢ ends.Full → end_status_of e ≡ 4 → e ≡ ends.Limit
+cut_only ends.Halted off h = absurd (omega (arith, h))
+cut_only ends.Quiet off h = absurd (omega (arith, h))
+cut_only ends.Limit off h = refl
+cut_only ends.Full off h = absurd (off refl)
+cut_only ends.Memory off h = absurd (omega (arith, h))
+
+-- no run ends full
+never_full : (source script : List ℕ) (options : Options) (s : Summary) (text : List ℕ) → Runs source script options s text → s.end ≢ ends.Full
+never_full source script options s text (l, t, says, program, told) full =
+    subst (λ (e : End). EndsAt (context l t) options.limit told.outcome.journal told.is_run.place e) (sym told.tells.end ∙ full) told.is_run.ends
+
+pub ended_quiet : (j : Job) (old new : Option (List ℕ)) (status : ℕ) → IsDone j old new status → status ≡ 3 → HasEnded ends.Quiet old new
+ended_quiet (job.Run file script options) old new status (source, read, s, ran, is) three = (options, source, read, s, ran, quiet_only s.end (sym is ∙ three))
+ended_quiet (job.Check file journal script) old new status (source, read, text, judges, is) three = absurd (omega (arith, is, three))
+ended_quiet (job.Print file) old new status (source, prints, is) three = absurd (omega (arith, is, three))
+
+pub ended_cut : (j : Job) (old new : Option (List ℕ)) (status : ℕ) → IsDone j old new status → status ≡ 4 → HasEnded ends.Limit old new
+ended_cut (job.Run file script options) old new status (source, read, s, ran, is) four = (options, source, read, s, ran, cut_only s.end (never_full source read options s ran.0 ran.1) (sym is ∙ four))
+ended_cut (job.Check file journal script) old new status (source, read, text, judges, is) four = absurd (omega (arith, is, four))
+ended_cut (job.Print file) old new status (source, prints, is) four = absurd (omega (arith, is, four))
+
+-- no fault has the status of such an end
+module _ (n : ℕ) (not_one : n ≢ 1) (not_five : n ≢ 5) (not_six : n ≢ 6) (not_seven : n ≢ 7) where
+  not_syntax : (f : SyntaxFault) → syntax_status f ≢ n
+  not_syntax (syntax_fault.Encoding at) h = not_one (sym h)
+  not_syntax (syntax_fault.Character at) h = not_one (sym h)
+  not_syntax (syntax_fault.Number span) h = not_one (sym h)
+  not_syntax (syntax_fault.Expected at what) h = not_one (sym h)
+  not_syntax (syntax_fault.Deep at) h = not_one (sym h)
+  not_syntax syntax_fault.Long h = not_one (sym h)
+  not_syntax (syntax_fault.Comment at) h = not_one (sym h)
+  not_syntax syntax_fault.Memory h = not_five (sym h)
+
+  not_scope : (k : FaultKind) → scope_status k ≢ n
+  not_scope kind.Unbound h = not_one (sym h)
+  not_scope kind.NotValue h = not_one (sym h)
+  not_scope (kind.Arity want got) h = not_one (sym h)
+  not_scope kind.DefinedTwice h = not_one (sym h)
+  not_scope kind.ParameterTwice h = not_one (sym h)
+  not_scope kind.CallOfVariable h = not_one (sym h)
+  not_scope kind.NoSite h = not_one (sym h)
+  not_scope kind.TooMany h = not_one (sym h)
+  not_scope kind.Memory h = not_five (sym h)
+
+  not_script : (f : ScriptFault) → script_status f ≢ n
+  not_script (script.Line number) h = not_one (sym h)
+  not_script script.Memory h = not_five (sym h)
+  not_script script.Long h = not_one (sym h)
+
+  not_journal : (f : JournalFault) → journal_status f ≢ n
+  not_journal journal.Header h = not_one (sym h)
+  not_journal (journal.Line number) h = not_one (sym h)
+  not_journal journal.Long h = not_one (sym h)
+  not_journal journal.Memory h = not_five (sym h)
+
+  not_reason : (r : RuleFault) → reason_status r ≢ n
+  not_reason reason.Cancel h = not_one (sym h)
+  not_reason reason.Mark h = not_one (sym h)
+  not_reason reason.Form h = not_one (sym h)
+  not_reason reason.Number h = not_one (sym h)
+  not_reason reason.Answer h = not_one (sym h)
+  not_reason reason.Time h = not_one (sym h)
+  not_reason reason.Halted h = not_one (sym h)
+  not_reason reason.Deep h = not_one (sym h)
+  not_reason reason.Memory h = not_five (sym h)
+
+  not_read : (f : ReadFault) → read_status_of f ≢ n
+  not_read read.Memory h = not_five (sym h)
+  not_read read.Failed h = not_six (sym h)
+
+  not_failed : (f : Failure) → failure_status f ≢ n
+  not_failed (failure.Unread path f) h = not_read f h
+  not_failed (failure.Fault (fault.Syntax f)) h = not_syntax f h
+  not_failed (failure.Fault (fault.Scope f)) h = not_scope f.kind h
+  not_failed (failure.Fault (fault.Script f)) h = not_script f h
+  not_failed (failure.Fault (fault.Journal f)) h = not_journal f h
+  not_failed (failure.Fault (fault.Check f)) h = not_reason f.why h
+  not_failed (failure.Fault fault.Memory) h = not_five (sym h)
+  not_failed (failure.Fault fault.Broken) h = not_seven (sym h)
+  not_failed (failure.Fault (fault.Write w)) h = not_six (sym h)
+
+pub not_quiet : (f : Failure) → failure_status f ≢ 3
+not_quiet f = not_failed 3 (λ h. omega (arith, h)) (λ h. omega (arith, h)) (λ h. omega (arith, h)) (λ h. omega (arith, h)) f
+
+pub not_cut : (f : Failure) → failure_status f ≢ 4
+not_cut f = not_failed 4 (λ h. omega (arith, h)) (λ h. omega (arith, h)) (λ h. omega (arith, h)) (λ h. omega (arith, h)) f

@@ -1,7 +1,9 @@
 //! The command line: what it may say, and what it asks for.
 
 use crate::running::Options;
+use clap::error::ErrorKind;
 use clap::{Arg, ArgAction, ArgMatches, Command, Error, value_parser};
+use orc_rules::limits::MOST_ENTRIES;
 use std::alloc::{AllocError, Global};
 use std::convert::AsStr;
 
@@ -56,7 +58,7 @@ fn limit_argument<'a>(alloc: Global) -> Arg<'a> {
     Arg::new(alloc, "limit")
         .long("limit")
         .value_name("N")
-        .value_parser(value_parser!(u64).range(1..=10_000_000))
+        .value_parser(value_parser!(u64).range(1..=MOST_ENTRIES as i64))
         .default_value("100000")
         .help("The greatest number of journal entries, 1 to 10000000")
 }
@@ -110,16 +112,11 @@ fn orc_command<'a>(alloc: Global) -> Result<Command<'a>, AllocError> {
         .subcommand(print_command(alloc)?)
 }
 
+// What the words of a command ask for. None where the command has no arm here.
 fn job_of<'a>(name: &str, given: &ArgMatches<'a>) -> Option<Job<'a>> {
     let file = given.get_str("file")?;
     match name {
-        "check" => Some(Job::Check {
-            file,
-            journal: given.get_str("journal")?,
-            script: given.get_str("script"),
-        }),
-        "print" => Some(Job::Print { file }),
-        _ => Some(Job::Run {
+        "run" => Some(Job::Run {
             file,
             script: given.get_str("script"),
             options: Options {
@@ -127,15 +124,25 @@ fn job_of<'a>(name: &str, given: &ArgMatches<'a>) -> Option<Job<'a>> {
                 journal: given.get_flag("journal"),
             },
         }),
+        "check" => Some(Job::Check {
+            file,
+            journal: given.get_str("journal")?,
+            script: given.get_str("script"),
+        }),
+        "print" => Some(Job::Print { file }),
+        _ => None,
     }
 }
 
 /// Reads a command line, whose first word is the program's name. An error asks for help or for the version, or refuses
-/// it. `Ok(None)` does not come.
-pub fn read_words<'a, S: AsStr>(alloc: Global, words: &'a [S]) -> Result<Option<Job<'a>>, Error> {
-    let matches = orc_command(alloc)?.try_get_matches_from(words)?;
-    let Some((name, given)) = matches.subcommand() else {
-        return Ok(None);
-    };
-    Ok(job_of(name, given))
+/// it.
+pub fn read_words<'a, S: AsStr>(alloc: Global, words: &'a [S]) -> Result<Job<'a>, Error> {
+    let mut command = orc_command(alloc)?;
+    let matches = command.try_get_matches_from_mut(words)?;
+    if let Some((name, given)) = matches.subcommand() {
+        if let Some(job) = job_of(name, given) {
+            return Ok(job);
+        }
+    }
+    Err(command.error(ErrorKind::MissingSubcommand, "no such command")?)
 }

@@ -2,14 +2,16 @@
 
 ghost use Rattle.std.specs.Prelude.{◌≡◌, ◌≢◌, ◌<◌, IfOk, IfErr};
 ghost use Rattle.std.specs.Io.KnownBytes.{Keeps};
-ghost use Rattle.orc_run.specs.Commands.{failure_status, IsDone, IsUnread, LeavesUndone};
+ghost use Rattle.orc_outcome.specs.declared.end.End.TheVariants as ends;
+ghost use Rattle.orc_run.specs.Commands.{failure_status, HasEnded, HasJudged, HasPrinted, HasRun, IsDone, IsUnread, LeavesUndone};
 
 use crate::arguments::{Job, read_words};
 use crate::faults::RunFault;
 use crate::inputs::{Files, ReadFault};
 use crate::judging::check_text;
+use crate::output::WriteFault;
 use crate::printing::print_text;
-use crate::running::run_text;
+use crate::running::{Options, run_text};
 use clap::error::ErrorKind;
 use std::alloc::Global;
 use std::convert::AsStr;
@@ -48,11 +50,12 @@ impl Failure<'_> {
 
 /// Reports a command line that asks for help or for the version, or was refused: the status.
 fn refuse<W: Write, V: Write>(error: &clap::Error, out: &mut W, err: &mut V) -> u8
-    ensures status { result < 8 × result ≢ 1 × result ≢ 7 }
+    ensures status { result < 8 × result ≢ 1 × result ≢ 3 × result ≢ 4 × result ≢ 7 }
     ensures refused { result ≡ 2 → Keeps (W.contents out.old) (W.contents out.new) }
 {
     if error.kind() == ErrorKind::OutOfMemory {
-        let _ = writeln!(err, "orc: memory");
+        let memory = Failure::Unread("", ReadFault::Memory);
+        let _ = writeln!(err, "{memory}");
         return 5;
     }
     if error.use_stderr() {
@@ -62,7 +65,8 @@ fn refuse<W: Write, V: Write>(error: &clap::Error, out: &mut W, err: &mut V) -> 
     match write!(out, "{error}") {
         Ok(()) => 0,
         Err(_) => {
-            let _ = writeln!(err, "orc: write");
+            let fault = RunFault::Write(WriteFault);
+            let _ = writeln!(err, "{fault}");
             6
         }
     }
@@ -91,15 +95,81 @@ fn read_script<'a, F: Files>(
     }
 }
 
-/// Does what a command line asks for: the status.
-#[tactic(auto, using(crate::proofs::Statuses::unread, crate::proofs::Statuses::unrun, crate::proofs::Statuses::unjudged, crate::proofs::Statuses::unprinted))]
+// Runs the program of a file: the status says how the run ended.
+#[tactic(auto, using(crate::proofs::Statuses::unread, crate::proofs::Statuses::unrun))]
+fn run_file<'a, F: Files, W: Write>(
+    alloc: Global,
+    file: &'a str,
+    script: Option<&'a str>,
+    options: &Options,
+    files: &mut F,
+    out: &mut W,
+) -> Result<u8, Failure<'a>>
+    ensures done { IfOk result (HasRun options.now (W.contents out.old) (W.contents out.new)) }
+    ensures undone { IfErr result (λ f. LeavesUndone f (W.contents out.old) (W.contents out.new)) }
+{
+    let source = read(file, files)?;
+    let script = read_script(alloc, script, files)?;
+    match run_text(alloc, source.as_slice(), script.as_slice(), options, out) {
+        Ok(summary) => Ok(summary.end.status()),
+        Err(fault) => Err(Failure::Fault(fault)),
+    }
+}
+
+// Checks the journal of a file.
+#[tactic(auto, using(crate::proofs::Statuses::unread, crate::proofs::Statuses::unjudged))]
+fn check_file<'a, F: Files, W: Write>(
+    alloc: Global,
+    file: &'a str,
+    journal: &'a str,
+    script: Option<&'a str>,
+    files: &mut F,
+    out: &mut W,
+) -> Result<u8, Failure<'a>>
+    ensures done { IfOk result (HasJudged (W.contents out.old) (W.contents out.new)) }
+    ensures undone { IfErr result (λ f. LeavesUndone f (W.contents out.old) (W.contents out.new)) }
+{
+    let source = read(file, files)?;
+    let journal = read(journal, files)?;
+    let script = read_script(alloc, script, files)?;
+    match check_text(
+        alloc,
+        source.as_slice(),
+        script.as_slice(),
+        journal.as_slice(),
+        out,
+    ) {
+        Ok(()) => Ok(0),
+        Err(fault) => Err(Failure::Fault(fault)),
+    }
+}
+
+// Prints the program of a file.
+#[tactic(auto, using(crate::proofs::Statuses::unread, crate::proofs::Statuses::unprinted))]
+fn print_file<'a, F: Files, W: Write>(
+    alloc: Global,
+    file: &'a str,
+    files: &mut F,
+    out: &mut W,
+) -> Result<u8, Failure<'a>>
+    ensures done { IfOk result (HasPrinted (W.contents out.old) (W.contents out.new)) }
+    ensures undone { IfErr result (λ f. LeavesUndone f (W.contents out.old) (W.contents out.new)) }
+{
+    let source = read(file, files)?;
+    match print_text(alloc, source.as_slice(), out) {
+        Ok(()) => Ok(0),
+        Err(fault) => Err(Failure::Fault(fault)),
+    }
+}
+
+// Does what a command line asks for: the status.
 fn do_job<'a, F: Files, W: Write>(
     alloc: Global,
     job: Job<'a>,
     files: &mut F,
     out: &mut W,
 ) -> Result<u8, Failure<'a>>
-    ensures done { IfOk result IsDone }
+    ensures done { IfOk result (IsDone job.entry (W.contents out.old) (W.contents out.new)) }
     ensures undone { IfErr result (λ f. LeavesUndone f (W.contents out.old) (W.contents out.new)) }
 {
     match job {
@@ -107,40 +177,13 @@ fn do_job<'a, F: Files, W: Write>(
             file,
             script,
             options,
-        } => {
-            let source = read(file, files)?;
-            let script = read_script(alloc, script, files)?;
-            match run_text(alloc, source.as_slice(), script.as_slice(), &options, out) {
-                Ok(summary) => Ok(summary.end.status()),
-                Err(fault) => Err(Failure::Fault(fault)),
-            }
-        }
+        } => run_file(alloc, file, script, &options, files, out),
         Job::Check {
             file,
             journal,
             script,
-        } => {
-            let source = read(file, files)?;
-            let journal = read(journal, files)?;
-            let script = read_script(alloc, script, files)?;
-            match check_text(
-                alloc,
-                source.as_slice(),
-                script.as_slice(),
-                journal.as_slice(),
-                out,
-            ) {
-                Ok(()) => Ok(0),
-                Err(fault) => Err(Failure::Fault(fault)),
-            }
-        }
-        Job::Print { file } => {
-            let source = read(file, files)?;
-            match print_text(alloc, source.as_slice(), out) {
-                Ok(()) => Ok(0),
-                Err(fault) => Err(Failure::Fault(fault)),
-            }
-        }
+        } => check_file(alloc, file, journal, script, files, out),
+        Job::Print { file } => print_file(alloc, file, files, out),
     }
 }
 
@@ -148,8 +191,9 @@ fn do_job<'a, F: Files, W: Write>(
 ///
 /// FILE, JOURNAL and the script are read in this order, before anything else. Standard output is `out`, standard error `err`; what
 /// standard error doesn't take changes no status. Where the status says that a file's text, the command line or the engine was at
-/// fault, nothing was written to standard output.
-#[tactic(auto, using(crate::proofs::Statuses::kept, crate::proofs::Statuses::untouched))]
+/// fault, nothing was written to standard output. Where it says that a run ended quiet or was cut by its limit, the whole text of a
+/// run that ended so was.
+#[tactic(auto, using(crate::proofs::Statuses::kept, crate::proofs::Statuses::untouched, crate::proofs::Statuses::faultless, crate::proofs::Statuses::ended_quiet, crate::proofs::Statuses::ended_cut, crate::proofs::Statuses::not_quiet, crate::proofs::Statuses::not_cut))]
 pub fn command<S, F, W, V>(
     alloc: Global,
     words: &[S],
@@ -166,11 +210,12 @@ where
     ensures fault { result ≡ 1 → Keeps (W.contents out.old) (W.contents out.new) }
     ensures refused { result ≡ 2 → Keeps (W.contents out.old) (W.contents out.new) }
     ensures broken { result ≡ 7 → Keeps (W.contents out.old) (W.contents out.new) }
+    ensures quiet { result ≡ 3 → HasEnded ends.Quiet (W.contents out.old) (W.contents out.new) }
+    ensures cut { result ≡ 4 → HasEnded ends.Limit (W.contents out.old) (W.contents out.new) }
 {
     let job = match read_words(alloc, words) {
         Err(error) => return refuse(&error, out, err),
-        Ok(None) => return 2,
-        Ok(Some(job)) => job,
+        Ok(job) => job,
     };
     match do_job(alloc, job, files, out) {
         Ok(status) => status,

@@ -3,15 +3,12 @@
 ghost use Rattle.std.specs.Prelude.{◌≡◌};
 ghost use Rattle.orc_run.specs.Status.{read_status_of};
 
-use thiserror::Error;
-
 /// Why a file could not be read.
-#[derive(Clone, Copy, Debug, PartialEq, Eq, Error)]
+#[derive(Clone, Copy, Debug, PartialEq, Eq)]
 pub enum ReadFault {
     /// Memory for its bytes was refused.
-    #[error("memory")]
     Memory,
-    #[error("read")]
+    /// The file could not be read.
     Failed,
 }
 
