@@ -66,7 +66,8 @@ impl History {
         })
     }
 
-    /// Adds an entry that the rules allow next. After a fault nothing has changed. Where an entry leaves cancels due, there is memory for them.
+    /// Adds an entry that the rules allow next. After a fault nothing has changed. Memory for the cancels that an entry can leave due is
+    /// reserved with it, so that they don't fail; no clause says so.
     pub fn record(
         &mut self,
         program: &Program,
