@@ -33,6 +33,7 @@ use Rattle.orc_ledger.proofs.Lists.{token_found, side_found, empty-halted}
 use Rattle.orc_ledger.proofs.Kept as kept
 use Rattle.orc_ledger.proofs.Binding as aid
 use Rattle.orc_ledger.proofs.Resuming as try
+use Rattle.orc_ledger.specs.Laws.{Offer}
 use Rattle.orc_ledger.proofs.Offers.{its_meaning, fits_names, stands_so}
 use Rattle.orc_ledger.proofs.Emptied.{right-empty, left-empty}
 
@@ -112,21 +113,13 @@ module _ (l : Listing) (sites : List Site) (s : Records) (L : Lawful l sites s) 
         let b = subst (λ m. kept.Bound c v t.serial L.place.mark m) is (kept.bound_by c v t.serial L.place.mark f.around (token t.serial (param (Is v))) ended d.0 (ap taker f.path ∙ d.1) emits) in
         (b.left, b.right, (cells_of b.around [], subst (λ m. Replaces (in_opened b.left c b.right) (in_opened b.left c b.right) m (cells_of b.around []) m) b.is (replaced b.around here)))
 
-    -- an entry of the token that the place allows
-    pub record Offer : Type 0 where
-      pub entry_is : Entry
-      pub what : What
-      pub named : names entry_is ≡ Some (t.serial, what)
-      pub after : Place
-      pub leads : Leads (context l sites) L.place entry_is after
-
     has_token : HasToken L.place t.serial
     has_token = (term_of (code l) s t, stands_so l sites s L t i t.serial (term_of (code l) s t) refl refl)
 
-    offer_by : (e : Entry) (w : What) → names e ≡ Some (t.serial, w) → its_what ≡ w → Asks e (term_of (code l) s t) → IsThere L.place e → (Fits (context l sites) L.place e → (q : Place) × Leads (context l sites) L.place e q) → Offer
+    offer_by : (e : Entry) (w : What) → names e ≡ Some (t.serial, w) → its_what ≡ w → Asks e (term_of (code l) s t) → IsThere L.place e → (Fits (context l sites) L.place e → (q : Place) × Leads (context l sites) L.place e q) → Offer l sites L.place t
     offer_by e w is same asks at by = let d = by (fits_names l sites s L t i e w is same asks) in record { entry_is = e; what = w; named = is; after = d.0; leads = d.1 }
 
-    offer_of : (w : What) → its_what ≡ w → is_wait w ≡ false → Allows (definitions l) w (its_path (code l) s t.step) (term_of (code l) s t) → Offer
+    offer_of : (w : What) → its_what ≡ w → is_wait w ≡ false → Allows (definitions l) w (its_path (code l) s t.step) (term_of (code l) s t) → Offer l sites L.place t
     offer_of Halt e moves m = offer_by (entry.End t.serial) Halt refl e tt has_token (λ f. leads_by (entry.End t.serial) L.spells.none_due has_token f tt tt tt tt)
     offer_of Fork e moves m = offer_by (entry.Fork t.serial L.place.mark (suc L.place.mark)) Fork refl e tt has_token (λ f. leads_by (entry.Fork t.serial L.place.mark (suc L.place.mark)) L.spells.none_due has_token f (refl, refl) tt tt tt)
     offer_of Seq e moves m = offer_by (entry.Seq t.serial L.place.mark) Seq refl e tt has_token (λ f. leads_by (entry.Seq t.serial L.place.mark) L.spells.none_due has_token f refl tt tt tt)
@@ -141,5 +134,5 @@ module _ (l : Listing) (sites : List Site) (s : Records) (L : Lawful l sites s) 
     offer_of (Wait c) e moves m = cc moves
 
     -- where it doesn't wait, the place allows an entry of it
-    pub offer : is_wait its_what ≡ false → Offer
+    pub offer : is_wait its_what ≡ false → Offer l sites L.place t
     offer moves = offer_of its_what refl moves (its_meaning l sites s L t i)

@@ -23,6 +23,7 @@ use Rattle.orc_ledger.specs.Next.{Numbers, AreGrouped, members, is_empty, ready,
 use Rattle.orc_ledger.specs.declared.records.Token.{Token}
 use Rattle.orc_ledger.specs.declared.records.Call.{Call}
 use Rattle.orc_ledger.specs.declared.records.Group.{Group}
+use Rattle.orc_ledger.specs.Laws.{Cause}
 use Rattle.orc_ledger.proofs.Weight.{weight-in, weight-none, either_one}
 use Rattle.orc_ledger.proofs.Lists.{numbered, holds_source, rows-weigh, is_call, times-calls}
 use Rattle.orc_ledger.proofs.Someone.{some-in}
@@ -121,10 +122,6 @@ module _ (l : Listing) (sites : List Site) (s : Records) (L : Lawful l sites s) 
           let k = idle_now quiet h (λ e. cc e) in
           (quiet_by_test (context l sites) (moment L.place) (next_due s.calls) next_due_is).1 (k.1, k.0, at_quiet s.now (next_due s.calls) k.2)
 
-      -- the causes of work: a token that moves, a group (the root, too) with nobody in it, or a call that is due
-      abbrev pub Cause : Type 0
-      Cause = ((t : Token) × IsIn t s.tokens × (is_wait (what_of (code l) (definitions l) s t) ≡ false)) ⊎ ((members n s 0 ≡ 0) ⊎ ((g : Group) × IsIn g s.groups × (members n s (n.number g) ≡ 0))) ⊎ ((c : Call) × (t : ℕ) × IsIn c s.calls × (due_of c ≡ Some t) × (t ≤ s.now))
-
       moves_not : (t : Token) → 1 ≤ ready_one (code l) (definitions l) s t → is_wait (what_of (code l) (definitions l) s t) ≡ false
       moves_not t h = go (is_wait (what_of (code l) (definitions l) s t)) h
         where
@@ -136,15 +133,15 @@ module _ (l : Listing) (sites : List Site) (s : Records) (L : Lawful l sites s) 
       empty_is zero h = refl
       empty_is (suc k) h = absurd (omega (arith, h))
 
-      due_causes : (o : Option ℕ) → next_due s.calls ≡ o → next_at s.now o ≡ work → Cause
+      due_causes : (o : Option ℕ) → next_due s.calls ≡ o → next_at s.now o ≡ work → Cause l n s
       due_causes None e h = cc h
       due_causes (Some t) e h = go (nat_lt s.now t) refl h
         where
-          go : (b : Bool) → nat_lt s.now t ≡ b → cond b (ticks t) work ≡ work → Cause
+          go : (b : Bool) → nat_lt s.now t ≡ b → cond b (ticks t) work ≡ work → Cause l n s
           go true f h = cc h
           go false f h = let c = next_some s.calls t e in inr (inr (c.0, t, c.1, c.2, omega (arith, ltb-false s.now t f)))
 
-      count_causes : (k : ℕ) → ready (code l) (definitions l) s + open_empty n s ≡ k → next_by k s.now (next_due s.calls) ≡ work → Cause
+      count_causes : (k : ℕ) → ready (code l) (definitions l) s + open_empty n s ≡ k → next_by k s.now (next_due s.calls) ≡ work → Cause l n s
       count_causes zero e h = due_causes (next_due s.calls) refl h
       count_causes (suc k) e h =
           ⊎_elim
@@ -155,7 +152,7 @@ module _ (l : Listing) (sites : List Site) (s : Records) (L : Lawful l sites s) 
           (either_one (is_empty (members n s 0)) (weight (λ (g : Group). is_empty (members n s (n.number g))) s.groups) b))))
           (either_one (ready (code l) (definitions l) s) (open_empty n s) (omega (arith, e)))
 
-      pub next_work : next_of (code l) (definitions l) n s ≡ work → Cause
+      pub next_work : next_of (code l) (definitions l) n s ≡ work → Cause l n s
       next_work h = count_causes (ready (code l) (definitions l) s + open_empty n s) refl h
 
       some_work : (k now : ℕ) (o : Option ℕ) → 1 ≤ k → next_by k now o ≡ work
@@ -171,7 +168,7 @@ module _ (l : Listing) (sites : List Site) (s : Records) (L : Lawful l sites s) 
           go false e = refl
 
       -- and each cause is work
-      pub causes_work : Cause → next_of (code l) (definitions l) n s ≡ work
+      pub causes_work : Cause l n s → next_of (code l) (definitions l) n s ≡ work
       causes_work h = ⊎_elim of_token (λ z. ⊎_elim of_group of_call z) h
         where
           of_token : ((t : Token) × IsIn t s.tokens × (is_wait (what_of (code l) (definitions l) s t) ≡ false)) → next_of (code l) (definitions l) n s ≡ work

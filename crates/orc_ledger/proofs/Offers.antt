@@ -76,7 +76,7 @@ module _ (s a : ℕ) (v : Value) where
   goes_to (side_of c b k) m m' e = (_, emits_in k (is_bound e))
   goes_to (enters n g k) m m' e = goes_to k (in_other n m g) m' (passes e)
 
-some_0 : (o p : ℕ × What) → Some o ≡ Some p → o.0 ≡ p.0
+pub some_0 : (o p : ℕ × What) → Some o ≡ Some p → o.0 ≡ p.0
 some_0 o p e = ap (λ (z : Option (ℕ × What)). elim z as (λ y. ℕ) [ Some y ↦ y.0 | None ↦ o.0 ]) e
 
 some_1 : (o p : ℕ × What) → Some o ≡ Some p → o.1 ≡ p.1

@@ -17,9 +17,10 @@ use Rattle.orc_rules.proofs.Explained.{entry_is_its_step}
 use Rattle.orc_ledger.specs.Records.{Records, Lawful, context}
 use Rattle.orc_ledger.specs.Told.{AreTold}
 use Rattle.orc_ledger.specs.Next.{Numbers, AreGrouped, Next, work, ticks, quiet, next_of}
+use Rattle.orc_ledger.specs.Laws.{Allowed, IsLeft, IsDelayed}
 use Rattle.orc_ledger.proofs.Lists.{holds_source}
 use Rattle.orc_ledger.proofs.Nexts.{next_ticks, next_quiet}
-use Rattle.orc_ledger.proofs.Working.{Allowed, IsLeft, work-allowed}
+use Rattle.orc_ledger.proofs.Working.{work-allowed}
 
 module _ (l : Listing) (sites : List Site) (s : Records) (L : Lawful l sites s) (idle : IsIdle (context l sites) (moment L.place)) where
   -- an entry that the place allows is then a move of marks or a tick
@@ -49,7 +50,7 @@ module _ (l : Listing) (sites : List Site) (s : Records) (L : Lawful l sites s) 
       absurd (omega (arith, later))
 
   module _ (told : AreTold sites L.place.calls s.calls) (n : Numbers) (G : AreGrouped n s) where
-    pub idle-work : next_of (code l) (definitions l) n s ≡ work → ((o : Allowed l sites s L) × IsMove o.entry_is) ⊎ (IsLeft l sites s L told n G ⊎ Halted (erase L.place.marked))
+    pub idle-work : next_of (code l) (definitions l) n s ≡ work → ((o : Allowed l sites L.place) × IsMove o.entry_is) ⊎ (IsLeft l n s ⊎ Halted (erase L.place.marked))
     idle-work h =
         ⊎_elim
         (λ o. ⊎_elim (λ m. inl (o, m)) (λ t. absurd (o.untimed t.0 t.1)) (idle_moves o.entry_is o.after o.leads))
@@ -57,18 +58,14 @@ module _ (l : Listing) (sites : List Site) (s : Records) (L : Lawful l sites s) 
         (work-allowed l sites s L told n G h)
 
 module _ (l : Listing) (sites : List Site) (s : Records) (L : Lawful l sites s) (told : AreTold sites L.place.calls s.calls) (n : Numbers) (G : AreGrouped n s) where
-  -- a move of marks that the place allows, or a group that goes without an entry
-  abbrev pub IsDelayed : Type 0
-  IsDelayed = ((o : Allowed l sites s L) × IsMove o.entry_is) ⊎ IsLeft l sites s L told n G
-
   not_halted_due : (k : ℕ) → IsIn k (pending_of (erase L.place.marked)) → Halted (erase L.place.marked) → ⊥
   not_halted_due k i h = omega (arith, halted_none k L.place.marked h, (pending_by_names L.place.marked (holds_source l sites s L) k).0 i)
 
   -- a tick that the rules allow is what comes next, but for moves of marks and groups that go
-  pub tick-next : (t : ℕ) → IsTick (context l sites) (moment L.place) t → (next_of (code l) (definitions l) n s ≡ ticks t) ⊎ IsDelayed
+  pub tick-next : (t : ℕ) → IsTick (context l sites) (moment L.place) t → (next_of (code l) (definitions l) n s ≡ ticks t) ⊎ IsDelayed l n s sites L.place
   tick-next t tick = go (next_of (code l) (definitions l) n s) refl
     where
-      go : (e : Next) → next_of (code l) (definitions l) n s ≡ e → (next_of (code l) (definitions l) n s ≡ ticks t) ⊎ IsDelayed
+      go : (e : Next) → next_of (code l) (definitions l) n s ≡ e → (next_of (code l) (definitions l) n s ≡ ticks t) ⊎ IsDelayed l n s sites L.place
       go work e =
           ⊎_elim (λ a. inr (inl a)) (λ z. ⊎_elim (λ a. inr (inr a)) (λ h. absurd (not_halted_due tick.reached.0 tick.reached.2 h)) z)
           (idle-work l sites s L tick.idle told n G e)
@@ -79,10 +76,10 @@ module _ (l : Listing) (sites : List Site) (s : Records) (L : Lawful l sites s) 
           inl (e ∙ ap ticks same)
 
   -- and so is quiet
-  pub quiet-next : IsQuiet (context l sites) (moment L.place) → (next_of (code l) (definitions l) n s ≡ quiet) ⊎ IsDelayed
+  pub quiet-next : IsQuiet (context l sites) (moment L.place) → (next_of (code l) (definitions l) n s ≡ quiet) ⊎ IsDelayed l n s sites L.place
   quiet-next q = go (next_of (code l) (definitions l) n s) refl
     where
-      go : (e : Next) → next_of (code l) (definitions l) n s ≡ e → (next_of (code l) (definitions l) n s ≡ quiet) ⊎ IsDelayed
+      go : (e : Next) → next_of (code l) (definitions l) n s ≡ e → (next_of (code l) (definitions l) n s ≡ quiet) ⊎ IsDelayed l n s sites L.place
       go work e = ⊎_elim (λ a. inr (inl a)) (λ z. ⊎_elim (λ a. inr (inr a)) (λ h. absurd (q.running h)) z) (idle-work l sites s L q.idle told n G e)
       go quiet e = inl e
       go (ticks u) e = absurd (q.no_tick u (next_ticks l sites s L told n G u e))

@@ -20,6 +20,7 @@ use Rattle.orc_ledger.specs.declared.records.Call.{Call}
 use Rattle.orc_ledger.specs.declared.records.Side.{Side}
 use Rattle.orc_ledger.specs.declared.records.Side.TheVariants.{Right, Left}
 use Rattle.orc_ledger.specs.declared.records.Group.{Group}
+use Rattle.orc_ledger.specs.Laws.{Allowed, IsLeft}
 use Rattle.orc_ledger.proofs.Around.{cells_of, replaced}
 use Rattle.orc_ledger.proofs.Lists.{call_found}
 use Rattle.orc_ledger.proofs.Causes.{leads_by, lost-leads, right-leads, offer}
@@ -30,13 +31,6 @@ use Rattle.orc_ledger.proofs.Telling.{due_is}
 use Rattle.orc_ledger.proofs.Timely.{none-overdue}
 
 module _ (l : Listing) (sites : List Site) (s : Records) (L : Lawful l sites s) where
-  -- an entry that the place allows
-  pub record Allowed : Type 0 where
-    pub entry_is : Entry
-    pub after : Place
-    pub leads : Leads (context l sites) L.place entry_is after
-    pub untimed : (t : ℕ) → entry_is ≡ entry.Tick t → ⊥
-
   -- a tick names no token
   named_not : (e : Entry) (w : What) (serial t : ℕ) → names e ≡ Some (serial, w) → e ≡ entry.Tick t → ⊥
   named_not e w serial t is h = let k = sym (ap names h) ∙ is in cc k
@@ -44,7 +38,7 @@ module _ (l : Listing) (sites : List Site) (s : Records) (L : Lawful l sites s) 
   has_call : (c : Call) → IsIn c s.calls → HasCall L.place c.number
   has_call c i = let f = call_found l sites s L c i in (cells_of f.around [], subst (λ m. Replaces (in_call c.number) (in_call c.number) m (cells_of f.around []) m) f.is (replaced f.around here))
 
-  answered : (c : Call) → IsIn c s.calls → (a : Answer) → IsDue sites L.place.calls c.number a L.place.now → Allowed
+  answered : (c : Call) → IsIn c s.calls → (a : Answer) → IsDue sites L.place.calls c.number a L.place.now → Allowed l sites L.place
   answered c i (Gives v) d =
       let q = leads_by l sites s L (entry.Return c.number L.place.mark v) L.spells.none_due (has_call c i) tt refl (d.by, d.delay, d.is_made, d.is_k, d.says) d tt in
       record { entry_is = entry.Return c.number L.place.mark v; after = q.0; leads = q.1; untimed = λ t e. cc e }
@@ -54,7 +48,7 @@ module _ (l : Listing) (sites : List Site) (s : Records) (L : Lawful l sites s) 
 
   module _ (told : AreTold sites L.place.calls s.calls) where
     -- a call whose due time has come is due now, and its return is allowed
-    pub due-leads : (c : Call) (t : ℕ) → IsIn c s.calls → due_of c ≡ Some t → t ≤ s.now → Allowed
+    pub due-leads : (c : Call) (t : ℕ) → IsIn c s.calls → due_of c ≡ Some t → t ≤ s.now → Allowed l sites L.place
     due-leads c t i e le =
         let b = due_is c.made_at c.found t e in
         let due = (told-due l sites s L told c i b.answer t).1 (b.delay, b.says, b.sum, b.fits) in
@@ -62,17 +56,13 @@ module _ (l : Listing) (sites : List Site) (s : Records) (L : Lawful l sites s) 
         answered c i b.answer (subst (λ z. IsDue sites L.place.calls c.number b.answer z) now due)
 
     module _ (n : Numbers) (G : AreGrouped n s) where
-      -- a group without members that a publication has left: it goes without an entry
-      abbrev pub IsLeft : Type 0
-      IsLeft = (g : Group) × IsIn g s.groups × (is_over (code l) s g.side ≡ true) × (members n s (n.number g) ≡ 0)
-
-      by_side : (g : Group) → IsIn g s.groups → members n s (n.number g) ≡ 0 → (k : Side) → g.side ≡ k → (b : Bool) → is_over (code l) s k ≡ b → Allowed ⊎ IsLeft
+      by_side : (g : Group) → IsIn g s.groups → members n s (n.number g) ≡ 0 → (k : Side) → g.side ≡ k → (b : Bool) → is_over (code l) s k ≡ b → Allowed l sites L.place ⊎ IsLeft l n s
       by_side g i empty (Right c) e b over = let q = lost-leads l sites s L g i n G empty c e in inl (record { entry_is = entry.Lost c; after = q.0; leads = q.1; untimed = λ t e. cc e })
       by_side g i empty (Left m f scope) e false over = let q = right-leads l sites s L g i n G empty m f scope e over in inl (record { entry_is = entry.Right m s.next_mark; after = q.0; leads = q.1; untimed = λ t e. cc e })
       by_side g i empty (Left m f scope) e true over = inr (g, i, ap (is_over (code l) s) e ∙ over, empty)
 
       -- work is never found in vain
-      pub work-allowed : next_of (code l) (definitions l) n s ≡ work → Allowed ⊎ (IsLeft ⊎ Halted (erase L.place.marked))
+      pub work-allowed : next_of (code l) (definitions l) n s ≡ work → Allowed l sites L.place ⊎ (IsLeft l n s ⊎ Halted (erase L.place.marked))
       work-allowed h =
           ⊎_elim
           (λ a. let o = offer l sites s L a.0 a.1 a.2 in inl (record { entry_is = o.entry_is; after = o.after; leads = o.leads; untimed = λ t e. named_not o.entry_is o.what a.0.serial t o.named e }))

@@ -4,6 +4,7 @@ pub mod Doing
 pub mod Homes
 pub mod Inside
 pub mod Kept
+pub mod Laws
 pub mod Next
 pub mod Records
 pub mod Same

@@ -1,6 +1,7 @@
 //! The records of a run under one invariant: the journal of what they did leads from the program to a place that they spell.
 #![tactic(auto)]
 
+mod laws;
 mod ledger;
 mod marks;
 mod publications;
@@ -10,6 +11,10 @@ mod taking;
 mod tokens;
 mod what;
 
+pub use laws::{
+    next_is_quiet, next_ticks, none_is_lost, quiet_is_next, root_has_halted, tick_is_next,
+    wait_is_still, word_is_allowed, word_is_offered, work_has_cause, work_is_allowed,
+};
 pub use ledger::{Ledger, LedgerFault, Program};
 pub use records::{Call, Entered, Group, Side, Standing, Step, Token};
 pub use taking::Taker;
