@@ -94,7 +94,7 @@ module _ (l : Listing) (sites : List Site) (s : Records) (L : Lawful l sites s) 
       none-in_token : token_out (length s.scopes) (length s.steps) t ≡ false
       none-in_token = none-in (token_out (length s.scopes) (length s.steps)) s.tokens t L.sound.tokens i
 
-  scope_there : scope ≤ length s.scopes
+  pub scope_there : scope ≤ length s.scopes
   scope_there = ltb-false (length s.scopes) scope (ap (is_out (length s.scopes)) (sym at) ∙ in_range.0)
 
   step_there : t.step ≤ length s.steps
@@ -104,7 +104,7 @@ module _ (l : Listing) (sites : List Site) (s : Records) (L : Lawful l sites s) 
   stands_on : (f : Term) → close e (cd node) ≡ f → plug (token_found l sites s L t i).around (token t.serial f) ≡ L.place.marked
   stands_on f form = ap (λ z. plug (token_found l sites s L t i).around (token t.serial z)) (sym form ∙ ap (standing cd (its_env cd s)) (sym at)) ∙ (token_found l sites s L t i).is
 
-  becomes : (f : Term) (new : Marked) → close e (cd node) ≡ f → Replaces (token t.serial f) new L.place.marked (cells_of (token_found l sites s L t i).around []) (plug (token_found l sites s L t i).around new)
+  pub becomes : (f : Term) (new : Marked) → close e (cd node) ≡ f → Replaces (token t.serial f) new L.place.marked (cells_of (token_found l sites s L t i).around []) (plug (token_found l sites s L t i).around new)
   becomes f new form = subst (λ m. Replaces (token t.serial f) new m (cells_of (token_found l sites s L t i).around []) (plug (token_found l sites s L t i).around new)) (stands_on f form) (replaced (token_found l sites s L t i).around here)
 
   settled_same : (s' : Records) → s'.cells ≡ s.cells → weight (only (λ (g : Group). is_settled s'.cells g.side) (λ g. 1)) s.groups + 0 ≡ 0
@@ -127,7 +127,7 @@ module _ (l : Listing) (sites : List Site) (s : Records) (L : Lawful l sites s) 
     env_there : its_env cd s' scope ≡ e
     env_there = env_same l sites s L t i s' births ss ps gs cs E T fresh plain scope scope_there
 
-    path_there : its_path cd s' t.step ≡ its_path cd s t.step
+    pub path_there : its_path cd s' t.step ≡ its_path cd s t.step
     path_there = path_same l sites s L t i s' births ss ps gs cs E T fresh plain t.step step_there
 
     birth : (n f : ℕ) → token_row cd s' (born s t n f scope t.step) ≡ stands n (close e (cd f)) (its_path cd s t.step)
@@ -136,7 +136,7 @@ module _ (l : Listing) (sites : List Site) (s : Records) (L : Lawful l sites s) 
     scope_in : nat_lt (length s'.scopes) scope ≡ false
     scope_in = out_of (length s'.scopes) scope (omega (arith, scope_there, more_scopes l sites s L t i s' births ss ps gs cs E T fresh plain))
 
-    step_in : nat_lt (length s'.steps) t.step ≡ false
+    pub step_in : nat_lt (length s'.steps) t.step ≡ false
     step_in = out_of (length s'.steps) t.step (omega (arith, step_there, more_steps l sites s L t i s' births ss ps gs cs E T fresh plain))
 
   module _ (s' : Records) (births : List Token) (ss : List Scope) (ps : List Step) (gs : List Group) (E : Entry) (T : Turns s s' t births ss ps gs [] E) where

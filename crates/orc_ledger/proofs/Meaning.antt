@@ -46,6 +46,20 @@ void_none (is.Name x ∷ ps) h = refl
 void_none (is.Cell c ∷ ps) h = refl
 void_none (is.Is v ∷ ps) h = rw (void_none ps h) refl
 
+pub rest_none : (u : Value) (ps : List Param) → values_of (is.Is u ∷ ps) ≡ None → values_of ps ≡ None
+rest_none u ps h = go (values_of ps) refl
+  where
+    go : (o : Option (List Value)) → values_of ps ≡ o → o ≡ None
+    go None e = refl
+    go (Some vs) e = let k = rw e at h in cc k
+
+pub rest_some : (u : Value) (ps : List Param) (vs : List Value) → values_of (is.Is u ∷ ps) ≡ Some vs → (ws : List Value) × (values_of ps ≡ Some ws)
+rest_some u ps vs h = go (values_of ps) refl
+  where
+    go : (o : Option (List Value)) → values_of ps ≡ o → (ws : List Value) × (values_of ps ≡ Some ws)
+    go (Some ws) e = (ws, e)
+    go None e = let k = rw e at h in cc k
+
 values_void : (ps : List Param) (args : List Value) → values_of ps ≡ Some args → has_void ps ≡ false
 values_void ps args h = go (has_void ps) refl
   where

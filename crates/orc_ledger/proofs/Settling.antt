@@ -18,6 +18,7 @@ use Rattle.orc_ledger.specs.Doing.{first_cell, taken, what_site, what_by, what_o
 use Rattle.orc_ledger.specs.declared.records.Token.{Token}
 use Rattle.orc_ledger.specs.declared.what.What.TheVariants.{Void, Wait}
 use Rattle.orc_ledger.proofs.Kept.{fill_path}
+use Rattle.orc_ledger.proofs.Meaning.{rest_none, rest_some}
 use Rattle.orc_ledger.proofs.Filled.{standing-fill}
 use Rattle.orc_ledger.proofs.Dropping.{filled_so, stay, path'}
 
@@ -71,26 +72,12 @@ module _ (v : Value) (c : ℕ) where
   first_stays (is.Void ∷ ps) off = first_stays ps off
   first_stays (is.Cell d ∷ ps) off = ap (λ p. first_cell (p ∷ map f ps)) (other_cell (is.Is v) c d off)
 
-  rest_none : (u : Value) (ps : List Param) → values_of (is.Is u ∷ ps) ≡ None → values_of ps ≡ None
-  rest_none u ps h = go (values_of ps) refl
-    where
-      go : (o : Option (List Value)) → values_of ps ≡ o → o ≡ None
-      go None e = refl
-      go (Some vs) e = let k = rw e at h in cc k
-
   none_stays : (ps : List Param) → values_of ps ≡ None → (first_cell ps ≡ c → ⊥) → values_of (map f ps) ≡ None
   none_stays [] h off = cc h
   none_stays (is.Name x ∷ ps) h off = refl
   none_stays (is.Void ∷ ps) h off = refl
   none_stays (is.Cell d ∷ ps) h off = ap (λ p. values_of (p ∷ map f ps)) (other_cell (is.Is v) c d off)
   none_stays (is.Is u ∷ ps) h off = rw (none_stays ps (rest_none u ps h) off) refl
-
-  rest_some : (u : Value) (ps : List Param) (vs : List Value) → values_of (is.Is u ∷ ps) ≡ Some vs → (ws : List Value) × (values_of ps ≡ Some ws)
-  rest_some u ps vs h = go (values_of ps) refl
-    where
-      go : (o : Option (List Value)) → values_of ps ≡ o → (ws : List Value) × (values_of ps ≡ Some ws)
-      go (Some ws) e = (ws, e)
-      go None e = let k = rw e at h in cc k
 
   some_stays : (ps : List Param) (vs : List Value) → values_of ps ≡ Some vs → map f ps ≡ ps
   some_stays [] vs h = refl

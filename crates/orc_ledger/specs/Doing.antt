@@ -1,5 +1,5 @@
 -- What a token can do next, as a function of the records.
-use Rattle.std.specs.Prelude.{◌≡◌, ℕ, List, [], ◌∷◌, Bool, true, false, Option, Some, None, slice_get}
+use Rattle.std.specs.Prelude.{◌≡◌, ℕ, List, [], ◌∷◌, Bool, true, false, cond, map, Option, Some, None, slice_get}
 use Rattle.orc_rules.specs.declared.value.Value.{Value}
 use Rattle.orc_rules.specs.declared.param.Param.{Param}
 use Rattle.orc_rules.specs.declared.param.Param.TheVariants as is
@@ -8,6 +8,9 @@ use Rattle.orc_rules.specs.declared.entry.Entry.TheVariants as entry
 use Rattle.orc_rules.specs.Term.{Term, stop, param, site, call, par, seq, prune, other, pending, opened, Definition, values_of}
 use Rattle.orc_rules.specs.Idle.{has_void, can_move}
 use Rattle.orc_rules.specs.Journal.{IsVoid}
+use Rattle.orc_rules.specs.declared.param.Operand.{Operand}
+use Rattle.orc_rules.specs.Nodes.{param_of}
+use Rattle.orc_names.specs.Scopes.{Env, close_param}
 use Rattle.orc_ledger.specs.Spelling.{Path, whole, feeding, aiding, trying}
 use Rattle.orc_ledger.specs.Records.{Records, its_env, its_path, standing}
 use Rattle.orc_ledger.specs.declared.records.Token.{Token}
@@ -34,6 +37,32 @@ what_site ps true o = Void
 what_site ps false (Some args) = Call
 what_site ps false None = Wait (first_cell ps)
 
+-- the same in one pass over the arguments: whether one before them isn't a value, and the first cell before them
+abbrev pub or_zero : Option ℕ → ℕ
+or_zero (Some c) = c
+or_zero None = 0
+
+abbrev pub or_else : Option ℕ → ℕ → Option ℕ
+or_else (Some c) d = Some c
+or_else None d = Some d
+
+abbrev pub scan : Bool → Option ℕ → List Param → What
+scan waits first [] = cond waits (Wait (or_zero first)) Call
+scan waits first (is.Void ∷ ps) = Void
+scan waits first (is.Is v ∷ ps) = scan waits first ps
+scan waits first (is.Name x ∷ ps) = scan true first ps
+scan waits first (is.Cell c ∷ ps) = scan true (or_else first c) ps
+
+-- what stands for operands
+abbrev pub closed : Env → List Operand → List Param
+closed env ps = map (close_param env) (map param_of ps)
+
+abbrev pub of_param : Path → Param → What
+of_param p (is.Is v) = taken v p
+of_param p is.Void = Void
+of_param p (is.Cell c) = Wait c
+of_param p (is.Name x) = Wait 0
+
 abbrev pub what_def : Option Definition → What
 what_def (Some d) = Def
 what_def None = Wait 0
@@ -41,10 +70,7 @@ what_def None = Wait 0
 -- by the term under a token and its path
 abbrev pub what_by : List Definition → Path → Term → What
 what_by defs p stop = Halt
-what_by defs p (param (is.Is v)) = taken v p
-what_by defs p (param is.Void) = Void
-what_by defs p (param (is.Cell c)) = Wait c
-what_by defs p (param (is.Name x)) = Wait 0
+what_by defs p (param q) = of_param p q
 what_by defs p (site m ps) = what_site ps (has_void ps) (values_of ps)
 what_by defs p (call e ps) = what_def (slice_get defs e)
 what_by defs p (par f g) = Fork

@@ -6,9 +6,11 @@ pub mod Inside
 pub mod Kept
 pub mod Laws
 pub mod Next
+pub mod Parameters
 pub mod Records
 pub mod Same
 pub mod Spelling
+pub mod Spoken
 pub mod Taking
 pub mod Told
 pub mod Tokens

@@ -1,14 +1,17 @@
 //! The records of a run under one invariant: the journal of what they did leads from the program to a place that they spell.
 #![tactic(auto)]
 
+mod definitions;
 mod laws;
 mod ledger;
 mod marks;
+mod next;
 mod publications;
 mod records;
 mod sides;
 mod taking;
 mod tokens;
+mod view;
 mod what;
 
 pub use laws::{
@@ -16,6 +19,7 @@ pub use laws::{
     wait_is_still, word_is_allowed, word_is_offered, work_has_cause, work_is_allowed,
 };
 pub use ledger::{Ledger, LedgerFault, Program};
+pub use next::Next;
 pub use records::{Call, Entered, Group, Side, Standing, Step, Token};
 pub use taking::Taker;
 pub use what::What;

@@ -78,6 +78,13 @@ impl Tokens {
         })
     }
 
+    /// The slots; one with serial 0 is free.
+    pub(crate) fn slots(&self) -> &[Token]
+        ensures { result.now ≡ self.now.items }
+    {
+        &self.slots
+    }
+
     /// How many tokens there are.
     pub(crate) fn len(&self) -> usize
         ensures { result ≡ length (live self.now.items) }

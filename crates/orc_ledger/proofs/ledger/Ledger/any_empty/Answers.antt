@@ -1,0 +1,38 @@
+use Rattle.std.proofs.Common.{◌≡◌, ◌<◌, ◌≤◌, ◌+◌, ℕ, zero, suc, List, length, arith, ap, sym, refl, ◌∙◌}
+use Rattle.orc_ledger.specs.Same.{weight}
+use Rattle.orc_ledger.specs.Records.{Records}
+use Rattle.orc_ledger.specs.Next.{numbers_of, members, is_empty}
+use Rattle.orc_ledger.specs.declared.records.Group.{Group}
+use Rattle.orc_ledger.proofs.Scans.{one-there, none-so-far, none-at-all}
+use Rattle.orc_ledger.proofs.ledger.Ledger.any_empty.Goals as goal
+
+full : (k : ℕ) → 1 ≤ k → is_empty k ≡ 0
+full zero h = absurd (omega (arith, h))
+full (suc k) h = refl
+
+pub returns-then-not-has_members-2-clause-some : goal.returns-then-not-has_members-2-clause-some
+returns-then-not-has_members-2-clause-some g c e =
+    let s : Records = c.args.self.now in
+    let w : Group → ℕ = λ h. is_empty (members (numbers_of s) s h.number) in
+    let xs : List Group = c.deref-group-items.result.now in
+    let lt : c.loop-group.group-index < length xs = c.loop-group-test.true in
+    let groups : xs ≡ s.groups = c.deref-group-items.ensures.value ∙ ap (λ (z : Records). z.groups) c.self.view_is in
+    let there : 1 ≤ weight w xs = one-there w xs c.loop-group.group-index _ lt (ap is_empty (c.has_members-in-loop-group.ensures.none c.if-not-has_members-2.true)) in
+    omega (arith, there, ap (weight w) groups)
+
+pub loop-group-preserved : goal.loop-group-preserved
+loop-group-preserved g c =
+    let s : Records = c.args.self.now in
+    let w : Group → ℕ = λ h. is_empty (members (numbers_of s) s h.number) in
+    let xs : List Group = c.deref-group-items.result.now in
+    none-so-far w xs c.loop-group.group-index _ c.loop-group-test.true c.loop-group.invariant (full _ (c.has_members-in-loop-group.ensures.some c.if-not-has_members-2.false))
+
+pub returns-clause-none : goal.returns-clause-none
+returns-clause-none g c e =
+    let s : Records = c.args.self.now in
+    let w : Group → ℕ = λ h. is_empty (members (numbers_of s) s h.number) in
+    let xs : List Group = c.deref-group-items.result.now in
+    let groups : xs ≡ s.groups = c.deref-group-items.ensures.value ∙ ap (λ (z : Records). z.groups) c.self.view_is in
+    let none : weight w xs ≡ 0 = none-at-all w xs c.loop-group.group-index c.loop-group-test.false c.loop-group.invariant in
+    let root : is_empty (members (numbers_of s) s 0) ≡ 0 = full (members (numbers_of s) s 0) (c.has_members.ensures.some c.if-not-has_members.false) in
+    omega (arith, none, root, ap (weight w) groups)

@@ -1,0 +1,8 @@
+use Rattle.std.proofs.Common.{◌≡◌, ◌≤◌, ℕ, take}
+use Rattle.orc_ledger.specs.Same.{weight}
+use Rattle.orc_ledger.specs.Next.{numbers_of, members, is_empty}
+use Rattle.orc_ledger.specs.declared.records.Group.{Group}
+use Rattle.orc_ledger.proofs.ledger.Ledger.any_empty.Given as goal
+
+abbrev pub invariant-loop-group : goal.invariant-loop-group
+invariant-loop-group g l = weight (λ (h : Group). is_empty (members (numbers_of l.self) l.self h.number)) (take l.group-index l.group-items) ≡ 0

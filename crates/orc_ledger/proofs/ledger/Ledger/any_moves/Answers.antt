@@ -1,0 +1,32 @@
+use Rattle.std.proofs.Common.{◌≡◌, ◌<◌, ◌≤◌, ℕ, List, length, arith, ap, sym, subst, ◌∙◌}
+use Rattle.orc_rules.specs.Nodes.{code, definitions}
+use Rattle.orc_ledger.specs.Same.{weight, only}
+use Rattle.orc_ledger.specs.Tokens.{is_live, live}
+use Rattle.orc_ledger.specs.Records.{Records}
+use Rattle.orc_ledger.specs.Next.{ready_one}
+use Rattle.orc_ledger.specs.declared.records.Token.{Token}
+use Rattle.orc_ledger.proofs.Slots.{weight-live}
+use Rattle.orc_ledger.proofs.Scans.{one-there, none-so-far, none-at-all}
+use Rattle.orc_ledger.proofs.ledger.Ledger.any_moves.Goals as goal
+
+pub returns-then-can_move-clause-some : goal.returns-then-can_move-clause-some
+returns-then-can_move-clause-some g c e =
+    let s : Records = c.args.self.now in
+    let w : Token → ℕ = ready_one (code g.P.Program.listing) (definitions g.P.Program.listing) s in
+    let lt : c.loop-slot.slot-index < length c.slots-slot-items.result.now = omega (arith, c.loop-slot-test.true) in
+    let tokens : live c.slots-slot-items.result.now ≡ s.tokens = ap live c.slots-slot-items.ensures ∙ ap (λ (z : Records). z.tokens) c.self.view_is in
+    omega (arith, ap (weight w) tokens, weight-live w c.slots-slot-items.result.now, one-there (only is_live w) c.slots-slot-items.result.now c.loop-slot.slot-index _ lt (c.can_move.ensures.some c.if-can_move.true))
+
+pub loop-slot-preserved : goal.loop-slot-preserved
+loop-slot-preserved g c =
+    let w : Token → ℕ = ready_one (code g.P.Program.listing) (definitions g.P.Program.listing) c.args.self.now in
+    let lt : c.loop-slot.slot-index < length c.slots-slot-items.result.now = omega (arith, c.loop-slot-test.true) in
+    none-so-far (only is_live w) c.slots-slot-items.result.now c.loop-slot.slot-index _ lt c.loop-slot.invariant (c.can_move.ensures.none c.if-can_move.false)
+
+pub returns-clause-none : goal.returns-clause-none
+returns-clause-none g c e =
+    let s : Records = c.args.self.now in
+    let w : Token → ℕ = ready_one (code g.P.Program.listing) (definitions g.P.Program.listing) s in
+    let past : length c.slots-slot-items.result.now ≤ c.loop-slot.slot-index = omega (arith, c.loop-slot-test.false) in
+    let tokens : live c.slots-slot-items.result.now ≡ s.tokens = ap live c.slots-slot-items.ensures ∙ ap (λ (z : Records). z.tokens) c.self.view_is in
+    sym (ap (weight w) tokens) ∙ (weight-live w c.slots-slot-items.result.now ∙ none-at-all (only is_live w) c.slots-slot-items.result.now c.loop-slot.slot-index past c.loop-slot.invariant)

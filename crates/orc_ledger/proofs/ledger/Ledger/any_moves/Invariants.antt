@@ -1,0 +1,9 @@
+use Rattle.std.proofs.Common.{◌≡◌, ℕ, take}
+use Rattle.orc_rules.specs.Nodes.{code, definitions}
+use Rattle.orc_ledger.specs.Same.{weight, only}
+use Rattle.orc_ledger.specs.Tokens.{is_live}
+use Rattle.orc_ledger.specs.Next.{ready_one}
+use Rattle.orc_ledger.proofs.ledger.Ledger.any_moves.Given as goal
+
+abbrev pub invariant-loop-slot : goal.invariant-loop-slot
+invariant-loop-slot g l = weight (only is_live (ready_one (code g.P.Program.listing) (definitions g.P.Program.listing) l.self)) (take l.slot-index l.slot-items) ≡ 0

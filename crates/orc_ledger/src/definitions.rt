@@ -1,0 +1,129 @@
+//! Calls of definitions.
+
+ghost use Rattle.std.specs.Prelude.{◌≡◌, ◌+◌, ◌≤◌, ◌++◌, [], ℕ, true, false, length, map, vec_len, vec_capacity, slice_index_or, IfOk, IfErr, IfSome, IfNone, OnErr, OnOk};
+ghost use Rattle.orc_rules.specs.Nodes.{code, param_of};
+ghost use Rattle.orc_rules.specs.Term.{call};
+ghost use Rattle.orc_ledger.specs.Calls.{IsRefused};
+ghost use Rattle.orc_ledger.specs.Tokens.{IsHeld};
+ghost use Rattle.orc_ledger.specs.Parameters.{Adds, Misfit, IsCalled, IsUndone};
+ghost use Rattle.orc_ledger.specs.declared.records.Standing.TheVariants.{At};
+ghost use Rattle.orc_ledger.specs.declared.records.Token.{Token as Its};
+
+use crate::ledger::{Ledger, LedgerFault, Program, push_within, reserve, write};
+use crate::records::{Standing, Token};
+use orc_graph::Graph;
+use orc_names::{Bound, Scope, meaning};
+use orc_rules::entry::Entry;
+use orc_rules::param::Operand;
+
+// Makes room for so many more scopes.
+fn reserve_scopes(scopes: &mut Vec<Scope>, count: usize) -> Result<(), LedgerFault>
+    ensures items { scopes.new.items ≡ scopes.old.items }
+    ensures room { OnOk result (vec_len scopes.new + count ≤ vec_capacity scopes.new) }
+    ensures why { IfErr result (λ fault. fault ≡ LedgerFault.Memory) }
+{
+    match scopes.reserve(count) {
+        Ok(()) => Ok(()),
+        Err(_) => Err(LedgerFault::Memory),
+    }
+}
+
+// Adds scopes where there is room.
+fn extend_within(scopes: &mut Vec<Scope>, more: &[Scope])
+    requires { vec_len scopes.old + length more.now ≤ vec_capacity scopes.old }
+    ensures { scopes.new.items ≡ scopes.old.items ++ more.now }
+{
+    let added = scopes.extend_from_slice(more);
+    prove!(added.is_ok());
+}
+
+// The scopes of a definition's parameters, written over `added`: the last parameter first, each the outer of the next. Gives the number of the
+// last scope; None where the operands are not as many, or one of them isn't bound.
+fn parameter_scopes(
+    scopes: &[Scope],
+    cells: &[Bound],
+    params: &[u32],
+    operands: &[Operand],
+    scope: usize,
+    added: &mut Vec<Scope>,
+) -> Result<Option<usize>, LedgerFault>
+    ensures adds { IfOk result (λ last. IfSome last (λ n. Adds cells.now scopes.now scope params.now operands.now added.new.items n)) }
+    ensures misfit { IfOk result (λ last. IfNone last (Misfit cells.now scopes.now scope params.now operands.now)) }
+    ensures why { IfErr result (λ fault. fault ≡ LedgerFault.Memory) }
+{
+    added.clear();
+    if params.len() != operands.len() {
+        return Ok(None);
+    }
+    let mut outer = 0;
+    let mut left = params.len();
+    while left > 0 {
+        left -= 1;
+        let Some(bound) = meaning(scopes, cells, operands[left], scope) else {
+            return Ok(None);
+        };
+        reserve(added)?;
+        push_within(
+            added,
+            Scope {
+                name: params[left],
+                bound,
+                outer,
+            },
+        );
+        outer = scopes.len() + added.len();
+    }
+    Ok(Some(outer))
+}
+
+impl<P: Program> Ledger<P> {
+    /// A call of a definition: a token on its body in the same slot, in scopes for its parameters. `added` is lent for these scopes, and what it
+    /// held is lost. Ok(false), which changes nothing, where there is no such definition, where the operands are not as many as the
+    /// parameters, or where one of them isn't bound: no checked program has such a call.
+    pub fn def(
+        &mut self,
+        graph: &Graph,
+        slot: usize,
+        token: Token,
+        scope: usize,
+        definition: u32,
+        list: u32,
+        added: &mut Vec<Scope>,
+    ) -> Result<bool, LedgerFault>
+        requires graph { graph.now ≡ P.listing }
+        requires held { IsHeld self.old.slots slot token }
+        requires at { (node : ℕ) × (token.standing ≡ At node scope) × (code P.listing node ≡ call definition (map param_of (slice_index_or P.listing.lists list []))) }
+        ensures done { IfOk result (λ done. done ≡ true → IsCalled P.listing self.old token scope definition list self.new) }
+        ensures held { IfOk result (λ done. done ≡ true → (t : Its) × IsHeld self.new.slots slot t × (t.serial ≡ self.old.next_mark)) }
+        ensures undone { IfOk result (λ done. done ≡ false → IsUndone P.listing self.old scope definition list) }
+        ensures same { IfOk result (λ done. done ≡ false → self.new ≡ self.old) }
+        ensures refused { OnErr result (self.new ≡ self.old) }
+        ensures why { IfErr result (λ fault. IsRefused self.old 0 0 0 fault) }
+    {
+        self.within(0, 0, 0)?;
+        let Some(body) = graph.body(definition as usize) else {
+            return Ok(false);
+        };
+        let params = graph.params(definition as usize);
+        let operands = graph.operands(list as usize);
+        let fitted = parameter_scopes(&self.scopes, &self.cells, params, operands, scope, added)?;
+        let Some(newest) = fitted else {
+            return Ok(false);
+        };
+        reserve_scopes(&mut self.scopes, added.len())?;
+        let mark = self.next_mark;
+        write(&mut self.journal, &Entry::Def(token.serial, mark))?;
+        self.entries += 1;
+        self.next_mark = mark + 1;
+        extend_within(&mut self.scopes, added);
+        self.tokens.replace(
+            slot,
+            Token {
+                serial: mark,
+                standing: Standing::At(body as usize, newest),
+                step: token.step,
+            },
+        );
+        Ok(true)
+    }
+}
