@@ -21,7 +21,7 @@ pub map-more : {X Y : Type 0} (f : X → Y) (xs : List X) (y : X) → map f (xs 
 map-more f [] y = refl
 map-more f (x ∷ xs) y = ap (λ z. f x ∷ z) (map-more f xs y)
 
-get-map : {X Y : Type 0} (f : X → Y) (xs : List X) (i : ℕ) (x : X) → slice_get xs i ≡ Some x → slice_get (map f xs) i ≡ Some (f x)
+pub get-map : {X Y : Type 0} (f : X → Y) (xs : List X) (i : ℕ) (x : X) → slice_get xs i ≡ Some x → slice_get (map f xs) i ≡ Some (f x)
 get-map f [] i x h = cc h
 get-map f (y ∷ xs) zero x h = ap (option_map f) h
 get-map f (y ∷ xs) (suc i) x h = get-map f xs i x h
@@ -45,16 +45,11 @@ made_there sites (c ∷ cs) i t n h =
     (λ e. record { by = c; is_made = inl refl; number = n.0 ∙ ap suc (sym (e.0 ∙ length-told sites cs)); tells = e.1 })
     (get-more (told_of sites cs) (says_of sites c, c.at) i t h)
 
--- a call that is due now is due by the table
-pub is_due : (x : Context) (now : ℕ) (calls : List CallMade) (due : List ℕ) (r : Rest) (k : ℕ) (c : Called) (a : Answer) → Keeps x now calls due r → IsCall r k c → IsDueNow c a r.time → IsDue x.sites calls k a now
-is_due x now calls due r k c a keeps call d =
+-- a call that is due at a time is due by the table
+pub due_at_time : (x : Context) (now : ℕ) (calls : List CallMade) (due : List ℕ) (r : Rest) (k : ℕ) (c : Called) (a : Answer) (t : ℕ) → Keeps x now calls due r → IsCall r k c → IsDueNow c a t → IsDue x.sites calls k a t
+due_at_time x now calls due r k c a t keeps call d =
     let m = made_there x.sites calls (k - 1) (told c) keeps.numbered (ap (λ z. slice_get z (k - 1)) (sym keeps.calls_are) ∙ get-map told r.calls (k - 1) c call.1) in
-    record {
-      by = m.by;
-      is_made = m.is_made;
-      is_k = omega (arith, m.number, call.0);
-      delay = d.delay;
-      says = ap (λ z. z.0) m.tells ∙ d.says;
-      sum = keeps.time ∙ d.sum ∙ ap (λ z. z + d.delay) (sym (ap (λ z. z.1) m.tells));
-      fits = subst (λ z. z < 2 ^ 64) (sym keeps.time) d.fits;
-    }
+    record { by = m.by; is_made = m.is_made; is_k = omega (arith, m.number, call.0); delay = d.delay; says = ap (λ z. z.0) m.tells ∙ d.says; sum = d.sum ∙ ap (λ z. z + d.delay) (sym (ap (λ z. z.1) m.tells)); fits = d.fits }
+
+pub is_due : (x : Context) (now : ℕ) (calls : List CallMade) (due : List ℕ) (r : Rest) (k : ℕ) (c : Called) (a : Answer) → Keeps x now calls due r → IsCall r k c → IsDueNow c a r.time → IsDue x.sites calls k a now
+is_due x now calls due r k c a keeps call d = subst (IsDue x.sites calls k a) (sym keeps.time) (due_at_time x now calls due r k c a r.time keeps call d)

@@ -27,6 +27,7 @@ pub mod Lists
 pub mod Losing
 pub mod Moves
 pub mod Noting
+pub mod Offered
 pub mod Opening
 pub mod Parameters
 pub mod Paths
@@ -37,9 +38,11 @@ pub mod Resuming
 pub mod Rising
 pub mod Sending
 pub mod Settling
+pub mod Shown
 pub mod Sorting
 pub mod Spelling
 pub mod Moving
+pub mod Takers
 pub mod Ticking
 pub mod Trees
 pub mod Voiding

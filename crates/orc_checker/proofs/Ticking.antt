@@ -92,20 +92,22 @@ kind_there (x ∷ nodes) zero k h = (x.parent, λ j. Some (record { kind = h j; 
 kind_there (x ∷ nodes) (suc i) k h = kind_there nodes i k h
 
 module _ (x : Context) (code : ℕ → Term) (s : State) (p : Place) (sp : Spells x code s p) (source : (i : ℕ) → IsSource (code i)) where
+  -- a node that waits shows a call that pends
+  pub node_pends : (i q k : ℕ) → at s.nodes q i (Leaf (Waits k)) → IsIn k (pending_of (erase p.marked))
+  node_pends i q k a =
+      let dr = sp.drawn in
+      let f = found_there s.nodes (length s.scopes) 0 i q (Waits k) dr.tree dr.holds dr.once a refl in
+      subst (λ z. IsIn k (pending_of (erase z))) (ap (spelled code (env_of s.cells s.scopes)) f.is ∙ sym dr.marked) (pends_around code (env_of s.cells s.scopes) source k f.context (leaf i (Waits k)) (inl refl))
+
   -- a node that waits shows a call that pends and is due
   pub due_pends : (i t : ℕ) → IsDueAt s.nodes s.rest.calls i t → PendsDue x (moment p) t
   due_pends i t (k, is, d) =
-      let dr = sp.drawn in
-      let env = env_of s.cells s.scopes in
       let w = kind_there s.nodes i k is in
-      let f = found_there s.nodes (length s.scopes) 0 i w.0 (Waits k) dr.tree dr.holds dr.once w.1 refl in
-      let pends : IsIn k (pending_of (erase p.marked)) =
-      subst (λ z. IsIn k (pending_of (erase z))) (ap (spelled code env) f.is ∙ sym dr.marked) (pends_around code env source k f.context (leaf i (Waits k)) (inl refl)) in
       let r = sp.rest in
       let m = made_there x.sites p.calls d.index (told d.by) r.numbered (ap (λ z. slice_get z d.index) (sym r.calls_are) ∙ map_there s.rest.calls d.index d.by d.there) in (
         k,
         d.time.0,
-        pends,
+        node_pends i w.0 k w.1,
         record {
           by = m.by;
           is_made = m.is_made;

@@ -10,6 +10,8 @@ pub mod Halting
 pub mod Hints
 pub mod Labelling
 pub mod NextDue
+pub mod Offers
+pub mod Over
 pub mod Parameters
 pub mod Ranks
 pub mod Rising

@@ -1,6 +1,6 @@
 // Calls of sites, and their answers.
 
-ghost use Rattle.std.specs.Prelude.{◌≡◌, ℕ, [], length, suc, IfOk, OnErr};
+ghost use Rattle.std.specs.Prelude.{◌≡◌, ℕ, [], length, suc, IfOk, IfSome, OnErr};
 ghost use Rattle.orc_rules.specs.Term.{Term};
 ghost use Rattle.orc_rules.specs.Nodes.{code};
 ghost use Rattle.orc_rules.specs.declared.entry.Entry.TheVariants as entry;
@@ -24,10 +24,10 @@ use orc_rules::value::{Answer, Args, Value};
 
 /// A call that pends: its node, the one above it, and what is known of it.
 #[derive(Clone, Copy)]
-struct Pending {
-    at: usize,
-    parent: usize,
-    called: Called,
+pub(crate) struct Pending {
+    pub at: usize,
+    pub parent: usize,
+    pub called: Called,
 }
 
 impl Marked {
@@ -60,7 +60,7 @@ impl Marked {
         {
             return Err(RuleFault::Form);
         }
-        self.next_call(k)?;
+        self.expect_call(k)?;
         let called = Called {
             found: self.rest.found(answers, site, args),
             at: self.rest.time(),
@@ -78,8 +78,8 @@ impl Marked {
         Ok(())
     }
 
-    /// Whether `k` is the next call.
-    fn next_call(&self, k: u64) -> Result<(), RuleFault>
+    /// The error is Number: `k` isn't the next call.
+    fn expect_call(&self, k: u64) -> Result<(), RuleFault>
         ensures { IfOk result (λ _. k ≡ suc (length self.now.rest.calls)) }
     {
         if k != 0 && k - 1 == self.rest.calls_made() as u64 {
@@ -89,29 +89,33 @@ impl Marked {
         }
     }
 
-    /// Where call `k` pends, while no cancel is due.
+    /// Where call `k` pends.
+    pub(crate) fn find_call(&self, k: u64) -> Option<Pending>
+        ensures there { IfSome result (λ w. at self.now.nodes w.parent w.at (AtLeaf (Waits k))) }
+        ensures call { IfSome result (λ w. IsCall self.now.rest k w.called) }
+    {
+        let called = self.rest.call(k)?;
+        let node = self.nodes.get(called.node)?;
+        match node.kind {
+            Kind::Leaf(Tip::Waits(call)) if call == k => Some(Pending {
+                at: called.node,
+                parent: node.parent,
+                called,
+            }),
+            _ => None,
+        }
+    }
+
+    /// The same, while no cancel is due.
     fn pending(&self, k: u64) -> Result<Pending, RuleFault>
         ensures free { IfOk result (λ _. self.now.rest.to_cancel ≡ []) }
         ensures there { IfOk result (λ w. at self.now.nodes w.parent w.at (AtLeaf (Waits k))) }
         ensures call { IfOk result (λ w. IsCall self.now.rest k w.called) }
     {
-        if self.rest.is_due() {
+        if self.rest.has_cancels() {
             return Err(RuleFault::Cancel);
         }
-        let Some(called) = self.rest.call(k) else {
-            return Err(RuleFault::Mark);
-        };
-        let Some(node) = self.nodes.get(called.node) else {
-            return Err(RuleFault::Mark);
-        };
-        match node.kind {
-            Kind::Leaf(Tip::Waits(call)) if call == k => Ok(Pending {
-                at: called.node,
-                parent: node.parent,
-                called,
-            }),
-            _ => Err(RuleFault::Mark),
-        }
+        self.find_call(k).ok_or(RuleFault::Mark)
     }
 
     /// `return K A V`.
@@ -126,7 +130,7 @@ impl Marked {
         ensures refused { OnErr result (self.new ≡ self.old) }
     {
         let pending = self.pending(k)?;
-        self.next_mark(a)?;
+        self.expect_mark(a)?;
         is_due_now(pending.called, Answer::Value(v), self.rest.time())?;
         reserve(&mut self.nodes, &mut self.flags, &mut self.marks).map_err(|_| RuleFault::Memory)?;
         self.nodes.wake(

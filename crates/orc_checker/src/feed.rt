@@ -13,19 +13,13 @@ use crate::arena::{Double, Kind, Node, Single, Tip};
 use crate::flags::{push_flag, settle};
 use crate::marked::Marked;
 use crate::nodes::Nodes;
+use crate::pruning::scope_count;
 use crate::room::{push_within, reserve};
 use crate::walk::{Taker, rise, way_up};
 use orc_names::{Bound, Scope};
 use orc_rules::entry::RuleFault;
 use orc_rules::program::Program;
 use orc_rules::value::Value;
-
-/// How many scopes there are.
-pub(crate) fn scope_count(scopes: &Vec<Scope>) -> usize
-    ensures { result ≡ length scopes.now.items }
-{
-    scopes.len()
-}
 
 /// Puts a new `|` above the node `at`, which is on its left, and a new node on its right. The node keeps its number.
 fn graft(nodes: &mut Nodes, at: usize, tip: Tip)
@@ -74,7 +68,7 @@ impl Marked {
         let Single::Feeds(x, g, outer) = single else {
             return Err(RuleFault::Form);
         };
-        self.next_mark(a)?;
+        self.expect_mark(a)?;
         reserve(&mut self.nodes, &mut self.flags, &mut self.marks).map_err(|_| RuleFault::Memory)?;
         self.scopes.try_reserve(1).map_err(|_| RuleFault::Memory)?;
         self.nodes.write_node(

@@ -4,6 +4,7 @@ ghost use Rattle.std.specs.Prelude.{◌≡◌, ◌≤◌, ◌++◌, ◌∷◌, [
 ghost use Rattle.orc_rules.specs.Nodes.{code, node_of};
 ghost use Rattle.orc_checker.specs.Halting.{halt_flag, node_flag, AreHalts};
 
+use crate::flags::flag_at;
 use orc_rules::program::{Program, TermNode};
 use std::alloc::{AllocError, Global};
 use std::marker::Model;
@@ -22,16 +23,6 @@ impl Model for Halts {
     ghost view = { λ h. h.flags.items };
 
     ghost invariant = { λ h. length h.flags.items ≤ length h.active.items };
-}
-
-// The flag of that number, true where there is none.
-fn flag_at(flags: &Vec<bool>, i: usize) -> bool
-    ensures { result ≡ halt_flag flags.now.items i }
-{
-    match flags.get(i) {
-        Some(flag) => *flag,
-        None => true,
-    }
 }
 
 // Whether a node's term has halted, by the flags of its parts.

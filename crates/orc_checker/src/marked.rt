@@ -198,7 +198,7 @@ impl Marked {
         ensures there { IfOk result (λ t. at self.now.nodes t.parent t.at (AtLeaf t.tip)) }
         ensures carries { IfOk result (λ t. Carries s t.tip) }
     {
-        if self.rest.is_due() {
+        if self.rest.has_cancels() {
             return Err(RuleFault::Cancel);
         }
         self.token(s).ok_or(RuleFault::Mark)
@@ -237,7 +237,7 @@ impl Marked {
     }
 
     /// The value on which a token stands.
-    fn value_under(&self, program: &Program, tip: Tip) -> Option<Value>
+    pub(crate) fn value_under(&self, program: &Program, tip: Tip) -> Option<Value>
         ensures lives { IfSome result (λ v. living_kind (AtLeaf tip) ≡ 1) }
         ensures bears { IfSome result (λ v. (s : ℕ) → Carries s tip → BearsValue (code program.now) self.now.cells self.now.scopes s tip v) }
     {
@@ -256,8 +256,8 @@ impl Marked {
         }
     }
 
-    /// Whether `a` is the next mark.
-    pub(crate) fn next_mark(&self, a: u64) -> Result<(), RuleFault>
+    /// The error is Number: `a` isn't the next mark.
+    pub(crate) fn expect_mark(&self, a: u64) -> Result<(), RuleFault>
         ensures { IfOk result (λ _. a ≡ length self.now.marks) }
     {
         if a == self.marks.len() as u64 {

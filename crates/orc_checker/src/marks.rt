@@ -47,7 +47,7 @@ impl Marked {
         let TermNode::Par(f, g) = program.node(spot.node) else {
             return Err(RuleFault::Form);
         };
-        self.next_mark(a)?;
+        self.expect_mark(a)?;
         if b == 0 || b - 1 != a {
             return Err(RuleFault::Number);
         }
@@ -80,7 +80,7 @@ impl Marked {
         let TermNode::Seq(f, x, g) = program.node(spot.node) else {
             return Err(RuleFault::Form);
         };
-        self.next_mark(a)?;
+        self.expect_mark(a)?;
         reserve(&mut self.nodes, &mut self.flags, &mut self.marks).map_err(|_| RuleFault::Memory)?;
         let n = self.nodes.len();
         self.nodes.write_node(
@@ -106,7 +106,7 @@ impl Marked {
         let TermNode::Other(f, g) = program.node(spot.node) else {
             return Err(RuleFault::Form);
         };
-        self.next_mark(a)?;
+        self.expect_mark(a)?;
         reserve(&mut self.nodes, &mut self.flags, &mut self.marks).map_err(|_| RuleFault::Memory)?;
         let n = self.nodes.len();
         self.nodes.write_node(

@@ -1,6 +1,6 @@
 // The right side of an otherwise starts.
 
-ghost use Rattle.std.specs.Prelude.{◌≡◌, ℕ, [], IfOk, OnErr};
+ghost use Rattle.std.specs.Prelude.{◌≡◌, ℕ, [], IfOk, IfSome, OnErr};
 ghost use Rattle.orc_rules.specs.Term.{Term};
 ghost use Rattle.orc_checker.specs.Arena.{at};
 ghost use Rattle.orc_checker.specs.Checker.{Enters};
@@ -38,30 +38,33 @@ impl Marked {
         }
     }
 
-    /// Where otherwise `s` stands, while no cancel is due.
-    fn otherwise(&self, s: u64) -> Result<Otherwise, RuleFault>
-        ensures free { IfOk result (λ _. self.now.rest.to_cancel ≡ []) }
-        ensures there { IfOk result (λ o. at self.now.nodes o.parent o.at (AtOne (IsEntered s o.node o.scope) o.left)) }
+    /// Where otherwise `s` stands.
+    pub(crate) fn find_otherwise(&self, s: u64) -> Option<Otherwise>
+        ensures { IfSome result (λ o. at self.now.nodes o.parent o.at (AtOne (IsEntered s o.node o.scope) o.left)) }
     {
-        if self.rest.is_due() {
-            return Err(RuleFault::Cancel);
-        }
-        let Some(place) = self.marks.get(s as usize) else {
-            return Err(RuleFault::Mark);
-        };
-        let Some(node) = self.nodes.get(*place) else {
-            return Err(RuleFault::Mark);
-        };
+        let place = *self.marks.get(s as usize)?;
+        let node = self.nodes.get(place)?;
         match node.kind {
-            Kind::One(Single::Entered(mark, right, scope), left) if mark == s => Ok(Otherwise {
-                at: *place,
+            Kind::One(Single::Entered(mark, right, scope), left) if mark == s => Some(Otherwise {
+                at: place,
                 parent: node.parent,
                 left,
                 node: right,
                 scope,
             }),
-            _ => Err(RuleFault::Mark),
+            _ => None,
         }
+    }
+
+    /// The same, while no cancel is due.
+    fn otherwise(&self, s: u64) -> Result<Otherwise, RuleFault>
+        ensures free { IfOk result (λ _. self.now.rest.to_cancel ≡ []) }
+        ensures there { IfOk result (λ o. at self.now.nodes o.parent o.at (AtOne (IsEntered s o.node o.scope) o.left)) }
+    {
+        if self.rest.has_cancels() {
+            return Err(RuleFault::Cancel);
+        }
+        self.find_otherwise(s).ok_or(RuleFault::Mark)
     }
 
     /// `right S A`.
@@ -70,7 +73,7 @@ impl Marked {
         ensures refused { OnErr result (self.new ≡ self.old) }
     {
         let otherwise = self.otherwise(s)?;
-        self.next_mark(a)?;
+        self.expect_mark(a)?;
         if !self.part_has_halted(otherwise.left) {
             return Err(RuleFault::Halted);
         }

@@ -65,13 +65,6 @@ impl Rest {
         next_due(nodes, &self.calls, due)
     }
 
-    /// The time.
-    pub(crate) fn now(&self) -> u64
-        ensures { result ≡ self.now.time }
-    {
-        self.time
-    }
-
     /// The time goes on.
     pub(crate) fn set_time(&mut self, time: u64)
         ensures { self.new ≡ record { calls = self.old.calls; counts = self.old.counts; time = time; to_cancel = self.old.to_cancel; cancels = self.old.cancels } }

@@ -1,6 +1,6 @@
 // Prunings: they are opened, and their cells get a value or never will.
 
-ghost use Rattle.std.specs.Prelude.{◌≡◌, ◌+◌, ◌<◌, ◌≤◌, [], length, reverse, slice_get, slice_set, true, false, vec_len, vec_capacity, IfOk, OnErr};
+ghost use Rattle.std.specs.Prelude.{◌≡◌, ◌+◌, ◌<◌, ◌≤◌, [], length, reverse, slice_get, slice_set, true, false, vec_len, vec_capacity, IfOk, IfSome, OnErr};
 ghost use Rattle.orc_rules.specs.Nodes.{code};
 ghost use Rattle.orc_rules.specs.Sites.{Table};
 ghost use Rattle.orc_checker.specs.Checker.{Applies, Enters};
@@ -65,8 +65,8 @@ fn bind_cell(cells: &mut Vec<Bound>, c: u64, bound: Bound)
 }
 
 impl Marked {
-    /// Whether `c` is the next cell.
-    fn next_cell(&self, c: u64) -> Result<(), RuleFault>
+    /// The error is Number: `c` isn't the next cell.
+    fn expect_cell(&self, c: u64) -> Result<(), RuleFault>
         ensures { IfOk result (λ _. c ≡ length self.now.cells) }
     {
         if c == self.cells.len() as u64 {
@@ -92,8 +92,8 @@ impl Marked {
         let TermNode::Prune(f, x, g) = program.node(spot.node) else {
             return Err(RuleFault::Form);
         };
-        self.next_cell(c)?;
-        self.next_mark(a)?;
+        self.expect_cell(c)?;
+        self.expect_mark(a)?;
         if b == 0 || b - 1 != a {
             return Err(RuleFault::Number);
         }
@@ -211,33 +211,36 @@ impl Marked {
             halted,
         );
         bind_cell(&mut self.cells, c, Bound::Is(v));
-        self.rest.set_due(calls);
+        self.rest.set_cancels(calls);
         Ok(())
     }
 
-    /// Where the pruning of a cell stands, while no cancel is due.
-    fn pruning(&self, c: u64) -> Result<Pruning, RuleFault>
-        ensures free { IfOk result (λ _. self.now.rest.to_cancel ≡ []) }
-        ensures there { IfOk result (λ o. at self.now.nodes o.parent o.at (AtTwo (IsSide c) o.left o.right)) }
+    /// Where the pruning of a cell stands.
+    pub(crate) fn find_pruning(&self, c: u64) -> Option<Pruning>
+        ensures { IfSome result (λ o. at self.now.nodes o.parent o.at (AtTwo (IsSide c) o.left o.right)) }
     {
-        if self.rest.is_due() {
-            return Err(RuleFault::Cancel);
-        }
-        let Some(place) = self.prunings.get(c as usize) else {
-            return Err(RuleFault::Mark);
-        };
-        let Some(node) = self.nodes.get(*place) else {
-            return Err(RuleFault::Mark);
-        };
+        let place = *self.prunings.get(c as usize)?;
+        let node = self.nodes.get(place)?;
         match node.kind {
-            Kind::Two(Double::Side(cell), left, right) if cell == c => Ok(Pruning {
-                at: *place,
+            Kind::Two(Double::Side(cell), left, right) if cell == c => Some(Pruning {
+                at: place,
                 parent: node.parent,
                 left,
                 right,
             }),
-            _ => Err(RuleFault::Mark),
+            _ => None,
         }
+    }
+
+    /// The same, while no cancel is due.
+    fn pruning(&self, c: u64) -> Result<Pruning, RuleFault>
+        ensures free { IfOk result (λ _. self.now.rest.to_cancel ≡ []) }
+        ensures there { IfOk result (λ o. at self.now.nodes o.parent o.at (AtTwo (IsSide c) o.left o.right)) }
+    {
+        if self.rest.has_cancels() {
+            return Err(RuleFault::Cancel);
+        }
+        self.find_pruning(c).ok_or(RuleFault::Mark)
     }
 
     /// `lost C`.

@@ -111,7 +111,7 @@ impl Rest {
     }
 
     /// Whether a cancel is due.
-    pub(crate) fn is_due(&self) -> bool
+    pub(crate) fn has_cancels(&self) -> bool
         ensures { result ≡ false → self.now.to_cancel ≡ [] }
     {
         !self.to_cancel.is_empty()
@@ -125,7 +125,7 @@ impl Rest {
     }
 
     /// The cancels of these calls come due, the last one first.
-    pub(crate) fn set_due(&mut self, calls: Vec<u64>)
+    pub(crate) fn set_cancels(&mut self, calls: Vec<u64>)
         ensures { self.new ≡ record self.old { to_cancel = reverse calls.items } }
     {
         self.to_cancel = calls;

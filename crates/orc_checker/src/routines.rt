@@ -93,7 +93,7 @@ impl Marked {
         let Some(called) = definition(program, number) else {
             return Err(RuleFault::Form);
         };
-        self.next_mark(a)?;
+        self.expect_mark(a)?;
         let operands = program.operands(list);
         let (added, scope) = parameter_scopes(
             self.nodes.allocator(),

@@ -16,13 +16,13 @@ impl Marked {
         ensures done { IfOk result (λ _. (sites : Table) → Applies program.now sites (entry.Tick t) self.old self.new) }
         ensures refused { OnErr result (self.new ≡ self.old) }
     {
-        if self.rest.is_due() {
+        if self.rest.has_cancels() {
             return Err(RuleFault::Cancel);
         }
         let Some(due) = self.rest.next_due(&self.nodes, &mut self.due) else {
             return Err(RuleFault::Time);
         };
-        if due != t || due <= self.rest.now() {
+        if due != t || due <= self.rest.time() {
             return Err(RuleFault::Time);
         }
         if self.can_move(program) {

@@ -27,7 +27,7 @@ use Rattle.orc_checker.specs.declared.arena.Double.TheVariants.{Both, Side}
 use Rattle.orc_checker.specs.declared.walk.Taker.{Taker}
 use Rattle.orc_checker.specs.Arena.{Frame, Tree, living_kind, of_tip, spelled}
 use Rattle.orc_names.specs.Scopes.{Env, close, env_of}
-use Rattle.orc_checker.specs.Rising.{takes, Stands as StandsAt}
+use Rattle.orc_checker.specs.Rising.{takes, act_of, Stands as StandsAt}
 use Rattle.orc_checker.specs.Settling.{flag}
 use Rattle.orc_checker.specs.Checker.{State, Spells}
 use Rattle.orc_verdict.specs.declared.finding.Name.{Name}
@@ -35,10 +35,11 @@ use Rattle.orc_verdict.specs.declared.finding.Name.TheVariants.{Mark, Call, Cell
 use Rattle.orc_verdict.specs.declared.finding.Part.{Part}
 use Rattle.orc_verdict.specs.declared.standing.Standing.{Standing}
 use Rattle.orc_verdict.specs.Finding.{name_at, Has, HasNone, is_leaf, is_one}
-use Rattle.orc_verdict.specs.Standing.{under, summary, act_of, mark_of, args_of, fits_as}
+use Rattle.orc_verdict.specs.Standing.{under, summary, mark_of, args_of, fits_as}
 use Rattle.orc_verdict.specs.Reasons.{right_flag, left_flag, IsRightOver, IsLeftOver}
-use Rattle.orc_verdict.proofs.Parts.{Shows, Shown, shown, stands_nowhere}
-use Rattle.orc_verdict.proofs.Publishing.{emits_up}
+use Rattle.orc_checker.proofs.Shown.{Shows, Shown, shown}
+use Rattle.orc_checker.proofs.Takers.{emits_up}
+use Rattle.orc_verdict.proofs.Parts.{stands_nowhere}
 use Rattle.orc_verdict.proofs.Fitting.{fits_token, fits_there, fits_nothing}
 
 lives : (name : Name) (k : Kind) → name_at k ≡ Some name → living_kind k ≡ 1

@@ -8,4 +8,3 @@ pub mod Judging
 pub mod Levels
 pub mod Nesting
 pub mod Parts
-pub mod Publishing

@@ -74,12 +74,6 @@ abbrev pub args_of : Entry → List Value
 args_of (entry.Call s k m args) = args
 args_of _ = []
 
--- a publication of this value that this one takes
-abbrev pub act_of : Taker → Value → Act
-act_of Whole v = publishes v
-act_of (Fed i) v = silent
-act_of (Bound c i) v = binds c v
-
 -- whether a publication of the value is taken so
 abbrev pub is_sent : Option Taker → Bool
 is_sent (Some (Fed i)) = true

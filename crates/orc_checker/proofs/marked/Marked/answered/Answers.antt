@@ -21,8 +21,8 @@ returns-clause-done c code =
     (due_at t.called _ _ _ (c.time.ensures ∙ ap (λ (z : State). Rest.time z.rest) v) c.in_ok-is_due_now.ensures)
     (c.wake.ensures ∙ ap (λ z. slice_set z t.at (node (Leaf (Bears c.args.a c.args.v)) t.parent)) (c.reserve.ensures.nodes ∙ ap State.nodes v))
     (c.reserve.ensures.flags ∙ ap State.flags v)
-    c.in_ok-next_mark.ensures
-    (record { free = c.in_ok-pending.ensures.free; scopes = ap State.scopes v; cells = ap State.cells v; marks = one_more s.marks _ _ _ c.args.a (c.reserve.ensures.marks ∙ ap State.marks v) c.push_within.ensures.items c.in_ok-next_mark.ensures; rest = ap State.rest v; halts = ap State.halts v })
+    c.in_ok-expect_mark.ensures
+    (record { free = c.in_ok-pending.ensures.free; scopes = ap State.scopes v; cells = ap State.cells v; marks = one_more s.marks _ _ _ c.args.a (c.reserve.ensures.marks ∙ ap State.marks v) c.push_within.ensures.items c.in_ok-expect_mark.ensures; rest = ap State.rest v; halts = ap State.halts v })
 
 pub wake-requires : goal.wake-requires
 wake-requires c = record { room = search rules; node = can_wake c.args.self.now.nodes _ _ _ _ _ (c.reserve.ensures.nodes ∙ ap State.nodes c.self.view_is) c.in_ok-pending.ensures.there (λ v. refl) }

@@ -41,7 +41,7 @@ returns-clause-done c t =
       scopes = ap State.scopes v;
       marks = ap (λ (z : State). length z.marks) v;
       halts = ap State.halts v;
-      rest = c.set_due.ensures ∙ ap (λ (z : State). record z.rest { to_cancel = reverse r.calls.items }) v;
+      rest = c.set_cancels.ensures ∙ ap (λ (z : State). record z.rest { to_cancel = reverse r.calls.items }) v;
     })
     (c.bind_cell.ensures ∙ ap (λ (z : State). slice_set z.cells c.args.c (Is c.args.v)) v)
     (c.settle.ensures.len ∙ ap (λ (z : State). length z.flags) v)
@@ -55,6 +55,6 @@ write_node-requires c = can_end c.self.inside.nodes.items c.in-Bound.at c.in-Two
 
 pub invariant_of-self : goal.invariant_of-self
 invariant_of-self c = (
-  still_noted _ _ _ _ _ (wait_on _ _ _ (wait_written _ _ _ _ c.write_node.ensures.items refl) (wait_dropped _ _ _ c.drop_nodes.ensures.dropped)) (ap Rest.calls c.set_due.ensures) c.self.invariant.0,
+  still_noted _ _ _ _ _ (wait_on _ _ _ (wait_written _ _ _ _ c.write_node.ensures.items refl) (wait_dropped _ _ _ c.drop_nodes.ensures.dropped)) (ap Rest.calls c.set_cancels.ensures) c.self.invariant.0,
   known_kept _ _ _ _ _ _ _ c.self.invariant.1 (sides_on (length c.self.inside.nodes.items) _ _ _ (sides_written (length c.self.inside.nodes.items) _ _ _ _ c.write_node.ensures.items (can_end c.self.inside.nodes.items c.in-Bound.at c.in-Two.left _ (ap Node.parent c.node_at-pruning.ensures)) (λ p lt. refl)) (c.drop_nodes.ensures.sides (length c.self.inside.nodes.items))) c.settle.ensures.known c.settle.ensures.kept refl c.settle.ensures.len (c.drop_nodes.ensures.len ∙ ap length c.write_node.ensures.items ∙ length-set c.self.inside.nodes.items _ _),
 )

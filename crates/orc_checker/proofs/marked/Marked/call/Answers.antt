@@ -38,7 +38,7 @@ returns-clause-done c =
     (ap State.scopes v)
     (ap State.cells v)
     (ap State.marks v)
-    c.in_ok-next_call.ensures
+    c.in_ok-expect_call.ensures
     (subst (λ (z : State). NextFound sites (Rest.counts z.rest) c.args.site c.args.args.now c.found.result) v c.found.ensures)
     (c.time.ensures ∙ ap (λ (z : State). Rest.time z.rest) v)
     (subst (λ (z : State). AddsCall sites called c.args.site c.args.args.now z.rest c.add.new.self) v c.in_ok-add.ensures.added)
@@ -55,7 +55,7 @@ invariant_of-self-in_err-add c = (still_noted _ _ _ _ _ (same_wait _ _ refl) (ap
 
 pub invariant_of-self-2 : goal.invariant_of-self-2
 invariant_of-self-2 c = (
-  noted_call _ _ _ _ _ _ c.in_ok-spot.spot.at c.in_ok-spot.spot.parent c.args.k _ c.due_time.result c.self.invariant.0 (c.in_ok-next_call.ensures ∙ ap (λ (z : State). suc (length (Rest.calls z.rest))) (sym c.self.view_is)) c.write_node.ensures.items
+  noted_call _ _ _ _ _ _ c.in_ok-spot.spot.at c.in_ok-spot.spot.parent c.args.k _ c.due_time.result c.self.invariant.0 (c.in_ok-expect_call.ensures ∙ ap (λ (z : State). suc (length (Rest.calls z.rest))) (sym c.self.view_is)) c.write_node.ensures.items
       (ap Rest.calls c.in_ok-add.ensures.added.same) c.due_time.ensures c.in_ok-note.ensures.noted c.note.ensures.kept,
   known_kept _ _ _ _ _ _ _ c.self.invariant.1 (sides_written (length c.self.inside.nodes.items) _ _ _ _ c.write_node.ensures.items (can_turn c.args.self.now.nodes _ _ _ _ _ (ap State.nodes c.self.view_is) c.in_ok-spot.ensures.there (λ v. refl) refl) (λ p lt. refl)) (flags_same _ _ _ _ refl) (λ p m. m) refl refl (ap length c.write_node.ensures.items ∙ length-set c.self.inside.nodes.items _ _),
 )

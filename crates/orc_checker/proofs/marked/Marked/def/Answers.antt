@@ -31,7 +31,7 @@ returns-clause-done c = λ table cancels p reached.
     (c.node.ensures.term ∙ ap (unfold_node (code l) l.lists) c.in-Call.is)
     c.in-Some.ensures.there
     refl
-    c.in_ok-next_mark.ensures
+    c.in_ok-expect_mark.ensures
     (subst (λ z. Adds s.cells s.scopes t.scope d.params.items z more n) c.operands-operands.ensures.value
     (subst (λ (z : State). Adds z.cells z.scopes t.scope d.params.items c.operands-operands.result.now more n) v
     (subst (λ ss. Adds c.self.inside.cells.items ss t.scope d.params.items c.operands-operands.result.now more n) c.deref.ensures.value
@@ -43,7 +43,7 @@ returns-clause-done c = λ table cancels p reached.
     (c.in_ok-extend_scopes.ensures.items ∙ ap (λ z. z ++ more) (ap State.scopes v))
     (ap State.cells v)
     (ap State.halts v)
-    (one_more s.marks _ _ _ c.args.a (c.try_reserve.ensures.items ∙ ap State.marks v) c.push_within.ensures.items c.in_ok-next_mark.ensures)
+    (one_more s.marks _ _ _ c.args.a (c.try_reserve.ensures.items ∙ ap State.marks v) c.push_within.ensures.items c.in_ok-expect_mark.ensures)
     (ap State.rest v)
     c.in_ok-spot.ensures.free
     p

@@ -18,7 +18,7 @@ returns-clause-done c =
     let t = c.in_ok-spot.spot in
     let v = c.self.view_is in
     let k = c.in-Par in
-    let next = c.in_ok-next_mark.ensures in
+    let next = c.in_ok-expect_mark.ensures in
     let b_is : c.args.b ≡ suc c.args.a = omega (arith, c.if-b-eq0.false, c.if-b-a.false) in
     fork-enters terms c.args.self.now _ t.at t.parent c.args.s t.node t.scope c.in_ok-spot.ensures.there c.len-n.result c.args.a c.args.b k.f k.g
     (c.node.ensures.term ∙ ap (unfold_node terms c.args.program.now.lists) k.is)

@@ -25,7 +25,7 @@ returns-clause-done c =
     let t = c.in_ok-spot.spot in
     let v = c.self.view_is in
     let k = c.in-Prune in
-    let next = c.in_ok-next_mark.ensures in
+    let next = c.in_ok-expect_mark.ensures in
     let b_is : c.args.b ≡ suc c.args.a = omega (arith, c.if-b-eq0.false, c.if-b-a.false) in
     let s = c.args.self.now in
     let scopes = c.push_within.ensures.items ∙ ap (λ z. z ++ record { name = k.x; bound = Cell c.args.c; outer = t.scope } ∷ []) (c.reserve_cell.ensures.scopes ∙ ap State.scopes v) in
@@ -38,7 +38,7 @@ returns-clause-done c =
     open-enters terms s _ t.at t.parent c.args.s t.node t.scope c.in_ok-spot.ensures.there c.len-n.result c.args.c c.args.a c.args.b k.f k.x k.g
     (c.node.ensures.term ∙ ap (unfold_node terms c.args.program.now.lists) k.is)
     (c.len-n.ensures.count ∙ ap length (c.reserve.ensures.nodes ∙ ap State.nodes v))
-    c.in_ok-next_cell.ensures
+    c.in_ok-expect_cell.ensures
     next
     b_is
     (set_two s.nodes _ _ _ t.at _ _ _ _ _ (c.reserve.ensures.nodes ∙ ap State.nodes v) (c.push_within-3.ensures.items ∙ ap (λ z. z ++ c.token_node.result ∷ []) c.write_node.ensures.items) c.push_within-4.ensures.items (c.token_node.ensures ∙ ap (λ z. node (Leaf (Token c.args.a k.f z)) t.at) inner) c.token_node-2.ensures)

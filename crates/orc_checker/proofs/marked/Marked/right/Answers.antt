@@ -21,7 +21,7 @@ returns-clause-done c code =
     resume-enters code s _ o.at o.parent c.args.s o.left o.node o.scope c.args.a c.in_ok-side.side.items c.wake.new.self.items w.ensures.there (sym c.part_has_halted.ensures ∙ c.if-not-part_has_halted.false)
     (record {
       free = w.ensures.free;
-      next = c.in_ok-next_mark.ensures;
+      next = c.in_ok-expect_mark.ensures;
       all = c.in_ok-side.ensures;
       nodes = c.wake.ensures ∙ ap (λ z. slice_set z o.at (node (Leaf (Token c.args.a o.node o.scope)) o.parent)) (c.reserve.ensures.nodes ∙ ap State.nodes v);
       dropped = c.drop_nodes.ensures.dropped;

@@ -18,7 +18,7 @@ returns-clause-done c =
     let t = c.in_ok-spot.spot in
     let v = c.self.view_is in
     let k = c.in-Seq in
-    let next = c.in_ok-next_mark.ensures in
+    let next = c.in_ok-expect_mark.ensures in
     seq-enters terms c.args.self.now _ t.at t.parent c.args.s t.node t.scope c.in_ok-spot.ensures.there c.len-n.result c.args.a k.f k.x k.g
     (c.node.ensures.term ∙ ap (unfold_node terms c.args.program.now.lists) k.is)
     (c.len-n.ensures.count ∙ ap length (c.reserve.ensures.nodes ∙ ap State.nodes v))

@@ -22,9 +22,9 @@ returns-clause-done c = λ sites cancels p reached.
     let e : c.in-Some.due ≡ c.args.t = omega arith in
     let next : IsNext c.self.inside.nodes.items c.self.inside.rest.calls (Some c.in-Some.due) = subst (IsNext c.self.inside.nodes.items c.self.inside.rest.calls) c.in-Some.is c.next_due.ensures.next in
     tick-follows x (code l) s _ c.args.t (c.program_is_source.ensures l).0 c.tests_are_right.ensures.tick
-    (subst (λ (z : State). z.rest.to_cancel ≡ []) v (c.is_due.ensures c.if-is_due.false))
+    (subst (λ (z : State). z.rest.to_cancel ≡ []) v (c.has_cancels.ensures c.if-has_cancels.false))
     (λ p sp. sym (c.can_move.ensures.moves x p refl (subst (λ z. Spells x (code l) z p) (sym v) sp)) ∙ c.if-can_move.false)
     (subst (λ (z : State). IsNext z.nodes z.rest.calls (Some c.args.t)) v (subst (λ z. IsNext c.self.inside.nodes.items c.self.inside.rest.calls (Some z)) e next))
-    (omega (arith, c.if-due-now.false, c.now.ensures, e, ap (λ (z : State). z.rest.time) v))
+    (omega (arith, c.if-due-time.false, c.time.ensures, e, ap (λ (z : State). z.rest.time) v))
     (λ j. with_rest (w j) ((c.set_time.ensures ∙ ap (λ (z : State). timed c.args.t z.rest) w) j))
     p

@@ -9,8 +9,7 @@ use Rattle.orc_checker.specs.declared.arena.Single.TheVariants.{Feeds, Entered, 
 use Rattle.orc_checker.specs.declared.arena.Double.TheVariants.{Both, Side}
 use Rattle.orc_checker.specs.Arena.{Tree, one, two, spelled, Frame, on_one, on_left, on_right, plug}
 use Rattle.orc_names.specs.Scopes.{Env}
-use Rattle.orc_checker.specs.Rising.{takes}
-use Rattle.orc_verdict.specs.Standing.{act_of}
+use Rattle.orc_checker.specs.Rising.{takes, act_of}
 
 module _ (code : ℕ → Term) (env : ℕ → Env) where
   -- what is taken below stays so above

@@ -1,9 +1,18 @@
-//! Which sides have halted with an entry.
+//! Sides that have halted, and when calls are due.
+
+ghost use Rattle.std.specs.Prelude.{IfSome};
+ghost use Rattle.orc_rules.specs.Journal.{Place};
+ghost use Rattle.orc_rules.specs.Nodes.{Listing, code};
+ghost use Rattle.orc_rules.specs.Timed.{Context};
+ghost use Rattle.orc_checker.specs.Checker.{Spells};
+ghost use Rattle.orc_checker.specs.Over.{LeftIs, PendsUntil, RightIs};
 
 use crate::arena::{Double, Kind, Single};
-use crate::flags::flag_at;
 use crate::marked::Marked;
+use orc_calls::due_time;
 use orc_rules::entry::Entry;
+use orc_rules::laws::program_is_source;
+use orc_rules::value::{Answer, Found};
 use std::alloc::AllocError;
 use std::collections::VecDeque;
 
@@ -18,12 +27,45 @@ pub enum Side {
 fn side_of(above: Kind, part: usize) -> Option<Side> {
     match above {
         Kind::Two(Double::Side(cell), _, right) if right == part => Some(Side::Right(cell)),
-        Kind::One(Single::Entered(otherwise, _, _), _) => Some(Side::Left(otherwise)),
+        Kind::One(Single::Entered(otherwise, _, _), left) if left == part => {
+            Some(Side::Left(otherwise))
+        }
         _ => None,
     }
 }
 
 impl Marked {
+    /// The answer of a call and the time at which it is due, in units of logical time. None where it pends no more or is never due.
+    pub fn due(&self, call: u64) -> Option<(Answer, u64)>
+        ensures { IfSome result (λ d. (x : Context) (l : Listing) (p : Place) → Spells x (code l) self.now p → PendsUntil x p call d) }
+    {
+        program_is_source();
+        let pending = self.find_call(call)?;
+        let Found::After(answer, _) = pending.called.found else {
+            return None;
+        };
+        match due_time(pending.called.found, pending.called.at) {
+            Some(time) => Some((answer, time)),
+            None => None,
+        }
+    }
+
+    /// Whether the right side of a cell's pruning has halted. None where that pruning doesn't stand.
+    pub fn right_has_halted(&self, cell: u64) -> Option<bool>
+        ensures { IfSome result (λ b. (x : Context) (l : Listing) (p : Place) → Spells x (code l) self.now p → RightIs p cell b) }
+    {
+        let pruning = self.find_pruning(cell)?;
+        Some(self.part_has_halted(pruning.right))
+    }
+
+    /// Whether the left side of an otherwise has halted. None where that otherwise doesn't stand.
+    pub fn left_has_halted(&self, otherwise: u64) -> Option<bool>
+        ensures { IfSome result (λ b. (x : Context) (l : Listing) (p : Place) → Spells x (code l) self.now p → LeftIs p otherwise b) }
+    {
+        let entered = self.find_otherwise(otherwise)?;
+        Some(self.part_has_halted(entered.left))
+    }
+
     /// Adds the sides that have halted with an entry, which is the one applied last. All such entries together look at each node at most
     /// once. The error is refused memory.
     pub fn add_halted(&self, entry: &Entry, sides: &mut VecDeque<Side>) -> Result<(), AllocError> {
@@ -60,7 +102,7 @@ impl Marked {
     fn add_halted_above(&self, from: usize, sides: &mut VecDeque<Side>) -> Result<(), AllocError> {
         let mut place = from;
         for _ in 0..self.nodes.len() {
-            if place == 0 || !flag_at(&self.flags, place) {
+            if place == 0 || !self.part_has_halted(place) {
                 break;
             }
             let parent = self.nodes.node_at(place).parent;

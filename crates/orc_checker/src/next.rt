@@ -1,0 +1,192 @@
+// What a token can do next.
+
+ghost use Rattle.std.specs.Prelude.{◌≡◌, ◌+◌, ◌≤◌, List, length, IfSome, Some, slice_get};
+ghost use Rattle.orc_rules.specs.Journal.{Place};
+ghost use Rattle.orc_rules.specs.Nodes.{code, definitions};
+ghost use Rattle.orc_rules.specs.Term.{Definition, site as site_of};
+ghost use Rattle.orc_rules.specs.Timed.{Context};
+ghost use Rattle.orc_rules.specs.declared.limits.TheConstants.{MOST_ARGUMENTS};
+ghost use Rattle.orc_names.specs.Names.{AreOrdered};
+ghost use Rattle.orc_names.specs.Scopes.{close, env_of};
+ghost use Rattle.orc_checker.specs.Checker.{Spells};
+ghost use Rattle.orc_checker.specs.Offers.{AddsValues, Allows, AwaitsAt, IsOperandAt, IsPublished, Offers};
+ghost use Rattle.orc_checker.specs.Stillness.{params_in};
+
+use crate::arena::Tip;
+use crate::marked::Marked;
+use crate::routines::definition;
+use crate::void::has_void;
+use crate::walk::{Taker, way_up};
+use orc_names::{Bound, Scope, meaning};
+use orc_rules::param::Operand;
+use orc_rules::program::{Program, TermNode};
+use orc_rules::value::{Args, Value};
+
+/// What a token can do next.
+#[derive(Drop)]
+pub enum Next {
+    End,
+    Fork,
+    Seq,
+    Other,
+    Def,
+    Void,
+    Open,
+    /// It publishes to a `>x>`.
+    Send(Value),
+    /// It publishes to the right side of this cell.
+    Bind(u64, Value),
+    /// Nothing takes its publication.
+    Publish(Value),
+    Call(u32, Args),
+    /// It waits for cells, one for each position at which `awaited` gives one.
+    Wait,
+}
+
+// Adds the values of operands, which are at most 16; false where one of them is none.
+fn push_values(
+    scopes: &[Scope],
+    cells: &[Bound],
+    operands: &[Operand],
+    scope: usize,
+    args: &mut Args,
+) -> bool
+    requires { length args.old + length operands.now ≤ MOST_ARGUMENTS }
+    ensures { AreOrdered scopes.now → AddsValues cells.now scopes.now scope operands.now args.old args.new result }
+{
+    match operands {
+        [] => true,
+        [operand, operands @ ..] => match meaning(scopes, cells, *operand, scope) {
+            Some(Bound::Is(value)) => {
+                args.push(value);
+                push_values(scopes, cells, operands, scope, args)
+            }
+            Some(Bound::Cell(_)) => false,
+            Some(Bound::Void) => false,
+            None => false,
+        },
+    }
+}
+
+// What a token can do on a call of a site.
+fn call_from(
+    scopes: &[Scope],
+    cells: &[Bound],
+    site: u32,
+    operands: &[Operand],
+    scope: usize,
+) -> Next
+    requires { length operands.now ≤ MOST_ARGUMENTS }
+    ensures { (defs : List Definition) → AreOrdered scopes.now → Allows defs (site_of site (params_in cells.now scopes.now scope operands.now)) result }
+{
+    let mut args = Args::new();
+    if push_values(scopes, cells, operands, scope, &mut args) {
+        return Next::Call(site, args);
+    }
+    if has_void(scopes, cells, operands, scope) {
+        Next::Void
+    } else {
+        Next::Wait
+    }
+}
+
+// What a token can do on a node of the program that is no value.
+fn move_from(
+    program: &Program,
+    scopes: &[Scope],
+    cells: &[Bound],
+    node: usize,
+    scope: usize,
+) -> Option<Next>
+    ensures { IfSome result (λ n. AreOrdered scopes.now → Allows (definitions program.now) (close (env_of cells.now scopes.now scope) (code program.now node)) n) }
+{
+    match program.node(node) {
+        TermNode::Stop => Some(Next::End),
+        TermNode::Par(_, _) => Some(Next::Fork),
+        TermNode::Seq(_, _, _) => Some(Next::Seq),
+        TermNode::Other(_, _) => Some(Next::Other),
+        TermNode::Prune(_, _, _) => Some(Next::Open),
+        TermNode::Call(number, _) => match definition(program, number) {
+            Some(_) => Some(Next::Def),
+            None => None,
+        },
+        TermNode::Operand(operand) => match meaning(scopes, cells, operand, scope) {
+            Some(Bound::Is(_)) => None,
+            Some(Bound::Void) => Some(Next::Void),
+            Some(Bound::Cell(_)) => Some(Next::Wait),
+            None => Some(Next::Wait),
+        },
+        TermNode::Site(site, list) => {
+            Some(call_from(scopes, cells, site, program.operands(list), scope))
+        }
+    }
+}
+
+fn nth_of(operands: &[Operand], i: usize) -> Option<Operand>
+    ensures { IfSome result (λ o. slice_get operands.now i ≡ Some o) }
+{
+    match operands.get(i) {
+        Some(operand) => Some(*operand),
+        None => None,
+    }
+}
+
+// The operand of a node at a position: of a variable or a value at 0, of a call of a site at each.
+fn operand_at(program: &Program, node: usize, position: usize) -> Option<Operand>
+    ensures { IfSome result (IsOperandAt (code program.now node) position) }
+{
+    match program.node(node) {
+        TermNode::Operand(operand) if position == 0 => Some(operand),
+        TermNode::Site(_, list) => nth_of(program.operands(list), position),
+        _ => None,
+    }
+}
+
+impl Marked {
+    /// What a token can do next. None where there is no such token, or a cancel is due.
+    pub fn next(&self, program: &Program, token: u64) -> Option<Next>
+        ensures { IfSome result (λ n. (x : Context) (p : Place) → x.definitions ≡ definitions program.now → Spells x (code program.now) self.now p → Offers x p token n) }
+    {
+        let holder = match self.holder(token) {
+            Ok(holder) => holder,
+            Err(_) => return None,
+        };
+        if let Some(value) = self.value_under(program, holder.tip) {
+            return self.publication(holder.at, value);
+        }
+        match holder.tip {
+            Tip::Token(_, node, scope) => {
+                move_from(program, &self.scopes, &self.cells, node, scope)
+            },
+            _ => None,
+        }
+    }
+
+    // What a token's value does.
+    fn publication(&self, at: usize, value: Value) -> Option<Next>
+        ensures { IfSome result (IsPublished self.now.nodes at value) }
+    {
+        match way_up(&self.nodes, at) {
+            Some(Taker::Whole) => Some(Next::Publish(value)),
+            Some(Taker::Fed(_)) => Some(Next::Send(value)),
+            Some(Taker::Bound(cell, _)) => Some(Next::Bind(cell, value)),
+            None => None,
+        }
+    }
+
+    /// The cell for which a token waits at a position of its call's arguments, counted from 0, or as a variable at position 0.
+    /// None where there is no such token or position, or what stands there isn't a cell that isn't bound.
+    pub fn awaited(&self, program: &Program, token: u64, position: usize) -> Option<u64>
+        ensures { IfSome result (λ c. (x : Context) (p : Place) → x.definitions ≡ definitions program.now → Spells x (code program.now) self.now p → AwaitsAt p token position c) }
+    {
+        let spot = match self.spot(token) {
+            Ok(spot) => spot,
+            Err(_) => return None,
+        };
+        let operand = operand_at(program, spot.node, position)?;
+        match meaning(&self.scopes, &self.cells, operand, spot.scope) {
+            Some(Bound::Cell(cell)) => Some(cell),
+            _ => None,
+        }
+    }
+}
