@@ -6,7 +6,7 @@ ghost use Rattle.orc_ledger.specs.Same.{weight, only};
 ghost use Rattle.orc_ledger.specs.Tokens.{is_live, live};
 ghost use Rattle.orc_ledger.specs.Records.{group_at};
 ghost use Rattle.orc_ledger.specs.Next.{is_this, numbers_of, ready, ready_one, open_empty, members, due_of, earlier, next_due, next_of};
-ghost use Rattle.orc_ledger.specs.Spoken.{spoken};
+ghost use Rattle.orc_ledger.specs.Spoken.{spoken, IsRight};
 ghost use Rattle.orc_ledger.specs.declared.records.Token.{Token as Its};
 ghost use Rattle.orc_ledger.specs.declared.records.Call.{Call as Pending};
 ghost use Rattle.orc_ledger.specs.declared.records.Group.{Group as Open};
@@ -166,9 +166,8 @@ impl<P: Program> Ledger<P> {
         false
     }
 
-    /// What comes next. Work where a token can move, a group has no members, or a call is due; else a tick to the least due time of the
-    /// pending calls; else nothing, the run is quiet. It looks at each token, and at each group for one that is in it.
-    pub fn next(&self, graph: &Graph) -> Next
+    // What comes next, as an equation alone.
+    fn find_next(&self, graph: &Graph) -> Next
         requires { graph.now ≡ P.listing }
         ensures { spoken result ≡ next_of (code P.listing) (definitions P.listing) (numbers_of self.now) self.now }
     {
@@ -185,5 +184,16 @@ impl<P: Program> Ledger<P> {
                 }
             }
         }
+    }
+
+    /// What comes next. Work where a token can move, a group has no members, or a call is due; else a tick to the least due time of the
+    /// pending calls; else nothing, the run is quiet. It looks at each token, and at each group for one that is in it.
+    pub fn next(&self, graph: &Graph) -> Next
+        requires { graph.now ≡ P.listing }
+        ensures is { spoken result ≡ next_of (code P.listing) (definitions P.listing) (numbers_of self.now) self.now }
+        ensures right { IsRight P.listing P.sites self.now result }
+    {
+        let _time = &self.time;
+        self.find_next(graph)
     }
 }
