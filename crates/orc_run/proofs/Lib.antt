@@ -1,4 +1,5 @@
 pub mod Accepting
+pub mod KnownFiles
 pub mod LoadFaults
 pub mod Outputs
 pub mod Statuses

@@ -101,10 +101,10 @@ zero_faultless : IsFaultless 0
 zero_faultless = (omega arith, λ h. omega (arith, h), λ h. omega (arith, h), λ h. omega (arith, h))
 
 -- what was done has no status of a fault of a file's text, of a command line or of the engine
-pub faultless : (j : Job) (old new : Option (List ℕ)) (status : ℕ) → IsDone j old new status → (status < 8) × (status ≢ 1) × (status ≢ 2) × (status ≢ 7)
-faultless (job.Run file script options) old new status (source, read, s, ran, is) = subst IsFaultless (sym is) (end_in s.end)
-faultless (job.Check file journal script) old new status (source, read, text, judges, is) = subst IsFaultless (sym is) zero_faultless
-faultless (job.Print file) old new status (source, prints, is) = subst IsFaultless (sym is) zero_faultless
+pub faultless : (holds : List ℕ → Option (List ℕ)) (j : Job) (old new : Option (List ℕ)) (status : ℕ) → IsDone holds j old new status → (status < 8) × (status ≢ 1) × (status ≢ 2) × (status ≢ 7)
+faultless holds (job.Run file script options) old new status (source, read, s, held, said, ran, is) = subst IsFaultless (sym is) (end_in s.end)
+faultless holds (job.Check file journal script) old new status (source, text, read, held, told, said, judges, is) = subst IsFaultless (sym is) zero_faultless
+faultless holds (job.Print file) old new status (source, held, prints, is) = subst IsFaultless (sym is) zero_faultless
 
 quiet_only : (e : End) → end_status_of e ≡ 3 → e ≡ ends.Quiet
 quiet_only ends.Halted h = absurd (omega (arith, h))
@@ -125,15 +125,15 @@ never_full : (source script : List ℕ) (options : Options) (s : Summary) (text 
 never_full source script options s text (l, t, says, program, told) full =
     subst (λ (e : End). EndsAt (context l t) options.limit told.outcome.journal told.is_run.place e) (sym told.tells.end ∙ full) told.is_run.ends
 
-pub ended_quiet : (j : Job) (old new : Option (List ℕ)) (status : ℕ) → IsDone j old new status → status ≡ 3 → HasEnded ends.Quiet old new
-ended_quiet (job.Run file script options) old new status (source, read, s, ran, is) three = (options, source, read, s, ran, quiet_only s.end (sym is ∙ three))
-ended_quiet (job.Check file journal script) old new status (source, read, text, judges, is) three = absurd (omega (arith, is, three))
-ended_quiet (job.Print file) old new status (source, prints, is) three = absurd (omega (arith, is, three))
+pub ended_quiet : (holds : List ℕ → Option (List ℕ)) (j : Job) (old new : Option (List ℕ)) (status : ℕ) → IsDone holds j old new status → status ≡ 3 → HasEnded ends.Quiet old new
+ended_quiet holds (job.Run file script options) old new status (source, read, s, held, said, ran, is) three = (options, source, read, s, ran, quiet_only s.end (sym is ∙ three))
+ended_quiet holds (job.Check file journal script) old new status (source, text, read, held, told, said, judges, is) three = absurd (omega (arith, is, three))
+ended_quiet holds (job.Print file) old new status (source, held, prints, is) three = absurd (omega (arith, is, three))
 
-pub ended_cut : (j : Job) (old new : Option (List ℕ)) (status : ℕ) → IsDone j old new status → status ≡ 4 → HasEnded ends.Limit old new
-ended_cut (job.Run file script options) old new status (source, read, s, ran, is) four = (options, source, read, s, ran, cut_only s.end (never_full source read options s ran.0 ran.1) (sym is ∙ four))
-ended_cut (job.Check file journal script) old new status (source, read, text, judges, is) four = absurd (omega (arith, is, four))
-ended_cut (job.Print file) old new status (source, prints, is) four = absurd (omega (arith, is, four))
+pub ended_cut : (holds : List ℕ → Option (List ℕ)) (j : Job) (old new : Option (List ℕ)) (status : ℕ) → IsDone holds j old new status → status ≡ 4 → HasEnded ends.Limit old new
+ended_cut holds (job.Run file script options) old new status (source, read, s, held, said, ran, is) four = (options, source, read, s, ran, cut_only s.end (never_full source read options s ran.0 ran.1) (sym is ∙ four))
+ended_cut holds (job.Check file journal script) old new status (source, text, read, held, told, said, judges, is) four = absurd (omega (arith, is, four))
+ended_cut holds (job.Print file) old new status (source, held, prints, is) four = absurd (omega (arith, is, four))
 
 -- no fault has the status of such an end
 module _ (n : ℕ) (not_one : n ≢ 1) (not_five : n ≢ 5) (not_six : n ≢ 6) (not_seven : n ≢ 7) where

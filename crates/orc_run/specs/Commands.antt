@@ -1,5 +1,5 @@
 -- The statuses of command lines, and what they leave on standard output.
-use Rattle.std.specs.Prelude.{◌≡◌, ℕ, List, ⊤}
+use Rattle.std.specs.Prelude.{◌≡◌, ℕ, List, ⊤, option_map}
 use Rattle.std.specs.declared.option.Option.{Option}
 use Rattle.std.specs.Io.KnownBytes.{Keeps}
 use Rattle.orc_outcome.specs.Status.{end_status_of}
@@ -7,6 +7,7 @@ use Rattle.orc_outcome.specs.declared.end.End.{End}
 use Rattle.orc_outcome.specs.declared.end.Summary.{Summary}
 use Rattle.orc_run.specs.Checked.{Judges}
 use Rattle.orc_run.specs.Faults.{status}
+use Rattle.orc_run.specs.Inputs.{IsHeld, IsRead}
 use Rattle.orc_run.specs.Printed.{Prints}
 use Rattle.orc_run.specs.Running.{Ran}
 use Rattle.orc_run.specs.Status.{read_status_of}
@@ -21,23 +22,23 @@ abbrev pub failure_status : Failure → ℕ
 failure_status (failure.Unread path f) = read_status_of f
 failure_status (failure.Fault f) = status f
 
--- what was written is the whole text of a run, and the status says how it ended
-abbrev pub HasRun : Options → Option (List ℕ) → Option (List ℕ) → ℕ → Type 0
-HasRun options old new status = (source script : List ℕ) × (s : Summary) × Ran source script options old new s × (status ≡ end_status_of s.end)
+-- what was written is the whole text of a run of the file's program with the script's sites, and the status says how it ended; `holds` says what is known of the files
+abbrev pub HasRun : (List ℕ → Option (List ℕ)) → List ℕ → Option (List ℕ) → Options → Option (List ℕ) → Option (List ℕ) → ℕ → Type 0
+HasRun holds file script options old new status = (source read : List ℕ) × (s : Summary) × IsHeld (holds file) source × IsRead holds script read × Ran source read options old new s × (status ≡ end_status_of s.end)
 
--- what was written is the line of a verdict
-abbrev pub HasJudged : Option (List ℕ) → Option (List ℕ) → ℕ → Type 0
-HasJudged old new status = (source script journal : List ℕ) × Judges source script journal old new × (status ≡ 0)
+-- what was written is the line of the verdict on the journal
+abbrev pub HasJudged : (List ℕ → Option (List ℕ)) → List ℕ → List ℕ → Option (List ℕ) → Option (List ℕ) → Option (List ℕ) → ℕ → Type 0
+HasJudged holds file journal script old new status = (source text read : List ℕ) × IsHeld (holds file) source × IsHeld (holds journal) text × IsRead holds script read × Judges source read text old new × (status ≡ 0)
 
--- what was written is the text of a program
-abbrev pub HasPrinted : Option (List ℕ) → Option (List ℕ) → ℕ → Type 0
-HasPrinted old new status = (source : List ℕ) × Prints source old new × (status ≡ 0)
+-- what was written is the printed text of the file's program
+abbrev pub HasPrinted : (List ℕ → Option (List ℕ)) → List ℕ → Option (List ℕ) → Option (List ℕ) → ℕ → Type 0
+HasPrinted holds file old new status = (source : List ℕ) × IsHeld (holds file) source × Prints source old new × (status ≡ 0)
 
 -- a job was done, with this status
-abbrev pub IsDone : Job → Option (List ℕ) → Option (List ℕ) → ℕ → Type 0
-IsDone (job.Run file script options) old new status = HasRun options old new status
-IsDone (job.Check file journal script) old new status = HasJudged old new status
-IsDone (job.Print file) old new status = HasPrinted old new status
+abbrev pub IsDone : (List ℕ → Option (List ℕ)) → Job → Option (List ℕ) → Option (List ℕ) → ℕ → Type 0
+IsDone holds (job.Run file script options) old new status = HasRun holds file.now (option_map (λ p. p.now) script) options old new status
+IsDone holds (job.Check file journal script) old new status = HasJudged holds file.now journal.now (option_map (λ p. p.now) script) old new status
+IsDone holds (job.Print file) old new status = HasPrinted holds file.now old new status
 
 -- what was written is the whole text of a run that ended so
 abbrev pub HasEnded : End → Option (List ℕ) → Option (List ℕ) → Type 0

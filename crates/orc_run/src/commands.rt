@@ -1,8 +1,9 @@
 //! What a command line does, over the files and the streams that it is given.
 
-ghost use Rattle.std.specs.Prelude.{◌≡◌, ◌≢◌, ◌<◌, IfOk, IfErr};
+ghost use Rattle.std.specs.Prelude.{◌≡◌, ◌≢◌, ◌<◌, ℕ, List, IfOk, IfErr, option_map};
 ghost use Rattle.std.specs.Io.KnownBytes.{Keeps};
 ghost use Rattle.orc_outcome.specs.declared.end.End.TheVariants as ends;
+ghost use Rattle.orc_run.specs.Inputs.{IsHeld, IsRead};
 ghost use Rattle.orc_run.specs.Commands.{failure_status, HasEnded, HasJudged, HasPrinted, HasRun, IsDone, IsUnread, LeavesUndone};
 
 use crate::arguments::{Job, read_words};
@@ -73,7 +74,9 @@ fn refuse<W: Write, V: Write>(error: &clap::Error, out: &mut W, err: &mut V) -> 
 }
 
 fn read<'a, F: Files>(path: &'a str, files: &mut F) -> Result<Vec<u8>, Failure<'a>>
-    ensures { IfErr result IsUnread }
+    ensures held { IfOk result (λ bytes. IsHeld (F.holds files.old path.now) bytes.items) }
+    ensures unread { IfErr result IsUnread }
+    ensures same { (at : List ℕ) → F.holds files.new at ≡ F.holds files.old at }
 {
     match files.read(path) {
         Ok(bytes) => Ok(bytes),
@@ -87,7 +90,8 @@ fn read_script<'a, F: Files>(
     path: Option<&'a str>,
     files: &mut F,
 ) -> Result<Vec<u8>, Failure<'a>>
-    ensures { IfErr result IsUnread }
+    ensures held { IfOk result (λ bytes. IsRead (F.holds files.old) (option_map (λ p. p.now) path.entry) bytes.items) }
+    ensures unread { IfErr result IsUnread }
 {
     match path {
         Some(path) => read(path, files),
@@ -105,7 +109,7 @@ fn run_file<'a, F: Files, W: Write>(
     files: &mut F,
     out: &mut W,
 ) -> Result<u8, Failure<'a>>
-    ensures done { IfOk result (HasRun options.now (W.contents out.old) (W.contents out.new)) }
+    ensures done { IfOk result (HasRun (F.holds files.old) file.now (option_map (λ p. p.now) script.entry) options.now (W.contents out.old) (W.contents out.new)) }
     ensures undone { IfErr result (λ f. LeavesUndone f (W.contents out.old) (W.contents out.new)) }
 {
     let source = read(file, files)?;
@@ -126,7 +130,7 @@ fn check_file<'a, F: Files, W: Write>(
     files: &mut F,
     out: &mut W,
 ) -> Result<u8, Failure<'a>>
-    ensures done { IfOk result (HasJudged (W.contents out.old) (W.contents out.new)) }
+    ensures done { IfOk result (HasJudged (F.holds files.old) file.now journal.entry.now (option_map (λ p. p.now) script.entry) (W.contents out.old) (W.contents out.new)) }
     ensures undone { IfErr result (λ f. LeavesUndone f (W.contents out.old) (W.contents out.new)) }
 {
     let source = read(file, files)?;
@@ -152,7 +156,7 @@ fn print_file<'a, F: Files, W: Write>(
     files: &mut F,
     out: &mut W,
 ) -> Result<u8, Failure<'a>>
-    ensures done { IfOk result (HasPrinted (W.contents out.old) (W.contents out.new)) }
+    ensures done { IfOk result (HasPrinted (F.holds files.old) file.now (W.contents out.old) (W.contents out.new)) }
     ensures undone { IfErr result (λ f. LeavesUndone f (W.contents out.old) (W.contents out.new)) }
 {
     let source = read(file, files)?;
@@ -169,7 +173,7 @@ fn do_job<'a, F: Files, W: Write>(
     files: &mut F,
     out: &mut W,
 ) -> Result<u8, Failure<'a>>
-    ensures done { IfOk result (IsDone job.entry (W.contents out.old) (W.contents out.new)) }
+    ensures done { IfOk result (IsDone (F.holds files.old) job.entry (W.contents out.old) (W.contents out.new)) }
     ensures undone { IfErr result (λ f. LeavesUndone f (W.contents out.old) (W.contents out.new)) }
 {
     match job {

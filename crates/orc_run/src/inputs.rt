@@ -1,6 +1,9 @@
 //! The files that a command line names.
 
-ghost use Rattle.std.specs.Prelude.{◌≡◌};
+ghost use Rattle.std.specs.Prelude.{◌≡◌, ℕ, List, IfOk};
+ghost use Rattle.std.specs.declared.option.Option.{Option};
+ghost use Rattle.std.specs.declared.option.Option.TheVariants.{None};
+ghost use Rattle.orc_run.specs.Inputs.{IsHeld};
 ghost use Rattle.orc_run.specs.Status.{read_status_of};
 
 /// Why a file could not be read.
@@ -14,8 +17,13 @@ pub enum ReadFault {
 
 /// Where a command line's files are read from.
 pub trait Files {
+    /// What the file at a path holds, where that is known. Nothing is known of the system's files.
+    ghost holds: { Self → List ℕ → Option (List ℕ) } = { λ _ _. None };
+
     /// All bytes of the file at this path.
-    fn read(&mut self, path: &str) -> Result<Vec<u8>, ReadFault>;
+    fn read(&mut self, path: &str) -> Result<Vec<u8>, ReadFault>
+        ensures held { IfOk result (λ bytes. IsHeld (holds self.old path.now) bytes.items) }
+        ensures same { (at : List ℕ) → holds self.new at ≡ holds self.old at };
 }
 
 impl ReadFault {
