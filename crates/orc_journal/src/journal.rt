@@ -135,7 +135,7 @@ impl Journal {
         self.push_given(Kind::Publish, token, 0, value)
     }
 
-    /// Adds a `call` as `push` does, without an `Entry`: the arguments, 16 at most, are copied once.
+    /// Adds a `call` as `push` does, without an `Entry`: the arguments, `MOST_ARGUMENTS` at most, are copied once.
     pub fn push_call(
         &mut self,
         token: u64,

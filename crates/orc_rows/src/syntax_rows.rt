@@ -18,6 +18,7 @@ fn blames_the_first_fault(rt: HostRuntime) -> Result<(), Fail> {
         refused(b"1 | -- c", "orc: S4 at 8: Expression\n"),
         refused(b"def 1", "orc: S4 at 4: Name\n"),
         refused(b"def f = 1", "orc: S4 at 6: Paren\n"),
+        refused(b"def f(1) = 1", "orc: S4 at 6: Name\n"),
         refused(b"def f(a b) = 1", "orc: S4 at 8: CommaOrClose\n"),
         refused(b"def f(a) 1", "orc: S4 at 9: Assign\n"),
         refused(b"1 >x 2", "orc: S4 at 5: Arrow\n"),

@@ -11,6 +11,7 @@ pub mod Pieces
 pub mod Places
 pub mod Programs
 pub mod Refused
+pub mod Shallow
 pub mod Small
 pub mod Tasks
 pub mod Walk

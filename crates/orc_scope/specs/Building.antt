@@ -1,5 +1,6 @@
 -- Writing out the nodes of an expression from the first to the last.
 use Rattle.std.specs.Prelude.{◌≤◌, ℕ, List, [], ◌∷◌, take, drop, reverse}
+use Rattle.orc_rules.specs.declared.limits.TheConstants.{MOST_ARGUMENTS}
 use Rattle.orc_rules.specs.Term.{Term, param, prune}
 use Rattle.orc_syntax.specs.Tree.{Sort, leaf, variable, call, operation, val, Item, Define, Source, post}
 use Rattle.orc_scope.specs.Scope.{Known}
@@ -23,9 +24,9 @@ unfoldable pub builds : Known → List (List ℕ) → List Term → List Item �
 builds known names fs [] = fs
 builds known names fs (i ∷ is) = builds known names (built known names i.sort fs) is
 
--- a node that isn't a call of over 16 arguments
+-- a node that isn't a call of too many arguments
 abbrev pub IsSmall : Sort → Type 0
-IsSmall (call x n) = n ≤ 16
+IsSmall (call x n) = n ≤ MOST_ARGUMENTS
 IsSmall (leaf p) = Unit {0}
 IsSmall (variable x) = Unit {0}
 IsSmall (operation link) = Unit {0}
@@ -35,7 +36,7 @@ abbrev pub AreSmall : List Item → Type 0
 AreSmall [] = Unit {0}
 AreSmall (i ∷ is) = IsSmall i.sort × AreSmall is
 
--- no call of a program has over 16 arguments
+-- no call of a program has too many arguments
 abbrev pub HaveSmallBodies : List Define → Type 0
 HaveSmallBodies [] = Unit {0}
 HaveSmallBodies (d ∷ ds) = AreSmall (post d.body) × HaveSmallBodies ds

@@ -1,5 +1,6 @@
 -- What the check of a program answers.
 use Rattle.std.specs.Prelude.{◌≡◌, ◌<◌, ◌≤◌, ◌⊎◌, ℕ, List, [], map, Some, Result, Ok, Err}
+use Rattle.orc_rules.specs.declared.limits.TheConstants.{MOST_NODES}
 use Rattle.orc_rules.specs.Nodes.{Listing, source, definitions}
 use Rattle.orc_scope.specs.declared.fault.ScopeFault.{ScopeFault}
 use Rattle.orc_scope.specs.declared.fault.FaultKind.TheVariants.{TooMany, Memory}
@@ -22,12 +23,12 @@ nodes_of sites s = sizes (known_in sites s) (variables s) s
 -- a program without a fault
 pub record IsSound (sites : List (List ℕ)) (s : Source) : Type 0 where
   pub faults : program_faults sites s ≡ []
-  pub nodes : nodes_of sites s ≤ 65535
+  pub nodes : nodes_of sites s ≤ MOST_NODES
 
 -- no fault but too many nodes
 pub record IsTooLarge (sites : List (List ℕ)) (s : Source) (f : ScopeFault) : Type 0 where
   pub faults : program_faults sites s ≡ []
-  pub nodes : 65535 < nodes_of sites s
+  pub nodes : MOST_NODES < nodes_of sites s
   pub fault : f ≡ fault TooMany (span_of s.main)
 
 -- memory was refused, or this fault is the least, or there is none but too many nodes

@@ -1,5 +1,6 @@
 -- How deep expressions are.
 use Rattle.std.specs.Prelude.{◌+◌, ◌≤◌, ℕ, suc, max, List, [], ◌∷◌}
+use Rattle.orc_rules.specs.declared.limits.TheConstants.{MOST_OPERATORS, MOST_BRACKETS}
 use Rattle.orc_rules.specs.Nodes.{Listing, source, definitions}
 use Rattle.orc_rules.specs.Refusal.{depth}
 use Rattle.orc_rules.specs.Term.{Definition}
@@ -31,9 +32,9 @@ abbrev mutual
   nesting_of_all Nil = 0
   nesting_of_all (Cons t ts) = max (nesting t) (nesting_of_all ts)
 
--- at most 4,000 operators, and 200 calls and `val` within one another
+-- no more operators, and no more calls and `val` within one another, than a source may have
 abbrev pub IsShallow : Tree → Type 0
-IsShallow t = (operators t ≤ 4000) × (nesting t ≤ 200)
+IsShallow t = (operators t ≤ MOST_OPERATORS) × (nesting t ≤ MOST_BRACKETS)
 
 abbrev pub AreShallow : List Define → Type 0
 AreShallow [] = Unit {0}

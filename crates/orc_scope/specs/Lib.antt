@@ -8,4 +8,5 @@ pub mod Numbers
 pub mod Pieces
 pub mod Program
 pub mod Scope
+pub mod Shallow
 pub mod Written

@@ -1,6 +1,7 @@
 -- What names mean, and the faults of a program.
-use Rattle.std.specs.Prelude.{◌≡◌, ◌≤◌, ◌<◌, ℕ, suc, List, [], ◌∷◌, ◌++◌, Option, Some, None, cond, nat_eq, ◌⊎◌, slice_get}
+use Rattle.std.specs.Prelude.{◌+◌, ◌≡◌, ◌≤◌, ◌<◌, ℕ, suc, List, [], ◌∷◌, ◌++◌, Option, Some, None, cond, nat_eq, ◌⊎◌, slice_get}
 use Rattle.std.specs.Prelude.{bytes_eq}
+use Rattle.orc_rules.specs.declared.limits.TheConstants.{MOST_ARGUMENTS}
 use Rattle.orc_lex.specs.declared.token.Span.{Span}
 use Rattle.orc_scope.specs.declared.fault.ScopeFault.{ScopeFault}
 use Rattle.orc_scope.specs.declared.fault.FaultKind.{FaultKind}
@@ -68,7 +69,7 @@ call_faults known IsNothing got span = fault NoSite span ∷ []
 
 -- the 17th parameter or argument is one too many
 abbrev pub number_faults : ℕ → Span → List ScopeFault
-number_faults n span = cond (nat_eq n 17) (fault TooMany span ∷ []) []
+number_faults n span = cond (nat_eq n (MOST_ARGUMENTS + 1)) (fault TooMany span ∷ []) []
 
 -- the variable of an operator in scope, the innermost last
 abbrev pub bound : Option (List ℕ) → List (List ℕ) → List (List ℕ)

@@ -14,12 +14,10 @@ use crate::looking::Looking;
 use crate::nodes::Nodes;
 use crate::numbers::Numbers;
 use crate::writing::Writing;
+use orc_rules::limits::MOST_NODES;
 use orc_rules::program::{Definition, Program};
 use orc_syntax::{Ast, Name, Span};
 use std::alloc::{AllocError, Global};
-
-/// How many nodes all written-out terms of a program may have together.
-pub const MOST_NODES: usize = 65_535;
 
 // The numbers of a definition's parameters.
 fn parameter_numbers(
@@ -68,7 +66,7 @@ fn main_span(ast: &Ast) -> Span
 /// variable, else the first definition of that name, else the site. `sites` are the names of the sites by their numbers.
 ///
 /// Else the fault that stands first, of two at one place the one of the lower number (`Unbound` to `TooMany` are C1 to C8);
-/// `TooMany` at the main expression where there is no other fault and all terms together have over 65,535 nodes; `Memory` (C9),
+/// `TooMany` at the main expression where there is no other fault and all terms together have over `MOST_NODES` nodes; `Memory` (C9),
 /// placed at 0, where a growth was refused.
 pub fn check<'a>(alloc: Global, ast: &Ast<'a>, sites: &[&[u8]]) -> Result<Program, ScopeFault>
     ensures { (s : Source) → IsAst ast.now s → Checks (map text_of sites.now) s result }

@@ -13,6 +13,7 @@ mod checking;
 mod definitions;
 pub mod fault;
 mod known;
+pub mod laws;
 mod looking;
 mod names;
 mod nodes;

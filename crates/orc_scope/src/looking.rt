@@ -10,6 +10,7 @@ ghost use Rattle.orc_scope.specs.Written.{written, size};
 use crate::fault::{FaultKind, ScopeFault, lesser};
 use crate::known::Known;
 use crate::names::Names;
+use orc_rules::limits::MOST_ARGUMENTS;
 use orc_syntax::{Name, Node, Operator, Part, Plain, Span};
 use std::alloc::{AllocError, Global};
 
@@ -26,11 +27,21 @@ pub struct Task<'a> {
 
 /// The parts that are still to be looked at, the next one last, and the names in scope, the innermost last.
 /// `room` is how many more nodes the written-out terms may have, down to 0.
-#[derive(Drop)]
 pub struct Looking<'a> {
     pub tasks: Vec<Task<'a>>,
     pub scope: Names<'a>,
     pub room: usize,
+}
+
+// Written out, so that a caller's proof sees one call and not the drop of each field.
+impl Drop for Looking<'_> {
+    fn drop(self) {
+        let Looking {
+            tasks: _,
+            scope: _,
+            room: _,
+        } = self;
+    }
 }
 
 /// The only fault of a place.
@@ -95,11 +106,11 @@ fn node_fault(known: &Known, scope: &Names, part: Part) -> Option<ScopeFault>
     }
 }
 
-/// The fault of a 17th parameter or argument.
+/// The fault of the first parameter or argument that is one too many.
 pub fn number_fault(number: usize, span: Span) -> Option<ScopeFault>
     ensures { IsLeast result (number_faults number span) }
 {
-    if number == 17 {
+    if number == MOST_ARGUMENTS + 1 {
         one(FaultKind::TooMany, span)
     } else {
         None

@@ -10,10 +10,19 @@ use std::collections::HashMap;
 use std::marker::Model;
 
 /// Names in their order. A name is found by its text, and the time that this takes doesn't grow with their number.
-#[derive(Drop)]
 pub struct Names<'a> {
     texts: Vec<&'a [u8]>,
     places: HashMap<&'a [u8], usize>,
+}
+
+// Written out, so that a caller's proof sees one call and not the drop of each field.
+impl Drop for Names<'_> {
+    fn drop(self) {
+        let Names {
+            texts: _,
+            places: _,
+        } = self;
+    }
 }
 
 impl<'a> Model for Names<'a> {

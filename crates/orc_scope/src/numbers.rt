@@ -2,6 +2,7 @@
 
 ghost use Rattle.std.specs.Prelude.{◌≡◌, ◌<◌, ◌+◌, [], ℕ, List, length, map, slice_index_or, IfSome, IfNone};
 ghost use Rattle.orc_rules.specs.declared.param.Operand.{Operand};
+ghost use Rattle.orc_rules.specs.declared.limits.TheConstants.{MOST_ARGUMENTS};
 ghost use Rattle.orc_rules.specs.Nodes.{unfold_node, HasParts, param_of};
 ghost use Rattle.orc_rules.specs.Term.{Term};
 ghost use Rattle.orc_syntax.specs.Ast.{label_if};
@@ -13,15 +14,25 @@ ghost use Rattle.orc_scope.specs.Written.{number, variable_of, called};
 
 use crate::known::Known;
 use crate::names::Names;
+use orc_rules::limits::MOST_ARGUMENTS;
 use orc_rules::program::TermNode;
 use orc_syntax::Name;
 use std::marker::Model;
 
-/// The names of definitions, sites and variables. Their numbers have 32 bits, and so have those of 16 new variables.
-#[derive(Drop)]
+/// The names of definitions, sites and variables. Their numbers have 32 bits, and so have those of as many new variables as a call has arguments at most.
 pub struct Numbers<'a, 's> {
     known: Known<'a, 's>,
     variables: Names<'a>,
+}
+
+// Written out, so that a caller's proof sees one call and not the drop of each field.
+impl Drop for Numbers<'_, '_> {
+    fn drop(self) {
+        let Numbers {
+            known: _,
+            variables: _,
+        } = self;
+    }
 }
 
 impl<'a, 's> Model for Numbers<'a, 's> {
@@ -41,7 +52,7 @@ impl<'a, 's> Numbers<'a, 's> {
         let most = 1 << 32;
         if known.definitions.len() > most
             || known.sites.len() > most
-            || variables.len() > most - 16
+            || variables.len() > most - MOST_ARGUMENTS
         {
             return None;
         }
@@ -71,7 +82,7 @@ impl<'a, 's> Numbers<'a, 's> {
 
     /// The number of a new variable.
     pub fn fresh(&self, place: usize) -> u32
-        requires { place < 16 }
+        requires { place < MOST_ARGUMENTS }
         ensures { result ≡ length self.now.names + place }
     {
         (self.variables.len() + place) as u32

@@ -1,6 +1,7 @@
 //! Writing out expressions as nodes of terms.
 
 ghost use Rattle.std.specs.Prelude.{◌≡◌, ◌<◌, ◌≤◌, ◌+◌, drop, ◌∷◌, [], ℕ, List, length, map, None, IfOk, OnOk};
+ghost use Rattle.orc_rules.specs.declared.limits.TheConstants.{MOST_ARGUMENTS};
 ghost use Rattle.orc_lex.specs.declared.token.Span.{Span};
 ghost use Rattle.orc_rules.specs.Nodes.{HasParts, param_of};
 ghost use Rattle.orc_rules.specs.Term.{Term, param};
@@ -13,6 +14,7 @@ ghost use Rattle.orc_scope.specs.Pieces.{piece_term, IsFine, parts, IsReady, Kee
 
 use crate::nodes::{Nodes, Piece};
 use crate::numbers::Numbers;
+use orc_rules::limits::MOST_ARGUMENTS;
 use orc_rules::param::{Operand, Operands};
 use orc_rules::program::TermNode;
 use orc_rules::value::Value;
@@ -109,7 +111,7 @@ impl Writing {
     fn operands(&self, numbers: &Numbers, base: usize) -> Operands
         requires ready { IsReady self.now }
         requires base { base ≤ length self.now.pieces.items }
-        requires few { length self.now.pieces.items ≤ base + 16 }
+        requires few { length self.now.pieces.items ≤ base + MOST_ARGUMENTS }
         ensures { map param_of result ≡ params_of (length numbers.now.names) (map (piece_term (terms self.now.nodes)) (drop base self.now.pieces.items)) }
     {
         let mut operands = Operands::new();
@@ -140,7 +142,7 @@ impl Writing {
     fn prunings(&mut self, call: usize, numbers: &Numbers, base: usize) -> Result<usize, AllocError>
         requires ready { IsReady self.old }
         requires base { base ≤ length self.old.pieces.items }
-        requires few { length self.old.pieces.items ≤ base + 16 }
+        requires few { length self.old.pieces.items ≤ base + MOST_ARGUMENTS }
         requires within { call < length (terms self.old.nodes) }
         ensures within { IfOk result (λ at. at < length (terms self.new.nodes)) }
         ensures term { IfOk result (λ at. term_at (terms self.new.nodes) at ≡ prunings_of (length numbers.now.names) (term_at (terms self.old.nodes) call) (map (piece_term (terms self.old.nodes)) (drop base self.old.pieces.items))) }
@@ -160,7 +162,7 @@ impl Writing {
     // Joins the last `count` parts to a call.
     fn call(&mut self, numbers: &Numbers, text: &[u8], count: usize) -> Result<(), AllocError>
         requires ready { IsReady self.old }
-        requires few { count ≤ 16 }
+        requires few { count ≤ MOST_ARGUMENTS }
         ensures parts { (span : Span) → OnOk result (parts self.new ≡ built numbers.now.known numbers.now.names (call (record { text = text.now; span = span }) count) (parts self.old)) }
         ensures ready { OnOk result (IsReady self.new) }
         ensures keeps { OnOk result (Keeps (terms self.old.nodes) (terms self.new.nodes)) }
@@ -202,7 +204,7 @@ impl Writing {
         }
     }
 
-    // Writes out one node; a call of over 16 arguments is left out.
+    // Writes out one node; a call of too many arguments is left out.
     fn write(&mut self, numbers: &Numbers, part: Part) -> Result<(), AllocError>
         requires { IsReady self.old }
         ensures parts { IsSmall (sort part.entry) → OnOk result (parts self.new ≡ built numbers.now.known numbers.now.names (sort part.entry) (parts self.old)) }
@@ -212,7 +214,9 @@ impl Writing {
         match part {
             Part::Plain(plain) => self.plain(plain),
             Part::Variable(name) => self.operand(Operand::Name(numbers.variable(name.text))),
-            Part::Call(name, count) if count <= 16 => self.call(numbers, name.text, count),
+            Part::Call(name, count) if count <= MOST_ARGUMENTS => self.call(
+                numbers, name.text, count,
+            ),
             Part::Call(_, _) => Ok(()),
             Part::Operation(operator) => self.operate(numbers, operator),
             Part::Val(name) => self.bind(numbers, name),

@@ -18,7 +18,8 @@ use Rattle.orc_syntax.specs.Tree.{Source}
 use Rattle.orc_syntax.specs.Ast.{IsAst}
 use Rattle.orc_syntax.specs.Grammar.{Program, program_tokens, source, Spells, Begins, made_tokens, behind_all}
 use Rattle.orc_syntax.specs.Machine.{State, Posted, Refusal, run, finish, start}
-use Rattle.orc_syntax.specs.Text.{longest_source, SpellsTokens, SpellsText, BeginsText, StopsAt, StopsAtEnd, IsDeepAt, IsUnread, IsFault, IsLimit, IsShallow, IsShallowBefore, IfFault, Answers, place, number, IsNoLater, first_of}
+use Rattle.orc_rules.specs.declared.limits.TheConstants.{LONGEST_SOURCE}
+use Rattle.orc_syntax.specs.Text.{SpellsTokens, SpellsText, BeginsText, StopsAt, StopsAtEnd, IsDeepAt, IsUnread, IsFault, IsLimit, IsShallow, IsShallowBefore, IfFault, Answers, place, number, IsNoLater, first_of}
 use Rattle.orc_syntax.proofs.Cuts.{bad_last, cut_in, before_cut, before_token}
 use Rattle.orc_syntax.proofs.Programs.{posted, reads}
 use Rattle.orc_syntax.proofs.Posts.{source_is}
@@ -267,7 +268,7 @@ abbrev pub IsLeast : List ℕ → SyntaxFault → Type 0
 IsLeast src f = (g : SyntaxFault) → IsFault src g → IsNoLater f g
 
 -- where the bytes are UTF-8
-pub utf8_least : (src : List ℕ) (f : SyntaxFault) → length src ≤ longest_source → IsUtf8 src → Refuses src f → IsLeast src f
+pub utf8_least : (src : List ℕ) (f : SyntaxFault) → length src ≤ LONGEST_SOURCE → IsUtf8 src → Refuses src f → IsLeast src f
 utf8_least src f le u h faults.Memory k = absurd k
 utf8_least src f le u h faults.Long k = absurd (omega (arith, le, k))
 utf8_least src f le u h (faults.Encoding p) k = absurd (k.1 u)
@@ -278,7 +279,7 @@ utf8_least src f le u h (faults.Deep p) k = no_later src f h (faults.Deep p) k t
 utf8_least src f le u h (faults.Comment p) k = no_later src f h (faults.Comment p) k tt
 
 -- where they stop being UTF-8 behind the fault
-before_least : (src : List ℕ) (f : SyntaxFault) (at : ℕ) → length src ≤ longest_source → IsValidUpTo src at → place f < at → Refuses src f → IsLeast src f
+before_least : (src : List ℕ) (f : SyntaxFault) (at : ℕ) → length src ≤ LONGEST_SOURCE → IsValidUpTo src at → place f < at → Refuses src f → IsLeast src f
 before_least src f at le v lt h faults.Memory k = absurd k
 before_least src f at le v lt h faults.Long k = absurd (omega (arith, le, k))
 before_least src f at le v lt h (faults.Encoding p) k = inl (omega (arith, lt, valid_unique src p at k.0 v))
@@ -297,7 +298,7 @@ one_number at g le one =
     elim (leb_tells (suc at) (place g)) [ inl met ↦ inl (omega (arith, met.1)) | inr unmet ↦ inr (omega (arith, le, unmet.1), one) ]
 
 -- where they stop being UTF-8 first
-encoding_least : (src : List ℕ) (at : ℕ) → length src ≤ longest_source → IsValidUpTo src at → NoneBefore src at → IsLeast src (faults.Encoding at)
+encoding_least : (src : List ℕ) (at : ℕ) → length src ≤ LONGEST_SOURCE → IsValidUpTo src at → NoneBefore src at → IsLeast src (faults.Encoding at)
 encoding_least src at le v none faults.Memory k = absurd k
 encoding_least src at le v none faults.Long k = absurd (omega (arith, le, k))
 encoding_least src at le v none (faults.Encoding p) k = inr (valid_unique src at p v k.0, omega arith)
@@ -327,14 +328,14 @@ later_none src f at h le g k t = elim (no_later src f h g k t) [ inl lt ↦ omeg
 zero_none : (src : List ℕ) (at : ℕ) → at ≤ 0 → NoneBefore src at
 zero_none src at le g k t = omega (arith, le)
 
-err_first : (src : List ℕ) (f : SyntaxFault) (at : ℕ) → length src ≤ longest_source → IsValidUpTo src at → (IsUtf8 src → ⊥) → Refuses src f → IfFault (Err (if nat_lt (place f) at then f else faults.Encoding at)) (IsFirstFault src)
+err_first : (src : List ℕ) (f : SyntaxFault) (at : ℕ) → length src ≤ LONGEST_SOURCE → IsValidUpTo src at → (IsUtf8 src → ⊥) → Refuses src f → IfFault (Err (if nat_lt (place f) at then f else faults.Encoding at)) (IsFirstFault src)
 err_first src f at le v not h =
     elim (leb_tells (suc (place f)) at) [
       | inl met ↦ rw met.0 (both src f h.0 (before_least src f at le v (omega (arith, met.1)) h))
       | inr unmet ↦ rw unmet.0 ((v, not), encoding_least src at le v (later_none src f at h (omega (arith, unmet.1))))
     ]
 
-memory_first : (src : List ℕ) (at : ℕ) → length src ≤ longest_source → IsValidUpTo src at → (IsUtf8 src → ⊥) → IfFault (Err (if nat_lt 0 at then faults.Memory else faults.Encoding at)) (IsFirstFault src)
+memory_first : (src : List ℕ) (at : ℕ) → length src ≤ LONGEST_SOURCE → IsValidUpTo src at → (IsUtf8 src → ⊥) → IfFault (Err (if nat_lt 0 at then faults.Memory else faults.Encoding at)) (IsFirstFault src)
 memory_first src at le v not =
     elim (leb_tells (suc 0) at) [
       | inl met ↦ rw met.0 tt
@@ -342,7 +343,7 @@ memory_first src at le v not =
     ]
 
 -- of what was read and a place where the bytes stop being UTF-8 the first is answered
-pub first_is : (src : List ℕ) (r : Result Ast SyntaxFault) (at : ℕ) → length src ≤ longest_source → IsValidUpTo src at → (IsUtf8 src → ⊥) → IfOk r (λ ast. ((s : Source) × IsAst ast s × SpellsTokens src s) × IsShallow src) → IfFault r (Refuses src) → IfFault (Err (first_of r at)) (IsFirstFault src)
+pub first_is : (src : List ℕ) (r : Result Ast SyntaxFault) (at : ℕ) → length src ≤ LONGEST_SOURCE → IsValidUpTo src at → (IsUtf8 src → ⊥) → IfOk r (λ ast. ((s : Source) × IsAst ast s × SpellsTokens src s) × IsShallow src) → IfFault r (Refuses src) → IfFault (Err (first_of r at)) (IsFirstFault src)
 first_is src (Ok ast) at le v not found h = ((v, not), encoding_least src at le v (λ g k t. absurd (token_refuses src g found.0.0 k t found.1 found.0.2)))
 first_is src (Err faults.Memory) at le v not found h = memory_first src at le v not
 first_is src (Err faults.Long) at le v not found h = err_first src faults.Long at le v not h
@@ -353,7 +354,7 @@ first_is src (Err (faults.Expected p w)) at le v not found h = err_first src (fa
 first_is src (Err (faults.Deep p)) at le v not found h = err_first src (faults.Deep p) at le v not h
 first_is src (Err (faults.Comment p)) at le v not found h = err_first src (faults.Comment p) at le v not h
 
-pub read_is : (src : List ℕ) (r : Result Ast SyntaxFault) → length src ≤ longest_source → IsUtf8 src → IfFault r (Refuses src) → IfFault r (IsFirstFault src)
+pub read_is : (src : List ℕ) (r : Result Ast SyntaxFault) → length src ≤ LONGEST_SOURCE → IsUtf8 src → IfFault r (Refuses src) → IfFault r (IsFirstFault src)
 read_is src (Ok ast) le u h = tt
 read_is src (Err faults.Memory) le u h = tt
 read_is src (Err faults.Long) le u h = (h.0, utf8_least src faults.Long le u h)
@@ -365,7 +366,7 @@ read_is src (Err (faults.Deep p)) le u h = (h.0, utf8_least src (faults.Deep p) 
 read_is src (Err (faults.Comment p)) le u h = (h.0, utf8_least src (faults.Comment p) le u h)
 
 -- a text that is too long
-pub long_least : (src : List ℕ) → longest_source < length src → IsFirstFault src faults.Long
+pub long_least : (src : List ℕ) → LONGEST_SOURCE < length src → IsFirstFault src faults.Long
 long_least src h = (h, λ g k. elim (leb_tells (suc 0) (place g)) [ inl met ↦ inl (omega (arith, met.1)) | inr unmet ↦ inr (omega (arith, unmet.1), omega arith) ])
 
 pub its_fault : (src : List ℕ) (r : Result Ast SyntaxFault) → IfFault r (IsFirstFault src) → IfFault r (IsFault src)
@@ -423,11 +424,11 @@ only src (Ok ast) found h s k sh = subst (λ (t : Source). IsAst ast t) (one_sou
 only src (Err f) found h s k sh = fault_refuses src f s k sh h
 
 -- what was read is what the text spells
-pub text_found : (src : List ℕ) (r : Result Ast SyntaxFault) → length src ≤ longest_source → IsUtf8 src → IfOk r (λ ast. ((s : Source) × IsAst ast s × SpellsTokens src s) × IsShallow src) → IfOk r (λ ast. (s : Source) × IsAst ast s × SpellsText src s)
+pub text_found : (src : List ℕ) (r : Result Ast SyntaxFault) → length src ≤ LONGEST_SOURCE → IsUtf8 src → IfOk r (λ ast. ((s : Source) × IsAst ast s × SpellsTokens src s) × IsShallow src) → IfOk r (λ ast. (s : Source) × IsAst ast s × SpellsText src s)
 text_found src (Ok ast) le u h = (h.0.0, h.0.1, (le, u, h.0.2))
 text_found src (Err f) le u h = tt
 
-pub refused_first : (src : List ℕ) (r : Result Ast SyntaxFault) (at : ℕ) (f : SyntaxFault) → f ≡ first_of r at → length src ≤ longest_source → IsValidUpTo src at → IfOk r (λ ast. ((s : Source) × IsAst ast s × SpellsTokens src s) × IsShallow src) → IfFault r (Refuses src) → IfFault (Err f) (IsFirstFault src)
+pub refused_first : (src : List ℕ) (r : Result Ast SyntaxFault) (at : ℕ) (f : SyntaxFault) → f ≡ first_of r at → length src ≤ LONGEST_SOURCE → IsValidUpTo src at → IfOk r (λ ast. ((s : Source) × IsAst ast s × SpellsTokens src s) × IsShallow src) → IfFault r (Refuses src) → IfFault (Err f) (IsFirstFault src)
 refused_first src r at f e le v found h = subst (λ (g : SyntaxFault). IfFault (Err g) (IsFirstFault src)) (sym e) (first_is src r at le v (λ u. never_invalid src at u v) found h)
 
 pub text_shallow : (src : List ℕ) (r : Result Ast SyntaxFault) → IfOk r (λ ast. ((s : Source) × IsAst ast s × SpellsTokens src s) × IsShallow src) → IfOk r (λ ast. IsShallow src)

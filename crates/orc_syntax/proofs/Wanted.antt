@@ -173,9 +173,10 @@ wants_behind ts z o d ns k r [] same bare ran by =
     ((f.s, f.spells), cannot ts z signal ran (λ at. (behind k, stuck at)))
 wants_behind ts z o d ns k r (Bracket b ∷ k') same bare ran by =
     let stuck : (at : Span) → step z (token signal at) ≡ Err (behind k) = λ at. by.0 signal at tt ∙ beginning signal o at d ns k r ∙ ap (λ (q : List Frame). follow (behind k) signal at d r.ns' q) same in
+    let named : (at : Span) → step z (token (Word []) at) ≡ Err (behind k) = λ at. by.0 (Word []) at tt ∙ beginning (Word []) o at d ns k r ∙ ap (λ (q : List Frame). follow (behind k) (Word []) at d r.ns' q) same in
     let comma : (at : Span) → step z (token Comma at) ≡ Err wants.Close = λ at. by.0 Comma at tt ∙ separating o at d ns k r ∙ ap (another d r.ns') same in
     let goes : step z (token Close somewhere) ≡ Ok (state (Have (whole_operand b 0)) d r.ns' k') = by.0 Close somewhere tt ∙ closing o somewhere d ns k r ∙ ap (close 0 d r.ns') same in
-    (can ts z Close _ somewhere ran goes, cannot ts z Comma ran (λ at. (wants.Close, comma at)), cannot ts z signal ran (λ at. (behind k, stuck at)))
+    (can ts z Close _ somewhere ran goes, cannot ts z Comma ran (λ at. (wants.Close, comma at)), cannot ts z signal ran (λ at. (behind k, stuck at)), cannot ts z (Word []) ran (λ at. (behind k, named at)))
 wants_behind ts z o d ns k r (Arguments x n ∷ k') same bare ran by =
     let stuck : (at : Span) → step z (token signal at) ≡ Err (behind k) = λ at. by.0 signal at tt ∙ beginning signal o at d ns k r ∙ ap (λ (q : List Frame). follow (behind k) signal at d r.ns' q) same in
     let comma : step z (token Comma somewhere) ≡ Ok (state Want d r.ns' (Arguments x (n + 1) ∷ k')) = by.0 Comma somewhere tt ∙ separating o somewhere d ns k r ∙ ap (another d r.ns') same in

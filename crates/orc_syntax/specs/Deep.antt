@@ -1,5 +1,6 @@
 -- How deep a place of a definition or main expression is.
 use Rattle.std.specs.Prelude.{◌≡◌, ℕ, ◌+◌, ◌≤◌, Bool, true, false, if◌then◌else◌, List, [], ◌∷◌}
+use Rattle.orc_rules.specs.declared.limits.TheConstants.{MOST_BRACKETS, MOST_OPERATORS}
 use Rattle.orc_lex.specs.Tokens.{Sort, Join, Arrow, Open, Close, Val, Lexeme}
 
 -- what stands before a place: the open brackets and the `val`s, without those inside brackets that are closed; that number before each
@@ -37,17 +38,10 @@ counted_on c (t ∷ ts) = counted_on (counted c t.sort) ts
 abbrev pub counts : List Lexeme → Count
 counts ts = counted_on none ts
 
--- the most brackets and `val`s that may stand round a place, and the most operators that may stand before one
-abbrev pub most_levels : ℕ
-most_levels = 200
-
-abbrev pub most_operators : ℕ
-most_operators = 4000
-
 -- one more bracket, `val` or operator is one too many
 abbrev pub IsTooDeep : Count → Sort → Type 0
-IsTooDeep c Open = most_levels ≤ c.levels
-IsTooDeep c Val = most_levels ≤ c.levels
-IsTooDeep c (Join j) = most_operators ≤ c.operators
-IsTooDeep c (Arrow s) = (most_operators ≤ c.operators) × (c.half ≡ false)
+IsTooDeep c Open = MOST_BRACKETS ≤ c.levels
+IsTooDeep c Val = MOST_BRACKETS ≤ c.levels
+IsTooDeep c (Join j) = MOST_OPERATORS ≤ c.operators
+IsTooDeep c (Arrow s) = (MOST_OPERATORS ≤ c.operators) × (c.half ≡ false)
 IsTooDeep c _ = ⊥

@@ -14,14 +14,11 @@ use Rattle.orc_lex.specs.Lexing.{Cut, IsPiece, Bad}
 use Rattle.orc_syntax.specs.declared.fault.SyntaxFault.{SyntaxFault}
 use Rattle.orc_syntax.specs.declared.fault.SyntaxFault.TheVariants as faults
 use Rattle.orc_syntax.specs.declared.tree.Ast.{Ast}
+use Rattle.orc_rules.specs.declared.limits.TheConstants.{LONGEST_SOURCE}
 use Rattle.orc_syntax.specs.Tree.{Source}
 use Rattle.orc_syntax.specs.Grammar.{Program, IsProgram, Spells, Begins, Made, made_tokens, behind_all, first_part}
 use Rattle.orc_syntax.specs.Deep.{counts, IsTooDeep}
 use Rattle.orc_syntax.specs.Ast.{IsAst}
-
--- a source of at most this many bytes is read
-abbrev pub longest_source : ℕ
-longest_source = 1048576
 
 -- Its tokens spell the program.
 abbrev pub SpellsTokens : List ℕ → Source → Type 0
@@ -29,7 +26,7 @@ SpellsTokens src s = (ts : List Lexeme) × Cut src ts (length src) × Spells ts 
 
 -- The text spells the program: it isn't too long, it is UTF-8, and its tokens do.
 abbrev pub SpellsText : List ℕ → Source → Type 0
-SpellsText src s = (length src ≤ longest_source) × IsUtf8 src × SpellsTokens src s
+SpellsText src s = (length src ≤ LONGEST_SOURCE) × IsUtf8 src × SpellsTokens src s
 
 -- Up to this place the text is tokens that begin a program.
 abbrev pub BeginsText : List ℕ → ℕ → Type 0
@@ -46,7 +43,7 @@ IsWanted wants.Expression front = CanFollow front (One plains.Signal)
 IsWanted wants.Name front = CanFollow front (Word []) × (CanFollow front (One plains.Signal) → ⊥)
 IsWanted wants.End front = ((s : Source) × Spells front s) × (CanFollow front (One plains.Signal) → ⊥)
 IsWanted wants.CommaOrClose front = CanFollow front Comma × CanFollow front Close × (CanFollow front (One plains.Signal) → ⊥)
-IsWanted wants.Close front = CanFollow front Close × (CanFollow front Comma → ⊥) × (CanFollow front (One plains.Signal) → ⊥)
+IsWanted wants.Close front = CanFollow front Close × (CanFollow front Comma → ⊥) × (CanFollow front (One plains.Signal) → ⊥) × (CanFollow front (Word []) → ⊥)
 IsWanted wants.Assign front = CanFollow front Assign
 IsWanted wants.Paren front = CanFollow front Open × (CanFollow front (Join joints.Par) → ⊥) × (CanFollow front (One plains.Signal) → ⊥)
 IsWanted wants.Arrow front = ((s : Side) × CanFollow front (Arrow s)) × (CanFollow front (Join joints.Par) → ⊥)
@@ -92,7 +89,7 @@ IsUnread src at why = ((ts : List Lexeme) × Cut src ts at) × IsPiece src at (B
 -- what is wrong with a text
 abbrev pub IsFault : List ℕ → SyntaxFault → Type 0
 IsFault src faults.Memory = ⊥
-IsFault src faults.Long = longest_source < length src
+IsFault src faults.Long = LONGEST_SOURCE < length src
 IsFault src (faults.Encoding at) = IsValidUpTo src at × (IsUtf8 src → ⊥)
 IsFault src (faults.Character at) = IsUnread src at unread.Character
 IsFault src (faults.Number span) = IsUnread src span.start (unread.Number span.end)

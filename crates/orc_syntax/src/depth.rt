@@ -10,13 +10,8 @@ ghost use Rattle.orc_syntax.specs.View.{count_of, Counts};
 
 use crate::reader::StepError;
 use orc_lex::token::Kind;
+use orc_rules::limits::{MOST_BRACKETS, MOST_OPERATORS};
 use std::alloc::Global;
-
-/// The most brackets and `val`s that may stand round a place.
-const MOST_LEVELS: usize = 200;
-
-/// The most operators that may stand before a place.
-const MOST_OPERATORS: usize = 4000;
 
 /// The brackets that are open, the `val`s and the operators that stand before a place.
 #[derive(Drop)]
@@ -92,7 +87,7 @@ impl Depth {
     fn open(&mut self) -> Result<(), StepError>
         ensures { Counts result (count_of self.old) (count_of self.new) tokens.Open }
     {
-        if self.levels >= MOST_LEVELS {
+        if self.levels >= MOST_BRACKETS {
             return Err(StepError::Deep);
         }
         self.outside.push(self.levels)?;
@@ -103,7 +98,7 @@ impl Depth {
     fn bind(&mut self) -> Result<(), StepError>
         ensures { Counts result (count_of self.old) (count_of self.new) tokens.Val }
     {
-        if self.levels >= MOST_LEVELS {
+        if self.levels >= MOST_BRACKETS {
             return Err(StepError::Deep);
         }
         self.levels += 1;

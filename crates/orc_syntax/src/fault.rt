@@ -15,7 +15,7 @@ pub enum SyntaxFault {
     Number(Span),
     /// S4: the token that can't go on, or the text's end; and what had to stand there.
     Expected(usize, What),
-    /// S5: a bracket or `val` inside 200 others, or an operator behind 4,000 others, in one definition or main expression.
+    /// S5: a bracket or `val` inside `MOST_BRACKETS` others, or an operator behind `MOST_OPERATORS` others, in one definition or main expression.
     Deep(usize),
     /// S7: a `{-` that isn't closed.
     Comment(usize),

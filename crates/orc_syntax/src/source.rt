@@ -17,10 +17,8 @@ use crate::reader::{Mode, Reader, StepError};
 use crate::tree::Ast;
 use orc_lex::lexer::{Piece, piece_at};
 use orc_lex::token::{Span, Token, Unread};
+use orc_rules::limits::LONGEST_SOURCE;
 use std::alloc::Global;
-
-/// The most bytes that a source may have.
-const LONGEST_SOURCE: usize = 1048576;
 
 fn unread_fault(why: Unread, at: usize) -> SyntaxFault
     ensures { result ≡ fault_at why at }

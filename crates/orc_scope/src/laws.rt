@@ -1,0 +1,9 @@
+//! Laws of the scope check: each function's contract is the law.
+
+ghost use Rattle.orc_scope.specs.Shallow.{ShallowTrees};
+
+/// A source whose text has no bracket, `val` or operator too many spells a tree that has none too many. So what `check` promises of the
+/// depth of written-out terms holds of every source that `parse` takes.
+pub fn shallow_trees()
+    ensures { ShallowTrees }
+{}
