@@ -23,7 +23,7 @@ use Rattle.orc_ledger.specs.Calls.{Drops, AreCancelled, token_goes, call_goes, g
 use Rattle.orc_ledger.specs.Homes.{aids}
 use Rattle.orc_ledger.specs.Tokens.{live, is_live, IsHeld}
 use Rattle.orc_ledger.specs.Next.{is_this}
-use Rattle.orc_ledger.specs.Inside.{step_at, is_on, is_among, stands_inside, side_inside, held_inside, calls_outside, groups_outside, numbers_inside}
+use Rattle.orc_ledger.specs.Inside.{step_at, is_on, is_among, stands_inside, side_inside, held_inside, groups_outside, numbers_inside}
 use Rattle.orc_ledger.specs.declared.records.Token.{Token}
 use Rattle.orc_ledger.specs.declared.records.Call.{Call}
 use Rattle.orc_ledger.specs.declared.records.Entered.{Entered}
@@ -258,7 +258,7 @@ module _ (l : Listing) (sites : List Site) (s : Records) (L : Lawful l sites s) 
 
   -- the lists that the code leaves
   pub drops : (u : Bound) (s' : Records) → s'.limit ≡ s.limit → s'.entries ≡ s.entries + 1 → s'.next_mark ≡ s.next_mark → s'.now ≡ s.now → s'.made ≡ s.made
-      → ((w : Token → ℕ) → weight w s'.tokens ≡ weight (but (λ (t : Token). stands_inside c s.steps t.step) w) s.tokens) → s'.calls ≡ calls_outside c s.steps s.calls → s'.groups ≡ groups_outside c s.steps s.groups → s'.scopes ≡ s.scopes → s'.steps ≡ s.steps → s'.cells ≡ slice_set s.cells c u
+      → ((w : Token → ℕ) → weight w s'.tokens ≡ weight (but (λ (t : Token). stands_inside c s.steps t.step) w) s.tokens) → ((w : Call → ℕ) → weight w s'.calls ≡ weight (but (λ (k : Call). stands_inside c s.steps k.step) w) s.calls) → s'.groups ≡ groups_outside c s.steps s.groups → s'.scopes ≡ s.scopes → s'.steps ≡ s.steps → s'.cells ≡ slice_set s.cells c u
       → Drops (code l) c u s s'
   drops u s' limit entries mark now made tokens calls groups scopes steps cells =
       record {
@@ -268,7 +268,7 @@ module _ (l : Listing) (sites : List Site) (s : Records) (L : Lawful l sites s) 
         now = now;
         made = made;
         tokens = λ w. tokens w ∙ none-alike (token_out (length s.scopes) (length s.steps)) (but (λ (t : Token). stands_inside c s.steps t.step) w) (but (token_goes (code l) c s) w) s.tokens L.sound.tokens (λ t h. ap (λ b. cond b 0 (w t)) (token_at t h));
-        calls = λ w. ap (weight w) calls ∙ filter-but (λ (k : Call). stands_inside c s.steps k.step) w s.calls ∙ none-alike (call_out (length s.steps)) (but (λ (k : Call). stands_inside c s.steps k.step) w) (but (call_goes (code l) c s) w) s.calls L.sound.calls (λ k h. ap (λ b. cond b 0 (w k)) (call_at k h));
+        calls = λ w. calls w ∙ none-alike (call_out (length s.steps)) (but (λ (k : Call). stands_inside c s.steps k.step) w) (but (call_goes (code l) c s) w) s.calls L.sound.calls (λ k h. ap (λ b. cond b 0 (w k)) (call_at k h));
         groups = λ w. ap (weight w) groups ∙ filter-but (λ (g : Group). side_inside c s.steps g.outer g.side) w s.groups ∙ none-alike (group_out (length s.scopes) (length s.steps)) (but (λ (g : Group). side_inside c s.steps g.outer g.side) w) (but (group_goes (code l) c s) w) s.groups L.sound.groups (λ g h. ap (λ b. cond b 0 (w g)) (group_at g h));
         scopes = scopes;
         steps = steps;

@@ -21,6 +21,7 @@ use Rattle.orc_rules.specs.Journal.{Place, Enters, Journal, begin}
 use Rattle.orc_rules.specs.Numbered.{AreCounted}
 use Rattle.orc_rules.proofs.Determined.{leads_to_one}
 use Rattle.orc_rules.proofs.Numbered.{next_not}
+use Rattle.orc_calls.specs.Counting.{AreCounted as HaveCounts, CountsCall}
 use Rattle.orc_ledger.specs.Same.{weight, only}
 use Rattle.orc_ledger.specs.Records.{Records, Lawful, context}
 use Rattle.orc_ledger.specs.Told.{found_eq, is_told, AreTold}
@@ -64,6 +65,33 @@ calls_entered x p q (Right s b) (f, g, cs, ea, halted, r, h) = ap (λ (w : Place
 calls_entered x p q (Publish s v) (e, h) = ap (λ (w : Place). w.calls) h.same
 calls_entered x p q (Tick u) (tick, same) = ap (λ (w : Place). w.calls) same
 calls_entered x p q (Cancel k) (due, same) = ap (λ (w : Place). w.calls) same
+
+-- marks are counted from 1 on
+from_one_on : (x : Context) (p q : Place) (e : Entry) → Enters x p e q → 1 ≤ p.mark → 1 ≤ q.mark
+from_one_on x p q (End s) h one = omega (arith, one, ap (λ (w : Place). w.mark) h.same)
+from_one_on x p q (Fork s b c) (f, g, ea, eb, h) one = omega (arith, ap (λ (w : Place). w.mark) h.same)
+from_one_on x p q (Seq s b) (f, g, z, ea, h) one = omega (arith, ap (λ (w : Place). w.mark) h.same)
+from_one_on x p q (Other s b) (f, g, ea, h) one = omega (arith, ap (λ (w : Place). w.mark) h.same)
+from_one_on x p q (Def s b) (e, ps, d, cs, ea, is, r, h) one = omega (arith, ap (λ (w : Place). w.mark) h.same)
+from_one_on x p q (entry.Void s) (u, cs, is, r, h) one = omega (arith, one, ap (λ (w : Place). w.mark) h.same)
+from_one_on x p q (Open s c b d) (f, g, z, cs, ec, ea, eb, r, h) one = omega (arith, ap (λ (w : Place). w.mark) h.same)
+from_one_on x p q (Send s b v) (ea, e, h) one = omega (arith, ap (λ (w : Place). w.mark) h.same)
+from_one_on x p q (Calls s k m args) (ps, cs, ek, is, r, h) one = omega (arith, one, ap (λ (w : Place). w.mark) h.same)
+from_one_on x p q (Return k b v) (cs, ea, due, r, h) one = omega (arith, ap (λ (w : Place). w.mark) h.same)
+from_one_on x p q (ReturnHalt k) (cs, due, r, h) one = omega (arith, one, ap (λ (w : Place). w.mark) h.same)
+from_one_on x p q (Bind s c v) (e, h) one = omega (arith, one, ap (λ (w : Place). w.mark) h.same)
+from_one_on x p q (Lost c) (f, g, cs, halted, r, h) one = omega (arith, one, ap (λ (w : Place). w.mark) h.same)
+from_one_on x p q (Right s b) (f, g, cs, ea, halted, r, h) one = omega (arith, ap (λ (w : Place). w.mark) h.same)
+from_one_on x p q (Publish s v) (e, h) one = omega (arith, one, ap (λ (w : Place). w.mark) h.same)
+from_one_on x p q (Tick u) (tick, same) one = omega (arith, one, ap (λ (w : Place). w.mark) same)
+from_one_on x p q (Cancel k) (due, same) one = omega (arith, one, ap (λ (w : Place). w.mark) same)
+
+from_one_along : (x : Context) (p q : Place) (es : List Entry) → 1 ≤ p.mark → Journal x p es q → 1 ≤ q.mark
+from_one_along x p q [] one h = omega (arith, one, ap (λ (w : Place). w.mark) h)
+from_one_along x p q (e ∷ es) one (mid, lead, h) = from_one_along x mid q es (from_one_on x p mid e lead.1 one) h
+
+pub from_one : (l : Listing) (sites : List Site) (s : Records) → Lawful l sites s → 1 ≤ s.next_mark
+from_one l sites s L = omega (arith, L.spells.mark, from_one_along (context l sites) (begin (source l)) L.place s.journal (omega arith) L.leads)
 
 -- no entry makes a call
 abbrev pub IsNoCall : Entry → Type 0
@@ -146,6 +174,19 @@ module _ (l : Listing) (sites : List Site) (s s' : Records) (L : Lawful l sites 
   told-kept es e none fewer told =
       let same = journal_calls (context l sites) L.place L'.place es none (added es e) in
       subst (λ cs. AreTold sites cs s'.calls) (sym same) (omega (arith, fewer (only (λ c. not (is_told sites L.place.calls c)) (λ c. 1)), told))
+
+  -- where no call comes, the calls stay counted
+  pub counted-kept : (es : List Entry) → s'.journal ≡ s.journal ++ es → AreNoCalls es → (counts : List (List ℕ × ℕ)) → HaveCounts sites counts L.place.calls → HaveCounts sites counts L'.place.calls
+  counted-kept es e none counts counted = subst (HaveCounts sites counts) (sym (journal_calls (context l sites) L.place L'.place es none (added es e))) counted
+
+  -- a call that comes is counted
+  pub counted-call : (serial k m : ℕ) (args : List Value) → s'.journal ≡ s.journal ++ Calls serial k m args ∷ [] → (counts counts' : List (List ℕ × ℕ)) → CountsCall sites m args counts counts' → HaveCounts sites counts L.place.calls → HaveCounts sites counts' L'.place.calls
+  counted-call serial k m args e counts counts' more counted =
+      let x = context l sites in
+      let j = added (Calls serial k m args ∷ []) e in
+      let made : CallMade = record { number = k; site = m; args = args; nth = nth_of m args L.place.calls; at = L.place.now } in
+      let calls : L'.place.calls ≡ made ∷ L.place.calls = ap (λ (w : Place). w.calls) (sym j.2) ∙ calls_entered x L.place j.0 (Calls serial k m args) j.1.1 in
+      subst (HaveCounts sites counts') (sym calls) (more L.place.calls made refl refl counted)
 
   -- a call that comes is told
   pub told-call : (serial : ℕ) (m : ℕ) (args : List Value) (c : Call) → s'.journal ≡ s.journal ++ Calls serial c.number m args ∷ []

@@ -1,10 +1,9 @@
 -- What the ledger says of what comes next is right by the rules.
-use Rattle.std.proofs.Common.{◌≡◌, List, [], refl, sym, subst}
+use Rattle.std.proofs.Common.{◌≡◌, ℕ, List, [], refl, sym, subst}
 use Rattle.orc_rules.specs.Nodes.{Listing, code, source, definitions}
 use Rattle.orc_rules.specs.Sites.{Site}
 use Rattle.orc_rules.specs.Journal.{Place, Journal, begin}
 use Rattle.orc_ledger.specs.Records.{Records, context}
-use Rattle.orc_ledger.specs.Told.{AreTold}
 use Rattle.orc_ledger.specs.Kept.{Kept}
 use Rattle.orc_ledger.specs.Next.{numbers_of, next_of}
 use Rattle.orc_ledger.specs.Spoken.{spoken, Holds, IsRight}
@@ -14,13 +13,13 @@ use Rattle.orc_ledger.proofs.Keeping.{journal_one}
 use Rattle.orc_ledger.proofs.Nexts.{next_ticks, next_quiet}
 use Rattle.orc_ledger.proofs.Working.{work-allowed}
 
-module _ (l : Listing) (sites : List Site) (s : Records) (K : Kept l sites s) where
-  holds : (r : Answer) → spoken r ≡ next_of (code l) (definitions l) (numbers_of s) s → AreTold sites K.lawful.place.calls s.calls → Holds l sites s r K.lawful.place
-  holds Work h told = work-allowed l sites s K.lawful told (numbers_of s) K.grouped (sym h)
-  holds (Ticks t) h told = next_ticks l sites s K.lawful told (numbers_of s) K.grouped t (sym h)
-  holds Quiet h told = next_quiet l sites s K.lawful told (numbers_of s) K.grouped (sym h)
+module _ (l : Listing) (sites : List Site) (counts : List (List ℕ × ℕ)) (s : Records) (K : Kept l sites counts s) where
+  holds : (r : Answer) → spoken r ≡ next_of (code l) (definitions l) (numbers_of s) s → Holds l sites s r K.lawful.place
+  holds Work h = work-allowed l sites s K.lawful K.told (numbers_of s) K.grouped (sym h)
+  holds (Ticks t) h = next_ticks l sites s K.lawful K.told (numbers_of s) K.grouped t (sym h)
+  holds Quiet h = next_quiet l sites s K.lawful K.told (numbers_of s) K.grouped (sym h)
 
   pub is-right : (r : Answer) → spoken r ≡ next_of (code l) (definitions l) (numbers_of s) s → IsRight l sites s r
-  is-right r h p journal told =
+  is-right r h p journal =
       let same : K.lawful.place ≡ p = journal_one (context l sites) (source l) [] (begin (source l)) K.lawful.place p s.journal refl K.lawful.leads journal in
-      subst (Holds l sites s r) same (holds r h (subst (λ (q : Place). AreTold sites q.calls s.calls) (sym same) told))
+      subst (Holds l sites s r) same (holds r h)

@@ -14,7 +14,8 @@ use Rattle.orc_rules.specs.Timed.{CallMade, IsIn, says_of, number_of}
 use Rattle.orc_rules.specs.Numbered.{AreCounted}
 use Rattle.orc_rules.proofs.Numbered.{next_not}
 use Rattle.orc_ledger.specs.Told.{found_eq, is_told, IsTold, AreTold}
-use Rattle.orc_ledger.specs.Next.{due_by, due_of, earlier, next_due}
+use Rattle.orc_calls.specs.Due.{due_by}
+use Rattle.orc_ledger.specs.Next.{due_of, earlier, next_due}
 use Rattle.orc_ledger.specs.declared.records.Call.{Call}
 use Rattle.orc_ledger.proofs.Weight.{none-in}
 

@@ -36,9 +36,6 @@ module _ (c : ℕ) (ss : List Step) where
   held_inside t = is_live t && stands_inside t.step
 
   -- what is left of the records once those inside are gone
-  abbrev pub calls_outside : List Call → List Call
-  calls_outside = filter (λ k. not (stands_inside k.step))
-
   abbrev pub groups_outside : List Group → List Group
   groups_outside = filter (λ g. not (side_inside g.outer g.side))
 

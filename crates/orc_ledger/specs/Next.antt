@@ -1,9 +1,8 @@
 -- What a book does next, as a function of its records and of the groups that the tables note.
-use Rattle.std.specs.Prelude.{◌≡◌, ℕ, zero, suc, ◌+◌, ◌^◌, List, [], ◌∷◌, Bool, true, false, cond, nat_eq, nat_lt, ◌≤◌, Option, Some, None, slice_get}
-use Rattle.orc_rules.specs.declared.value.Found.{Found}
-use Rattle.orc_rules.specs.declared.value.Found.TheVariants.{After, Never}
+use Rattle.std.specs.Prelude.{◌≡◌, ℕ, zero, suc, ◌+◌, List, [], ◌∷◌, Bool, true, false, cond, nat_eq, nat_lt, ◌≤◌, Option, Some, None, slice_get}
 use Rattle.orc_rules.specs.Term.{Term, Definition}
 use Rattle.orc_rules.specs.Timed.{IsIn}
+use Rattle.orc_calls.specs.Due.{due_by}
 use Rattle.orc_ledger.specs.Same.{weight}
 use Rattle.orc_ledger.specs.Records.{Records, group_at}
 use Rattle.orc_ledger.specs.Doing.{what_of, is_wait}
@@ -18,11 +17,6 @@ use Rattle.orc_ledger.specs.declared.records.Side.TheVariants.{Right, Left}
 use Rattle.orc_ledger.specs.declared.records.Group.{Group}
 
 -- ---- due times
-
--- the due time of a call that was made at this time, where it is a u64
-abbrev pub due_by : ℕ → Found → Option ℕ
-due_by at (After a d) = cond (nat_lt (at + d) (2 ^ 64)) (Some (at + d)) None
-due_by at Never = None
 
 abbrev pub due_of : Call → Option ℕ
 due_of c = due_by c.made_at c.found

@@ -7,7 +7,6 @@ use Rattle.orc_rules.specs.Marked.{erase}
 use Rattle.orc_rules.specs.Timed.{IsTick, IsQuiet}
 use Rattle.orc_rules.specs.Journal.{Place, Journal, begin, moment}
 use Rattle.orc_ledger.specs.Records.{Records, context}
-use Rattle.orc_ledger.specs.Told.{AreTold}
 use Rattle.orc_ledger.specs.Next.{Next, work, ticks, quiet, numbers_of}
 use Rattle.orc_ledger.specs.Laws.{Allowed, IsLeft}
 use Rattle.orc_ledger.specs.declared.next.Next.{Next as Answer}
@@ -24,6 +23,6 @@ Holds l sites s Work p = Allowed l sites p ⊎ (IsLeft l (numbers_of s) s ⊎ Ha
 Holds l sites s (Ticks t) p = IsTick (context l sites) (moment p) t
 Holds l sites s Quiet p = IsQuiet (context l sites) (moment p)
 
--- an answer is right by the rules, where the records have the table's word on each pending call
+-- an answer is right by the rules
 abbrev pub IsRight : Listing → List Site → Records → Answer → Type 0
-IsRight l sites s r = (p : Place) → Journal (context l sites) (begin (source l)) s.journal p → AreTold sites p.calls s.calls → Holds l sites s r p
+IsRight l sites s r = (p : Place) → Journal (context l sites) (begin (source l)) s.journal p → Holds l sites s r p

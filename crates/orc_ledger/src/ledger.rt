@@ -7,8 +7,10 @@ ghost use Rattle.orc_ledger.specs.Begun.{begun};
 ghost use Rattle.orc_ledger.specs.Calls.{HasRoom, IsRefused};
 ghost use Rattle.orc_ledger.specs.declared.records.Token.{Token as Its};
 
-use crate::records::{Call, Group, Standing, Step, Token};
+use crate::pending::Pending;
+use crate::records::{Group, Standing, Step, Token};
 use crate::tokens::Tokens;
+use orc_calls::Counts;
 use orc_journal::{Journal, Version};
 use orc_names::{Bound, Scope};
 use orc_rules::entry::Entry;
@@ -42,9 +44,9 @@ pub struct Ledger<P: Program> {
     pub(crate) entries: usize,
     pub(crate) next_mark: u64,
     pub(crate) time: u64,
-    pub(crate) made: u64,
     pub(crate) tokens: Tokens,
-    pub(crate) calls: Vec<Call>,
+    pub(crate) calls: Pending,
+    pub(crate) counts: Counts,
     pub(crate) scopes: Vec<Scope>,
     pub(crate) steps: Vec<Step>,
     pub(crate) groups: Vec<Group>,
@@ -59,9 +61,9 @@ impl<P: Program> Model for Ledger<P> {
 
     ghost Value = { Records };
 
-    ghost view = { λ b. record { limit = b.limit; journal = b.journal.entries; entries = b.entries; next_mark = b.next_mark; now = b.time; made = b.made; tokens = live b.tokens.items; slots = b.tokens.items; calls = b.calls.items; scopes = b.scopes.items; steps = b.steps.items; groups = b.groups.items; cells = b.cells.items } };
+    ghost view = { λ b. record { limit = b.limit; journal = b.journal.entries; entries = b.entries; next_mark = b.next_mark; now = b.time; made = b.calls.made; tokens = live b.tokens.items; slots = b.tokens.items; calls = b.calls.items; scopes = b.scopes.items; steps = b.steps.items; groups = b.groups.items; cells = b.cells.items } };
 
-    ghost invariant = { λ b. Kept P.listing P.sites (record { limit = b.limit; journal = b.journal.entries; entries = b.entries; next_mark = b.next_mark; now = b.time; made = b.made; tokens = live b.tokens.items; slots = b.tokens.items; calls = b.calls.items; scopes = b.scopes.items; steps = b.steps.items; groups = b.groups.items; cells = b.cells.items }) };
+    ghost invariant = { λ b. Kept P.listing P.sites b.counts (record { limit = b.limit; journal = b.journal.entries; entries = b.entries; next_mark = b.next_mark; now = b.time; made = b.calls.made; tokens = live b.tokens.items; slots = b.tokens.items; calls = b.calls.items; scopes = b.scopes.items; steps = b.steps.items; groups = b.groups.items; cells = b.cells.items }) };
 }
 
 // Written out, so that each exit of a function that has a ledger drops it by one call.
@@ -73,9 +75,9 @@ impl<P: Program> Drop for Ledger<P> {
             entries: _,
             next_mark: _,
             time: _,
-            made: _,
             tokens,
             calls,
+            counts,
             scopes,
             steps,
             groups,
@@ -85,6 +87,7 @@ impl<P: Program> Drop for Ledger<P> {
         drop(journal);
         drop(tokens);
         drop(calls);
+        drop(counts);
         drop(scopes);
         drop(steps);
         drop(groups);
@@ -154,9 +157,9 @@ impl<P: Program> Ledger<P> {
             entries: 0,
             next_mark: 2,
             time: 0,
-            made: 0,
             tokens,
-            calls: Vec::new(alloc),
+            calls: Pending::new(alloc),
+            counts: Counts::new(alloc),
             scopes: Vec::new(alloc),
             steps: Vec::new(alloc),
             groups: Vec::new(alloc),

@@ -1,19 +1,24 @@
 //! The records of a run under one invariant: the journal of what they did leads from the program to a place that they spell.
 #![tactic(auto)]
 
+mod calls;
 mod definitions;
+mod dues;
 mod laws;
 mod ledger;
 mod marks;
 mod next;
+mod pending;
 mod publications;
 mod records;
 mod sides;
 mod taking;
+mod time;
 mod tokens;
 mod view;
 mod what;
 
+pub use calls::ReturnFault;
 pub use laws::{
     next_is_quiet, next_ticks, none_is_lost, quiet_is_next, root_has_halted, tick_is_next,
     wait_is_still, word_is_allowed, word_is_offered, work_has_cause, work_is_allowed,

@@ -144,7 +144,7 @@ impl<P: Program> Ledger<P> {
         if any_token(self.tokens.slots(), &self.steps, number) {
             return true;
         }
-        if any_call(&self.calls, &self.steps, number) {
+        if any_call(self.calls.items(), &self.steps, number) {
             return true;
         }
         any_group(&self.groups, &self.steps, number)
@@ -174,7 +174,7 @@ impl<P: Program> Ledger<P> {
         if self.any_moves(graph) || self.any_empty() {
             return Next::Work;
         }
-        match next_due(&self.calls) {
+        match next_due(self.calls.items()) {
             None => Next::Quiet,
             Some(time) => {
                 if self.time < time {

@@ -16,7 +16,7 @@ ghost use Rattle.orc_ledger.specs.Taking.{taker};
 ghost use Rattle.orc_ledger.specs.Records.{its_env, its_path, standing, is_over};
 ghost use Rattle.orc_ledger.specs.Calls.{Drops, Closes, AreCancelled, IsRefused};
 ghost use Rattle.orc_ledger.specs.Homes.{aids};
-ghost use Rattle.orc_ledger.specs.Inside.{step_at, held_inside, stands_inside, side_inside, calls_outside, groups_outside, numbers_inside};
+ghost use Rattle.orc_ledger.specs.Inside.{step_at, held_inside, stands_inside, side_inside, groups_outside, numbers_inside};
 
 use crate::ledger::{Ledger, LedgerFault, Program, push_within, reserve, write};
 use crate::records::{Call, Entered, Group, Side, Step, Token};
@@ -46,7 +46,7 @@ fn is_aid(entered: Entered, cell: u64) -> bool
 }
 
 // Whether a step is inside the right side of a cell.
-fn is_inside(steps: &Vec<Step>, from: usize, cell: u64) -> bool
+pub(crate) fn is_inside(steps: &Vec<Step>, from: usize, cell: u64) -> bool
     ensures { result ≡ stands_inside cell steps.now.items from }
 {
     let mut at = from;
@@ -117,12 +117,6 @@ fn drop_tokens(tokens: &mut Tokens, steps: &Vec<Step>, cell: u64)
     }
 }
 
-fn drop_calls(calls: &mut Vec<Call>, steps: &Vec<Step>, cell: u64)
-    ensures { calls.new.items ≡ calls_outside cell steps.now.items calls.old.items }
-{
-    calls.retain(|call| !is_inside(steps, call.step, cell));
-}
-
 fn drop_groups(groups: &mut Vec<Group>, steps: &Vec<Step>, cell: u64)
     ensures { groups.new.items ≡ groups_outside cell steps.now.items groups.old.items }
 {
@@ -177,12 +171,12 @@ impl<P: Program> Ledger<P> {
         ensures why { IfErr result (λ fault. IsRefused self.old 0 0 0 fault) }
     {
         self.within(0, 0, 0)?;
-        list_inside(&self.calls, &self.steps, cell, cancelled)?;
+        list_inside(self.calls.items(), &self.steps, cell, cancelled)?;
         cancelled.sort_unstable();
         write_bind(&mut self.journal, token.serial, cell, value, cancelled)?;
         self.entries += 1;
         drop_tokens(&mut self.tokens, &self.steps, cell);
-        drop_calls(&mut self.calls, &self.steps, cell);
+        self.calls.drop_inside(&self.steps, cell);
         drop_groups(&mut self.groups, &self.steps, cell);
         settle(&mut self.cells, cell, Bound::Is(value));
         Ok(())

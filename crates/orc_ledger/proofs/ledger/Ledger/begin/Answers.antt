@@ -1,8 +1,10 @@
-use Rattle.std.proofs.Common.{◌≡◌, ℕ, List, [], ◌∷◌, ◌++◌, sym, ap, ◌∙◌, subst}
+use Rattle.std.proofs.Common.{◌≡◌, ℕ, List, [], ◌∷◌, ◌++◌, refl, sym, ap, ◌∙◌, subst}
 use Rattle.orc_rules.specs.declared.entry.Entry.{Entry}
 use Rattle.orc_names.specs.declared.names.Bound.{Bound}
 use Rattle.orc_names.specs.declared.names.Bound.TheVariants.{Void}
 use Rattle.orc_names.specs.declared.names.Scope.{Scope}
+use Rattle.orc_rules.specs.Journal.{Place}
+use Rattle.orc_calls.specs.Counting.{AreCounted}
 use Rattle.orc_ledger.specs.Kept.{Kept}
 use Rattle.orc_ledger.specs.Begun.{begun}
 use Rattle.orc_ledger.specs.Tokens.{live}
@@ -15,18 +17,26 @@ use Rattle.orc_ledger.proofs.Begun.{begun-lawful, begun-grouped}
 use Rattle.orc_ledger.proofs.ledger.Ledger.begin.Goals as goal
 
 -- records made of lists that are those of a new run
-same : (limit root : ℕ) (js : List Entry) (ts : List Token) (cs : List Call) (ss : List Scope) (ps : List Step) (gs : List Group) (bs : List Bound)
-    → js ≡ [] → ts ≡ record { serial = 1; standing = At root 0; step = 0 } ∷ [] → cs ≡ [] → ss ≡ [] → ps ≡ [] → gs ≡ [] → bs ≡ Void ∷ []
-    → begun limit root ≡ record { limit = limit; journal = js; entries = 0; next_mark = 2; now = 0; made = 0; tokens = live ts; slots = ts; calls = cs; scopes = ss; steps = ps; groups = gs; cells = bs }
-same limit root js ts cs ss ps gs bs j t c s p g b = λ i. record { limit = limit; journal = sym j i; entries = 0; next_mark = 2; now = 0; made = 0; tokens = live (sym t i); slots = sym t i; calls = sym c i; scopes = sym s i; steps = sym p i; groups = sym g i; cells = sym b i }
+same : (limit root made : ℕ) (js : List Entry) (ts : List Token) (cs : List Call) (ss : List Scope) (ps : List Step) (gs : List Group) (bs : List Bound)
+    → made ≡ 0 → js ≡ [] → ts ≡ record { serial = 1; standing = At root 0; step = 0 } ∷ [] → cs ≡ [] → ss ≡ [] → ps ≡ [] → gs ≡ [] → bs ≡ Void ∷ []
+    → begun limit root ≡ record { limit = limit; journal = js; entries = 0; next_mark = 2; now = 0; made = made; tokens = live ts; slots = ts; calls = cs; scopes = ss; steps = ps; groups = gs; cells = bs }
+same limit root made js ts cs ss ps gs bs m j t c s p g b = λ i. record { limit = limit; journal = sym j i; entries = 0; next_mark = 2; now = 0; made = sym m i; tokens = live (sym t i); slots = sym t i; calls = sym c i; scopes = sym s i; steps = sym p i; groups = sym g i; cells = sym b i }
 
 pub invariant_of-result : goal.invariant_of-result
 invariant_of-result g c =
     let a = c.args in
     let l = g.P.Program.listing in
     let sites = g.P.Program.sites in
-    let kept : Kept l sites (begun a.limit l.root) = record { lawful = begun-lawful l sites a.limit c.requires.limit.1; grouped = begun-grouped a.limit l.root } in
+    let L = begun-lawful l sites a.limit c.requires.limit.1 in
+    let kept : Kept l sites [] (begun a.limit l.root) = record {
+      lawful = L;
+      grouped = begun-grouped a.limit l.root;
+      told = refl;
+      counted = subst (AreCounted sites []) (ap (λ (w : Place). w.calls) L.leads) (λ m args h. refl);
+    } in
     let cells : c.push_within.new.items.items ≡ Void ∷ [] = c.push_within.ensures.items ∙ ap (λ (z : List Bound). z ++ Void ∷ []) (c.in_ok-reserve.ensures.items ∙ c.new-cells.ensures.items) in
-    subst (Kept l sites) (same a.limit a.root c.new.result.entries c.in_ok-tokens.tokens.items c.new-2.result.items c.new-3.result.items c.new-4.result.items c.new-5.result.items c.push_within.new.items.items
-    (ap (λ z. z.entries) c.new.ensures) c.in_ok-tokens.ensures.items c.new-2.ensures.items c.new-3.ensures.items c.new-4.ensures.items c.new-5.ensures.items cells)
-    (subst (λ z. Kept l sites (begun a.limit z)) (sym c.requires.root) kept)
+    subst (λ n. Kept l sites n (record { limit = a.limit; journal = c.new.result.entries; entries = 0; next_mark = 2; now = 0; made = c.new-2.result.made; tokens = live c.in_ok-tokens.tokens.items; slots = c.in_ok-tokens.tokens.items; calls = c.new-2.result.items; scopes = c.new-4.result.items; steps = c.new-5.result.items; groups = c.new-6.result.items; cells = c.push_within.new.items.items }))
+    (sym c.new-3.ensures)
+    (subst (Kept l sites []) (same a.limit a.root c.new-2.result.made c.new.result.entries c.in_ok-tokens.tokens.items c.new-2.result.items c.new-4.result.items c.new-5.result.items c.new-6.result.items c.push_within.new.items.items
+    c.new-2.ensures.made (ap (λ z. z.entries) c.new.ensures) c.in_ok-tokens.ensures.items c.new-2.ensures.items c.new-4.ensures.items c.new-5.ensures.items c.new-6.ensures.items cells)
+    (subst (λ z. Kept l sites [] (begun a.limit z)) (sym c.requires.root) kept))

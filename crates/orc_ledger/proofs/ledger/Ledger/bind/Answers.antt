@@ -1,9 +1,10 @@
-use Rattle.std.proofs.Common.{◌≡◌, ◌+◌, ◌<◌, ℕ, List, ◌∷◌, ◌++◌, length, get_or, map, refl, ap}
+use Rattle.std.proofs.Common.{◌≡◌, ◌+◌, ◌<◌, ℕ, List, ◌∷◌, ◌++◌, length, get_or, map, refl, ap, ◌∙◌}
 use Rattle.orc_rules.specs.declared.entry.Entry.TheVariants.{Bind, Cancel}
 use Rattle.orc_rules.specs.declared.param.Param.TheVariants as is_
 use Rattle.orc_rules.specs.Term.{param}
 use Rattle.orc_rules.specs.Nodes.{code}
 use Rattle.orc_names.specs.declared.names.Bound.TheVariants.{Is}
+use Rattle.orc_ledger.specs.Inside.{numbers_inside}
 use Rattle.orc_ledger.specs.Tokens.{live, IsHeld}
 use Rattle.orc_ledger.specs.Spelling.{Path, aiding}
 use Rattle.orc_ledger.specs.Taking.{taker}
@@ -11,6 +12,8 @@ use Rattle.orc_ledger.specs.Records.{Records, its_env, its_path, standing}
 use Rattle.orc_ledger.specs.Calls.{Drops, AreCancelled}
 use Rattle.orc_ledger.proofs.Slots.{live-in}
 use Rattle.orc_ledger.proofs.Binding.{bind-lawful}
+use Rattle.orc_ledger.proofs.Calling.{drops-told}
+use Rattle.orc_ledger.proofs.Keeping.{counted-kept, cancels_none}
 use Rattle.orc_ledger.proofs.Grouped.{dropped-grouped}
 use Rattle.orc_ledger.proofs.Dropped.{drops, cancelled}
 use Rattle.orc_ledger.proofs.ledger.Ledger.bind.Goals as goal
@@ -21,19 +24,22 @@ invariant_of-self-2 g c =
     let a = c.args in
     let l = g.P.Program.listing in
     let cd = code l in
-    let s : Records = record { limit = b.limit; journal = b.journal.entries; entries = b.entries; next_mark = b.next_mark; now = b.time; made = b.made; tokens = live b.tokens.items; slots = b.tokens.items; calls = b.calls.items; scopes = b.scopes.items; steps = b.steps.items; groups = b.groups.items; cells = b.cells.items } in
+    let s : Records = record { limit = b.limit; journal = b.journal.entries; entries = b.entries; next_mark = b.next_mark; now = b.time; made = b.calls.made; tokens = live b.tokens.items; slots = b.tokens.items; calls = b.calls.items; scopes = b.scopes.items; steps = b.steps.items; groups = b.groups.items; cells = b.cells.items } in
     let ks : List ℕ = c.sort_unstable.new.self.items in
-    let s' : Records = record { limit = b.limit; journal = c.write_bind.new.journal.entries; entries = b.entries + 1; next_mark = b.next_mark; now = b.time; made = b.made; tokens = live c.drop_tokens.new.tokens.items; slots = c.drop_tokens.new.tokens.items; calls = c.drop_calls.new.calls.items; scopes = b.scopes.items; steps = b.steps.items; groups = c.drop_groups.new.groups.items; cells = c.settle.new.cells.items } in
-    let D : Drops cd a.cell (Is a.value) s s' = drops l g.P.Program.sites s c.self.invariant.lawful a.cell (Is a.value) s' refl refl refl refl refl c.drop_tokens.ensures c.drop_calls.ensures c.drop_groups.ensures refl refl c.settle.ensures in
-    let A : AreCancelled cd a.cell s ks = cancelled l g.P.Program.sites s c.self.invariant.lawful a.cell c.list_inside.new.numbers.items ks c.in_ok-list_inside.ensures.listed c.sort_unstable.ensures.permutation c.sort_unstable.ensures.sorted in
+    let s' : Records = record { limit = b.limit; journal = c.write_bind.new.journal.entries; entries = b.entries + 1; next_mark = b.next_mark; now = b.time; made = c.drop_inside.new.self.made; tokens = live c.drop_tokens.new.tokens.items; slots = c.drop_tokens.new.tokens.items; calls = c.drop_inside.new.self.items; scopes = b.scopes.items; steps = b.steps.items; groups = c.drop_groups.new.groups.items; cells = c.settle.new.cells.items } in
+    let D : Drops cd a.cell (Is a.value) s s' = drops l g.P.Program.sites s c.self.invariant.lawful a.cell (Is a.value) s' refl refl refl refl c.drop_inside.ensures.made c.drop_tokens.ensures c.drop_inside.ensures.rest c.drop_groups.ensures refl refl c.settle.ensures in
+    let A : AreCancelled cd a.cell s ks = cancelled l g.P.Program.sites s c.self.invariant.lawful a.cell c.list_inside.new.numbers.items ks (c.in_ok-list_inside.ensures.listed ∙ ap (numbers_inside a.cell s.steps) c.items.ensures) c.sort_unstable.ensures.permutation c.sort_unstable.ensures.sorted in
     let journal : s'.journal ≡ s.journal ++ Bind a.token.serial a.cell a.value ∷ map Cancel ks = ap (λ j. j.entries) c.in_ok-write_bind.ensures.added in
     let held : IsHeld s.slots a.slot a.token = rw (← c.self.view_is) at c.requires.held in
     let form : standing cd (its_env cd s) a.token.standing ≡ param (is_.Is a.value) = rw (← c.self.view_is) at c.requires.form in
     let takes : (p : Path) × (taker (its_path cd s a.token.step) ≡ aiding a.cell p) = rw (← c.self.view_is) at c.requires.takes in
     let room : s.entries < s.limit = rw (← c.self.view_is) at c.in_ok-within.ensures.room in
+    let L' = bind-lawful l g.P.Program.sites s c.self.invariant.lawful a.token (live-in s.slots a.slot a.token held) a.value form a.cell takes.0 takes.1 room s' D ks A journal in
     record {
-      lawful = bind-lawful l g.P.Program.sites s c.self.invariant.lawful a.token (live-in s.slots a.slot a.token held) a.value form a.cell takes.0 takes.1 room s' D ks A journal;
+      lawful = L';
       grouped = dropped-grouped l g.P.Program.sites s c.self.invariant.lawful c.self.invariant.grouped a.cell (Is a.value) s' D;
+      told = drops-told l g.P.Program.sites s s' c.self.invariant.lawful L' c.self.invariant.told a.cell (Is a.value) (Bind a.token.serial a.cell a.value) ks tt D journal;
+      counted = counted-kept l g.P.Program.sites s s' c.self.invariant.lawful L' (Bind a.token.serial a.cell a.value ∷ map Cancel ks) journal (tt, cancels_none ks) b.counts c.self.invariant.counted;
     }
 
 pub returns-clause-done : goal.returns-clause-done
@@ -42,10 +48,10 @@ returns-clause-done g c =
     let a = c.args in
     let l = g.P.Program.listing in
     let cd = code l in
-    let s : Records = record { limit = b.limit; journal = b.journal.entries; entries = b.entries; next_mark = b.next_mark; now = b.time; made = b.made; tokens = live b.tokens.items; slots = b.tokens.items; calls = b.calls.items; scopes = b.scopes.items; steps = b.steps.items; groups = b.groups.items; cells = b.cells.items } in
+    let s : Records = record { limit = b.limit; journal = b.journal.entries; entries = b.entries; next_mark = b.next_mark; now = b.time; made = b.calls.made; tokens = live b.tokens.items; slots = b.tokens.items; calls = b.calls.items; scopes = b.scopes.items; steps = b.steps.items; groups = b.groups.items; cells = b.cells.items } in
     let ks : List ℕ = c.sort_unstable.new.self.items in
-    let s' : Records = record { limit = b.limit; journal = c.write_bind.new.journal.entries; entries = b.entries + 1; next_mark = b.next_mark; now = b.time; made = b.made; tokens = live c.drop_tokens.new.tokens.items; slots = c.drop_tokens.new.tokens.items; calls = c.drop_calls.new.calls.items; scopes = b.scopes.items; steps = b.steps.items; groups = c.drop_groups.new.groups.items; cells = c.settle.new.cells.items } in
-    let D : Drops cd a.cell (Is a.value) s s' = drops l g.P.Program.sites s c.self.invariant.lawful a.cell (Is a.value) s' refl refl refl refl refl c.drop_tokens.ensures c.drop_calls.ensures c.drop_groups.ensures refl refl c.settle.ensures in
+    let s' : Records = record { limit = b.limit; journal = c.write_bind.new.journal.entries; entries = b.entries + 1; next_mark = b.next_mark; now = b.time; made = c.drop_inside.new.self.made; tokens = live c.drop_tokens.new.tokens.items; slots = c.drop_tokens.new.tokens.items; calls = c.drop_inside.new.self.items; scopes = b.scopes.items; steps = b.steps.items; groups = c.drop_groups.new.groups.items; cells = c.settle.new.cells.items } in
+    let D : Drops cd a.cell (Is a.value) s s' = drops l g.P.Program.sites s c.self.invariant.lawful a.cell (Is a.value) s' refl refl refl refl c.drop_inside.ensures.made c.drop_tokens.ensures c.drop_inside.ensures.rest c.drop_groups.ensures refl refl c.settle.ensures in
     rw (← c.self.view_is) D
 
 pub returns-clause-journal : goal.returns-clause-journal
@@ -54,10 +60,10 @@ returns-clause-journal g c =
     let a = c.args in
     let l = g.P.Program.listing in
     let cd = code l in
-    let s : Records = record { limit = b.limit; journal = b.journal.entries; entries = b.entries; next_mark = b.next_mark; now = b.time; made = b.made; tokens = live b.tokens.items; slots = b.tokens.items; calls = b.calls.items; scopes = b.scopes.items; steps = b.steps.items; groups = b.groups.items; cells = b.cells.items } in
+    let s : Records = record { limit = b.limit; journal = b.journal.entries; entries = b.entries; next_mark = b.next_mark; now = b.time; made = b.calls.made; tokens = live b.tokens.items; slots = b.tokens.items; calls = b.calls.items; scopes = b.scopes.items; steps = b.steps.items; groups = b.groups.items; cells = b.cells.items } in
     let ks : List ℕ = c.sort_unstable.new.self.items in
-    let s' : Records = record { limit = b.limit; journal = c.write_bind.new.journal.entries; entries = b.entries + 1; next_mark = b.next_mark; now = b.time; made = b.made; tokens = live c.drop_tokens.new.tokens.items; slots = c.drop_tokens.new.tokens.items; calls = c.drop_calls.new.calls.items; scopes = b.scopes.items; steps = b.steps.items; groups = c.drop_groups.new.groups.items; cells = c.settle.new.cells.items } in
-    let D : Drops cd a.cell (Is a.value) s s' = drops l g.P.Program.sites s c.self.invariant.lawful a.cell (Is a.value) s' refl refl refl refl refl c.drop_tokens.ensures c.drop_calls.ensures c.drop_groups.ensures refl refl c.settle.ensures in
+    let s' : Records = record { limit = b.limit; journal = c.write_bind.new.journal.entries; entries = b.entries + 1; next_mark = b.next_mark; now = b.time; made = c.drop_inside.new.self.made; tokens = live c.drop_tokens.new.tokens.items; slots = c.drop_tokens.new.tokens.items; calls = c.drop_inside.new.self.items; scopes = b.scopes.items; steps = b.steps.items; groups = c.drop_groups.new.groups.items; cells = c.settle.new.cells.items } in
+    let D : Drops cd a.cell (Is a.value) s s' = drops l g.P.Program.sites s c.self.invariant.lawful a.cell (Is a.value) s' refl refl refl refl c.drop_inside.ensures.made c.drop_tokens.ensures c.drop_inside.ensures.rest c.drop_groups.ensures refl refl c.settle.ensures in
     let journal : s'.journal ≡ s.journal ++ Bind a.token.serial a.cell a.value ∷ map Cancel ks = ap (λ j. j.entries) c.in_ok-write_bind.ensures.added in
     rw (← c.self.view_is) journal
 
@@ -67,7 +73,7 @@ returns-clause-cancelled g c =
     let a = c.args in
     let l = g.P.Program.listing in
     let cd = code l in
-    let s : Records = record { limit = b.limit; journal = b.journal.entries; entries = b.entries; next_mark = b.next_mark; now = b.time; made = b.made; tokens = live b.tokens.items; slots = b.tokens.items; calls = b.calls.items; scopes = b.scopes.items; steps = b.steps.items; groups = b.groups.items; cells = b.cells.items } in
+    let s : Records = record { limit = b.limit; journal = b.journal.entries; entries = b.entries; next_mark = b.next_mark; now = b.time; made = b.calls.made; tokens = live b.tokens.items; slots = b.tokens.items; calls = b.calls.items; scopes = b.scopes.items; steps = b.steps.items; groups = b.groups.items; cells = b.cells.items } in
     let ks : List ℕ = c.sort_unstable.new.self.items in
-    let A : AreCancelled cd a.cell s ks = cancelled l g.P.Program.sites s c.self.invariant.lawful a.cell c.list_inside.new.numbers.items ks c.in_ok-list_inside.ensures.listed c.sort_unstable.ensures.permutation c.sort_unstable.ensures.sorted in
+    let A : AreCancelled cd a.cell s ks = cancelled l g.P.Program.sites s c.self.invariant.lawful a.cell c.list_inside.new.numbers.items ks (c.in_ok-list_inside.ensures.listed ∙ ap (numbers_inside a.cell s.steps) c.items.ensures) c.sort_unstable.ensures.permutation c.sort_unstable.ensures.sorted in
     rw (← c.self.view_is) A

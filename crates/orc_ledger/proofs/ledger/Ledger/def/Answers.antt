@@ -15,6 +15,8 @@ use Rattle.orc_ledger.specs.Calls.{born}
 use Rattle.orc_ledger.specs.Parameters.{Adds, Misfit, IsDefined}
 use Rattle.orc_ledger.specs.declared.records.Token.{Token}
 use Rattle.orc_ledger.proofs.Slots.{live-in, replaced, set-there}
+use Rattle.orc_ledger.proofs.Calling.{turns-told}
+use Rattle.orc_ledger.proofs.Keeping.{counted-kept}
 use Rattle.orc_ledger.proofs.Made.{turns, later_mark}
 use Rattle.orc_ledger.proofs.Bodies.{def-lawful, defined-grouped, routine_there, routine_none}
 use Rattle.orc_ledger.proofs.ledger.Ledger.def.Goals as goal
@@ -29,7 +31,7 @@ invariant_of-self-2 g c =
     let a = c.args in
     let l = g.P.Program.listing in
     let sites = g.P.Program.sites in
-    let s : Records = record { limit = b.limit; journal = b.journal.entries; entries = b.entries; next_mark = b.next_mark; now = b.time; made = b.made; tokens = live b.tokens.items; slots = b.tokens.items; calls = b.calls.items; scopes = b.scopes.items; steps = b.steps.items; groups = b.groups.items; cells = b.cells.items } in
+    let s : Records = record { limit = b.limit; journal = b.journal.entries; entries = b.entries; next_mark = b.next_mark; now = b.time; made = b.calls.made; tokens = live b.tokens.items; slots = b.tokens.items; calls = b.calls.items; scopes = b.scopes.items; steps = b.steps.items; groups = b.groups.items; cells = b.cells.items } in
     let L = c.self.invariant.lawful in
     let G = c.self.invariant.grouped in
     let held : IsHeld s.slots a.slot a.token = rw (← c.self.view_is) at c.requires.held in
@@ -49,14 +51,20 @@ invariant_of-self-2 g c =
     (subst (λ (z : List Scope). Adds s.cells z a.scope c.params-params.result.now c.operands-operands.result.now more newest) c.deref.ensures.value
     (subst (λ (z : List Bound). Adds z c.deref.result.now a.scope c.params-params.result.now c.operands-operands.result.now more newest) c.deref-2.ensures.value
     (subst (λ (z : Option ℕ). IfSome z (λ n. Adds c.deref-2.result.now c.deref.result.now a.scope c.params-params.result.now c.operands-operands.result.now more n)) c.in-Some-fitted.is c.in_ok-fitted.ensures.adds)))) in
-    let s' : Records = record { limit = b.limit; journal = c.write.new.journal.entries; entries = b.entries + 1; next_mark = b.next_mark + 1; now = b.time; made = b.made; tokens = live c.replace.new.self.items; slots = c.replace.new.self.items; calls = b.calls.items; scopes = c.extend_within.new.scopes.items; steps = b.steps.items; groups = b.groups.items; cells = b.cells.items } in
+    let s' : Records = record { limit = b.limit; journal = c.write.new.journal.entries; entries = b.entries + 1; next_mark = b.next_mark + 1; now = b.time; made = b.calls.made; tokens = live c.replace.new.self.items; slots = c.replace.new.self.items; calls = b.calls.items; scopes = c.extend_within.new.scopes.items; steps = b.steps.items; groups = b.groups.items; cells = b.cells.items } in
     let journal : s'.journal ≡ s.journal ++ Def a.token.serial b.next_mark ∷ [] = ap (λ j. j.entries) c.in_ok-write.ensures.added in
     let scopes : s'.scopes ≡ s.scopes ++ more = c.extend_within.ensures ∙ (λ j. c.in_ok-reserve_scopes.ensures.items j ++ c.deref-3.ensures.value j) in
     let first : Token = born s a.token s.next_mark r.body newest a.token.step in
     let slots : c.replace.new.self.items ≡ slice_set s.slots a.slot first = c.replace.ensures.items ∙ ap (λ (n : ℕ). slice_set s.slots a.slot (born s a.token s.next_mark n newest a.token.step)) (sym got.2) in
     let tokens : (w : Token → ℕ) → weight w s'.tokens + w a.token ≡ weight w s.tokens + weight w (first ∷ []) = λ w. omega (arith, ap (λ z. weight w (live z)) slots, replaced w s.slots a.slot a.token first held (later_mark l sites s L a.token i)) in
     let T : IsDefined s a.token r.body newest more s' = turns s s' a.token (first ∷ []) more [] [] [] (Def a.token.serial b.next_mark) refl journal refl (omega arith) refl refl tokens refl scopes (sym (append-nil s.steps)) (sym (append-nil s.groups)) (sym (append-nil s.cells)) in
-    record { lawful = def-lawful l sites s L a.token i c.requires.at.0 a.scope c.requires.at.1 (definition_of l r) a.definition r.body newest (slice_index_or l.lists a.list []) more c.requires.at.2 (declared l a.definition r got.1) refl adds s' room T; grouped = defined-grouped l sites s L G a.token i r.body newest more s' T }
+    let L' = def-lawful l sites s L a.token i c.requires.at.0 a.scope c.requires.at.1 (definition_of l r) a.definition r.body newest (slice_index_or l.lists a.list []) more c.requires.at.2 (declared l a.definition r got.1) refl adds s' room T in
+    record {
+      lawful = L';
+      grouped = defined-grouped l sites s L G a.token i r.body newest more s' T;
+      told = turns-told l sites s s' L L' c.self.invariant.told a.token (first ∷ []) more [] [] [] (Def a.token.serial b.next_mark) tt T;
+      counted = counted-kept l sites s s' L L' (Def a.token.serial b.next_mark ∷ []) journal (tt, tt) b.counts c.self.invariant.counted;
+    }
 
 pub returns-clause-done : goal.returns-clause-done
 returns-clause-done g c e =
@@ -64,7 +72,7 @@ returns-clause-done g c e =
     let a = c.args in
     let l = g.P.Program.listing in
     let sites = g.P.Program.sites in
-    let s : Records = record { limit = b.limit; journal = b.journal.entries; entries = b.entries; next_mark = b.next_mark; now = b.time; made = b.made; tokens = live b.tokens.items; slots = b.tokens.items; calls = b.calls.items; scopes = b.scopes.items; steps = b.steps.items; groups = b.groups.items; cells = b.cells.items } in
+    let s : Records = record { limit = b.limit; journal = b.journal.entries; entries = b.entries; next_mark = b.next_mark; now = b.time; made = b.calls.made; tokens = live b.tokens.items; slots = b.tokens.items; calls = b.calls.items; scopes = b.scopes.items; steps = b.steps.items; groups = b.groups.items; cells = b.cells.items } in
     let L = c.self.invariant.lawful in
     let G = c.self.invariant.grouped in
     let held : IsHeld s.slots a.slot a.token = rw (← c.self.view_is) at c.requires.held in
@@ -84,7 +92,7 @@ returns-clause-done g c e =
     (subst (λ (z : List Scope). Adds s.cells z a.scope c.params-params.result.now c.operands-operands.result.now more newest) c.deref.ensures.value
     (subst (λ (z : List Bound). Adds z c.deref.result.now a.scope c.params-params.result.now c.operands-operands.result.now more newest) c.deref-2.ensures.value
     (subst (λ (z : Option ℕ). IfSome z (λ n. Adds c.deref-2.result.now c.deref.result.now a.scope c.params-params.result.now c.operands-operands.result.now more n)) c.in-Some-fitted.is c.in_ok-fitted.ensures.adds)))) in
-    let s' : Records = record { limit = b.limit; journal = c.write.new.journal.entries; entries = b.entries + 1; next_mark = b.next_mark + 1; now = b.time; made = b.made; tokens = live c.replace.new.self.items; slots = c.replace.new.self.items; calls = b.calls.items; scopes = c.extend_within.new.scopes.items; steps = b.steps.items; groups = b.groups.items; cells = b.cells.items } in
+    let s' : Records = record { limit = b.limit; journal = c.write.new.journal.entries; entries = b.entries + 1; next_mark = b.next_mark + 1; now = b.time; made = b.calls.made; tokens = live c.replace.new.self.items; slots = c.replace.new.self.items; calls = b.calls.items; scopes = c.extend_within.new.scopes.items; steps = b.steps.items; groups = b.groups.items; cells = b.cells.items } in
     let journal : s'.journal ≡ s.journal ++ Def a.token.serial b.next_mark ∷ [] = ap (λ j. j.entries) c.in_ok-write.ensures.added in
     let scopes : s'.scopes ≡ s.scopes ++ more = c.extend_within.ensures ∙ (λ j. c.in_ok-reserve_scopes.ensures.items j ++ c.deref-3.ensures.value j) in
     let first : Token = born s a.token s.next_mark r.body newest a.token.step in
@@ -99,7 +107,7 @@ returns-clause-held g c e =
     let a = c.args in
     let l = g.P.Program.listing in
     let sites = g.P.Program.sites in
-    let s : Records = record { limit = b.limit; journal = b.journal.entries; entries = b.entries; next_mark = b.next_mark; now = b.time; made = b.made; tokens = live b.tokens.items; slots = b.tokens.items; calls = b.calls.items; scopes = b.scopes.items; steps = b.steps.items; groups = b.groups.items; cells = b.cells.items } in
+    let s : Records = record { limit = b.limit; journal = b.journal.entries; entries = b.entries; next_mark = b.next_mark; now = b.time; made = b.calls.made; tokens = live b.tokens.items; slots = b.tokens.items; calls = b.calls.items; scopes = b.scopes.items; steps = b.steps.items; groups = b.groups.items; cells = b.cells.items } in
     let L = c.self.invariant.lawful in
     let G = c.self.invariant.grouped in
     let held : IsHeld s.slots a.slot a.token = rw (← c.self.view_is) at c.requires.held in
@@ -119,7 +127,7 @@ returns-clause-held g c e =
     (subst (λ (z : List Scope). Adds s.cells z a.scope c.params-params.result.now c.operands-operands.result.now more newest) c.deref.ensures.value
     (subst (λ (z : List Bound). Adds z c.deref.result.now a.scope c.params-params.result.now c.operands-operands.result.now more newest) c.deref-2.ensures.value
     (subst (λ (z : Option ℕ). IfSome z (λ n. Adds c.deref-2.result.now c.deref.result.now a.scope c.params-params.result.now c.operands-operands.result.now more n)) c.in-Some-fitted.is c.in_ok-fitted.ensures.adds)))) in
-    let s' : Records = record { limit = b.limit; journal = c.write.new.journal.entries; entries = b.entries + 1; next_mark = b.next_mark + 1; now = b.time; made = b.made; tokens = live c.replace.new.self.items; slots = c.replace.new.self.items; calls = b.calls.items; scopes = c.extend_within.new.scopes.items; steps = b.steps.items; groups = b.groups.items; cells = b.cells.items } in
+    let s' : Records = record { limit = b.limit; journal = c.write.new.journal.entries; entries = b.entries + 1; next_mark = b.next_mark + 1; now = b.time; made = b.calls.made; tokens = live c.replace.new.self.items; slots = c.replace.new.self.items; calls = b.calls.items; scopes = c.extend_within.new.scopes.items; steps = b.steps.items; groups = b.groups.items; cells = b.cells.items } in
     let journal : s'.journal ≡ s.journal ++ Def a.token.serial b.next_mark ∷ [] = ap (λ j. j.entries) c.in_ok-write.ensures.added in
     let scopes : s'.scopes ≡ s.scopes ++ more = c.extend_within.ensures ∙ (λ j. c.in_ok-reserve_scopes.ensures.items j ++ c.deref-3.ensures.value j) in
     let first : Token = born s a.token s.next_mark r.body newest a.token.step in
@@ -134,7 +142,7 @@ replace-requires-clause-serial g c =
     let a = c.args in
     let l = g.P.Program.listing in
     let sites = g.P.Program.sites in
-    let s : Records = record { limit = b.limit; journal = b.journal.entries; entries = b.entries; next_mark = b.next_mark; now = b.time; made = b.made; tokens = live b.tokens.items; slots = b.tokens.items; calls = b.calls.items; scopes = b.scopes.items; steps = b.steps.items; groups = b.groups.items; cells = b.cells.items } in
+    let s : Records = record { limit = b.limit; journal = b.journal.entries; entries = b.entries; next_mark = b.next_mark; now = b.time; made = b.calls.made; tokens = live b.tokens.items; slots = b.tokens.items; calls = b.calls.items; scopes = b.scopes.items; steps = b.steps.items; groups = b.groups.items; cells = b.cells.items } in
     let L = c.self.invariant.lawful in
     let held : IsHeld s.slots a.slot a.token = rw (← c.self.view_is) at c.requires.held in
     later_mark l sites s L a.token (live-in s.slots a.slot a.token held)

@@ -11,6 +11,8 @@ use Rattle.orc_ledger.specs.declared.records.Token.{Token}
 use Rattle.orc_ledger.specs.declared.records.Entered.TheVariants.{Feed}
 use Rattle.orc_ledger.specs.declared.records.Step.{Step}
 use Rattle.orc_ledger.proofs.Slots.{live-in, replaced, set-there}
+use Rattle.orc_ledger.proofs.Calling.{turns-told}
+use Rattle.orc_ledger.proofs.Keeping.{counted-kept}
 use Rattle.orc_ledger.proofs.Made.{turns, later_mark}
 use Rattle.orc_ledger.proofs.Leaves.{feed-lawful}
 use Rattle.orc_ledger.proofs.Grouped.{fed-grouped}
@@ -23,13 +25,13 @@ invariant_of-self-2 g c =
     let l = g.P.Program.listing in
     let sites = g.P.Program.sites in
     let cd = code l in
-    let s : Records = record { limit = b.limit; journal = b.journal.entries; entries = b.entries; next_mark = b.next_mark; now = b.time; made = b.made; tokens = live b.tokens.items; slots = b.tokens.items; calls = b.calls.items; scopes = b.scopes.items; steps = b.steps.items; groups = b.groups.items; cells = b.cells.items } in
+    let s : Records = record { limit = b.limit; journal = b.journal.entries; entries = b.entries; next_mark = b.next_mark; now = b.time; made = b.calls.made; tokens = live b.tokens.items; slots = b.tokens.items; calls = b.calls.items; scopes = b.scopes.items; steps = b.steps.items; groups = b.groups.items; cells = b.cells.items } in
     let L = c.self.invariant.lawful in
     let G = c.self.invariant.grouped in
     let held : IsHeld s.slots a.slot a.token = rw (← c.self.view_is) at c.requires.held in
     let i : IsIn a.token s.tokens = live-in s.slots a.slot a.token held in
     let room : s.entries < s.limit = rw (← c.self.view_is) at c.in_ok-within.ensures.room in
-    let s' : Records = record { limit = b.limit; journal = c.write.new.journal.entries; entries = b.entries + 1; next_mark = b.next_mark + 1; now = b.time; made = b.made; tokens = live c.replace.new.self.items; slots = c.replace.new.self.items; calls = b.calls.items; scopes = b.scopes.items; steps = c.push_within.new.items.items; groups = b.groups.items; cells = b.cells.items } in
+    let s' : Records = record { limit = b.limit; journal = c.write.new.journal.entries; entries = b.entries + 1; next_mark = b.next_mark + 1; now = b.time; made = b.calls.made; tokens = live c.replace.new.self.items; slots = c.replace.new.self.items; calls = b.calls.items; scopes = b.scopes.items; steps = c.push_within.new.items.items; groups = b.groups.items; cells = b.cells.items } in
     let journal : s'.journal ≡ s.journal ++ Seq a.token.serial b.next_mark ∷ [] = ap (λ j. j.entries) c.in_ok-write.ensures.added in
     let step : Step = record { entered = Feed a.name a.right a.scope; outer = a.token.step; group = group_at s.steps a.token.step; depth = depth_at s.steps a.token.step + 1; published = false } in
     let made : Step = record { entered = Feed a.name a.right a.scope; outer = a.token.step; group = c.group_at-group.result; depth = c.depth_at-depth.result + 1; published = false } in
@@ -40,7 +42,13 @@ invariant_of-self-2 g c =
     let slots : c.replace.new.self.items ≡ slice_set s.slots a.slot first = c.replace.ensures.items ∙ ap (λ (n : ℕ). slice_set s.slots a.slot (born s a.token s.next_mark a.left a.scope n)) count in
     let tokens : (w : Token → ℕ) → weight w s'.tokens + w a.token ≡ weight w s.tokens + weight w (first ∷ []) = λ w. omega (arith, ap (λ z. weight w (live z)) slots, replaced w s.slots a.slot a.token first held (later_mark l sites s L a.token i)) in
     let T : IsFed s a.token a.scope a.left a.name a.right s' = turns s s' a.token (first ∷ []) [] (step ∷ []) [] [] (Seq a.token.serial b.next_mark) refl journal refl (omega arith) refl refl tokens refl (sym (append-nil s.scopes)) (steps) (sym (append-nil s.groups)) (sym (append-nil s.cells)) in
-    record { lawful = feed-lawful l sites s L a.token i c.requires.at.0 a.scope c.requires.at.1 a.left a.name a.right c.requires.at.2 s' room T; grouped = fed-grouped l sites s L G a.token i a.scope a.left a.name a.right s' T }
+    let L' = feed-lawful l sites s L a.token i c.requires.at.0 a.scope c.requires.at.1 a.left a.name a.right c.requires.at.2 s' room T in
+    record {
+      lawful = L';
+      grouped = fed-grouped l sites s L G a.token i a.scope a.left a.name a.right s' T;
+      told = turns-told l sites s s' L L' c.self.invariant.told a.token (first ∷ []) [] (step ∷ []) [] [] (Seq a.token.serial b.next_mark) tt T;
+      counted = counted-kept l sites s s' L L' (Seq a.token.serial b.next_mark ∷ []) journal (tt, tt) b.counts c.self.invariant.counted;
+    }
 
 pub returns-clause-done : goal.returns-clause-done
 returns-clause-done g c =
@@ -49,13 +57,13 @@ returns-clause-done g c =
     let l = g.P.Program.listing in
     let sites = g.P.Program.sites in
     let cd = code l in
-    let s : Records = record { limit = b.limit; journal = b.journal.entries; entries = b.entries; next_mark = b.next_mark; now = b.time; made = b.made; tokens = live b.tokens.items; slots = b.tokens.items; calls = b.calls.items; scopes = b.scopes.items; steps = b.steps.items; groups = b.groups.items; cells = b.cells.items } in
+    let s : Records = record { limit = b.limit; journal = b.journal.entries; entries = b.entries; next_mark = b.next_mark; now = b.time; made = b.calls.made; tokens = live b.tokens.items; slots = b.tokens.items; calls = b.calls.items; scopes = b.scopes.items; steps = b.steps.items; groups = b.groups.items; cells = b.cells.items } in
     let L = c.self.invariant.lawful in
     let G = c.self.invariant.grouped in
     let held : IsHeld s.slots a.slot a.token = rw (← c.self.view_is) at c.requires.held in
     let i : IsIn a.token s.tokens = live-in s.slots a.slot a.token held in
     let room : s.entries < s.limit = rw (← c.self.view_is) at c.in_ok-within.ensures.room in
-    let s' : Records = record { limit = b.limit; journal = c.write.new.journal.entries; entries = b.entries + 1; next_mark = b.next_mark + 1; now = b.time; made = b.made; tokens = live c.replace.new.self.items; slots = c.replace.new.self.items; calls = b.calls.items; scopes = b.scopes.items; steps = c.push_within.new.items.items; groups = b.groups.items; cells = b.cells.items } in
+    let s' : Records = record { limit = b.limit; journal = c.write.new.journal.entries; entries = b.entries + 1; next_mark = b.next_mark + 1; now = b.time; made = b.calls.made; tokens = live c.replace.new.self.items; slots = c.replace.new.self.items; calls = b.calls.items; scopes = b.scopes.items; steps = c.push_within.new.items.items; groups = b.groups.items; cells = b.cells.items } in
     let journal : s'.journal ≡ s.journal ++ Seq a.token.serial b.next_mark ∷ [] = ap (λ j. j.entries) c.in_ok-write.ensures.added in
     let step : Step = record { entered = Feed a.name a.right a.scope; outer = a.token.step; group = group_at s.steps a.token.step; depth = depth_at s.steps a.token.step + 1; published = false } in
     let made : Step = record { entered = Feed a.name a.right a.scope; outer = a.token.step; group = c.group_at-group.result; depth = c.depth_at-depth.result + 1; published = false } in
@@ -75,7 +83,7 @@ replace-requires-clause-serial g c =
     let l = g.P.Program.listing in
     let sites = g.P.Program.sites in
     let cd = code l in
-    let s : Records = record { limit = b.limit; journal = b.journal.entries; entries = b.entries; next_mark = b.next_mark; now = b.time; made = b.made; tokens = live b.tokens.items; slots = b.tokens.items; calls = b.calls.items; scopes = b.scopes.items; steps = b.steps.items; groups = b.groups.items; cells = b.cells.items } in
+    let s : Records = record { limit = b.limit; journal = b.journal.entries; entries = b.entries; next_mark = b.next_mark; now = b.time; made = b.calls.made; tokens = live b.tokens.items; slots = b.tokens.items; calls = b.calls.items; scopes = b.scopes.items; steps = b.steps.items; groups = b.groups.items; cells = b.cells.items } in
     let L = c.self.invariant.lawful in
     let G = c.self.invariant.grouped in
     let held : IsHeld s.slots a.slot a.token = rw (← c.self.view_is) at c.requires.held in
@@ -89,7 +97,7 @@ returns-clause-left g c =
     let l = g.P.Program.listing in
     let sites = g.P.Program.sites in
     let cd = code l in
-    let s : Records = record { limit = b.limit; journal = b.journal.entries; entries = b.entries; next_mark = b.next_mark; now = b.time; made = b.made; tokens = live b.tokens.items; slots = b.tokens.items; calls = b.calls.items; scopes = b.scopes.items; steps = b.steps.items; groups = b.groups.items; cells = b.cells.items } in
+    let s : Records = record { limit = b.limit; journal = b.journal.entries; entries = b.entries; next_mark = b.next_mark; now = b.time; made = b.calls.made; tokens = live b.tokens.items; slots = b.tokens.items; calls = b.calls.items; scopes = b.scopes.items; steps = b.steps.items; groups = b.groups.items; cells = b.cells.items } in
     let L = c.self.invariant.lawful in
     let G = c.self.invariant.grouped in
     let held : IsHeld s.slots a.slot a.token = rw (← c.self.view_is) at c.requires.held in

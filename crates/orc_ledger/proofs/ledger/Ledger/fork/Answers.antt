@@ -9,6 +9,8 @@ use Rattle.orc_ledger.specs.Tokens.{live, IsHeld}
 use Rattle.orc_ledger.specs.Calls.{born, IsForked}
 use Rattle.orc_ledger.specs.declared.records.Token.{Token}
 use Rattle.orc_ledger.proofs.Slots.{live-in, replaced, set-there}
+use Rattle.orc_ledger.proofs.Calling.{turns-told}
+use Rattle.orc_ledger.proofs.Keeping.{counted-kept}
 use Rattle.orc_ledger.proofs.Made.{turns, later_mark}
 use Rattle.orc_ledger.proofs.Leaves.{fork-lawful}
 use Rattle.orc_ledger.proofs.Grouped.{forked-grouped}
@@ -21,20 +23,26 @@ invariant_of-self-2 g c =
     let l = g.P.Program.listing in
     let sites = g.P.Program.sites in
     let cd = code l in
-    let s : Records = record { limit = b.limit; journal = b.journal.entries; entries = b.entries; next_mark = b.next_mark; now = b.time; made = b.made; tokens = live b.tokens.items; slots = b.tokens.items; calls = b.calls.items; scopes = b.scopes.items; steps = b.steps.items; groups = b.groups.items; cells = b.cells.items } in
+    let s : Records = record { limit = b.limit; journal = b.journal.entries; entries = b.entries; next_mark = b.next_mark; now = b.time; made = b.calls.made; tokens = live b.tokens.items; slots = b.tokens.items; calls = b.calls.items; scopes = b.scopes.items; steps = b.steps.items; groups = b.groups.items; cells = b.cells.items } in
     let L = c.self.invariant.lawful in
     let G = c.self.invariant.grouped in
     let held : IsHeld s.slots a.slot a.token = rw (← c.self.view_is) at c.requires.held in
     let i : IsIn a.token s.tokens = live-in s.slots a.slot a.token held in
     let room : s.entries < s.limit = rw (← c.self.view_is) at c.in_ok-within.ensures.room in
-    let s' : Records = record { limit = b.limit; journal = c.write.new.journal.entries; entries = b.entries + 1; next_mark = b.next_mark + 2; now = b.time; made = b.made; tokens = live c.add-other.new.self.items; slots = c.add-other.new.self.items; calls = b.calls.items; scopes = b.scopes.items; steps = b.steps.items; groups = b.groups.items; cells = b.cells.items } in
+    let s' : Records = record { limit = b.limit; journal = c.write.new.journal.entries; entries = b.entries + 1; next_mark = b.next_mark + 2; now = b.time; made = b.calls.made; tokens = live c.add-other.new.self.items; slots = c.add-other.new.self.items; calls = b.calls.items; scopes = b.scopes.items; steps = b.steps.items; groups = b.groups.items; cells = b.cells.items } in
     let journal : s'.journal ≡ s.journal ++ Fork a.token.serial b.next_mark (b.next_mark + 1) ∷ [] = ap (λ j. j.entries) c.in_ok-write.ensures.added in
     let first : Token = born s a.token s.next_mark a.left a.scope a.token.step in
     let second : Token = born s a.token (s.next_mark + 1) a.right a.scope a.token.step in
     let slots : c.replace.new.self.items ≡ slice_set s.slots a.slot first = c.replace.ensures.items ∙ ap (λ z. slice_set z a.slot first) c.in_ok-reserve.ensures.items in
     let tokens : (w : Token → ℕ) → weight w s'.tokens + w a.token ≡ weight w s.tokens + weight w (first ∷ second ∷ []) = λ w. omega (arith, c.add-other.ensures.added w, ap (λ z. weight w (live z)) slots, replaced w s.slots a.slot a.token first held (later_mark l sites s L a.token i)) in
     let T : IsForked s a.token a.scope a.left a.right s' = turns s s' a.token (first ∷ second ∷ []) [] [] [] [] (Fork a.token.serial b.next_mark (b.next_mark + 1)) refl journal refl (omega arith) refl refl tokens refl (sym (append-nil s.scopes)) (sym (append-nil s.steps)) (sym (append-nil s.groups)) (sym (append-nil s.cells)) in
-    record { lawful = fork-lawful l sites s L a.token i c.requires.at.0 a.scope c.requires.at.1 a.left a.right c.requires.at.2 s' room T; grouped = forked-grouped l sites s L G a.token i a.scope a.left a.right s' T }
+    let L' = fork-lawful l sites s L a.token i c.requires.at.0 a.scope c.requires.at.1 a.left a.right c.requires.at.2 s' room T in
+    record {
+      lawful = L';
+      grouped = forked-grouped l sites s L G a.token i a.scope a.left a.right s' T;
+      told = turns-told l sites s s' L L' c.self.invariant.told a.token (first ∷ second ∷ []) [] [] [] [] (Fork a.token.serial b.next_mark (b.next_mark + 1)) tt T;
+      counted = counted-kept l sites s s' L L' (Fork a.token.serial b.next_mark (b.next_mark + 1) ∷ []) journal (tt, tt) b.counts c.self.invariant.counted;
+    }
 
 pub returns-clause-done : goal.returns-clause-done
 returns-clause-done g c =
@@ -43,13 +51,13 @@ returns-clause-done g c =
     let l = g.P.Program.listing in
     let sites = g.P.Program.sites in
     let cd = code l in
-    let s : Records = record { limit = b.limit; journal = b.journal.entries; entries = b.entries; next_mark = b.next_mark; now = b.time; made = b.made; tokens = live b.tokens.items; slots = b.tokens.items; calls = b.calls.items; scopes = b.scopes.items; steps = b.steps.items; groups = b.groups.items; cells = b.cells.items } in
+    let s : Records = record { limit = b.limit; journal = b.journal.entries; entries = b.entries; next_mark = b.next_mark; now = b.time; made = b.calls.made; tokens = live b.tokens.items; slots = b.tokens.items; calls = b.calls.items; scopes = b.scopes.items; steps = b.steps.items; groups = b.groups.items; cells = b.cells.items } in
     let L = c.self.invariant.lawful in
     let G = c.self.invariant.grouped in
     let held : IsHeld s.slots a.slot a.token = rw (← c.self.view_is) at c.requires.held in
     let i : IsIn a.token s.tokens = live-in s.slots a.slot a.token held in
     let room : s.entries < s.limit = rw (← c.self.view_is) at c.in_ok-within.ensures.room in
-    let s' : Records = record { limit = b.limit; journal = c.write.new.journal.entries; entries = b.entries + 1; next_mark = b.next_mark + 2; now = b.time; made = b.made; tokens = live c.add-other.new.self.items; slots = c.add-other.new.self.items; calls = b.calls.items; scopes = b.scopes.items; steps = b.steps.items; groups = b.groups.items; cells = b.cells.items } in
+    let s' : Records = record { limit = b.limit; journal = c.write.new.journal.entries; entries = b.entries + 1; next_mark = b.next_mark + 2; now = b.time; made = b.calls.made; tokens = live c.add-other.new.self.items; slots = c.add-other.new.self.items; calls = b.calls.items; scopes = b.scopes.items; steps = b.steps.items; groups = b.groups.items; cells = b.cells.items } in
     let journal : s'.journal ≡ s.journal ++ Fork a.token.serial b.next_mark (b.next_mark + 1) ∷ [] = ap (λ j. j.entries) c.in_ok-write.ensures.added in
     let first : Token = born s a.token s.next_mark a.left a.scope a.token.step in
     let second : Token = born s a.token (s.next_mark + 1) a.right a.scope a.token.step in
@@ -65,7 +73,7 @@ replace-requires-clause-serial g c =
     let l = g.P.Program.listing in
     let sites = g.P.Program.sites in
     let cd = code l in
-    let s : Records = record { limit = b.limit; journal = b.journal.entries; entries = b.entries; next_mark = b.next_mark; now = b.time; made = b.made; tokens = live b.tokens.items; slots = b.tokens.items; calls = b.calls.items; scopes = b.scopes.items; steps = b.steps.items; groups = b.groups.items; cells = b.cells.items } in
+    let s : Records = record { limit = b.limit; journal = b.journal.entries; entries = b.entries; next_mark = b.next_mark; now = b.time; made = b.calls.made; tokens = live b.tokens.items; slots = b.tokens.items; calls = b.calls.items; scopes = b.scopes.items; steps = b.steps.items; groups = b.groups.items; cells = b.cells.items } in
     let L = c.self.invariant.lawful in
     let G = c.self.invariant.grouped in
     let held : IsHeld s.slots a.slot a.token = rw (← c.self.view_is) at c.requires.held in
@@ -79,7 +87,7 @@ returns-clause-left g c =
     let l = g.P.Program.listing in
     let sites = g.P.Program.sites in
     let cd = code l in
-    let s : Records = record { limit = b.limit; journal = b.journal.entries; entries = b.entries; next_mark = b.next_mark; now = b.time; made = b.made; tokens = live b.tokens.items; slots = b.tokens.items; calls = b.calls.items; scopes = b.scopes.items; steps = b.steps.items; groups = b.groups.items; cells = b.cells.items } in
+    let s : Records = record { limit = b.limit; journal = b.journal.entries; entries = b.entries; next_mark = b.next_mark; now = b.time; made = b.calls.made; tokens = live b.tokens.items; slots = b.tokens.items; calls = b.calls.items; scopes = b.scopes.items; steps = b.steps.items; groups = b.groups.items; cells = b.cells.items } in
     let L = c.self.invariant.lawful in
     let G = c.self.invariant.grouped in
     let held : IsHeld s.slots a.slot a.token = rw (← c.self.view_is) at c.requires.held in

@@ -9,6 +9,8 @@ use Rattle.orc_ledger.specs.Calls.{Drops}
 use Rattle.orc_ledger.specs.Next.{members, numbers_of}
 use Rattle.orc_ledger.proofs.Binding.{lost-lawful}
 use Rattle.orc_ledger.proofs.Emptied.{right-empty}
+use Rattle.orc_ledger.proofs.Calling.{drops-told}
+use Rattle.orc_ledger.proofs.Keeping.{counted-kept}
 use Rattle.orc_ledger.proofs.Grouped.{dropped-grouped}
 use Rattle.orc_ledger.proofs.Dropped.{drops-empty}
 use Rattle.orc_ledger.proofs.ledger.Ledger.lost.Goals as goal
@@ -21,15 +23,21 @@ invariant_of-self-2 g c =
     let sites = g.P.Program.sites in
     let L = c.self.invariant.lawful in
     let G = c.self.invariant.grouped in
-    let s : Records = record { limit = b.limit; journal = b.journal.entries; entries = b.entries; next_mark = b.next_mark; now = b.time; made = b.made; tokens = live b.tokens.items; slots = b.tokens.items; calls = b.calls.items; scopes = b.scopes.items; steps = b.steps.items; groups = b.groups.items; cells = b.cells.items } in
+    let s : Records = record { limit = b.limit; journal = b.journal.entries; entries = b.entries; next_mark = b.next_mark; now = b.time; made = b.calls.made; tokens = live b.tokens.items; slots = b.tokens.items; calls = b.calls.items; scopes = b.scopes.items; steps = b.steps.items; groups = b.groups.items; cells = b.cells.items } in
     let there : IsIn a.group s.groups = rw (← c.self.view_is) at c.requires.there in
     let empty : members (numbers_of s) s a.group.number ≡ 0 = rw (← c.self.view_is) at c.requires.empty in
     let E = right-empty l sites s L (numbers_of s) G a.group there empty a.cell c.requires.side in
-    let s' : Records = record { limit = b.limit; journal = c.write.new.journal.entries; entries = b.entries + 1; next_mark = b.next_mark; now = b.time; made = b.made; tokens = live b.tokens.items; slots = b.tokens.items; calls = b.calls.items; scopes = b.scopes.items; steps = b.steps.items; groups = c.drop_groups.new.groups.items; cells = c.settle.new.cells.items } in
+    let s' : Records = record { limit = b.limit; journal = c.write.new.journal.entries; entries = b.entries + 1; next_mark = b.next_mark; now = b.time; made = b.calls.made; tokens = live b.tokens.items; slots = b.tokens.items; calls = b.calls.items; scopes = b.scopes.items; steps = b.steps.items; groups = c.drop_groups.new.groups.items; cells = c.settle.new.cells.items } in
     let D : Drops (code l) a.cell Void s s' = drops-empty l sites s L a.cell E Void s' refl refl refl refl refl refl refl c.drop_groups.ensures refl refl c.settle.ensures in
     let journal : s'.journal ≡ s.journal ++ Lost a.cell ∷ [] = ap (λ j. j.entries) c.in_ok-write.ensures.added in
     let room : s.entries < s.limit = rw (← c.self.view_is) at c.in_ok-within.ensures.room in
-    record { lawful = lost-lawful l sites s L a.cell a.group there c.requires.side E room s' D journal; grouped = dropped-grouped l sites s L G a.cell Void s' D }
+    let L' = lost-lawful l sites s L a.cell a.group there c.requires.side E room s' D journal in
+    record {
+      lawful = L';
+      grouped = dropped-grouped l sites s L G a.cell Void s' D;
+      told = drops-told l sites s s' L L' c.self.invariant.told a.cell Void (Lost a.cell) [] tt D journal;
+      counted = counted-kept l sites s s' L L' (Lost a.cell ∷ []) journal (tt, tt) b.counts c.self.invariant.counted;
+    }
 
 pub returns-clause-done : goal.returns-clause-done
 returns-clause-done g c =
@@ -39,10 +47,10 @@ returns-clause-done g c =
     let sites = g.P.Program.sites in
     let L = c.self.invariant.lawful in
     let G = c.self.invariant.grouped in
-    let s : Records = record { limit = b.limit; journal = b.journal.entries; entries = b.entries; next_mark = b.next_mark; now = b.time; made = b.made; tokens = live b.tokens.items; slots = b.tokens.items; calls = b.calls.items; scopes = b.scopes.items; steps = b.steps.items; groups = b.groups.items; cells = b.cells.items } in
+    let s : Records = record { limit = b.limit; journal = b.journal.entries; entries = b.entries; next_mark = b.next_mark; now = b.time; made = b.calls.made; tokens = live b.tokens.items; slots = b.tokens.items; calls = b.calls.items; scopes = b.scopes.items; steps = b.steps.items; groups = b.groups.items; cells = b.cells.items } in
     let there : IsIn a.group s.groups = rw (← c.self.view_is) at c.requires.there in
     let empty : members (numbers_of s) s a.group.number ≡ 0 = rw (← c.self.view_is) at c.requires.empty in
     let E = right-empty l sites s L (numbers_of s) G a.group there empty a.cell c.requires.side in
-    let s' : Records = record { limit = b.limit; journal = c.write.new.journal.entries; entries = b.entries + 1; next_mark = b.next_mark; now = b.time; made = b.made; tokens = live b.tokens.items; slots = b.tokens.items; calls = b.calls.items; scopes = b.scopes.items; steps = b.steps.items; groups = c.drop_groups.new.groups.items; cells = c.settle.new.cells.items } in
+    let s' : Records = record { limit = b.limit; journal = c.write.new.journal.entries; entries = b.entries + 1; next_mark = b.next_mark; now = b.time; made = b.calls.made; tokens = live b.tokens.items; slots = b.tokens.items; calls = b.calls.items; scopes = b.scopes.items; steps = b.steps.items; groups = c.drop_groups.new.groups.items; cells = c.settle.new.cells.items } in
     let D : Drops (code l) a.cell Void s s' = drops-empty l sites s L a.cell E Void s' refl refl refl refl refl refl refl c.drop_groups.ensures refl refl c.settle.ensures in
     rw (← c.self.view_is) D

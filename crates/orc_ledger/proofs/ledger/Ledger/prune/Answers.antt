@@ -16,6 +16,8 @@ use Rattle.orc_ledger.specs.declared.records.Step.{Step}
 use Rattle.orc_ledger.specs.declared.records.Side.TheVariants.{Right}
 use Rattle.orc_ledger.specs.declared.records.Group.{Group}
 use Rattle.orc_ledger.proofs.Slots.{live-in, replaced, set-there}
+use Rattle.orc_ledger.proofs.Calling.{turns-told}
+use Rattle.orc_ledger.proofs.Keeping.{counted-kept}
 use Rattle.orc_ledger.proofs.Made.{turns, later_mark}
 use Rattle.orc_ledger.proofs.Leaves.{open-lawful}
 use Rattle.orc_ledger.proofs.Grouped.{opened-grouped}
@@ -28,14 +30,14 @@ invariant_of-self-2 g c =
     let l = g.P.Program.listing in
     let sites = g.P.Program.sites in
     let cd = code l in
-    let s : Records = record { limit = b.limit; journal = b.journal.entries; entries = b.entries; next_mark = b.next_mark; now = b.time; made = b.made; tokens = live b.tokens.items; slots = b.tokens.items; calls = b.calls.items; scopes = b.scopes.items; steps = b.steps.items; groups = b.groups.items; cells = b.cells.items } in
+    let s : Records = record { limit = b.limit; journal = b.journal.entries; entries = b.entries; next_mark = b.next_mark; now = b.time; made = b.calls.made; tokens = live b.tokens.items; slots = b.tokens.items; calls = b.calls.items; scopes = b.scopes.items; steps = b.steps.items; groups = b.groups.items; cells = b.cells.items } in
     let L = c.self.invariant.lawful in
     let G = c.self.invariant.grouped in
     let held : IsHeld s.slots a.slot a.token = rw (← c.self.view_is) at c.requires.held in
     let i : IsIn a.token s.tokens = live-in s.slots a.slot a.token held in
     let free : IsFree s a.number = rw (← c.self.view_is) at c.requires.free in
     let room : s.entries < s.limit = rw (← c.self.view_is) at c.in_ok-within.ensures.room in
-    let s' : Records = record { limit = b.limit; journal = c.write.new.journal.entries; entries = b.entries + 1; next_mark = b.next_mark + 2; now = b.time; made = b.made; tokens = live c.add-other.new.self.items; slots = c.add-other.new.self.items; calls = b.calls.items; scopes = c.push_within.new.items.items; steps = c.push_within-2.new.items.items; groups = c.push_within-3.new.items.items; cells = c.push_within-4.new.items.items } in
+    let s' : Records = record { limit = b.limit; journal = c.write.new.journal.entries; entries = b.entries + 1; next_mark = b.next_mark + 2; now = b.time; made = b.calls.made; tokens = live c.add-other.new.self.items; slots = c.add-other.new.self.items; calls = b.calls.items; scopes = c.push_within.new.items.items; steps = c.push_within-2.new.items.items; groups = c.push_within-3.new.items.items; cells = c.push_within-4.new.items.items } in
     let journal : s'.journal ≡ s.journal ++ Open a.token.serial c.len-cell.result b.next_mark (b.next_mark + 1) ∷ [] = ap (λ j. j.entries) c.in_ok-write.ensures.added in
     let cell : c.len-cell.result ≡ length s.cells = omega (arith, c.len-cell.ensures, ap length c.in_ok-reserve-5.ensures.items) in
     let inner : c.len-inner.result + 1 ≡ length s.scopes + 1 = omega (arith, c.len-inner.ensures, ap length c.in_ok-reserve-2.ensures.items) in
@@ -53,7 +55,13 @@ invariant_of-self-2 g c =
     let slots : c.replace.new.self.items ≡ slice_set s.slots a.slot first = c.replace.ensures.items ∙ ap (λ z. slice_set z a.slot (born s a.token s.next_mark a.left (c.len-inner.result + 1) a.token.step)) c.in_ok-reserve.ensures.items ∙ ap (λ (n : ℕ). slice_set s.slots a.slot (born s a.token s.next_mark a.left n a.token.step)) inner in
     let tokens : (w : Token → ℕ) → weight w s'.tokens + w a.token ≡ weight w s.tokens + weight w (first ∷ second ∷ []) = λ w. omega (arith, c.add-other.ensures.added w, ap (λ (n : ℕ). w (born s a.token (s.next_mark + 1) a.right a.scope n)) count, ap (λ z. weight w (live z)) slots, replaced w s.slots a.slot a.token first held (later_mark l sites s L a.token i)) in
     let T : IsOpened s a.token a.scope a.left a.name a.right a.number s' = turns s s' a.token (first ∷ second ∷ []) (name ∷ []) (step ∷ []) (group ∷ []) (Cell (length s.cells) ∷ []) (Open a.token.serial (length s.cells) b.next_mark (b.next_mark + 1)) refl entry refl (omega arith) refl refl tokens refl (scopes) (steps) (groups) (cells) in
-    record { lawful = open-lawful l sites s L a.token i c.requires.at.0 a.scope c.requires.at.1 a.left a.name a.right a.number c.requires.at.2 s' room T; grouped = opened-grouped l sites s L G a.token i a.scope a.left a.name a.right a.number free s' T }
+    let L' = open-lawful l sites s L a.token i c.requires.at.0 a.scope c.requires.at.1 a.left a.name a.right a.number c.requires.at.2 s' room T in
+    record {
+      lawful = L';
+      grouped = opened-grouped l sites s L G a.token i a.scope a.left a.name a.right a.number free s' T;
+      told = turns-told l sites s s' L L' c.self.invariant.told a.token (first ∷ second ∷ []) (name ∷ []) (step ∷ []) (group ∷ []) (Cell (length s.cells) ∷ []) (Open a.token.serial (length s.cells) b.next_mark (b.next_mark + 1)) tt T;
+      counted = counted-kept l sites s s' L L' (Open a.token.serial (length s.cells) b.next_mark (b.next_mark + 1) ∷ []) entry (tt, tt) b.counts c.self.invariant.counted;
+    }
 
 pub returns-clause-done : goal.returns-clause-done
 returns-clause-done g c =
@@ -62,14 +70,14 @@ returns-clause-done g c =
     let l = g.P.Program.listing in
     let sites = g.P.Program.sites in
     let cd = code l in
-    let s : Records = record { limit = b.limit; journal = b.journal.entries; entries = b.entries; next_mark = b.next_mark; now = b.time; made = b.made; tokens = live b.tokens.items; slots = b.tokens.items; calls = b.calls.items; scopes = b.scopes.items; steps = b.steps.items; groups = b.groups.items; cells = b.cells.items } in
+    let s : Records = record { limit = b.limit; journal = b.journal.entries; entries = b.entries; next_mark = b.next_mark; now = b.time; made = b.calls.made; tokens = live b.tokens.items; slots = b.tokens.items; calls = b.calls.items; scopes = b.scopes.items; steps = b.steps.items; groups = b.groups.items; cells = b.cells.items } in
     let L = c.self.invariant.lawful in
     let G = c.self.invariant.grouped in
     let held : IsHeld s.slots a.slot a.token = rw (← c.self.view_is) at c.requires.held in
     let i : IsIn a.token s.tokens = live-in s.slots a.slot a.token held in
     let free : IsFree s a.number = rw (← c.self.view_is) at c.requires.free in
     let room : s.entries < s.limit = rw (← c.self.view_is) at c.in_ok-within.ensures.room in
-    let s' : Records = record { limit = b.limit; journal = c.write.new.journal.entries; entries = b.entries + 1; next_mark = b.next_mark + 2; now = b.time; made = b.made; tokens = live c.add-other.new.self.items; slots = c.add-other.new.self.items; calls = b.calls.items; scopes = c.push_within.new.items.items; steps = c.push_within-2.new.items.items; groups = c.push_within-3.new.items.items; cells = c.push_within-4.new.items.items } in
+    let s' : Records = record { limit = b.limit; journal = c.write.new.journal.entries; entries = b.entries + 1; next_mark = b.next_mark + 2; now = b.time; made = b.calls.made; tokens = live c.add-other.new.self.items; slots = c.add-other.new.self.items; calls = b.calls.items; scopes = c.push_within.new.items.items; steps = c.push_within-2.new.items.items; groups = c.push_within-3.new.items.items; cells = c.push_within-4.new.items.items } in
     let journal : s'.journal ≡ s.journal ++ Open a.token.serial c.len-cell.result b.next_mark (b.next_mark + 1) ∷ [] = ap (λ j. j.entries) c.in_ok-write.ensures.added in
     let cell : c.len-cell.result ≡ length s.cells = omega (arith, c.len-cell.ensures, ap length c.in_ok-reserve-5.ensures.items) in
     let inner : c.len-inner.result + 1 ≡ length s.scopes + 1 = omega (arith, c.len-inner.ensures, ap length c.in_ok-reserve-2.ensures.items) in
@@ -96,7 +104,7 @@ replace-requires-clause-serial g c =
     let l = g.P.Program.listing in
     let sites = g.P.Program.sites in
     let cd = code l in
-    let s : Records = record { limit = b.limit; journal = b.journal.entries; entries = b.entries; next_mark = b.next_mark; now = b.time; made = b.made; tokens = live b.tokens.items; slots = b.tokens.items; calls = b.calls.items; scopes = b.scopes.items; steps = b.steps.items; groups = b.groups.items; cells = b.cells.items } in
+    let s : Records = record { limit = b.limit; journal = b.journal.entries; entries = b.entries; next_mark = b.next_mark; now = b.time; made = b.calls.made; tokens = live b.tokens.items; slots = b.tokens.items; calls = b.calls.items; scopes = b.scopes.items; steps = b.steps.items; groups = b.groups.items; cells = b.cells.items } in
     let L = c.self.invariant.lawful in
     let G = c.self.invariant.grouped in
     let held : IsHeld s.slots a.slot a.token = rw (← c.self.view_is) at c.requires.held in
@@ -110,7 +118,7 @@ returns-clause-left g c =
     let l = g.P.Program.listing in
     let sites = g.P.Program.sites in
     let cd = code l in
-    let s : Records = record { limit = b.limit; journal = b.journal.entries; entries = b.entries; next_mark = b.next_mark; now = b.time; made = b.made; tokens = live b.tokens.items; slots = b.tokens.items; calls = b.calls.items; scopes = b.scopes.items; steps = b.steps.items; groups = b.groups.items; cells = b.cells.items } in
+    let s : Records = record { limit = b.limit; journal = b.journal.entries; entries = b.entries; next_mark = b.next_mark; now = b.time; made = b.calls.made; tokens = live b.tokens.items; slots = b.tokens.items; calls = b.calls.items; scopes = b.scopes.items; steps = b.steps.items; groups = b.groups.items; cells = b.cells.items } in
     let L = c.self.invariant.lawful in
     let G = c.self.invariant.grouped in
     let held : IsHeld s.slots a.slot a.token = rw (← c.self.view_is) at c.requires.held in
@@ -130,7 +138,7 @@ returns-clause-right g c =
     let l = g.P.Program.listing in
     let sites = g.P.Program.sites in
     let cd = code l in
-    let s : Records = record { limit = b.limit; journal = b.journal.entries; entries = b.entries; next_mark = b.next_mark; now = b.time; made = b.made; tokens = live b.tokens.items; slots = b.tokens.items; calls = b.calls.items; scopes = b.scopes.items; steps = b.steps.items; groups = b.groups.items; cells = b.cells.items } in
+    let s : Records = record { limit = b.limit; journal = b.journal.entries; entries = b.entries; next_mark = b.next_mark; now = b.time; made = b.calls.made; tokens = live b.tokens.items; slots = b.tokens.items; calls = b.calls.items; scopes = b.scopes.items; steps = b.steps.items; groups = b.groups.items; cells = b.cells.items } in
     let L = c.self.invariant.lawful in
     let G = c.self.invariant.grouped in
     let held : IsHeld s.slots a.slot a.token = rw (← c.self.view_is) at c.requires.held in

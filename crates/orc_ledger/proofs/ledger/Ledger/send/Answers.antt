@@ -17,6 +17,8 @@ use Rattle.orc_ledger.specs.Calls.{Crosses, Publishes}
 use Rattle.orc_ledger.specs.declared.records.Standing.TheVariants.{At}
 use Rattle.orc_ledger.specs.declared.records.Token.{Token}
 use Rattle.orc_ledger.proofs.Slots.{live-in, replaced, set-there}
+use Rattle.orc_ledger.proofs.Calling.{crosses-told}
+use Rattle.orc_ledger.proofs.Keeping.{counted-kept}
 use Rattle.orc_ledger.proofs.Made.{crosses, step_in, later_mark}
 use Rattle.orc_ledger.proofs.Sending.{send-lawful}
 use Rattle.orc_ledger.proofs.Grouped.{sent-grouped}
@@ -29,7 +31,7 @@ leave_others-requires-clause-within g c =
     let l = g.P.Program.listing in
     let sites = g.P.Program.sites in
     let cd = code l in
-    let s : Records = record { limit = b.limit; journal = b.journal.entries; entries = b.entries; next_mark = b.next_mark; now = b.time; made = b.made; tokens = live b.tokens.items; slots = b.tokens.items; calls = b.calls.items; scopes = b.scopes.items; steps = b.steps.items; groups = b.groups.items; cells = b.cells.items } in
+    let s : Records = record { limit = b.limit; journal = b.journal.entries; entries = b.entries; next_mark = b.next_mark; now = b.time; made = b.calls.made; tokens = live b.tokens.items; slots = b.tokens.items; calls = b.calls.items; scopes = b.scopes.items; steps = b.steps.items; groups = b.groups.items; cells = b.cells.items } in
     let L = c.self.invariant.lawful in
     let G = c.self.invariant.grouped in
     let held : IsHeld s.slots a.slot a.token = rw (← c.self.view_is) at c.requires.held in
@@ -43,7 +45,7 @@ invariant_of-self-2 g c =
     let l = g.P.Program.listing in
     let sites = g.P.Program.sites in
     let cd = code l in
-    let s : Records = record { limit = b.limit; journal = b.journal.entries; entries = b.entries; next_mark = b.next_mark; now = b.time; made = b.made; tokens = live b.tokens.items; slots = b.tokens.items; calls = b.calls.items; scopes = b.scopes.items; steps = b.steps.items; groups = b.groups.items; cells = b.cells.items } in
+    let s : Records = record { limit = b.limit; journal = b.journal.entries; entries = b.entries; next_mark = b.next_mark; now = b.time; made = b.calls.made; tokens = live b.tokens.items; slots = b.tokens.items; calls = b.calls.items; scopes = b.scopes.items; steps = b.steps.items; groups = b.groups.items; cells = b.cells.items } in
     let L = c.self.invariant.lawful in
     let G = c.self.invariant.grouped in
     let held : IsHeld s.slots a.slot a.token = rw (← c.self.view_is) at c.requires.held in
@@ -51,7 +53,7 @@ invariant_of-self-2 g c =
     let form : standing cd (its_env cd s) a.token.standing ≡ param (is_.Is a.value) = rw (← c.self.view_is) at c.requires.form in
     let ns = crossed (its_path cd s a.token.step) in
     let room : s.entries < s.limit = rw (← c.self.view_is) at c.in_ok-within.ensures.room in
-    let s' : Records = record { limit = b.limit; journal = c.write.new.journal.entries; entries = b.entries + 1; next_mark = b.next_mark + 1; now = b.time; made = b.made; tokens = live c.replace.new.self.items; slots = c.replace.new.self.items; calls = b.calls.items; scopes = c.push_within.new.items.items; steps = c.leave_others.new.steps.items; groups = b.groups.items; cells = b.cells.items } in
+    let s' : Records = record { limit = b.limit; journal = c.write.new.journal.entries; entries = b.entries + 1; next_mark = b.next_mark + 1; now = b.time; made = b.calls.made; tokens = live c.replace.new.self.items; slots = c.replace.new.self.items; calls = b.calls.items; scopes = c.push_within.new.items.items; steps = c.leave_others.new.steps.items; groups = b.groups.items; cells = b.cells.items } in
     let journal : s'.journal ≡ s.journal ++ Send a.token.serial b.next_mark a.value ∷ [] = ap (λ j. j.entries) c.in_ok-write.ensures.added in
     let marks : Publishes ns s.steps s'.steps = c.leave_others.ensures cd (its_env cd s) in
     let takes : taker (its_path cd s a.token.step) ≡ feeding a.name (close (without a.name (its_env cd s a.scope)) (cd a.right)) (its_path cd s a.outer) = rw (← c.self.view_is) at c.requires.takes in
@@ -64,7 +66,13 @@ invariant_of-self-2 g c =
     let slots : c.replace.new.self.items ≡ slice_set s.slots a.slot first = c.replace.ensures.items ∙ ap (λ (n : ℕ). slice_set s.slots a.slot (record { serial = s.next_mark; standing = At a.right n; step = a.outer })) count in
     let tokens : (w : Token → ℕ) → weight w s'.tokens + w a.token ≡ weight w s.tokens + weight w (first ∷ []) = λ w. omega (arith, ap (λ z. weight w (live z)) slots, replaced w s.slots a.slot a.token first held (later_mark l sites s L a.token i)) in
     let T : Crosses s s' a.token (first ∷ []) (name ∷ []) ns (Send a.token.serial b.next_mark a.value) = crosses s s' a.token (first ∷ []) (name ∷ []) ns (Send a.token.serial b.next_mark a.value) refl journal refl (omega arith) refl refl tokens refl scopes marks refl refl in
-    record { lawful = send-lawful l sites s L a.token i a.value form a.name a.right a.scope a.outer fits.0 fits.1 takes room s' T; grouped = sent-grouped l sites s L G a.token i s' first (name ∷ []) ns (Send a.token.serial b.next_mark a.value) T c.requires.way.0 way }
+    let L' = send-lawful l sites s L a.token i a.value form a.name a.right a.scope a.outer fits.0 fits.1 takes room s' T in
+    record {
+      lawful = L';
+      grouped = sent-grouped l sites s L G a.token i s' first (name ∷ []) ns (Send a.token.serial b.next_mark a.value) T c.requires.way.0 way;
+      told = crosses-told l sites s s' L L' c.self.invariant.told a.token (first ∷ []) (name ∷ []) ns (Send a.token.serial b.next_mark a.value) tt T;
+      counted = counted-kept l sites s s' L L' (Send a.token.serial b.next_mark a.value ∷ []) journal (tt, tt) b.counts c.self.invariant.counted;
+    }
 
 pub returns-clause-done : goal.returns-clause-done
 returns-clause-done g c =
@@ -73,7 +81,7 @@ returns-clause-done g c =
     let l = g.P.Program.listing in
     let sites = g.P.Program.sites in
     let cd = code l in
-    let s : Records = record { limit = b.limit; journal = b.journal.entries; entries = b.entries; next_mark = b.next_mark; now = b.time; made = b.made; tokens = live b.tokens.items; slots = b.tokens.items; calls = b.calls.items; scopes = b.scopes.items; steps = b.steps.items; groups = b.groups.items; cells = b.cells.items } in
+    let s : Records = record { limit = b.limit; journal = b.journal.entries; entries = b.entries; next_mark = b.next_mark; now = b.time; made = b.calls.made; tokens = live b.tokens.items; slots = b.tokens.items; calls = b.calls.items; scopes = b.scopes.items; steps = b.steps.items; groups = b.groups.items; cells = b.cells.items } in
     let L = c.self.invariant.lawful in
     let G = c.self.invariant.grouped in
     let held : IsHeld s.slots a.slot a.token = rw (← c.self.view_is) at c.requires.held in
@@ -81,7 +89,7 @@ returns-clause-done g c =
     let form : standing cd (its_env cd s) a.token.standing ≡ param (is_.Is a.value) = rw (← c.self.view_is) at c.requires.form in
     let ns = crossed (its_path cd s a.token.step) in
     let room : s.entries < s.limit = rw (← c.self.view_is) at c.in_ok-within.ensures.room in
-    let s' : Records = record { limit = b.limit; journal = c.write.new.journal.entries; entries = b.entries + 1; next_mark = b.next_mark + 1; now = b.time; made = b.made; tokens = live c.replace.new.self.items; slots = c.replace.new.self.items; calls = b.calls.items; scopes = c.push_within.new.items.items; steps = c.leave_others.new.steps.items; groups = b.groups.items; cells = b.cells.items } in
+    let s' : Records = record { limit = b.limit; journal = c.write.new.journal.entries; entries = b.entries + 1; next_mark = b.next_mark + 1; now = b.time; made = b.calls.made; tokens = live c.replace.new.self.items; slots = c.replace.new.self.items; calls = b.calls.items; scopes = c.push_within.new.items.items; steps = c.leave_others.new.steps.items; groups = b.groups.items; cells = b.cells.items } in
     let journal : s'.journal ≡ s.journal ++ Send a.token.serial b.next_mark a.value ∷ [] = ap (λ j. j.entries) c.in_ok-write.ensures.added in
     let marks : Publishes ns s.steps s'.steps = c.leave_others.ensures cd (its_env cd s) in
     let takes : taker (its_path cd s a.token.step) ≡ feeding a.name (close (without a.name (its_env cd s a.scope)) (cd a.right)) (its_path cd s a.outer) = rw (← c.self.view_is) at c.requires.takes in
@@ -103,7 +111,7 @@ replace-requires-clause-serial g c =
     let l = g.P.Program.listing in
     let sites = g.P.Program.sites in
     let cd = code l in
-    let s : Records = record { limit = b.limit; journal = b.journal.entries; entries = b.entries; next_mark = b.next_mark; now = b.time; made = b.made; tokens = live b.tokens.items; slots = b.tokens.items; calls = b.calls.items; scopes = b.scopes.items; steps = b.steps.items; groups = b.groups.items; cells = b.cells.items } in
+    let s : Records = record { limit = b.limit; journal = b.journal.entries; entries = b.entries; next_mark = b.next_mark; now = b.time; made = b.calls.made; tokens = live b.tokens.items; slots = b.tokens.items; calls = b.calls.items; scopes = b.scopes.items; steps = b.steps.items; groups = b.groups.items; cells = b.cells.items } in
     let L = c.self.invariant.lawful in
     let G = c.self.invariant.grouped in
     let held : IsHeld s.slots a.slot a.token = rw (← c.self.view_is) at c.requires.held in
@@ -117,7 +125,7 @@ returns-clause-right g c =
     let l = g.P.Program.listing in
     let sites = g.P.Program.sites in
     let cd = code l in
-    let s : Records = record { limit = b.limit; journal = b.journal.entries; entries = b.entries; next_mark = b.next_mark; now = b.time; made = b.made; tokens = live b.tokens.items; slots = b.tokens.items; calls = b.calls.items; scopes = b.scopes.items; steps = b.steps.items; groups = b.groups.items; cells = b.cells.items } in
+    let s : Records = record { limit = b.limit; journal = b.journal.entries; entries = b.entries; next_mark = b.next_mark; now = b.time; made = b.calls.made; tokens = live b.tokens.items; slots = b.tokens.items; calls = b.calls.items; scopes = b.scopes.items; steps = b.steps.items; groups = b.groups.items; cells = b.cells.items } in
     let L = c.self.invariant.lawful in
     let G = c.self.invariant.grouped in
     let held : IsHeld s.slots a.slot a.token = rw (← c.self.view_is) at c.requires.held in

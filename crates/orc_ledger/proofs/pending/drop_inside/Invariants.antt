@@ -1,0 +1,19 @@
+use Rattle.std.proofs.Common.{◌≡◌, ◌<◌, ◌-◌, ℕ, false, length, Some}
+use Rattle.std.specs.Prelude.{slice_get}
+use Rattle.orc_ledger.specs.Same.{weight, but}
+use Rattle.orc_ledger.specs.Inside.{stands_inside}
+use Rattle.orc_ledger.specs.PendingCalls.{ArePlaced, HaveNotes}
+use Rattle.orc_ledger.specs.declared.records.Call.{Call}
+use Rattle.orc_ledger.proofs.pending.drop_inside.Given as goal
+
+abbrev pub invariant-loop-i : goal.invariant-loop-i
+invariant-loop-i l = record {
+  placed : ArePlaced l.items.items l.places.items;
+  noted : HaveNotes l.dues l.items.items;
+  made : length l.places.items ≡ length l.initial.places.items;
+  before : (k : ℕ) (c : Call) → k < l.i → slice_get l.items.items k ≡ Some c → stands_inside l.cell l.steps.items c.step ≡ false;
+  rest : (w : Call → ℕ) → weight (but (λ (c : Call). stands_inside l.cell l.steps.items c.step) w) l.items.items ≡ weight (but (λ (c : Call). stands_inside l.cell l.steps.items c.step) w) l.initial.items.items;
+}
+
+abbrev pub decreases-loop-i : goal.decreases-loop-i
+decreases-loop-i l = length l.items.items - l.i

@@ -1,0 +1,19 @@
+-- Calls noted with their due times.
+use Rattle.std.specs.Prelude.{◌≡◌, ◌≤◌, ◌<◌, ◌⊎◌, ℕ, List, []}
+use Rattle.orc_rules.specs.Timed.{IsIn}
+
+-- call k is noted with time t
+abbrev pub IsNoted : List (ℕ × ℕ) → ℕ → ℕ → Type 0
+IsNoted due t k = IsIn {X = ℕ × ℕ} (t, k) due
+
+-- none is noted with an earlier time
+abbrev pub IsEarliest : List (ℕ × ℕ) → ℕ × ℕ → Type 0
+IsEarliest due d = IsNoted due d.0 d.1 × ((t k : ℕ) → IsNoted due t k → d.0 ≤ t)
+
+-- the least number from this one on that is noted with a time
+abbrev pub IsLeastFrom : List (ℕ × ℕ) → ℕ → ℕ → ℕ → Type 0
+IsLeastFrom due t from k = IsNoted due t k × (from ≤ k) × ((j : ℕ) → IsNoted due t j → from ≤ j → k ≤ j)
+
+-- one note at most goes
+abbrev pub KeepsBut : List (ℕ × ℕ) → List (ℕ × ℕ) → ℕ → ℕ → Type 0
+KeepsBut due due' t k = (u j : ℕ) → IsNoted due u j → IsNoted due' u j ⊎ ((u ≡ t) × (j ≡ k))

@@ -1,0 +1,92 @@
+//! The answers of calls.
+
+ghost use Rattle.std.specs.Prelude.{◌≡◌, ◌<◌, Some, None, IfOk, IfErr, OnErr};
+ghost use Rattle.orc_rules.specs.Timed.{IsIn};
+ghost use Rattle.orc_rules.specs.declared.value.Answer.TheVariants.{Value as Gives, Halt};
+ghost use Rattle.orc_calls.specs.Due.{DueNow};
+ghost use Rattle.orc_ledger.specs.Answers.{IsReturned, IsUnanswered, Pends};
+ghost use Rattle.orc_ledger.specs.declared.records.Call.{Call as Its};
+
+use crate::ledger::{Ledger, LedgerFault, Program, write};
+use crate::records::{Call, Standing, Token};
+use orc_calls::check_due;
+use orc_rules::entry::Entry;
+use orc_rules::value::{Answer, Value};
+
+/// Why an answer of a call is refused; nothing has changed then. The first of these that is a cause: no call with this number pends; the table of
+/// sites has another answer for it, or another due time, or none; the journal has as many entries as the limit; memory.
+#[derive(Clone, Copy, Debug, PartialEq, Eq)]
+pub enum ReturnFault {
+    Gone,
+    Wrong,
+    Limit,
+    Memory,
+}
+
+impl<P: Program> Ledger<P> {
+    /// A call that pends is answered, where the table of sites gives this answer and it is due now. With a value a token comes in its place,
+    /// whose slot is given. A call whose answer is never due is never answered.
+    pub fn returned(&mut self, number: u64, answer: Answer) -> Result<Option<usize>, ReturnFault>
+        ensures done { IfOk result (λ slot. (c : Its) × Pends self.old number c × IsReturned self.old c answer slot self.new) }
+        ensures refused { OnErr result (self.new ≡ self.old) }
+        ensures why { IfErr result (λ fault. IsUnanswered P.listing P.sites self.old number answer fault) }
+    {
+        let call = match self.calls.get(number) {
+            Some(call) => call,
+            None => return Err(ReturnFault::Gone),
+        };
+        match check_due(call.found, call.made_at, answer, self.time) {
+            Ok(()) => {}
+            Err(_) => return Err(ReturnFault::Wrong),
+        }
+        if self.entries >= self.limit {
+            return Err(ReturnFault::Limit);
+        }
+        match answer {
+            Answer::Value(value) => match self.give(call, value) {
+                Ok(slot) => Ok(Some(slot)),
+                Err(_) => Err(ReturnFault::Memory),
+            },
+            Answer::Halt => match self.give_up(call) {
+                Ok(()) => Ok(None),
+                Err(_) => Err(ReturnFault::Memory),
+            },
+        }
+    }
+
+    // A call is answered with a value. The error is refused memory.
+    fn give(&mut self, call: Call, value: Value) -> Result<usize, LedgerFault>
+        requires pends { IsIn call self.old.calls }
+        requires due { DueNow call.made_at call.found (Gives value) self.old.now }
+        requires room { self.old.entries < self.old.limit }
+        ensures done { IfOk result (λ slot. IsReturned self.old call (Gives value) (Some slot) self.new) }
+        ensures refused { OnErr result (self.new ≡ self.old) }
+    {
+        self.tokens.reserve()?;
+        let mark = self.next_mark;
+        write(&mut self.journal, &Entry::Return(call.number, mark, value))?;
+        self.entries += 1;
+        self.next_mark = mark + 1;
+        self.calls.take(call.number);
+        let slot = self.tokens.add(Token {
+            serial: mark,
+            standing: Standing::On(value),
+            step: call.step,
+        });
+        Ok(slot)
+    }
+
+    // A call halts. The error is refused memory.
+    fn give_up(&mut self, call: Call) -> Result<(), LedgerFault>
+        requires pends { IsIn call self.old.calls }
+        requires due { DueNow call.made_at call.found Halt self.old.now }
+        requires room { self.old.entries < self.old.limit }
+        ensures done { IfOk result (λ _. IsReturned self.old call Halt None self.new) }
+        ensures refused { OnErr result (self.new ≡ self.old) }
+    {
+        write(&mut self.journal, &Entry::ReturnHalt(call.number))?;
+        self.entries += 1;
+        self.calls.take(call.number);
+        Ok(())
+    }
+}
