@@ -1,10 +1,10 @@
 -- The law of the counts, over lists of events.
-use Rattle.std.proofs.Common.{◌≡◌, ℕ, zero, suc, ◌+◌, Bool, true, false, cond, List, [], ◌∷◌, ◌++◌, sum_by, refl, sym, ap, ◌∙◌, subst, arith}
+use Rattle.std.proofs.Common.{◌≡◌, ℕ, suc, Bool, true, false, cond, List, [], ◌∷◌, ◌++◌, sum_by, refl, sym, ap, ◌∙◌, subst, arith}
 use Rattle.std.proofs.lemmas.List.Sums.{sum_by_push}
-use Rattle.orc_counts.specs.Machine.{bit_of, Pass, idle, names, gone, State, Event, make, sits, join, opens, enters, leaves, marks, looks, commits, Has, Step, Run, start, naming, named, is_opening, Frees}
+use Rattle.orc_counts.specs.Machine.{bit_of, idle, names, gone, State, Event, make, sits, join, opens, enters, leaves, marks, looks, commits, Has, Step, Run, start, naming, named, is_opening, Frees}
 use Rattle.orc_counts.specs.Counts.{NoOpening, NoFreeing, Counts}
 use Rattle.orc_counts.proofs.Lists.{sum-change, item-le}
-use Rattle.orc_counts.proofs.Invariant.{Inv, run_kept, start_kept, no_record}
+use Rattle.orc_counts.proofs.Invariant.{run_kept, start_kept, no_record}
 use Rattle.orc_counts.proofs.Marks.{first_of, flag-le, win_runs}
 
 -- who nobody names stays so until an opening

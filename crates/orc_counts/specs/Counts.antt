@@ -1,5 +1,5 @@
 -- What holds after every list of events.
-use Rattle.std.specs.Prelude.{◌≡◌, ◌≢◌, ℕ, ◌≤◌, Bool, true, false, List, [], ◌∷◌, ◌++◌}
+use Rattle.std.specs.Prelude.{◌≡◌, ℕ, ◌≤◌, true, false, List, [], ◌∷◌, ◌++◌}
 use Rattle.std.specs.List.{sum_by}
 use Rattle.orc_counts.specs.Machine.{State, Event, Bit, opens, leaves, Has, Step, Run, start, named, NoRecord, is_opening, Frees, wins}
 

@@ -1,7 +1,7 @@
 //! The parts of an engine with workers: words, cells, queues and calls under way.
 
 ghost use Rattle.std.specs.Prelude.{◌≡◌, ◌<◌, IsSome};
-ghost use Rattle.orc_word.specs.Words.{group_of};
+ghost use Rattle.orc_word.specs.Views.{group_of};
 
 use futures::Future;
 use futures::task::{Doorbell, Poll, Solo};

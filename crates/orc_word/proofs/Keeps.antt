@@ -1,5 +1,5 @@
--- Each step keeps the rule.
-use Rattle.std.proofs.Common.{◌≡◌, ◌≢◌, ℕ, zero, suc, ◌+◌, ◌-◌, ◌%◌, ◌<◌, ◌≤◌, Bool, true, false, cond, eqb, Option, Some, None, List, [], ◌∷◌, ◌++◌, length, get_or, set, sum_by, refl, sym, ap, ◌∙◌, subst, ⊎_elim, arith, bit_or, eq-eqb, ne_eqb, length-set, replicate, get_or-set_same, get_or-set_other}
+-- Each step keeps the rule over what the seats stand for.
+use Rattle.std.proofs.Common.{◌≡◌, ◌≢◌, ℕ, zero, suc, ◌+◌, ◌-◌, ◌%◌, ◌<◌, ◌≤◌, Bool, true, false, cond, eqb, Option, Some, None, List, [], ◌∷◌, ◌++◌, length, get_or, set, refl, sym, ap, ◌∙◌, subst, ⊎_elim, arith, bit_or, eq-eqb, ne_eqb, length-set, replicate, get_or-set_same, get_or-set_other}
 use Rattle.std.proofs.lemmas.List.{length-replicate}
 use Rattle.std.proofs.lemmas.List.Sums.{sum_by-cons, sum_by_push}
 use mathlib.Core.Logic.{dite}
@@ -7,24 +7,24 @@ use mathlib.Core.Option.{none, some, some-injective, some-ne-none}
 use native.Mathlib.Decide.{ℕ_discrete}
 use prog.Atomic.{either}
 use lib.ListN.{get_elem?}
-use Rattle.atomic_table.specs.Table.{State, Me, Act, step, keeps, stepped, Allows, Splits, Joins}
-use Rattle.atomic_table.proofs.Lists.{at_set, at_snoc, set_again, exchanged}
+use Rattle.atomic_table.specs.Table.{State, step, keeps, stepped, Allows, Splits, Joins}
+use Rattle.atomic_table.proofs.Lists.{at_set, at_snoc, exchanged}
 use Rattle.orc_word.specs.declared.bits.Bit.{Bit}
 use Rattle.orc_word.specs.declared.bits.Bit.TheVariants.{Published, Killed}
 use Rattle.orc_word.specs.declared.bits.Bits.{Bits}
-use Rattle.orc_word.specs.declared.view.View.{View}
-use Rattle.orc_word.specs.declared.view.View.TheVariants.{Supplies, Parting, Idle, Ended, Names, Spent}
+use Rattle.orc_word.specs.declared.view.Stance.{Stance}
+use Rattle.orc_word.specs.declared.view.Stance.TheVariants.{Supplies, Parting, Idle, Names, Spent}
 use Rattle.orc_word.specs.declared.view.Plan.{Plan}
-use Rattle.orc_word.specs.Words.{count_of, bit_of, flag, has, no_bits, with_bit, Covers, worth, names, has_seen, has_won, Fits, Kept, IsIdle, IsPass, group_of}
-use Rattle.orc_word.specs.Steps.{Sat, Told, peeked, bounded, set_aside, opened, entered, left, bits_of, marked, looked, one_less, one_more, all_kept, all_given}
+use Rattle.orc_word.specs.Words.{count_of, bit_of, flag, has, no_bits, with_bit, Covers, worth, names, has_seen, has_won, Fits, Held, IsIdle, IsPass, group_in}
+use Rattle.orc_word.specs.Steps.{Sat, peeked, bounded, set_aside, opened, entered, left, bits_of, marked, looked, one_less, one_more, all_kept, all_given}
 use Rattle.orc_word.proofs.Numbers.{more_count, more_bit, more_narrow, less_count, less_bit, less_narrow, bit_small, mask_of, set_count, set_narrow, set_bit, set_keeps}
 use Rattle.orc_word.proofs.Lists.{sum-change, item-le, sum-le}
 
 abbrev St : Type 0
-St = State (Unit {0}) View
+St = State (Unit {0}) Stance
 
 -- the view says nothing of word g
-pub record Silent (g : ℕ) (v : View) : Type 0 where
+pub record Silent (g : ℕ) (v : Stance) : Type 0 where
   pub names_not : names g v ≡ 0
   pub seen_not : (b : Bit) → has_seen b g v ≡ 0
   pub won_not : (b : Bit) → has_won b g v ≡ 0
@@ -38,23 +38,18 @@ silent_parting g k j = record { names_not = refl; seen_not = λ b. refl; won_not
 silent_idle : (g : ℕ) → Silent g Idle
 silent_idle g = record { names_not = refl; seen_not = λ b. refl; won_not = λ b. refl }
 
-silent_ended : (g h : ℕ) → Silent g (Ended h)
-silent_ended g h = record { names_not = refl; seen_not = λ b. refl; won_not = λ b. refl }
-
 -- an idle pass says nothing of any word
-idle_silent : (v : View) → IsIdle v → (g : ℕ) → Silent g v
+idle_silent : (v : Stance) → IsIdle v → (g : ℕ) → Silent g v
 idle_silent (Supplies k) i g = absurd i
 idle_silent (Parting k j) i g = absurd i
 idle_silent Idle i g = silent_idle g
-idle_silent (Ended h) i g = silent_ended g h
 idle_silent (Names h seen won) i g = absurd i
 idle_silent Spent i g = absurd i
 
-idle_worth : (v : View) → IsIdle v → worth v ≡ 1
+pub idle_worth : (v : Stance) → IsIdle v → worth v ≡ 1
 idle_worth (Supplies k) i = absurd i
 idle_worth (Parting k j) i = absurd i
 idle_worth Idle i = refl
-idle_worth (Ended h) i = refl
 idle_worth (Names h seen won) i = absurd i
 idle_worth Spent i = absurd i
 
@@ -85,32 +80,29 @@ cond-le true b = flag-le b
 cond-le false b = omega arith
 
 -- who does not name a group has neither seen nor won its bits
-seen-le : (b : Bit) (g : ℕ) (v : View) → has_seen b g v ≤ names g v
+seen-le : (b : Bit) (g : ℕ) (v : Stance) → has_seen b g v ≤ names g v
 seen-le b g (Supplies k) = omega arith
 seen-le b g (Parting k j) = omega arith
 seen-le b g Idle = omega arith
-seen-le b g (Ended h) = omega arith
 seen-le b g (Names h seen won) = cond-le (eqb h g) (has b seen)
 seen-le b g Spent = omega arith
 
-won-le : (b : Bit) (g : ℕ) (v : View) → has_won b g v ≤ names g v
+won-le : (b : Bit) (g : ℕ) (v : Stance) → has_won b g v ≤ names g v
 won-le b g (Supplies k) = omega arith
 won-le b g (Parting k j) = omega arith
 won-le b g Idle = omega arith
-won-le b g (Ended h) = omega arith
 won-le b g (Names h seen won) = cond-le (eqb h g) (has b won)
 won-le b g Spent = omega arith
 
-names-le : (g : ℕ) (v : View) → names g v ≤ worth v
+names-le : (g : ℕ) (v : Stance) → names g v ≤ worth v
 names-le g (Supplies k) = omega arith
 names-le g (Parting k j) = omega arith
 names-le g Idle = omega arith
-names-le g (Ended h) = omega arith
 names-le g (Names h seen won) = flag-le (eqb h g)
 names-le g Spent = omega arith
 
 -- a view changes, and the word with it
-fits_moved : (views : List View) (id i n m : ℕ) (v w : View) → get_elem? views id ≡ some v → Fits views i n
+fits_moved : (views : List Stance) (id i n m : ℕ) (v w : Stance) → get_elem? views id ≡ some v → Fits views i n
     → count_of m + names i v ≡ count_of n + names i w
     → ((b : Bit) → bit_of b n ≤ bit_of b m)
     → ((b : Bit) → has_seen b i w ≤ bit_of b m)
@@ -128,16 +120,16 @@ fits_moved views id i n m v w at fits counted grows seen won narrow = record {
 }
 
 -- a view that says nothing of the word changes to another such
-fits_silent : (views : List View) (id g n : ℕ) (v w : View) → get_elem? views id ≡ some v → Fits views g n → Silent g v → Silent g w → Fits (set views id w) g n
+fits_silent : (views : List Stance) (id g n : ℕ) (v w : Stance) → get_elem? views id ≡ some v → Fits views g n → Silent g v → Silent g w → Fits (set views id w) g n
 fits_silent views id g n v w at fits was is =
     fits_moved views id g n n v w at fits (omega (arith, was.names_not, is.names_not)) (λ b. omega arith) (λ b. omega (arith, is.seen_not b)) (λ b. omega (arith, was.won_not b, is.won_not b)) fits.narrow
 
 -- the seat id steps on the word i
-moved : (plan : Plan) (s : St) (h : Kept plan s) (id i m : ℕ) (c : List (ℕ × Unit {0})) (v w : View) → get_elem? s.views id ≡ some v → i < plan.groups
+moved : (plan : Plan) (s : St) (h : Held plan s) (id i m : ℕ) (c : List (ℕ × Unit {0})) (v w : Stance) → get_elem? s.views id ≡ some v → i < plan.groups
     → worth w ≡ worth v
     → ((g : ℕ) → g ≢ i → Silent g v × Silent g w)
     → Fits (set s.views id w) i m
-    → Kept plan (stepped s i m id c w keeps)
+    → Held plan (stepped s i m id c w keeps)
 moved plan s h id i m c v w at within same silent here = record {
   few = h.few;
   wide = length-set s.words i m ∙ h.wide;
@@ -149,14 +141,14 @@ moved plan s h id i m c v w at within same silent here = record {
 }
 
 -- a word counts fewer than all passes, which are fewer than 2 ^ 31
-pub room : (plan : Plan) (s : St) (h : Kept plan s) (id g : ℕ) → g < plan.groups → count_of (get_or s.words g 0) + 1 < 4294967296
+pub room : (plan : Plan) (s : St) (h : Held plan s) (id g : ℕ) → g < plan.groups → count_of (get_or s.words g 0) + 1 < 4294967296
 room plan s h id g lt = omega (arith, (h.each g lt).counted, sum-le (names g) worth (names-le g) s.views, h.whole, h.few)
 
 pub enters : (plan : Plan) (slots id : ℕ) (me : Sat) (i : ℕ) → IsIdle me.0 → i < plan.groups
-    → Allows (Kept plan) slots id me i (λ n. (n + 1) % 18446744073709551616) (entered (step slots i 1 0 none) me)
+    → Allows (Held plan) slots id me i (λ n. (n + 1) % 18446744073709551616) (entered (step slots i 1 0 none) me)
 enters plan slots id me i idle within s h _ at small =
     let n : ℕ = get_or s.words i 0 in
-    let w : View = Names i no_bits no_bits in
+    let w : Stance = Names i no_bits no_bits in
     let fits = h.each i within in
     let some_room = room plan s h id i within in
     let silent = idle_silent me.0 idle in (
@@ -177,31 +169,20 @@ enters plan slots id me i idle within s h _ at small =
     none_there Published = refl
     none_there Killed = refl
 
--- the view after a leave that found n
-abbrev after_leave : ℕ → ℕ → View
-after_leave i n = cond (eqb (count_of n) 1) (Ended i) Idle
-
-idle_after : (i n : ℕ) → IsIdle (after_leave i n)
-idle_after i n = at (eqb (count_of n) 1)
-  where
-    at : (b : Bool) → IsIdle (cond b (Ended i) Idle)
-    at true = tt
-    at false = tt
-
 pub leaves : (plan : Plan) (slots id : ℕ) (me : Sat) (i : ℕ) (seen won : Bits) → me.0 ≡ Names i seen won → i < plan.groups
-    → Allows (Kept plan) slots id me i (λ n. (n + 18446744073709551615) % 18446744073709551616) (left (step slots i 1 0 none) me)
+    → Allows (Held plan) slots id me i (λ n. (n + 18446744073709551615) % 18446744073709551616) (left (step slots i 1 0 none) me)
 leaves plan slots id me i seen won is within s h _ at small =
     let n : ℕ = get_or s.words i 0 in
-    let v : View = Names i seen won in
-    let w : View = after_leave i n in
-    let silent = idle_silent w (idle_after i n) in
+    let v : Stance = Names i seen won in
+    let w : Stance = Idle in
+    let silent = silent_idle in
     let fits = h.each i within in
     let at' : get_elem? s.views id ≡ some v = at ∙ ap some is in
     let counted : 0 < count_of n = omega (arith, fits.counted, item-le (names i) s.views id v at', names_own i seen won) in (
       w,
       keeps,
       tt,
-      moved plan s h id i ((n + 18446744073709551615) % 18446744073709551616) me.1 v w at' within (idle_worth w (idle_after i n)) (λ g ne. (silent_other g i seen won ne, silent g))
+      moved plan s h id i ((n + 18446744073709551615) % 18446744073709551616) me.1 v w at' within refl (λ g ne. (silent_other g i seen won ne, silent g))
           (fits_moved s.views id i n ((n + 18446744073709551615) % 18446744073709551616) v w at' fits
           (omega (arith, less_count n fits.narrow counted, names_own i seen won, (silent i).names_not))
           (λ b. omega (arith, less_bit b n fits.narrow counted))
@@ -233,14 +214,14 @@ abbrev after_mark : Bit → ℕ → Sat → ℕ → Bits → Bits → Sat
 after_mark b i me n seen won = (Names i (with_bit b seen) (cond (eqb (bit_of b n) 0) (with_bit b won) won), me.1)
 
 pub marks : (b : Bit) (plan : Plan) (slots id : ℕ) (me : Sat) (i : ℕ) (seen won : Bits) → me.0 ≡ Names i seen won → i < plan.groups
-    → Allows (Kept plan) slots id me i (λ n. bit_or n (mask_of b)) (marked b (step slots i (mask_of b) 0 none) me)
+    → Allows (Held plan) slots id me i (λ n. bit_or n (mask_of b)) (marked b (step slots i (mask_of b) 0 none) me)
 marks b plan slots id me i seen won is within s h _ at small =
     let n : ℕ = get_or s.words i 0 in
     let m : ℕ = bit_or n (mask_of b) in
-    let v : View = Names i seen won in
+    let v : Stance = Names i seen won in
     let seen' : Bits = with_bit b seen in
     let won' : Bits = cond (eqb (bit_of b n) 0) (with_bit b won) won in
-    let w : View = Names i seen' won' in
+    let w : Stance = Names i seen' won' in
     let fits = h.each i within in
     let at' : get_elem? s.views id ≡ some v = at ∙ ap some is in (
       w,
@@ -268,7 +249,7 @@ marks b plan slots id me i seen won is within s h _ at small =
 flag_bit : (x : ℕ) → x < 2 → flag (eqb x 1) ≡ x
 flag_bit x small = dite (ℕ_discrete x 1) (λ e. ap flag (eq-eqb x 1 e) ∙ sym e) (λ ne. let z : x ≡ 0 = omega arith in ap flag (ne_eqb x 1 ne) ∙ sym z)
 
-shown : (b : Bit) (n : ℕ) → flag (has b (bits_of n)) ≡ bit_of b n
+pub shown : (b : Bit) (n : ℕ) → flag (has b (bits_of n)) ≡ bit_of b n
 shown Published n = flag_bit _ (bit_small Published n)
 shown Killed n = flag_bit _ (bit_small Killed n)
 
@@ -276,11 +257,11 @@ abbrev after_look : ℕ → Sat → ℕ → Bits → Sat
 after_look i me n won = (Names i (bits_of n) won, me.1)
 
 pub looks : (plan : Plan) (slots id : ℕ) (me : Sat) (i : ℕ) (seen won : Bits) → me.0 ≡ Names i seen won → i < plan.groups
-    → Allows (Kept plan) slots id me i (λ n. n) (looked (step slots i 0 0 none) me)
+    → Allows (Held plan) slots id me i (λ n. n) (looked (step slots i 0 0 none) me)
 looks plan slots id me i seen won is within s h _ at small =
     let n : ℕ = get_or s.words i 0 in
-    let v : View = Names i seen won in
-    let w : View = Names i (bits_of n) won in
+    let v : Stance = Names i seen won in
+    let w : Stance = Names i (bits_of n) won in
     let fits = h.each i within in
     let at' : get_elem? s.views id ≡ some v = at ∙ ap some is in
     let seen_le : (b : Bit) → flag (has b seen) ≤ bit_of b n = λ b. subst (λ x. x ≤ bit_of b n) (seen_own b i seen won) (fits.seen b id v at') in (
@@ -305,23 +286,23 @@ looks plan slots id me i seen won is within s h _ at small =
         (ap (after_look i me n) q, λ b. subst (λ x. flag (has b x) ≤ flag (has b (bits_of n))) p (omega (arith, le b, shown b n)))
 
 -- a step that changes no word and whose seat says nothing of any
-kept_aside : (plan : Plan) (s : St) (h : Kept plan s) (id i : ℕ) (c : List (ℕ × Unit {0})) (v w : View) → get_elem? s.views id ≡ some v → i < plan.groups
+kept_aside : (plan : Plan) (s : St) (h : Held plan s) (id i : ℕ) (c : List (ℕ × Unit {0})) (v w : Stance) → get_elem? s.views id ≡ some v → i < plan.groups
     → worth w ≡ worth v → ((g : ℕ) → Silent g v) → ((g : ℕ) → Silent g w)
-    → Kept plan (stepped s i (get_or s.words i 0) id c w keeps)
+    → Held plan (stepped s i (get_or s.words i 0) id c w keeps)
 kept_aside plan s h id i c v w at within same was is =
     moved plan s h id i (get_or s.words i 0) c v w at within same (λ g _. (was g, is g)) (fits_silent s.views id i (get_or s.words i 0) v w at (h.each i within) (was i) (is i))
 
 -- a load of any seat that tells nothing
 pub peeks : (plan : Plan) (slots id : ℕ) (me : Sat) (i : ℕ) → ((g : ℕ) → Silent g me.0) → i < plan.groups
-    → Allows (Kept plan) slots id me i (λ n. n) (peeked (step slots i 0 0 none) me)
+    → Allows (Held plan) slots id me i (λ n. n) (peeked (step slots i 0 0 none) me)
 peeks plan slots id me i silent within s h _ at small = (me.0, keeps, tt, kept_aside plan s h id i me.1 me.0 me.0 at within refl silent silent, refl)
 
 pub peeks_idle : (plan : Plan) (slots id : ℕ) (me : Sat) (i : ℕ) → IsIdle me.0 → i < plan.groups
-    → Allows (Kept plan) slots id me i (λ n. n) (peeked (step slots i 0 0 none) me)
+    → Allows (Held plan) slots id me i (λ n. n) (peeked (step slots i 0 0 none) me)
 peeks_idle plan slots id me i idle within = peeks plan slots id me i (idle_silent me.0 idle) within
 
 pub bounds : (plan : Plan) (slots id : ℕ) (me : Sat) (i k : ℕ) → me.0 ≡ Supplies k → i < plan.groups
-    → Allows (Kept plan) slots id me i (λ n. n) (bounded (step slots i 0 0 none) me)
+    → Allows (Held plan) slots id me i (λ n. n) (bounded (step slots i 0 0 none) me)
 bounds plan slots id me i k is within s h _ at small = (
   me.0,
   keeps,
@@ -338,28 +319,28 @@ after_aside me j k = (Parting (k - j) j, me.1)
 
 -- the exchange of a number for itself, which changes no word, sets passes aside
 pub sets_aside : (plan : Plan) (slots id : ℕ) (me : Sat) (i k j : ℕ) → me.0 ≡ Supplies k → j ≤ k → i < plan.groups
-    → Allows (Kept plan) slots id me i (λ n. either (eqb n j) j n) (set_aside (step slots i j j none) me)
+    → Allows (Held plan) slots id me i (λ n. either (eqb n j) j n) (set_aside (step slots i j j none) me)
 sets_aside plan slots id me i k j is le within s h _ at small =
     let n : ℕ = get_or s.words i 0 in
-    let w : View = Parting (k - j) j in
+    let w : Stance = Parting (k - j) j in
     let at' : get_elem? s.views id ≡ some (Supplies k) = at ∙ ap some is in (
       w,
       keeps,
       tt,
-      exchanged n j j (λ m. Kept plan (stepped s i m id me.1 w keeps)) (λ e. subst (λ m. Kept plan (stepped s i m id me.1 w keeps)) e (same at')) (λ _. same at'),
+      exchanged n j j (λ m. Held plan (stepped s i m id me.1 w keeps)) (λ e. subst (λ m. Held plan (stepped s i m id me.1 w keeps)) e (same at')) (λ _. same at'),
       λ k₁ is₁. told k₁ is₁,
     )
   where
-    same : get_elem? s.views id ≡ some (Supplies k) → Kept plan (stepped s i (get_or s.words i 0) id me.1 (Parting (k - j) j) keeps)
+    same : get_elem? s.views id ≡ some (Supplies k) → Held plan (stepped s i (get_or s.words i 0) id me.1 (Parting (k - j) j) keeps)
     same at' = kept_aside plan s h id i me.1 (Supplies k) (Parting (k - j) j) at' within (omega arith) (λ g. silent_supply g k) (λ g. silent_parting g (k - j) j)
 
     told : (k₁ : ℕ) → me.0 ≡ Supplies k₁ → after_aside me j k ≡ after_aside me j k₁
     told k₁ is₁ = let e : k ≡ k₁ = omega (arith, ap worth is, ap worth is₁) in ap (after_aside me j) e
 
 -- a new seat that says nothing of any word
-snoc_kept : (plan : Plan) (s : St) (h : Kept plan s) (id : ℕ) (v w u : View) → get_elem? s.views id ≡ some v
+snoc_kept : (plan : Plan) (s : St) (h : Held plan s) (id : ℕ) (v w u : Stance) → get_elem? s.views id ≡ some v
     → worth w + worth u ≡ worth v → ((g : ℕ) → Silent g v) → ((g : ℕ) → Silent g w) → ((g : ℕ) → Silent g u)
-    → Kept plan record { words = s.words; homes = s.homes; views = set s.views id w ++ u ∷ [] }
+    → Held plan record { words = s.words; homes = s.homes; views = set s.views id w ++ u ∷ [] }
 snoc_kept plan s h id v w u at same was is new = record {
   few = h.few;
   wide = h.wide;
@@ -375,27 +356,27 @@ snoc_kept plan s h id v w u at same was is new = record {
   };
 }
 
-pub takes : (plan : Plan) (id : ℕ) (v : View) (k : ℕ) → v ≡ Supplies k → 0 < k → Splits (Kept plan) id v (one_less v) Idle
+pub takes : (plan : Plan) (id : ℕ) (v : Stance) (k : ℕ) → v ≡ Supplies k → 0 < k → Splits (Held plan) id v (one_less v) Idle
 takes plan id v k is some_left s h at =
     let at' : get_elem? s.views id ≡ some (Supplies k) = at ∙ ap some is in
-    subst (λ x. Kept plan record { words = s.words; homes = s.homes; views = set s.views id (one_less x) ++ Idle ∷ [] }) (sym is)
+    subst (λ x. Held plan record { words = s.words; homes = s.homes; views = set s.views id (one_less x) ++ Idle ∷ [] }) (sym is)
     (snoc_kept plan s h id (Supplies k) (Supplies (k - 1)) Idle at' (omega arith) (λ g. silent_supply g k) (λ g. silent_supply g (k - 1)) (λ g. silent_idle g))
 
-pub parts : (plan : Plan) (id : ℕ) (v : View) (k j : ℕ) → v ≡ Parting k j → Splits (Kept plan) id v (all_kept v) (all_given v)
+pub parts : (plan : Plan) (id : ℕ) (v : Stance) (k j : ℕ) → v ≡ Parting k j → Splits (Held plan) id v (all_kept v) (all_given v)
 parts plan id v k j is s h at =
     let at' : get_elem? s.views id ≡ some (Parting k j) = at ∙ ap some is in
-    subst (λ x. Kept plan record { words = s.words; homes = s.homes; views = set s.views id (all_kept x) ++ all_given x ∷ [] }) (sym is)
+    subst (λ x. Held plan record { words = s.words; homes = s.homes; views = set s.views id (all_kept x) ++ all_given x ∷ [] }) (sym is)
     (snoc_kept plan s h id (Parting k j) (Supplies k) (Supplies j) at' refl (λ g. silent_parting g k j) (λ g. silent_supply g k) (λ g. silent_supply g j))
 
-pub gives : (plan : Plan) (id : ℕ) (v : View) (k other : ℕ) (u : View) → v ≡ Supplies k → IsIdle u → Joins (Kept plan) id v other u (one_more v) Spent
+pub gives : (plan : Plan) (id : ℕ) (v : Stance) (k other : ℕ) (u : Stance) → v ≡ Supplies k → IsIdle u → Joins (Held plan) id v other u (one_more v) Spent
 gives plan id v k other u is idle s h at apart there =
     let at' : get_elem? s.views id ≡ some (Supplies k) = at ∙ ap some is in
-    subst (λ x. Kept plan record { words = s.words; homes = s.homes; views = set (set s.views id (one_more x)) other Spent }) (sym is) (both at' there')
+    subst (λ x. Held plan record { words = s.words; homes = s.homes; views = set (set s.views id (one_more x)) other Spent }) (sym is) (both at' there')
   where
     there' : get_elem? (set s.views id (Supplies (k + 1))) other ≡ some u
     there' = subst (λ x. get_elem? (set s.views id (one_more x)) other ≡ some u) is there
 
-    both : get_elem? s.views id ≡ some (Supplies k) → get_elem? (set s.views id (Supplies (k + 1))) other ≡ some u → Kept plan record { words = s.words; homes = s.homes; views = set (set s.views id (Supplies (k + 1))) other Spent }
+    both : get_elem? s.views id ≡ some (Supplies k) → get_elem? (set s.views id (Supplies (k + 1))) other ≡ some u → Held plan record { words = s.words; homes = s.homes; views = set (set s.views id (Supplies (k + 1))) other Spent }
     both at' th = record {
       few = h.few;
       wide = h.wide;
@@ -405,10 +386,10 @@ gives plan id v k other u is idle s h at apart there =
     }
 
 -- a word that counts nobody is opened anew, bits clear
-fits_opened : (views : List View) (id i n : ℕ) (v : View) → IsIdle v → get_elem? views id ≡ some v → Fits views i n → count_of n ≡ 0 → Fits (set views id (Names i no_bits no_bits)) i 1
+fits_opened : (views : List Stance) (id i n : ℕ) (v : Stance) → IsIdle v → get_elem? views id ≡ some v → Fits views i n → count_of n ≡ 0 → Fits (set views id (Names i no_bits no_bits)) i 1
 fits_opened views id i n v idle at fits none_left =
     let silent = idle_silent v idle i in
-    let w : View = Names i no_bits no_bits in record {
+    let w : Stance = Names i no_bits no_bits in record {
       counted = omega (arith, fits.counted, sum-change (names i) views id v w at, names_own i no_bits no_bits, silent.names_not);
       seen = λ b by u e. ⊎_elim
           (λ (t : (by ≡ id) × (w ≡ u)). subst (λ x. has_seen b i x ≤ bit_of b 1) t.1 (omega (arith, seen_own b i no_bits no_bits, none_there b)))
@@ -423,16 +404,16 @@ fits_opened views id i n v idle at fits none_left =
     none_there Killed = refl
 
 pub opens : (plan : Plan) (slots id : ℕ) (me : Sat) (i old : ℕ) → IsIdle me.0 → i < plan.groups → count_of old ≡ 0
-    → Allows (Kept plan) slots id me i (λ n. either (eqb n old) 1 n) (opened (step slots i old 1 none) me)
+    → Allows (Held plan) slots id me i (λ n. either (eqb n old) 1 n) (opened (step slots i old 1 none) me)
 opens plan slots id me i old idle within empty s h _ at small =
     let n : ℕ = get_or s.words i 0 in
-    let w : View = Names i no_bits no_bits in
+    let w : Stance = Names i no_bits no_bits in
     let silent = idle_silent me.0 idle in dite (ℕ_discrete n old)
     (λ hit. (
       w,
       keeps,
       tt,
-      subst (λ b. Kept plan (stepped s i (either b 1 n) id me.1 w keeps)) (sym (eq-eqb n old hit))
+      subst (λ b. Held plan (stepped s i (either b 1 n) id me.1 w keeps)) (sym (eq-eqb n old hit))
           (moved plan s h id i 1 me.1 me.0 w at within (sym (idle_worth me.0 idle)) (λ g ne. (silent g, silent_other g i no_bits no_bits ne)) (fits_opened s.views id i n me.0 idle at (h.each i within) (ap count_of hit ∙ empty))),
       ((λ _. refl), λ not. absurd (not hit)),
     ))
@@ -440,14 +421,14 @@ opens plan slots id me i old idle within empty s h _ at small =
       me.0,
       keeps,
       tt,
-      subst (λ b. Kept plan (stepped s i (either b 1 n) id me.1 me.0 keeps)) (sym (ne_eqb n old miss))
+      subst (λ b. Held plan (stepped s i (either b 1 n) id me.1 me.0 keeps)) (sym (ne_eqb n old miss))
           (kept_aside plan s h id i me.1 me.0 me.0 at within refl silent silent),
       ((λ hit. absurd (miss hit)), λ _. refl),
     ))
 
 -- the start: all words 0, all passes in one supply
 pub begins : (plan : Plan) (words : List ℕ) → plan.passes < 2147483648 → length words ≡ plan.groups → ((g : ℕ) → get_or words g 0 ≡ 0)
-    → Kept plan record { words = words; homes = []; views = Supplies plan.passes ∷ [] }
+    → Held plan record { words = words; homes = []; views = Supplies plan.passes ∷ [] }
 begins plan words few wide zeros = record {
   few = few;
   wide = wide;
@@ -460,32 +441,32 @@ begins plan words few wide zeros = record {
   };
 }
   where
-    one : (b : Bit) (by : ℕ) (v : View) → get_elem? (Supplies plan.passes ∷ []) by ≡ some v → (g n : ℕ) → has_seen b g v ≤ bit_of b n
+    one : (b : Bit) (by : ℕ) (v : Stance) → get_elem? (Supplies plan.passes ∷ []) by ≡ some v → (g n : ℕ) → has_seen b g v ≤ bit_of b n
     one b zero v e g n = subst (λ x. has_seen b g x ≤ bit_of b n) (some-injective (Supplies plan.passes) v e) (omega arith)
     one b (suc by) v e g n = absurd (some-ne-none v (sym e))
 
 -- a pass that has a group names it
-pub pass_names : (n : ℕ) (o : Option ℕ) (v : View) (g : ℕ) → IsPass n o v → o ≡ Some g → IsPass n (Some g) v
+pub pass_names : (n : ℕ) (o : Option ℕ) (v : Stance) (g : ℕ) → IsPass n o v → o ≡ Some g → IsPass n (Some g) v
 pass_names n o v g is e = subst (λ x. IsPass n x v) e is
 
 abbrev pub zeros_of : ℕ → List ℕ
 zeros_of n = replicate n 0
 
-zero_there : (n g : ℕ) → get_or (zeros_of n) g zero ≡ zero
+pub zero_there : (n g : ℕ) → get_or (zeros_of n) g zero ≡ zero
 zero_there zero g = refl
 zero_there (suc n) zero = refl
 zero_there (suc n) (suc g) = zero_there n g
 
 pub begins_zeros : (groups passes : ℕ) (words : List ℕ) → passes < 2147483648 → words ≡ zeros_of groups
-    → Kept record { groups = groups; passes = passes } record { words = words; homes = []; views = Supplies passes ∷ [] }
+    → Held record { groups = groups; passes = passes } record { words = words; homes = []; views = Supplies passes ∷ [] }
 begins_zeros groups passes words few zeros =
     let plan : Plan = record { groups = groups; passes = passes } in
     begins plan words few (ap (λ (l : List ℕ). length l) zeros ∙ length-replicate groups 0) (λ g. ap (λ (l : List ℕ). get_or l g 0) zeros ∙ zero_there groups g)
 
 -- a pass without a group is idle
-pub pass_idle : (n : ℕ) (o : Option ℕ) (v : View) → IsPass n o v → group_of v ≡ None → IsIdle v
+pub pass_idle : (n : ℕ) (o : Option ℕ) (v : Stance) → IsPass n o v → group_in v ≡ None → IsIdle v
 pass_idle n None v is e = is
-pass_idle n (Some g) v is e = absurd (differ g (sym e ∙ ap group_of is.1.2))
+pass_idle n (Some g) v is e = absurd (differ g (sym e ∙ ap group_in is.1.2))
   where
     differ : (x : ℕ) → None ≡ Some x → ⊥
     differ x d = cc

@@ -1,8 +1,10 @@
 //! The words of groups, and the calls on them.
-ghost use Rattle.std.specs.Prelude.{◌≡◌, true, false, ℕ, List, ◌<◌, Some, None, IsSome, MatchResult, MatchOption, cond};
+ghost use Rattle.std.specs.Prelude.{◌≡◌, true, false, ℕ, List, [], ◌∷◌, ◌++◌, ◌<◌, Some, None, IsSome, MatchResult, MatchOption, cond};
 ghost use Rattle.orc_word.specs.declared.view.View.{View};
-ghost use Rattle.orc_word.specs.declared.view.View.TheVariants.{Idle, Ended, Names};
-ghost use Rattle.orc_word.specs.Words.{Rule, group_of, seen_of, won_of, no_bits, with_bit, has, Covers};
+ghost use Rattle.orc_word.specs.declared.view.Stance.TheVariants.{Names};
+ghost use Rattle.orc_word.specs.declared.view.Deed.TheVariants.{Ended};
+ghost use Rattle.orc_word.specs.Words.{no_bits, with_bit, has, Covers};
+ghost use Rattle.orc_word.specs.Views.{Keeps, stance_of, group_of, seen_of, won_of, deeds_of, Opens, Comes, Marks};
 
 use crate::bits::{Bit, Bits};
 use crate::last::{Last, Left};
@@ -46,7 +48,7 @@ impl<J: Naming> Groups<J> {
     pub fn open(&self, idle: Pass<J>, group: u32) -> Result<Pass<J>, Pass<J>>
         requires group { group < J.table.words }
         requires idle { group_of idle ≡ None }
-        ensures { MatchResult result (λ pass. pass ≡ Names group no_bits no_bits) (λ back. back ≡ idle) }
+        ensures { MatchResult result (λ pass. (stance_of pass ≡ Names group no_bits no_bits) × Opens group (deeds_of idle) (deeds_of pass)) (λ back. back ≡ idle) }
     {
         let Pass {
             group: none,
@@ -78,6 +80,7 @@ impl<J: Naming> Groups<J> {
         requires idle { group_of idle ≡ None }
         ensures group { group_of result ≡ group_of with.now }
         ensures clear { (seen_of result ≡ no_bits) × (won_of result ≡ no_bits) }
+        ensures deeds { Comes (group_of with.now) (deeds_of idle) (deeds_of result) }
     {
         let Pass {
             group: none,
@@ -103,7 +106,8 @@ impl<J: Naming> Groups<J> {
     /// The pass is idle again, and its group's count goes down by 1. `last` is there exactly where the count became 0.
     pub fn leave(&self, pass: Pass<J>) -> Left<J>
         requires { IsSome (group_of pass) }
-        ensures { MatchOption result.last (result.pass ≡ Idle) (λ last. (result.pass ≡ Ended last.group) × (group_of pass ≡ Some last.group)) }
+        ensures idle { group_of result.pass ≡ None }
+        ensures last { MatchOption result.last (deeds_of result.pass ≡ deeds_of pass) (λ last. (deeds_of result.pass ≡ deeds_of pass ++ Ended last.group ∷ []) × (group_of pass ≡ Some last.group)) }
     {
         let Pass {
             group,
@@ -146,6 +150,7 @@ impl<J: Naming> Groups<J> {
         ensures seen { seen_of pass.new ≡ with_bit bit (seen_of pass.old) }
         ensures again { has bit (seen_of pass.old) ≡ true → result ≡ false }
         ensures won { won_of pass.new ≡ cond result (with_bit bit (won_of pass.old)) (won_of pass.old) }
+        ensures deeds { Marks (group_of pass.old) bit result (deeds_of pass.old) (deeds_of pass.new) }
     {
         let Some(group) = pass.group else {
             return false;
@@ -170,6 +175,7 @@ impl<J: Naming> Groups<J> {
         ensures group { group_of pass.new ≡ group_of pass.old }
         ensures seen { seen_of pass.new ≡ result }
         ensures won { won_of pass.new ≡ won_of pass.old }
+        ensures deeds { deeds_of pass.new ≡ deeds_of pass.old }
         ensures covers { Covers (seen_of pass.old) result }
     {
         let Some(group) = pass.group else {
@@ -188,7 +194,7 @@ impl<J: Naming> Groups<J> {
 
     /// The last words, which meet the rule.
     pub fn close(self) -> Words
-        ensures { (views : List View) × Rule self.table.shared.key result views }
+        ensures { (views : List View) × Keeps self.table.shared.key result views }
     {
         let Groups { table, of: _ } = self;
         Words {

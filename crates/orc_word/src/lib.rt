@@ -7,7 +7,9 @@
 //!
 //! Of the words nothing is known but a rule, which holds between any two exchanges: a word's count is the number of passes that name its group,
 //! what a pass has seen of the bits is set, each set bit was won by one pass at most, and idle, naming and supplied passes together are those
-//! that were made. [`laws`] has what follows from it over all lists of such calls.
+//! that were made. And each pass has *deeds*, which nothing undoes: the groups that it opened, those that it was the last to leave, the marks that it won.
+//! The words are in balance with the deeds of all, so that a call that was last, or that won, can't say that it wasn't. [`laws`] has
+//! what follows over all lists of such calls.
 //!
 //! A pass that is dropped, and not left, counts for good.
 #![tactic(auto)]
@@ -31,5 +33,5 @@ pub use naming::Naming;
 pub use pass::Pass;
 pub use supply::Supply;
 pub use unnamed::Unnamed;
-pub use view::{Plan, View};
+pub use view::{Deed, Plan, Stance, View};
 pub use words::Words;

@@ -23,11 +23,11 @@ impl<J: Naming> Model for Pass<J> {
 
     ghost view = { λ p. p.seat.me.0 };
 
-    ghost invariant = { λ p. (p.seat.table_id ≡ J.table) × (p.seat.me.1 ≡ []) × IsPass J.table.words p.group p.seat.me.0 };
+    ghost invariant = { λ p. (p.seat.table_id ≡ J.table) × (p.seat.me.1 ≡ []) × IsPass J.table.words p.group p.seat.me.0.stance };
 }
 
 impl<J: Naming> Pass<J> {
-    ghost use Rattle.orc_word.specs.Words.{group_of};
+    ghost use Rattle.orc_word.specs.Views.{group_of};
 
     /// The group that it names; none where it is idle.
     pub fn group(&self) -> Option<u32>

@@ -1,9 +1,9 @@
 //! The rule of the table of words, and what each kind of exchange tells the seat that makes it. No value of these types is made.
-ghost use Rattle.orc_word.specs.declared.view.View.{View};
-ghost use Rattle.orc_word.specs.declared.view.View.TheVariants.{Supplies, Idle, Spent};
+ghost use Rattle.orc_word.specs.declared.view.Stance.TheVariants.{Supplies, Idle, Spent};
 ghost use Rattle.orc_word.specs.declared.bits.Bit.TheVariants.{Published, Killed};
-ghost use Rattle.orc_word.specs.Words.{Kept};
-ghost use Rattle.orc_word.specs.Steps.{peeked, bounded, set_aside, opened, entered, left, marked, looked, one_less, all_kept, all_given, one_more};
+ghost use Rattle.std.specs.Prelude.{[], ◌++◌};
+ghost use Rattle.orc_word.specs.Views.{Kept, view_of, kept_deeds, given_deeds};
+ghost use Rattle.orc_word.specs.Steps.{peeked, bounded, set_aside, opened, entered, left, marked, looked, one_less, all_kept, all_given, one_more, doing, seeing, if_opened, if_found, if_ended, if_won};
 
 use crate::view::{Plan, View};
 use atomic_table::{Join, Play, Split, TableRule};
@@ -13,86 +13,86 @@ pub struct Counts;
 impl TableRule<(), View, Plan> for Counts {
     ghost holds = { Kept };
 
-    ghost first = { λ plan. Supplies plan.passes };
+    ghost first = { λ plan. view_of (Supplies plan.passes) [] };
 }
 
 pub struct Peek;
 
 impl Play<(), View> for Peek {
-    ghost then = { peeked };
+    ghost then = { seeing peeked };
 }
 
 pub struct Bound;
 
 impl Play<(), View> for Bound {
-    ghost then = { bounded };
+    ghost then = { seeing bounded };
 }
 
 pub struct SetAside;
 
 impl Play<(), View> for SetAside {
-    ghost then = { set_aside };
+    ghost then = { seeing set_aside };
 }
 
 pub struct Open;
 
 impl Play<(), View> for Open {
-    ghost then = { opened };
+    ghost then = { doing if_opened opened };
 }
 
 pub struct Enter;
 
 impl Play<(), View> for Enter {
-    ghost then = { entered };
+    ghost then = { doing if_found entered };
 }
 
 pub struct Leave;
 
 impl Play<(), View> for Leave {
-    ghost then = { left };
+    ghost then = { doing if_ended left };
 }
 
 pub struct Look;
 
 impl Play<(), View> for Look {
-    ghost then = { looked };
+    ghost then = { seeing looked };
 }
 
 pub struct MarkPublished;
 
 impl Play<(), View> for MarkPublished {
-    ghost then = { marked Published };
+    ghost then = { doing (if_won Published) (marked Published) };
 }
 
 pub struct MarkKilled;
 
 impl Play<(), View> for MarkKilled {
-    ghost then = { marked Killed };
+    ghost then = { doing (if_won Killed) (marked Killed) };
 }
 
 /// One pass out of a supply.
 pub struct TakeOne;
 
 impl Split<View> for TakeOne {
-    ghost left = { one_less };
+    ghost left = { λ v. view_of (one_less v.stance) (kept_deeds (one_less v.stance) v.deeds) };
 
-    ghost right = { λ v. Idle };
+    ghost right = { λ v. view_of Idle (given_deeds (one_less v.stance) v.deeds) };
 }
 
 /// The passes that a supply has set aside.
 pub struct PartWith;
 
 impl Split<View> for PartWith {
-    ghost left = { all_kept };
+    ghost left = { λ v. view_of (all_kept v.stance) (kept_deeds (all_kept v.stance) v.deeds) };
 
-    ghost right = { all_given };
+    ghost right = { λ v. view_of (all_given v.stance) (given_deeds (all_kept v.stance) v.deeds) };
 }
 
 /// An idle pass back into a supply.
 pub struct GiveBack;
 
 impl Join<View> for GiveBack {
-    ghost both = { λ v w. one_more v };
+    ghost both = { λ v w. view_of (one_more v.stance) (v.deeds ++ w.deeds) };
 
-    ghost spent = { Spent };
+    ghost spent = { view_of Spent [] };
 }

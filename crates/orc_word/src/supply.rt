@@ -1,7 +1,7 @@
 //! Supplies of idle passes.
 ghost use Rattle.std.specs.Prelude.{◌≡◌, ◌+◌, ◌<◌, None, MatchOption};
-ghost use Rattle.orc_word.specs.Words.{group_of};
-ghost use Rattle.orc_word.specs.declared.view.View.TheVariants.{Idle};
+ghost use Rattle.orc_word.specs.Views.{group_of, stance_of};
+ghost use Rattle.orc_word.specs.declared.view.Stance.TheVariants.{Idle};
 
 use crate::groups::Groups;
 use crate::naming::Naming;
@@ -21,19 +21,19 @@ pub struct Supply<J: Naming> {
 
 impl<J: Naming> Model for Supply<J> {
     ghost use Rattle.std.specs.Prelude.{◌≡◌, ℕ, []};
-    ghost use Rattle.orc_word.specs.declared.view.View.TheVariants.{Supplies};
+    ghost use Rattle.orc_word.specs.declared.view.Stance.TheVariants.{Supplies};
 
     ghost Value = { ℕ };
 
     ghost view = { λ s. s.passes };
 
-    ghost invariant = { λ s. (s.seat.table_id ≡ J.table) × (s.seat.me.1 ≡ []) × (s.seat.me.0 ≡ Supplies s.passes) };
+    ghost invariant = { λ s. (s.seat.table_id ≡ J.table) × (s.seat.me.1 ≡ []) × (s.seat.me.0.stance ≡ Supplies s.passes) };
 }
 
 impl<J: Naming> Supply<J> {
     /// An idle pass; none exactly where the supply is empty.
     pub fn take(&mut self, groups: &Groups<J>) -> Option<Pass<J>>
-        ensures { MatchOption result ((self.old ≡ 0) × (self.new ≡ 0)) (λ pass. (pass ≡ Idle) × (self.old ≡ self.new + 1)) }
+        ensures { MatchOption result ((self.old ≡ 0) × (self.new ≡ 0)) (λ pass. (stance_of pass ≡ Idle) × (self.old ≡ self.new + 1)) }
     {
         if self.passes == 0 {
             return None;

@@ -1,6 +1,7 @@
 //! Words that have no name yet.
 ghost use Rattle.std.specs.Prelude.{◌≡◌, ◌<◌, ◌≤◌, ◌^◌, [], IfOk};
-ghost use Rattle.orc_word.specs.declared.view.View.TheVariants.{Supplies};
+ghost use Rattle.orc_word.specs.declared.view.Stance.TheVariants.{Supplies};
+ghost use Rattle.orc_word.specs.Views.{view_of};
 
 use crate::groups::Groups;
 use crate::naming::Naming;
@@ -17,7 +18,7 @@ pub struct Unnamed {
     table: Table<(), View, Plan, Counts, Global>,
     seat: Seat<(), View>,
     passes: u32,
-    pub ghost full: { (seat.table_id ≡ table.shared.table_id) × (seat.me.1 ≡ []) × (seat.me.0 ≡ Supplies passes) },
+    pub ghost full: { (seat.table_id ≡ table.shared.table_id) × (seat.me.1 ≡ []) × (seat.me.0 ≡ view_of (Supplies passes) []) },
     pub ghost planned: { (table.shared.key.groups ≡ table.shared.table_id.words) × (table.shared.key.passes ≡ passes) × (0 < table.shared.table_id.words) × (table.shared.table_id.slots ≡ 0) },
 }
 

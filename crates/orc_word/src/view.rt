@@ -1,20 +1,37 @@
 //! What a seat of the table knows.
-use crate::bits::Bits;
+use crate::bits::{Bit, Bits};
+use std::collections::LinkedList;
 
 /// What a seat of the table stands for. No value of it is made.
-pub enum View {
+pub enum Stance {
     /// A supply that can give so many passes.
     Supplies(u32),
     /// A supply that keeps the first number of passes and is about to part with the second.
     Parting(u32, u32),
     /// A pass that names no group.
     Idle,
-    /// A pass that names no group, and was the last to leave this one.
-    Ended(u32),
     /// A pass that names the group, with the bits that it has seen set and those that it has won, which is to say, set itself.
     Names(u32, Bits, Bits),
     /// A pass that was taken back.
     Spent,
+}
+
+/// What a seat did that nothing undoes. No value of it is made.
+pub enum Deed {
+    /// It opened the group, whose word had these bits, and cleared them.
+    Opened(u32, Bits),
+    /// It came to name the group, and found that nobody did.
+    Found(u32),
+    /// It was the last to leave the group.
+    Ended(u32),
+    /// It set the bit of the group, which was clear.
+    Won(u32, Bit),
+}
+
+/// What a seat stands for, and all that it did for good, in order. No value of it is made.
+pub struct View {
+    pub stance: Stance,
+    pub deeds: LinkedList<Deed>,
 }
 
 /// How many words and passes were made.

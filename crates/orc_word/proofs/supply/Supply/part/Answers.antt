@@ -1,11 +1,6 @@
-use Rattle.std.proofs.Common.{◌≡◌, ◌<◌, ◌≤◌, ℕ, List, [], ◌∷◌, Some, None, Bool, true, false, refl, sym, ap, ◌∙◌, subst, arith, rules}
-use Rattle.orc_word.specs.declared.view.View.{View}
-use Rattle.orc_word.specs.declared.view.View.TheVariants.{Supplies, Parting, Idle, Names, Spent}
-use Rattle.orc_word.specs.declared.bits.Bits.{Bits}
-use Rattle.orc_word.specs.declared.bits.Bit.TheVariants.{Published, Killed}
-use Rattle.orc_word.specs.Words.{group_of, no_bits, with_bit, IsPass, seen_of, won_of, Covers}
+use Rattle.std.proofs.Common.{sym, ap, ◌∙◌, arith}
 use Rattle.orc_word.specs.Steps.{all_kept, all_given}
-use Rattle.orc_word.proofs.Keeps.{sets_aside, parts}
+use Rattle.orc_word.proofs.Deeds.{sets_aside, parts}
 use Rattle.orc_word.proofs.supply.Supply.part.Goals as goal
 
 pub compare_exchange-requires : goal.compare_exchange-requires
@@ -20,19 +15,19 @@ split_seat-seat-requires g c =
     let here = c.self.invariant in
     let named = ap (λ t. t.table_id) c.shared-shared.ensures ∙ c.args.groups.now.named in
     let told = c.compare_exchange.ensures in
-    (told.0 ∙ here.0 ∙ sym named, omega (arith, c.args.groups.now.planned.1, ap (λ t. t.words) named), parts _ _ _ _ _ (ap (λ m. m.0) (told.2 _ here.2)))
+    (told.0 ∙ here.0 ∙ sym named, omega (arith, c.args.groups.now.planned.1, ap (λ t. t.words) named), parts _ _ _ _ _ (ap (λ m. m.0) (told.2.0 _ here.2)))
 
 pub invariant_of-result : goal.invariant_of-result
 invariant_of-result g c =
     let here = c.self.invariant in
     let told = c.compare_exchange.ensures in
     let split = c.split_seat-seat.ensures in
-    (split.3 ∙ told.0 ∙ here.0, ap (λ m. m.1) split.4, ap (λ m. m.0) split.4 ∙ ap all_given (ap (λ m. m.0) (told.2 _ here.2)))
+    (split.3 ∙ told.0 ∙ here.0, ap (λ m. m.1) split.4, ap (λ m. m.0.stance) split.4 ∙ ap all_given (ap (λ m. m.0) (told.2.0 _ here.2)))
 
 pub invariant_of-self : goal.invariant_of-self
 invariant_of-self g c =
     let here = c.self.invariant in
     let told = c.compare_exchange.ensures in
-    let after = told.2 _ here.2 in
+    let after = told.2.0 _ here.2 in
     let split = c.split_seat-seat.ensures in
-    (split.0 ∙ told.0 ∙ here.0, ap (λ m. m.1) split.2 ∙ ap (λ m. m.1) after ∙ here.1, ap (λ m. m.0) split.2 ∙ ap all_kept (ap (λ m. m.0) after))
+    (split.0 ∙ told.0 ∙ here.0, ap (λ m. m.1) split.2 ∙ ap (λ m. m.1) after ∙ here.1, ap (λ m. m.0.stance) split.2 ∙ ap all_kept (ap (λ m. m.0) after))

@@ -1,4 +1,4 @@
-use Rattle.std.proofs.Common.{◌≡◌, ℕ, List, get_or, ap, ◌∙◌}
+use Rattle.std.proofs.Common.{ℕ, List, get_or, ap, ◌∙◌}
 use Rattle.std.specs.Slots.{slots_items}
 use Rattle.orc_word.proofs.Lists.{index-at}
 use Rattle.orc_word.proofs.words.Words.word.Goals as goal
