@@ -1,7 +1,7 @@
 -- A list of lanes, read and changed at one place.
-use Rattle.std.proofs.Common.{◌≡◌, ℕ, zero, suc, ◌<◌, Bool, true, false, true≢false, List, [], ◌∷◌, ◌++◌, map, length, replicate, set, get_or, Option, Some, None, is_some, MatchOption, slice_get, slice_set, sym, refl, ap, ◌∙◌, subst, arith}
+use Rattle.std.proofs.Common.{◌≡◌, ℕ, zero, suc, ◌<◌, Bool, true, false, true≢false, List, [], ◌∷◌, map, length, set, get_or, Option, Some, None, is_some, MatchOption, slice_get, sym, refl, ap, ◌∙◌, arith}
 use Rattle.std.proofs.lemmas.List.{map-set}
-use Rattle.crossbeam_deque.specs.Handles.{worker_deque, worker_view, stealer_deque}
+use Rattle.crossbeam_deque.specs.Handles.{stealer_deque}
 use Rattle.orc_pool.specs.declared.own.Own.{Own}
 use Rattle.orc_pool.specs.declared.queues.Lane.{Lane}
 use Rattle.orc_pool.specs.History.{view_of}

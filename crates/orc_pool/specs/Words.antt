@@ -1,9 +1,8 @@
 -- What a clause says of an owner's end, of a theft and of the queues.
-use Rattle.std.specs.Prelude.{◌≡◌, ℕ, List, Bool, true, map, is_some}
+use Rattle.std.specs.Prelude.{ℕ, List, Bool, map, is_some}
 use Rattle.std.specs.declared.alloc.Global.{Global}
 use Rattle.atomic_blocks.specs.Lent.{RowsId}
 use Rattle.crossbeam_deque.specs.Handles.{view, worker_view, worker_deque, worker_capacity, worker_index, stealer_deque}
-use Rattle.orc_pool.specs.declared.history.Event.{Event}
 use Rattle.orc_pool.specs.declared.history.View.{View}
 use Rattle.orc_pool.specs.declared.own.Own.{Own}
 use Rattle.orc_pool.specs.declared.theft.Theft.{Theft}

@@ -1,4 +1,4 @@
-use Rattle.orc_pool.proofs.Histories.{pops, finds}
+use Rattle.orc_pool.proofs.Histories.{pops}
 use Rattle.orc_pool.proofs.own.Own.pop.Goals as goal
 
 pub pop_as-requires-clause-lifo : goal.pop_as-requires-clause-lifo

@@ -1,4 +1,4 @@
-use Rattle.std.proofs.Common.{◌≡◌, true, ◌+◌, length, replicate, map, is_some}
+use Rattle.std.proofs.Common.{◌≡◌, true, replicate, map, is_some}
 use Rattle.orc_pool.proofs.queues.Queues.new.Given as goal
 
 abbrev pub invariant-loop : goal.invariant-loop
