@@ -1,6 +1,6 @@
 -- The least due time, by the notes.
 use Rattle.std.proofs.Common.{◌≡◌, ◌<◌, ◌+◌, ℕ, zero, suc, List, [], ◌∷◌, ◌++◌, length, Option, Some, None, refl, sym, ap, ◌∙◌, subst, inl, inr, ◌⊎◌, ⊎_elim, arith, length-append, false}
-use Rattle.std.specs.Prelude.{slice_get, slice_set, IfSome, IfNone}
+use Rattle.std.specs.Prelude.{slice_get, slice_set, IfSome}
 use Rattle.std.specs.Bool.{Decides}
 use Rattle.orc_rules.specs.Timed.{IsIn}
 use Rattle.orc_checker.specs.declared.arena.Node.{Node}

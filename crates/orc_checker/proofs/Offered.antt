@@ -1,11 +1,10 @@
 -- What a token can do, by its node; whether the side of a node has halted.
-use Rattle.std.proofs.Common.{◌≡◌, ◌+◌, ◌<◌, ◌≤◌, ℕ, zero, suc, List, [], ◌∷◌, ◌++◌, map, get_or, Option, Some, None, refl, sym, ap, ◌∙◌, subst, append_assoc, inl, inr, Bool, true, false}
-use Rattle.std.specs.Prelude.{IfSome, slice_get, option_map}
+use Rattle.std.proofs.Common.{◌≡◌, ℕ, List, [], ◌∷◌, ◌++◌, map, Option, Some, None, refl, sym, ap, ◌∙◌, subst, append_assoc, inl, inr, Bool, true, false}
+use Rattle.std.specs.Prelude.{IfSome}
 use Rattle.orc_rules.specs.declared.value.Value.{Value}
 use Rattle.orc_rules.specs.declared.value.Answer.{Answer}
 use Rattle.orc_rules.specs.declared.value.Found.{Found}
 use Rattle.orc_rules.specs.declared.value.Found.TheVariants.{After}
-use Rattle.orc_rules.specs.declared.param.Param.{Param}
 use Rattle.orc_rules.specs.declared.param.Param.TheVariants as is
 use Rattle.orc_rules.specs.declared.param.Operand.{Operand}
 use Rattle.orc_rules.specs.Term.{Term, param, values_of}

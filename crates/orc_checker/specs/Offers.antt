@@ -2,7 +2,7 @@
 use Rattle.std.specs.Prelude.{◌≡◌, ◌++◌, ◌⊎◌, ℕ, List, map, Bool, true, false, Some, None, slice_get}
 use Rattle.orc_rules.specs.declared.value.Value.{Value}
 use Rattle.orc_rules.specs.declared.param.Param.{Param}
-use Rattle.orc_rules.specs.declared.param.Param.TheVariants.{Is, Cell}
+use Rattle.orc_rules.specs.declared.param.Param.TheVariants.{Cell}
 use Rattle.orc_rules.specs.declared.param.Operand.{Operand}
 use Rattle.orc_rules.specs.declared.entry.Entry.TheVariants as entry
 use Rattle.orc_rules.specs.Term.{Term, Definition, stop, param, site, call, par, seq, prune, other, values_of}

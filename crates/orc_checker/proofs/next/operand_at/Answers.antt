@@ -1,8 +1,7 @@
-use Rattle.std.proofs.Common.{◌≡◌, ◌∙◌, ap, sym, subst, inl, inr, List, Some, get_or, []}
+use Rattle.std.proofs.Common.{◌≡◌, ◌∙◌, ap, subst, inl, inr, List, Some, get_or, []}
 use Rattle.std.specs.Prelude.{slice_get}
 use Rattle.orc_rules.specs.declared.param.Operand.{Operand}
 use Rattle.orc_rules.specs.Nodes.{code, unfold_node}
-use Rattle.orc_checker.specs.Offers.{IsOperandAt}
 use Rattle.orc_checker.proofs.Offered.{if_some}
 use Rattle.orc_checker.proofs.next.operand_at.Goals as goal
 
