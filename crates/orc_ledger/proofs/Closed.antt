@@ -1,19 +1,26 @@
 -- A group that a publication has left goes: nothing that the records spell changes.
-use Rattle.std.proofs.Common.{◌≡◌, ℕ, ◌+◌, List, refl, sym, ap, ◌∙◌, subst, arith, length, map, Bool, true, false, cond, not}
+use Rattle.std.proofs.Common.{◌≡◌, ◌≤◌, ℕ, zero, suc, ◌+◌, List, [], ◌∷◌, inl, Some, refl, sym, ap, ◌∙◌, subst, arith, length, map, Bool, true, false, cond, not}
+use Rattle.std.specs.Prelude.{slice_get, nat_lt}
+use Rattle.std.proofs.lemmas.Bool.{ltb-true}
+use Rattle.orc_rules.specs.Timed.{IsIn}
 use Rattle.orc_rules.specs.Nodes.{Listing, code, source}
 use Rattle.orc_rules.specs.Sites.{Site}
 use Rattle.orc_rules.specs.Journal.{Journal, begin}
 use Rattle.orc_names.specs.Scopes.{close, env_of}
 use Rattle.orc_ledger.specs.Same.{weight, only, None}
 use Rattle.orc_ledger.specs.Spelling.{Row, stands, pends, Numbered, right_of, left_of, seen}
-use Rattle.orc_ledger.specs.Records.{Records, Lawful, context, its_path, path, rows_of, sides_of, token_row, call_row, side_at, group_side, is_over, is_settled, has_left, standing, token_out, call_out, group_out, step_out, has_serial, counts}
+use Rattle.orc_ledger.specs.Records.{Records, Lawful, context, its_path, path, rows_of, sides_of, token_row, call_row, side_at, group_side, is_over, is_settled, has_left, standing, token_out, call_out, group_out, step_out, entered_out, has_serial, counts}
 use Rattle.orc_ledger.specs.Calls.{Closes}
+use Rattle.orc_ledger.specs.Next.{AreGrouped, numbers_of, IsSide}
+use Rattle.orc_ledger.specs.declared.records.Entered.{Entered}
+use Rattle.orc_ledger.specs.declared.records.Entered.TheVariants.{Feed, Aid, Try}
+use Rattle.orc_ledger.specs.declared.records.Step.{Step}
 use Rattle.orc_ledger.specs.declared.records.Token.{Token}
 use Rattle.orc_ledger.specs.declared.records.Call.{Call}
 use Rattle.orc_ledger.specs.declared.records.Side.{Side}
 use Rattle.orc_ledger.specs.declared.records.Side.TheVariants.{Right, Left}
 use Rattle.orc_ledger.specs.declared.records.Group.{Group}
-use Rattle.orc_ledger.proofs.Weight.{weight-append, weight-map, weight-filter, weight-same}
+use Rattle.orc_ledger.proofs.Weight.{weight-append, weight-map, weight-filter, weight-same, none-in}
 
 module _ (l : Listing) (sites : List Site) (s : Records) (L : Lawful l sites s) (g : Group) (over : is_over (code l) s g.side ≡ true) (s' : Records) (T : Closes s s' g) where
   path_same : (j : ℕ) → its_path (code l) s' j ≡ its_path (code l) s j
@@ -87,3 +94,30 @@ module _ (l : Listing) (sites : List Site) (s : Records) (L : Lawful l sites s) 
         small = omega (arith, T.limit, L.small);
         counted = omega (arith, L.counted, T.mark, T.entries);
       }
+
+-- a step that is there is none of the bad ones
+none-got : {X : Type 0} (bad : X → Bool) (xs : List X) (k : ℕ) (x : X) → None bad xs → slice_get xs k ≡ Some x → bad x ≡ false
+none-got bad [] k x h got = cc got
+none-got bad (y ∷ xs) zero x h got = ap bad (sym (same y x got)) ∙ none-in bad (y ∷ xs) y h (inl refl)
+  where
+    same : {X : Type 0} (a b : X) → Some a ≡ Some b → a ≡ b
+    same a b e = cc e
+none-got bad (y ∷ xs) (suc k) x h got = none-got bad xs k x (omega (arith, h)) got
+
+-- where an otherwise is open, marks were given out
+pub mark-later : (l : Listing) (sites : List Site) (s : Records) (L : Lawful l sites s) (G : AreGrouped (numbers_of s) s) (g : Group) → IsIn g s.groups → (n f scope : ℕ) → g.side ≡ Left n f scope → 1 ≤ s.next_mark
+mark-later l sites s L G g i n f scope side =
+    let d = G.sides g i in
+    by_entered (Step.entered d.2) g.side refl side d.8 (none-got (step_out (length s.scopes) s.next_mark) s.steps d.1 d.2 L.sound.steps d.6)
+  where
+    later : (m : ℕ) (b : Bool) → nat_lt m s.next_mark ≡ b → not b ≡ false → 1 ≤ s.next_mark
+    later m true e h = omega (arith, ltb-true m s.next_mark e)
+    later m false e h = cc h
+
+    by_entered : (e : Entered) (k : Side) → g.side ≡ k → k ≡ Left n f scope → IsSide e k → entered_out (length s.scopes) s.next_mark e ≡ false → 1 ≤ s.next_mark
+    by_entered (Try m) (Left a h sc) is at fit out = later m (nat_lt m s.next_mark) refl out
+    by_entered (Try m) (Right c) is at fit out = elim fit [ ]
+    by_entered (Aid c) (Right d) is at fit out = cc at
+    by_entered (Aid c) (Left a h sc) is at fit out = elim fit [ ]
+    by_entered (Feed x h sc) (Right d) is at fit out = elim fit [ ]
+    by_entered (Feed x h sc) (Left a j d) is at fit out = elim fit [ ]

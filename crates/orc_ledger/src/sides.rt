@@ -1,25 +1,26 @@
 //! Sides that end: the right side of a cell that is bound or lost, and the left side of an otherwise.
 
-ghost use Rattle.std.specs.Prelude.{◌≡◌, ◌++◌, ◌∷◌, [], ◌<◌, ℕ, true, length, map, slice_index_or, OnOk, OnErr, IfErr, slice_set};
+ghost use Rattle.std.specs.Prelude.{◌≡◌, ◌++◌, ◌∷◌, [], ◌<◌, ℕ, true, length, map, slice_index_or, false, IfOk, OnOk, OnErr, IfErr, slice_set};
 ghost use Rattle.orc_rules.specs.Nodes.{code};
 ghost use Rattle.orc_rules.specs.Term.{param};
 ghost use Rattle.orc_rules.specs.declared.param.Param.TheVariants.{Is};
 ghost use Rattle.orc_rules.specs.declared.entry.Entry.TheVariants.{Bind, Cancel, Lost};
 ghost use Rattle.orc_rules.specs.Timed.{IsIn};
 ghost use Rattle.orc_ledger.specs.Next.{members, numbers_of};
-ghost use Rattle.orc_ledger.specs.declared.records.Side.TheVariants.{Right};
+ghost use Rattle.orc_ledger.specs.declared.records.Side.TheVariants.{Left, Right};
+ghost use Rattle.orc_ledger.specs.declared.records.Standing.TheVariants.{At};
 ghost use Rattle.orc_ledger.specs.Same.{weight, but};
 ghost use Rattle.orc_ledger.specs.Tokens.{live, IsHeld};
 ghost use Rattle.orc_ledger.specs.declared.records.Token.{Token as Its};
 ghost use Rattle.orc_ledger.specs.Spelling.{Path, aiding};
 ghost use Rattle.orc_ledger.specs.Taking.{taker};
-ghost use Rattle.orc_ledger.specs.Records.{its_env, its_path, standing, is_over};
-ghost use Rattle.orc_ledger.specs.Calls.{Drops, Closes, AreCancelled, IsRefused};
+ghost use Rattle.orc_ledger.specs.Records.{its_env, its_path, standing, is_over, has_left};
+ghost use Rattle.orc_ledger.specs.Calls.{Drops, Closes, Resumes, AreCancelled, IsRefused};
 ghost use Rattle.orc_ledger.specs.Homes.{aids};
 ghost use Rattle.orc_ledger.specs.Inside.{step_at, held_inside, stands_inside, side_inside, groups_outside, numbers_inside};
 
 use crate::ledger::{Ledger, LedgerFault, Program, push_within, reserve, write};
-use crate::records::{Call, Entered, Group, Side, Step, Token};
+use crate::records::{Call, Entered, Group, Side, Standing, Step, Token};
 use crate::tokens::Tokens;
 use orc_journal::Journal;
 use orc_names::Bound;
@@ -208,5 +209,39 @@ impl<P: Program> Ledger<P> {
         ensures { Closes self.old self.new group }
     {
         self.groups.swap_remove(index);
+    }
+    /// The left side of an otherwise has halted, and no publication has left it: nothing is left in it. A token stands on the right side. Gives
+    /// its slot.
+    pub fn right(
+        &mut self,
+        index: usize,
+        group: Group,
+        number: u64,
+        node: usize,
+        scope: usize,
+    ) -> Result<usize, LedgerFault>
+        requires there { index < length self.old.groups }
+        requires is { group ≡ slice_index_or self.old.groups index group }
+        requires side { group.side ≡ Left number node scope }
+        requires stays { has_left self.old.steps number ≡ false }
+        requires empty { members (numbers_of self.old) self.old group.number ≡ 0 }
+        ensures done { IfOk result (λ _. Resumes self.old self.new group number node scope) }
+        ensures held { IfOk result (λ slot. IsHeld self.new.slots slot (record { serial = self.old.next_mark; standing = At node scope; step = group.outer })) }
+        ensures refused { OnErr result (self.new ≡ self.old) }
+        ensures why { IfErr result (λ fault. IsRefused self.old 1 0 0 fault) }
+    {
+        self.within(1, 0, 0)?;
+        self.tokens.reserve()?;
+        let mark = self.next_mark;
+        write(&mut self.journal, &Entry::Right(number, mark))?;
+        self.entries += 1;
+        self.next_mark = mark + 1;
+        let _left = self.groups.swap_remove(index);
+        let slot = self.tokens.add(Token {
+            serial: mark,
+            standing: Standing::At(node, scope),
+            step: group.outer,
+        });
+        Ok(slot)
     }
 }
