@@ -16,6 +16,8 @@ mod parts;
 #[cfg(test)]
 mod programs;
 #[cfg(test)]
+mod pushes;
+#[cfg(test)]
 mod replays;
 #[cfg(test)]
 mod scope_rows;
