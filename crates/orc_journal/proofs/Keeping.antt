@@ -19,11 +19,11 @@ use Rattle.orc_journal.specs.declared.journal.Version.{Version}
 -- ---- parts
 
 parts_kept : (ws more : List Parts) (r : Row) → IsThere ws r → parts_in (ws ++ more) r ≡ parts_in ws r
-parts_kept ws more (Narrow kind a b c) there = refl
+parts_kept ws more (Narrow _ a b c) there = refl
 parts_kept ws more (Wide at) there = get_or_append_left ws more no_parts at there
 
 there_kept : (ws more : List Parts) (r : Row) → IsThere ws r → IsThere (ws ++ more) r
-there_kept ws more (Narrow kind a b c) there = tt
+there_kept ws more (Narrow _ a b c) there = tt
 there_kept ws more (Wide at) there = omega (arith, there, length-append ws more)
 
 -- ---- calls

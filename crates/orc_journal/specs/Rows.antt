@@ -98,7 +98,7 @@ IsPlaced t kinds.Call at = HasCall t at
 IsPlaced t _ at = Unit {0}
 
 abbrev pub IsThere : List Parts → Row → Type 0
-IsThere wides (Narrow kind a b c) = Unit {0}
+IsThere wides (Narrow _ a b c) = Unit {0}
 IsThere wides (Wide at) = at < length wides
 
 abbrev pub ArePlaced : Contents → Parts → Type 0
