@@ -153,8 +153,8 @@ impl Journal {
         Ok(())
     }
 
-    // Keeps the first entries alone.
-    fn truncate(&mut self, len: usize)
+    /// Keeps the first `len` entries alone, all where there are no more. What the others took stays reserved.
+    pub fn truncate(&mut self, len: usize)
         ensures { self.new ≡ record { version = self.old.version; entries = take len self.old.entries } }
     {
         self.rows.truncate(len);

@@ -129,7 +129,11 @@ names (entry.Bind s c v) = Some (s, Bind c v)
 names (entry.Publish s v) = Some (s, Publish v)
 names _ = None
 
+-- the term is a call of site m with these arguments
+abbrev pub IsCall : ℕ → List Value → Term → Type 0
+IsCall m args u = (ps : List Param) × (values_of ps ≡ Some args) × (u ≡ site m ps)
+
 -- a call has the site and the arguments of the term
 abbrev pub Asks : Entry → Term → Type 0
-Asks (entry.Call s k m args) u = (ps : List Param) × (values_of ps ≡ Some args) × (u ≡ site m ps)
+Asks (entry.Call s k m args) u = IsCall m args u
 Asks _ u = Unit {0}

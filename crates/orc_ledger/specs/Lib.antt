@@ -11,6 +11,7 @@ pub mod Next
 pub mod Parameters
 pub mod PendingCalls
 pub mod Records
+pub mod Requests
 pub mod Same
 pub mod Spelling
 pub mod Spoken

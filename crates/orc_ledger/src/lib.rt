@@ -11,6 +11,7 @@ mod next;
 mod pending;
 mod publications;
 mod records;
+mod requests;
 mod sides;
 mod taking;
 mod time;

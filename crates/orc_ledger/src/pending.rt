@@ -247,11 +247,12 @@ impl Pending {
         self.items.len()
     }
 
-    /// How many calls were made.
-    pub(crate) fn made(&self) -> usize
-        ensures { result ≡ self.now.made }
+    /// The number of the call that comes next, from 1.
+    pub(crate) fn next_number(&self) -> u64
+        ensures { result ≡ self.now.made + 1 }
     {
-        self.places.len()
+        let places = self.places.as_slice();
+        places.len() as u64 + 1
     }
 
     /// The call with this number.

@@ -1,0 +1,81 @@
+use Rattle.std.proofs.Common.{◌≡◌, ◌<◌, ◌+◌, [], ◌∷◌, refl, ap, arith}
+use Rattle.orc_rules.specs.declared.entry.Entry.TheVariants as entry
+use Rattle.orc_rules.specs.Nodes.{code}
+use Rattle.orc_rules.specs.Sites.{find}
+use Rattle.orc_rules.specs.Timed.{nth_of}
+use Rattle.orc_ledger.specs.Same.{weight}
+use Rattle.orc_ledger.specs.Records.{Records}
+use Rattle.orc_ledger.specs.Calls.{Exchanges}
+use Rattle.orc_ledger.specs.Doing.{IsCall, term_of}
+use Rattle.orc_ledger.specs.Requests.{IsMade}
+use Rattle.orc_ledger.specs.Tokens.{live, IsHeld}
+use Rattle.orc_ledger.specs.declared.records.Call.{Call}
+use Rattle.orc_ledger.proofs.Asked.{found-there, called-kept}
+use Rattle.orc_ledger.proofs.Slots.{live-in, removed}
+use Rattle.orc_ledger.proofs.ledger.Ledger.call.Goals as goal
+
+pub invariant_of-self-2 : goal.invariant_of-self-2
+invariant_of-self-2 g c =
+    let b = c.self.inside in
+    let a = c.args in
+    let l = g.P.Program.listing in
+    let sites = g.P.Program.sites in
+    let K = c.self.invariant in
+    let s : Records = record { limit = b.limit; journal = b.journal.entries; entries = b.entries; next_mark = b.next_mark; now = b.time; made = b.calls.made; tokens = live b.tokens.items; slots = b.tokens.items; calls = b.calls.items; scopes = b.scopes.items; steps = b.steps.items; groups = b.groups.items; cells = b.cells.items } in
+    let held : IsHeld s.slots a.slot a.token = rw (← c.self.view_is) at c.requires.held in
+    let m = c.ask-site.result in
+    let args = c.ask-site.new.args in
+    let asks : IsCall m args (term_of (code l) s a.token) = rw (← c.self.view_is) at c.ask-site.ensures in
+    let made : Call = record { number = c.next_number.result; found = c.found.result; made_at = b.time; step = a.token.step } in
+    let found : made.found ≡ find sites m args (nth_of m args K.lawful.place.calls) = found-there l sites b.counts s K a.answers.now.sites c.requires.answers m args made.found c.found.ensures in
+    let e = entry.Call a.token.serial made.number m args in
+    let s' : Records = record { limit = b.limit; journal = c.write_call.new.journal.entries; entries = b.entries + 1; next_mark = b.next_mark; now = b.time; made = c.add.new.self.made; tokens = live c.remove.new.self.items; slots = c.remove.new.self.items; calls = c.add.new.self.items; scopes = b.scopes.items; steps = b.steps.items; groups = b.groups.items; cells = b.cells.items } in
+    let T : Exchanges s s' (a.token ∷ []) [] [] (made ∷ []) 1 e = record {
+      limit = refl;
+      journal = ap (λ j. j.entries) c.in_ok-write_call.ensures.added;
+      entries = refl;
+      mark = omega arith;
+      now = refl;
+      made_so = omega (arith, c.add.ensures.made, c.in-Ok.ensures.made);
+      tokens = λ w. omega (arith, ap (λ z. weight w (live z)) c.remove.ensures.items.2, removed w s.slots a.slot a.token c.remove.ensures.items.0 held c.remove.ensures.items.1);
+      calls = λ w. omega (arith, c.add.ensures.added w, ap (weight w) c.in-Ok.ensures.items);
+      groups = refl;
+      scopes = refl;
+      steps = refl;
+      cells = refl;
+    } in
+    let room : s.entries < s.limit = rw (← c.self.view_is) at c.in_ok-within.ensures.room in
+    called-kept l sites b.counts s K a.answers.now.sites c.requires.answers m args a.token (live-in s.slots a.slot a.token held) asks room made c.next_number.ensures found s' refl refl T c.write_call.new.counts c.in_ok-write_call.ensures.counted
+
+pub returns-clause-done : goal.returns-clause-done
+returns-clause-done g c =
+    let b = c.self.inside in
+    let a = c.args in
+    let l = g.P.Program.listing in
+    let sites = g.P.Program.sites in
+    let K = c.self.invariant in
+    let s : Records = record { limit = b.limit; journal = b.journal.entries; entries = b.entries; next_mark = b.next_mark; now = b.time; made = b.calls.made; tokens = live b.tokens.items; slots = b.tokens.items; calls = b.calls.items; scopes = b.scopes.items; steps = b.steps.items; groups = b.groups.items; cells = b.cells.items } in
+    let held : IsHeld s.slots a.slot a.token = rw (← c.self.view_is) at c.requires.held in
+    let m = c.ask-site.result in
+    let args = c.ask-site.new.args in
+    let asks : IsCall m args (term_of (code l) s a.token) = rw (← c.self.view_is) at c.ask-site.ensures in
+    let made : Call = record { number = c.next_number.result; found = c.found.result; made_at = b.time; step = a.token.step } in
+    let found : made.found ≡ find sites m args (nth_of m args K.lawful.place.calls) = found-there l sites b.counts s K a.answers.now.sites c.requires.answers m args made.found c.found.ensures in
+    let e = entry.Call a.token.serial made.number m args in
+    let s' : Records = record { limit = b.limit; journal = c.write_call.new.journal.entries; entries = b.entries + 1; next_mark = b.next_mark; now = b.time; made = c.add.new.self.made; tokens = live c.remove.new.self.items; slots = c.remove.new.self.items; calls = c.add.new.self.items; scopes = b.scopes.items; steps = b.steps.items; groups = b.groups.items; cells = b.cells.items } in
+    let T : Exchanges s s' (a.token ∷ []) [] [] (made ∷ []) 1 e = record {
+      limit = refl;
+      journal = ap (λ j. j.entries) c.in_ok-write_call.ensures.added;
+      entries = refl;
+      mark = omega arith;
+      now = refl;
+      made_so = omega (arith, c.add.ensures.made, c.in-Ok.ensures.made);
+      tokens = λ w. omega (arith, ap (λ z. weight w (live z)) c.remove.ensures.items.2, removed w s.slots a.slot a.token c.remove.ensures.items.0 held c.remove.ensures.items.1);
+      calls = λ w. omega (arith, c.add.ensures.added w, ap (weight w) c.in-Ok.ensures.items);
+      groups = refl;
+      scopes = refl;
+      steps = refl;
+      cells = refl;
+    } in
+    let is_made : IsMade l sites s a.token made s' = record { site = m; args = args; asks = asks; number = c.next_number.ensures; step = refl; made_at = refl; place = K.lawful.place; at = K.lawful.leads; found = found; exchanges = T } in
+    rw (← c.self.view_is) is_made

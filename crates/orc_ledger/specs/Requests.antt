@@ -1,0 +1,28 @@
+-- Calls of sites that are made.
+use Rattle.std.specs.Prelude.{◌≡◌, ◌+◌, ℕ, List, [], ◌∷◌}
+use Rattle.orc_rules.specs.declared.value.Value.{Value}
+use Rattle.orc_rules.specs.declared.entry.Entry.TheVariants as entry
+use Rattle.orc_rules.specs.Nodes.{Listing, code}
+use Rattle.orc_rules.specs.Sites.{Site, find}
+use Rattle.orc_rules.specs.Timed.{nth_of}
+use Rattle.orc_rules.specs.Journal.{Place}
+use Rattle.orc_ledger.specs.Records.{Records}
+use Rattle.orc_ledger.specs.Calls.{Exchanges}
+use Rattle.orc_ledger.specs.Answers.{IsAt}
+use Rattle.orc_ledger.specs.Doing.{IsCall, term_of}
+use Rattle.orc_ledger.specs.declared.records.Token.{Token}
+use Rattle.orc_ledger.specs.declared.records.Call.{Call}
+
+-- token t makes call c, which pends in its place
+pub record IsMade (l : Listing) (sites : List Site) (s : Records) (t : Token) (c : Call) (s' : Records) : Type 0 where
+  pub site : ℕ
+  pub args : List Value
+  pub asks : IsCall site args (term_of (code l) s t)
+  pub number : c.number ≡ s.made + 1
+  pub step : c.step ≡ t.step
+  pub made_at : c.made_at ≡ s.now
+  -- the table's word, by the calls that the journal has
+  pub place : Place
+  pub at : IsAt l sites s place
+  pub found : c.found ≡ find sites site args (nth_of site args place.calls)
+  pub exchanges : Exchanges s s' (t ∷ []) [] [] (c ∷ []) 1 (entry.Call t.serial c.number site args)

@@ -1,0 +1,158 @@
+//! Calls of sites: a token makes one, and it pends.
+
+ghost use Rattle.std.specs.Prelude.{◌≡◌, ◌≤◌, ◌++◌, ◌∷◌, [], ℕ, List, Some, length, IfOk, IfErr, MatchOption, OnOk, OnErr};
+ghost use Rattle.orc_rules.specs.Nodes.{code, definitions};
+ghost use Rattle.orc_rules.specs.Term.{values_of};
+ghost use Rattle.orc_rules.specs.declared.entry.Entry.TheVariants.{Call as Calls};
+ghost use Rattle.orc_rules.specs.declared.limits.TheConstants.{MOST_ARGUMENTS};
+ghost use Rattle.orc_rules.specs.declared.value.Value.{Value};
+ghost use Rattle.orc_names.specs.Names.{AreOrdered};
+ghost use Rattle.orc_names.specs.Scopes.{env_of};
+ghost use Rattle.orc_calls.specs.Counting.{CountsCall};
+ghost use Rattle.orc_ledger.specs.Answers.{Pends};
+ghost use Rattle.orc_ledger.specs.Calls.{IsRefused, has_number};
+ghost use Rattle.orc_ledger.specs.Doing.{IsCall, closed, term_of, what_of};
+ghost use Rattle.orc_ledger.specs.Requests.{IsMade};
+ghost use Rattle.orc_ledger.specs.Same.{weight};
+ghost use Rattle.orc_ledger.specs.Tokens.{IsHeld};
+
+use crate::ledger::{Ledger, LedgerFault, Program};
+use crate::records::{Call, Standing, Token};
+use crate::what::What;
+use orc_calls::Counts;
+use orc_graph::{Graph, Node};
+use orc_journal::Journal;
+use orc_names::{Bound, Scope, meaning};
+use orc_rules::answers::Answers;
+use orc_rules::param::Operand;
+use orc_rules::value::Args;
+
+// Puts the values of operands into `args`. Each operand has one.
+fn put_values(
+    scopes: &[Scope],
+    cells: &[Bound],
+    operands: &[Operand],
+    scope: usize,
+    args: &mut Args,
+)
+    requires ordered { AreOrdered scopes.now }
+    requires few { length operands.now ≤ MOST_ARGUMENTS }
+    requires values { (vs : List Value) × (values_of (closed (env_of cells.now scopes.now scope) operands.now) ≡ Some vs) }
+    ensures { values_of (closed (env_of cells.now scopes.now scope) operands.now) ≡ Some args.new }
+{
+    args.clear();
+    for operand in operands {
+        match meaning(scopes, cells, *operand, scope) {
+            Some(Bound::Is(value)) => args.push(value),
+            Some(Bound::Cell(_)) => unreachable!(),
+            Some(Bound::Void) => unreachable!(),
+            None => unreachable!(),
+        }
+    }
+}
+
+// Writes a call and counts it. Where memory is refused nothing changes.
+fn write_call(
+    journal: &mut Journal,
+    counts: &mut Counts,
+    answers: &Answers,
+    token: u64,
+    call: u64,
+    site: u32,
+    args: &Args,
+) -> Result<(), LedgerFault>
+    ensures added { OnOk result (journal.new ≡ record { version = journal.old.version; entries = journal.old.entries ++ Calls token call site args.now ∷ [] }) }
+    ensures counted { OnOk result (CountsCall answers.now.sites site args.now counts.old counts.new) }
+    ensures refused { OnErr result ((journal.new ≡ journal.old) × (counts.new ≡ counts.old)) }
+    ensures why { IfErr result (λ fault. fault ≡ LedgerFault.Memory) }
+{
+    let entries = journal.len();
+    match journal.push_call(token, call, site, args.as_slice()) {
+        Ok(()) => {}
+        Err(_) => return Err(LedgerFault::Memory),
+    }
+    match counts.add(answers, site, args) {
+        Ok(()) => Ok(()),
+        Err(_) => {
+            journal.truncate(entries);
+            Err(LedgerFault::Memory)
+        }
+    }
+}
+
+impl<P: Program> Ledger<P> {
+    // The site that a token calls. Its arguments are put into `args`.
+    fn ask(&self, graph: &Graph, token: Token, args: &mut Args) -> u32
+        requires graph { graph.now ≡ P.listing }
+        requires calls { what_of (code P.listing) (definitions P.listing) self.now token ≡ What.Call }
+        ensures { IsCall result args.new (term_of (code P.listing) self.now token) }
+    {
+        let Standing::At(node, scope) = token.standing else {
+            unreachable!()
+        };
+        let Node::Site(site, list) = graph.node(node) else {
+            unreachable!()
+        };
+        put_values(
+            &self.scopes,
+            &self.cells,
+            graph.operands(list as usize),
+            scope,
+            args,
+        );
+        site
+    }
+
+    /// A call of a site with values: it pends where the token was. Gives its record. `args` is lent for the arguments: they stand in it then, and
+    /// what it held is lost.
+    pub fn call(
+        &mut self,
+        graph: &Graph,
+        answers: &Answers,
+        slot: usize,
+        token: Token,
+        args: &mut Args,
+    ) -> Result<Call, LedgerFault>
+        requires graph { graph.now ≡ P.listing }
+        requires answers { answers.now.sites ≡ P.sites }
+        requires held { IsHeld self.old.slots slot token }
+        requires calls { what_of (code P.listing) (definitions P.listing) self.old token ≡ What.Call }
+        ensures done { IfOk result (λ c. IsMade P.listing P.sites self.old token c self.new) }
+        ensures args { IfOk result (λ _. (m : ℕ) × IsCall m args.new (term_of (code P.listing) self.old token)) }
+        ensures refused { OnErr result (self.new ≡ self.old) }
+        ensures why { IfErr result (λ fault. IsRefused self.old 0 0 0 fault) }
+    {
+        self.within(0, 0, 0)?;
+        let site = self.ask(graph, token, args);
+        let call = Call {
+            number: self.calls.next_number(),
+            found: self.counts.found(answers, site, args),
+            made_at: self.time,
+            step: token.step,
+        };
+        match self.calls.reserve(call) {
+            Ok(()) => {}
+            Err(_) => return Err(LedgerFault::Memory),
+        }
+        write_call(
+            &mut self.journal,
+            &mut self.counts,
+            answers,
+            token.serial,
+            call.number,
+            site,
+            args,
+        )?;
+        self.entries += 1;
+        self.tokens.remove(slot);
+        self.calls.add(call);
+        Ok(call)
+    }
+
+    /// The call that pends with this number.
+    pub fn pending(&self, number: u64) -> Option<Call>
+        ensures { MatchOption result (weight (has_number number) self.now.calls ≡ 0) (Pends self.now number) }
+    {
+        self.calls.get(number)
+    }
+}
