@@ -96,7 +96,7 @@ module _ (l : Listing) (sites : List Site) (s : Records) (L : Lawful l sites s) 
       }
 
 -- a step that is there is none of the bad ones
-none-got : {X : Type 0} (bad : X → Bool) (xs : List X) (k : ℕ) (x : X) → None bad xs → slice_get xs k ≡ Some x → bad x ≡ false
+pub none-got : {X : Type 0} (bad : X → Bool) (xs : List X) (k : ℕ) (x : X) → None bad xs → slice_get xs k ≡ Some x → bad x ≡ false
 none-got bad [] k x h got = cc got
 none-got bad (y ∷ xs) zero x h got = ap bad (sym (same y x got)) ∙ none-in bad (y ∷ xs) y h (inl refl)
   where

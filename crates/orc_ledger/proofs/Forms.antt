@@ -1,18 +1,20 @@
 -- What a token does, by the form of the node at which it stands.
-use Rattle.std.proofs.Common.{◌≡◌, ◌<◌, ◌≤◌, ◌+◌, ℕ, zero, suc, List, [], ◌∷◌, ◌++◌, refl, sym, ap, ◌∙◌, map, length, get_or, arith, length-append, Bool, true, false, cond, Option, Some, None}
+use Rattle.std.proofs.Common.{◌≡◌, ◌<◌, ◌+◌, ℕ, List, [], ◌∷◌, ◌++◌, refl, sym, ap, ◌∙◌, map, length, get_or, arith, length-append, Bool, true, false, Option, Some, None}
 use Rattle.std.specs.Prelude.{slice_get, option_map}
 use Rattle.std.proofs.lemmas.List.{get_or_past}
 use Rattle.orc_rules.specs.declared.value.Value.{Value}
 use Rattle.orc_rules.specs.declared.param.Param.{Param}
 use Rattle.orc_rules.specs.declared.param.Param.TheVariants as is
 use Rattle.orc_rules.specs.Term.{Term, stop, param, site, call, par, seq, prune, other, Definition, values_of}
+use Rattle.orc_rules.specs.Nodes.{Listing, Routine, definitions, definition_of}
 use Rattle.orc_rules.specs.Idle.{has_void}
 use Rattle.orc_names.specs.Scopes.{Env, close, close_param}
+use Rattle.orc_graph.proofs.Runs.{map_get}
 use Rattle.orc_names.proofs.Closing.{close-stop, close-par, close-other, close-seq, close-prune}
 use Rattle.orc_names.proofs.Scopes.{close-of-param, close-site, close-call}
 use Rattle.orc_ledger.specs.Spelling.{Path, whole}
 use Rattle.orc_ledger.specs.Records.{inwards, paths_from, path}
-use Rattle.orc_ledger.specs.Doing.{first_cell, what_site, or_zero, or_else, scan, of_param, what_def, what_by}
+use Rattle.orc_ledger.specs.Doing.{first_cell, what_site, or_else, scan, of_param, what_def, what_by}
 use Rattle.orc_ledger.specs.declared.records.Step.{Step}
 use Rattle.orc_ledger.specs.declared.what.What.{What}
 use Rattle.orc_ledger.specs.declared.what.What.TheVariants.{Halt, Fork, Seq, Prune, Other, Def, Void, Call, Wait}
@@ -93,6 +95,21 @@ module _ (defs : List Definition) (p : Path) (e : Env) (t : Term) where
 
   pub at-other : (f g : Term) → t ≡ other f g → Other ≡ its t
   at-other f g h = sym (ap its h ∙ ap (what_by defs p) (close-other e f g))
+
+-- a definition of the program is there exactly where the graph has its body
+pub defined : (l : Listing) (e : ℕ) (n : ℕ) → option_map (λ (r : Routine). r.body) (slice_get l.routines e) ≡ Some n → what_def (slice_get (definitions l) e) ≡ Def
+defined l e n h = go (slice_get l.routines e) refl h
+  where
+    go : (o : Option Routine) → slice_get l.routines e ≡ o → option_map (λ (r : Routine). r.body) o ≡ Some n → what_def (slice_get (definitions l) e) ≡ Def
+    go (Some r) f k = ap what_def (map_get (definition_of l) l.routines e ∙ ap (option_map (definition_of l)) f)
+    go None f k = cc k
+
+pub undefined : (l : Listing) (e : ℕ) → option_map (λ (r : Routine). r.body) (slice_get l.routines e) ≡ None → what_def (slice_get (definitions l) e) ≡ Wait 0
+undefined l e h = go (slice_get l.routines e) refl h
+  where
+    go : (o : Option Routine) → slice_get l.routines e ≡ o → option_map (λ (r : Routine). r.body) o ≡ None → what_def (slice_get (definitions l) e) ≡ Wait 0
+    go (Some r) f k = cc k
+    go None f k = ap what_def (map_get (definition_of l) l.routines e ∙ ap (option_map (definition_of l)) f)
 
 -- ---- past the last step stands no path
 module _ (code : ℕ → Term) (env : ℕ → Env) where

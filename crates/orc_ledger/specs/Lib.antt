@@ -1,4 +1,5 @@
 pub mod Answers
+pub mod Awaiting
 pub mod Begun
 pub mod Calls
 pub mod Doing
@@ -7,6 +8,7 @@ pub mod Homes
 pub mod Inside
 pub mod Kept
 pub mod Laws
+pub mod Moves
 pub mod Next
 pub mod Parameters
 pub mod PendingCalls

@@ -4,6 +4,8 @@ use Rattle.orc_rules.specs.Term.{Term}
 use Rattle.orc_names.specs.Scopes.{Env, close, without}
 use Rattle.orc_ledger.specs.Spelling.{Path, whole, feeding, aiding, trying, seen}
 use Rattle.orc_ledger.specs.Records.{path}
+use Rattle.orc_ledger.specs.declared.records.Entered.{Entered}
+use Rattle.orc_ledger.specs.declared.records.Entered.TheVariants.{Feed, Aid}
 use Rattle.orc_ledger.specs.declared.records.Step.{Step}
 use Rattle.orc_ledger.specs.declared.taking.Taker.{Taker}
 use Rattle.orc_ledger.specs.declared.taking.Taker.TheVariants as by
@@ -26,7 +28,7 @@ AreOutwards steps = (k : ℕ) (p : Step) → slice_get steps k ≡ Some p → p.
 abbrev pub Takes : (ℕ → Term) → (ℕ → Env) → (ℕ → Bool) → List Step → ℕ → Taker → Type 0
 Takes code env left steps from by.Whole = taker (seen left (path code env steps from)) ≡ whole
 Takes code env left steps from (by.Feed x node scope outer) = taker (seen left (path code env steps from)) ≡ feeding x (close (without x (env scope)) (code node)) (seen left (path code env steps outer))
-Takes code env left steps from (by.Aid c) = (p : Path) × (taker (seen left (path code env steps from)) ≡ aiding c p)
+Takes code env left steps from (by.Aid c outer) = taker (seen left (path code env steps from)) ≡ aiding c (seen left (path code env steps outer))
 
 -- the same whatever the names stand for and whatever has been left
 abbrev pub GoesTo : List Step → ℕ → Taker → Type 0
@@ -50,4 +52,14 @@ reach ss (suc n) i = outer_at ss (reach ss n i)
 abbrev pub IsOnWay : List Step → ℕ → Taker → Type 0
 IsOnWay steps from by.Whole = Unit {0}
 IsOnWay steps from (by.Feed x node scope outer) = (n : ℕ) × (reach steps n from ≡ outer)
-IsOnWay steps from (by.Aid c) = Unit {0}
+IsOnWay steps from (by.Aid c outer) = Unit {0}
+
+-- a step enters this, from that outer step
+abbrev pub HasStep : List Step → Entered → ℕ → Type 0
+HasStep steps e outer = (k : ℕ) × (p : Step) × (slice_get steps k ≡ Some p) × (p.entered ≡ e) × (p.outer ≡ outer)
+
+-- what takes a publication is entered by a step
+abbrev pub IsEntered : List Step → Taker → Type 0
+IsEntered steps by.Whole = Unit {0}
+IsEntered steps (by.Feed x node scope outer) = HasStep steps (Feed x node scope) outer
+IsEntered steps (by.Aid c outer) = HasStep steps (Aid c) outer

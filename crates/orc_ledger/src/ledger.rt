@@ -215,6 +215,17 @@ impl<P: Program> Ledger<P> {
         }
     }
 
+    /// The token in this slot, if there is one.
+    pub fn held(&self, slot: usize) -> Option<Token>
+        ensures held { IfSome result (λ t. IsHeld self.now.slots slot t × IsIn t self.now.tokens) }
+        ensures none { IfNone result ((t : Its) → IsHeld self.now.slots slot t → ⊥) }
+    {
+        match self.tokens.held(slot) {
+            Some(token) => Some(token),
+            None => None,
+        }
+    }
+
     /// The journal.
     pub fn journal(&self) -> &Journal
         ensures { result.now.entries ≡ self.now.journal }

@@ -1,12 +1,14 @@
 //! The records of a run under one invariant: the journal of what they did leads from the program to a place that they spell.
 #![tactic(auto)]
 
+mod awaiting;
 mod calls;
 mod definitions;
 mod dues;
 mod laws;
 mod ledger;
 mod marks;
+mod moves;
 mod next;
 mod pending;
 mod publications;
@@ -25,6 +27,7 @@ pub use laws::{
     wait_is_still, word_is_allowed, word_is_offered, work_has_cause, work_is_allowed,
 };
 pub use ledger::{Ledger, LedgerFault, Program};
+pub use moves::Moved;
 pub use next::Next;
 pub use records::{Call, Entered, Group, Side, Standing, Step, Token};
 pub use taking::Taker;

@@ -5,18 +5,18 @@ ghost use Rattle.orc_rules.specs.Term.{Term};
 ghost use Rattle.orc_names.specs.Scopes.{Env};
 ghost use Rattle.orc_ledger.specs.Records.{path, has_left};
 ghost use Rattle.orc_ledger.specs.Spelling.{seen};
-ghost use Rattle.orc_ledger.specs.Taking.{GoesTo, IsOnWay, AreOutwards, crossed};
+ghost use Rattle.orc_ledger.specs.Taking.{GoesTo, IsOnWay, IsEntered, AreOutwards, crossed};
 ghost use Rattle.orc_ledger.specs.Calls.{Publishes};
 
 use crate::records::{Entered, Step};
 
 /// What takes a publication: nothing; a `>x>`, with its name, the node and scope of its right side and the step round it; the right side of
-/// a cell.
+/// a cell, with the step round it.
 #[derive(Clone, Copy)]
 pub enum Taker {
     Whole,
     Feed(u32, usize, usize, usize),
-    Aid(u64),
+    Aid(u64, usize),
 }
 
 /// What takes a publication from a step.
@@ -25,13 +25,14 @@ pub(crate) fn find_taker(steps: &[Step], from: usize) -> Taker
     requires outwards { AreOutwards steps.now }
     ensures takes { GoesTo steps.now from result }
     ensures way { IsOnWay steps.now from result }
+    ensures entered { IsEntered steps.now result }
 {
     let mut at = from;
     while at != 0 {
         let step = steps[at - 1];
         match step.entered {
             Entered::Feed(name, node, scope) => return Taker::Feed(name, node, scope, step.outer),
-            Entered::Aid(cell) => return Taker::Aid(cell),
+            Entered::Aid(cell) => return Taker::Aid(cell, step.outer),
             Entered::Try(_) => at = step.outer,
         }
     }

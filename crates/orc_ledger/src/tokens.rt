@@ -119,6 +119,17 @@ impl Tokens {
         }
     }
 
+    /// The token in this slot, if there is one.
+    pub(crate) fn held(&self, slot: usize) -> Option<Token>
+        ensures held { IfSome result (λ t. IsHeld self.now.items slot t) }
+        ensures none { IfNone result ((t : Its) → IsHeld self.now.items slot t → ⊥) }
+    {
+        match self.slots.get(slot) {
+            Some(token) if token.serial > 0 => Some(*token),
+            _ => None,
+        }
+    }
+
     /// Makes room for one more token.
     pub(crate) fn reserve(&mut self) -> Result<(), LedgerFault>
         ensures items { self.new.items ≡ self.old.items }

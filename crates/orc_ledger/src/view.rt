@@ -30,12 +30,12 @@ fn taken_from(steps: &[Step], from: usize, value: Value) -> What
     match find_taker(steps, from) {
         Taker::Whole => What::Publish(value),
         Taker::Feed(_, _, _, _) => What::Send(value),
-        Taker::Aid(cell) => What::Bind(cell, value),
+        Taker::Aid(cell, _) => What::Bind(cell, value),
     }
 }
 
 // What a call of a site does, with these operands still to look at: `waits` where one before them isn't a value, `first` the first cell before them.
-fn call_with(
+pub(crate) fn call_with(
     scopes: &[Scope],
     cells: &[Bound],
     operands: &[Operand],

@@ -33,7 +33,19 @@ pub returns-in-Aid-clause-takes : goal.returns-in-Aid-clause-takes
 returns-in-Aid-clause-takes c code env left =
     let ss : List Step = c.args.steps.now in
     let i = c.loop-at.at in
-    (_, c.loop-at.invariant.way code env left ∙ on-aid ss c.requires.outwards i (get_or ss (i - 1) unread) c.loop-at-test.true (found ss i c.loop-at-test.true c.loop-at.invariant.within) c.in-Aid.cell c.in-Aid.is code env left)
+    c.loop-at.invariant.way code env left ∙ on-aid ss c.requires.outwards i (get_or ss (i - 1) unread) c.loop-at-test.true (found ss i c.loop-at-test.true c.loop-at.invariant.within) c.in-Aid.cell c.in-Aid.is code env left
+
+pub returns-in-Feed-clause-entered : goal.returns-in-Feed-clause-entered
+returns-in-Feed-clause-entered c =
+    let ss : List Step = c.args.steps.now in
+    let i = c.loop-at.at in
+    (i - 1, get_or ss (i - 1) unread, found ss i c.loop-at-test.true c.loop-at.invariant.within, c.in-Feed.is, refl)
+
+pub returns-in-Aid-clause-entered : goal.returns-in-Aid-clause-entered
+returns-in-Aid-clause-entered c =
+    let ss : List Step = c.args.steps.now in
+    let i = c.loop-at.at in
+    (i - 1, get_or ss (i - 1) unread, found ss i c.loop-at-test.true c.loop-at.invariant.within, c.in-Aid.is, refl)
 
 pub loop-at-smaller : goal.loop-at-smaller
 loop-at-smaller c =

@@ -1,35 +1,15 @@
-use Rattle.std.proofs.Common.{◌≡◌, ℕ, List, [], refl, sym, ap, ◌∙◌, map, Option, Some, None, false}
-use Rattle.std.specs.Prelude.{slice_get, option_map, slice_index_or}
+use Rattle.std.proofs.Common.{List, sym, ap, ◌∙◌, None, false}
 use Rattle.orc_rules.specs.declared.param.Operand.{Operand}
-use Rattle.orc_rules.specs.declared.param.Operand.TheVariants as operand
 use Rattle.orc_rules.specs.declared.param.Param.TheVariants as is
-use Rattle.orc_rules.specs.Term.{Term, Definition, call}
-use Rattle.orc_rules.specs.Nodes.{Listing, Routine, code, definitions, definition_of, param_of}
-use Rattle.orc_names.specs.Scopes.{Env, env_of, close, close_param}
+use Rattle.orc_rules.specs.Nodes.{code, definitions}
+use Rattle.orc_names.specs.Scopes.{Env, env_of}
 use Rattle.orc_names.specs.declared.names.Bound.TheVariants as bound
 use Rattle.orc_names.proofs.Scopes.{close-given}
-use Rattle.orc_graph.proofs.Runs.{map_get}
 use Rattle.orc_ledger.specs.Spelling.{Path, seen}
 use Rattle.orc_ledger.specs.Records.{path, has_left}
-use Rattle.orc_ledger.specs.Doing.{of_param, scan, closed, what_def, what_by}
-use Rattle.orc_ledger.specs.declared.what.What.TheVariants.{Def, Wait}
-use Rattle.orc_ledger.proofs.Forms.{at-stop, at-param, at-site, at-call, at-par, at-seq, at-prune, at-other}
+use Rattle.orc_ledger.specs.Doing.{of_param, scan, closed}
+use Rattle.orc_ledger.proofs.Forms.{at-stop, at-param, at-site, at-call, at-par, at-seq, at-prune, at-other, defined, undefined}
 use Rattle.orc_ledger.proofs.view.stand_at.Goals as goal
-
--- a definition of the program is there exactly where the graph has its body
-defined : (l : Listing) (e : ℕ) (n : ℕ) → option_map (λ (r : Routine). r.body) (slice_get l.routines e) ≡ Some n → what_def (slice_get (definitions l) e) ≡ Def
-defined l e n h = go (slice_get l.routines e) refl h
-  where
-    go : (o : Option Routine) → slice_get l.routines e ≡ o → option_map (λ (r : Routine). r.body) o ≡ Some n → what_def (slice_get (definitions l) e) ≡ Def
-    go (Some r) f k = ap what_def (map_get (definition_of l) l.routines e ∙ ap (option_map (definition_of l)) f)
-    go None f k = cc k
-
-free : (l : Listing) (e : ℕ) → option_map (λ (r : Routine). r.body) (slice_get l.routines e) ≡ None → what_def (slice_get (definitions l) e) ≡ Wait 0
-free l e h = go (slice_get l.routines e) refl h
-  where
-    go : (o : Option Routine) → slice_get l.routines e ≡ o → option_map (λ (r : Routine). r.body) o ≡ None → what_def (slice_get (definitions l) e) ≡ Wait 0
-    go (Some r) f k = cc k
-    go None f k = ap what_def (map_get (definition_of l) l.routines e ∙ ap (option_map (definition_of l)) f)
 
 pub returns-in-Stop : goal.returns-in-Stop
 returns-in-Stop c =
@@ -66,7 +46,7 @@ pub returns-in-None : goal.returns-in-None
 returns-in-None c =
     let its : Path = seen (has_left c.args.steps.now) (path (code c.args.graph.now) (env_of c.args.cells.now c.args.scopes.now) c.args.steps.now c.args.from) in
     let env : Env = env_of c.args.cells.now c.args.scopes.now c.args.scope in
-    sym (free c.args.graph.now c.in-Call.definition (sym c.in-None.ensures)) ∙ at-call (definitions c.args.graph.now) its env (code c.args.graph.now c.args.node) _ _ c.in-Call.ensures.term
+    sym (undefined c.args.graph.now c.in-Call.definition (sym c.in-None.ensures)) ∙ at-call (definitions c.args.graph.now) its env (code c.args.graph.now c.args.node) _ _ c.in-Call.ensures.term
 
 pub returns-in-Par : goal.returns-in-Par
 returns-in-Par c =

@@ -1,4 +1,4 @@
-use Rattle.std.proofs.Common.{◌≡◌, ap, sym, ◌∙◌, arith}
+use Rattle.std.proofs.Common.{ap, sym, ◌∙◌, arith}
 use Rattle.orc_ledger.specs.Spelling.{seen}
 use Rattle.orc_ledger.specs.Records.{path}
 use Rattle.orc_ledger.specs.Doing.{taken}
@@ -16,4 +16,4 @@ pub returns-in-Feed : goal.returns-in-Feed
 returns-in-Feed c code env left = sym (taken-taker c.args.value (seen left (path code env c.args.steps.now c.args.from)) ∙ ap (taken c.args.value) (c.in-Feed.ensures.takes code env left))
 
 pub returns-in-Aid : goal.returns-in-Aid
-returns-in-Aid c code env left = sym (taken-taker c.args.value (seen left (path code env c.args.steps.now c.args.from)) ∙ ap (taken c.args.value) ((c.in-Aid.ensures.takes code env left).1))
+returns-in-Aid c code env left = sym (taken-taker c.args.value (seen left (path code env c.args.steps.now c.args.from)) ∙ ap (taken c.args.value) (c.in-Aid.ensures.takes code env left))

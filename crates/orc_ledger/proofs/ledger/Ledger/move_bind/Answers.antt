@@ -1,0 +1,19 @@
+use Rattle.std.proofs.Common.{ap, refl, ◌∙◌}
+use Rattle.orc_ledger.specs.Doing.{taken}
+use Rattle.orc_ledger.specs.declared.what.What.TheVariants.{Bind}
+use Rattle.std.proofs.lemmas.Result.{err_from_is_err_and}
+use Rattle.orc_ledger.proofs.Advancing.{word-value, moves-by, hindered-by}
+use Rattle.orc_ledger.proofs.ledger.Ledger.move_bind.Goals as goal
+
+pub returns-clause-done : goal.returns-clause-done
+returns-clause-done g c =
+    let l = g.P.Program.listing in
+    let a = c.args in
+    moves-by l a.self.now a.token a.slot _ _ _ (Bind a.cell a.value) (word-value l a.self.now a.token a.value c.requires.form ∙ ap (taken a.value) c.requires.takes) (record { done = c.in_ok-bind.ensures.done; journal = c.in_ok-bind.ensures.journal; cancelled = c.in_ok-bind.ensures.cancelled; outer = a.outer; side = c.requires.side; round = c.group_of-group.ensures }, refl)
+
+pub returns-in_err-bind-clause-why : goal.returns-in_err-bind-clause-why
+returns-in_err-bind-clause-why g c =
+    let l = g.P.Program.listing in
+    let a = c.args in
+    let p = err_from_is_err_and c.from_residual.result c.from_residual.ensures.1 in
+    rw (p.1, p.2) (hindered-by l a.self.now a.token _ (Bind a.cell a.value) (word-value l a.self.now a.token a.value c.requires.form ∙ ap (taken a.value) c.requires.takes) c.in_err-bind.ensures.why)

@@ -1,0 +1,49 @@
+use Rattle.std.proofs.Common.{List, ap, subst, arith, length}
+use Rattle.orc_rules.specs.Nodes.{code}
+use Rattle.orc_ledger.specs.Records.{Records, its_env, has_left}
+use Rattle.orc_ledger.specs.Tokens.{live, IsHeld}
+use Rattle.orc_ledger.specs.Taking.{Takes, IsOnWay, IsEntered}
+use Rattle.orc_ledger.specs.declared.records.Step.{Step}
+use Rattle.orc_ledger.proofs.Slots.{live-in}
+use Rattle.orc_ledger.proofs.Advancing.{step-within, is-there}
+use Rattle.orc_ledger.proofs.ledger.Ledger.taker_of.Goals as goal
+
+pub find_taker-requires-clause-within : goal.find_taker-requires-clause-within
+find_taker-requires-clause-within g c =
+    let b = c.self.inside in
+    let a = c.args in
+    let l = g.P.Program.listing in
+    let cd = code l in
+    let s : Records = record { limit = b.limit; journal = b.journal.entries; entries = b.entries; next_mark = b.next_mark; now = b.time; made = b.calls.made; tokens = live b.tokens.items; slots = b.tokens.items; calls = b.calls.items; scopes = b.scopes.items; steps = b.steps.items; groups = b.groups.items; cells = b.cells.items } in
+    let held : IsHeld s.slots c.requires.0 a.token = rw (← c.self.view_is) at c.requires.1 in
+    omega (arith, step-within s c.self.invariant.lawful.sound a.token (live-in s.slots c.requires.0 a.token held), ap length c.deref.ensures.value)
+
+pub returns-clause-takes : goal.returns-clause-takes
+returns-clause-takes g c =
+    let b = c.self.inside in
+    let a = c.args in
+    let l = g.P.Program.listing in
+    let cd = code l in
+    let s : Records = record { limit = b.limit; journal = b.journal.entries; entries = b.entries; next_mark = b.next_mark; now = b.time; made = b.calls.made; tokens = live b.tokens.items; slots = b.tokens.items; calls = b.calls.items; scopes = b.scopes.items; steps = b.steps.items; groups = b.groups.items; cells = b.cells.items } in
+    let went : Takes cd (its_env cd s) (has_left s.steps) s.steps a.token.step c.find_taker.result = subst (λ (ss : List Step). Takes cd (its_env cd s) (has_left s.steps) ss a.token.step c.find_taker.result) c.deref.ensures.value (c.find_taker.ensures.takes cd (its_env cd s) (has_left s.steps)) in
+    rw (← c.self.view_is) went
+
+pub returns-clause-way : goal.returns-clause-way
+returns-clause-way g c =
+    let b = c.self.inside in
+    let a = c.args in
+    let l = g.P.Program.listing in
+    let cd = code l in
+    let s : Records = record { limit = b.limit; journal = b.journal.entries; entries = b.entries; next_mark = b.next_mark; now = b.time; made = b.calls.made; tokens = live b.tokens.items; slots = b.tokens.items; calls = b.calls.items; scopes = b.scopes.items; steps = b.steps.items; groups = b.groups.items; cells = b.cells.items } in
+    let went : IsOnWay s.steps a.token.step c.find_taker.result = subst (λ (ss : List Step). IsOnWay ss a.token.step c.find_taker.result) c.deref.ensures.value c.find_taker.ensures.way in
+    rw (← c.self.view_is) went
+
+pub returns-clause-there : goal.returns-clause-there
+returns-clause-there g c =
+    let b = c.self.inside in
+    let a = c.args in
+    let l = g.P.Program.listing in
+    let cd = code l in
+    let s : Records = record { limit = b.limit; journal = b.journal.entries; entries = b.entries; next_mark = b.next_mark; now = b.time; made = b.calls.made; tokens = live b.tokens.items; slots = b.tokens.items; calls = b.calls.items; scopes = b.scopes.items; steps = b.steps.items; groups = b.groups.items; cells = b.cells.items } in
+    let entered : IsEntered s.steps c.find_taker.result = subst (λ (ss : List Step). IsEntered ss c.find_taker.result) c.deref.ensures.value c.find_taker.ensures.entered in
+    rw (← c.self.view_is) (is-there s c.self.invariant.lawful.sound c.find_taker.result entered)

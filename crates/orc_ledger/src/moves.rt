@@ -1,0 +1,427 @@
+//! Moves of tokens: a token does what it does next.
+
+ghost use Rattle.std.specs.Prelude.{◌≡◌, ◌≤◌, ℕ, List, [], map, length, true, false, None as Nothing, slice_index_or, IfOk, IfErr, IfSome, IfNone, OnErr};
+ghost use Rattle.orc_rules.specs.declared.param.Param.TheVariants.{Name, Is};
+ghost use Rattle.orc_rules.specs.Term.{stop, param, site, call, par, seq, prune, other};
+ghost use Rattle.orc_rules.specs.Nodes.{code, param_of};
+ghost use Rattle.orc_rules.specs.Journal.{IsVoid};
+ghost use Rattle.orc_names.specs.Scopes.{close, close_param, given, without};
+ghost use Rattle.orc_ledger.specs.Spelling.{Path, whole, feeding, aiding};
+ghost use Rattle.orc_ledger.specs.Same.{weight};
+ghost use Rattle.orc_ledger.specs.Next.{is_this};
+ghost use Rattle.orc_ledger.specs.Calls.{IsFree};
+ghost use Rattle.orc_ledger.specs.declared.records.Group.{Group as Open};
+ghost use Rattle.orc_ledger.specs.Tokens.{IsHeld};
+ghost use Rattle.orc_ledger.specs.Taking.{Takes, IsOnWay, HasStep, taker, reach};
+ghost use Rattle.orc_ledger.specs.Records.{its_env, its_path, standing, group_at, has_left};
+ghost use Rattle.orc_ledger.specs.Doing.{scan, closed};
+ghost use Rattle.orc_ledger.specs.declared.records.Entered.TheVariants.{Aid};
+ghost use Rattle.orc_ledger.specs.Moves.{StandsAt, IsThere, Moves, IsHindered};
+
+use crate::ledger::{Ledger, LedgerFault, Program};
+use crate::marks::group_at;
+use crate::records::{Group, Standing, Token};
+use crate::taking::{Taker, find_taker};
+use crate::view::call_with;
+use crate::what::What;
+use orc_graph::{Graph, Node};
+use orc_names::{Bound, Scope, meaning};
+use orc_rules::param::Operand;
+use orc_rules::value::Value;
+
+/// What a move of a token has done.
+#[derive(Clone, Copy, Debug, PartialEq, Eq)]
+pub enum Moved {
+    /// Another token stands in its slot.
+    On,
+    /// Another token stands in its slot, and one more in this slot.
+    Forked(usize),
+    /// A `>x>` took its value, and a token on the right side stands in its slot. The group that it was in may have no member any more.
+    Sent(u32),
+    /// It went, out of this group, which may have no member any more.
+    Gone(u32),
+    /// The cell has its value, and all inside its right side went. The group round that side is this one, which may have no member any more.
+    Bound(u64, u32),
+    /// It stands at a call of a site with values: nothing has changed.
+    Calls,
+    /// It waits for a cell, or for nothing that ever comes: nothing has changed.
+    Waits,
+}
+
+// Whether an open group has this number.
+fn has_number(groups: &[Group], number: u32) -> bool
+    ensures there { result ≡ true → 1 ≤ weight (λ (g : Open). is_this number g.number) groups.now }
+    ensures free { result ≡ false → weight (λ (g : Open). is_this number g.number) groups.now ≡ 0 }
+{
+    for group in groups {
+        if number == group.number {
+            return true;
+        }
+    }
+    false
+}
+
+// A number that none of these has. There is one while groups have room.
+fn find_number(groups: &[Group]) -> Option<u32>
+    ensures free { IfSome result (λ number. (1 ≤ number) × (weight (λ (g : Open). is_this number g.number) groups.now ≡ 0)) }
+    ensures none { IfNone result (1023 ≤ length groups.now) }
+{
+    for number in 1..1024 {
+        if !has_number(groups, number) {
+            return Some(number);
+        }
+    }
+    None
+}
+
+impl<P: Program> Ledger<P> {
+    // A number that no open group has.
+    fn free_number(&self) -> Option<u32>
+        ensures free { IfSome result (λ number. IsFree self.now number) }
+        ensures none { IfNone result (1023 ≤ length self.now.groups) }
+    {
+        find_number(&self.groups)
+    }
+
+    // The group of a token that took this step last.
+    fn group_of(&self, step: usize) -> u32
+        ensures { result ≡ group_at self.now.steps step }
+    {
+        group_at(&self.steps, step)
+    }
+
+    // What takes a value that the token publishes.
+    fn taker_of(&self, token: Token) -> Taker
+        requires { (slot : ℕ) × IsHeld self.now.slots slot token }
+        ensures takes { Takes (code P.listing) (its_env (code P.listing) self.now) (has_left self.now.steps) self.now.steps token.step result }
+        ensures way { IsOnWay self.now.steps token.step result }
+        ensures there { IsThere self.now result }
+    {
+        find_taker(&self.steps, token.step)
+    }
+
+    // What stands for an operand in a scope.
+    fn bound_of(&self, operand: Operand, scope: usize) -> Option<Bound>
+        ensures bound { IfSome result (λ b. close_param (its_env (code P.listing) self.now scope) (param_of operand) ≡ given b) }
+        ensures free { IfNone result ((x : ℕ) × (close_param (its_env (code P.listing) self.now scope) (param_of operand) ≡ Name x)) }
+    {
+        meaning(&self.scopes, &self.cells, operand, scope)
+    }
+
+    // What a call of a site with these operands does.
+    fn scan(&self, operands: &[Operand], scope: usize) -> What
+        ensures { result ≡ scan false Nothing (closed (its_env (code P.listing) self.now scope) operands.now) }
+    {
+        call_with(&self.scopes, &self.cells, operands, scope, false, None)
+    }
+
+    fn move_end(&mut self, slot: usize, token: Token) -> Result<Moved, LedgerFault>
+        requires held { IsHeld self.old.slots slot token }
+        requires at { (scope : ℕ) × StandsAt P.listing token scope stop }
+        ensures done { (ks : List ℕ) → IfOk result (λ m. Moves P.listing self.old slot token m ks self.new) }
+        ensures refused { OnErr result (self.new ≡ self.old) }
+        ensures why { IfErr result (λ fault. IsHindered P.listing self.old token fault) }
+    {
+        let group = self.group_of(token.step);
+        self.end(slot, token)?;
+        Ok(Moved::Gone(group))
+    }
+
+    fn move_void(&mut self, slot: usize, token: Token) -> Result<Moved, LedgerFault>
+        requires held { IsHeld self.old.slots slot token }
+        requires void { IsVoid (standing (code P.listing) (its_env (code P.listing) self.old) token.standing) }
+        ensures done { (ks : List ℕ) → IfOk result (λ m. Moves P.listing self.old slot token m ks self.new) }
+        ensures refused { OnErr result (self.new ≡ self.old) }
+        ensures why { IfErr result (λ fault. IsHindered P.listing self.old token fault) }
+    {
+        let group = self.group_of(token.step);
+        self.void(slot, token)?;
+        Ok(Moved::Gone(group))
+    }
+
+    fn move_fork(
+        &mut self,
+        slot: usize,
+        token: Token,
+        scope: usize,
+        left: usize,
+        right: usize,
+    ) -> Result<Moved, LedgerFault>
+        requires held { IsHeld self.old.slots slot token }
+        requires at { StandsAt P.listing token scope (par (code P.listing left) (code P.listing right)) }
+        ensures done { (ks : List ℕ) → IfOk result (λ m. Moves P.listing self.old slot token m ks self.new) }
+        ensures refused { OnErr result (self.new ≡ self.old) }
+        ensures why { IfErr result (λ fault. IsHindered P.listing self.old token fault) }
+    {
+        let right_slot = self.fork(slot, token, scope, left, right)?;
+        Ok(Moved::Forked(right_slot))
+    }
+
+    fn move_feed(
+        &mut self,
+        slot: usize,
+        token: Token,
+        scope: usize,
+        left: usize,
+        name: u32,
+        right: usize,
+    ) -> Result<Moved, LedgerFault>
+        requires held { IsHeld self.old.slots slot token }
+        requires at { StandsAt P.listing token scope (seq (code P.listing left) name (code P.listing right)) }
+        ensures done { (ks : List ℕ) → IfOk result (λ m. Moves P.listing self.old slot token m ks self.new) }
+        ensures refused { OnErr result (self.new ≡ self.old) }
+        ensures why { IfErr result (λ fault. IsHindered P.listing self.old token fault) }
+    {
+        self.feed(slot, token, scope, left, name, right)?;
+        Ok(Moved::On)
+    }
+
+    fn move_other(
+        &mut self,
+        slot: usize,
+        token: Token,
+        scope: usize,
+        left: usize,
+        right: usize,
+    ) -> Result<Moved, LedgerFault>
+        requires held { IsHeld self.old.slots slot token }
+        requires at { StandsAt P.listing token scope (other (code P.listing left) (code P.listing right)) }
+        ensures done { (ks : List ℕ) → IfOk result (λ m. Moves P.listing self.old slot token m ks self.new) }
+        ensures refused { OnErr result (self.new ≡ self.old) }
+        ensures why { IfErr result (λ fault. IsHindered P.listing self.old token fault) }
+    {
+        let Some(number) = self.free_number() else {
+            return Err(LedgerFault::Full);
+        };
+        self.other(slot, token, scope, left, right, number)?;
+        Ok(Moved::On)
+    }
+
+    fn move_prune(
+        &mut self,
+        slot: usize,
+        token: Token,
+        scope: usize,
+        left: usize,
+        name: u32,
+        right: usize,
+    ) -> Result<Moved, LedgerFault>
+        requires held { IsHeld self.old.slots slot token }
+        requires at { StandsAt P.listing token scope (prune (code P.listing left) name (code P.listing right)) }
+        ensures done { (ks : List ℕ) → IfOk result (λ m. Moves P.listing self.old slot token m ks self.new) }
+        ensures refused { OnErr result (self.new ≡ self.old) }
+        ensures why { IfErr result (λ fault. IsHindered P.listing self.old token fault) }
+    {
+        let Some(number) = self.free_number() else {
+            return Err(LedgerFault::Full);
+        };
+        let right_slot = self.prune(slot, token, scope, left, name, right, number)?;
+        Ok(Moved::Forked(right_slot))
+    }
+
+    fn move_def(
+        &mut self,
+        graph: &Graph,
+        slot: usize,
+        token: Token,
+        scope: usize,
+        definition: u32,
+        list: u32,
+        added: &mut Vec<Scope>,
+    ) -> Result<Moved, LedgerFault>
+        requires graph { graph.now ≡ P.listing }
+        requires held { IsHeld self.old.slots slot token }
+        requires at { StandsAt P.listing token scope (call definition (map param_of (slice_index_or P.listing.lists list []))) }
+        ensures done { (ks : List ℕ) → IfOk result (λ m. Moves P.listing self.old slot token m ks self.new) }
+        ensures refused { OnErr result (self.new ≡ self.old) }
+        ensures why { IfErr result (λ fault. IsHindered P.listing self.old token fault) }
+    {
+        match graph.body(definition as usize) {
+            // No limit refuses what can't be done.
+            None => Ok(Moved::Waits),
+            Some(_) => {
+                if self.def(graph, slot, token, scope, definition, list, added)? {
+                    Ok(Moved::On)
+                } else {
+                    Ok(Moved::Waits)
+                }
+            }
+        }
+    }
+
+    fn move_publish(
+        &mut self,
+        slot: usize,
+        token: Token,
+        value: Value,
+    ) -> Result<Moved, LedgerFault>
+        requires held { IsHeld self.old.slots slot token }
+        requires form { standing (code P.listing) (its_env (code P.listing) self.old) token.standing ≡ param (Is value) }
+        requires takes { taker (its_path (code P.listing) self.old token.step) ≡ whole }
+        ensures done { (ks : List ℕ) → IfOk result (λ m. Moves P.listing self.old slot token m ks self.new) }
+        ensures refused { OnErr result (self.new ≡ self.old) }
+        ensures why { IfErr result (λ fault. IsHindered P.listing self.old token fault) }
+    {
+        let group = self.group_of(token.step);
+        self.publish(slot, token, value)?;
+        Ok(Moved::Gone(group))
+    }
+
+    fn move_send(
+        &mut self,
+        slot: usize,
+        token: Token,
+        value: Value,
+        name: u32,
+        right: usize,
+        scope: usize,
+        outer: usize,
+    ) -> Result<Moved, LedgerFault>
+        requires held { IsHeld self.old.slots slot token }
+        requires form { standing (code P.listing) (its_env (code P.listing) self.old) token.standing ≡ param (Is value) }
+        requires takes { taker (its_path (code P.listing) self.old token.step) ≡ feeding name (close (without name (its_env (code P.listing) self.old scope)) (code P.listing right)) (its_path (code P.listing) self.old outer) }
+        requires way { (n : ℕ) × (reach self.old.steps n token.step ≡ outer) }
+        requires fits { (scope ≤ length self.old.scopes) × (outer ≤ length self.old.steps) }
+        ensures done { (ks : List ℕ) → IfOk result (λ m. Moves P.listing self.old slot token m ks self.new) }
+        ensures refused { OnErr result (self.new ≡ self.old) }
+        ensures why { IfErr result (λ fault. IsHindered P.listing self.old token fault) }
+    {
+        let group = self.group_of(token.step);
+        self.send(slot, token, value, name, right, scope, outer)?;
+        Ok(Moved::Sent(group))
+    }
+
+    fn move_bind(
+        &mut self,
+        slot: usize,
+        token: Token,
+        value: Value,
+        cell: u64,
+        outer: usize,
+        cancelled: &mut Vec<u64>,
+    ) -> Result<Moved, LedgerFault>
+        requires held { IsHeld self.old.slots slot token }
+        requires form { standing (code P.listing) (its_env (code P.listing) self.old) token.standing ≡ param (Is value) }
+        requires takes { taker (its_path (code P.listing) self.old token.step) ≡ aiding cell (its_path (code P.listing) self.old outer) }
+        requires side { HasStep self.old.steps (Aid cell) outer }
+        ensures done { IfOk result (λ m. Moves P.listing self.old slot token m cancelled.new.items self.new) }
+        ensures refused { OnErr result (self.new ≡ self.old) }
+        ensures why { IfErr result (λ fault. IsHindered P.listing self.old token fault) }
+    {
+        let group = self.group_of(outer);
+        self.bind(slot, token, value, cell, cancelled)?;
+        Ok(Moved::Bound(cell, group))
+    }
+
+    // A token on a value publishes it.
+    fn move_value(
+        &mut self,
+        slot: usize,
+        token: Token,
+        value: Value,
+        cancelled: &mut Vec<u64>,
+    ) -> Result<Moved, LedgerFault>
+        requires held { IsHeld self.old.slots slot token }
+        requires form { standing (code P.listing) (its_env (code P.listing) self.old) token.standing ≡ param (Is value) }
+        ensures done { IfOk result (λ m. Moves P.listing self.old slot token m cancelled.new.items self.new) }
+        ensures refused { OnErr result (self.new ≡ self.old) }
+        ensures why { IfErr result (λ fault. IsHindered P.listing self.old token fault) }
+    {
+        match self.taker_of(token) {
+            Taker::Whole => self.move_publish(slot, token, value),
+            Taker::Feed(name, right, scope, outer) => {
+                self.move_send(slot, token, value, name, right, scope, outer)
+            }
+            Taker::Aid(cell, outer) => self.move_bind(slot, token, value, cell, outer, cancelled),
+        }
+    }
+
+    // A variable: what stands for it is published, awaited or void.
+    fn move_name(
+        &mut self,
+        slot: usize,
+        token: Token,
+        scope: usize,
+        name: u32,
+        cancelled: &mut Vec<u64>,
+    ) -> Result<Moved, LedgerFault>
+        requires held { IsHeld self.old.slots slot token }
+        requires at { StandsAt P.listing token scope (param (Name name)) }
+        ensures done { IfOk result (λ m. Moves P.listing self.old slot token m cancelled.new.items self.new) }
+        ensures refused { OnErr result (self.new ≡ self.old) }
+        ensures why { IfErr result (λ fault. IsHindered P.listing self.old token fault) }
+    {
+        match self.bound_of(Operand::Name(name), scope) {
+            Some(Bound::Is(value)) => self.move_value(slot, token, value, cancelled),
+            Some(Bound::Void) => self.move_void(slot, token),
+            Some(Bound::Cell(_)) => Ok(Moved::Waits),
+            None => Ok(Moved::Waits),
+        }
+    }
+
+    // A call of a site: it is made elsewhere, once its operands are values.
+    fn move_site(
+        &mut self,
+        graph: &Graph,
+        slot: usize,
+        token: Token,
+        scope: usize,
+        list: u32,
+    ) -> Result<Moved, LedgerFault>
+        requires graph { graph.now ≡ P.listing }
+        requires held { IsHeld self.old.slots slot token }
+        requires at { (m : ℕ) × StandsAt P.listing token scope (site m (map param_of (slice_index_or P.listing.lists list []))) }
+        ensures done { (ks : List ℕ) → IfOk result (λ m. Moves P.listing self.old slot token m ks self.new) }
+        ensures refused { OnErr result (self.new ≡ self.old) }
+        ensures why { IfErr result (λ fault. IsHindered P.listing self.old token fault) }
+    {
+        match self.scan(graph.operands(list as usize), scope) {
+            What::Call => Ok(Moved::Calls),
+            What::Void => self.move_void(slot, token),
+            _ => Ok(Moved::Waits),
+        }
+    }
+
+    /// A token does what it does next, as `what` says: a move of marks or an entry of its own, whose kind follows from the token's node and from
+    /// what takes its value. A call of a site is not made, and a token that waits stays as it is. `added` and `cancelled` are lent: where a cell is
+    /// bound `cancelled` then holds the numbers of the calls that are cancelled, in rising order.
+    pub fn advance(
+        &mut self,
+        graph: &Graph,
+        slot: usize,
+        token: Token,
+        added: &mut Vec<Scope>,
+        cancelled: &mut Vec<u64>,
+    ) -> Result<Moved, LedgerFault>
+        requires graph { graph.now ≡ P.listing }
+        requires held { IsHeld self.old.slots slot token }
+        ensures done { IfOk result (λ m. Moves P.listing self.old slot token m cancelled.new.items self.new) }
+        ensures refused { OnErr result (self.new ≡ self.old) }
+        ensures why { IfErr result (λ fault. IsHindered P.listing self.old token fault) }
+    {
+        match token.standing {
+            Standing::On(value) => self.move_value(slot, token, value, cancelled),
+            Standing::At(node, scope) => match graph.node(node) {
+                Node::Stop => self.move_end(slot, token),
+                Node::Name(name) => self.move_name(slot, token, scope, name, cancelled),
+                Node::Is(value) => self.move_value(slot, token, value, cancelled),
+                Node::Site(_, list) => self.move_site(graph, slot, token, scope, list),
+                Node::Call(definition, list) => {
+                    self.move_def(graph, slot, token, scope, definition, list, added)
+                }
+                Node::Par(left, right) => {
+                    self.move_fork(slot, token, scope, left as usize, right as usize)
+                }
+                Node::Seq(left, name, right) => {
+                    self.move_feed(slot, token, scope, left as usize, name, right as usize)
+                }
+                Node::Prune(left, name, right) => {
+                    self.move_prune(slot, token, scope, left as usize, name, right as usize)
+                }
+                Node::Other(left, right) => {
+                    self.move_other(slot, token, scope, left as usize, right as usize)
+                }
+            },
+        }
+    }
+}
