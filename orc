@@ -41,6 +41,8 @@ prove() {
     local root=$1 jobs=$2 crate status
     shift 2
     for crate; do
+        # The other lane has failed: the program can't be built any more.
+        if [ -e "$room/failed" ]; then return 1; fi
         status=0
         (cd "$root/crates/$crate" && rt lib --jobs "$jobs") >"$room/$crate.log" 2>&1 || status=$?
         cat "$room/$crate.log" >>"$log"
@@ -63,8 +65,9 @@ second() {
         sleep 1
     done
     mkdir -p "$own/crates"
-    cp "$top/crates.txt" "$own"
     for crate in $(below "${beside[@]}"); do
+        # `rt` wants the sources of each crate that its list names.
+        grep "^$crate[: ]" "$top/crates.txt" >>"$own/crates.txt"
         mkdir -p "$own/crates/$crate/out"
         cp -r "$top/crates/$crate"/{src,specs,proofs} "$own/crates/$crate"
         [ ! -e "$room/$crate.proved" ] || cp -r "$top/crates/$crate/out/rlib" "$own/crates/$crate/out"
