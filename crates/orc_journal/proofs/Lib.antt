@@ -1,9 +1,11 @@
 pub mod Calls
 pub mod Codes
+pub mod Composing
 pub mod Digits
 pub mod Entries
 pub mod Keeping
 pub mod Loops
 pub mod Names
+pub mod Shown
 pub mod Stripping
 pub mod Whole

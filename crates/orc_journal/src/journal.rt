@@ -1,10 +1,11 @@
 //! A journal in memory.
 
-ghost use Rattle.std.specs.Prelude.{◌≡◌, ◌+◌, ◌≤◌, ◌++◌, ◌∷◌, [], List, length, map, take, OnOk, OnErr};
+ghost use Rattle.std.specs.Prelude.{◌≡◌, ◌+◌, ◌≤◌, ◌++◌, ◌∷◌, [], List, length, map, take, IfOk, OnOk, OnErr};
 ghost use Rattle.std.specs.List.{slice_get};
 ghost use Rattle.orc_rules.specs.declared.entry.Entry.{Entry as EntryOf};
 ghost use Rattle.orc_rules.specs.declared.entry.Entry.TheVariants.{Send, Call, Return, Bind, Publish, Cancel};
 ghost use Rattle.orc_rules.specs.declared.limits.TheConstants.{MOST_ARGUMENTS};
+ghost use Rattle.orc_rules.specs.Trace.{published};
 ghost use Rattle.orc_journal.specs.Rows.{entry_of, given, AreWithin, HasValue};
 ghost use Rattle.orc_journal.specs.Texts.{Written, journal_with};
 
@@ -197,5 +198,18 @@ impl Journal {
     {
         let row = self.rows.get(at)?;
         Some(self.tables.entry(*row))
+    }
+
+    /// The values that its entries publish, in order. The error is refused memory.
+    pub fn published(&self, alloc: Global) -> Result<Vec<Value>, AllocError>
+        ensures { IfOk result (λ values. values.items ≡ published self.now.entries) }
+    {
+        let mut values = Vec::new(alloc);
+        for row in &self.rows {
+            if let Some(value) = self.tables.publication(*row) {
+                values.push(value)?;
+            }
+        }
+        Ok(values)
     }
 }

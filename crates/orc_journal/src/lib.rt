@@ -1,6 +1,7 @@
 //! Journals as text and in memory: the line of an entry is written and read back exactly, and a text is read exactly where it is that of a journal.
 #![tactic(auto)]
 
+mod fitting;
 mod journal;
 mod reading;
 mod room;
@@ -8,7 +9,8 @@ mod rows;
 mod text;
 mod writing;
 
+pub use fitting::has_line;
 pub use journal::{Journal, Version};
 pub use reading::read_entry;
-pub use text::{JournalFault, read_journal, write_header};
+pub use text::{JournalFault, read_journal, write_header, write_journal};
 pub use writing::{write_entry, write_publication, write_value};

@@ -1,6 +1,7 @@
 //! The entries of a journal in 16 bytes each, with tables of what doesn't fit there.
 
-ghost use Rattle.std.specs.Prelude.{◌≡◌, ◌≤◌, List, [], length, slice_index_or, IfOk, IfSome, OnOk, OnErr};
+ghost use Rattle.std.specs.Prelude.{◌≡◌, ◌≤◌, ◌∷◌, List, [], length, slice_index_or, option_to_list, IfOk, IfSome, OnOk, OnErr};
+ghost use Rattle.orc_rules.specs.Trace.{published};
 ghost use Rattle.orc_rules.specs.declared.limits.TheConstants.{MOST_ARGUMENTS};
 ghost use Rattle.orc_rules.specs.declared.entry.Entry.TheVariants.{Call};
 ghost use Rattle.orc_journal.specs.Rows.{last_of, parts_in, no_call, value_at, call_by, entry_of, grown, plain, given, HasCall, HasValue, IsPlain, IsThere, IsWithin, Keeps, Names, StandsFor};
@@ -279,6 +280,18 @@ impl Tables {
             Kind::Publish => Entry::Publish(p.first, value_at(&self.values, p.third)),
             Kind::Tick => Entry::Tick(p.first),
             Kind::Cancel => Entry::Cancel(p.first),
+        }
+    }
+
+    /// The value that the entry of a row publishes, if it publishes one.
+    pub(crate) fn publication(&self, row: Row) -> Option<Value>
+        requires { IsWithin self.now row }
+        ensures { option_to_list result ≡ published (entry_of self.now row ∷ []) }
+    {
+        let p = self.parts_at(row);
+        match p.kind {
+            Kind::Publish => Some(value_at(&self.values, p.third)),
+            _ => None,
         }
     }
 }

@@ -1,15 +1,17 @@
 //! The text of a journal.
 
-ghost use Rattle.std.specs.Prelude.{◌≡◌, ◌++◌, ◌+◌, ◌<◌, ◌^◌, if◌then◌else◌, List, ℕ, true, IfOk, IfErr, IfSome, Some, OnOk, MatchResult};
+ghost use Rattle.std.specs.Prelude.{◌≡◌, ◌++◌, ◌+◌, ◌<◌, ◌^◌, if◌then◌else◌, List, ℕ, true, false, IfOk, IfErr, IfSome, Some, OnOk, MatchResult};
 ghost use Rattle.orc_rules.specs.declared.entry.Entry.{Entry as EntryOf};
 ghost use Rattle.orc_rules.specs.Digits.{Gives};
-ghost use Rattle.orc_rules.specs.Text.{line, Fits};
+ghost use Rattle.orc_rules.specs.Text.{line, Fits, IsNamed};
 ghost use Rattle.orc_journal.specs.declared.text.JournalFault.TheVariants.{Memory as MemoryFault};
 ghost use Rattle.orc_journal.specs.Reading.{header_at};
-ghost use Rattle.orc_journal.specs.Texts.{Written, header, is_of, counts, IsJournal, IsFault};
+ghost use Rattle.orc_journal.specs.Texts.{Written, header, is_of, counts, journal_text, AreOf, IsJournal, IsFault};
 
+use crate::fitting::has_line;
 use crate::journal::{Journal, Version};
 use crate::reading::{after, read_entry};
+use crate::writing::write_entry;
 use orc_rules::answers::Answers;
 use orc_rules::entry::Entry;
 use orc_rules::limits::{LONGEST_JOURNAL, MOST_ENTRIES};
@@ -113,4 +115,36 @@ pub fn read_journal(alloc: Global, text: &[u8], answers: &Answers) -> Result<Jou
         rest = behind;
     }
     Ok(journal)
+}
+
+// Whether an entry has a line in a journal of that version.
+fn is_written(version: Version, entry: &Entry, answers: &Answers) -> bool
+    ensures fits { result ≡ true → Fits answers.now.names entry.now × (is_of version entry.now ≡ true) }
+    ensures named { result ≡ true → IsNamed answers.now.names entry.now }
+    ensures other { result ≡ false → Fits answers.now.names entry.now → is_of version entry.now ≡ true → ⊥ }
+{
+    is_known(version, entry) && has_line(entry, answers)
+}
+
+/// Writes the text of a journal. Ok(false) where one of its entries has no line: its site isn't one of the table, or it is a cancel in the first
+/// version. The lines before that one were written then. The error is refused memory.
+pub fn write_journal(
+    journal: &Journal,
+    answers: &Answers,
+    out: &mut Vec<u8>,
+) -> Result<bool, AllocError>
+    ensures written { IfOk result (λ whole. whole ≡ true → out.new.items ≡ out.old.items ++ journal_text answers.now.names journal.now) }
+    ensures each { IfOk result (λ whole. whole ≡ true → AreOf answers.now.names journal.now.version journal.now.entries) }
+    ensures lacking { IfOk result (λ whole. whole ≡ false → AreOf answers.now.names journal.now.version journal.now.entries → ⊥) }
+{
+    write_header(out, journal.version())?;
+    for at in 0..journal.len() {
+        if let Some(entry) = journal.get(at) {
+            if !is_written(journal.version(), &entry, answers) {
+                return Ok(false);
+            }
+            write_entry(&entry, answers, out)?;
+        }
+    }
+    Ok(true)
 }

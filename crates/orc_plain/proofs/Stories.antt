@@ -18,32 +18,12 @@ use Rattle.orc_outcome.specs.Outcome.{context, text_of}
 use Rattle.orc_plain.specs.Lines.{Kept, with_line}
 use Rattle.orc_outcome.specs.declared.end.End.{End}
 use Rattle.orc_plain.specs.Stories.{Story, IsStory, Grows, IsReached, Settles, HasEnded}
+use Rattle.orc_journal.proofs.Shown.{published-more}
 
 -- an entry more
 journal-one_more : (x : Context) (p q r : Place) (es : List Entry) (e : Entry) → Journal x p es q → Leads x q e r → Journal x p (es ++ e ∷ []) r
 journal-one_more x p q r [] e reached leads = (r, subst (λ m. Leads x m e r) (sym reached) leads, refl)
 journal-one_more x p q r (e' ∷ es) e reached leads = (reached.0, reached.1, journal-one_more x reached.0 q r es e reached.2 leads)
-
--- what a longer journal publishes
-published-append : (es fs : List Entry) → published (es ++ fs) ≡ published es ++ published fs
-published-append [] fs = refl
-published-append (entry.Publish s v ∷ es) fs = ap (λ vs. v ∷ vs) (published-append es fs)
-published-append (entry.End _ ∷ es) fs = published-append es fs
-published-append (entry.Fork _ _ _ ∷ es) fs = published-append es fs
-published-append (entry.Seq _ _ ∷ es) fs = published-append es fs
-published-append (entry.Other _ _ ∷ es) fs = published-append es fs
-published-append (entry.Def _ _ ∷ es) fs = published-append es fs
-published-append (entry.Void _ ∷ es) fs = published-append es fs
-published-append (entry.Open _ _ _ _ ∷ es) fs = published-append es fs
-published-append (entry.Send _ _ _ ∷ es) fs = published-append es fs
-published-append (entry.Call _ _ _ _ ∷ es) fs = published-append es fs
-published-append (entry.Return _ _ _ ∷ es) fs = published-append es fs
-published-append (entry.ReturnHalt _ ∷ es) fs = published-append es fs
-published-append (entry.Bind _ _ _ ∷ es) fs = published-append es fs
-published-append (entry.Lost _ ∷ es) fs = published-append es fs
-published-append (entry.Right _ _ ∷ es) fs = published-append es fs
-published-append (entry.Tick _ ∷ es) fs = published-append es fs
-published-append (entry.Cancel _ ∷ es) fs = published-append es fs
 
 -- what a longer journal's text is
 text-one_more : (names : List (List ℕ)) (es : List Entry) (e : Entry) → text_of names es ++ line names e ≡ text_of names (es ++ e ∷ [])
@@ -61,7 +41,7 @@ grows l t old new e applies line_is values entries lines keeps es p told =
       record {
         leads = journal-one_more (context l t) (begin (source l)) p q es e told.leads leads;
         spells = spells;
-        values = values ∙ (ap (λ vs. vs ++ published (e ∷ [])) told.values ∙ sym (published-append es (e ∷ [])));
+        values = values ∙ (ap (λ vs. vs ++ published (e ∷ [])) told.values ∙ sym (published-more es (e ∷ [])));
         count = omega (arith, entries, told.count, length-append es (e ∷ []));
         fits = λ k. are_more t.names Two es e (told.fits k) (line_is (ap Kept.kept (told.text k))) refl;
         text = λ k. lines ∙ (ap (λ (z : Kept). with_line z (line t.names e)) (told.text k) ∙ kept_as (text-one_more t.names es e));

@@ -1,6 +1,5 @@
-use Rattle.std.proofs.Common.{◌≡◌, List, map, take, ap, sym, ◌∙◌}
+use Rattle.std.proofs.Common.{List, map, take, ap, sym, ◌∙◌}
 use Rattle.std.proofs.lemmas.List.{take-map}
-use Rattle.orc_journal.specs.declared.rows.Row.{Row}
 use Rattle.orc_rules.specs.declared.entry.Entry.{Entry}
 use Rattle.orc_journal.specs.Rows.{entry_of}
 use Rattle.orc_journal.specs.Texts.{Written}

@@ -1,0 +1,82 @@
+//! Which entries have a line.
+
+ghost use Rattle.std.specs.Prelude.{◌≡◌, ◌<◌, ◌^◌, true, false};
+ghost use Rattle.orc_rules.specs.Text.{AreValues, Fits, IsNamed, IsValue};
+
+use orc_rules::answers::Answers;
+use orc_rules::entry::Entry;
+use orc_rules::value::Value;
+
+// What the types of an entry's numbers say of them, as `Fits` says it.
+
+fn number_fits(number: u64)
+    ensures { number < 2 ^ 64 }
+{
+    let _number = number;
+}
+
+fn value_fits(value: Value)
+    ensures { IsValue value }
+{
+    match value {
+        Value::Number(_number) => {}
+        Value::Truth(_) => {}
+        Value::Signal => {}
+    }
+}
+
+fn values_fit(list: &[Value])
+    ensures { AreValues list.now }
+{
+    match list {
+        [] => {}
+        [first, others @ ..] => {
+            value_fits(*first);
+            values_fit(others);
+        }
+    }
+}
+
+/// Whether an entry has a line: whether the table names the site of its call.
+pub fn has_line(entry: &Entry, answers: &Answers) -> bool
+    ensures named { result ≡ true → IsNamed answers.now.names entry.now }
+    ensures fits { result ≡ true → Fits answers.now.names entry.now }
+    ensures unnamed { result ≡ false → IsNamed answers.now.names entry.now → ⊥ }
+{
+    match entry {
+        Entry::End(n) | Entry::Void(n) | Entry::Lost(n) | Entry::Tick(n) | Entry::Cancel(n) =>
+            number_fits(*n),
+        Entry::ReturnHalt(k) => number_fits(*k),
+        Entry::Seq(s, a) | Entry::Other(s, a) | Entry::Def(s, a) | Entry::Right(s, a) => {
+            number_fits(*s);
+            number_fits(*a);
+        }
+        Entry::Fork(s, a, b) => {
+            number_fits(*s);
+            number_fits(*a);
+            number_fits(*b);
+        }
+        Entry::Open(s, c, a, b) => {
+            number_fits(*s);
+            number_fits(*c);
+            number_fits(*a);
+            number_fits(*b);
+        }
+        Entry::Send(s, a, v) | Entry::Return(s, a, v) | Entry::Bind(s, a, v) => {
+            number_fits(*s);
+            number_fits(*a);
+            value_fits(*v);
+        }
+        Entry::Publish(s, v) => {
+            number_fits(*s);
+            value_fits(*v);
+        }
+        Entry::Call(s, k, site, args) => {
+            number_fits(*s);
+            number_fits(*k);
+            values_fit(args.as_slice());
+            return answers.name(*site).is_some();
+        }
+    }
+    true
+}
