@@ -20,3 +20,4 @@ pub mod Spoken
 pub mod Taking
 pub mod Tokens
 pub mod Told
+pub mod Whole

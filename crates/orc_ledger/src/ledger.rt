@@ -5,6 +5,7 @@ ghost use Rattle.orc_rules.specs.Timed.{IsIn};
 ghost use Rattle.orc_ledger.specs.Tokens.{IsHeld};
 ghost use Rattle.orc_ledger.specs.Begun.{begun};
 ghost use Rattle.orc_ledger.specs.Calls.{HasRoom, IsRefused};
+ghost use Rattle.orc_ledger.specs.Whole.{IsWhole};
 ghost use Rattle.orc_ledger.specs.declared.records.Token.{Token as Its};
 
 use crate::pending::Pending;
@@ -166,6 +167,36 @@ impl<P: Program> Ledger<P> {
             cells,
             program: PhantomData,
         })
+    }
+
+    /// The journal, and nothing else of the ledger.
+    pub fn into_journal(self) -> Journal
+        ensures entries { result.entries ≡ self.journal }
+        ensures whole { IsWhole P.listing P.sites self }
+    {
+        let Ledger {
+            limit: _,
+            journal,
+            entries: _,
+            next_mark: _,
+            time: _,
+            tokens,
+            calls,
+            counts,
+            scopes,
+            steps,
+            groups,
+            cells,
+            program: _,
+        } = self;
+        drop(tokens);
+        drop(calls);
+        drop(counts);
+        drop(scopes);
+        drop(steps);
+        drop(groups);
+        drop(cells);
+        journal
     }
 
     /// How many entries the journal has, the cancels left out.

@@ -14,6 +14,7 @@ mod pending;
 mod publications;
 mod records;
 mod requests;
+mod rules;
 mod sides;
 mod taking;
 mod time;

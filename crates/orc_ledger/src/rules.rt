@@ -1,0 +1,51 @@
+//! Whether a token can use a rule, where a run has as many entries as its limit.
+
+ghost use Rattle.std.specs.Prelude.{◌≡◌, ◌≤◌, true};
+ghost use Rattle.orc_rules.specs.Nodes.{code, definitions};
+ghost use Rattle.orc_rules.specs.Timed.{IsQuiet};
+ghost use Rattle.orc_rules.specs.Journal.{Place, moment};
+ghost use Rattle.orc_ledger.specs.Records.{context};
+ghost use Rattle.orc_ledger.specs.Answers.{IsAt};
+ghost use Rattle.orc_ledger.specs.Doing.{what_of};
+ghost use Rattle.orc_ledger.specs.Whole.{is_rule};
+
+use crate::ledger::{Ledger, Program};
+use crate::records::Token;
+use crate::what::What;
+use orc_graph::Graph;
+
+impl<P: Program> Ledger<P> {
+    // Whether a token, if the slot holds one, can use a rule now: it neither waits nor makes a move of marks alone.
+    fn uses_rule(&self, graph: &Graph, token: &Token) -> bool
+        requires { graph.now ≡ P.listing }
+        ensures there { result ≡ true → 1 ≤ token.now.serial }
+        ensures rule { result ≡ true → is_rule (what_of (code P.listing) (definitions P.listing) self.now token.now) ≡ true }
+    {
+        if token.serial == 0 {
+            return false;
+        }
+        match self.what(graph, token) {
+            What::Halt | What::Fork | What::Seq | What::Other | What::Wait(_) => false,
+            What::Prune
+            | What::Def
+            | What::Void
+            | What::Publish(_)
+            | What::Send(_)
+            | What::Bind(_, _)
+            | What::Call => true,
+        }
+    }
+
+    /// Whether a token can use a rule now, and not only make moves of marks. Where one can the run isn't quiet. It looks at each token.
+    pub fn can_use_rule(&self, graph: &Graph) -> bool
+        requires { graph.now ≡ P.listing }
+        ensures { result ≡ true → (p : Place) → IsAt P.listing P.sites self.now p → IsQuiet (context P.listing P.sites) (moment p) → ⊥ }
+    {
+        for token in self.tokens.slots() {
+            if self.uses_rule(graph, token) {
+                return true;
+            }
+        }
+        false
+    }
+}
