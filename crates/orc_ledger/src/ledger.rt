@@ -169,10 +169,16 @@ impl<P: Program> Ledger<P> {
         })
     }
 
+    /// What the journal is as a whole, as a law.
+    pub fn is_whole(&self)
+        ensures { IsWhole P.listing P.sites self.now }
+    {
+        let _journal = &self.journal;
+    }
+
     /// The journal, and nothing else of the ledger.
     pub fn into_journal(self) -> Journal
-        ensures entries { result.entries ≡ self.journal }
-        ensures whole { IsWhole P.listing P.sites self }
+        ensures { result.entries ≡ self.journal }
     {
         let Ledger {
             limit: _,

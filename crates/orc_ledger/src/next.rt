@@ -137,7 +137,7 @@ impl<P: Program> Ledger<P> {
     }
 
     // Whether a token, a pending call or an open group is in the group of that number.
-    fn has_members(&self, number: u32) -> bool
+    pub(crate) fn has_members(&self, number: u32) -> bool
         ensures some { result ≡ true → 1 ≤ members (numbers_of self.now) self.now number }
         ensures none { result ≡ false → members (numbers_of self.now) self.now number ≡ 0 }
     {

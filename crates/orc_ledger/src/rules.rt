@@ -1,7 +1,9 @@
-//! Whether a token can use a rule, where a run has as many entries as its limit.
+//! What the rules say of a run's end: whether a token can use one, and whether the term has halted.
 
 ghost use Rattle.std.specs.Prelude.{◌≡◌, ◌≤◌, true};
 ghost use Rattle.orc_rules.specs.Nodes.{code, definitions};
+ghost use Rattle.orc_rules.specs.Term.{Halted};
+ghost use Rattle.orc_rules.specs.Marked.{erase};
 ghost use Rattle.orc_rules.specs.Timed.{IsQuiet};
 ghost use Rattle.orc_rules.specs.Journal.{Place, moment};
 ghost use Rattle.orc_ledger.specs.Records.{context};
@@ -47,5 +49,13 @@ impl<P: Program> Ledger<P> {
             }
         }
         false
+    }
+
+    /// Whether the program's own group has no members. The term has halted then, by the rules.
+    pub fn has_halted(&self) -> bool
+        ensures { result ≡ true → (p : Place) → IsAt P.listing P.sites self.now p → Halted (erase p.marked) }
+    {
+        let _time = &self.time;
+        !self.has_members(0)
     }
 }

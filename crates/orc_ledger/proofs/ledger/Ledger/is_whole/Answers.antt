@@ -3,10 +3,10 @@ use Rattle.orc_ledger.specs.Records.{Records}
 use Rattle.orc_ledger.specs.Tokens.{live}
 use Rattle.orc_ledger.specs.Whole.{IsWhole}
 use Rattle.orc_ledger.proofs.Using.{counted-so}
-use Rattle.orc_ledger.proofs.ledger.Ledger.into_journal.Goals as goal
+use Rattle.orc_ledger.proofs.ledger.Ledger.is_whole.Goals as goal
 
-pub returns-clause-whole : goal.returns-clause-whole
-returns-clause-whole g c =
+pub returns : goal.returns
+returns g c =
     let b = c.self.inside in
     let s : Records = record { limit = b.limit; journal = b.journal.entries; entries = b.entries; next_mark = b.next_mark; now = b.time; made = b.calls.made; tokens = live b.tokens.items; slots = b.tokens.items; calls = b.calls.items; scopes = b.scopes.items; steps = b.steps.items; groups = b.groups.items; cells = b.cells.items } in
     let L = c.self.invariant.lawful in
