@@ -52,3 +52,7 @@ CountsCall sites m args counts counts' = (calls : List CallMade) (c : CallMade) 
 -- the table's word on the next call of a site with these arguments, after the calls that are counted
 abbrev pub NextFound : List Site → List (List ℕ × ℕ) → ℕ → List Value → Found → Type 0
 NextFound sites counts m args found = (calls : List CallMade) → AreCounted sites counts calls → found ≡ find sites m args (nth_of m args calls)
+
+-- which call of this site with these arguments the next one is, after the calls that are counted, where a script answers the site
+abbrev pub NextNth : List Site → List (List ℕ × ℕ) → ℕ → List Value → ℕ → Type 0
+NextNth sites counts m args n = (calls : List CallMade) → AreCounted sites counts calls → is_scripted sites m ≡ true → n ≡ nth_of m args calls

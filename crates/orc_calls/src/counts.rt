@@ -1,7 +1,7 @@
 //! How many calls there were of each site with the same arguments.
 
 ghost use Rattle.std.specs.Prelude.{◌≡◌, ◌≤◌, [], OnOk, OnErr};
-ghost use Rattle.orc_calls.specs.Counting.{nth_in, CountsOne, CountsCall, NextFound};
+ghost use Rattle.orc_calls.specs.Counting.{nth_in, CountsOne, CountsCall, NextFound, NextNth};
 
 use crate::key::Key;
 use orc_rules::answers::Answers;
@@ -51,6 +51,18 @@ impl Counts {
         match self.next.get(key.as_slice()) {
             Some(next) => *next,
             None => 1,
+        }
+    }
+
+    /// Which call of a site with these arguments the next one is, from 1, where a script answers the site; else 1.
+    pub fn next_nth(&self, answers: &Answers, site: u32, args: &Args) -> u64
+        ensures nth { NextNth answers.now.sites self.now site args.now result }
+        ensures from_1 { 1 ≤ result }
+    {
+        if answers.is_scripted(site) {
+            self.nth(site, args)
+        } else {
+            1
         }
     }
 

@@ -8,11 +8,11 @@ use Rattle.orc_rules.specs.declared.param.Param.TheVariants as is
 use Rattle.orc_rules.specs.Term.{Term, Definition, site, values_of}
 use Rattle.orc_rules.specs.Idle.{has_void}
 use Rattle.orc_rules.specs.Nodes.{Listing, code, param_of, unfold_node}
-use Rattle.orc_rules.specs.Sites.{Site, find}
+use Rattle.orc_rules.specs.Sites.{Site, find, is_scripted}
 use Rattle.orc_rules.specs.Timed.{IsIn, nth_of}
 use Rattle.orc_rules.specs.declared.value.Found.{Found}
 use Rattle.orc_rules.specs.declared.entry.Entry.TheVariants as entry
-use Rattle.orc_calls.specs.Counting.{CountsCall, NextFound}
+use Rattle.orc_calls.specs.Counting.{CountsCall, NextFound, NextNth}
 use Rattle.orc_names.specs.declared.names.Bound.{Bound}
 use Rattle.orc_names.specs.declared.names.Bound.TheVariants as bound
 use Rattle.orc_names.specs.declared.names.Scope.{Scope}
@@ -150,13 +150,16 @@ module _ (l : Listing) (sites : List Site) (counts : List (List ℕ × ℕ)) (s 
   pub found-there : (found : Found) → NextFound table counts m args found → found ≡ find sites m args (nth_of m args K.lawful.place.calls)
   found-there found next = subst (λ z. NextFound z counts m args found) its next K.lawful.place.calls K.counted
 
-  pub called-kept : (t : Token) → IsIn t s.tokens → IsCall m args (term_of (code l) s t) → s.entries < s.limit → (c : Asked) → c.number ≡ s.made + 1 → c.found ≡ find sites m args (nth_of m args K.lawful.place.calls)
-      → (s' : Records) → c.step ≡ t.step → c.made_at ≡ s.now → Exchanges s s' (t ∷ []) [] [] (c ∷ []) 1 (entry.Call t.serial c.number m args) → (counts' : List (List ℕ × ℕ)) → CountsCall table m args counts counts' → Kept l sites counts' s'
-  called-kept t i (ps, values, form) room c number found s' step at T counts' counted =
-      let L' = call-lawful l sites s K.lawful t i m ps args form values room c number step s' T in
+  pub nth-there : (n : ℕ) → NextNth table counts m args n → is_scripted sites m ≡ true → n ≡ nth_of m args K.lawful.place.calls
+  nth-there n next = subst (λ z. NextNth z counts m args n) its next K.lawful.place.calls K.counted
+
+  pub called-kept : (t : Token) → IsIn t s.tokens → IsCall m args (term_of (code l) s t) → s.entries < s.limit → (c : Asked) → c.number ≡ s.made + 1 → c.found ≡ find sites m args (nth_of m args K.lawful.place.calls) → (is_scripted sites m ≡ true → c.nth ≡ nth_of m args K.lawful.place.calls)
+      → (s' : Records) → c.step ≡ t.step → c.made_at ≡ s.now → c.row ≡ length s.journal → Exchanges s s' (t ∷ []) [] [] (c ∷ []) 1 (entry.Call t.serial c.number m args) → (counts' : List (List ℕ × ℕ)) → CountsCall table m args counts counts' → Kept l sites counts' s'
+  called-kept t i (ps, values, form) room c number found which s' step at row T counts' counted =
+      let L' = call-lawful l sites s K.lawful t i m ps args form values room c number step row s' T in
       record {
         lawful = L';
         grouped = called-grouped l sites s K.lawful K.grouped t i c step s' (entry.Call t.serial c.number m args) T;
-        told = calls-told l sites s s' K.lawful L' K.told t m args c number found at T;
+        told = calls-told l sites s s' K.lawful L' K.told t m args c number found which at T;
         counted = counted-call l sites s s' K.lawful L' t.serial c.number m args T.journal counts counts' (subst (λ z. CountsCall z m args counts counts') its counted) K.counted;
       }

@@ -16,13 +16,14 @@ use Rattle.orc_rules.specs.Journal.{Place, Leads, Journal, begin}
 use Rattle.orc_names.specs.Scopes.{close, env_of}
 use Rattle.orc_ledger.specs.Same.{weight, only, None}
 use Rattle.orc_ledger.specs.Spelling.{Path, whole, Row, stands, pends, Numbered, right_of, left_of, marks, sides, seen}
-use Rattle.orc_ledger.specs.Records.{Records, Lawful, context, its_env, its_path, path, rows_of, sides_of, token_row, call_row, side_at, group_side, is_over, has_left, standing, is_out, token_out, call_out, step_out, has_serial, counts}
+use Rattle.orc_ledger.specs.Records.{Records, Lawful, context, its_env, its_path, path, rows_of, sides_of, token_row, call_row, side_at, group_side, is_over, has_left, standing, is_out, token_out, call_out, step_out, has_serial, counts, is_written}
 use Rattle.orc_ledger.specs.Calls.{Exchanges}
 use Rattle.orc_ledger.specs.declared.records.Standing.TheVariants.{On}
 use Rattle.orc_ledger.specs.declared.records.Token.{Token}
 use Rattle.orc_ledger.specs.declared.records.Call.{Call}
 use Rattle.orc_ledger.specs.declared.records.Side.{Side}
 use Rattle.orc_ledger.specs.declared.records.Side.TheVariants.{Right, Left}
+use Rattle.orc_ledger.proofs.Written.{written-more, written-last}
 use Rattle.orc_ledger.proofs.Weight.{weight-append, weight-map, weight-filter, weight-same, none-weaker, none-in, either_one}
 use Rattle.orc_ledger.proofs.Around.{Found, plug, path_of, path_in, unit, cells_of, replaced, marks-plug, sides-plug}
 use Rattle.orc_ledger.proofs.Lists.{token_found, call_found}
@@ -76,8 +77,8 @@ module _ (l : Listing) (sites : List Site) (s : Records) (L : Lawful l sites s) 
       → ((p : Path) → p ≡ path_in r → (w : Row → ℕ) → weight w (marks p (unit r)) ≡ w r)
       → ((v : Numbered → ℕ) (p : Path) → weight v (sides p (unit r)) ≡ 0)
       → q.mark ≡ s'.next_mark → q.cells ≡ L.place.cells → q.now ≡ s'.now → length q.calls ≡ s'.made → q.to_cancel ≡ [] → length ts' ≤ 1 → counts e ≡ 1 → s.entries < s.limit
-      → None (token_out (length s.scopes) (length s.steps)) ts' → None (call_out (length s.steps)) cs' → ((m : ℕ) → 1 ≤ weight (has_serial m) ts' → s.next_mark ≤ m) → Lawful l sites s'
-  exchanged r f new q is leads rows none_new unit_row unit_none mark cells now made_so due few real room tokens_in calls_in later =
+      → None (token_out (length s.scopes) (length s.steps)) ts' → None (call_out (length s.steps)) cs' → None (λ c. not (is_written s'.journal c)) cs' → ((m : ℕ) → 1 ≤ weight (has_serial m) ts' → s.next_mark ≤ m) → Lawful l sites s'
+  exchanged r f new q is leads rows none_new unit_row unit_none mark cells now made_so due few real room tokens_in calls_in of_calls later =
       let k = f.around in
       record {
         place = q;
@@ -110,13 +111,14 @@ module _ (l : Listing) (sites : List Site) (s : Records) (L : Lawful l sites s) 
         within = omega (arith, T.entries, T.limit, room);
         small = omega (arith, T.limit, L.small);
         counted = omega (arith, L.counted, T.mark, few, T.entries);
+        written = written-more s s' (e ∷ []) cs' T.journal (λ w. omega (arith, T.calls w)) of_calls L.written;
       }
 
 module _ (l : Listing) (sites : List Site) (s : Records) (L : Lawful l sites s) where
   -- token t asks a site
   pub call-lawful : (t : Token) → IsIn t s.tokens → (m : ℕ) (ps : List Param) (args : List Value) → standing (code l) (its_env (code l) s) t.standing ≡ site m ps → values_of ps ≡ Some args → s.entries < s.limit
-      → (c : Call) → c.number ≡ s.made + 1 → c.step ≡ t.step → (s' : Records) → Exchanges s s' (t ∷ []) [] [] (c ∷ []) 1 (entry.Call t.serial c.number m args) → Lawful l sites s'
-  call-lawful t i m ps args form values room c number step s' T =
+      → (c : Call) → c.number ≡ s.made + 1 → c.step ≡ t.step → c.row ≡ length s.journal → (s' : Records) → Exchanges s s' (t ∷ []) [] [] (c ∷ []) 1 (entry.Call t.serial c.number m args) → Lawful l sites s'
+  call-lawful t i m ps args form values room c number step row s' T =
       let f = token_found l sites s L t i in
       let E = entry.Call t.serial c.number m args in
       let x = context l sites in
@@ -133,7 +135,7 @@ module _ (l : Listing) (sites : List Site) (s : Records) (L : Lawful l sites s) 
       (λ w. omega (arith, rows_exchanged l sites s L s' (t ∷ []) [] [] (c ∷ []) 1 E T w, ap (λ z. w (pends c.number (its_path (code l) s z))) step))
       (λ v p. refl) (λ p same w. omega (arith, ap (λ z. w (stands t.serial (standing (code l) (its_env (code l) s) t.standing) z)) same)) (λ v p. refl)
       (omega (arith, L.spells.mark, T.mark)) refl (L.spells.now ∙ sym T.now) (omega (arith, L.spells.made, T.made_so)) L.spells.none_due (omega arith) refl room
-      refl (omega (arith, ap {B = ℕ} (λ b. cond b 1 0) c_in)) (λ n h. absurd (omega (arith, h)))
+      refl (omega (arith, ap {B = ℕ} (λ b. cond b 1 0) c_in)) (omega (arith, ap {B = ℕ} (λ b. cond b 1 0) (written-last s s' t.serial m args c T.journal row))) (λ n h. absurd (omega (arith, h)))
 
   -- a pending call is answered
   pub return-lawful : (c : Call) → IsIn c s.calls → (v : Value) → IsDue sites L.place.calls c.number (answer.Value v) L.place.now → s.entries < s.limit
@@ -153,7 +155,7 @@ module _ (l : Listing) (sites : List Site) (s : Records) (L : Lawful l sites s) 
       (λ w. omega (arith, rows_exchanged l sites s L s' [] (t ∷ []) (c ∷ []) [] 0 E T w))
       (λ u p. refl) (λ p same w. omega (arith, ap (λ z. w (pends c.number z)) same)) (λ u p. refl)
       (omega (arith, T.mark)) refl (L.spells.now ∙ sym T.now) (omega (arith, L.spells.made, T.made_so)) L.spells.none_due (omega arith) refl room
-      (omega (arith, ap {B = ℕ} (λ b. cond b 1 0) c_in)) refl (λ m h. later_one m n h)
+      (omega (arith, ap {B = ℕ} (λ b. cond b 1 0) c_in)) refl refl (λ m h. later_one m n h)
 
   pub return_halt-lawful : (c : Call) → IsIn c s.calls → IsDue sites L.place.calls c.number answer.Halt L.place.now → s.entries < s.limit
       → (s' : Records) → Exchanges s s' [] [] (c ∷ []) [] 0 (entry.ReturnHalt c.number) → Lawful l sites s'
@@ -168,4 +170,4 @@ module _ (l : Listing) (sites : List Site) (s : Records) (L : Lawful l sites s) 
       (λ w. omega (arith, rows_exchanged l sites s L s' [] [] (c ∷ []) [] 0 E T w))
       (λ u p. refl) (λ p same w. omega (arith, ap (λ z. w (pends c.number z)) same)) (λ u p. refl)
       (omega (arith, L.spells.mark, T.mark)) refl (L.spells.now ∙ sym T.now) (omega (arith, L.spells.made, T.made_so)) L.spells.none_due (omega arith) refl room
-      refl refl (λ n h. absurd (omega (arith, h)))
+      refl refl refl (λ n h. absurd (omega (arith, h)))

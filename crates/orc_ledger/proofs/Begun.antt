@@ -38,6 +38,7 @@ begun-lawful l sites limit small =
       within = omega arith;
       small = small;
       counted = omega arith;
+      written = refl;
     }
 
 one_root : (g : ℕ) (n : Nest) → the_root g ≡ Some n → n.step ≡ 0

@@ -26,7 +26,8 @@ use Rattle.orc_ledger.specs.declared.records.Call.{Call}
 use Rattle.orc_ledger.specs.declared.records.Side.{Side}
 use Rattle.orc_ledger.specs.declared.records.Side.TheVariants.{Right, Left}
 use Rattle.orc_ledger.specs.declared.records.Group.{Group}
-use Rattle.orc_ledger.proofs.Weight.{weight-append, weight-map, weight-parts, weight-none, none-alike}
+use Rattle.orc_ledger.proofs.Written.{written-kept}
+use Rattle.orc_ledger.proofs.Weight.{weight-append, weight-map, weight-parts, weight-none, none-alike, weight-but}
 use Rattle.orc_ledger.proofs.Around.{plug, path_of, cells_of, replaced, Opened, marks-plug, sides-plug}
 use Rattle.orc_ledger.proofs.Kept as kept
 use Rattle.orc_ledger.specs.Taking.{taker}
@@ -130,6 +131,7 @@ module _ (l : Listing) (sites : List Site) (s : Records) (L : Lawful l sites s) 
         within = omega (arith, D.entries, D.limit, room);
         small = omega (arith, D.limit, L.small);
         counted = omega (arith, L.counted, D.mark, D.entries);
+        written = written-kept s s' (Bind t.serial c v ∷ map Cancel ks) journal (λ w. omega (arith, D.calls w, weight-but (call_goes (code l) c s) w s.calls)) L.written;
       }
 
 -- ---- a side in which nothing is left has halted
@@ -246,6 +248,7 @@ module _ (l : Listing) (sites : List Site) (s : Records) (L : Lawful l sites s) 
         within = omega (arith, D.entries, D.limit, room);
         small = omega (arith, D.limit, L.small);
         counted = omega (arith, L.counted, D.mark, D.entries);
+        written = written-kept s s' (Lost c ∷ []) journal (λ w. omega (arith, D.calls w, weight-but (call_goes (code l) c s) w s.calls)) L.written;
       }
 
   -- with no record left the term has halted

@@ -93,6 +93,7 @@ module _ (l : Listing) (sites : List Site) (s : Records) (L : Lawful l sites s) 
         within = omega (arith, T.entries, T.limit, L.within);
         small = omega (arith, T.limit, L.small);
         counted = omega (arith, L.counted, T.mark, T.entries);
+        written = rw (T.calls, T.journal) L.written;
       }
 
 -- a step that is there is none of the bad ones

@@ -3,7 +3,7 @@ use Rattle.std.proofs.Common.{◌≡◌, ◌≤◌, ◌<◌, ℕ, suc, ◌+◌, 
 use Rattle.std.proofs.lemmas.Bool.{eqb-true}
 use Rattle.std.proofs.lemmas.Bool.Decides.{Decides-int_eq}
 use Rattle.std.proofs.lemmas.List.{length-map}
-use Rattle.std.specs.Prelude.{◌↔◌, ◌&&◌}
+use Rattle.std.specs.Prelude.{◌↔◌, ◌&&◌, ◌||◌}
 use Rattle.orc_rules.specs.declared.value.Value.{Value}
 use Rattle.orc_rules.specs.declared.value.Value.TheVariants.{Number, Truth, Signal}
 use Rattle.orc_rules.specs.declared.value.Answer.{Answer}
@@ -14,7 +14,7 @@ use Rattle.orc_rules.specs.declared.entry.Entry.{Entry}
 use Rattle.orc_rules.specs.declared.entry.Entry.TheVariants.{End, Fork, Seq, Other, Def, Open, Send, Call as Calls, Return, ReturnHalt, Bind, Lost, Right, Publish, Tick, Cancel}
 use Rattle.orc_rules.specs.declared.entry.Entry.TheVariants as entry
 use Rattle.orc_rules.specs.Nodes.{Listing, source}
-use Rattle.orc_rules.specs.Sites.{Site, find, value_eq}
+use Rattle.orc_rules.specs.Sites.{Site, find, is_scripted, value_eq}
 use Rattle.orc_rules.specs.Term.{Term}
 use Rattle.orc_rules.specs.Timed.{Context, CallMade, IsIn, IsDue, says_of, nth_of, number_of}
 use Rattle.orc_rules.specs.Journal.{Place, Enters, Journal, begin}
@@ -24,7 +24,7 @@ use Rattle.orc_rules.proofs.Numbered.{next_not}
 use Rattle.orc_calls.specs.Counting.{AreCounted as HaveCounts, CountsCall}
 use Rattle.orc_ledger.specs.Same.{weight, only}
 use Rattle.orc_ledger.specs.Records.{Records, Lawful, context}
-use Rattle.orc_ledger.specs.Told.{found_eq, is_told, AreTold}
+use Rattle.orc_ledger.specs.Told.{found_eq, is_nth, is_told, AreTold}
 use Rattle.orc_ledger.specs.declared.records.Call.{Call}
 use Rattle.orc_ledger.proofs.Weight.{none-weaker}
 use Rattle.orc_ledger.proofs.Binding.{journal_more}
@@ -142,10 +142,14 @@ found_self (After Halt d) = eq-eqb d d refl
 found_self Never = refl
 
 -- a new call's record, where it says what the table does
-told_new : (sites : List Site) (ms : List CallMade) (m : ℕ) (args : List Value) (nth now : ℕ) (c : Call) → c.found ≡ find sites m args nth → c.made_at ≡ now → is_told sites (record { number = c.number; site = m; args = args; nth = nth; at = now } ∷ ms) c ≡ true
-told_new sites ms m args nth now c found at =
+told_new : (sites : List Site) (ms : List CallMade) (m : ℕ) (args : List Value) (nth now : ℕ) (c : Call) → c.found ≡ find sites m args nth → (is_scripted sites m ≡ true → c.nth ≡ nth) → c.made_at ≡ now → is_told sites (record { number = c.number; site = m; args = args; nth = nth; at = now } ∷ ms) c ≡ true
+told_new sites ms m args nth now c found which at =
     let same : found_eq (find sites m args nth) c.found ≡ true = ap (λ f. found_eq f c.found) (sym found) ∙ found_self c.found in
-    λ i. cond (eq-eqb c.number c.number refl i) (same i && eq-eqb now c.made_at (sym at) i) (is_told sites ms c)
+    λ i. cond (eq-eqb c.number c.number refl i) (same i && eq-eqb now c.made_at (sym at) i && nth_so (is_scripted sites m) which i) (is_told sites ms c)
+  where
+    nth_so : (b : Bool) → (b ≡ true → Call.nth c ≡ nth) → (not b || nat_eq nth (Call.nth c)) ≡ true
+    nth_so true h = eq-eqb nth (Call.nth c) (sym (h refl))
+    nth_so false h = refl
 
 -- an older one's stays right
 older : (sites : List Site) (ms : List CallMade) (made : CallMade) (d : Call) → number_of made ≡ suc (length (map number_of ms)) → AreCounted (map number_of ms) → not (is_told sites ms d) ≡ false → not (is_told sites (made ∷ ms) d) ≡ false
@@ -155,7 +159,7 @@ older sites ms made d first num h = go (nat_eq d.number made.number) refl
     yes_not true h = refl
     yes_not false h = cc h
 
-    go : (b : Bool) → nat_eq d.number (CallMade.number made) ≡ b → not (cond b (found_eq (says_of sites made) d.found && nat_eq (CallMade.at made) d.made_at) (is_told sites ms d)) ≡ false
+    go : (b : Bool) → nat_eq d.number (CallMade.number made) ≡ b → not (cond b (found_eq (says_of sites made) d.found && nat_eq (CallMade.at made) d.made_at && is_nth sites made d.nth) (is_told sites ms d)) ≡ false
     go false e = h
     go true e =
         let w = told_is sites ms d (yes_not (is_told sites ms d) h) in
@@ -190,14 +194,14 @@ module _ (l : Listing) (sites : List Site) (s s' : Records) (L : Lawful l sites 
 
   -- a call that comes is told
   pub told-call : (serial : ℕ) (m : ℕ) (args : List Value) (c : Call) → s'.journal ≡ s.journal ++ Calls serial c.number m args ∷ []
-      → c.number ≡ s.made + 1 → c.found ≡ find sites m args (nth_of m args L.place.calls) → c.made_at ≡ s.now
+      → c.number ≡ s.made + 1 → c.found ≡ find sites m args (nth_of m args L.place.calls) → (is_scripted sites m ≡ true → c.nth ≡ nth_of m args L.place.calls) → c.made_at ≡ s.now
       → ((w : Call → ℕ) → weight w s'.calls ≡ weight w s.calls + w c) → AreTold sites L.place.calls s.calls → AreTold sites L'.place.calls s'.calls
-  told-call serial m args c e number found at one told =
+  told-call serial m args c e number found which at one told =
       let x = context l sites in
       let j = added (Calls serial c.number m args ∷ []) e in
       let made : CallMade = record { number = c.number; site = m; args = args; nth = nth_of m args L.place.calls; at = L.place.now } in
       let first : c.number ≡ suc (length (map number_of L.place.calls)) = omega (arith, number, L.spells.made, length-map L.place.calls number_of) in
-      let mine : cond {A = ℕ} (not (is_told sites (made ∷ L.place.calls) c)) 1 0 ≡ 0 = ap (λ b. cond {A = ℕ} (not b) 1 0) (told_new sites L.place.calls m args (nth_of m args L.place.calls) L.place.now c found (at ∙ sym L.spells.now)) in
+      let mine : cond {A = ℕ} (not (is_told sites (made ∷ L.place.calls) c)) 1 0 ≡ 0 = ap (λ b. cond {A = ℕ} (not b) 1 0) (told_new sites L.place.calls m args (nth_of m args L.place.calls) L.place.now c found which (at ∙ sym L.spells.now)) in
       let calls : L'.place.calls ≡ made ∷ L.place.calls = ap (λ (w : Place). w.calls) (sym j.2) ∙ calls_entered x L.place j.0 (Calls serial c.number m args) j.1.1 in
       subst (λ cs. AreTold sites cs s'.calls) (sym calls) (omega (
         arith,

@@ -14,6 +14,7 @@ use Rattle.orc_ledger.specs.Records.{Records, Lawful, context, its_env, standing
 use Rattle.orc_ledger.specs.Calls.{Turns}
 use Rattle.orc_ledger.specs.declared.records.Token.{Token}
 use Rattle.orc_ledger.specs.declared.records.Group.{Group}
+use Rattle.orc_ledger.proofs.Written.{written-kept}
 use Rattle.orc_ledger.proofs.Weight.{weight-append}
 use Rattle.orc_ledger.proofs.Around.{plug, cells_of, replaced}
 use Rattle.orc_ledger.proofs.Lists.{token_found}
@@ -39,6 +40,7 @@ module _ (l : Listing) (sites : List Site) (s : Records) (L : Lawful l sites s) 
         within = omega (arith, room);
         small = L.small;
         counted = omega (arith, L.counted);
+        written = written-kept s (ticked t) (entry.Tick t ∷ []) refl (λ w. omega arith) L.written;
       }
 
   pub void-lawful : (t : Token) → IsIn t s.tokens → IsVoid (standing (code l) (its_env (code l) s) t.standing) → s.entries < s.limit → (s' : Records) → Turns s s' t [] [] [] [] [] (entry.Void t.serial) → Lawful l sites s'

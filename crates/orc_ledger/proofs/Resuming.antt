@@ -19,6 +19,7 @@ use Rattle.orc_ledger.specs.declared.records.Call.{Call}
 use Rattle.orc_ledger.specs.declared.records.Side.{Side}
 use Rattle.orc_ledger.specs.declared.records.Side.TheVariants.{Right, Left}
 use Rattle.orc_ledger.specs.declared.records.Group.{Group}
+use Rattle.orc_ledger.proofs.Written.{written-kept}
 use Rattle.orc_ledger.proofs.Weight.{weight-append, weight-map, weight-filter, weight-same, weight-none, none-alike, none-weaker, none-in, either_one}
 use Rattle.orc_ledger.proofs.Around.{plug, path_of, cells_of, replaced, Opened, marks-plug, sides-plug}
 use Rattle.orc_ledger.proofs.Lists.{rows-weigh, sides-weigh, side_found, empty-halted}
@@ -216,4 +217,5 @@ module _ (l : Listing) (sites : List Site) (s : Records) (L : Lawful l sites s) 
         within = omega (arith, T.entries, T.limit, room);
         small = omega (arith, T.limit, L.small);
         counted = omega (arith, L.counted, T.mark, T.entries);
+        written = written-kept s s' (entry.Right n s.next_mark ∷ []) T.journal (λ w. omega (arith, ap (weight w) T.calls)) L.written;
       }

@@ -23,6 +23,7 @@ use Rattle.orc_ledger.specs.Records.{Records, Lawful, context, its_env, its_path
 use Rattle.orc_ledger.specs.Calls.{Crosses}
 use Rattle.orc_ledger.specs.declared.records.Standing.TheVariants.{At}
 use Rattle.orc_ledger.specs.declared.records.Token.{Token}
+use Rattle.orc_ledger.proofs.Written.{written-kept}
 use Rattle.orc_ledger.proofs.Weight.{weight-append}
 use Rattle.orc_ledger.proofs.Around.{Around, plug, marks-plug, sides-plug}
 use Rattle.orc_ledger.specs.Taking.{taker, crossed}
@@ -92,6 +93,7 @@ module _ (l : Listing) (sites : List Site) (s : Records) (L : Lawful l sites s) 
         within = omega (arith, T.entries, T.limit, room);
         small = omega (arith, T.limit, L.small);
         counted = omega (arith, L.counted, T.mark, T.entries);
+        written = written-kept s s' (Publish t.serial v ∷ []) T.journal (λ w. omega (arith, ap (weight w) T.calls)) L.written;
       }
 
   pub send-lawful : (x g scope outer : ℕ) → scope ≤ length s.scopes → outer ≤ length s.steps → taker here ≡ feeding x (close (without x (its_env cd s scope)) (cd g)) (its_path cd s outer) → s.entries < s.limit
@@ -134,4 +136,5 @@ module _ (l : Listing) (sites : List Site) (s : Records) (L : Lawful l sites s) 
         within = omega (arith, T.entries, T.limit, room);
         small = omega (arith, T.limit, L.small);
         counted = omega (arith, L.counted, T.mark, T.entries);
+        written = written-kept s s' (E ∷ []) T.journal (λ w. omega (arith, ap (weight w) T.calls)) L.written;
       }

@@ -2,18 +2,18 @@
 use Rattle.std.proofs.Common.{◌≡◌, ◌≤◌, ◌<◌, ℕ, ◌+◌, ◌^◌, List, [], ◌∷◌, refl, sym, ap, ◌∙◌, subst, arith, inl, inr, Bool, true, false, cond, nat_eq, not, map, Option, Some, None}
 use Rattle.std.proofs.lemmas.Bool.{eqb-true, ltb-true, ltb-false}
 use Rattle.std.proofs.lemmas.Bool.Decides.{Decides-int_eq}
-use Rattle.std.specs.Prelude.{◌&&◌, nat_lt}
+use Rattle.std.specs.Prelude.{◌&&◌, ◌||◌, nat_lt}
 use Rattle.orc_rules.specs.declared.value.Value.{Value}
 use Rattle.orc_rules.specs.declared.value.Value.TheVariants.{Number, Truth, Signal}
 use Rattle.orc_rules.specs.declared.value.Answer.{Answer}
 use Rattle.orc_rules.specs.declared.value.Answer.TheVariants.{Value as Gives, Halt}
 use Rattle.orc_rules.specs.declared.value.Found.{Found}
 use Rattle.orc_rules.specs.declared.value.Found.TheVariants.{After, Never}
-use Rattle.orc_rules.specs.Sites.{Site, value_eq}
+use Rattle.orc_rules.specs.Sites.{Site, value_eq, is_scripted}
 use Rattle.orc_rules.specs.Timed.{CallMade, IsIn, says_of, number_of}
 use Rattle.orc_rules.specs.Numbered.{AreCounted}
 use Rattle.orc_rules.proofs.Numbered.{next_not}
-use Rattle.orc_ledger.specs.Told.{found_eq, is_told, IsTold, AreTold}
+use Rattle.orc_ledger.specs.Told.{found_eq, is_nth, is_told, IsTold, AreTold}
 use Rattle.orc_calls.specs.Due.{due_by}
 use Rattle.orc_ledger.specs.Next.{due_of, earlier, next_due}
 use Rattle.orc_ledger.specs.declared.records.Call.{Call}
@@ -22,6 +22,10 @@ use Rattle.orc_ledger.proofs.Weight.{none-in}
 both_true : (a b : Bool) → (a && b) ≡ true → (a ≡ true) × (b ≡ true)
 both_true true b h = (refl, h)
 both_true false b h = cc h
+
+or_true : (a b : Bool) → a ≡ true → (not a || b) ≡ true → b ≡ true
+or_true true b e h = h
+or_true false b e h = cc e
 
 value_same : (v w : Value) → value_eq v w ≡ true → v ≡ w
 value_same (Number a) (Number b) h = ap Number ((Decides-int_eq a b).0 h)
@@ -52,11 +56,12 @@ pub told_is : (sites : List Site) (made : List CallMade) (c : Call) → is_told 
 told_is sites [] c h = cc h
 told_is sites (m ∷ ms) c h = go (nat_eq c.number m.number) refl h (λ k. told_is sites ms c k)
   where
-    go : (b : Bool) → nat_eq c.number (CallMade.number m) ≡ b → cond b (found_eq (says_of sites m) c.found && nat_eq (CallMade.at m) c.made_at) (is_told sites ms c) ≡ true → (is_told sites ms c ≡ true → IsTold sites ms c) → IsTold sites (m ∷ ms) c
+    go : (b : Bool) → nat_eq c.number (CallMade.number m) ≡ b → cond b (found_eq (says_of sites m) c.found && nat_eq (CallMade.at m) c.made_at && is_nth sites m c.nth) (is_told sites ms c) ≡ true → (is_told sites ms c ≡ true → IsTold sites ms c) → IsTold sites (m ∷ ms) c
     go true e h ih =
-        let k = both_true (found_eq (says_of sites m) c.found) (nat_eq (CallMade.at m) c.made_at) h in
-        record { by = m; is_made = inl refl; is_k = sym (eqb-true c.number (CallMade.number m) e); says = found_same (says_of sites m) c.found k.0; at = eqb-true (CallMade.at m) c.made_at k.1 }
-    go false e h ih = let d = ih h in record { by = d.by; is_made = inr d.is_made; is_k = d.is_k; says = d.says; at = d.at }
+        let w = both_true (found_eq (says_of sites m) c.found && nat_eq (CallMade.at m) c.made_at) (is_nth sites m c.nth) h in
+        let k = both_true (found_eq (says_of sites m) c.found) (nat_eq (CallMade.at m) c.made_at) w.0 in
+        record { by = m; is_made = inl refl; is_k = sym (eqb-true c.number (CallMade.number m) e); says = found_same (says_of sites m) c.found k.0; at = eqb-true (CallMade.at m) c.made_at k.1; nth = λ s. eqb-true (CallMade.nth m) c.nth (or_true (is_scripted sites (CallMade.site m)) (nat_eq (CallMade.nth m) c.nth) s w.1) }
+    go false e h ih = let d = ih h in record { by = d.by; is_made = inr d.is_made; is_k = d.is_k; says = d.says; at = d.at; nth = d.nth }
 
 pub told_in : (sites : List Site) (made : List CallMade) (calls : List Call) → AreTold sites made calls → (c : Call) → IsIn c calls → IsTold sites made c
 told_in sites made calls h c i = told_is sites made c (yes_not (is_told sites made c) (none-in (λ c. not (is_told sites made c)) calls c h i))

@@ -24,6 +24,7 @@ use Rattle.orc_ledger.specs.declared.records.Step.{Step}
 use Rattle.orc_ledger.specs.declared.records.Side.{Side}
 use Rattle.orc_ledger.specs.declared.records.Side.TheVariants.{Right, Left}
 use Rattle.orc_ledger.specs.declared.records.Group.{Group}
+use Rattle.orc_ledger.proofs.Written.{written-kept}
 use Rattle.orc_ledger.proofs.Weight.{weight-append, weight-map, weight-filter, none-alike, none-weaker, none-in}
 use Rattle.orc_ledger.proofs.Around.{plug, unit, marks-plug, sides-plug}
 use Rattle.orc_ledger.proofs.Lists.{token_found}
@@ -179,4 +180,5 @@ module _ (l : Listing) (sites : List Site) (s : Records) (L : Lawful l sites s) 
         within = omega (arith, T.entries, T.limit, room);
         small = omega (arith, T.limit, L.small);
         counted = omega (arith, L.counted, T.mark, few, T.entries);
+        written = written-kept s s' (e ∷ []) T.journal (λ w. omega (arith, ap (weight w) T.calls)) L.written;
       }

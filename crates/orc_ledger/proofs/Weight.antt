@@ -44,6 +44,14 @@ pub weight-least : {X : Type 0} (v w : X → ℕ) (xs : List X) → ((x : X) →
 weight-least v w [] h = omega arith
 weight-least v w (x ∷ xs) h = omega (arith, h x, weight-least v w xs h)
 
+-- what is left of it
+pub weight-but : {X : Type 0} (gone : X → Bool) (w : X → ℕ) (xs : List X) → weight (but gone w) xs ≤ weight w xs
+weight-but gone w xs = weight-least (but gone w) w xs (λ x. less (gone x) (w x))
+  where
+    less : (b : Bool) (n : ℕ) → cond b 0 n ≤ n
+    less true n = omega arith
+    less false n = omega arith
+
 pub weight-none : {X : Type 0} (w : X → ℕ) (xs : List X) → ((x : X) → w x ≡ 0) → weight w xs ≡ 0
 weight-none w [] h = refl
 weight-none w (x ∷ xs) h = omega (arith, h x, weight-none w xs h)

@@ -2,6 +2,7 @@
 use Rattle.std.specs.Prelude.{ℕ, zero, suc, ◌+◌, ◌*◌, ◌≤◌, ◌≡◌, List, [], ◌∷◌, ◌++◌, length, map, filter, Bool, true, false, cond, nat_eq, nat_lt, not, ◌&&◌, ◌||◌, slice_index_or, slice_get, Option, Some, None as Nothing}
 use Rattle.orc_rules.specs.declared.entry.Entry.{Entry}
 use Rattle.orc_rules.specs.declared.entry.Entry.TheVariants.{Cancel}
+use Rattle.orc_rules.specs.declared.entry.Entry.TheVariants as entry
 use Rattle.orc_rules.specs.declared.param.Param.TheVariants.{Is}
 use Rattle.orc_rules.specs.Term.{Term, param}
 use Rattle.orc_rules.specs.Nodes.{Listing, code, source, definitions}
@@ -202,12 +203,22 @@ abbrev pub counts : Entry → ℕ
 counts (Cancel k) = 0
 counts _ = 1
 
+-- the entry is call k
+abbrev pub is_call : ℕ → Option Entry → Bool
+is_call k (Some (entry.Call s j m args)) = nat_eq k j
+is_call k _ = false
+
+-- the call's entry is at its place in the journal
+abbrev pub is_written : List Entry → Call → Bool
+is_written es c = is_call c.number (slice_get es c.row)
+
 -- the journal leads from the program's term to a place that the records spell
 pub record Lawful (l : Listing) (sites : List Site) (s : Records) : Type 0 where
   pub place : Place
   pub leads : Journal (context l sites) (begin (source l)) s.journal place
   pub spells : Spells (code l) s place
   pub sound : Sound s
+  pub written : Nobody (λ c. not (is_written s.journal c)) s.calls
   -- cancels don't count
   pub entries : s.entries ≡ weight counts s.journal
   pub within : s.entries ≤ s.limit

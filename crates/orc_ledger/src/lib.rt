@@ -30,6 +30,6 @@ pub use laws::{
 pub use ledger::{Ledger, LedgerFault, Program};
 pub use moves::Moved;
 pub use next::Next;
-pub use records::{Call, Entered, Group, Side, Standing, Step, Token};
+pub use records::{Call, Entered, Group, Request, Side, Standing, Step, Token};
 pub use taking::Taker;
 pub use what::What;

@@ -1,6 +1,6 @@
 //! The records of a run.
 
-use orc_rules::value::{Found, Value};
+use orc_rules::value::{Args, Found, Value};
 
 /// Where a token stands: at a node of the program in a scope, or on a value that a call has answered.
 #[derive(Clone, Copy)]
@@ -17,13 +17,26 @@ pub struct Token {
     pub step: usize,
 }
 
-/// A call that pends: the table's word on it, and when it was made.
+/// A call that pends: the table's word on it, when it was made, and the place of its entry in the journal, from 0.
 #[derive(Clone, Copy)]
 pub struct Call {
     pub number: u64,
     pub found: Found,
     pub made_at: u64,
     pub step: usize,
+    pub row: usize,
+    /// Which call it is of its site with the same arguments, from 1; 1 where no script answers the site.
+    pub nth: u64,
+}
+
+/// What a call asks: its site, its arguments, when it was made, and which call it is of this site with these arguments, from 1; 1 where no script
+/// answers the site.
+#[derive(Drop)]
+pub struct Request {
+    pub site: u32,
+    pub args: Args,
+    pub made_at: u64,
+    pub nth: u64,
 }
 
 /// What a step enters: the left side of a `>x>` with its name, the node of its right side and its scope; the right side of a cell; the

@@ -1,4 +1,4 @@
-//! Calls of sites: a token makes one, and it pends.
+//! Calls of sites: a token makes one, and it pends; what it asks.
 
 ghost use Rattle.std.specs.Prelude.{◌≡◌, ◌≤◌, ◌++◌, ◌∷◌, [], ℕ, List, Some, length, IfOk, IfErr, MatchOption, OnOk, OnErr};
 ghost use Rattle.orc_rules.specs.Nodes.{code, definitions};
@@ -12,18 +12,19 @@ ghost use Rattle.orc_calls.specs.Counting.{CountsCall};
 ghost use Rattle.orc_ledger.specs.Answers.{Pends};
 ghost use Rattle.orc_ledger.specs.Calls.{IsRefused, has_number};
 ghost use Rattle.orc_ledger.specs.Doing.{IsCall, closed, term_of, what_of};
-ghost use Rattle.orc_ledger.specs.Requests.{IsMade};
+ghost use Rattle.orc_ledger.specs.Requests.{IsAsked, IsMade};
 ghost use Rattle.orc_ledger.specs.Same.{weight};
 ghost use Rattle.orc_ledger.specs.Tokens.{IsHeld};
 
 use crate::ledger::{Ledger, LedgerFault, Program};
-use crate::records::{Call, Standing, Token};
+use crate::records::{Call, Request, Standing, Token};
 use crate::what::What;
 use orc_calls::Counts;
 use orc_graph::{Graph, Node};
 use orc_journal::Journal;
 use orc_names::{Bound, Scope, meaning};
 use orc_rules::answers::Answers;
+use orc_rules::entry::Entry;
 use orc_rules::param::Operand;
 use orc_rules::value::Args;
 
@@ -129,6 +130,8 @@ impl<P: Program> Ledger<P> {
             found: self.counts.found(answers, site, args),
             made_at: self.time,
             step: token.step,
+            row: self.journal.len(),
+            nth: self.counts.next_nth(answers, site, args),
         };
         match self.calls.reserve(call) {
             Ok(()) => {}
@@ -147,6 +150,27 @@ impl<P: Program> Ledger<P> {
         self.tokens.remove(slot);
         self.calls.add(call);
         Ok(call)
+    }
+
+    /// What the call that pends with this number asks.
+    pub fn request(&self, number: u64) -> Option<Request>
+        ensures { MatchOption result (weight (has_number number) self.now.calls ≡ 0) (IsAsked P.listing P.sites self.now number) }
+    {
+        let Some(call) = self.calls.get(number) else {
+            return None;
+        };
+        let Some(entry) = self.journal.get(call.row) else {
+            unreachable!()
+        };
+        let Entry::Call(_, _, site, args) = entry else {
+            unreachable!()
+        };
+        Some(Request {
+            site,
+            args,
+            made_at: call.made_at,
+            nth: call.nth,
+        })
     }
 
     /// The call that pends with this number.
