@@ -1,5 +1,5 @@
 -- What the rules and the records say of a call that is answered, and of a tick.
-use Rattle.std.proofs.Common.{◌≡◌, ◌<◌, ◌+◌, ◌^◌, ℕ, List, [], refl, sym, ap, ◌∙◌, subst}
+use Rattle.std.proofs.Common.{◌≡◌, ◌<◌, ◌^◌, ℕ, List, [], refl, sym, ◌∙◌, subst}
 use Rattle.orc_rules.specs.declared.value.Answer.{Answer}
 use Rattle.orc_rules.specs.declared.value.Found.{Found}
 use Rattle.orc_rules.specs.declared.entry.RuleFault.{RuleFault}
@@ -27,7 +27,7 @@ not-due at found a t fault.Halted h d = elim h [ ]
 not-due at found a t fault.Deep h d = elim h [ ]
 not-due at found a t fault.Memory h d = elim h [ ]
 
-module _ (l : Listing) (sites : List Site) (counts : List (List ℕ × ℕ)) (s : Records) (K : Kept l sites counts s) where
+module _ (l : Listing) (sites : List Site) (counts : List (List ℕ × ℕ)) (sizes : List ℕ) (s : Records) (K : Kept l sites counts sizes s) where
   -- the journal leads to one place
   pub one-place : (p : Place) → IsAt l sites s p → p ≡ K.lawful.place
   one-place p h = journal_one (context l sites) (source l) [] (begin (source l)) p K.lawful.place s.journal refl h K.lawful.leads

@@ -25,7 +25,8 @@ use Rattle.orc_graph.specs.Graph.{term_node}
 use Rattle.orc_ledger.specs.Spelling.{Path, whole, feeding, aiding, trying}
 use Rattle.orc_ledger.specs.Calls.{Exchanges}
 use Rattle.orc_ledger.specs.Kept.{Kept}
-use Rattle.orc_ledger.specs.Records.{Records}
+use Rattle.orc_ledger.specs.Records.{Records, group_at}
+use Rattle.orc_ledger.specs.Next.{is_this}
 use Rattle.orc_ledger.specs.Doing.{IsCall, term_of, closed, taken, of_param, what_site, what_def, what_by}
 use Rattle.orc_ledger.specs.declared.what.What.TheVariants.{Call}
 use Rattle.orc_ledger.specs.declared.records.Token.{Token}
@@ -34,6 +35,7 @@ use Rattle.orc_ledger.proofs.Asking.{call-lawful}
 use Rattle.orc_ledger.proofs.Calling.{calls-told}
 use Rattle.orc_ledger.proofs.Grouped.{called-grouped}
 use Rattle.orc_ledger.proofs.Keeping.{counted-call}
+use Rattle.orc_ledger.proofs.Sizes.{exchanged-members}
 use Rattle.orc_ledger.proofs.Meaning.{rest_some}
 use Rattle.orc_ledger.proofs.Forms.{at-stop, at-param, at-call, at-par, at-seq, at-prune, at-other}
 
@@ -145,7 +147,7 @@ module _ (defs : List Definition) (p : Path) where
     site-called t m ops form h = site-values (closed env ops) (sym (ap (λ u. what_by defs p (close env u)) form ∙ ap (what_by defs p) (close-site env m (map param_of ops))) ∙ h)
 
 -- ---- a call that is made
-module _ (l : Listing) (sites : List Site) (counts : List (List ℕ × ℕ)) (s : Records) (K : Kept l sites counts s) (table : List Site) (its : table ≡ sites) (m : ℕ) (args : List Value) where
+module _ (l : Listing) (sites : List Site) (counts : List (List ℕ × ℕ)) (sizes : List ℕ) (s : Records) (K : Kept l sites counts sizes s) (table : List Site) (its : table ≡ sites) (m : ℕ) (args : List Value) where
   -- the table's word is that of the calls that the journal has
   pub found-there : (found : Found) → NextFound table counts m args found → found ≡ find sites m args (nth_of m args K.lawful.place.calls)
   found-there found next = subst (λ z. NextFound z counts m args found) its next K.lawful.place.calls K.counted
@@ -154,7 +156,7 @@ module _ (l : Listing) (sites : List Site) (counts : List (List ℕ × ℕ)) (s 
   nth-there n next = subst (λ z. NextNth z counts m args n) its next K.lawful.place.calls K.counted
 
   pub called-kept : (t : Token) → IsIn t s.tokens → IsCall m args (term_of (code l) s t) → s.entries < s.limit → (c : Asked) → c.number ≡ s.made + 1 → c.found ≡ find sites m args (nth_of m args K.lawful.place.calls) → (is_scripted sites m ≡ true → c.nth ≡ nth_of m args K.lawful.place.calls)
-      → (s' : Records) → c.step ≡ t.step → c.made_at ≡ s.now → c.row ≡ length s.journal → Exchanges s s' (t ∷ []) [] [] (c ∷ []) 1 (entry.Call t.serial c.number m args) → (counts' : List (List ℕ × ℕ)) → CountsCall table m args counts counts' → Kept l sites counts' s'
+      → (s' : Records) → c.step ≡ t.step → c.made_at ≡ s.now → c.row ≡ length s.journal → Exchanges s s' (t ∷ []) [] [] (c ∷ []) 1 (entry.Call t.serial c.number m args) → (counts' : List (List ℕ × ℕ)) → CountsCall table m args counts counts' → Kept l sites counts' sizes s'
   called-kept t i (ps, values, form) room c number found which s' step at row T counts' counted =
       let L' = call-lawful l sites s K.lawful t i m ps args form values room c number step row s' T in
       record {
@@ -162,4 +164,6 @@ module _ (l : Listing) (sites : List Site) (counts : List (List ℕ × ℕ)) (s 
         grouped = called-grouped l sites s K.lawful K.grouped t i c step s' (entry.Call t.serial c.number m args) T;
         told = calls-told l sites s s' K.lawful L' K.told t m args c number found which at T;
         counted = counted-call l sites s s' K.lawful L' t.serial c.number m args T.journal counts counts' (subst (λ z. CountsCall z m args counts counts') its counted) K.counted;
+        -- it is in the token's group
+        sized = λ j. omega (arith, exchanged-members s s' (t ∷ []) [] [] (c ∷ []) 1 (entry.Call t.serial c.number m args) T j, K.sized j, ap (λ z. is_this j (group_at s.steps z)) step);
       }

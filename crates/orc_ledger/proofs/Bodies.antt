@@ -1,5 +1,5 @@
 -- A call of a definition becomes its body, in a scope for its parameters, and keeps the records lawful.
-use Rattle.std.proofs.Common.{◌≡◌, ◌≤◌, ◌<◌, ℕ, suc, ◌+◌, List, [], ◌∷◌, ◌++◌, refl, sym, ap, ◌∙◌, subst, arith, append-nil, length, length-append, map, false, Option, Some, None, inl, inr}
+use Rattle.std.proofs.Common.{◌≡◌, ◌<◌, ℕ, suc, ◌+◌, List, [], ◌∷◌, ◌++◌, refl, sym, ap, ◌∙◌, arith, append-nil, length, map, false, Option, Some, None, inl, inr}
 use Rattle.std.specs.Prelude.{nat_lt, slice_get, option_map}
 use Rattle.orc_rules.specs.declared.param.Operand.{Operand}
 use Rattle.orc_rules.specs.declared.param.Param.{Param}
@@ -16,7 +16,7 @@ use Rattle.orc_names.proofs.Scopes.{close-call}
 use Rattle.orc_graph.specs.Ranges.{params_at, params_or_none}
 use Rattle.orc_ledger.specs.Spelling.{stands}
 use Rattle.orc_ledger.specs.Records.{Records, Lawful, context, its_env, its_path, token_row, token_out}
-use Rattle.orc_ledger.specs.Calls.{Turns, born}
+use Rattle.orc_ledger.specs.Calls.{born}
 use Rattle.orc_ledger.specs.Next.{AreGrouped, numbers_of}
 use Rattle.orc_ledger.specs.Parameters.{Adds, IsDefined}
 use Rattle.orc_ledger.specs.declared.records.Standing.TheVariants.{At}

@@ -1,5 +1,5 @@
 -- A group that a publication has left goes: nothing that the records spell changes.
-use Rattle.std.proofs.Common.{◌≡◌, ◌≤◌, ℕ, zero, suc, ◌+◌, List, [], ◌∷◌, inl, Some, refl, sym, ap, ◌∙◌, subst, arith, length, map, Bool, true, false, cond, not}
+use Rattle.std.proofs.Common.{◌≡◌, ◌≤◌, ℕ, zero, suc, List, [], ◌∷◌, inl, Some, refl, sym, ap, ◌∙◌, subst, arith, length, map, Bool, true, false, cond, not}
 use Rattle.std.specs.Prelude.{slice_get, nat_lt}
 use Rattle.std.proofs.lemmas.Bool.{ltb-true}
 use Rattle.orc_rules.specs.Timed.{IsIn}
@@ -9,14 +9,13 @@ use Rattle.orc_rules.specs.Journal.{Journal, begin}
 use Rattle.orc_names.specs.Scopes.{close, env_of}
 use Rattle.orc_ledger.specs.Same.{weight, only, None}
 use Rattle.orc_ledger.specs.Spelling.{Row, stands, pends, Numbered, right_of, left_of, seen}
-use Rattle.orc_ledger.specs.Records.{Records, Lawful, context, its_path, path, rows_of, sides_of, token_row, call_row, side_at, group_side, is_over, is_settled, has_left, standing, token_out, call_out, group_out, step_out, entered_out, has_serial, counts}
+use Rattle.orc_ledger.specs.Records.{Records, Lawful, context, its_path, path, rows_of, sides_of, token_row, call_row, side_at, group_side, is_over, is_settled, has_left, standing, group_out, step_out, entered_out, has_serial, counts}
 use Rattle.orc_ledger.specs.Calls.{Closes}
 use Rattle.orc_ledger.specs.Next.{AreGrouped, numbers_of, IsSide}
 use Rattle.orc_ledger.specs.declared.records.Entered.{Entered}
 use Rattle.orc_ledger.specs.declared.records.Entered.TheVariants.{Feed, Aid, Try}
 use Rattle.orc_ledger.specs.declared.records.Step.{Step}
 use Rattle.orc_ledger.specs.declared.records.Token.{Token}
-use Rattle.orc_ledger.specs.declared.records.Call.{Call}
 use Rattle.orc_ledger.specs.declared.records.Side.{Side}
 use Rattle.orc_ledger.specs.declared.records.Side.TheVariants.{Right, Left}
 use Rattle.orc_ledger.specs.declared.records.Group.{Group}

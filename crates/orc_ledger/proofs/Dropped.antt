@@ -1,5 +1,5 @@
 -- What the code drops of the records is what stands inside the right side of the cell.
-use Rattle.std.proofs.Common.{◌≡◌, ◌≤◌, ◌<◌, ℕ, zero, suc, ◌+◌, ◌-◌, List, [], ◌∷◌, ◌++◌, refl, sym, ap, ◌∙◌, subst, arith, length, get_or, take, append-nil, length-set, map, filter, Bool, true, false, cond, nat_eq, eq-eqb, not, Option, Some, None as Nothing}
+use Rattle.std.proofs.Common.{◌≡◌, ◌≤◌, ◌<◌, ℕ, zero, suc, ◌+◌, ◌-◌, List, [], ◌∷◌, ◌++◌, refl, sym, ap, ◌∙◌, subst, arith, length, get_or, take, append-nil, length-set, Bool, true, false, cond, nat_eq, eq-eqb, Some, None as Nothing}
 use Rattle.std.proofs.lemmas.Bool.{ltb-false, ltb-true, eqb-true}
 use Rattle.std.proofs.lemmas.Map.Keys.{ge_from_not_lt}
 use Rattle.std.proofs.lemmas.List.Sorted.{sum_by-IsPermutation}
@@ -12,18 +12,18 @@ use Rattle.orc_rules.specs.Term.{Term}
 use Rattle.orc_rules.specs.Nodes.{Listing, code}
 use Rattle.orc_rules.specs.Sites.{Site}
 use Rattle.orc_rules.specs.Timed.{IsIn, IsRising}
-use Rattle.orc_rules.specs.Numbered.{call, times}
+use Rattle.orc_rules.specs.Numbered.{call}
 use Rattle.orc_names.specs.declared.names.Bound.{Bound}
 use Rattle.orc_names.specs.Scopes.{Env}
 use Rattle.orc_ledger.specs.Same.{weight, only, but, None}
 use Rattle.orc_ledger.specs.Spelling.{inside, whole}
 use Rattle.orc_ledger.specs.Taking.{AreOutwards}
-use Rattle.orc_ledger.specs.Records.{Records, Lawful, path, inwards, its_env, raw_path, is_out, side_out, token_out, call_out, group_out, token_row, call_row}
+use Rattle.orc_ledger.specs.Records.{Records, Lawful, path, inwards, its_env, raw_path, is_out, side_out, token_out, call_out, group_out, token_row}
 use Rattle.orc_ledger.specs.Calls.{Drops, AreCancelled, token_goes, call_goes, group_goes, is_inside, has_number}
 use Rattle.orc_ledger.specs.Homes.{aids}
 use Rattle.orc_ledger.specs.Tokens.{live, is_live, IsHeld}
 use Rattle.orc_ledger.specs.Next.{is_this}
-use Rattle.orc_ledger.specs.Inside.{step_at, is_on, is_among, stands_inside, side_inside, held_inside, groups_outside, numbers_inside}
+use Rattle.orc_ledger.specs.Inside.{step_at, is_on, is_among, stands_inside, side_inside, held_inside, numbers_inside}
 use Rattle.orc_ledger.specs.declared.records.Token.{Token}
 use Rattle.orc_ledger.specs.declared.records.Call.{Call}
 use Rattle.orc_ledger.specs.declared.records.Entered.{Entered}
@@ -73,14 +73,6 @@ module _ (code : ℕ → Term) (env : ℕ → Env) (c : ℕ) where
       ∙ sym (ap (inside c) (path-unfold code env ss (suc k) k p (omega arith) h out) ∙ by_entered p.entered p.outer ss)
 
 -- ---- what is dropped
-
-filter-but : {X : Type 0} (p : X → Bool) (w : X → ℕ) (xs : List X) → weight w (filter (λ x. not (p x)) xs) ≡ weight (but p w) xs
-filter-but p w [] = refl
-filter-but p w (x ∷ xs) = go (p x) (filter-but p w xs)
-  where
-    go : (b : Bool) → weight w (filter (λ x. not (p x)) xs) ≡ weight (but p w) xs → weight w (cond (not b) (x ∷ filter (λ x. not (p x)) xs) (filter (λ x. not (p x)) xs)) ≡ cond b 0 (w x) + weight (but p w) xs
-    go true ih = omega (arith, ih)
-    go false ih = omega (arith, ih)
 
 numbers-weigh : (c : ℕ) (ss : List Step) (w : ℕ → ℕ) (ks : List Call) → weight w (numbers_inside c ss ks) ≡ weight (only (λ (k : Call). stands_inside c ss k.step) (λ (k : Call). w k.number)) ks
 numbers-weigh c ss w [] = refl
@@ -258,7 +250,7 @@ module _ (l : Listing) (sites : List Site) (s : Records) (L : Lawful l sites s) 
 
   -- the lists that the code leaves
   pub drops : (u : Bound) (s' : Records) → s'.limit ≡ s.limit → s'.entries ≡ s.entries + 1 → s'.next_mark ≡ s.next_mark → s'.now ≡ s.now → s'.made ≡ s.made
-      → ((w : Token → ℕ) → weight w s'.tokens ≡ weight (but (λ (t : Token). stands_inside c s.steps t.step) w) s.tokens) → ((w : Call → ℕ) → weight w s'.calls ≡ weight (but (λ (k : Call). stands_inside c s.steps k.step) w) s.calls) → s'.groups ≡ groups_outside c s.steps s.groups → s'.scopes ≡ s.scopes → s'.steps ≡ s.steps → s'.cells ≡ slice_set s.cells c u
+      → ((w : Token → ℕ) → weight w s'.tokens ≡ weight (but (λ (t : Token). stands_inside c s.steps t.step) w) s.tokens) → ((w : Call → ℕ) → weight w s'.calls ≡ weight (but (λ (k : Call). stands_inside c s.steps k.step) w) s.calls) → ((w : Group → ℕ) → weight w s'.groups ≡ weight (but (λ (g : Group). side_inside c s.steps g.outer g.side) w) s.groups) → s'.scopes ≡ s.scopes → s'.steps ≡ s.steps → s'.cells ≡ slice_set s.cells c u
       → Drops (code l) c u s s'
   drops u s' limit entries mark now made tokens calls groups scopes steps cells =
       record {
@@ -269,7 +261,7 @@ module _ (l : Listing) (sites : List Site) (s : Records) (L : Lawful l sites s) 
         made = made;
         tokens = λ w. tokens w ∙ none-alike (token_out (length s.scopes) (length s.steps)) (but (λ (t : Token). stands_inside c s.steps t.step) w) (but (token_goes (code l) c s) w) s.tokens L.sound.tokens (λ t h. ap (λ b. cond b 0 (w t)) (token_at t h));
         calls = λ w. calls w ∙ none-alike (call_out (length s.steps)) (but (λ (k : Call). stands_inside c s.steps k.step) w) (but (call_goes (code l) c s) w) s.calls L.sound.calls (λ k h. ap (λ b. cond b 0 (w k)) (call_at k h));
-        groups = λ w. ap (weight w) groups ∙ filter-but (λ (g : Group). side_inside c s.steps g.outer g.side) w s.groups ∙ none-alike (group_out (length s.scopes) (length s.steps)) (but (λ (g : Group). side_inside c s.steps g.outer g.side) w) (but (group_goes (code l) c s) w) s.groups L.sound.groups (λ g h. ap (λ b. cond b 0 (w g)) (group_at g h));
+        groups = λ w. groups w ∙ none-alike (group_out (length s.scopes) (length s.steps)) (but (λ (g : Group). side_inside c s.steps g.outer g.side) w) (but (group_goes (code l) c s) w) s.groups L.sound.groups (λ g h. ap (λ b. cond b 0 (w g)) (group_at g h));
         scopes = scopes;
         steps = steps;
         cells = cells;
@@ -299,7 +291,7 @@ module _ (l : Listing) (sites : List Site) (s : Records) (L : Lawful l sites s) 
 
   -- where nothing is inside, the side alone goes
   pub drops-empty : IsEmpty l sites s L c → (u : Bound) (s' : Records) → s'.limit ≡ s.limit → s'.entries ≡ s.entries + 1 → s'.next_mark ≡ s.next_mark → s'.now ≡ s.now → s'.made ≡ s.made
-      → s'.tokens ≡ s.tokens → s'.calls ≡ s.calls → s'.groups ≡ groups_outside c s.steps s.groups → s'.scopes ≡ s.scopes → s'.steps ≡ s.steps → s'.cells ≡ slice_set s.cells c u
+      → s'.tokens ≡ s.tokens → s'.calls ≡ s.calls → ((w : Group → ℕ) → weight w s'.groups ≡ weight (but (λ (g : Group). side_inside c s.steps g.outer g.side) w) s.groups) → s'.scopes ≡ s.scopes → s'.steps ≡ s.steps → s'.cells ≡ slice_set s.cells c u
       → Drops (code l) c u s s'
   drops-empty E u s' limit entries mark now made tokens calls groups scopes steps cells =
       record {
@@ -310,7 +302,7 @@ module _ (l : Listing) (sites : List Site) (s : Records) (L : Lawful l sites s) 
         made = made;
         tokens = λ w. ap (weight w) tokens ∙ none-alike (token_goes (code l) c s) w (but (token_goes (code l) c s) w) s.tokens E.tokens (λ t h. sym (ap (λ b. cond b 0 (w t)) h));
         calls = λ w. ap (weight w) calls ∙ none-alike (call_goes (code l) c s) w (but (call_goes (code l) c s) w) s.calls E.calls (λ k h. sym (ap (λ b. cond b 0 (w k)) h));
-        groups = λ w. ap (weight w) groups ∙ filter-but (λ (g : Group). side_inside c s.steps g.outer g.side) w s.groups ∙ none-alike (group_out (length s.scopes) (length s.steps)) (but (λ (g : Group). side_inside c s.steps g.outer g.side) w) (but (group_goes (code l) c s) w) s.groups L.sound.groups (λ g h. ap (λ b. cond b 0 (w g)) (group_at g h));
+        groups = λ w. groups w ∙ none-alike (group_out (length s.scopes) (length s.steps)) (but (λ (g : Group). side_inside c s.steps g.outer g.side) w) (but (group_goes (code l) c s) w) s.groups L.sound.groups (λ g h. ap (λ b. cond b 0 (w g)) (group_at g h));
         scopes = scopes;
         steps = steps;
         cells = cells;

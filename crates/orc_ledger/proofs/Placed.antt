@@ -1,6 +1,6 @@
 -- The table of calls: each number leads to its call's place.
-use Rattle.std.proofs.Common.{◌≡◌, ◌≢◌, ◌≤◌, ◌<◌, ◌+◌, ◌-◌, ℕ, zero, suc, List, [], ◌∷◌, ◌++◌, refl, sym, ap, ◌∙◌, subst, arith, inl, inr, ◌⊎◌, ⊎_elim, Bool, true, false, cond, nat_eq, eq-eqb, Option, Some, None, length, take, get_or}
-use Rattle.std.specs.Prelude.{slice_get, slice_set, slice_index_or, MatchOption}
+use Rattle.std.proofs.Common.{◌≡◌, ◌≤◌, ◌<◌, ◌+◌, ◌-◌, ℕ, zero, suc, List, [], ◌∷◌, ◌++◌, refl, sym, ap, ◌∙◌, subst, arith, inl, inr, ◌⊎◌, ⊎_elim, Bool, true, false, cond, nat_eq, eq-eqb, Option, Some, None, length, take, get_or}
+use Rattle.std.specs.Prelude.{slice_get, slice_set, slice_index_or}
 use Rattle.std.specs.List.{swap_remove}
 use Rattle.std.proofs.lemmas.Bool.{eqb-true}
 use Rattle.std.proofs.Math.Decide.{ℕ_discrete}
@@ -8,10 +8,9 @@ use Rattle.orc_rules.specs.Timed.{IsIn}
 use Rattle.orc_ledger.specs.Same.{weight, but, None as Nobody}
 use Rattle.orc_ledger.specs.Calls.{has_number}
 use Rattle.orc_ledger.specs.Dues.{IsNoted}
-use Rattle.orc_ledger.specs.Next.{due_of}
 use Rattle.orc_ledger.specs.PendingCalls.{ArePlaced, HasNote, HaveNotes, is_numbered}
 use Rattle.orc_ledger.specs.declared.records.Call.{Call}
-use Rattle.orc_ledger.proofs.Weight.{weight-append, weight-swap_remove, none-alike, weight-in}
+use Rattle.orc_ledger.proofs.Weight.{none-alike}
 
 some_or : {X : Type 0} → X → Option X → X
 some_or d (Some x) = x
@@ -48,18 +47,18 @@ or-got (y ∷ xs) zero d h = refl
 or-got (y ∷ xs) (suc k) d h = or-got xs k d (omega (arith, h))
 
 -- one more at the end
-got-more : {X : Type 0} (xs : List X) (x : X) (k : ℕ) (y : X) → slice_get (xs ++ x ∷ []) k ≡ Some y → (slice_get xs k ≡ Some y) ⊎ ((k ≡ length xs) × (y ≡ x))
+pub got-more : {X : Type 0} (xs : List X) (x : X) (k : ℕ) (y : X) → slice_get (xs ++ x ∷ []) k ≡ Some y → (slice_get xs k ≡ Some y) ⊎ ((k ≡ length xs) × (y ≡ x))
 got-more [] x zero y h = inr (refl, sym (same_some x y h))
 got-more [] x (suc k) y h = cc h
 got-more (z ∷ xs) x zero y h = inl h
 got-more (z ∷ xs) x (suc k) y h = ⊎_elim (λ a. inl a) (λ b. inr (ap suc b.0, b.1)) (got-more xs x k y h)
 
-more-got : {X : Type 0} (xs : List X) (x : X) (k : ℕ) (y : X) → slice_get xs k ≡ Some y → slice_get (xs ++ x ∷ []) k ≡ Some y
+pub more-got : {X : Type 0} (xs : List X) (x : X) (k : ℕ) (y : X) → slice_get xs k ≡ Some y → slice_get (xs ++ x ∷ []) k ≡ Some y
 more-got [] x k y h = cc h
 more-got (z ∷ xs) x zero y h = h
 more-got (z ∷ xs) x (suc k) y h = more-got xs x k y h
 
-end-got : {X : Type 0} (xs : List X) (x : X) → slice_get (xs ++ x ∷ []) (length xs) ≡ Some x
+pub end-got : {X : Type 0} (xs : List X) (x : X) → slice_get (xs ++ x ∷ []) (length xs) ≡ Some x
 end-got [] x = refl
 end-got (z ∷ xs) x = end-got xs x
 
@@ -158,8 +157,8 @@ removed-at xs i d k y lt h =
 pub removed-before : (items : List Call) (i : ℕ) (d : Call) (k : ℕ) (c : Call) → i < length items → k < i → slice_get (swap_remove items i d) k ≡ Some c → slice_get items k ≡ Some c
 removed-before items i d k c there lt h = ⊎_elim (λ w. absurd (omega (arith, w.0, lt))) (λ w. w.1) (removed-at items i d k c there h).1
 
--- the calls at the first places pass no test, and one more
-pub none-before : (P : Call → Bool) (items : List Call) (i : ℕ) (c : Call) → ((k : ℕ) (d : Call) → k < i → slice_get items k ≡ Some d → P d ≡ false) → slice_get items i ≡ Some c → P c ≡ false → (k : ℕ) (d : Call) → k < i + 1 → slice_get items k ≡ Some d → P d ≡ false
+-- those at the first places pass no test, and one more
+pub none-before : {X : Type 0} (P : X → Bool) (items : List X) (i : ℕ) (c : X) → ((k : ℕ) (d : X) → k < i → slice_get items k ≡ Some d → P d ≡ false) → slice_get items i ≡ Some c → P c ≡ false → (k : ℕ) (d : X) → k < i + 1 → slice_get items k ≡ Some d → P d ≡ false
 none-before P items i c none is off k d lt h = go (nat_eq k i) refl
   where
     go : (b : Bool) → nat_eq k i ≡ b → P d ≡ false
@@ -171,7 +170,7 @@ none-before P items i c none is off k d lt h = go (nat_eq k i) refl
         below (no s) = omega (arith, lt, s)
 
 -- none of all passes it
-pub none-of-all : (P : Call → Bool) (items : List Call) (i : ℕ) → length items ≤ i → ((k : ℕ) (d : Call) → k < i → slice_get items k ≡ Some d → P d ≡ false) → (w : Call → ℕ) → weight w items ≡ weight (but P w) items
+pub none-of-all : {X : Type 0} (P : X → Bool) (items : List X) (i : ℕ) → length items ≤ i → ((k : ℕ) (d : X) → k < i → slice_get items k ≡ Some d → P d ≡ false) → (w : X → ℕ) → weight w items ≡ weight (but P w) items
 none-of-all P [] i le none w = refl
 none-of-all P (x ∷ items) i le none w =
     let mine : P x ≡ false = none 0 x (omega (arith, le)) refl in

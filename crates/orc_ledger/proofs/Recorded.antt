@@ -55,7 +55,7 @@ pub call-only : (k : ℕ) (e : Entry) → is_call k (Some e) ≡ true → ((t j 
 call-only k (Calls t j m args) h off = off t j m args refl
 call-only k _ h off = cc h
 
-module _ (l : Listing) (sites : List Site) (counts : List (List ℕ × ℕ)) (s : Records) (K : Kept l sites counts s) (call : Call) (i : IsIn call s.calls) where
+module _ (l : Listing) (sites : List Site) (counts : List (List ℕ × ℕ)) (sizes : List ℕ) (s : Records) (K : Kept l sites counts sizes s) (call : Call) (i : IsIn call s.calls) where
   pub entry-there : is_call call.number (slice_get s.journal call.row) ≡ true
   entry-there = not-false (is_written s.journal call) (none-in (λ c. not (is_written s.journal c)) s.calls call K.lawful.written i)
 

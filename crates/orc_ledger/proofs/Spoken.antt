@@ -2,7 +2,7 @@
 use Rattle.std.proofs.Common.{◌≡◌, ℕ, List, [], refl, sym, subst}
 use Rattle.orc_rules.specs.Nodes.{Listing, code, source, definitions}
 use Rattle.orc_rules.specs.Sites.{Site}
-use Rattle.orc_rules.specs.Journal.{Place, Journal, begin}
+use Rattle.orc_rules.specs.Journal.{begin}
 use Rattle.orc_ledger.specs.Records.{Records, context}
 use Rattle.orc_ledger.specs.Kept.{Kept}
 use Rattle.orc_ledger.specs.Next.{numbers_of, next_of}
@@ -13,7 +13,7 @@ use Rattle.orc_ledger.proofs.Keeping.{journal_one}
 use Rattle.orc_ledger.proofs.Nexts.{next_ticks, next_quiet}
 use Rattle.orc_ledger.proofs.Working.{work-allowed}
 
-module _ (l : Listing) (sites : List Site) (counts : List (List ℕ × ℕ)) (s : Records) (K : Kept l sites counts s) where
+module _ (l : Listing) (sites : List Site) (counts : List (List ℕ × ℕ)) (sizes : List ℕ) (s : Records) (K : Kept l sites counts sizes s) where
   holds : (r : Answer) → spoken r ≡ next_of (code l) (definitions l) (numbers_of s) s → Holds l sites s r K.lawful.place
   holds Work h = work-allowed l sites s K.lawful K.told (numbers_of s) K.grouped (sym h)
   holds (Ticks t) h = next_ticks l sites s K.lawful K.told (numbers_of s) K.grouped t (sym h)

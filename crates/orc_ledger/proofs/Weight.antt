@@ -40,6 +40,10 @@ pub weight-same : {X : Type 0} (v w : X → ℕ) (xs : List X) → ((x : X) → 
 weight-same v w [] h = refl
 weight-same v w (x ∷ xs) h = omega (arith, h x, weight-same v w xs h)
 
+pub weight-length : {X : Type 0} (xs : List X) → weight (λ x. 1) xs ≡ length xs
+weight-length [] = refl
+weight-length (x ∷ xs) = omega (arith, weight-length xs)
+
 pub weight-least : {X : Type 0} (v w : X → ℕ) (xs : List X) → ((x : X) → v x ≤ w x) → weight v xs ≤ weight w xs
 weight-least v w [] h = omega arith
 weight-least v w (x ∷ xs) h = omega (arith, h x, weight-least v w xs h)

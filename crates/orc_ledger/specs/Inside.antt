@@ -1,5 +1,5 @@
 -- What stands inside the right side of a cell, by the steps alone.
-use Rattle.std.specs.Prelude.{ℕ, zero, suc, List, [], ◌∷◌, ◌++◌, Bool, false, cond, nat_eq, not, ◌&&◌, ◌||◌, Option, Some, None, slice_get, filter}
+use Rattle.std.specs.Prelude.{ℕ, zero, suc, List, [], ◌∷◌, Bool, false, cond, nat_eq, ◌&&◌, ◌||◌, Option, Some, None, slice_get}
 use Rattle.orc_ledger.specs.Homes.{aids}
 use Rattle.orc_ledger.specs.Tokens.{is_live}
 use Rattle.orc_ledger.specs.declared.records.Token.{Token}
@@ -7,7 +7,6 @@ use Rattle.orc_ledger.specs.declared.records.Call.{Call}
 use Rattle.orc_ledger.specs.declared.records.Step.{Step}
 use Rattle.orc_ledger.specs.declared.records.Side.{Side}
 use Rattle.orc_ledger.specs.declared.records.Side.TheVariants.{Right, Left}
-use Rattle.orc_ledger.specs.declared.records.Group.{Group}
 
 -- step i; there is no step 0
 abbrev pub step_at : List Step → ℕ → Option Step
@@ -34,10 +33,6 @@ module _ (c : ℕ) (ss : List Step) where
   -- a token in its slot that stands inside
   abbrev pub held_inside : Token → Bool
   held_inside t = is_live t && stands_inside t.step
-
-  -- what is left of the records once those inside are gone
-  abbrev pub groups_outside : List Group → List Group
-  groups_outside = filter (λ g. not (side_inside g.outer g.side))
 
   -- the numbers of the calls that pend inside
   abbrev pub numbers_inside : List Call → List ℕ

@@ -5,9 +5,10 @@ use Rattle.orc_rules.specs.Sites.{Site}
 use Rattle.orc_calls.specs.Counting.{AreCounted}
 use Rattle.orc_ledger.specs.Records.{Records, Lawful}
 use Rattle.orc_ledger.specs.Next.{AreGrouped, numbers_of}
+use Rattle.orc_ledger.specs.OpenGroups.{AreSizes}
 use Rattle.orc_ledger.specs.Told.{AreTold}
 
-pub record Kept (l : Listing) (sites : List Site) (counts : List (List ℕ × ℕ)) (s : Records) : Type 0 where
+pub record Kept (l : Listing) (sites : List Site) (counts : List (List ℕ × ℕ)) (sizes : List ℕ) (s : Records) : Type 0 where
   -- the journal leads from the program's term to a place that the records spell
   pub lawful : Lawful l sites s
   -- each token, call and side is in the group of its step, and groups are nested as their sides
@@ -16,3 +17,5 @@ pub record Kept (l : Listing) (sites : List Site) (counts : List (List ℕ × �
   pub told : AreTold sites lawful.place.calls s.calls
   -- of the calls that were made those which scripts answer are counted
   pub counted : AreCounted sites counts lawful.place.calls
+  -- of each group's number it is known how many members it has
+  pub sized : AreSizes sizes s

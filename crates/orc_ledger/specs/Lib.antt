@@ -10,6 +10,7 @@ pub mod Kept
 pub mod Laws
 pub mod Moves
 pub mod Next
+pub mod OpenGroups
 pub mod Parameters
 pub mod PendingCalls
 pub mod Records

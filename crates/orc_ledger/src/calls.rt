@@ -8,6 +8,7 @@ ghost use Rattle.orc_ledger.specs.Answers.{IsReturned, IsUnanswered, Pends};
 ghost use Rattle.orc_ledger.specs.declared.records.Call.{Call as Its};
 
 use crate::ledger::{Ledger, LedgerFault, Program, write};
+use crate::marks::group_at;
 use crate::records::{Call, Standing, Token};
 use orc_calls::check_due;
 use orc_rules::entry::Entry;
@@ -84,9 +85,11 @@ impl<P: Program> Ledger<P> {
         ensures done { IfOk result (λ _. IsReturned self.old call Halt None self.new) }
         ensures refused { OnErr result (self.new ≡ self.old) }
     {
+        let group = group_at(&self.steps, call.step);
         write(&mut self.journal, &Entry::ReturnHalt(call.number))?;
         self.entries += 1;
         self.calls.take(call.number);
+        self.groups.leave(group);
         Ok(())
     }
 }

@@ -8,8 +8,9 @@ ghost use Rattle.orc_ledger.specs.Calls.{HasRoom, IsRefused};
 ghost use Rattle.orc_ledger.specs.Whole.{IsWhole};
 ghost use Rattle.orc_ledger.specs.declared.records.Token.{Token as Its};
 
+use crate::groups::Groups;
 use crate::pending::Pending;
-use crate::records::{Group, Standing, Step, Token};
+use crate::records::{Standing, Step, Token};
 use crate::tokens::Tokens;
 use orc_calls::Counts;
 use orc_journal::{Journal, Version};
@@ -50,7 +51,7 @@ pub struct Ledger<P: Program> {
     pub(crate) counts: Counts,
     pub(crate) scopes: Vec<Scope>,
     pub(crate) steps: Vec<Step>,
-    pub(crate) groups: Vec<Group>,
+    pub(crate) groups: Groups,
     pub(crate) cells: Vec<Bound>,
     pub(crate) program: PhantomData<P>,
 }
@@ -64,7 +65,7 @@ impl<P: Program> Model for Ledger<P> {
 
     ghost view = { λ b. record { limit = b.limit; journal = b.journal.entries; entries = b.entries; next_mark = b.next_mark; now = b.time; made = b.calls.made; tokens = live b.tokens.items; slots = b.tokens.items; calls = b.calls.items; scopes = b.scopes.items; steps = b.steps.items; groups = b.groups.items; cells = b.cells.items } };
 
-    ghost invariant = { λ b. Kept P.listing P.sites b.counts (record { limit = b.limit; journal = b.journal.entries; entries = b.entries; next_mark = b.next_mark; now = b.time; made = b.calls.made; tokens = live b.tokens.items; slots = b.tokens.items; calls = b.calls.items; scopes = b.scopes.items; steps = b.steps.items; groups = b.groups.items; cells = b.cells.items }) };
+    ghost invariant = { λ b. Kept P.listing P.sites b.counts b.groups.sizes (record { limit = b.limit; journal = b.journal.entries; entries = b.entries; next_mark = b.next_mark; now = b.time; made = b.calls.made; tokens = live b.tokens.items; slots = b.tokens.items; calls = b.calls.items; scopes = b.scopes.items; steps = b.steps.items; groups = b.groups.items; cells = b.cells.items }) };
 }
 
 // Written out, so that each exit of a function that has a ledger drops it by one call.
@@ -144,6 +145,9 @@ impl<P: Program> Ledger<P> {
         reserve(&mut cells)?;
         // There is no cell 0.
         push_within(&mut cells, Bound::Void);
+        let mut groups = Groups::begin(alloc)?;
+        // The token is the program's own group's first member.
+        groups.join(0);
         let tokens = Tokens::begin(
             alloc,
             Token {
@@ -163,7 +167,7 @@ impl<P: Program> Ledger<P> {
             counts: Counts::new(alloc),
             scopes: Vec::new(alloc),
             steps: Vec::new(alloc),
-            groups: Vec::new(alloc),
+            groups,
             cells,
             program: PhantomData,
         })

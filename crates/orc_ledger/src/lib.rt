@@ -5,6 +5,7 @@ mod awaiting;
 mod calls;
 mod definitions;
 mod dues;
+mod groups;
 mod laws;
 mod ledger;
 mod marks;

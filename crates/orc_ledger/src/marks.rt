@@ -10,7 +10,7 @@ ghost use Rattle.orc_ledger.specs.Calls.{IsRefused, IsFree, IsEnded, IsVoided, I
 ghost use Rattle.orc_ledger.specs.declared.records.Standing.TheVariants.{At};
 
 use crate::ledger::{Ledger, LedgerFault, Program, push_within, reserve, write};
-use crate::records::{Entered, Group, Side, Standing, Step, Token};
+use crate::records::{Entered, Side, Standing, Step, Token};
 use orc_names::{Bound, Scope};
 use orc_rules::entry::Entry;
 
@@ -50,9 +50,11 @@ impl<P: Program> Ledger<P> {
         ensures why { IfErr result (λ fault. IsRefused self.old 0 0 0 fault) }
     {
         self.within(0, 0, 0)?;
+        let group = group_at(&self.steps, token.step);
         write(&mut self.journal, &Entry::End(token.serial))?;
         self.entries += 1;
         self.tokens.remove(slot);
+        self.groups.leave(group);
         Ok(())
     }
 
@@ -65,9 +67,11 @@ impl<P: Program> Ledger<P> {
         ensures why { IfErr result (λ fault. IsRefused self.old 0 0 0 fault) }
     {
         self.within(0, 0, 0)?;
+        let group = group_at(&self.steps, token.step);
         write(&mut self.journal, &Entry::Void(token.serial))?;
         self.entries += 1;
         self.tokens.remove(slot);
+        self.groups.leave(group);
         Ok(())
     }
 
@@ -90,6 +94,7 @@ impl<P: Program> Ledger<P> {
     {
         self.within(1, 0, 0)?;
         self.tokens.reserve()?;
+        let group = group_at(&self.steps, token.step);
         let mark = self.next_mark;
         write(
             &mut self.journal,
@@ -97,6 +102,7 @@ impl<P: Program> Ledger<P> {
         )?;
         self.entries += 1;
         self.next_mark = mark + 2;
+        self.groups.join(group);
         self.tokens.replace(
             slot,
             Token {
@@ -163,7 +169,7 @@ impl<P: Program> Ledger<P> {
         Ok(())
     }
 
-    /// `f ; g`: a token on the left side, in the same slot, in a new group with this number.
+    /// `f ; g`: a token on the left side, in the same slot, in a new group.
     pub fn other(
         &mut self,
         slot: usize,
@@ -171,25 +177,28 @@ impl<P: Program> Ledger<P> {
         scope: usize,
         left: usize,
         right: usize,
-        number: u32,
     ) -> Result<(), LedgerFault>
         requires held { IsHeld self.old.slots slot token }
         requires at { (node : ℕ) × (token.standing ≡ At node scope) × (code P.listing node ≡ other (code P.listing left) (code P.listing right)) }
-        requires free { IsFree self.old number }
-        ensures done { IfOk result (λ _. IsTried self.old token scope left right number self.new) }
+        ensures done { IfOk result (λ _. (number : ℕ) × IsFree self.old number × IsTried self.old token scope left right number self.new) }
         ensures left { IfOk result (λ _. IsHeld self.new.slots slot (born self.old token self.old.next_mark left scope (length self.old.steps + 1))) }
         ensures refused { OnErr result (self.new ≡ self.old) }
         ensures why { IfErr result (λ fault. IsRefused self.old 0 1 0 fault) }
     {
         self.within(0, 1, 0)?;
         reserve(&mut self.steps)?;
-        reserve(&mut self.groups)?;
+        self.groups.reserve()?;
         let depth = depth_at(&self.steps, token.step);
         let mark = self.next_mark;
         write(&mut self.journal, &Entry::Other(token.serial, mark))?;
         self.entries += 1;
         self.next_mark = mark + 1;
         let step = self.steps.len() + 1;
+        // Its parent loses the token and gets the group: it has as many members as before.
+        let number = self
+            .groups
+            .open(Side::Left(token.serial, right, scope), token.step);
+        self.groups.join(number);
         push_within(
             &mut self.steps,
             Step {
@@ -198,14 +207,6 @@ impl<P: Program> Ledger<P> {
                 group: number,
                 depth,
                 published: false,
-            },
-        );
-        push_within(
-            &mut self.groups,
-            Group {
-                side: Side::Left(token.serial, right, scope),
-                outer: token.step,
-                number,
             },
         );
         self.tokens.replace(
@@ -219,8 +220,8 @@ impl<P: Program> Ledger<P> {
         Ok(())
     }
 
-    /// `f <x< g`: a token on each side with a new cell between them, the left one in the same slot, the right one in a new group with this
-    /// number. Gives the right one's slot.
+    /// `f <x< g`: a token on each side with a new cell between them, the left one in the same slot, the right one in a new group. Gives the
+    /// right one's slot.
     pub fn prune(
         &mut self,
         slot: usize,
@@ -229,12 +230,10 @@ impl<P: Program> Ledger<P> {
         left: usize,
         name: u32,
         right: usize,
-        number: u32,
     ) -> Result<usize, LedgerFault>
         requires held { IsHeld self.old.slots slot token }
         requires at { (node : ℕ) × (token.standing ≡ At node scope) × (code P.listing node ≡ prune (code P.listing left) name (code P.listing right)) }
-        requires free { IsFree self.old number }
-        ensures done { IfOk result (λ _. IsOpened self.old token scope left name right number self.new) }
+        ensures done { IfOk result (λ _. (number : ℕ) × IsFree self.old number × IsOpened self.old token scope left name right number self.new) }
         ensures left { IfOk result (λ _. IsHeld self.new.slots slot (born self.old token self.old.next_mark left (length self.old.scopes + 1) token.step)) }
         ensures right { IfOk result (λ other. IsHeld self.new.slots other (born self.old token (self.old.next_mark + 1) right scope (length self.old.steps + 1))) }
         ensures refused { OnErr result (self.new ≡ self.old) }
@@ -244,8 +243,9 @@ impl<P: Program> Ledger<P> {
         self.tokens.reserve()?;
         reserve(&mut self.scopes)?;
         reserve(&mut self.steps)?;
-        reserve(&mut self.groups)?;
         reserve(&mut self.cells)?;
+        self.groups.reserve()?;
+        let parent = group_at(&self.steps, token.step);
         let mark = self.next_mark;
         let cell = self.cells.len() as u64;
         write(
@@ -256,6 +256,9 @@ impl<P: Program> Ledger<P> {
         self.next_mark = mark + 2;
         let inner = self.scopes.len() + 1;
         let step = self.steps.len() + 1;
+        let number = self.groups.open(Side::Right(cell), token.step);
+        self.groups.join(parent);
+        self.groups.join(number);
         push_within(
             &mut self.scopes,
             Scope {
@@ -272,14 +275,6 @@ impl<P: Program> Ledger<P> {
                 group: number,
                 depth: 0,
                 published: false,
-            },
-        );
-        push_within(
-            &mut self.groups,
-            Group {
-                side: Side::Right(cell),
-                outer: token.step,
-                number,
             },
         );
         push_within(&mut self.cells, Bound::Cell(cell));

@@ -7,10 +7,6 @@ ghost use Rattle.orc_rules.specs.Nodes.{code, param_of};
 ghost use Rattle.orc_rules.specs.Journal.{IsVoid};
 ghost use Rattle.orc_names.specs.Scopes.{close, close_param, given, without};
 ghost use Rattle.orc_ledger.specs.Spelling.{Path, whole, feeding, aiding};
-ghost use Rattle.orc_ledger.specs.Same.{weight};
-ghost use Rattle.orc_ledger.specs.Next.{is_this};
-ghost use Rattle.orc_ledger.specs.Calls.{IsFree};
-ghost use Rattle.orc_ledger.specs.declared.records.Group.{Group as Open};
 ghost use Rattle.orc_ledger.specs.Tokens.{IsHeld};
 ghost use Rattle.orc_ledger.specs.Taking.{Takes, IsOnWay, HasStep, taker, reach};
 ghost use Rattle.orc_ledger.specs.Records.{its_env, its_path, standing, group_at, has_left};
@@ -20,7 +16,7 @@ ghost use Rattle.orc_ledger.specs.Moves.{StandsAt, IsThere, Moves, IsHindered};
 
 use crate::ledger::{Ledger, LedgerFault, Program};
 use crate::marks::group_at;
-use crate::records::{Group, Standing, Token};
+use crate::records::{Standing, Token};
 use crate::taking::{Taker, find_taker};
 use crate::view::call_with;
 use crate::what::What;
@@ -48,41 +44,7 @@ pub enum Moved {
     Waits,
 }
 
-// Whether an open group has this number.
-fn has_number(groups: &[Group], number: u32) -> bool
-    ensures there { result ≡ true → 1 ≤ weight (λ (g : Open). is_this number g.number) groups.now }
-    ensures free { result ≡ false → weight (λ (g : Open). is_this number g.number) groups.now ≡ 0 }
-{
-    for group in groups {
-        if number == group.number {
-            return true;
-        }
-    }
-    false
-}
-
-// A number that none of these has. There is one while groups have room.
-fn find_number(groups: &[Group]) -> Option<u32>
-    ensures free { IfSome result (λ number. (1 ≤ number) × (weight (λ (g : Open). is_this number g.number) groups.now ≡ 0)) }
-    ensures none { IfNone result (1023 ≤ length groups.now) }
-{
-    for number in 1..1024 {
-        if !has_number(groups, number) {
-            return Some(number);
-        }
-    }
-    None
-}
-
 impl<P: Program> Ledger<P> {
-    // A number that no open group has.
-    fn free_number(&self) -> Option<u32>
-        ensures free { IfSome result (λ number. IsFree self.now number) }
-        ensures none { IfNone result (1023 ≤ length self.now.groups) }
-    {
-        find_number(&self.groups)
-    }
-
     // The group of a token that took this step last.
     fn group_of(&self, step: usize) -> u32
         ensures { result ≡ group_at self.now.steps step }
@@ -190,10 +152,7 @@ impl<P: Program> Ledger<P> {
         ensures refused { OnErr result (self.new ≡ self.old) }
         ensures why { IfErr result (λ fault. IsHindered P.listing self.old token fault) }
     {
-        let Some(number) = self.free_number() else {
-            return Err(LedgerFault::Full);
-        };
-        self.other(slot, token, scope, left, right, number)?;
+        self.other(slot, token, scope, left, right)?;
         Ok(Moved::On)
     }
 
@@ -212,10 +171,7 @@ impl<P: Program> Ledger<P> {
         ensures refused { OnErr result (self.new ≡ self.old) }
         ensures why { IfErr result (λ fault. IsHindered P.listing self.old token fault) }
     {
-        let Some(number) = self.free_number() else {
-            return Err(LedgerFault::Full);
-        };
-        let right_slot = self.prune(slot, token, scope, left, name, right, number)?;
+        let right_slot = self.prune(slot, token, scope, left, name, right)?;
         Ok(Moved::Forked(right_slot))
     }
 

@@ -1,19 +1,14 @@
 //! What comes next where no token is at hand.
 
-ghost use Rattle.std.specs.Prelude.{◌≡◌, ◌≤◌, ◌+◌, ℕ, true, false, length};
+ghost use Rattle.std.specs.Prelude.{◌≡◌, ◌≤◌, ◌↔◌, true, false};
 ghost use Rattle.orc_rules.specs.Nodes.{code, definitions};
-ghost use Rattle.orc_ledger.specs.Same.{weight, only};
-ghost use Rattle.orc_ledger.specs.Tokens.{is_live, live};
-ghost use Rattle.orc_ledger.specs.Records.{group_at};
-ghost use Rattle.orc_ledger.specs.Next.{is_this, numbers_of, ready, ready_one, open_empty, members, due_of, earlier, next_due, next_of};
+ghost use Rattle.orc_ledger.specs.Same.{only};
+ghost use Rattle.orc_ledger.specs.Tokens.{is_live};
+ghost use Rattle.orc_ledger.specs.Next.{numbers_of, ready, ready_one, open_empty, members, due_of, earlier, next_due, next_of};
 ghost use Rattle.orc_ledger.specs.Spoken.{spoken, IsRight};
-ghost use Rattle.orc_ledger.specs.declared.records.Token.{Token as Its};
-ghost use Rattle.orc_ledger.specs.declared.records.Call.{Call as Pending};
-ghost use Rattle.orc_ledger.specs.declared.records.Group.{Group as Open};
 
 use crate::ledger::{Ledger, Program};
-use crate::marks::group_at;
-use crate::records::{Call, Group, Step, Token};
+use crate::records::{Call, Token};
 use crate::what::What;
 use orc_graph::Graph;
 use orc_rules::value::Found;
@@ -24,53 +19,6 @@ pub enum Next {
     Work,
     Ticks(u64),
     Quiet,
-}
-
-// Whether a slot holds a token that is in the group.
-fn stands_in(slot: &Token, steps: &Vec<Step>, number: u32) -> bool
-    ensures some { result ≡ true → only is_live (λ (t : Its). is_this number (group_at steps.now.items t.step)) slot.now ≡ 1 }
-    ensures none { result ≡ false → only is_live (λ (t : Its). is_this number (group_at steps.now.items t.step)) slot.now ≡ 0 }
-{
-    slot.serial > 0 && number == group_at(steps, slot.step)
-}
-
-// Whether a token in these slots is in the group.
-fn any_token(slots: &[Token], steps: &Vec<Step>, number: u32) -> bool
-    ensures some { result ≡ true → 1 ≤ weight (λ (t : Its). is_this number (group_at steps.now.items t.step)) (live slots.now) }
-    ensures none { result ≡ false → weight (λ (t : Its). is_this number (group_at steps.now.items t.step)) (live slots.now) ≡ 0 }
-{
-    for slot in slots {
-        if stands_in(slot, steps, number) {
-            return true;
-        }
-    }
-    false
-}
-
-// Whether a pending call is in the group.
-fn any_call(calls: &[Call], steps: &Vec<Step>, number: u32) -> bool
-    ensures some { result ≡ true → 1 ≤ weight (λ (c : Pending). is_this number (group_at steps.now.items c.step)) calls.now }
-    ensures none { result ≡ false → weight (λ (c : Pending). is_this number (group_at steps.now.items c.step)) calls.now ≡ 0 }
-{
-    for call in calls {
-        if number == group_at(steps, call.step) {
-            return true;
-        }
-    }
-    false
-}
-
-// Whether the group is the parent of one of these.
-fn any_group(groups: &[Group], steps: &Vec<Step>, number: u32) -> bool
-    ensures some { result ≡ true → 1 ≤ weight (λ (g : Open). is_this number (group_at steps.now.items g.outer)) groups.now }
-    ensures none { result ≡ false → weight (λ (g : Open). is_this number (group_at steps.now.items g.outer)) groups.now ≡ 0 }
-{
-    for group in groups {
-        if number == group_at(steps, group.outer) {
-            return true;
-        }
-    }
-    false
 }
 
 // The time at which a call is due, where it is ever answered and the time fits 64 bits.
@@ -136,18 +84,11 @@ impl<P: Program> Ledger<P> {
         false
     }
 
-    // Whether a token, a pending call or an open group is in the group of that number.
-    pub(crate) fn has_members(&self, number: u32) -> bool
-        ensures some { result ≡ true → 1 ≤ members (numbers_of self.now) self.now number }
-        ensures none { result ≡ false → members (numbers_of self.now) self.now number ≡ 0 }
+    /// Whether nobody is in the group of that number, no token, no pending call and no group. That of the program is 0.
+    pub fn is_empty(&self, number: u32) -> bool
+        ensures { result ≡ true ↔ (members (numbers_of self.now) self.now number ≡ 0) }
     {
-        if any_token(self.tokens.slots(), &self.steps, number) {
-            return true;
-        }
-        if any_call(self.calls.items(), &self.steps, number) {
-            return true;
-        }
-        any_group(&self.groups, &self.steps, number)
+        self.groups.size(number) == 0
     }
 
     // Whether the program's own group or an open one has no members.
@@ -155,11 +96,11 @@ impl<P: Program> Ledger<P> {
         ensures some { result ≡ true → 1 ≤ open_empty (numbers_of self.now) self.now }
         ensures none { result ≡ false → open_empty (numbers_of self.now) self.now ≡ 0 }
     {
-        if !self.has_members(0) {
+        if self.is_empty(0) {
             return true;
         }
-        for group in &self.groups {
-            if !self.has_members(group.number) {
+        for group in self.groups.items() {
+            if self.is_empty(group.number) {
                 return true;
             }
         }
@@ -187,7 +128,7 @@ impl<P: Program> Ledger<P> {
     }
 
     /// What comes next. Work where a token can move, a group has no members, or a call is due; else a tick to the least due time of the
-    /// pending calls; else nothing, the run is quiet. It looks at each token, and at each group for one that is in it.
+    /// pending calls; else nothing, the run is quiet. It looks at each token, each group and each call.
     pub fn next(&self, graph: &Graph) -> Next
         requires { graph.now ≡ P.listing }
         ensures is { spoken result ≡ next_of (code P.listing) (definitions P.listing) (numbers_of self.now) self.now }

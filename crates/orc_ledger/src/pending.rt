@@ -7,11 +7,14 @@ ghost use Rattle.orc_ledger.specs.Calls.{has_number};
 ghost use Rattle.orc_ledger.specs.Inside.{stands_inside};
 ghost use Rattle.orc_ledger.specs.Next.{due_of, next_due};
 ghost use Rattle.orc_ledger.specs.Dues.{IsNoted};
+ghost use Rattle.orc_ledger.specs.OpenGroups.{HaveLeft, calls_in};
 ghost use Rattle.orc_ledger.specs.PendingCalls.{ArePlaced, HasNote, HaveNotes, is_numbered, IsDueBeyond, IsLeastBeyond};
 ghost use Rattle.orc_ledger.specs.declared.records.Call.{Call as Its};
 
 use crate::dues::Dues;
+use crate::groups::Groups;
 use crate::ledger::push_within;
+use crate::marks::group_at;
 use crate::records::{Call, Step};
 use crate::sides::is_inside;
 use orc_calls::due_time;
@@ -146,11 +149,12 @@ fn forget(dues: &mut Dues, call: Call)
     }
 }
 
-// The calls inside the right side of a cell go.
+// The calls inside the right side of a cell go, and leave their groups.
 fn drop_inside(
     items: &mut Vec<Call>,
     places: &mut Vec<usize>,
     dues: &mut Dues,
+    groups: &mut Groups,
     steps: &Vec<Step>,
     cell: u64,
 )
@@ -160,6 +164,8 @@ fn drop_inside(
     ensures noted { HaveNotes dues.new items.new.items }
     ensures made { length places.new.items ≡ length places.old.items }
     ensures rest { (w : Its → ℕ) → weight w items.new.items ≡ weight (but (λ (k : Its). stands_inside cell steps.now.items k.step) w) items.old.items }
+    ensures groups { groups.new.items ≡ groups.old.items }
+    ensures sizes { HaveLeft groups.old.sizes groups.new.sizes (calls_in steps.now.items items.old.items) (calls_in steps.now.items items.new.items) }
 {
     let mut i = 0;
     while i < items.len() {
@@ -167,6 +173,7 @@ fn drop_inside(
         if is_inside(steps, step, cell) {
             let gone = remove_at(items, places, i);
             forget(dues, gone);
+            groups.leave(group_at(steps, gone.step));
         } else {
             i += 1;
         }
@@ -317,15 +324,18 @@ impl Pending {
         &self.items
     }
 
-    /// The calls inside the right side of a cell go.
-    pub(crate) fn drop_inside(&mut self, steps: &Vec<Step>, cell: u64)
+    /// The calls inside the right side of a cell go, and leave their groups.
+    pub(crate) fn drop_inside(&mut self, groups: &mut Groups, steps: &Vec<Step>, cell: u64)
         ensures made { self.new.made ≡ self.old.made }
         ensures rest { (w : Its → ℕ) → weight w self.new.items ≡ weight (but (λ (k : Its). stands_inside cell steps.now.items k.step) w) self.old.items }
+        ensures groups { groups.new.items ≡ groups.old.items }
+        ensures sizes { HaveLeft groups.old.sizes groups.new.sizes (calls_in steps.now.items self.old.items) (calls_in steps.now.items self.new.items) }
     {
         drop_inside(
             &mut self.items,
             &mut self.places,
             &mut self.dues,
+            groups,
             steps,
             cell,
         );

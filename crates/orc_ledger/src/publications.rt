@@ -14,6 +14,7 @@ ghost use Rattle.orc_ledger.specs.Calls.{Crosses, IsRefused};
 ghost use Rattle.orc_ledger.specs.declared.records.Standing.TheVariants.{At};
 
 use crate::ledger::{Ledger, LedgerFault, Program, push_within, reserve, write};
+use crate::marks::group_at;
 use crate::records::{Standing, Token};
 use crate::taking::leave_others;
 use orc_names::{Bound, Scope};
@@ -31,10 +32,12 @@ impl<P: Program> Ledger<P> {
         ensures why { IfErr result (λ fault. IsRefused self.old 0 0 0 fault) }
     {
         self.within(0, 0, 0)?;
+        let group = group_at(&self.steps, token.step);
         write(&mut self.journal, &Entry::Publish(token.serial, value))?;
         self.entries += 1;
         leave_others(&mut self.steps, token.step);
         self.tokens.remove(slot);
+        self.groups.leave(group);
         Ok(())
     }
 
@@ -61,10 +64,14 @@ impl<P: Program> Ledger<P> {
     {
         self.within(0, 0, 0)?;
         reserve(&mut self.scopes)?;
+        let left = group_at(&self.steps, token.step);
+        let joined = group_at(&self.steps, outer);
         let mark = self.next_mark;
         write(&mut self.journal, &Entry::Send(token.serial, mark, value))?;
         self.entries += 1;
         self.next_mark = mark + 1;
+        self.groups.join(joined);
+        self.groups.leave(left);
         leave_others(&mut self.steps, token.step);
         let inner = self.scopes.len() + 1;
         push_within(

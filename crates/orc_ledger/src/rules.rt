@@ -56,6 +56,6 @@ impl<P: Program> Ledger<P> {
         ensures { result ≡ true → (p : Place) → IsAt P.listing P.sites self.now p → Halted (erase p.marked) }
     {
         let _time = &self.time;
-        !self.has_members(0)
+        self.is_empty(0)
     }
 }

@@ -11,15 +11,19 @@ ghost use Rattle.orc_ledger.specs.declared.records.Side.TheVariants.{Left, Right
 ghost use Rattle.orc_ledger.specs.declared.records.Standing.TheVariants.{At};
 ghost use Rattle.orc_ledger.specs.Same.{weight, but};
 ghost use Rattle.orc_ledger.specs.Tokens.{live, IsHeld};
+ghost use Rattle.orc_ledger.specs.OpenGroups.{HaveLeft, tokens_in, groups_in};
 ghost use Rattle.orc_ledger.specs.declared.records.Token.{Token as Its};
+ghost use Rattle.orc_ledger.specs.declared.records.Group.{Group as Open};
 ghost use Rattle.orc_ledger.specs.Spelling.{Path, aiding};
 ghost use Rattle.orc_ledger.specs.Taking.{taker};
 ghost use Rattle.orc_ledger.specs.Records.{its_env, its_path, standing, is_over, has_left};
 ghost use Rattle.orc_ledger.specs.Calls.{Drops, Closes, Resumes, AreCancelled, IsRefused};
 ghost use Rattle.orc_ledger.specs.Homes.{aids};
-ghost use Rattle.orc_ledger.specs.Inside.{step_at, held_inside, stands_inside, side_inside, groups_outside, numbers_inside};
+ghost use Rattle.orc_ledger.specs.Inside.{step_at, held_inside, stands_inside, side_inside, numbers_inside};
 
+use crate::groups::Groups;
 use crate::ledger::{Ledger, LedgerFault, Program, push_within, reserve, write};
+use crate::marks::group_at;
 use crate::records::{Call, Entered, Group, Side, Standing, Step, Token};
 use crate::tokens::Tokens;
 use orc_journal::Journal;
@@ -103,9 +107,11 @@ fn is_held_inside(token: Token, steps: &Vec<Step>, cell: u64) -> bool
     token.serial > 0 && is_inside(steps, token.step, cell)
 }
 
-// The tokens inside go.
-fn drop_tokens(tokens: &mut Tokens, steps: &Vec<Step>, cell: u64)
-    ensures { (w : Its → ℕ) → weight w (live tokens.new.items) ≡ weight (but (λ (t : Its). stands_inside cell steps.now.items t.step) w) (live tokens.old.items) }
+// The tokens inside go, and leave their groups.
+fn drop_tokens(tokens: &mut Tokens, groups: &mut Groups, steps: &Vec<Step>, cell: u64)
+    ensures rest { (w : Its → ℕ) → weight w (live tokens.new.items) ≡ weight (but (λ (t : Its). stands_inside cell steps.now.items t.step) w) (live tokens.old.items) }
+    ensures groups { groups.new.items ≡ groups.old.items }
+    ensures sizes { HaveLeft groups.old.sizes groups.new.sizes (tokens_in steps.now.items (live tokens.old.items)) (tokens_in steps.now.items (live tokens.new.items)) }
 {
     let count = tokens.slot_count();
     let mut slot = 0;
@@ -113,15 +119,27 @@ fn drop_tokens(tokens: &mut Tokens, steps: &Vec<Step>, cell: u64)
         let token = tokens.at(slot);
         if is_held_inside(token, steps, cell) {
             tokens.remove(slot);
+            groups.leave(group_at(steps, token.step));
         }
         slot += 1;
     }
 }
 
-fn drop_groups(groups: &mut Vec<Group>, steps: &Vec<Step>, cell: u64)
-    ensures { groups.new.items ≡ groups_outside cell steps.now.items groups.old.items }
+// The groups inside go, the side's own too, and leave their parents.
+fn drop_groups(groups: &mut Groups, steps: &Vec<Step>, cell: u64)
+    ensures rest { (w : Open → ℕ) → weight w groups.new.items ≡ weight (but (λ (g : Open). side_inside cell steps.now.items g.outer g.side) w) groups.old.items }
+    ensures sizes { HaveLeft groups.old.sizes groups.new.sizes (groups_in steps.now.items groups.old.items) (groups_in steps.now.items groups.new.items) }
 {
-    groups.retain(|group| !is_side_inside(steps, group.outer, group.side, cell));
+    let mut place = 0;
+    while place < groups.len() {
+        let group = groups.at(place);
+        if is_side_inside(steps, group.outer, group.side, cell) {
+            groups.remove(place);
+            groups.leave(group_at(steps, group.outer));
+        } else {
+            place += 1;
+        }
+    }
 }
 
 // A cell becomes something.
@@ -176,8 +194,8 @@ impl<P: Program> Ledger<P> {
         cancelled.sort_unstable();
         write_bind(&mut self.journal, token.serial, cell, value, cancelled)?;
         self.entries += 1;
-        drop_tokens(&mut self.tokens, &self.steps, cell);
-        self.calls.drop_inside(&self.steps, cell);
+        drop_tokens(&mut self.tokens, &mut self.groups, &self.steps, cell);
+        self.calls.drop_inside(&mut self.groups, &self.steps, cell);
         drop_groups(&mut self.groups, &self.steps, cell);
         settle(&mut self.cells, cell, Bound::Is(value));
         Ok(())
@@ -201,27 +219,26 @@ impl<P: Program> Ledger<P> {
     }
 
     /// The group of a left side that a publication has left has no member any more: it goes, and no entry says so.
-    pub fn close(&mut self, index: usize, group: Group)
-        requires there { index < length self.old.groups }
-        requires is { group ≡ slice_index_or self.old.groups index group }
+    pub fn close(&mut self, group: Group)
+        requires there { IsIn group self.old.groups }
         requires over { is_over (code P.listing) self.old group.side ≡ true }
         requires empty { members (numbers_of self.old) self.old group.number ≡ 0 }
         ensures { Closes self.old self.new group }
     {
-        self.groups.swap_remove(index);
+        let parent = group_at(&self.steps, group.outer);
+        self.groups.take(group.number);
+        self.groups.leave(parent);
     }
     /// The left side of an otherwise has halted, and no publication has left it: nothing is left in it. A token stands on the right side. Gives
     /// its slot.
     pub fn right(
         &mut self,
-        index: usize,
         group: Group,
         number: u64,
         node: usize,
         scope: usize,
     ) -> Result<usize, LedgerFault>
-        requires there { index < length self.old.groups }
-        requires is { group ≡ slice_index_or self.old.groups index group }
+        requires there { IsIn group self.old.groups }
         requires side { group.side ≡ Left number node scope }
         requires stays { has_left self.old.steps number ≡ false }
         requires empty { members (numbers_of self.old) self.old group.number ≡ 0 }
@@ -236,7 +253,8 @@ impl<P: Program> Ledger<P> {
         write(&mut self.journal, &Entry::Right(number, mark))?;
         self.entries += 1;
         self.next_mark = mark + 1;
-        let _left = self.groups.swap_remove(index);
+        // Its parent loses the group and gets the token: it has as many members as before.
+        let _left = self.groups.take(group.number);
         let slot = self.tokens.add(Token {
             serial: mark,
             standing: Standing::At(node, scope),

@@ -1,6 +1,8 @@
-use Rattle.std.proofs.Common.{◌≡◌, ◌≤◌, ◌<◌, ℕ, Bool, true, false, cond, length, Some, sym, ap, ◌∙◌, arith, ⊎_elim}
+use Rattle.std.proofs.Common.{◌≡◌, ◌≤◌, ◌<◌, Bool, true, false, cond, length, Some, sym, ap, ◌∙◌, arith, ⊎_elim}
 use Rattle.std.specs.Prelude.{slice_get}
 use Rattle.orc_ledger.specs.Same.{but}
+use Rattle.orc_ledger.specs.Records.{group_at}
+use Rattle.orc_ledger.specs.Next.{is_this}
 use Rattle.orc_ledger.specs.Inside.{stands_inside}
 use Rattle.orc_ledger.specs.declared.records.Call.{Call}
 use Rattle.orc_ledger.proofs.Placed.{or-got, same_some, none-before, none-of-all}
@@ -15,7 +17,7 @@ loop-i-preserved c =
     let there : c.loop-i.i < length items = omega (arith, c.loop-i-test.true, c.len.ensures, c.loop-i.items.ok.0) in
     let is : slice_get items c.loop-i.i ≡ Some call = or-got items c.loop-i.i call there ∙ ap Some (sym c.index.ensures) in
     let off : P call ≡ false = sym c.is_inside.ensures ∙ c.if-is_inside.false in
-    record { placed = I.placed; noted = I.noted; made = I.made; before = none-before P items c.loop-i.i call I.before is off; rest = I.rest }
+    record { placed = I.placed; noted = I.noted; made = I.made; before = none-before P items c.loop-i.i call I.before is off; rest = I.rest; groups = I.groups; sizes = I.sizes }
 
 pub loop-i-preserved-then-is_inside : goal.loop-i-preserved-then-is_inside
 loop-i-preserved-then-is_inside c =
@@ -35,6 +37,8 @@ loop-i-preserved-then-is_inside c =
       rest = λ w.
           let mine : but P w gone ≡ 0 = ap (λ b. cond b 0 (w gone)) goes in
           omega (arith, c.remove_at-gone.ensures.rest (but P w), mine, I.rest w);
+      groups = c.leave.ensures.items ∙ I.groups;
+      sizes = λ t le. omega (arith, I.sizes t le, c.leave.ensures.sizes t, ap (is_this t) c.group_at.ensures, c.remove_at-gone.ensures.rest (λ (k : Call). is_this t (group_at c.args.steps.now.items k.step)));
     }
 
 pub returns-clause-rest : goal.returns-clause-rest

@@ -2,6 +2,7 @@ use Rattle.std.proofs.Common.{◌≡◌, ◌<◌, ◌-◌, ℕ, false, length, S
 use Rattle.std.specs.Prelude.{slice_get}
 use Rattle.orc_ledger.specs.Same.{weight, but}
 use Rattle.orc_ledger.specs.Inside.{stands_inside}
+use Rattle.orc_ledger.specs.OpenGroups.{HaveLeft, calls_in}
 use Rattle.orc_ledger.specs.PendingCalls.{ArePlaced, HaveNotes}
 use Rattle.orc_ledger.specs.declared.records.Call.{Call}
 use Rattle.orc_ledger.proofs.pending.drop_inside.Given as goal
@@ -13,6 +14,8 @@ invariant-loop-i l = record {
   made : length l.places.items ≡ length l.initial.places.items;
   before : (k : ℕ) (c : Call) → k < l.i → slice_get l.items.items k ≡ Some c → stands_inside l.cell l.steps.items c.step ≡ false;
   rest : (w : Call → ℕ) → weight (but (λ (c : Call). stands_inside l.cell l.steps.items c.step) w) l.items.items ≡ weight (but (λ (c : Call). stands_inside l.cell l.steps.items c.step) w) l.initial.items.items;
+  groups : l.groups.items ≡ l.initial.groups.items;
+  sizes : HaveLeft l.initial.groups.sizes l.groups.sizes (calls_in l.steps.items l.initial.items.items) (calls_in l.steps.items l.items.items);
 }
 
 abbrev pub decreases-loop-i : goal.decreases-loop-i

@@ -1,4 +1,4 @@
-use Rattle.std.proofs.Common.{◌≡◌, ◌≤◌, ℕ, take}
+use Rattle.std.proofs.Common.{◌≡◌, take}
 use Rattle.orc_ledger.specs.Same.{weight}
 use Rattle.orc_ledger.specs.Next.{numbers_of, members, is_empty}
 use Rattle.orc_ledger.specs.declared.records.Group.{Group}

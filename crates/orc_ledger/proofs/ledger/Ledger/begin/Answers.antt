@@ -1,4 +1,4 @@
-use Rattle.std.proofs.Common.{◌≡◌, ℕ, List, [], ◌∷◌, ◌++◌, refl, sym, ap, ◌∙◌, subst}
+use Rattle.std.proofs.Common.{◌≡◌, ℕ, List, [], ◌∷◌, ◌++◌, refl, sym, ap, ◌∙◌, subst, arith}
 use Rattle.orc_rules.specs.declared.entry.Entry.{Entry}
 use Rattle.orc_names.specs.declared.names.Bound.{Bound}
 use Rattle.orc_names.specs.declared.names.Bound.TheVariants.{Void}
@@ -28,15 +28,17 @@ invariant_of-result g c =
     let l = g.P.Program.listing in
     let sites = g.P.Program.sites in
     let L = begun-lawful l sites a.limit c.requires.limit.1 in
-    let kept : Kept l sites [] (begun a.limit l.root) = record {
+    let sizes = c.join.new.self.sizes in
+    let kept : Kept l sites [] sizes (begun a.limit l.root) = record {
       lawful = L;
       grouped = begun-grouped a.limit l.root;
       told = refl;
       counted = subst (AreCounted sites []) (ap (λ (w : Place). w.calls) L.leads) (λ m args h. refl);
+      sized = λ i. omega (arith, c.join.ensures.sizes i, c.in_ok-groups.ensures.sizes i);
     } in
     let cells : c.push_within.new.items.items ≡ Void ∷ [] = c.push_within.ensures.items ∙ ap (λ (z : List Bound). z ++ Void ∷ []) (c.in_ok-reserve.ensures.items ∙ c.new-cells.ensures.items) in
-    subst (λ n. Kept l sites n (record { limit = a.limit; journal = c.new.result.entries; entries = 0; next_mark = 2; now = 0; made = c.new-2.result.made; tokens = live c.in_ok-tokens.tokens.items; slots = c.in_ok-tokens.tokens.items; calls = c.new-2.result.items; scopes = c.new-4.result.items; steps = c.new-5.result.items; groups = c.new-6.result.items; cells = c.push_within.new.items.items }))
+    subst (λ n. Kept l sites n sizes (record { limit = a.limit; journal = c.new.result.entries; entries = 0; next_mark = 2; now = 0; made = c.new-2.result.made; tokens = live c.in_ok-tokens.tokens.items; slots = c.in_ok-tokens.tokens.items; calls = c.new-2.result.items; scopes = c.new-4.result.items; steps = c.new-5.result.items; groups = c.join.new.self.items; cells = c.push_within.new.items.items }))
     (sym c.new-3.ensures)
-    (subst (Kept l sites []) (same a.limit a.root c.new-2.result.made c.new.result.entries c.in_ok-tokens.tokens.items c.new-2.result.items c.new-4.result.items c.new-5.result.items c.new-6.result.items c.push_within.new.items.items
-    c.new-2.ensures.made (ap (λ z. z.entries) c.new.ensures) c.in_ok-tokens.ensures.items c.new-2.ensures.items c.new-4.ensures.items c.new-5.ensures.items c.new-6.ensures.items cells)
-    (subst (λ z. Kept l sites [] (begun a.limit z)) (sym c.requires.root) kept))
+    (subst (Kept l sites [] sizes) (same a.limit a.root c.new-2.result.made c.new.result.entries c.in_ok-tokens.tokens.items c.new-2.result.items c.new-4.result.items c.new-5.result.items c.join.new.self.items c.push_within.new.items.items
+    c.new-2.ensures.made (ap (λ z. z.entries) c.new.ensures) c.in_ok-tokens.ensures.items c.new-2.ensures.items c.new-4.ensures.items c.new-5.ensures.items (c.join.ensures.items ∙ c.in_ok-groups.ensures.items) cells)
+    (subst (λ z. Kept l sites [] sizes (begun a.limit z)) (sym c.requires.root) kept))

@@ -27,8 +27,8 @@ invariant_of-self-2 g c =
     let args = c.ask-site.new.args in
     let asks : IsCall m args (term_of (code l) s a.token) = rw (← c.self.view_is) at c.ask-site.ensures in
     let made : Call = record { number = c.next_number.result; found = c.found.result; made_at = b.time; step = a.token.step; row = c.len.result; nth = c.next_nth.result } in
-    let found : made.found ≡ find sites m args (nth_of m args K.lawful.place.calls) = found-there l sites b.counts s K a.answers.now.sites c.requires.answers m args made.found c.found.ensures in
-    let which = nth-there l sites b.counts s K a.answers.now.sites c.requires.answers m args made.nth c.next_nth.ensures.nth in
+    let found : made.found ≡ find sites m args (nth_of m args K.lawful.place.calls) = found-there l sites b.counts b.groups.sizes s K a.answers.now.sites c.requires.answers m args made.found c.found.ensures in
+    let which = nth-there l sites b.counts b.groups.sizes s K a.answers.now.sites c.requires.answers m args made.nth c.next_nth.ensures.nth in
     let e = entry.Call a.token.serial made.number m args in
     let s' : Records = record { limit = b.limit; journal = c.write_call.new.journal.entries; entries = b.entries + 1; next_mark = b.next_mark; now = b.time; made = c.add.new.self.made; tokens = live c.remove.new.self.items; slots = c.remove.new.self.items; calls = c.add.new.self.items; scopes = b.scopes.items; steps = b.steps.items; groups = b.groups.items; cells = b.cells.items } in
     let T : Exchanges s s' (a.token ∷ []) [] [] (made ∷ []) 1 e = record {
@@ -46,7 +46,7 @@ invariant_of-self-2 g c =
       cells = refl;
     } in
     let room : s.entries < s.limit = rw (← c.self.view_is) at c.in_ok-within.ensures.room in
-    called-kept l sites b.counts s K a.answers.now.sites c.requires.answers m args a.token (live-in s.slots a.slot a.token held) asks room made c.next_number.ensures found which s' refl refl c.len.ensures T c.write_call.new.counts c.in_ok-write_call.ensures.counted
+    called-kept l sites b.counts b.groups.sizes s K a.answers.now.sites c.requires.answers m args a.token (live-in s.slots a.slot a.token held) asks room made c.next_number.ensures found which s' refl refl c.len.ensures T c.write_call.new.counts c.in_ok-write_call.ensures.counted
 
 pub returns-clause-done : goal.returns-clause-done
 returns-clause-done g c =
@@ -61,8 +61,8 @@ returns-clause-done g c =
     let args = c.ask-site.new.args in
     let asks : IsCall m args (term_of (code l) s a.token) = rw (← c.self.view_is) at c.ask-site.ensures in
     let made : Call = record { number = c.next_number.result; found = c.found.result; made_at = b.time; step = a.token.step; row = c.len.result; nth = c.next_nth.result } in
-    let found : made.found ≡ find sites m args (nth_of m args K.lawful.place.calls) = found-there l sites b.counts s K a.answers.now.sites c.requires.answers m args made.found c.found.ensures in
-    let which = nth-there l sites b.counts s K a.answers.now.sites c.requires.answers m args made.nth c.next_nth.ensures.nth in
+    let found : made.found ≡ find sites m args (nth_of m args K.lawful.place.calls) = found-there l sites b.counts b.groups.sizes s K a.answers.now.sites c.requires.answers m args made.found c.found.ensures in
+    let which = nth-there l sites b.counts b.groups.sizes s K a.answers.now.sites c.requires.answers m args made.nth c.next_nth.ensures.nth in
     let e = entry.Call a.token.serial made.number m args in
     let s' : Records = record { limit = b.limit; journal = c.write_call.new.journal.entries; entries = b.entries + 1; next_mark = b.next_mark; now = b.time; made = c.add.new.self.made; tokens = live c.remove.new.self.items; slots = c.remove.new.self.items; calls = c.add.new.self.items; scopes = b.scopes.items; steps = b.steps.items; groups = b.groups.items; cells = b.cells.items } in
     let T : Exchanges s s' (a.token ∷ []) [] [] (made ∷ []) 1 e = record {

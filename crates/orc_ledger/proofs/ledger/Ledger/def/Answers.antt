@@ -1,9 +1,9 @@
-use Rattle.std.proofs.Common.{◌≡◌, ◌<◌, ◌++◌, ℕ, ◌+◌, List, [], ◌∷◌, length, sym, ◌∙◌, refl, ap, subst, arith, append-nil, inl, inr, Option, Some}
+use Rattle.std.proofs.Common.{◌≡◌, ◌<◌, ◌++◌, ℕ, ◌+◌, List, [], ◌∷◌, sym, ◌∙◌, refl, ap, subst, arith, append-nil, Option, Some}
 use Rattle.std.specs.Prelude.{slice_get, slice_set, slice_index_or, option_map, IfSome}
 use Rattle.orc_rules.specs.declared.entry.Entry.TheVariants.{Def}
 use Rattle.orc_rules.specs.declared.param.Operand.{Operand}
 use Rattle.orc_rules.specs.Timed.{IsIn}
-use Rattle.orc_rules.specs.Nodes.{Listing, Routine, code, definitions, definition_of}
+use Rattle.orc_rules.specs.Nodes.{Listing, Routine, definitions, definition_of}
 use Rattle.orc_names.specs.declared.names.Bound.{Bound}
 use Rattle.orc_names.specs.declared.names.Scope.{Scope}
 use Rattle.orc_graph.specs.Ranges.{params_at}
@@ -12,13 +12,16 @@ use Rattle.orc_ledger.specs.Same.{weight}
 use Rattle.orc_ledger.specs.Records.{Records}
 use Rattle.orc_ledger.specs.Tokens.{live, IsHeld}
 use Rattle.orc_ledger.specs.Calls.{born}
-use Rattle.orc_ledger.specs.Parameters.{Adds, Misfit, IsDefined}
+use Rattle.orc_ledger.specs.Parameters.{Adds, IsDefined}
 use Rattle.orc_ledger.specs.declared.records.Token.{Token}
 use Rattle.orc_ledger.proofs.Slots.{live-in, replaced, set-there}
 use Rattle.orc_ledger.proofs.Calling.{turns-told}
 use Rattle.orc_ledger.proofs.Keeping.{counted-kept}
-use Rattle.orc_ledger.proofs.Made.{turns, later_mark}
-use Rattle.orc_ledger.proofs.Bodies.{def-lawful, defined-grouped, routine_there, routine_none}
+use Rattle.orc_ledger.proofs.Made.{turns, later_mark, step_in}
+use Rattle.orc_ledger.proofs.Bodies.{def-lawful, defined-grouped, routine_there}
+use Rattle.orc_ledger.specs.Next.{is_this}
+use Rattle.orc_ledger.proofs.Nests.{group-kept}
+use Rattle.orc_ledger.proofs.Sizes.{turned-members}
 use Rattle.orc_ledger.proofs.ledger.Ledger.def.Goals as goal
 
 -- a definition of the listing is one of the program
@@ -64,6 +67,7 @@ invariant_of-self-2 g c =
       grouped = defined-grouped l sites s L G a.token i r.body newest more s' T;
       told = turns-told l sites s s' L L' c.self.invariant.told a.token (first ∷ []) more [] [] [] (Def a.token.serial b.next_mark) tt T;
       counted = counted-kept l sites s s' L L' (Def a.token.serial b.next_mark ∷ []) journal (tt, tt) b.counts c.self.invariant.counted;
+      sized = λ j. omega (arith, turned-members s s' L.sound a.token i (first ∷ []) more [] [] [] _ T j, c.self.invariant.sized j, ap (is_this j) (group-kept s.steps [] a.token.step (step_in l sites s L a.token i)));
     }
 
 pub returns-clause-done : goal.returns-clause-done

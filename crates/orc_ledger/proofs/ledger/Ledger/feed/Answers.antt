@@ -16,6 +16,9 @@ use Rattle.orc_ledger.proofs.Keeping.{counted-kept}
 use Rattle.orc_ledger.proofs.Made.{turns, later_mark}
 use Rattle.orc_ledger.proofs.Leaves.{feed-lawful}
 use Rattle.orc_ledger.proofs.Grouped.{fed-grouped}
+use Rattle.orc_ledger.specs.Next.{is_this}
+use Rattle.orc_ledger.proofs.Nests.{group-end}
+use Rattle.orc_ledger.proofs.Sizes.{turned-members}
 use Rattle.orc_ledger.proofs.ledger.Ledger.feed.Goals as goal
 
 pub invariant_of-self-2 : goal.invariant_of-self-2
@@ -48,6 +51,7 @@ invariant_of-self-2 g c =
       grouped = fed-grouped l sites s L G a.token i a.scope a.left a.name a.right s' T;
       told = turns-told l sites s s' L L' c.self.invariant.told a.token (first ∷ []) [] (step ∷ []) [] [] (Seq a.token.serial b.next_mark) tt T;
       counted = counted-kept l sites s s' L L' (Seq a.token.serial b.next_mark ∷ []) journal (tt, tt) b.counts c.self.invariant.counted;
+      sized = λ j. omega (arith, turned-members s s' L.sound a.token i (first ∷ []) [] (step ∷ []) [] [] _ T j, c.self.invariant.sized j, ap (is_this j) (group-end s.steps step));
     }
 
 pub returns-clause-done : goal.returns-clause-done

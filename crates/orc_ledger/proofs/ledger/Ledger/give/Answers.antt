@@ -1,6 +1,6 @@
-use Rattle.std.proofs.Common.{◌≡◌, ◌≤◌, ◌+◌, ◌<◌, ℕ, [], ◌∷◌, ◌++◌, ◌∙◌, refl, ap, arith}
-use Rattle.orc_rules.specs.declared.value.Answer.TheVariants.{Value as Gives, Halt}
-use Rattle.orc_rules.specs.declared.entry.Entry.TheVariants.{Return, ReturnHalt}
+use Rattle.std.proofs.Common.{◌≡◌, ◌+◌, ◌<◌, ℕ, [], ◌∷◌, ◌++◌, ◌∙◌, refl, ap, arith}
+use Rattle.orc_rules.specs.declared.value.Answer.TheVariants.{Value as Gives}
+use Rattle.orc_rules.specs.declared.entry.Entry.TheVariants.{Return}
 use Rattle.orc_rules.specs.Timed.{IsIn}
 use Rattle.orc_calls.specs.Due.{DueNow}
 use Rattle.orc_ledger.specs.Same.{weight}
@@ -10,10 +10,11 @@ use Rattle.orc_ledger.specs.Calls.{Exchanges}
 use Rattle.orc_ledger.specs.declared.records.Standing.TheVariants.{On}
 use Rattle.orc_ledger.specs.declared.records.Token.{Token}
 use Rattle.orc_ledger.proofs.Answered.{due-there}
-use Rattle.orc_ledger.proofs.Asking.{return-lawful, return_halt-lawful}
+use Rattle.orc_ledger.proofs.Asking.{return-lawful}
 use Rattle.orc_ledger.proofs.Calling.{returns-told}
-use Rattle.orc_ledger.proofs.Grouped.{returned-grouped, halted-grouped}
+use Rattle.orc_ledger.proofs.Grouped.{returned-grouped}
 use Rattle.orc_ledger.proofs.Keeping.{counted-kept, from_one}
+use Rattle.orc_ledger.proofs.Sizes.{exchanged-members}
 use Rattle.orc_ledger.proofs.ledger.Ledger.give.Goals as goal
 
 pub invariant_of-self-2 : goal.invariant_of-self-2
@@ -46,12 +47,13 @@ invariant_of-self-2 g c =
       steps = refl;
       cells = refl;
     } in
-    let L' = return-lawful l sites s K.lawful a.call pends a.value (due-there l sites b.counts s K a.call pends (Gives a.value) due) room s' T in
+    let L' = return-lawful l sites s K.lawful a.call pends a.value (due-there l sites b.counts b.groups.sizes s K a.call pends (Gives a.value) due) room s' T in
     record {
       lawful = L';
       grouped = returned-grouped l sites s K.lawful K.grouped a.call pends t refl s' e T;
       told = returns-told l sites s s' K.lawful L' K.told [] (t ∷ []) a.call e tt T;
       counted = counted-kept l sites s s' K.lawful L' (e ∷ []) journal (tt, tt) b.counts K.counted;
+      sized = λ j. omega (arith, exchanged-members s s' [] (t ∷ []) (a.call ∷ []) [] 0 e T j, K.sized j);
     }
 
 pub returns-clause-done : goal.returns-clause-done

@@ -1,19 +1,18 @@
-use Rattle.std.proofs.Common.{◌≡◌, ◌≤◌, ◌+◌, ◌<◌, ℕ, [], ◌∷◌, ◌++◌, ◌∙◌, refl, ap, arith}
-use Rattle.orc_rules.specs.declared.value.Answer.TheVariants.{Value as Gives, Halt}
-use Rattle.orc_rules.specs.declared.entry.Entry.TheVariants.{Return, ReturnHalt}
+use Rattle.std.proofs.Common.{◌≡◌, ◌+◌, ◌<◌, [], ◌∷◌, ◌++◌, refl, ap, arith}
+use Rattle.orc_rules.specs.declared.value.Answer.TheVariants.{Halt}
+use Rattle.orc_rules.specs.declared.entry.Entry.TheVariants.{ReturnHalt}
 use Rattle.orc_rules.specs.Timed.{IsIn}
 use Rattle.orc_calls.specs.Due.{DueNow}
-use Rattle.orc_ledger.specs.Same.{weight}
 use Rattle.orc_ledger.specs.Records.{Records}
 use Rattle.orc_ledger.specs.Tokens.{live}
 use Rattle.orc_ledger.specs.Calls.{Exchanges}
-use Rattle.orc_ledger.specs.declared.records.Standing.TheVariants.{On}
-use Rattle.orc_ledger.specs.declared.records.Token.{Token}
 use Rattle.orc_ledger.proofs.Answered.{due-there}
-use Rattle.orc_ledger.proofs.Asking.{return-lawful, return_halt-lawful}
+use Rattle.orc_ledger.proofs.Asking.{return_halt-lawful}
 use Rattle.orc_ledger.proofs.Calling.{returns-told}
-use Rattle.orc_ledger.proofs.Grouped.{returned-grouped, halted-grouped}
-use Rattle.orc_ledger.proofs.Keeping.{counted-kept, from_one}
+use Rattle.orc_ledger.proofs.Grouped.{halted-grouped}
+use Rattle.orc_ledger.proofs.Keeping.{counted-kept}
+use Rattle.orc_ledger.specs.Next.{is_this}
+use Rattle.orc_ledger.proofs.Sizes.{exchanged-members}
 use Rattle.orc_ledger.proofs.ledger.Ledger.give_up.Goals as goal
 
 pub invariant_of-self-2 : goal.invariant_of-self-2
@@ -28,7 +27,7 @@ invariant_of-self-2 g c =
     let due : DueNow a.call.made_at a.call.found Halt s.now = rw (← c.self.view_is) at c.requires.due in
     let room : s.entries < s.limit = rw (← c.self.view_is) at c.requires.room in
     let e = ReturnHalt a.call.number in
-    let s' : Records = record { limit = b.limit; journal = c.write.new.journal.entries; entries = b.entries + 1; next_mark = b.next_mark; now = b.time; made = c.take.new.self.made; tokens = live b.tokens.items; slots = b.tokens.items; calls = c.take.new.self.items; scopes = b.scopes.items; steps = b.steps.items; groups = b.groups.items; cells = b.cells.items } in
+    let s' : Records = record { limit = b.limit; journal = c.write.new.journal.entries; entries = b.entries + 1; next_mark = b.next_mark; now = b.time; made = c.take.new.self.made; tokens = live b.tokens.items; slots = b.tokens.items; calls = c.take.new.self.items; scopes = b.scopes.items; steps = b.steps.items; groups = c.leave.new.self.items; cells = b.cells.items } in
     let journal : s'.journal ≡ s.journal ++ e ∷ [] = ap (λ j. j.entries) c.in_ok-write.ensures.added in
     let T : Exchanges s s' [] [] (a.call ∷ []) [] 0 e = record {
       limit = refl;
@@ -39,17 +38,18 @@ invariant_of-self-2 g c =
       made_so = omega (arith, c.take.ensures.made);
       tokens = λ w. omega arith;
       calls = λ w. omega (arith, c.take.ensures.one a.call pends refl w);
-      groups = refl;
+      groups = c.leave.ensures.items;
       scopes = refl;
       steps = refl;
       cells = refl;
     } in
-    let L' = return_halt-lawful l sites s K.lawful a.call pends (due-there l sites b.counts s K a.call pends Halt due) room s' T in
+    let L' = return_halt-lawful l sites s K.lawful a.call pends (due-there l sites b.counts b.groups.sizes s K a.call pends Halt due) room s' T in
     record {
       lawful = L';
       grouped = halted-grouped l sites s K.lawful K.grouped a.call s' e T;
       told = returns-told l sites s s' K.lawful L' K.told [] [] a.call e tt T;
       counted = counted-kept l sites s s' K.lawful L' (e ∷ []) journal (tt, tt) b.counts K.counted;
+      sized = λ j. omega (arith, c.leave.ensures.sizes j, exchanged-members s s' [] [] (a.call ∷ []) [] 0 e T j, K.sized j, ap (is_this j) c.group_at-group.ensures);
     }
 
 pub returns-clause-done : goal.returns-clause-done
@@ -64,7 +64,7 @@ returns-clause-done g c =
     let due : DueNow a.call.made_at a.call.found Halt s.now = rw (← c.self.view_is) at c.requires.due in
     let room : s.entries < s.limit = rw (← c.self.view_is) at c.requires.room in
     let e = ReturnHalt a.call.number in
-    let s' : Records = record { limit = b.limit; journal = c.write.new.journal.entries; entries = b.entries + 1; next_mark = b.next_mark; now = b.time; made = c.take.new.self.made; tokens = live b.tokens.items; slots = b.tokens.items; calls = c.take.new.self.items; scopes = b.scopes.items; steps = b.steps.items; groups = b.groups.items; cells = b.cells.items } in
+    let s' : Records = record { limit = b.limit; journal = c.write.new.journal.entries; entries = b.entries + 1; next_mark = b.next_mark; now = b.time; made = c.take.new.self.made; tokens = live b.tokens.items; slots = b.tokens.items; calls = c.take.new.self.items; scopes = b.scopes.items; steps = b.steps.items; groups = c.leave.new.self.items; cells = b.cells.items } in
     let journal : s'.journal ≡ s.journal ++ e ∷ [] = ap (λ j. j.entries) c.in_ok-write.ensures.added in
     let T : Exchanges s s' [] [] (a.call ∷ []) [] 0 e = record {
       limit = refl;
@@ -75,7 +75,7 @@ returns-clause-done g c =
       made_so = omega (arith, c.take.ensures.made);
       tokens = λ w. omega arith;
       calls = λ w. omega (arith, c.take.ensures.one a.call pends refl w);
-      groups = refl;
+      groups = c.leave.ensures.items;
       scopes = refl;
       steps = refl;
       cells = refl;

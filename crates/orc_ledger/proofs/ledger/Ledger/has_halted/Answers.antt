@@ -1,4 +1,4 @@
-use Rattle.std.proofs.Common.{◌≡◌, [], subst, refl, Bool, true, false, not}
+use Rattle.std.proofs.Common.{◌≡◌, [], subst, refl}
 use Rattle.orc_rules.specs.Nodes.{source}
 use Rattle.orc_rules.specs.Term.{Halted}
 use Rattle.orc_rules.specs.Marked.{erase}
@@ -10,16 +10,12 @@ use Rattle.orc_ledger.proofs.Keeping.{journal_one}
 use Rattle.orc_ledger.proofs.Ended.{root-halted}
 use Rattle.orc_ledger.proofs.ledger.Ledger.has_halted.Goals as goal
 
-has-none : (b : Bool) → not b ≡ true → b ≡ false
-has-none true h = cc h
-has-none false h = refl
-
 pub returns : goal.returns
 returns g c e p at =
     let l = g.P.Program.listing in
     let sites = g.P.Program.sites in
     let s : Records = c.args.self.now in
-    let K = subst (λ (z : Records). Kept l sites c.self.inside.counts z) c.self.view_is c.self.invariant in
+    let K = subst (λ (z : Records). Kept l sites c.self.inside.counts c.self.inside.groups.sizes z) c.self.view_is c.self.invariant in
     let L = K.lawful in
     subst (λ q. Halted (erase (Place.marked q))) (journal_one (context l sites) (source l) [] (begin (source l)) L.place p s.journal refl L.leads at)
-    (root-halted l sites s L (numbers_of s) K.grouped (c.has_members.ensures.none (has-none c.has_members.result e)))
+    (root-halted l sites s L (numbers_of s) K.grouped (c.is_empty.ensures.0 e))

@@ -1,4 +1,4 @@
-use Rattle.std.proofs.Common.{◌≡◌, ◌+◌, ◌<◌, [], ◌∷◌, ◌++◌, refl, ap}
+use Rattle.std.proofs.Common.{◌≡◌, ◌+◌, ◌<◌, [], ◌∷◌, ◌++◌, refl, ap, arith}
 use Rattle.orc_rules.specs.declared.entry.Entry.TheVariants.{Lost}
 use Rattle.orc_rules.specs.Nodes.{code}
 use Rattle.orc_rules.specs.Timed.{IsIn}
@@ -28,7 +28,7 @@ invariant_of-self-2 g c =
     let empty : members (numbers_of s) s a.group.number ≡ 0 = rw (← c.self.view_is) at c.requires.empty in
     let E = right-empty l sites s L (numbers_of s) G a.group there empty a.cell c.requires.side in
     let s' : Records = record { limit = b.limit; journal = c.write.new.journal.entries; entries = b.entries + 1; next_mark = b.next_mark; now = b.time; made = b.calls.made; tokens = live b.tokens.items; slots = b.tokens.items; calls = b.calls.items; scopes = b.scopes.items; steps = b.steps.items; groups = c.drop_groups.new.groups.items; cells = c.settle.new.cells.items } in
-    let D : Drops (code l) a.cell Void s s' = drops-empty l sites s L a.cell E Void s' refl refl refl refl refl refl refl c.drop_groups.ensures refl refl c.settle.ensures in
+    let D : Drops (code l) a.cell Void s s' = drops-empty l sites s L a.cell E Void s' refl refl refl refl refl refl refl c.drop_groups.ensures.rest refl refl c.settle.ensures in
     let journal : s'.journal ≡ s.journal ++ Lost a.cell ∷ [] = ap (λ j. j.entries) c.in_ok-write.ensures.added in
     let room : s.entries < s.limit = rw (← c.self.view_is) at c.in_ok-within.ensures.room in
     let L' = lost-lawful l sites s L a.cell a.group there c.requires.side E room s' D journal in
@@ -37,6 +37,7 @@ invariant_of-self-2 g c =
       grouped = dropped-grouped l sites s L G a.cell Void s' D;
       told = drops-told l sites s s' L L' c.self.invariant.told a.cell Void (Lost a.cell) [] tt D journal;
       counted = counted-kept l sites s s' L L' (Lost a.cell ∷ []) journal (tt, tt) b.counts c.self.invariant.counted;
+      sized = λ j. omega (arith, c.drop_groups.ensures.sizes j (omega (arith, c.self.invariant.sized j)), c.self.invariant.sized j);
     }
 
 pub returns-clause-done : goal.returns-clause-done
@@ -52,5 +53,5 @@ returns-clause-done g c =
     let empty : members (numbers_of s) s a.group.number ≡ 0 = rw (← c.self.view_is) at c.requires.empty in
     let E = right-empty l sites s L (numbers_of s) G a.group there empty a.cell c.requires.side in
     let s' : Records = record { limit = b.limit; journal = c.write.new.journal.entries; entries = b.entries + 1; next_mark = b.next_mark; now = b.time; made = b.calls.made; tokens = live b.tokens.items; slots = b.tokens.items; calls = b.calls.items; scopes = b.scopes.items; steps = b.steps.items; groups = c.drop_groups.new.groups.items; cells = c.settle.new.cells.items } in
-    let D : Drops (code l) a.cell Void s s' = drops-empty l sites s L a.cell E Void s' refl refl refl refl refl refl refl c.drop_groups.ensures refl refl c.settle.ensures in
+    let D : Drops (code l) a.cell Void s s' = drops-empty l sites s L a.cell E Void s' refl refl refl refl refl refl refl c.drop_groups.ensures.rest refl refl c.settle.ensures in
     rw (← c.self.view_is) D

@@ -1,21 +1,14 @@
-use Rattle.std.proofs.Common.{inl, inr, arith}
 use Rattle.orc_rules.specs.Nodes.{code}
 use Rattle.orc_ledger.specs.declared.what.What.TheVariants.{Prune}
 use Rattle.std.proofs.lemmas.Result.{err_from_is_err_and}
 use Rattle.orc_ledger.proofs.Advancing.{word-prune, moves-by, hindered-by}
 use Rattle.orc_ledger.proofs.ledger.Ledger.move_prune.Goals as goal
 
-pub returns-in_default-clause-why : goal.returns-in_default-clause-why
-returns-in_default-clause-why g c =
-    let l = g.P.Program.listing in
-    let a = c.args in
-    hindered-by l a.self.now a.token _ Prune (word-prune l a.self.now a.token a.scope (code l a.left) a.name (code l a.right) c.requires.at) (inr (inl (omega (arith, c.in_default.ensures.none))))
-
 pub returns-clause-done : goal.returns-clause-done
 returns-clause-done g c ks =
     let l = g.P.Program.listing in
     let a = c.args in
-    moves-by l a.self.now a.token a.slot _ _ ks Prune (word-prune l a.self.now a.token a.scope (code l a.left) a.name (code l a.right) c.requires.at) (record { scope = a.scope; left = a.left; name = a.name; right = a.right; number = c.in-Some.number; at = c.requires.at; free = c.in-Some.ensures.free; done = c.in_ok-right_slot.ensures.done; held = c.in_ok-right_slot.ensures.left; right_held = c.in_ok-right_slot.ensures.right })
+    moves-by l a.self.now a.token a.slot _ _ ks Prune (word-prune l a.self.now a.token a.scope (code l a.left) a.name (code l a.right) c.requires.at) (record { scope = a.scope; left = a.left; name = a.name; right = a.right; number = c.in_ok-right_slot.ensures.done.0; at = c.requires.at; free = c.in_ok-right_slot.ensures.done.1; done = c.in_ok-right_slot.ensures.done.2; held = c.in_ok-right_slot.ensures.left; right_held = c.in_ok-right_slot.ensures.right })
 
 pub returns-in_err-right_slot-clause-why : goal.returns-in_err-right_slot-clause-why
 returns-in_err-right_slot-clause-why g c =

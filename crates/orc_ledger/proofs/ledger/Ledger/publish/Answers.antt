@@ -17,6 +17,8 @@ use Rattle.orc_ledger.proofs.Keeping.{counted-kept}
 use Rattle.orc_ledger.proofs.Made.{crosses, step_in}
 use Rattle.orc_ledger.proofs.Sending.{publish-lawful}
 use Rattle.orc_ledger.proofs.Grouped.{published-grouped}
+use Rattle.orc_ledger.specs.Next.{is_this}
+use Rattle.orc_ledger.proofs.Sizes.{crossed-members}
 use Rattle.orc_ledger.proofs.ledger.Ledger.publish.Goals as goal
 
 pub leave_others-requires-clause-within : goal.leave_others-requires-clause-within
@@ -48,18 +50,19 @@ invariant_of-self-2 g c =
     let form : standing cd (its_env cd s) a.token.standing ≡ param (is_.Is a.value) = rw (← c.self.view_is) at c.requires.form in
     let ns = crossed (its_path cd s a.token.step) in
     let room : s.entries < s.limit = rw (← c.self.view_is) at c.in_ok-within.ensures.room in
-    let s' : Records = record { limit = b.limit; journal = c.write.new.journal.entries; entries = b.entries + 1; next_mark = b.next_mark; now = b.time; made = b.calls.made; tokens = live c.remove.new.self.items; slots = c.remove.new.self.items; calls = b.calls.items; scopes = b.scopes.items; steps = c.leave_others.new.steps.items; groups = b.groups.items; cells = b.cells.items } in
+    let s' : Records = record { limit = b.limit; journal = c.write.new.journal.entries; entries = b.entries + 1; next_mark = b.next_mark; now = b.time; made = b.calls.made; tokens = live c.remove.new.self.items; slots = c.remove.new.self.items; calls = b.calls.items; scopes = b.scopes.items; steps = c.leave_others.new.steps.items; groups = c.leave.new.self.items; cells = b.cells.items } in
     let journal : s'.journal ≡ s.journal ++ Publish a.token.serial a.value ∷ [] = ap (λ j. j.entries) c.in_ok-write.ensures.added in
     let marks : Publishes ns s.steps s'.steps = c.leave_others.ensures cd (its_env cd s) in
     let takes : taker (its_path cd s a.token.step) ≡ whole = rw (← c.self.view_is) at c.requires.takes in
     let tokens : (w : Token → ℕ) → weight w s'.tokens + w a.token ≡ weight w s.tokens + 0 = λ w. omega (arith, ap (λ z. weight w (live z)) c.remove.ensures.items.2, removed w s.slots a.slot a.token c.remove.ensures.items.0 held c.remove.ensures.items.1) in
-    let T : Crosses s s' a.token [] [] ns (Publish a.token.serial a.value) = crosses s s' a.token [] [] ns (Publish a.token.serial a.value) refl journal refl (omega arith) refl refl tokens refl (sym (append-nil s.scopes)) marks refl refl in
+    let T : Crosses s s' a.token [] [] ns (Publish a.token.serial a.value) = crosses s s' a.token [] [] ns (Publish a.token.serial a.value) refl journal refl (omega arith) refl refl tokens refl (sym (append-nil s.scopes)) marks c.leave.ensures.items refl in
     let L' = publish-lawful l sites s L a.token i a.value form takes room s' T in
     record {
       lawful = L';
       grouped = published-grouped l sites s L G a.token s' ns (Publish a.token.serial a.value) T;
       told = crosses-told l sites s s' L L' c.self.invariant.told a.token [] [] ns (Publish a.token.serial a.value) tt T;
       counted = counted-kept l sites s s' L L' (Publish a.token.serial a.value ∷ []) journal (tt, tt) b.counts c.self.invariant.counted;
+      sized = λ j. omega (arith, c.leave.ensures.sizes j, crossed-members s s' a.token [] [] ns (Publish a.token.serial a.value) T j, c.self.invariant.sized j, ap (is_this j) c.group_at-group.ensures);
     }
 
 pub returns-clause-done : goal.returns-clause-done
@@ -77,10 +80,10 @@ returns-clause-done g c =
     let form : standing cd (its_env cd s) a.token.standing ≡ param (is_.Is a.value) = rw (← c.self.view_is) at c.requires.form in
     let ns = crossed (its_path cd s a.token.step) in
     let room : s.entries < s.limit = rw (← c.self.view_is) at c.in_ok-within.ensures.room in
-    let s' : Records = record { limit = b.limit; journal = c.write.new.journal.entries; entries = b.entries + 1; next_mark = b.next_mark; now = b.time; made = b.calls.made; tokens = live c.remove.new.self.items; slots = c.remove.new.self.items; calls = b.calls.items; scopes = b.scopes.items; steps = c.leave_others.new.steps.items; groups = b.groups.items; cells = b.cells.items } in
+    let s' : Records = record { limit = b.limit; journal = c.write.new.journal.entries; entries = b.entries + 1; next_mark = b.next_mark; now = b.time; made = b.calls.made; tokens = live c.remove.new.self.items; slots = c.remove.new.self.items; calls = b.calls.items; scopes = b.scopes.items; steps = c.leave_others.new.steps.items; groups = c.leave.new.self.items; cells = b.cells.items } in
     let journal : s'.journal ≡ s.journal ++ Publish a.token.serial a.value ∷ [] = ap (λ j. j.entries) c.in_ok-write.ensures.added in
     let marks : Publishes ns s.steps s'.steps = c.leave_others.ensures cd (its_env cd s) in
     let takes : taker (its_path cd s a.token.step) ≡ whole = rw (← c.self.view_is) at c.requires.takes in
     let tokens : (w : Token → ℕ) → weight w s'.tokens + w a.token ≡ weight w s.tokens + 0 = λ w. omega (arith, ap (λ z. weight w (live z)) c.remove.ensures.items.2, removed w s.slots a.slot a.token c.remove.ensures.items.0 held c.remove.ensures.items.1) in
-    let T : Crosses s s' a.token [] [] ns (Publish a.token.serial a.value) = crosses s s' a.token [] [] ns (Publish a.token.serial a.value) refl journal refl (omega arith) refl refl tokens refl (sym (append-nil s.scopes)) marks refl refl in
+    let T : Crosses s s' a.token [] [] ns (Publish a.token.serial a.value) = crosses s s' a.token [] [] ns (Publish a.token.serial a.value) refl journal refl (omega arith) refl refl tokens refl (sym (append-nil s.scopes)) marks c.leave.ensures.items refl in
     rw (← c.self.view_is) T

@@ -17,7 +17,7 @@ returns-in-Err-clause-why g c =
     let call = c.in-Some.call in
     let pends : IsIn call s.calls = c.in-Some.ensures.0 in
     let number : call.number ≡ a.number = c.in-Some.ensures.1 in
-    rw (← c.self.view_is) ((call, (pends, number)), λ due. not-due call.made_at call.found a.answer b.time c.in-Err.field-0 c.in-Err.ensures.not_due (now-due l sites b.counts s K call pends a.answer a.number number due))
+    rw (← c.self.view_is) ((call, (pends, number)), λ due. not-due call.made_at call.found a.answer b.time c.in-Err.field-0 c.in-Err.ensures.not_due (now-due l sites b.counts b.groups.sizes s K call pends a.answer a.number number due))
 
 pub returns-then-self-clause-why : goal.returns-then-self-clause-why
 returns-then-self-clause-why g c =
@@ -32,7 +32,7 @@ returns-then-self-clause-why g c =
     let number : call.number ≡ a.number = c.in-Some.ensures.1 in
     let due : DueNow call.made_at call.found a.answer s.now = search rules in
     let why : s.limit ≤ s.entries = c.if-self.true in
-    rw (← c.self.view_is) ((call, (pends, number)), due-now l sites b.counts s K call pends a.answer a.number number due, why)
+    rw (← c.self.view_is) ((call, (pends, number)), due-now l sites b.counts b.groups.sizes s K call pends a.answer a.number number due, why)
 
 pub returns-in-Err-give-clause-why : goal.returns-in-Err-give-clause-why
 returns-in-Err-give-clause-why g c =
@@ -47,7 +47,7 @@ returns-in-Err-give-clause-why g c =
     let number : call.number ≡ a.number = c.in-Some.ensures.1 in
     let due : DueNow call.made_at call.found a.answer s.now = search rules in
     let why : s.entries < s.limit = c.if-self.false in
-    rw (← c.self.view_is) ((call, (pends, number)), due-now l sites b.counts s K call pends a.answer a.number number due, why)
+    rw (← c.self.view_is) ((call, (pends, number)), due-now l sites b.counts b.groups.sizes s K call pends a.answer a.number number due, why)
 
 pub returns-in-Err-give_up-clause-why : goal.returns-in-Err-give_up-clause-why
 returns-in-Err-give_up-clause-why g c =
@@ -62,4 +62,4 @@ returns-in-Err-give_up-clause-why g c =
     let number : call.number ≡ a.number = c.in-Some.ensures.1 in
     let due : DueNow call.made_at call.found a.answer s.now = search rules in
     let why : s.entries < s.limit = c.if-self.false in
-    rw (← c.self.view_is) ((call, (pends, number)), due-now l sites b.counts s K call pends a.answer a.number number due, why)
+    rw (← c.self.view_is) ((call, (pends, number)), due-now l sites b.counts b.groups.sizes s K call pends a.answer a.number number due, why)

@@ -1,6 +1,4 @@
-use Rattle.std.proofs.Common.{◌≡◌, ◌<◌, ◌≤◌, ◌+◌, ◌∙◌, ◌++◌, ◌∷◌, [], ℕ, length, get_or, refl, sym, ap, subst, arith, false}
-use Rattle.std.proofs.lemmas.List.{get_or_default}
-use Rattle.std.specs.List.{swap_remove}
+use Rattle.std.proofs.Common.{◌≡◌, ◌<◌, ◌+◌, ◌∙◌, ◌++◌, ◌∷◌, [], ℕ, refl, ap, arith, false}
 use Rattle.orc_rules.specs.declared.entry.Entry.TheVariants.{Right}
 use Rattle.orc_rules.specs.Timed.{IsIn}
 use Rattle.orc_ledger.specs.Same.{weight}
@@ -10,13 +8,14 @@ use Rattle.orc_ledger.specs.Calls.{Resumes}
 use Rattle.orc_ledger.specs.Next.{members, numbers_of}
 use Rattle.orc_ledger.specs.declared.records.Standing.TheVariants.{At}
 use Rattle.orc_ledger.specs.declared.records.Token.{Token}
-use Rattle.orc_ledger.proofs.Weight.{weight-swap_remove, in-got}
 use Rattle.orc_ledger.proofs.Emptied.{left-empty}
 use Rattle.orc_ledger.proofs.Resuming.{right-lawful}
 use Rattle.orc_ledger.proofs.Calling.{resumes-told}
 use Rattle.orc_ledger.proofs.Keeping.{counted-kept}
 use Rattle.orc_ledger.proofs.Grouped.{resumed-grouped}
 use Rattle.orc_ledger.proofs.Closed.{mark-later}
+use Rattle.orc_ledger.specs.OpenGroups.{size_of}
+use Rattle.orc_ledger.proofs.Sizes.{resumed-members}
 use Rattle.orc_ledger.proofs.ledger.Ledger.right.Goals as goal
 
 pub add-slot-requires-clause-serial : goal.add-slot-requires-clause-serial
@@ -28,9 +27,8 @@ add-slot-requires-clause-serial g c =
     let L = c.self.invariant.lawful in
     let G = c.self.invariant.grouped in
     let s : Records = record { limit = b.limit; journal = b.journal.entries; entries = b.entries; next_mark = b.next_mark; now = b.time; made = b.calls.made; tokens = live b.tokens.items; slots = b.tokens.items; calls = b.calls.items; scopes = b.scopes.items; steps = b.steps.items; groups = b.groups.items; cells = b.cells.items } in
-    let there : a.index < length s.groups = rw (← c.self.view_is) at c.requires.there in
-    let is : a.group ≡ get_or s.groups a.index a.group = rw (← c.self.view_is) at c.requires.is in
-    mark-later l sites s L G a.group (subst (λ u. IsIn u s.groups) (sym is) (in-got s.groups a.index a.group there)) a.number a.node a.scope c.requires.side
+    let i : IsIn a.group s.groups = rw (← c.self.view_is) at c.requires.there in
+    mark-later l sites s L G a.group i a.number a.node a.scope c.requires.side
 
 pub invariant_of-self-2 : goal.invariant_of-self-2
 invariant_of-self-2 g c =
@@ -41,16 +39,12 @@ invariant_of-self-2 g c =
     let L = c.self.invariant.lawful in
     let G = c.self.invariant.grouped in
     let s : Records = record { limit = b.limit; journal = b.journal.entries; entries = b.entries; next_mark = b.next_mark; now = b.time; made = b.calls.made; tokens = live b.tokens.items; slots = b.tokens.items; calls = b.calls.items; scopes = b.scopes.items; steps = b.steps.items; groups = b.groups.items; cells = b.cells.items } in
-    let there : a.index < length s.groups = rw (← c.self.view_is) at c.requires.there in
-    let is : a.group ≡ get_or s.groups a.index a.group = rw (← c.self.view_is) at c.requires.is in
-    let gone : c.swap_remove-left.result ≡ a.group = c.swap_remove-left.ensures.value ∙ get_or_default s.groups a.index c.swap_remove-left.result a.group there ∙ sym is in
-    let rest : c.swap_remove-left.new.self.items ≡ swap_remove s.groups a.index a.group = c.swap_remove-left.ensures.items ∙ ap (swap_remove s.groups a.index) gone in
+    let i : IsIn a.group s.groups = rw (← c.self.view_is) at c.requires.there in
     let copy : Token = record { serial = s.next_mark; standing = At a.node a.scope; step = a.group.outer } in
-    let s' : Records = record { limit = b.limit; journal = c.write.new.journal.entries; entries = b.entries + 1; next_mark = b.next_mark + 1; now = b.time; made = b.calls.made; tokens = live c.add-slot.new.self.items; slots = c.add-slot.new.self.items; calls = b.calls.items; scopes = b.scopes.items; steps = b.steps.items; groups = c.swap_remove-left.new.self.items; cells = b.cells.items } in
+    let s' : Records = record { limit = b.limit; journal = c.write.new.journal.entries; entries = b.entries + 1; next_mark = b.next_mark + 1; now = b.time; made = b.calls.made; tokens = live c.add-slot.new.self.items; slots = c.add-slot.new.self.items; calls = b.calls.items; scopes = b.scopes.items; steps = b.steps.items; groups = c.take-left.new.self.items; cells = b.cells.items } in
     let tokens : (w : Token → ℕ) → weight w s'.tokens ≡ weight w s.tokens + w copy = λ w. c.add-slot.ensures.added w ∙ ap (λ z. weight w (live z) + w copy) c.in_ok-reserve.ensures.items in
     let journal : s'.journal ≡ s.journal ++ Right a.number s.next_mark ∷ [] = ap (λ j. j.entries) c.in_ok-write.ensures.added in
-    let T : Resumes s s' a.group a.number a.node a.scope = record { limit = refl; journal = journal; entries = refl; mark = refl; now = refl; made = refl; tokens = tokens; calls = refl; groups = λ w. omega (arith, ap (weight w) rest, weight-swap_remove w s.groups a.index a.group there, ap w is); scopes = refl; steps = refl; cells = refl } in
-    let i : IsIn a.group s.groups = subst (λ u. IsIn u s.groups) (sym is) (in-got s.groups a.index a.group there) in
+    let T : Resumes s s' a.group a.number a.node a.scope = record { limit = refl; journal = journal; entries = refl; mark = refl; now = refl; made = refl; tokens = tokens; calls = refl; groups = λ w. c.take-left.ensures.one a.group i refl w; scopes = refl; steps = refl; cells = refl } in
     let empty : members (numbers_of s) s a.group.number ≡ 0 = rw (← c.self.view_is) at c.requires.empty in
     let stays : has_left s.steps a.number ≡ false = rw (← c.self.view_is) at c.requires.stays in
     let room : s.entries < s.limit = rw (← c.self.view_is) at c.in_ok-within.ensures.room in
@@ -61,6 +55,7 @@ invariant_of-self-2 g c =
       grouped = resumed-grouped l sites s L G a.group i empty a.number a.node a.scope s' T;
       told = resumes-told l sites s s' L L' K.told a.group a.number a.node a.scope T;
       counted = counted-kept l sites s s' L L' (Right a.number s.next_mark ∷ []) journal (tt, tt) b.counts K.counted;
+      sized = λ j. omega (arith, ap (λ z. size_of z j) c.take-left.ensures.sizes, resumed-members s s' a.group a.number a.node a.scope T j, K.sized j);
     }
 
 pub returns-clause-done : goal.returns-clause-done
@@ -72,13 +67,10 @@ returns-clause-done g c =
     let L = c.self.invariant.lawful in
     let G = c.self.invariant.grouped in
     let s : Records = record { limit = b.limit; journal = b.journal.entries; entries = b.entries; next_mark = b.next_mark; now = b.time; made = b.calls.made; tokens = live b.tokens.items; slots = b.tokens.items; calls = b.calls.items; scopes = b.scopes.items; steps = b.steps.items; groups = b.groups.items; cells = b.cells.items } in
-    let there : a.index < length s.groups = rw (← c.self.view_is) at c.requires.there in
-    let is : a.group ≡ get_or s.groups a.index a.group = rw (← c.self.view_is) at c.requires.is in
-    let gone : c.swap_remove-left.result ≡ a.group = c.swap_remove-left.ensures.value ∙ get_or_default s.groups a.index c.swap_remove-left.result a.group there ∙ sym is in
-    let rest : c.swap_remove-left.new.self.items ≡ swap_remove s.groups a.index a.group = c.swap_remove-left.ensures.items ∙ ap (swap_remove s.groups a.index) gone in
+    let i : IsIn a.group s.groups = rw (← c.self.view_is) at c.requires.there in
     let copy : Token = record { serial = s.next_mark; standing = At a.node a.scope; step = a.group.outer } in
-    let s' : Records = record { limit = b.limit; journal = c.write.new.journal.entries; entries = b.entries + 1; next_mark = b.next_mark + 1; now = b.time; made = b.calls.made; tokens = live c.add-slot.new.self.items; slots = c.add-slot.new.self.items; calls = b.calls.items; scopes = b.scopes.items; steps = b.steps.items; groups = c.swap_remove-left.new.self.items; cells = b.cells.items } in
+    let s' : Records = record { limit = b.limit; journal = c.write.new.journal.entries; entries = b.entries + 1; next_mark = b.next_mark + 1; now = b.time; made = b.calls.made; tokens = live c.add-slot.new.self.items; slots = c.add-slot.new.self.items; calls = b.calls.items; scopes = b.scopes.items; steps = b.steps.items; groups = c.take-left.new.self.items; cells = b.cells.items } in
     let tokens : (w : Token → ℕ) → weight w s'.tokens ≡ weight w s.tokens + w copy = λ w. c.add-slot.ensures.added w ∙ ap (λ z. weight w (live z) + w copy) c.in_ok-reserve.ensures.items in
     let journal : s'.journal ≡ s.journal ++ Right a.number s.next_mark ∷ [] = ap (λ j. j.entries) c.in_ok-write.ensures.added in
-    let T : Resumes s s' a.group a.number a.node a.scope = record { limit = refl; journal = journal; entries = refl; mark = refl; now = refl; made = refl; tokens = tokens; calls = refl; groups = λ w. omega (arith, ap (weight w) rest, weight-swap_remove w s.groups a.index a.group there, ap w is); scopes = refl; steps = refl; cells = refl } in
+    let T : Resumes s s' a.group a.number a.node a.scope = record { limit = refl; journal = journal; entries = refl; mark = refl; now = refl; made = refl; tokens = tokens; calls = refl; groups = λ w. c.take-left.ensures.one a.group i refl w; scopes = refl; steps = refl; cells = refl } in
     rw (← c.self.view_is) T

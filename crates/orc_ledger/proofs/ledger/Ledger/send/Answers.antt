@@ -1,4 +1,4 @@
-use Rattle.std.proofs.Common.{◌≡◌, ◌≤◌, ◌<◌, ◌++◌, ℕ, ◌+◌, List, [], ◌∷◌, length, ◌∙◌, refl, ap, arith}
+use Rattle.std.proofs.Common.{◌≡◌, ◌≤◌, ◌<◌, ◌++◌, ℕ, ◌+◌, List, [], ◌∷◌, length, ◌∙◌, refl, sym, ap, subst, arith}
 use Rattle.std.specs.Prelude.{slice_get, slice_set}
 use Rattle.orc_rules.specs.declared.entry.Entry.TheVariants.{Send}
 use Rattle.orc_rules.specs.Timed.{IsIn}
@@ -13,7 +13,7 @@ use Rattle.orc_ledger.specs.Spelling.{feeding}
 use Rattle.orc_ledger.specs.Taking.{taker, crossed, reach}
 use Rattle.orc_ledger.specs.Records.{Records, its_env, its_path, standing}
 use Rattle.orc_ledger.specs.Tokens.{live, IsHeld}
-use Rattle.orc_ledger.specs.Calls.{Crosses, Publishes}
+use Rattle.orc_ledger.specs.Calls.{Crosses, Publishes, HasRoom}
 use Rattle.orc_ledger.specs.declared.records.Standing.TheVariants.{At}
 use Rattle.orc_ledger.specs.declared.records.Token.{Token}
 use Rattle.orc_ledger.proofs.Slots.{live-in, replaced, set-there}
@@ -22,6 +22,9 @@ use Rattle.orc_ledger.proofs.Keeping.{counted-kept}
 use Rattle.orc_ledger.proofs.Made.{crosses, step_in, later_mark}
 use Rattle.orc_ledger.proofs.Sending.{send-lawful}
 use Rattle.orc_ledger.proofs.Grouped.{sent-grouped}
+use Rattle.orc_ledger.specs.Next.{is_this}
+use Rattle.orc_ledger.specs.OpenGroups.{IsOpen}
+use Rattle.orc_ledger.proofs.Sizes.{crossed-members, open-reach, size-few}
 use Rattle.orc_ledger.proofs.ledger.Ledger.send.Goals as goal
 
 pub leave_others-requires-clause-within : goal.leave_others-requires-clause-within
@@ -53,7 +56,7 @@ invariant_of-self-2 g c =
     let form : standing cd (its_env cd s) a.token.standing ≡ param (is_.Is a.value) = rw (← c.self.view_is) at c.requires.form in
     let ns = crossed (its_path cd s a.token.step) in
     let room : s.entries < s.limit = rw (← c.self.view_is) at c.in_ok-within.ensures.room in
-    let s' : Records = record { limit = b.limit; journal = c.write.new.journal.entries; entries = b.entries + 1; next_mark = b.next_mark + 1; now = b.time; made = b.calls.made; tokens = live c.replace.new.self.items; slots = c.replace.new.self.items; calls = b.calls.items; scopes = c.push_within.new.items.items; steps = c.leave_others.new.steps.items; groups = b.groups.items; cells = b.cells.items } in
+    let s' : Records = record { limit = b.limit; journal = c.write.new.journal.entries; entries = b.entries + 1; next_mark = b.next_mark + 1; now = b.time; made = b.calls.made; tokens = live c.replace.new.self.items; slots = c.replace.new.self.items; calls = b.calls.items; scopes = c.push_within.new.items.items; steps = c.leave_others.new.steps.items; groups = c.leave.new.self.items; cells = b.cells.items } in
     let journal : s'.journal ≡ s.journal ++ Send a.token.serial b.next_mark a.value ∷ [] = ap (λ j. j.entries) c.in_ok-write.ensures.added in
     let marks : Publishes ns s.steps s'.steps = c.leave_others.ensures cd (its_env cd s) in
     let takes : taker (its_path cd s a.token.step) ≡ feeding a.name (close (without a.name (its_env cd s a.scope)) (cd a.right)) (its_path cd s a.outer) = rw (← c.self.view_is) at c.requires.takes in
@@ -65,13 +68,14 @@ invariant_of-self-2 g c =
     let first : Token = record { serial = s.next_mark; standing = At a.right (length s.scopes + 1); step = a.outer } in
     let slots : c.replace.new.self.items ≡ slice_set s.slots a.slot first = c.replace.ensures.items ∙ ap (λ (n : ℕ). slice_set s.slots a.slot (record { serial = s.next_mark; standing = At a.right n; step = a.outer })) count in
     let tokens : (w : Token → ℕ) → weight w s'.tokens + w a.token ≡ weight w s.tokens + weight w (first ∷ []) = λ w. omega (arith, ap (λ z. weight w (live z)) slots, replaced w s.slots a.slot a.token first held (later_mark l sites s L a.token i)) in
-    let T : Crosses s s' a.token (first ∷ []) (name ∷ []) ns (Send a.token.serial b.next_mark a.value) = crosses s s' a.token (first ∷ []) (name ∷ []) ns (Send a.token.serial b.next_mark a.value) refl journal refl (omega arith) refl refl tokens refl scopes marks refl refl in
+    let T : Crosses s s' a.token (first ∷ []) (name ∷ []) ns (Send a.token.serial b.next_mark a.value) = crosses s s' a.token (first ∷ []) (name ∷ []) ns (Send a.token.serial b.next_mark a.value) refl journal refl (omega arith) refl refl tokens refl scopes marks (c.leave.ensures.items ∙ c.join.ensures.items) refl in
     let L' = send-lawful l sites s L a.token i a.value form a.name a.right a.scope a.outer fits.0 fits.1 takes room s' T in
     record {
       lawful = L';
       grouped = sent-grouped l sites s L G a.token i s' first (name ∷ []) ns (Send a.token.serial b.next_mark a.value) T c.requires.way.0 way;
       told = crosses-told l sites s s' L L' c.self.invariant.told a.token (first ∷ []) (name ∷ []) ns (Send a.token.serial b.next_mark a.value) tt T;
       counted = counted-kept l sites s s' L L' (Send a.token.serial b.next_mark a.value ∷ []) journal (tt, tt) b.counts c.self.invariant.counted;
+      sized = λ j. omega (arith, c.leave.ensures.sizes j, c.join.ensures.sizes j, crossed-members s s' a.token (first ∷ []) (name ∷ []) ns (Send a.token.serial b.next_mark a.value) T j, c.self.invariant.sized j, ap (is_this j) c.group_at-left.ensures, ap (is_this j) c.group_at-joined.ensures);
     }
 
 pub returns-clause-done : goal.returns-clause-done
@@ -89,7 +93,7 @@ returns-clause-done g c =
     let form : standing cd (its_env cd s) a.token.standing ≡ param (is_.Is a.value) = rw (← c.self.view_is) at c.requires.form in
     let ns = crossed (its_path cd s a.token.step) in
     let room : s.entries < s.limit = rw (← c.self.view_is) at c.in_ok-within.ensures.room in
-    let s' : Records = record { limit = b.limit; journal = c.write.new.journal.entries; entries = b.entries + 1; next_mark = b.next_mark + 1; now = b.time; made = b.calls.made; tokens = live c.replace.new.self.items; slots = c.replace.new.self.items; calls = b.calls.items; scopes = c.push_within.new.items.items; steps = c.leave_others.new.steps.items; groups = b.groups.items; cells = b.cells.items } in
+    let s' : Records = record { limit = b.limit; journal = c.write.new.journal.entries; entries = b.entries + 1; next_mark = b.next_mark + 1; now = b.time; made = b.calls.made; tokens = live c.replace.new.self.items; slots = c.replace.new.self.items; calls = b.calls.items; scopes = c.push_within.new.items.items; steps = c.leave_others.new.steps.items; groups = c.leave.new.self.items; cells = b.cells.items } in
     let journal : s'.journal ≡ s.journal ++ Send a.token.serial b.next_mark a.value ∷ [] = ap (λ j. j.entries) c.in_ok-write.ensures.added in
     let marks : Publishes ns s.steps s'.steps = c.leave_others.ensures cd (its_env cd s) in
     let takes : taker (its_path cd s a.token.step) ≡ feeding a.name (close (without a.name (its_env cd s a.scope)) (cd a.right)) (its_path cd s a.outer) = rw (← c.self.view_is) at c.requires.takes in
@@ -101,7 +105,7 @@ returns-clause-done g c =
     let first : Token = record { serial = s.next_mark; standing = At a.right (length s.scopes + 1); step = a.outer } in
     let slots : c.replace.new.self.items ≡ slice_set s.slots a.slot first = c.replace.ensures.items ∙ ap (λ (n : ℕ). slice_set s.slots a.slot (record { serial = s.next_mark; standing = At a.right n; step = a.outer })) count in
     let tokens : (w : Token → ℕ) → weight w s'.tokens + w a.token ≡ weight w s.tokens + weight w (first ∷ []) = λ w. omega (arith, ap (λ z. weight w (live z)) slots, replaced w s.slots a.slot a.token first held (later_mark l sites s L a.token i)) in
-    let T : Crosses s s' a.token (first ∷ []) (name ∷ []) ns (Send a.token.serial b.next_mark a.value) = crosses s s' a.token (first ∷ []) (name ∷ []) ns (Send a.token.serial b.next_mark a.value) refl journal refl (omega arith) refl refl tokens refl scopes marks refl refl in
+    let T : Crosses s s' a.token (first ∷ []) (name ∷ []) ns (Send a.token.serial b.next_mark a.value) = crosses s s' a.token (first ∷ []) (name ∷ []) ns (Send a.token.serial b.next_mark a.value) refl journal refl (omega arith) refl refl tokens refl scopes marks (c.leave.ensures.items ∙ c.join.ensures.items) refl in
     rw (← c.self.view_is) T
 
 pub replace-requires-clause-serial : goal.replace-requires-clause-serial
@@ -134,3 +138,33 @@ returns-clause-right g c =
     let first : Token = record { serial = s.next_mark; standing = At a.right (length s.scopes + 1); step = a.outer } in
     let slots : c.replace.new.self.items ≡ slice_set s.slots a.slot first = c.replace.ensures.items ∙ ap (λ (n : ℕ). slice_set s.slots a.slot (record { serial = s.next_mark; standing = At a.right n; step = a.outer })) count in
     rw (← c.self.view_is) (ap (λ z. slice_get z a.slot) slots ∙ set-there s.slots a.slot a.token first held.0, later_mark l sites s L a.token i)
+
+pub join-requires-clause-open : goal.join-requires-clause-open
+join-requires-clause-open g c =
+    let b = c.self.inside in
+    let a = c.args in
+    let l = g.P.Program.listing in
+    let sites = g.P.Program.sites in
+    let cd = code l in
+    let s : Records = record { limit = b.limit; journal = b.journal.entries; entries = b.entries; next_mark = b.next_mark; now = b.time; made = b.calls.made; tokens = live b.tokens.items; slots = b.tokens.items; calls = b.calls.items; scopes = b.scopes.items; steps = b.steps.items; groups = b.groups.items; cells = b.cells.items } in
+    let L = c.self.invariant.lawful in
+    let G = c.self.invariant.grouped in
+    let held : IsHeld s.slots a.slot a.token = rw (← c.self.view_is) at c.requires.held in
+    let i : IsIn a.token s.tokens = live-in s.slots a.slot a.token held in
+    let way : reach s.steps c.requires.way.0 a.token.step ≡ a.outer = rw (← c.self.view_is) at c.requires.way.1 in
+    subst (IsOpen s.groups) (sym c.group_at-joined.ensures) (open-reach l sites s L G a.token i c.requires.way.0 a.outer way)
+
+pub join-requires-clause-fits : goal.join-requires-clause-fits
+join-requires-clause-fits g c =
+    let b = c.self.inside in
+    let a = c.args in
+    let l = g.P.Program.listing in
+    let sites = g.P.Program.sites in
+    let cd = code l in
+    let s : Records = record { limit = b.limit; journal = b.journal.entries; entries = b.entries; next_mark = b.next_mark; now = b.time; made = b.calls.made; tokens = live b.tokens.items; slots = b.tokens.items; calls = b.calls.items; scopes = b.scopes.items; steps = b.steps.items; groups = b.groups.items; cells = b.cells.items } in
+    let L = c.self.invariant.lawful in
+    let G = c.self.invariant.grouped in
+    let held : IsHeld s.slots a.slot a.token = rw (← c.self.view_is) at c.requires.held in
+    let i : IsIn a.token s.tokens = live-in s.slots a.slot a.token held in
+    let places : HasRoom s 0 0 0 = rw (← c.self.view_is) at c.in_ok-within.ensures.places in
+    omega (arith, size-few s b.groups.sizes 0 0 0 c.self.invariant.sized places c.group_at-joined.result)

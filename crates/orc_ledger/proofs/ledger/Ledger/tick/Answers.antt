@@ -23,9 +23,9 @@ invariant_of-self-2 g c =
     let room : s.entries < s.limit = c.if-self.false in
     let s' : Records = ticked l sites s K.lawful t in
     let journal : c.write.new.journal.entries ≡ s.journal ++ Tick t ∷ [] = ap (λ j. j.entries) c.in_ok-write.ensures.added in
-    let L' = tick-lawful l sites s K.lawful t (ticks-there l sites b.counts s K t may) room in
-    let K' : Kept l sites b.counts s' = record { lawful = L'; grouped = ticked-grouped l sites s K.lawful K.grouped t; told = tick-told l sites s s' K.lawful L' K.told t refl refl; counted = counted-kept l sites s s' K.lawful L' (Tick t ∷ []) refl (tt, tt) b.counts K.counted } in
-    subst (λ es. Kept l sites b.counts (record s { journal = es; entries = s.entries + 1; now = t })) (sym journal) K'
+    let L' = tick-lawful l sites s K.lawful t (ticks-there l sites b.counts b.groups.sizes s K t may) room in
+    let K' : Kept l sites b.counts b.groups.sizes s' = record { lawful = L'; grouped = ticked-grouped l sites s K.lawful K.grouped t; told = tick-told l sites s s' K.lawful L' K.told t refl refl; counted = counted-kept l sites s s' K.lawful L' (Tick t ∷ []) refl (tt, tt) b.counts K.counted; sized = K.sized } in
+    subst (λ es. Kept l sites b.counts b.groups.sizes (record s { journal = es; entries = s.entries + 1; now = t })) (sym journal) K'
 
 pub returns-clause-done : goal.returns-clause-done
 returns-clause-done g c =
