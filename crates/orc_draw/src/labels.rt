@@ -1,11 +1,10 @@
 //! The names of the rows.
 
 use crate::page::Page;
+use crate::picture::Subject;
 use crate::sketch::Purpose;
 use crate::story::{Called, Kind};
-use orc_journal::Journal;
 use orc_lex::token::Span;
-use orc_rules::answers::Answers;
 use orc_rules::entry::Entry;
 use std::alloc::{AllocError, Global};
 
@@ -16,14 +15,12 @@ const LONGEST: u64 = 19;
 
 /// What the labels are made of.
 #[derive(Clone, Copy)]
-pub(crate) struct Texts<'a> {
+pub(crate) struct Texts<'s, 'a> {
     pub alloc: Global,
-    pub source: &'a [u8],
-    pub answers: &'a Answers,
-    pub journal: &'a Journal,
+    pub subject: &'s Subject<'a>,
 }
 
-impl Texts<'_> {
+impl Texts<'_, '_> {
     /// The label of a span.
     pub(crate) fn label(&self, kind: Kind) -> Result<String, AllocError> {
         let mut page = Page::new(self.alloc);
@@ -50,10 +47,10 @@ impl Texts<'_> {
 
     // The site and its arguments, as the journal has them.
     fn call(&self, page: &mut Page, called: Called) {
-        let Some(Entry::Call(_, _, site, args)) = self.journal.get(called.at) else {
+        let Some(Entry::Call(_, _, site, args)) = self.subject.journal.get(called.at) else {
             return;
         };
-        page.bytes(self.answers.name(site).unwrap_or(b"?"));
+        page.bytes(self.subject.answers.name(site).unwrap_or(b"?"));
         page.say("(");
         let mut is_first = true;
         for value in args.as_slice() {
@@ -69,6 +66,7 @@ impl Texts<'_> {
     // The beginning of a left side, its words with single blanks between them.
     fn left_side(&self, page: &mut Page, place: Span) {
         let line = self.first_words(place);
+        page.heed(&line);
         let shown = if line.len() > LONGEST { SHOWN } else { LONGEST };
         for byte in line.as_str().as_bytes().iter().take(shown as usize) {
             page.byte(*byte);
@@ -81,7 +79,11 @@ impl Texts<'_> {
     // The words that stand at a place of the source, as far as one column more than is shown.
     fn first_words(&self, place: Span) -> Page {
         let mut line = Page::new(self.alloc);
-        let text = self.source.get(place.start..place.end).unwrap_or(b"");
+        let text = self
+            .subject
+            .source
+            .get(place.start..place.end)
+            .unwrap_or(b"");
         let mut is_apart = false;
         for byte in text {
             if line.len() > LONGEST {

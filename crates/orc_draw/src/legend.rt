@@ -139,6 +139,7 @@ impl Legend {
             say_small(&mut text, picture.story.small);
             text.say(" (--all)");
             self.add(page, "", text.as_str());
+            page.heed(&text);
         }
         if !is_true {
             self.add(page, "", "the time between is not to scale");

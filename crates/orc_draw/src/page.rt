@@ -45,6 +45,11 @@ impl Page {
         }
     }
 
+    /// Where memory for a part of another text was refused, this one isn't given out either.
+    pub(crate) fn heed(&mut self, other: &Page) {
+        self.is_refused = self.is_refused || other.is_refused;
+    }
+
     fn sign(&mut self, sign: char) {
         if !self.is_refused {
             self.is_refused = self.text.push(sign).is_err();
@@ -117,7 +122,7 @@ impl Page {
             match *byte {
                 b'%' => self.pixels(number),
                 b'@' => self.number(number),
-                byte => self.byte(byte),
+                byte => self.sign(byte as char),
             }
             if *byte == b'%' || *byte == b'@' {
                 next = next.saturating_add(1);

@@ -42,15 +42,27 @@ pub struct Options {
 
 /// What is drawn: a program by its source and its tree, the sites that answered, and a journal that was checked against them, with what
 /// the check has said.
-#[derive(Clone, Copy)]
 pub struct Subject<'a> {
     /// What the picture is called.
     pub name: &'a str,
     pub source: &'a [u8],
-    pub ast: &'a Ast<'a>,
-    pub answers: &'a Answers,
-    pub journal: &'a Journal,
+    pub ast: Ast<'a>,
+    pub answers: Answers,
+    pub journal: Journal,
     pub state: State,
+}
+
+impl Drop for Subject<'_> {
+    fn drop(self) {
+        let Subject {
+            name: _,
+            source: _,
+            ast: _,
+            answers: _,
+            journal: _,
+            state: _,
+        } = self;
+    }
 }
 
 /// What is known of a picture before it is written.
@@ -80,7 +92,7 @@ impl Drop for Picture<'_> {
 /// whose right side began, and the publications, over logical time.
 ///
 /// The journal is one that was checked. A fault is a picture of over 2,000 rows, or refused memory.
-pub fn draw(alloc: Global, subject: Subject, options: Options) -> Result<String, DrawFault> {
+pub fn draw(alloc: Global, subject: &Subject, options: Options) -> Result<String, DrawFault> {
     let picture = Picture::new(alloc, subject, options.all)?;
     let written = match options.form {
         Form::Text(width) => text::write(alloc, &picture, width)?,
@@ -90,15 +102,10 @@ pub fn draw(alloc: Global, subject: Subject, options: Options) -> Result<String,
 }
 
 impl<'a> Picture<'a> {
-    fn new(alloc: Global, subject: Subject<'a>, all: bool) -> Result<Picture<'a>, DrawFault> {
-        let sketch = Sketch::new(alloc, subject.ast)?;
-        let story = Story::new(alloc, &sketch, subject.answers, subject.journal, all)?;
-        let texts = Texts {
-            alloc,
-            source: subject.source,
-            answers: subject.answers,
-            journal: subject.journal,
-        };
+    fn new(alloc: Global, subject: &Subject<'a>, all: bool) -> Result<Picture<'a>, DrawFault> {
+        let sketch = Sketch::new(alloc, &subject.ast)?;
+        let story = Story::new(alloc, &sketch, &subject.answers, &subject.journal, all)?;
+        let texts = Texts { alloc, subject };
         let rows = Rows::new(alloc, &story.spans, &texts)?;
         let slots = Slots::new(alloc, &story.events, &rows, story.now)?;
         let publications = publications_by_time(alloc, &story.events)?;
@@ -131,7 +138,7 @@ fn state_word(state: State) -> &'static str {
 }
 
 // How many entries there are, where the run stands, and what was published.
-fn summary(alloc: Global, subject: Subject, story: &Story) -> Result<String, AllocError> {
+fn summary(alloc: Global, subject: &Subject, story: &Story) -> Result<String, AllocError> {
     let mut page = Page::new(alloc);
     page.number(subject.journal.len() as u64);
     page.say(" entries, ");
@@ -195,6 +202,7 @@ impl Publications {
             page.say(" values");
         } else {
             page.say(self.values.as_str());
+            page.heed(&self.values);
         }
     }
 }

@@ -7,7 +7,7 @@ use crate::rows::Row;
 use crate::scale::{Measure, PARTS, Scale};
 use crate::story::{Called, End, Kind, Moment, Shown, Span};
 use crate::style::{DARK, FAMILY, LIGHT};
-use crate::text::{say_due, say_end, say_fate};
+use crate::text::{say_end, say_fate};
 use std::alloc::{AllocError, Global};
 
 // In pixels: the top of the plot and of the first row, and the line of the publications.
@@ -249,7 +249,8 @@ impl<'a> Sheet<'a> {
             "</style><rect class=\"bg\" width=\"100%\" height=\"100%\"/><text class=\"title\" x=\"12\" y=\"20\">",
         );
         page.escaped(self.picture.name);
-        let behind = (self.picture.name.len() as u64).saturating_mul(86) / 10;
+        let tenths = (self.picture.name.len() as u64).saturating_mul(86);
+        let behind = tenths.saturating_add(5) / 10;
         page.form(
             "</text><text class=\"axis\" x=\"@\" y=\"20\">",
             &[behind.saturating_add(26)],
@@ -577,13 +578,22 @@ impl<'a> Sheet<'a> {
                 );
                 "rightt"
             }
-            Some(_) => {
+            Some((_, at)) => {
+                page.form(
+                    "<g><title>entry @: dropped at time @</title>",
+                    &[at.entry, at.time],
+                );
                 self.cross(page, x, y, q / 5 * 4);
+                page.say("</g>");
                 "cutt"
             }
             None => "nevt",
         };
-        let gap = if class == "nevt" { 6 } else { 9 };
+        let gap = match class {
+            "nevt" => 6,
+            "cutt" => 8,
+            _ => 9,
+        };
         page.say("<text class=\"end ");
         page.say(class);
         page.form(
@@ -656,8 +666,11 @@ fn say_tip(page: &mut Page, row: &Row, span: &Span, called: Called) {
         }
         Some((End::Halted, at)) => page.form("halted at time @ (entry @)", &[at.time, at.entry]),
         Some((_, at)) => {
-            page.form("cancelled at time @ (entry @), was ", &[at.time, at.entry]);
-            say_due(page, called.due);
+            page.form("cancelled at time @ (entry @), ", &[at.time, at.entry]);
+            match called.due {
+                Some(time) => page.form("was due at @", &[time]),
+                None => page.say("never due"),
+            }
         }
         None => say_fate(page, span, called),
     }

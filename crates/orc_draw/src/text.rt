@@ -103,7 +103,7 @@ impl<'a> Columns<'a> {
     }
 
     fn title(&self, page: &mut Page) {
-        page.say(self.picture.name);
+        page.bytes(self.picture.name.as_bytes());
         page.say(": ");
         page.say(self.picture.summary.as_str());
         page.say("\n")
@@ -145,7 +145,7 @@ impl<'a> Columns<'a> {
         let mut written: u64 = 0;
         for (i, instant) in self.picture.slots.instants.iter().enumerate() {
             let begin = self.begin(i);
-            if written == 0 || begin > written {
+            if written == 0 || begin > written.saturating_add(1) {
                 page.fill(' ', begin.saturating_sub(written));
                 page.number(instant.time);
                 written = begin.max(written).saturating_add(digits(instant.time));
@@ -288,8 +288,8 @@ pub(crate) fn say_fate(page: &mut Page, span: &Span, called: Called) {
     }
 }
 
-/// When a call was due, in words.
-pub(crate) fn say_due(page: &mut Page, due: Option<u64>) {
+// When a call was due, in words.
+fn say_due(page: &mut Page, due: Option<u64>) {
     match due {
         Some(time) => {
             page.say("due ");

@@ -1,9 +1,15 @@
--- Faults of a source and of its script are faults of its run and of its check.
-use Rattle.std.proofs.Common.{ℕ, List}
+-- Faults of a source and of its script are faults of its run, of its check and of its drawing.
+use Rattle.std.proofs.Common.{ℕ, List, [], refl}
 use Rattle.std.specs.declared.option.Option.{Option}
 use Rattle.std.specs.Io.KnownBytes.{Keeps}
+use Rattle.std.proofs.KnownBytes.{Appends-nil, Keeps-refl}
+use Rattle.orc_rules.specs.declared.entry.State.{State}
+use Rattle.orc_journal.specs.Texts.{Written}
 use Rattle.orc_run.specs.Running.{IsFaultOf, IsLoadFault, IsOther, LeavesAtFault, Loads}
-use Rattle.orc_run.specs.Checked.{IsBeyond, IsCheckFault, IsOfRun, LeavesUnjudged}
+use Rattle.orc_run.specs.Checked.{IsBeyond, IsCheckFault, IsJudged, IsOfRun, IsRefusal, LeavesUnjudged}
+use Rattle.orc_run.specs.Drawn.{IsUndrawable, LeavesUndrawn}
+use Rattle.orc_run.specs.declared.drawing.Undrawn.{Undrawn}
+use Rattle.orc_run.specs.declared.drawing.Undrawn.TheVariants as undrawn
 use Rattle.orc_outcome.specs.declared.end.Summary.{Summary}
 use Rattle.orc_run.specs.declared.faults.RunFault.{RunFault}
 use Rattle.orc_run.specs.declared.faults.RunFault.TheVariants as fault
@@ -40,7 +46,7 @@ run_left source script options old new fault.Memory h keeps = keeps
 run_left source script options old new fault.Broken h keeps = keeps
 run_left source script options old new (fault.Write w) h keeps = absurd h
 
-pub of_check : (source script journal : List ℕ) (f : RunFault) → IsLoadFault source script f → IsCheckFault source script journal f
+pub of_check : (source script journal : List ℕ) (f : RunFault) → IsLoadFault source script f → IsRefusal source script journal f
 of_check source script journal (fault.Syntax f) h = h
 of_check source script journal (fault.Scope f) h = h
 of_check source script journal (fault.Script f) h = h
@@ -48,9 +54,19 @@ of_check source script journal (fault.Journal f) h = absurd h
 of_check source script journal (fault.Check f) h = absurd h
 of_check source script journal fault.Memory h = h
 of_check source script journal fault.Broken h = h
-of_check source script journal (fault.Write w) h = tt
+of_check source script journal (fault.Write w) h = h
 
-pub check_left : (source script journal : List ℕ) (old new : Option (List ℕ)) (f : RunFault) → IsLoadFault source script f → Keeps old new → LeavesUnjudged source script journal old new f
+pub refused : (source script journal : List ℕ) (f : RunFault) → IsRefusal source script journal f → IsCheckFault source script journal f
+refused source script journal (fault.Syntax f) h = h
+refused source script journal (fault.Scope f) h = h
+refused source script journal (fault.Script f) h = h
+refused source script journal (fault.Journal f) h = h
+refused source script journal (fault.Check f) h = h
+refused source script journal fault.Memory h = h
+refused source script journal fault.Broken h = h
+refused source script journal (fault.Write w) h = tt
+
+pub check_left : (source script journal : List ℕ) (old new : Option (List ℕ)) (f : RunFault) → IsRefusal source script journal f → Keeps old new → LeavesUnjudged source script journal old new f
 check_left source script journal old new (fault.Syntax f) h keeps = keeps
 check_left source script journal old new (fault.Scope f) h keeps = keeps
 check_left source script journal old new (fault.Script f) h keeps = keeps
@@ -59,6 +75,28 @@ check_left source script journal old new (fault.Check f) h keeps = keeps
 check_left source script journal old new fault.Memory h keeps = keeps
 check_left source script journal old new fault.Broken h keeps = keeps
 check_left source script journal old new (fault.Write w) h keeps = absurd h
+
+pub draw_left : (source script journal : List ℕ) (old new : Option (List ℕ)) (f : RunFault) → IsRefusal source script journal f → Keeps old new → LeavesUndrawn source script journal old new (undrawn.Fault f)
+draw_left source script journal old new (fault.Syntax f) h keeps = keeps
+draw_left source script journal old new (fault.Scope f) h keeps = keeps
+draw_left source script journal old new (fault.Script f) h keeps = keeps
+draw_left source script journal old new (fault.Journal f) h keeps = keeps
+draw_left source script journal old new (fault.Check f) h keeps = keeps
+draw_left source script journal old new fault.Memory h keeps = keeps
+draw_left source script journal old new fault.Broken h keeps = keeps
+draw_left source script journal old new (fault.Write w) h keeps = absurd h
+
+-- a journal that the check accepts and that isn't drawn leaves the output as it was
+pub undrawable_left : (source script journal : List ℕ) (out : Option (List ℕ)) (j : Written) (state : State) → IsJudged source script journal j state → (u : Undrawn) → IsUndrawable u → LeavesUndrawn source script journal out out u
+undrawable_left source script journal out j state is (undrawn.Fault (fault.Write w)) h = ((j, state, is), ([], ([], [], refl, Appends-nil _)))
+undrawable_left source script journal out j state is undrawn.Rows h = Keeps-refl _
+undrawable_left source script journal out j state is (undrawn.Fault (fault.Syntax f)) h = absurd h
+undrawable_left source script journal out j state is (undrawn.Fault (fault.Scope f)) h = absurd h
+undrawable_left source script journal out j state is (undrawn.Fault (fault.Script f)) h = absurd h
+undrawable_left source script journal out j state is (undrawn.Fault (fault.Journal f)) h = absurd h
+undrawable_left source script journal out j state is (undrawn.Fault (fault.Check f)) h = absurd h
+undrawable_left source script journal out j state is (undrawn.Fault fault.Memory) h = absurd h
+undrawable_left source script journal out j state is (undrawn.Fault fault.Broken) h = absurd h
 
 pub beyond : (source script journal : List ℕ) (s : Summary) (f : RunFault) → IsOfRun source script journal s → IsLoadFault source script f → IsBeyond f
 beyond source script journal s (fault.Syntax f) of h =

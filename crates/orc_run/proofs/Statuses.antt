@@ -22,6 +22,7 @@ use Rattle.orc_run.specs.Faults.{journal_status, reason_status, scope_status, sc
 use Rattle.orc_run.specs.Running.{LeavesAtFault, Runs}
 use Rattle.orc_run.specs.Status.{read_status_of}
 use Rattle.orc_run.specs.Checked.{LeavesUnjudged}
+use Rattle.orc_run.specs.Drawn.{LeavesUndrawn}
 use Rattle.orc_run.specs.Printed.{LeavesUnprinted}
 use Rattle.orc_run.specs.declared.running.Options.{Options}
 use Rattle.orc_run.specs.declared.arguments.Job.{Job}
@@ -30,6 +31,7 @@ use Rattle.orc_run.specs.declared.inputs.ReadFault.{ReadFault}
 use Rattle.orc_run.specs.declared.inputs.ReadFault.TheVariants as read
 use Rattle.orc_run.specs.declared.commands.Failure.{Failure}
 use Rattle.orc_run.specs.declared.commands.Failure.TheVariants as failure
+use Rattle.orc_run.specs.declared.drawing.Undrawn.TheVariants as undrawn
 use Rattle.orc_run.specs.declared.faults.RunFault.{RunFault}
 use Rattle.orc_run.specs.declared.faults.RunFault.TheVariants as fault
 
@@ -41,8 +43,9 @@ untouched out = Keeps-refl out
 pub unread : (f : Failure) (out : Option (List ℕ)) → IsUnread f → LeavesUndone f out out
 unread (failure.Unread path f) out u = Keeps-refl out
 unread (failure.Fault f) out u = absurd u
+unread failure.Rows out u = absurd u
 
--- and so do a run, a check and a print at a fault that is not of the output.
+-- and so do a run, a check, a print and a drawing at a fault that is not of the output.
 pub unrun : (source script : List ℕ) (o : Options) (old new : Option (List ℕ)) (f : RunFault) → LeavesAtFault source script o old new f → LeavesUndone (failure.Fault f) old new
 unrun source script o old new (fault.Syntax f) k = k
 unrun source script o old new (fault.Scope f) k = k
@@ -73,6 +76,19 @@ unprinted source old new fault.Memory k = k
 unprinted source old new fault.Broken k = k
 unprinted source old new (fault.Write w) k = tt
 
+pub undrawn_fault : (source script journal : List ℕ) (old new : Option (List ℕ)) (f : RunFault) → LeavesUndrawn source script journal old new (undrawn.Fault f) → LeavesUndone (failure.Fault f) old new
+undrawn_fault source script journal old new (fault.Syntax f) k = k
+undrawn_fault source script journal old new (fault.Scope f) k = k
+undrawn_fault source script journal old new (fault.Script f) k = k
+undrawn_fault source script journal old new (fault.Journal f) k = k
+undrawn_fault source script journal old new (fault.Check f) k = k
+undrawn_fault source script journal old new fault.Memory k = k
+undrawn_fault source script journal old new fault.Broken k = k
+undrawn_fault source script journal old new (fault.Write w) k = tt
+
+pub undrawn_rows : (source script journal : List ℕ) (old new : Option (List ℕ)) → LeavesUndrawn source script journal old new undrawn.Rows → LeavesUndone failure.Rows old new
+undrawn_rows source script journal old new k = k
+
 -- Only status 6 tells of a fault at which something may have been written.
 pub kept : (f : Failure) (old new : Option (List ℕ)) (status : ℕ) → failure_status f ≡ status → status ≢ 6 → LeavesUndone f old new → Keeps old new
 kept (failure.Unread path f) old new status e d k = k
@@ -84,6 +100,7 @@ kept (failure.Fault (fault.Check f)) old new status e d k = k
 kept (failure.Fault fault.Memory) old new status e d k = k
 kept (failure.Fault fault.Broken) old new status e d k = k
 kept (failure.Fault (fault.Write w)) old new status e d k = absurd (d (sym e))
+kept failure.Rows old new status e d k = k
 
 -- ---- how a run ended
 
@@ -104,6 +121,7 @@ zero_faultless = (omega arith, λ h. omega (arith, h), λ h. omega (arith, h), �
 pub faultless : (holds : List ℕ → Option (List ℕ)) (j : Job) (old new : Option (List ℕ)) (status : ℕ) → IsDone holds j old new status → (status < 8) × (status ≢ 1) × (status ≢ 2) × (status ≢ 7)
 faultless holds (job.Run file script options) old new status (source, read, s, held, said, ran, is) = subst IsFaultless (sym is) (end_in s.end)
 faultless holds (job.Check file journal script) old new status (source, text, read, held, told, said, judges, is) = subst IsFaultless (sym is) zero_faultless
+faultless holds (job.Draw file journal script options) old new status (source, text, read, held, told, said, draws, is) = subst IsFaultless (sym is) zero_faultless
 faultless holds (job.Print file) old new status (source, held, prints, is) = subst IsFaultless (sym is) zero_faultless
 
 quiet_only : (e : End) → end_status_of e ≡ 3 → e ≡ ends.Quiet
@@ -128,11 +146,13 @@ never_full source script options s text (l, t, says, program, told) full =
 pub ended_quiet : (holds : List ℕ → Option (List ℕ)) (j : Job) (old new : Option (List ℕ)) (status : ℕ) → IsDone holds j old new status → status ≡ 3 → HasEnded ends.Quiet old new
 ended_quiet holds (job.Run file script options) old new status (source, read, s, held, said, ran, is) three = (options, source, read, s, ran, quiet_only s.end (sym is ∙ three))
 ended_quiet holds (job.Check file journal script) old new status (source, text, read, held, told, said, judges, is) three = absurd (omega (arith, is, three))
+ended_quiet holds (job.Draw file journal script options) old new status (source, text, read, held, told, said, draws, is) three = absurd (omega (arith, is, three))
 ended_quiet holds (job.Print file) old new status (source, held, prints, is) three = absurd (omega (arith, is, three))
 
 pub ended_cut : (holds : List ℕ → Option (List ℕ)) (j : Job) (old new : Option (List ℕ)) (status : ℕ) → IsDone holds j old new status → status ≡ 4 → HasEnded ends.Limit old new
 ended_cut holds (job.Run file script options) old new status (source, read, s, held, said, ran, is) four = (options, source, read, s, ran, cut_only s.end (never_full source read options s ran.0 ran.1) (sym is ∙ four))
 ended_cut holds (job.Check file journal script) old new status (source, text, read, held, told, said, judges, is) four = absurd (omega (arith, is, four))
+ended_cut holds (job.Draw file journal script options) old new status (source, text, read, held, told, said, draws, is) four = absurd (omega (arith, is, four))
 ended_cut holds (job.Print file) old new status (source, held, prints, is) four = absurd (omega (arith, is, four))
 
 -- no fault has the status of such an end
@@ -194,6 +214,7 @@ module _ (n : ℕ) (not_one : n ≢ 1) (not_five : n ≢ 5) (not_six : n ≢ 6) 
   not_failed (failure.Fault fault.Memory) h = not_five (sym h)
   not_failed (failure.Fault fault.Broken) h = not_seven (sym h)
   not_failed (failure.Fault (fault.Write w)) h = not_six (sym h)
+  not_failed failure.Rows h = not_one (sym h)
 
 pub not_quiet : (f : Failure) → failure_status f ≢ 3
 not_quiet f = not_failed 3 (λ h. omega (arith, h)) (λ h. omega (arith, h)) (λ h. omega (arith, h)) (λ h. omega (arith, h)) f

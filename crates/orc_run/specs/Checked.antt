@@ -19,7 +19,7 @@ use Rattle.orc_checker.specs.Checker.{context}
 use Rattle.orc_verdict.specs.Verdicts.{records_cancels, IsCutShort}
 use Rattle.orc_run.specs.Faults.{state_word}
 use Rattle.orc_run.specs.Output.{AppendsPrefix}
-use Rattle.orc_run.specs.Running.{IsProgramOf, IsFaultOf, Runs}
+use Rattle.orc_run.specs.Running.{IsLoadFault, IsProgramOf, Runs}
 use Rattle.orc_outcome.specs.declared.end.End.{End}
 use Rattle.orc_outcome.specs.declared.end.End.TheVariants as ends
 use Rattle.orc_outcome.specs.declared.end.Summary.{Summary}
@@ -45,15 +45,18 @@ abbrev pub LeavesUnjudged : List ℕ → List ℕ → List ℕ → Option (List 
 LeavesUnjudged text script journal old new (fault.Write w) = (j : Written) × (state : State) × IsJudged text script journal j state × AppendsPrefix old new (verdict_line (length j.entries) state)
 LeavesUnjudged text script journal old new _ = Keeps old new
 
--- a fault is one of the source, of the script, of the journal's text, or of the journal: its first entry that is refused, with the first reason, refused memory aside
-abbrev pub IsCheckFault : List ℕ → List ℕ → List ℕ → RunFault → Type 0
-IsCheckFault text script journal (fault.Journal f) = (l : Listing) × (t : Table) × Says script t × IsProgramOf text t l × IsBadText t.names journal f
-IsCheckFault text script journal (fault.Check f) = (l : Listing) × (t : Table) × (j : Written) × Says script t × IsProgramOf text t l × IsJournal t.names journal j
+-- why no verdict is given: a fault of the source or the script, of the journal's text, or of the journal: its first entry that is refused, with the first reason, refused memory aside
+abbrev pub IsRefusal : List ℕ → List ℕ → List ℕ → RunFault → Type 0
+IsRefusal text script journal (fault.Journal f) = (l : Listing) × (t : Table) × Says script t × IsProgramOf text t l × IsBadText t.names journal f
+IsRefusal text script journal (fault.Check f) = (l : Listing) × (t : Table) × (j : Written) × Says script t × IsProgramOf text t l × IsJournal t.names journal j
     × (f.why ≢ reason.Memory → Faults (context l t (records_cancels j.version)) (source l) j.entries f.at f.why)
     × (f.why ≡ reason.Memory → IsCutShort (context l t (records_cancels j.version)) (source l) j.entries f.at)
-IsCheckFault text script journal fault.Memory = ⊥
-IsCheckFault text script journal fault.Broken = ⊥
-IsCheckFault text script journal f = IsFaultOf text script f
+IsRefusal text script journal f = IsLoadFault text script f
+
+-- the fault of a check: such a one, or one of the output
+abbrev pub IsCheckFault : List ℕ → List ℕ → List ℕ → RunFault → Type 0
+IsCheckFault text script journal (fault.Write w) = Unit {0}
+IsCheckFault text script journal f = IsRefusal text script journal f
 
 -- ---- the journal of a run
 

@@ -6,6 +6,7 @@ use Rattle.orc_outcome.specs.Status.{end_status_of}
 use Rattle.orc_outcome.specs.declared.end.End.{End}
 use Rattle.orc_outcome.specs.declared.end.Summary.{Summary}
 use Rattle.orc_run.specs.Checked.{Judges}
+use Rattle.orc_run.specs.Drawn.{Draws}
 use Rattle.orc_run.specs.Faults.{status}
 use Rattle.orc_run.specs.Inputs.{IsHeld, IsRead}
 use Rattle.orc_run.specs.Printed.{Prints}
@@ -21,6 +22,7 @@ use Rattle.orc_run.specs.declared.running.Options.{Options}
 abbrev pub failure_status : Failure → ℕ
 failure_status (failure.Unread path f) = read_status_of f
 failure_status (failure.Fault f) = status f
+failure_status failure.Rows = 1
 
 -- what was written is the whole text of a run of the file's program with the script's sites, and the status says how it ended; `holds` says what is known of the files
 abbrev pub HasRun : (List ℕ → Option (List ℕ)) → List ℕ → Option (List ℕ) → Options → Option (List ℕ) → Option (List ℕ) → ℕ → Type 0
@@ -30,6 +32,10 @@ HasRun holds file script options old new status = (source read : List ℕ) × (s
 abbrev pub HasJudged : (List ℕ → Option (List ℕ)) → List ℕ → List ℕ → Option (List ℕ) → Option (List ℕ) → Option (List ℕ) → ℕ → Type 0
 HasJudged holds file journal script old new status = (source text read : List ℕ) × IsHeld (holds file) source × IsHeld (holds journal) text × IsRead holds script read × Judges source read text old new × (status ≡ 0)
 
+-- what was written is a picture of the journal, which the check accepts
+abbrev pub HasDrawn : (List ℕ → Option (List ℕ)) → List ℕ → List ℕ → Option (List ℕ) → Option (List ℕ) → Option (List ℕ) → ℕ → Type 0
+HasDrawn holds file journal script old new status = (source text read : List ℕ) × IsHeld (holds file) source × IsHeld (holds journal) text × IsRead holds script read × Draws source read text old new × (status ≡ 0)
+
 -- what was written is the printed text of the file's program
 abbrev pub HasPrinted : (List ℕ → Option (List ℕ)) → List ℕ → Option (List ℕ) → Option (List ℕ) → ℕ → Type 0
 HasPrinted holds file old new status = (source : List ℕ) × IsHeld (holds file) source × Prints source old new × (status ≡ 0)
@@ -38,6 +44,7 @@ HasPrinted holds file old new status = (source : List ℕ) × IsHeld (holds file
 abbrev pub IsDone : (List ℕ → Option (List ℕ)) → Job → Option (List ℕ) → Option (List ℕ) → ℕ → Type 0
 IsDone holds (job.Run file script options) old new status = HasRun holds file.now (option_map (λ p. p.now) script) options old new status
 IsDone holds (job.Check file journal script) old new status = HasJudged holds file.now journal.now (option_map (λ p. p.now) script) old new status
+IsDone holds (job.Draw file journal script options) old new status = HasDrawn holds file.now journal.now (option_map (λ p. p.now) script) old new status
 IsDone holds (job.Print file) old new status = HasPrinted holds file.now old new status
 
 -- what was written is the whole text of a run that ended so
@@ -48,6 +55,7 @@ HasEnded end old new = (options : Options) × (source script : List ℕ) × (s :
 abbrev pub IsUnread : Failure → Type 0
 IsUnread (failure.Unread path f) = ⊤
 IsUnread (failure.Fault f) = ⊥
+IsUnread failure.Rows = ⊥
 
 -- nothing was written, unless the output was at fault
 abbrev pub LeavesUndone : Failure → Option (List ℕ) → Option (List ℕ) → Type 0

@@ -1,5 +1,6 @@
 pub mod Checked
 pub mod Commands
+pub mod Drawn
 pub mod Faults
 pub mod Inputs
 pub mod Output

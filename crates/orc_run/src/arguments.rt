@@ -3,6 +3,7 @@
 use crate::running::Options;
 use clap::error::ErrorKind;
 use clap::{Arg, ArgAction, ArgMatches, Command, Error, value_parser};
+use orc_draw::{Form, Theme};
 use orc_rules::limits::MOST_ENTRIES;
 use std::alloc::{AllocError, Global};
 use std::convert::AsStr;
@@ -34,6 +35,12 @@ pub enum Job<'a> {
         file: &'a str,
         journal: &'a str,
         script: Option<&'a str>,
+    },
+    Draw {
+        file: &'a str,
+        journal: &'a str,
+        script: Option<&'a str>,
+        options: orc_draw::Options,
     },
     Print {
         file: &'a str,
@@ -77,6 +84,42 @@ fn journal_argument<'a>(alloc: Global) -> Arg<'a> {
         .help("The journal's text")
 }
 
+fn text_flag<'a>(alloc: Global) -> Arg<'a> {
+    Arg::new(alloc, "text")
+        .long("text")
+        .action(ArgAction::SetTrue)
+        .help("Draw with letters instead of as SVG")
+}
+
+fn width_argument<'a>(alloc: Global) -> Result<Arg<'a>, AllocError> {
+    Arg::new(alloc, "width")
+        .long("width")
+        .value_name("N")
+        .value_parser(value_parser!(u64).range(60..=400))
+        .default_value("80")
+        .help("With --text: about how many columns wide, 60 to 400")
+        .requires_arg("text")
+}
+
+fn all_flag<'a>(alloc: Global) -> Arg<'a> {
+    Arg::new(alloc, "all")
+        .long("all")
+        .action(ArgAction::SetTrue)
+        .help("Give each call of a built-in site a row too")
+}
+
+/// The words for the colours.
+const THEMES: [&str; 3] = ["auto", "light", "dark"];
+
+fn theme_argument<'a>(alloc: Global) -> Arg<'a> {
+    Arg::new(alloc, "theme")
+        .long("theme")
+        .value_name("COLOURS")
+        .value_parser(THEMES.as_slice())
+        .default_value("auto")
+        .help("The colours of the SVG")
+}
+
 fn run_command<'a>(alloc: Global) -> Result<Command<'a>, AllocError> {
     Command::new(alloc, "run")
         .about("Run a program and write what it publishes")
@@ -94,6 +137,18 @@ fn check_command<'a>(alloc: Global) -> Result<Command<'a>, AllocError> {
         .arg(script_argument(alloc))
 }
 
+fn draw_command<'a>(alloc: Global) -> Result<Command<'a>, AllocError> {
+    Command::new(alloc, "draw")
+        .about("Draw what happened in a run, from its journal")
+        .arg(file_argument(alloc))?
+        .arg(journal_argument(alloc))?
+        .arg(script_argument(alloc))?
+        .arg(text_flag(alloc))?
+        .arg(width_argument(alloc)?)?
+        .arg(all_flag(alloc))?
+        .arg(theme_argument(alloc))
+}
+
 fn print_command<'a>(alloc: Global) -> Result<Command<'a>, AllocError> {
     Command::new(alloc, "print")
         .about("Write a program in its plain form")
@@ -109,7 +164,20 @@ fn orc_command<'a>(alloc: Global) -> Result<Command<'a>, AllocError> {
         .arg_required_else_help(true)
         .subcommand(run_command(alloc)?)?
         .subcommand(check_command(alloc)?)?
+        .subcommand(draw_command(alloc)?)?
         .subcommand(print_command(alloc)?)
+}
+
+fn form_of(given: &ArgMatches) -> Option<Form> {
+    if given.get_flag("text") {
+        return Some(Form::Text(given.get_one::<u64>("width")?));
+    }
+    let theme = match given.get_str("theme")? {
+        "light" => Theme::Light,
+        "dark" => Theme::Dark,
+        _ => Theme::Auto,
+    };
+    Some(Form::Svg(theme))
 }
 
 // What the words of a command ask for. None where the command has no arm here.
@@ -128,6 +196,15 @@ fn job_of<'a>(name: &str, given: &ArgMatches<'a>) -> Option<Job<'a>> {
             file,
             journal: given.get_str("journal")?,
             script: given.get_str("script"),
+        }),
+        "draw" => Some(Job::Draw {
+            file,
+            journal: given.get_str("journal")?,
+            script: given.get_str("script"),
+            options: orc_draw::Options {
+                form: form_of(given)?,
+                all: given.get_flag("all"),
+            },
         }),
         "print" => Some(Job::Print { file }),
         _ => None,

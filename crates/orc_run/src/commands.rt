@@ -4,9 +4,10 @@ ghost use Rattle.std.specs.Prelude.{◌≡◌, ◌≢◌, ◌<◌, ℕ, List, If
 ghost use Rattle.std.specs.Io.KnownBytes.{Keeps};
 ghost use Rattle.orc_outcome.specs.declared.end.End.TheVariants as ends;
 ghost use Rattle.orc_run.specs.Inputs.{IsHeld, IsRead};
-ghost use Rattle.orc_run.specs.Commands.{failure_status, HasEnded, HasJudged, HasPrinted, HasRun, IsDone, IsUnread, LeavesUndone};
+ghost use Rattle.orc_run.specs.Commands.{failure_status, HasDrawn, HasEnded, HasJudged, HasPrinted, HasRun, IsDone, IsUnread, LeavesUndone};
 
 use crate::arguments::{Job, read_words};
+use crate::drawing::{Undrawn, draw_text};
 use crate::faults::RunFault;
 use crate::inputs::{Files, ReadFault};
 use crate::judging::check_text;
@@ -14,10 +15,12 @@ use crate::output::WriteFault;
 use crate::printing::print_text;
 use crate::running::{Options, run_text};
 use clap::error::ErrorKind;
+use orc_draw::MOST_ROWS;
 use std::alloc::Global;
 use std::convert::AsStr;
 use std::fmt;
 use std::io::Write;
+use std::path::Path;
 
 /// Why a job was not done.
 #[derive(Clone, Copy)]
@@ -25,6 +28,8 @@ pub enum Failure<'a> {
     /// The file at this path could not be read.
     Unread(&'a str, ReadFault),
     Fault(RunFault),
+    /// A picture would have too many rows.
+    Rows,
 }
 
 impl fmt::Display for Failure<'_> {
@@ -33,6 +38,7 @@ impl fmt::Display for Failure<'_> {
             Failure::Unread(_, ReadFault::Memory) => write!(f, "orc: memory"),
             Failure::Unread(path, ReadFault::Failed) => write!(f, "orc: read {path}"),
             Failure::Fault(fault) => write!(f, "{fault}"),
+            Failure::Rows => write!(f, "orc: draw: over {MOST_ROWS} rows"),
         }
     }
 }
@@ -45,6 +51,7 @@ impl Failure<'_> {
         match self {
             Failure::Unread(_, fault) => fault.status(),
             Failure::Fault(fault) => fault.status(),
+            Failure::Rows => 1,
         }
     }
 }
@@ -148,6 +155,43 @@ fn check_file<'a, F: Files, W: Write>(
     }
 }
 
+// What a picture of this file's program is called.
+fn name_of(path: &str) -> &str {
+    Path::new(path).file_name().unwrap_or(path)
+}
+
+// Draws the journal of a file.
+#[tactic(auto, using(crate::proofs::Statuses::unread, crate::proofs::Statuses::undrawn_fault, crate::proofs::Statuses::undrawn_rows))]
+fn draw_file<'a, F: Files, W: Write>(
+    alloc: Global,
+    file: &'a str,
+    journal: &'a str,
+    script: Option<&'a str>,
+    options: orc_draw::Options,
+    files: &mut F,
+    out: &mut W,
+) -> Result<u8, Failure<'a>>
+    ensures done { IfOk result (HasDrawn (F.holds files.old) file.now journal.now (option_map (λ p. p.now) script.entry) (W.contents out.old) (W.contents out.new)) }
+    ensures undone { IfErr result (λ f. LeavesUndone f (W.contents out.old) (W.contents out.new)) }
+{
+    let source = read(file, files)?;
+    let text = read(journal, files)?;
+    let script = read_script(alloc, script, files)?;
+    match draw_text(
+        alloc,
+        name_of(file),
+        source.as_slice(),
+        script.as_slice(),
+        text.as_slice(),
+        options,
+        out,
+    ) {
+        Ok(()) => Ok(0),
+        Err(Undrawn::Fault(fault)) => Err(Failure::Fault(fault)),
+        Err(Undrawn::Rows) => Err(Failure::Rows),
+    }
+}
+
 // Prints the program of a file.
 #[tactic(auto, using(crate::proofs::Statuses::unread, crate::proofs::Statuses::unprinted))]
 fn print_file<'a, F: Files, W: Write>(
@@ -187,6 +231,12 @@ fn do_job<'a, F: Files, W: Write>(
             journal,
             script,
         } => check_file(alloc, file, journal, script, files, out),
+        Job::Draw {
+            file,
+            journal,
+            script,
+            options,
+        } => draw_file(alloc, file, journal, script, options, files, out),
         Job::Print { file } => print_file(alloc, file, files, out),
     }
 }

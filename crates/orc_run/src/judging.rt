@@ -1,13 +1,14 @@
 //! From a journal's text to the verdict on it.
 
 ghost use Rattle.std.specs.Prelude.{◌≡◌, length, IfOk, IfErr, OnOk};
-ghost use Rattle.orc_run.specs.Checked.{verdict_line, Accepts, Judges, LeavesUnjudged, IsBeyond, IsCheckFault, IsOfRun};
+ghost use Rattle.orc_run.specs.Checked.{verdict_line, Accepts, Judges, LeavesUnjudged, IsBeyond, IsCheckFault, IsJudged, IsOfRun, IsRefusal, StandsSo};
 ghost use Rattle.orc_outcome.specs.declared.end.Summary.{Summary as RunSummary};
 
 use crate::faults::{RunFault, StateWord};
 use crate::loading::load;
 use crate::output::{WriteFault, write_text};
-use orc_journal::read_journal;
+use orc_journal::{Journal, read_journal};
+use orc_rules::answers::Answers;
 use orc_rules::entry::State;
 use orc_verdict::check_journal;
 use std::alloc::{AllocError, Global};
@@ -20,6 +21,44 @@ fn line_of(alloc: Global, entries: usize, state: State) -> Result<Vec<u8>, Alloc
     let word = StateWord(state);
     let line = format!(in alloc; "ok {entries} {word}\n")?;
     Ok(line.into_bytes())
+}
+
+/// A journal that was checked, the sites that answered its calls, and where it has brought the run.
+#[derive(Drop)]
+pub struct Judged {
+    pub answers: Answers,
+    pub journal: Journal,
+    pub state: State,
+}
+
+/// The verdict on a journal's text, by the program that a source spells, with the built-in sites and those of a script. The fault is the
+/// first of one of the source's text, of the script, of the source's names, of the journal's text and of its entries.
+pub fn judge(
+    alloc: Global,
+    source: &[u8],
+    script: &[u8],
+    journal: &[u8],
+) -> Result<Judged, RunFault>
+    ensures judged { IfOk result (λ j. IsJudged source.now script.now journal.now j.journal j.state) }
+    ensures cause { IfErr result (IsRefusal source.now script.now journal.now) }
+    // What a run of this source and script wrote as its journal has this verdict, unless a limit stands against it.
+    ensures accepted { (s : RunSummary) → IsOfRun source.now script.now journal.now s → IfOk result (λ j. StandsSo s.end j.state × (length j.journal.entries ≡ s.entries)) }
+    ensures beyond { (s : RunSummary) → IsOfRun source.now script.now journal.now s → IfErr result IsBeyond }
+{
+    let loaded = load(alloc, source, script)?;
+    loaded.answers.are_apart();
+    let journal = match read_journal(alloc, journal, &loaded.answers) {
+        Ok(journal) => journal,
+        Err(fault) => return Err(RunFault::Journal(fault)),
+    };
+    match check_journal(alloc, &loaded.program, &loaded.answers, &journal) {
+        Ok(verdict) => Ok(Judged {
+            answers: loaded.into_answers(),
+            journal,
+            state: verdict.state,
+        }),
+        Err(fault) => Err(RunFault::Check(fault)),
+    }
 }
 
 /// Checks a journal's text against the program that a source spells, with the built-in sites and those of a script, and writes `ok N STATE`
@@ -41,17 +80,8 @@ pub fn check_text<W: Write>(
     ensures accepted { (s : RunSummary) → IsOfRun source.now script.now journal.now s → OnOk result (Accepts s (W.contents out.old) (W.contents out.new)) }
     ensures beyond { (s : RunSummary) → IsOfRun source.now script.now journal.now s → IfErr result IsBeyond }
 {
-    let loaded = load(alloc, source, script)?;
-    loaded.answers.are_apart();
-    let journal = match read_journal(alloc, journal, &loaded.answers) {
-        Ok(journal) => journal,
-        Err(fault) => return Err(RunFault::Journal(fault)),
-    };
-    let verdict = match check_journal(alloc, &loaded.program, &loaded.answers, &journal) {
-        Ok(verdict) => verdict,
-        Err(fault) => return Err(RunFault::Check(fault)),
-    };
-    let Ok(line) = line_of(alloc, journal.len(), verdict.state) else {
+    let judged = judge(alloc, source, script, journal)?;
+    let Ok(line) = line_of(alloc, judged.journal.len(), judged.state) else {
         return Err(RunFault::Write(WriteFault));
     };
     match write_text(out, line.as_slice()) {

@@ -3,6 +3,7 @@
 
 mod arguments;
 mod commands;
+mod drawing;
 mod faults;
 mod inputs;
 mod judging;
@@ -13,6 +14,7 @@ mod publications;
 mod running;
 
 pub use commands::command;
+pub use drawing::{Undrawn, draw_text};
 pub use faults::RunFault;
 pub use inputs::{Files, ReadFault};
 pub use judging::check_text;

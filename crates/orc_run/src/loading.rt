@@ -1,6 +1,6 @@
 //! From a source and a script to the program that is run or checked.
 
-ghost use Rattle.std.specs.Prelude.{IfOk, IfErr};
+ghost use Rattle.std.specs.Prelude.{◌≡◌, IfOk, IfErr};
 ghost use Rattle.orc_syntax.specs.Tree.{Source};
 ghost use Rattle.orc_syntax.specs.Ast.{IsAst};
 ghost use Rattle.orc_scope.specs.Checking.{Checks};
@@ -28,6 +28,19 @@ impl Drop for Loaded {
             program: _,
             answers: _,
         } = self;
+    }
+}
+
+impl Loaded {
+    /// What answers the program's calls, alone.
+    pub fn into_answers(self) -> Answers
+        ensures { result ≡ self.answers }
+    {
+        let Loaded {
+            program: _,
+            answers,
+        } = self;
+        answers
     }
 }
 

@@ -1,0 +1,35 @@
+-- What the drawing of a journal's text does. Of the picture itself nothing is said.
+use Rattle.std.specs.Prelude.{ℕ, List}
+use Rattle.std.specs.declared.option.Option.{Option}
+use Rattle.std.specs.Io.KnownBytes.{Keeps, Appends}
+use Rattle.orc_rules.specs.declared.entry.State.{State}
+use Rattle.orc_journal.specs.Texts.{Written}
+use Rattle.orc_run.specs.Checked.{IsCheckFault, IsJudged}
+use Rattle.orc_run.specs.Output.{AppendsPrefix}
+use Rattle.orc_run.specs.declared.drawing.Undrawn.{Undrawn}
+use Rattle.orc_run.specs.declared.drawing.Undrawn.TheVariants as undrawn
+use Rattle.orc_run.specs.declared.faults.RunFault.TheVariants as fault
+
+-- the check accepts the journal
+abbrev pub IsAccepted : List ℕ → List ℕ → List ℕ → Type 0
+IsAccepted text script journal = (j : Written) × (state : State) × IsJudged text script journal j state
+
+-- what was written is a picture, of a journal that the check accepts
+abbrev pub Draws : List ℕ → List ℕ → List ℕ → Option (List ℕ) → Option (List ℕ) → Type 0
+Draws text script journal old new = IsAccepted text script journal × ((picture : List ℕ) × Appends old new picture)
+
+-- where nothing was drawn nothing was written, or at a write fault a prefix of such a picture
+abbrev pub LeavesUndrawn : List ℕ → List ℕ → List ℕ → Option (List ℕ) → Option (List ℕ) → Undrawn → Type 0
+LeavesUndrawn text script journal old new (undrawn.Fault (fault.Write w)) = IsAccepted text script journal × ((picture : List ℕ) × AppendsPrefix old new picture)
+LeavesUndrawn text script journal old new _ = Keeps old new
+
+-- why nothing was drawn: a fault of the check, or too many rows of a journal that the check accepts
+abbrev pub IsUndrawnFor : List ℕ → List ℕ → List ℕ → Undrawn → Type 0
+IsUndrawnFor text script journal (undrawn.Fault f) = IsCheckFault text script journal f
+IsUndrawnFor text script journal undrawn.Rows = IsAccepted text script journal
+
+-- why a journal that the check accepts isn't drawn
+abbrev pub IsUndrawable : Undrawn → Type 0
+IsUndrawable (undrawn.Fault (fault.Write w)) = Unit {0}
+IsUndrawable undrawn.Rows = Unit {0}
+IsUndrawable _ = ⊥
