@@ -8,6 +8,8 @@ mod command_lines;
 #[cfg(test)]
 mod documents;
 #[cfg(test)]
+mod drawings;
+#[cfg(test)]
 mod harness;
 #[cfg(test)]
 mod journals;
