@@ -5,7 +5,7 @@ use std::test::Fail;
 
 #[test]
 fn refuses_command_lines(rt: HostRuntime) -> Result<(), Fail> {
-    let rows: [(&[&str], &str); 13] = [
+    let rows: [(&[&str], &str); 19] = [
         (&["orc"], "Run programs of the Orc calculus"),
         (&["orc", "rnu", "a.orc"], "error: "),
         (&["orc", "--lmit", "5"], "error: "),
@@ -19,6 +19,43 @@ fn refuses_command_lines(rt: HostRuntime) -> Result<(), Fail> {
         (&["orc", "run", "a.orc", "--limit", "ten"], "error: "),
         (&["orc", "run", "a.orc", "--limit", ""], "error: "),
         (&["orc", "run", "a.orc", "--workers", "17"], "error: "),
+        (&["orc", "draw", "a.orc"], "error: "),
+        (
+            &[
+                "orc",
+                "draw",
+                "a.orc",
+                "a.journal",
+                "--text",
+                "--width",
+                "59",
+            ],
+            "error: ",
+        ),
+        (
+            &[
+                "orc",
+                "draw",
+                "a.orc",
+                "a.journal",
+                "--text",
+                "--width",
+                "401",
+            ],
+            "error: ",
+        ),
+        (
+            &["orc", "draw", "a.orc", "a.journal", "--width", "80"],
+            "error: ",
+        ),
+        (
+            &["orc", "draw", "a.orc", "a.journal", "--theme", "grey"],
+            "error: ",
+        ),
+        (
+            &["orc", "draw", "a.orc", "a.journal", "--limit", "1"],
+            "error: ",
+        ),
     ];
     // No file is read: there is none.
     for (words, first) in rows {
@@ -36,7 +73,7 @@ fn refuses_command_lines(rt: HostRuntime) -> Result<(), Fail> {
 
 #[test]
 fn gives_help_and_version(rt: HostRuntime) -> Result<(), Fail> {
-    let rows: [(&[&str], &str); 7] = [
+    let rows: [(&[&str], &str); 8] = [
         (&["orc", "--help"], "Run programs of the Orc calculus"),
         (&["orc", "-h"], "Run programs of the Orc calculus"),
         (&["orc", "--version"], "orc 0.1.0"),
@@ -49,6 +86,10 @@ fn gives_help_and_version(rt: HostRuntime) -> Result<(), Fail> {
         (
             &["orc", "help", "run"],
             "Run a program and write what it publishes",
+        ),
+        (
+            &["orc", "draw", "--help"],
+            "Draw what happened in a run, from its journal",
         ),
     ];
     for (words, first) in rows {
