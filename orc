@@ -80,7 +80,7 @@ second() {
 }
 
 build() {
-    local jobs libraries first=() crate
+    local jobs libraries first=() both=() crate
     lane=
     if ! command -v rt >/dev/null; then
         say "'rt', the prover and compiler of Rattle, isn't on the PATH; the program can't be built without it"
@@ -106,7 +106,12 @@ build() {
         say "It may be broken off: the next call goes on from there."
         beside=(orc_syntax orc_scope orc_site)
         for crate in $libraries; do
-            case $crate in orc_run | orc_lex | orc_syntax | orc_scope | orc_site) ;; *) first+=("$crate") ;; esac
+            case $crate in
+            orc_lex | orc_syntax | orc_scope | orc_site) ;;
+            # What stands on both lanes.
+            orc_draw | orc_run) both+=("$crate") ;;
+            *) first+=("$crate") ;;
+            esac
         done
         set -m
         second $((jobs / 2)) &
@@ -115,8 +120,7 @@ build() {
         prove "$top" $((jobs - jobs / 2 + (jobs > 3))) "${first[@]}" || true
         wait "$lane" || true
         lane=
-        # What stands on both lanes.
-        [ -e "$room/failed" ] || prove "$top" "$jobs" orc_run || true
+        [ -e "$room/failed" ] || prove "$top" "$jobs" "${both[@]}" || true
     fi
     if [ ! -e "$room/failed" ]; then
         say "compiling orc ($((SECONDS - started)) s so far)"
