@@ -4,6 +4,7 @@ pub mod Begun
 pub mod Calls
 pub mod Doing
 pub mod Dues
+pub mod Halting
 pub mod Homes
 pub mod Inside
 pub mod Kept

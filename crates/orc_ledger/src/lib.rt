@@ -6,6 +6,7 @@ mod calls;
 mod definitions;
 mod dues;
 mod groups;
+mod halting;
 mod laws;
 mod ledger;
 mod marks;
@@ -24,6 +25,7 @@ mod view;
 mod what;
 
 pub use calls::ReturnFault;
+pub use halting::{HaltFault, Halted};
 pub use laws::{
     next_is_quiet, next_ticks, none_is_lost, quiet_is_next, root_has_halted, tick_is_next,
     wait_is_still, word_is_allowed, word_is_offered, work_has_cause, work_is_allowed,

@@ -1,0 +1,120 @@
+//! Groups that halt: nobody is in them any more.
+
+ghost use Rattle.std.specs.Prelude.{◌≡◌, IfOk, OnErr, IfErr, MatchOption};
+ghost use Rattle.orc_rules.specs.Nodes.{code};
+ghost use Rattle.orc_rules.specs.Timed.{IsIn};
+ghost use Rattle.orc_ledger.specs.Records.{group_at, is_number, has_left};
+ghost use Rattle.orc_ledger.specs.Halting.{HasHalted, IsHinderedAt};
+ghost use Rattle.orc_ledger.specs.declared.records.Group.{Group as Its};
+
+use crate::ledger::{Ledger, LedgerFault, Program};
+use crate::marks::group_at;
+use crate::records::{Call, Entered, Group, Side, Step};
+
+/// What has become of a group that halted.
+#[derive(Clone, Copy, Debug, PartialEq, Eq)]
+pub enum Halted {
+    /// The cell has no value; the group round its side has this number, and may have no member any more.
+    Lost(u64, u32),
+    /// A token stands on the right side of the otherwise, in this slot.
+    Resumed(usize),
+    /// A publication had left the side: its group went without an entry. The group round it has this number, and may have no member any more.
+    Closed(u32),
+}
+
+/// Why a group doesn't halt; nothing has changed then. The first of these that is a cause: no open group has this number; it has members; the
+/// entry is refused.
+#[derive(Clone, Copy, Debug, PartialEq, Eq)]
+pub enum HaltFault {
+    Gone,
+    Live,
+    Refused(LedgerFault),
+}
+
+fn is_number(entered: Entered, number: u64) -> bool
+    ensures { result ≡ is_number number entered }
+{
+    match entered {
+        Entered::Try(other) => number == other,
+        _ => false,
+    }
+}
+
+// Whether a publication has left an otherwise.
+fn has_left(steps: &Vec<Step>, number: u64) -> bool
+    ensures { result ≡ has_left steps.now.items number }
+{
+    let mut at = 0;
+    while at < steps.len() {
+        let step = steps[at];
+        if step.published && is_number(step.entered, number) {
+            return true;
+        }
+        at += 1;
+    }
+    false
+}
+
+impl<P: Program> Ledger<P> {
+    // The open group with this number.
+    fn group_with(&self, number: u32) -> Option<Group>
+        ensures { MatchOption result ((g : Its) → IsIn g self.now.groups → g.number ≡ number → ⊥) (λ g. IsIn g self.now.groups × (g.number ≡ number)) }
+    {
+        self.groups.get(number)
+    }
+
+    // The group round a group.
+    fn parent_of(&self, group: Group) -> u32
+        ensures { result ≡ group_at self.now.steps group.outer }
+    {
+        group_at(&self.steps, group.outer)
+    }
+
+    // Whether a publication has left an otherwise.
+    fn was_left(&self, number: u64) -> bool
+        ensures { result ≡ has_left self.now.steps number }
+    {
+        has_left(&self.steps, number)
+    }
+
+    /// The group with this number, which has halted, ends. A cell's right side is lost: the cell has no value. The left side of an otherwise
+    /// starts the right side, unless a publication has left it: its group goes then, and no entry says so. Whether one has left it is looked up
+    /// among all steps of the run.
+    pub fn halt(&mut self, number: u32) -> Result<Halted, HaltFault>
+        ensures done { IfOk result (λ h. HasHalted (code P.listing) self.old self.new number h) }
+        ensures refused { OnErr result (self.new ≡ self.old) }
+        ensures why { IfErr result (λ fault. IsHinderedAt self.old number fault) }
+    {
+        let group = match self.group_with(number) {
+            Some(group) => group,
+            None => return Err(HaltFault::Gone),
+        };
+        if !self.is_empty(number) {
+            return Err(HaltFault::Live);
+        }
+        let parent = self.parent_of(group);
+        match group.side {
+            Side::Right(cell) => match self.lost(group, cell) {
+                Ok(()) => Ok(Halted::Lost(cell, parent)),
+                Err(fault) => Err(HaltFault::Refused(fault)),
+            },
+            Side::Left(other, node, scope) => {
+                if self.was_left(other) {
+                    self.close(group);
+                    return Ok(Halted::Closed(parent));
+                }
+                match self.right(group, other, node, scope) {
+                    Ok(slot) => Ok(Halted::Resumed(slot)),
+                    Err(fault) => Err(HaltFault::Refused(fault)),
+                }
+            }
+        }
+    }
+
+    /// The group in which a call pends.
+    pub fn group_of_call(&self, call: &Call) -> u32
+        ensures { result ≡ group_at self.now.steps call.now.step }
+    {
+        group_at(&self.steps, call.step)
+    }
+}
