@@ -1,5 +1,5 @@
 -- What the status of a command line tells of standard output.
-use Rattle.std.proofs.Common.{◌≡◌, ◌≢◌, ◌<◌, ℕ, List, Option, sym, refl, subst, ◌∙◌, arith}
+use Rattle.std.proofs.Common.{◌≡◌, ◌≢◌, ◌<◌, ℕ, List, Option, sym, refl, subst, ◌∙◌, arith, ◌⊎◌, ⊎_elim, inl, inr}
 use Rattle.std.specs.Io.KnownBytes.{Keeps}
 use Rattle.std.proofs.KnownBytes.{Keeps-refl}
 use Rattle.orc_syntax.specs.declared.fault.SyntaxFault.{SyntaxFault}
@@ -12,12 +12,11 @@ use Rattle.orc_rules.specs.declared.entry.RuleFault.{RuleFault}
 use Rattle.orc_rules.specs.declared.entry.RuleFault.TheVariants as reason
 use Rattle.orc_journal.specs.declared.text.JournalFault.{JournalFault}
 use Rattle.orc_journal.specs.declared.text.JournalFault.TheVariants as journal
-use Rattle.orc_outcome.specs.Outcome.{EndsAt, context}
 use Rattle.orc_outcome.specs.Status.{end_status_of}
 use Rattle.orc_outcome.specs.declared.end.End.{End}
 use Rattle.orc_outcome.specs.declared.end.End.TheVariants as ends
 use Rattle.orc_outcome.specs.declared.end.Summary.{Summary}
-use Rattle.orc_run.specs.Commands.{failure_status, HasEnded, IsDone, IsUnread, LeavesUndone}
+use Rattle.orc_run.specs.Commands.{failure_status, HasEnded, IsDone, IsUnread, LeavesUndone, WasCut}
 use Rattle.orc_run.specs.Faults.{journal_status, reason_status, scope_status, script_status, syntax_status}
 use Rattle.orc_run.specs.Running.{LeavesAtFault, Runs}
 use Rattle.orc_run.specs.Status.{read_status_of}
@@ -131,17 +130,12 @@ quiet_only ends.Limit h = absurd (omega (arith, h))
 quiet_only ends.Full h = absurd (omega (arith, h))
 quiet_only ends.Memory h = absurd (omega (arith, h))
 
-cut_only : (e : End) → e ≢ ends.Full → end_status_of e ≡ 4 → e ≡ ends.Limit
-cut_only ends.Halted off h = absurd (omega (arith, h))
-cut_only ends.Quiet off h = absurd (omega (arith, h))
-cut_only ends.Limit off h = refl
-cut_only ends.Full off h = absurd (off refl)
-cut_only ends.Memory off h = absurd (omega (arith, h))
-
--- no run ends full
-never_full : (source script : List ℕ) (options : Options) (s : Summary) (text : List ℕ) → Runs source script options s text → s.end ≢ ends.Full
-never_full source script options s text (l, t, says, program, told) full =
-    subst (λ (e : End). EndsAt (context l t) options.limit told.outcome.journal told.is_run.place e) (sym told.tells.end ∙ full) told.is_run.ends
+cut_only : (e : End) → end_status_of e ≡ 4 → (e ≡ ends.Limit) ⊎ (e ≡ ends.Full)
+cut_only ends.Halted h = absurd (omega (arith, h))
+cut_only ends.Quiet h = absurd (omega (arith, h))
+cut_only ends.Limit h = inl refl
+cut_only ends.Full h = inr refl
+cut_only ends.Memory h = absurd (omega (arith, h))
 
 pub ended_quiet : (holds : List ℕ → Option (List ℕ)) (j : Job) (old new : Option (List ℕ)) (status : ℕ) → IsDone holds j old new status → status ≡ 3 → HasEnded ends.Quiet old new
 ended_quiet holds (job.Run file script options) old new status (source, read, s, held, said, ran, is) three = (options, source, read, s, ran, quiet_only s.end (sym is ∙ three))
@@ -149,8 +143,8 @@ ended_quiet holds (job.Check file journal script) old new status (source, text, 
 ended_quiet holds (job.Draw file journal script options) old new status (source, text, read, held, told, said, draws, is) three = absurd (omega (arith, is, three))
 ended_quiet holds (job.Print file) old new status (source, held, prints, is) three = absurd (omega (arith, is, three))
 
-pub ended_cut : (holds : List ℕ → Option (List ℕ)) (j : Job) (old new : Option (List ℕ)) (status : ℕ) → IsDone holds j old new status → status ≡ 4 → HasEnded ends.Limit old new
-ended_cut holds (job.Run file script options) old new status (source, read, s, held, said, ran, is) four = (options, source, read, s, ran, cut_only s.end (never_full source read options s ran.0 ran.1) (sym is ∙ four))
+pub ended_cut : (holds : List ℕ → Option (List ℕ)) (j : Job) (old new : Option (List ℕ)) (status : ℕ) → IsDone holds j old new status → status ≡ 4 → WasCut old new
+ended_cut holds (job.Run file script options) old new status (source, read, s, held, said, ran, is) four = ⊎_elim (λ e. inl (options, source, read, s, ran, e)) (λ e. inr (options, source, read, s, ran, e)) (cut_only s.end (sym is ∙ four))
 ended_cut holds (job.Check file journal script) old new status (source, text, read, held, told, said, judges, is) four = absurd (omega (arith, is, four))
 ended_cut holds (job.Draw file journal script options) old new status (source, text, read, held, told, said, draws, is) four = absurd (omega (arith, is, four))
 ended_cut holds (job.Print file) old new status (source, held, prints, is) four = absurd (omega (arith, is, four))

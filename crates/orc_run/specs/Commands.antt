@@ -1,9 +1,10 @@
 -- The statuses of command lines, and what they leave on standard output.
-use Rattle.std.specs.Prelude.{◌≡◌, ℕ, List, ⊤, option_map}
+use Rattle.std.specs.Prelude.{◌≡◌, ◌⊎◌, ℕ, List, ⊤, option_map}
 use Rattle.std.specs.declared.option.Option.{Option}
 use Rattle.std.specs.Io.KnownBytes.{Keeps}
 use Rattle.orc_outcome.specs.Status.{end_status_of}
 use Rattle.orc_outcome.specs.declared.end.End.{End}
+use Rattle.orc_outcome.specs.declared.end.End.TheVariants as ends
 use Rattle.orc_outcome.specs.declared.end.Summary.{Summary}
 use Rattle.orc_run.specs.Checked.{Judges}
 use Rattle.orc_run.specs.Drawn.{Draws}
@@ -50,6 +51,10 @@ IsDone holds (job.Print file) old new status = HasPrinted holds file.now old new
 -- what was written is the whole text of a run that ended so
 abbrev pub HasEnded : End → Option (List ℕ) → Option (List ℕ) → Type 0
 HasEnded end old new = (options : Options) × (source script : List ℕ) × (s : Summary) × Ran source script options old new s × (s.end ≡ end)
+
+-- the same of one that was cut by its limit, or by one of the engine's
+abbrev pub WasCut : Option (List ℕ) → Option (List ℕ) → Type 0
+WasCut old new = HasEnded ends.Limit old new ⊎ HasEnded ends.Full old new
 
 -- a file could not be read
 abbrev pub IsUnread : Failure → Type 0

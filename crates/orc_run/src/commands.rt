@@ -4,7 +4,7 @@ ghost use Rattle.std.specs.Prelude.{◌≡◌, ◌≢◌, ◌<◌, ℕ, List, If
 ghost use Rattle.std.specs.Io.KnownBytes.{Keeps};
 ghost use Rattle.orc_outcome.specs.declared.end.End.TheVariants as ends;
 ghost use Rattle.orc_run.specs.Inputs.{IsHeld, IsRead};
-ghost use Rattle.orc_run.specs.Commands.{failure_status, HasDrawn, HasEnded, HasJudged, HasPrinted, HasRun, IsDone, IsUnread, LeavesUndone};
+ghost use Rattle.orc_run.specs.Commands.{failure_status, HasDrawn, HasEnded, HasJudged, HasPrinted, HasRun, IsDone, IsUnread, LeavesUndone, WasCut};
 
 use crate::arguments::{Job, read_words};
 use crate::drawing::{Undrawn, draw_text};
@@ -245,8 +245,8 @@ fn do_job<'a, F: Files, W: Write>(
 ///
 /// FILE, JOURNAL and the script are read in this order, before anything else. Standard output is `out`, standard error `err`; what
 /// standard error doesn't take changes no status. Where the status says that a file's text, the command line or the engine was at
-/// fault, nothing was written to standard output. Where it says that a run ended quiet or was cut by its limit, the whole text of a
-/// run that ended so was.
+/// fault, nothing was written to standard output. Where it says that a run ended quiet, or was cut by its limit or one of the
+/// engine's, the whole text of a run that ended so was.
 #[tactic(auto, using(crate::proofs::Statuses::kept, crate::proofs::Statuses::untouched, crate::proofs::Statuses::faultless, crate::proofs::Statuses::ended_quiet, crate::proofs::Statuses::ended_cut, crate::proofs::Statuses::not_quiet, crate::proofs::Statuses::not_cut))]
 pub fn command<S, F, W, V>(
     alloc: Global,
@@ -265,7 +265,7 @@ where
     ensures refused { result ≡ 2 → Keeps (W.contents out.old) (W.contents out.new) }
     ensures broken { result ≡ 7 → Keeps (W.contents out.old) (W.contents out.new) }
     ensures quiet { result ≡ 3 → HasEnded ends.Quiet (W.contents out.old) (W.contents out.new) }
-    ensures cut { result ≡ 4 → HasEnded ends.Limit (W.contents out.old) (W.contents out.new) }
+    ensures cut { result ≡ 4 → WasCut (W.contents out.old) (W.contents out.new) }
 {
     let job = match read_words(alloc, words) {
         Err(error) => return refuse(&error, out, err),
