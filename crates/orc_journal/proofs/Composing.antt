@@ -10,7 +10,7 @@ use Rattle.orc_journal.proofs.Codes.{same_some}
 use Rattle.orc_journal.proofs.Stripping.{are_more, none_some}
 
 -- the entries up to one, and that one
-take_one : (es : List Entry) (i : ℕ) (e : Entry) → slice_get es i ≡ Some e → take (suc i) es ≡ take i es ++ e ∷ []
+pub take_one : (es : List Entry) (i : ℕ) (e : Entry) → slice_get es i ≡ Some e → take (suc i) es ≡ take i es ++ e ∷ []
 take_one [] zero e is = absurd (none_some e (sym is))
 take_one [] (suc i) e is = absurd (none_some e (sym is))
 take_one (f ∷ es) zero e is = ap (λ z. z ∷ []) (same_some f e is)

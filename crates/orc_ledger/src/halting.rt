@@ -9,7 +9,7 @@ ghost use Rattle.orc_ledger.specs.declared.records.Group.{Group as Its};
 
 use crate::ledger::{Ledger, LedgerFault, Program};
 use crate::marks::group_at;
-use crate::records::{Call, Entered, Group, Side, Step};
+use crate::records::{Call, Entered, Group, Side, Step, Token};
 
 /// What has become of a group that halted.
 #[derive(Clone, Copy, Debug, PartialEq, Eq)]
@@ -116,5 +116,12 @@ impl<P: Program> Ledger<P> {
         ensures { result ≡ group_at self.now.steps call.now.step }
     {
         group_at(&self.steps, call.step)
+    }
+
+    /// The group in which a token stands.
+    pub fn group_of_token(&self, token: &Token) -> u32
+        ensures { result ≡ group_at self.now.steps token.now.step }
+    {
+        group_at(&self.steps, token.step)
     }
 }

@@ -17,7 +17,7 @@ use orc_journal::{Journal, Version};
 use orc_names::{Bound, Scope};
 use orc_rules::entry::Entry;
 use std::alloc::{AllocError, Global};
-use std::marker::{Model, PhantomData};
+use std::marker::{Brand, Model, PhantomData};
 
 /// The program that a book is for, and its sites.
 pub trait Program {
@@ -28,6 +28,15 @@ pub trait Program {
     ghost listing: { Listing };
 
     ghost sites: { List Site };
+}
+
+// A caller that picks a program names it by this.
+impl Program for Brand {
+    ghost use Rattle.std.specs.Prelude.{[]};
+
+    ghost listing = { record { nodes = []; lists = []; routines = []; root = 0 } };
+
+    ghost sites = { [] };
 }
 
 /// Why a call is refused; nothing has changed then. The first of these that is a cause: the most tokens and calls (65,536), groups (1,024, with
