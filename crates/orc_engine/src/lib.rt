@@ -1,0 +1,15 @@
+//! The engine: tokens over the graph of a program, moved by one worker, and what is told of the run at its end.
+//!
+//! What moves and when is chosen here; that each entry is one of the rules is the ledger's own invariant, whatever is chosen.
+#![tactic(auto)]
+
+mod alone;
+mod fault;
+mod quiet;
+mod ready;
+mod sizes;
+mod telling;
+mod waiting;
+
+pub use alone::run_alone;
+pub use fault::EngineFault;

@@ -1,0 +1,37 @@
+//! Whether a run is quiet, by the rules alone.
+
+ghost use Rattle.std.specs.Prelude.{◌≡◌, ◌↔◌, true, IfSome};
+ghost use Rattle.orc_rules.specs.Nodes.{source};
+ghost use Rattle.orc_rules.specs.Timed.{IsQuiet};
+ghost use Rattle.orc_rules.specs.Journal.{Place, Journal as Leads, begin, moment};
+ghost use Rattle.orc_outcome.specs.Outcome.{context};
+
+use orc_checker::Marked;
+use orc_journal::Journal;
+use orc_rules::answers::Answers;
+use orc_rules::program::Program;
+use std::alloc::Global;
+
+/// Whether a run with this journal is quiet, by the rules alone: each entry is applied to the marked term. None where memory is refused.
+pub(crate) fn is_quiet_at(
+    alloc: Global,
+    program: &Program,
+    answers: &Answers,
+    journal: &Journal,
+) -> Option<bool>
+    ensures { IfSome result (λ quiet. (p : Place) → Leads (context program.now answers.now) (begin (source program.now)) journal.now.entries p → (quiet ≡ true) ↔ IsQuiet (context program.now answers.now) (moment p)) }
+{
+    let Ok(mut marked) = Marked::new(alloc, program, true) else {
+        return None;
+    };
+    for at in 0..journal.len() {
+        let Some(entry) = journal.get(at) else {
+            return None;
+        };
+        match marked.step(program, answers, &entry) {
+            Ok(()) => {}
+            Err(_) => return None,
+        }
+    }
+    Some(marked.is_quiet(program))
+}

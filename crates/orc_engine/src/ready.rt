@@ -1,0 +1,54 @@
+//! The tokens whose turn comes.
+
+use std::alloc::{AllocError, Global};
+use std::collections::VecDeque;
+
+/// A token by its slot. The serial tells whether the slot still holds it.
+#[derive(Clone, Copy)]
+pub(crate) struct Handle {
+    pub(crate) slot: usize,
+    pub(crate) serial: u64,
+}
+
+/// Of how many turns one is that of the token which has waited longest.
+const ROUND: u64 = 64;
+
+/// The tokens whose turn comes. The one that came last goes first, so that few live at a time; but one turn in each round is that of the
+/// token which has waited longest, so that none is starved.
+#[derive(Drop)]
+pub(crate) struct Ready {
+    handles: VecDeque<Handle>,
+    turns: u64,
+}
+
+impl Ready {
+    pub(crate) fn new(alloc: Global) -> Ready {
+        Ready {
+            handles: VecDeque::new(alloc),
+            turns: 0,
+        }
+    }
+
+    /// Makes room for one more. The error is refused memory.
+    pub(crate) fn reserve(&mut self) -> Result<(), AllocError> {
+        self.handles.reserve(1)
+    }
+
+    /// Adds a token. The error is refused memory.
+    pub(crate) fn push(&mut self, handle: Handle) -> Result<(), AllocError> {
+        match self.handles.push_back(handle) {
+            Ok(()) => Ok(()),
+            Err(_) => Err(AllocError),
+        }
+    }
+
+    /// Takes the token whose turn it is.
+    pub(crate) fn take(&mut self) -> Option<Handle> {
+        self.turns = self.turns.wrapping_add(1);
+        if self.turns % ROUND == 0 {
+            self.handles.pop_front()
+        } else {
+            self.handles.pop_back()
+        }
+    }
+}

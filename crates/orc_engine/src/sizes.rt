@@ -1,0 +1,80 @@
+//! Whether one of the engine's limits can have ended a run.
+
+ghost use Rattle.std.specs.Prelude.{◌≡◌, ◌≤◌, ◌+◌, true};
+ghost use Rattle.orc_outcome.specs.Outcome.{brings, feeds, opens, total, IsCrowded};
+
+use orc_journal::Journal;
+use orc_rules::entry::Entry;
+use orc_rules::limits::{MOST_FRAMES, MOST_GROUPS, MOST_TOKENS};
+
+// How many entries of a journal bring a token more, open a side, and enter the left side of a `>x>`.
+#[derive(Clone, Copy)]
+struct Sizes {
+    brought: usize,
+    opened: usize,
+    fed: usize,
+}
+
+fn brings(entry: &Entry) -> usize
+    ensures { result ≡ brings entry.now }
+{
+    match entry {
+        Entry::Fork(_, _, _) | Entry::Open(_, _, _, _) | Entry::Right(_, _) => 1,
+        _ => 0,
+    }
+}
+
+fn opens(entry: &Entry) -> usize
+    ensures { result ≡ opens entry.now }
+{
+    match entry {
+        Entry::Open(_, _, _, _) | Entry::Other(_, _) => 1,
+        _ => 0,
+    }
+}
+
+fn feeds(entry: &Entry) -> usize
+    ensures { result ≡ feeds entry.now }
+{
+    match entry {
+        Entry::Seq(_, _) => 1,
+        _ => 0,
+    }
+}
+
+// A sum that stays at the greatest number, which no journal reaches.
+fn sum(one: usize, other: usize) -> usize
+    ensures { result ≤ one + other }
+{
+    one.saturating_add(other)
+}
+
+fn sizes_of(journal: &Journal) -> Sizes
+    ensures brought { result.brought ≤ total brings journal.now.entries }
+    ensures opened { result.opened ≤ total opens journal.now.entries }
+    ensures fed { result.fed ≤ total feeds journal.now.entries }
+{
+    let mut brought = 0;
+    let mut opened = 0;
+    let mut fed = 0;
+    for at in 0..journal.len() {
+        if let Some(entry) = journal.get(at) {
+            brought = sum(brought, brings(&entry));
+            opened = sum(opened, opens(&entry));
+            fed = sum(fed, feeds(&entry));
+        }
+    }
+    Sizes {
+        brought,
+        opened,
+        fed,
+    }
+}
+
+/// Whether one of the engine's limits can have ended a run with this journal.
+pub(crate) fn is_crowded(journal: &Journal) -> bool
+    ensures { result ≡ true → IsCrowded journal.now.entries }
+{
+    let sizes = sizes_of(journal);
+    sizes.brought >= MOST_TOKENS - 1 || sizes.opened >= MOST_GROUPS - 1 || sizes.fed >= MOST_FRAMES
+}

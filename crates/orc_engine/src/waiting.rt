@@ -1,0 +1,107 @@
+//! The tokens that wait for cells.
+
+use crate::ready::{Handle, Ready};
+use std::alloc::{AllocError, Global};
+
+// A token that waits for a cell, and the place of the next one that does, from 1; 0 for none.
+#[derive(Clone, Copy)]
+struct Link {
+    handle: Handle,
+    next: u32,
+}
+
+/// The tokens that wait, in a chain for each cell. A token may stand in several chains, and one that is gone may stand there still.
+pub(crate) struct Waiting {
+    // The place of the first link of each cell, from 1.
+    heads: Vec<u32>,
+    links: Vec<Link>,
+    // The place of the first link that is free.
+    free: u32,
+}
+
+// Written out, so that a caller's proof sees one call and not the drop of each field.
+impl Drop for Waiting {
+    fn drop(self) {
+        let Waiting {
+            heads: _,
+            links: _,
+            free: _,
+        } = self;
+    }
+}
+
+impl Waiting {
+    pub(crate) fn new(alloc: Global) -> Waiting {
+        Waiting {
+            heads: Vec::new(alloc),
+            links: Vec::new(alloc),
+            free: 0,
+        }
+    }
+
+    fn link_at(&self, place: u32) -> Option<Link> {
+        if place == 0 {
+            return None;
+        }
+        self.links.get((place - 1) as usize).copied()
+    }
+
+    // Puts a link where one is free, else behind the others. Gives its place.
+    fn put(&mut self, link: Link) -> Result<u32, AllocError> {
+        let place = self.free;
+        if let Some(free) = self.link_at(place) {
+            self.free = free.next;
+            if let Some(there) = self.links.get_mut(place.saturating_sub(1) as usize) {
+                *there = link;
+            }
+            return Ok(place);
+        }
+        let place = self.links.len() + 1;
+        if place > u32::MAX as usize {
+            return Err(AllocError);
+        }
+        self.links.push(link)?;
+        Ok(place as u32)
+    }
+
+    /// A token waits for a cell. The error is refused memory.
+    pub(crate) fn add(&mut self, cell: u64, handle: Handle) -> Result<(), AllocError> {
+        let cell = cell as usize;
+        for _ in self.heads.len()..cell.saturating_add(1) {
+            self.heads.push(0)?;
+        }
+        let next = match self.heads.get(cell) {
+            Some(head) => *head,
+            None => 0,
+        };
+        let place = self.put(Link { handle, next })?;
+        if let Some(head) = self.heads.get_mut(cell) {
+            *head = place;
+        }
+        Ok(())
+    }
+
+    /// All that wait for a cell wait for it no more: their turn comes. The error is refused memory; some of them wait still then.
+    pub(crate) fn wake(&mut self, cell: u64, ready: &mut Ready) -> Result<(), AllocError> {
+        let cell = cell as usize;
+        let mut place = match self.heads.get(cell) {
+            Some(head) => *head,
+            None => 0,
+        };
+        for _ in 0..self.links.len() {
+            let Some(link) = self.link_at(place) else {
+                break;
+            };
+            ready.push(link.handle)?;
+            if let Some(there) = self.links.get_mut(place.saturating_sub(1) as usize) {
+                there.next = self.free;
+            }
+            self.free = place;
+            place = link.next;
+        }
+        if let Some(head) = self.heads.get_mut(cell) {
+            *head = 0;
+        }
+        Ok(())
+    }
+}
