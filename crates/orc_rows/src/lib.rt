@@ -22,6 +22,8 @@ mod pushes;
 #[cfg(test)]
 mod replays;
 #[cfg(test)]
+mod runs;
+#[cfg(test)]
 mod scope_rows;
 #[cfg(test)]
 mod script_rows;
