@@ -100,7 +100,10 @@ fn ends_as_the_rules_say(rt: HostRuntime) -> Result<(), Fail> {
     assert_eq!(rt; turns.map(|p| p.summary), summary(End::Limit, 500, 0, 0));
     // A call that never answers leaves the run quiet.
     let quiet = run(alloc, b"Never() | 1", b"Never() = never\n", 500);
-    assert_eq!(rt; quiet.map(|p| (p.summary.end, p.summary.published)), Some((End::Quiet, 1)));
+    assert_eq!(rt;
+        quiet.map(|p| (p.summary.end, p.summary.published)),
+        Some((End::Quiet, 1))
+    );
     Ok(())
 }
 
@@ -113,7 +116,10 @@ fn starves_no_token(rt: HostRuntime) -> Result<(), Fail> {
     let source = b"def loop() = loop()\nx <x< (1 | loop())";
     assert_eq!(rt; ends(alloc, source, 100_000), Some((End::Halted, 1)));
     let source = b"def fork() = fork() | fork()\nx <x< (Rwait(0) >> 1 | 2 | fork())";
-    assert_eq!(rt; ends(alloc, source, 100_000).map(|e| e.0), Some(End::Halted));
+    assert_eq!(rt;
+        ends(alloc, source, 100_000).map(|e| e.0),
+        Some(End::Halted)
+    );
     Ok(())
 }
 
@@ -124,11 +130,20 @@ fn tells_quiet_from_cut_at_the_limit(rt: HostRuntime) -> Result<(), Fail> {
     let source = b"Never() | (Never() | Never())";
     let script = b"Never() = never\n";
     let whole = run(alloc, source, script, 100);
-    assert_eq!(rt; whole.map(|p| (p.summary.end, p.summary.entries)), Some((End::Quiet, 5)));
+    assert_eq!(rt;
+        whole.map(|p| (p.summary.end, p.summary.entries)),
+        Some((End::Quiet, 5))
+    );
     let cut = run(alloc, source, script, 4);
-    assert_eq!(rt; cut.map(|p| (p.summary.end, p.summary.entries)), Some((End::Limit, 4)));
+    assert_eq!(rt;
+        cut.map(|p| (p.summary.end, p.summary.entries)),
+        Some((End::Limit, 4))
+    );
     let at_the_end = run(alloc, source, script, 5);
-    assert_eq!(rt; at_the_end.map(|p| (p.summary.end, p.summary.entries)), Some((End::Quiet, 5)));
+    assert_eq!(rt;
+        at_the_end.map(|p| (p.summary.end, p.summary.entries)),
+        Some((End::Quiet, 5))
+    );
     Ok(())
 }
 
