@@ -7,6 +7,7 @@
 mod due;
 mod gate;
 mod line;
+mod open;
 mod request;
 mod script;
 mod scripted;
@@ -15,7 +16,8 @@ mod sites;
 mod token;
 
 pub use due::{Due, due_after};
-pub use gate::{Gate, Open};
+pub use gate::Gate;
+pub use open::Open;
 pub use request::Request;
 pub use script::{ScriptFault, read_script};
 pub use scripted::Scripted;

@@ -1,6 +1,6 @@
 //! Sites that the table answers.
 
-ghost use Rattle.std.specs.Prelude.{◌≡◌, false, IfOk};
+ghost use Rattle.std.specs.Prelude.{◌≡◌, true, false, IfOk};
 
 use crate::request::Request;
 use crate::site_call::SiteCall;
@@ -38,5 +38,11 @@ impl<'a> Sites for Scripted<'a> {
         ensures { result ≡ false }
     {
         false
+    }
+
+    fn goes_by_table(&self) -> bool
+        ensures { result ≡ true }
+    {
+        true
     }
 }

@@ -48,4 +48,9 @@ pub trait Sites {
     fn may_wait(&self) -> bool {
         true
     }
+
+    /// Whether each call is answered just as the table of sites says, and nobody notices whether it is made. Then it need not be made.
+    fn goes_by_table(&self) -> bool {
+        false
+    }
 }

@@ -1,0 +1,25 @@
+//! A gate that holds nobody.
+
+ghost use Rattle.std.specs.Prelude.{◌≡◌, true, false};
+
+use crate::gate::Gate;
+
+/// A gate that holds nobody.
+#[derive(Clone, Copy)]
+pub struct Open;
+
+impl Gate for Open {
+    fn pass(&self, _number: u64) {}
+
+    fn may_wait(&self) -> bool
+        ensures { result ≡ false }
+    {
+        false
+    }
+
+    fn is_open(&self) -> bool
+        ensures { result ≡ true }
+    {
+        true
+    }
+}
