@@ -1,12 +1,12 @@
 -- A journal is read entry by entry.
-use Rattle.std.proofs.Common.{◌≡◌, ◌≤◌, ◌+◌, ◌++◌, ◌∷◌, [], ℕ, suc, List, Some, length, take, refl, ap, sym, subst, true, ◌∙◌, arith}
+use Rattle.std.proofs.Common.{◌≡◌, ◌+◌, ◌++◌, ◌∷◌, [], ℕ, suc, List, Some, take, refl, ap, sym, subst, true, ◌∙◌, arith}
 use Rattle.std.specs.Prelude.{slice_get}
 use Rattle.orc_rules.specs.declared.entry.Entry.{Entry}
-use Rattle.orc_rules.specs.Nodes.{Listing, code, source}
+use Rattle.orc_rules.specs.Nodes.{Listing, source}
 use Rattle.orc_rules.specs.Sites.{Table}
-use Rattle.orc_rules.specs.Journal.{Place, Journal, begin}
+use Rattle.orc_rules.specs.Journal.{Journal, begin}
 use Rattle.orc_journal.proofs.Composing.{take_one}
-use Rattle.orc_checker.specs.Checker.{State, Spells, Applies}
+use Rattle.orc_checker.specs.Checker.{State, Applies}
 use Rattle.orc_outcome.specs.Outcome.{context, total}
 use Rattle.orc_ledger.proofs.Binding.{journal_more}
 use Rattle.orc_engine.specs.Ends.{IsSpelt}

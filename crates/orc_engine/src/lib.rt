@@ -4,6 +4,7 @@
 #![tactic(auto)]
 
 mod alone;
+mod desk;
 mod fault;
 mod quiet;
 mod ready;

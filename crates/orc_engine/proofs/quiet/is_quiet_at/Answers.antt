@@ -1,8 +1,7 @@
-use Rattle.std.proofs.Common.{◌≡◌, ◌≤◌, ◌↔◌, [], refl, sym, ap, subst, ◌∙◌, take, length, arith}
+use Rattle.std.proofs.Common.{◌≡◌, [], refl, sym, subst, ◌∙◌, take, arith}
 use Rattle.std.proofs.lemmas.List.{take_all}
 use Rattle.orc_rules.specs.Nodes.{code, source}
-use Rattle.orc_rules.specs.Journal.{Place, Journal, begin, moment}
-use Rattle.orc_rules.specs.Timed.{IsQuiet}
+use Rattle.orc_rules.specs.Journal.{Journal, begin}
 use Rattle.orc_checker.specs.Checker.{Spells}
 use Rattle.orc_outcome.specs.Outcome.{context}
 use Rattle.orc_ledger.proofs.Keeping.{journal_one}

@@ -1,4 +1,4 @@
-use Rattle.std.proofs.Common.{◌≡◌, ◌≤◌, ◌<◌, sym, ◌∙◌, arith}
+use Rattle.std.proofs.Common.{sym, ◌∙◌, arith}
 use Rattle.orc_journal.proofs.Composing.{none_past}
 use Rattle.orc_outcome.specs.Outcome.{brings, feeds, opens}
 use Rattle.orc_engine.proofs.Reading.{total-more}

@@ -8,7 +8,7 @@ use Rattle.orc_ledger.specs.Records.{context}
 use Rattle.orc_ledger.specs.Answers.{IsAt}
 use Rattle.orc_ledger.specs.Spoken.{IsRight}
 use Rattle.orc_ledger.specs.declared.next.Next.TheVariants.{Ticks}
-use Rattle.orc_engine.proofs.alone.Alone.cut.Goals as goal
+use Rattle.orc_engine.proofs.desk.Desk.cut.Goals as goal
 
 pub returns-in-Ticks : goal.returns-in-Ticks
 returns-in-Ticks g c p at =

@@ -1,0 +1,444 @@
+//! The records of a run and what its workers do with them: tokens move, calls are answered, groups halt, time passes.
+
+ghost use Rattle.std.specs.Prelude.{◌≡◌, IfOk};
+ghost use Rattle.orc_engine.specs.Ends.{HasEnded};
+ghost use Rattle.orc_rules.specs.Nodes.{code, definitions};
+ghost use Rattle.orc_ledger.specs.Doing.{what_of};
+ghost use Rattle.orc_ledger.specs.Tokens.{IsHeld};
+
+use crate::fault::EngineFault;
+use crate::quiet::is_quiet_at;
+use crate::ready::{Handle, Ready};
+use crate::sizes::is_crowded;
+use crate::waiting::Waiting;
+use orc_graph::Graph;
+use orc_ledger::{
+    Call, HaltFault, Halted, Ledger, LedgerFault, Moved, Next, Program as Naming, ReturnFault,
+    Token, What,
+};
+use orc_names::Scope;
+use orc_outcome::End;
+use orc_rules::answers::Answers;
+use orc_rules::limits::MOST_GROUPS;
+use orc_rules::program::Program;
+use orc_rules::value::{Answer, Args, Found};
+use std::alloc::Global;
+
+/// The most moves of a token in its turn.
+const MOVES: u32 = 64;
+
+/// What a turn has come to.
+#[derive(Clone, Copy)]
+pub(crate) enum Turn {
+    Went,
+    /// No token is left whose turn comes.
+    Rests,
+}
+
+/// Why a run stops.
+#[derive(Clone, Copy)]
+pub(crate) enum Stop {
+    /// Nothing can come next.
+    Rests,
+    /// An entry was refused, or memory for what is noted of it.
+    Refused(LedgerFault),
+    Broken,
+}
+
+/// A run: its ledger, the tokens whose turn comes, and those that wait.
+pub(crate) struct Desk<P: Naming> {
+    alloc: Global,
+    ledger: Ledger<P>,
+    ready: Ready,
+    waiting: Waiting,
+    // Lent to the ledger's calls.
+    scopes: Vec<Scope>,
+    cancelled: Vec<u64>,
+    cells: Vec<u64>,
+    args: Args,
+}
+
+// Written out, so that each exit of a function that has a run drops it by one call.
+impl<P: Naming> Drop for Desk<P> {
+    fn drop(self) {
+        let Desk {
+            alloc: _,
+            ledger,
+            ready,
+            waiting,
+            scopes,
+            cancelled,
+            cells,
+            args,
+        } = self;
+        drop(ledger);
+        drop(ready);
+        drop(waiting);
+        drop(scopes);
+        drop(cancelled);
+        drop(cells);
+        drop(args);
+    }
+}
+
+impl<P: Naming> Desk<P> {
+    pub(crate) fn new(alloc: Global, ledger: Ledger<P>) -> Desk<P> {
+        Desk {
+            alloc,
+            ledger,
+            ready: Ready::new(alloc),
+            waiting: Waiting::new(alloc),
+            scopes: Vec::new(alloc),
+            cancelled: Vec::new(alloc),
+            cells: Vec::new(alloc),
+            args: Args::new(),
+        }
+    }
+
+    pub(crate) fn into_ledger(self) -> Ledger<P>
+        ensures { result ≡ self.ledger }
+    {
+        let Desk {
+            alloc: _,
+            ledger,
+            ready,
+            waiting,
+            scopes,
+            cancelled,
+            cells,
+            args,
+        } = self;
+        drop(ready);
+        drop(waiting);
+        drop(scopes);
+        drop(cancelled);
+        drop(cells);
+        drop(args);
+        ledger
+    }
+
+    /// The first token's turn comes.
+    pub(crate) fn begin(&mut self) -> Result<(), Stop> {
+        self.join(0, 1)
+    }
+
+    fn join(&mut self, slot: usize, serial: u64) -> Result<(), Stop> {
+        match self.ready.push(Handle { slot, serial }) {
+            Ok(()) => Ok(()),
+            Err(_) => Err(Stop::Refused(LedgerFault::Memory)),
+        }
+    }
+
+    /// The turn of a token: it moves until it is gone, waits, or has made its moves.
+    pub(crate) fn turn(&mut self, graph: &Graph, answers: &Answers) -> Result<Turn, Stop>
+        requires graph { graph.now ≡ P.listing }
+        requires answers { answers.now.sites ≡ P.sites }
+    {
+        let Some(handle) = self.ready.take() else {
+            return Ok(Turn::Rests);
+        };
+        if !self.is_there(handle) {
+            return Ok(Turn::Went);
+        }
+        let mut slot = handle.slot;
+        for _move in 0..MOVES {
+            let Some(token) = self.ledger.held(slot) else {
+                return Ok(Turn::Went);
+            };
+            match self.step(graph, answers, slot, token)? {
+                None => return Ok(Turn::Went),
+                Some(next) => slot = next,
+            }
+        }
+        self.join_held(slot)?;
+        Ok(Turn::Went)
+    }
+
+    // Whether the slot still holds the token.
+    fn is_there(&self, handle: Handle) -> bool {
+        handle.serial > 0 && self.ledger.token(handle.slot, handle.serial).is_some()
+    }
+
+    // The turn of the token in a slot comes.
+    fn join_held(&mut self, slot: usize) -> Result<(), Stop> {
+        match self.ledger.held(slot) {
+            Some(token) => self.join(slot, token.serial),
+            None => Ok(()),
+        }
+    }
+
+    // One move of a token. Gives the slot in which it goes on, if it does.
+    fn step(
+        &mut self,
+        graph: &Graph,
+        answers: &Answers,
+        slot: usize,
+        token: Token,
+    ) -> Result<Option<usize>, Stop>
+        requires graph { graph.now ≡ P.listing }
+        requires answers { answers.now.sites ≡ P.sites }
+        requires held { IsHeld self.old.ledger.slots slot token }
+    {
+        // Room for a token that comes beside it, before anything changes.
+        if self.ready.reserve().is_err() {
+            return Err(Stop::Refused(LedgerFault::Memory));
+        }
+        match self
+            .ledger
+            .advance(graph, slot, token, &mut self.scopes, &mut self.cancelled)
+        {
+            Ok(Moved::On) => Ok(Some(slot)),
+            Ok(Moved::Forked(other)) => self.part(slot, other),
+            Ok(Moved::Sent(group)) => {
+                self.close(group)?;
+                Ok(Some(slot))
+            }
+            Ok(Moved::Gone(group)) => {
+                self.close(group)?;
+                Ok(None)
+            }
+            Ok(Moved::Bound(cell, group)) => {
+                self.wake(cell)?;
+                self.close(group)?;
+                Ok(None)
+            }
+            Ok(Moved::Calls) => self.call(graph, answers, slot, token),
+            Ok(Moved::Waits) => {
+                self.wait(graph, slot, token)?;
+                Ok(None)
+            }
+            Err(fault) => Err(Stop::Refused(fault)),
+        }
+    }
+
+    // Two tokens stand in these slots: one goes on, and the turn of the other one comes. The left side of `f | g` goes on; but the right side of a
+    // pruning, so that its group may be gone before the left side opens more.
+    fn part(&mut self, left: usize, right: usize) -> Result<Option<usize>, Stop> {
+        if self.is_beside(left, right) {
+            self.join_held(right)?;
+            Ok(Some(left))
+        } else {
+            self.join_held(left)?;
+            Ok(Some(right))
+        }
+    }
+
+    // Whether the tokens in two slots are in one group.
+    fn is_beside(&self, left: usize, right: usize) -> bool {
+        match (self.ledger.held(left), self.ledger.held(right)) {
+            (Some(one), Some(other)) => {
+                self.ledger.group_of_token(&one) == self.ledger.group_of_token(&other)
+            }
+            _ => true,
+        }
+    }
+
+    // A call of a site. Where it is due at once it is answered at once, and the token on its answer goes on.
+    fn call(
+        &mut self,
+        graph: &Graph,
+        answers: &Answers,
+        slot: usize,
+        token: Token,
+    ) -> Result<Option<usize>, Stop>
+        requires graph { graph.now ≡ P.listing }
+        requires answers { answers.now.sites ≡ P.sites }
+        requires held { IsHeld self.old.ledger.slots slot token }
+        requires calls { what_of (code P.listing) (definitions P.listing) self.old.ledger token ≡ What.Call }
+    {
+        match self
+            .ledger
+            .call(graph, answers, slot, token, &mut self.args)
+        {
+            Ok(call) => self.answer_at_once(call),
+            Err(fault) => Err(Stop::Refused(fault)),
+        }
+    }
+
+    fn answer_at_once(&mut self, call: Call) -> Result<Option<usize>, Stop> {
+        match call.found {
+            Found::After(answer, 0) => self.answer(call, answer),
+            _ => Ok(None),
+        }
+    }
+
+    // A call is answered. Gives the slot of the token on its answer.
+    fn answer(&mut self, call: Call, answer: Answer) -> Result<Option<usize>, Stop> {
+        match self.ledger.returned(call.number, answer) {
+            Ok(Some(slot)) => Ok(Some(slot)),
+            Ok(None) => {
+                let group = self.ledger.group_of_call(&call);
+                self.close(group)?;
+                Ok(None)
+            }
+            Err(ReturnFault::Limit) => Err(Stop::Refused(LedgerFault::Limit)),
+            Err(ReturnFault::Memory) => Err(Stop::Refused(LedgerFault::Memory)),
+            Err(_) => Err(Stop::Broken),
+        }
+    }
+
+    // A token waits for each of its cells.
+    fn wait(&mut self, graph: &Graph, slot: usize, token: Token) -> Result<(), Stop>
+        requires graph { graph.now ≡ P.listing }
+    {
+        self.ledger
+            .awaited(graph, &token, &mut self.cells)
+            .map_err(Stop::Refused)?;
+        for cell in &self.cells {
+            let handle = Handle {
+                slot,
+                serial: token.serial,
+            };
+            if self.waiting.add(*cell, handle).is_err() {
+                return Err(Stop::Refused(LedgerFault::Memory));
+            }
+        }
+        Ok(())
+    }
+
+    fn wake(&mut self, cell: u64) -> Result<(), Stop> {
+        match self.waiting.wake(cell, &mut self.ready) {
+            Ok(()) => Ok(()),
+            Err(_) => Err(Stop::Refused(LedgerFault::Memory)),
+        }
+    }
+
+    // A group that has no members any more ends, and so do those round it.
+    fn close(&mut self, group: u32) -> Result<(), Stop> {
+        let mut group = group;
+        // Groups are nested at most so deep.
+        for _nested in 0..MOST_GROUPS {
+            if group == 0 || !self.ledger.is_empty(group) {
+                return Ok(());
+            }
+            match self.ledger.halt(group) {
+                Ok(Halted::Lost(cell, parent)) => {
+                    self.wake(cell)?;
+                    group = parent;
+                }
+                Ok(Halted::Resumed(slot)) => {
+                    return self.join_held(slot);
+                }
+                Ok(Halted::Closed(parent)) => group = parent,
+                Err(HaltFault::Refused(fault)) => return Err(Stop::Refused(fault)),
+                Err(_) => return Err(Stop::Broken),
+            }
+        }
+        Ok(())
+    }
+
+    /// How a run ends that stops so. The fault is Broken where it can't end so.
+    pub(crate) fn end(
+        &mut self,
+        program: &Program,
+        graph: &Graph,
+        answers: &Answers,
+        stop: Stop,
+    ) -> Result<End, EngineFault>
+        requires program { program.now ≡ P.listing }
+        requires graph { graph.now ≡ P.listing }
+        requires answers { answers.now.sites ≡ P.sites }
+        ensures { IfOk result (λ end. HasEnded P.listing answers.now self.new.ledger end) }
+    {
+        match stop {
+            Stop::Rests => self.rested(graph, answers),
+            Stop::Refused(LedgerFault::Memory) => Ok(End::Memory),
+            Stop::Refused(LedgerFault::Full) => self.crowded(answers),
+            Stop::Refused(LedgerFault::Limit) => self.cut(program, graph, answers),
+            Stop::Broken => Err(EngineFault::Broken),
+        }
+    }
+
+    // How a run ends in which nothing can come next.
+    fn rested(&mut self, graph: &Graph, answers: &Answers) -> Result<End, EngineFault>
+        requires graph { graph.now ≡ P.listing }
+        requires answers { answers.now.sites ≡ P.sites }
+        ensures { IfOk result (λ end. HasEnded P.listing answers.now self.new.ledger end) }
+    {
+        match self.ledger.next(graph) {
+            Next::Quiet => Ok(End::Quiet),
+            Next::Work if self.ledger.has_halted() => Ok(End::Halted),
+            Next::Work | Next::Ticks(_) => Err(EngineFault::Broken),
+        }
+    }
+
+    // How a run ends for which one of the engine's limits is reached.
+    fn crowded(&mut self, answers: &Answers) -> Result<End, EngineFault>
+        requires answers { answers.now.sites ≡ P.sites }
+        ensures { IfOk result (λ end. HasEnded P.listing answers.now self.new.ledger end) }
+    {
+        if is_crowded(self.ledger.journal()) {
+            Ok(End::Full)
+        } else {
+            Err(EngineFault::Broken)
+        }
+    }
+
+    // How a run ends whose journal has as many entries as the limit. Mostly the ledger knows whether it is quiet then; where only moves of marks
+    // are left, the rules are asked.
+    fn cut(
+        &mut self,
+        program: &Program,
+        graph: &Graph,
+        answers: &Answers,
+    ) -> Result<End, EngineFault>
+        requires program { program.now ≡ P.listing }
+        requires graph { graph.now ≡ P.listing }
+        requires answers { answers.now.sites ≡ P.sites }
+        ensures { IfOk result (λ end. HasEnded P.listing answers.now self.new.ledger end) }
+    {
+        if self.ledger.entries() < self.ledger.limit() {
+            return Err(EngineFault::Broken);
+        }
+        self.ledger.is_whole();
+        match self.ledger.next(graph) {
+            Next::Quiet => return Ok(End::Quiet),
+            Next::Ticks(_) => return Ok(End::Limit),
+            Next::Work => {}
+        }
+        if self.ledger.can_use_rule(graph) {
+            return Ok(End::Limit);
+        }
+        match is_quiet_at(self.alloc, program, answers, self.ledger.journal()) {
+            Some(true) => Ok(End::Quiet),
+            Some(false) => Ok(End::Limit),
+            None => Ok(End::Memory),
+        }
+    }
+
+    /// No token can move: an answer that is due, else a tick. It stops where nothing can come next.
+    pub(crate) fn rest(&mut self, graph: &Graph) -> Result<(), Stop>
+        requires graph { graph.now ≡ P.listing }
+    {
+        match self.ledger.due_beyond(0) {
+            Some(number) => self.answer_due(number),
+            None => self.pass_time(graph),
+        }
+    }
+
+    // A tick to the time at which the next call is due.
+    fn pass_time(&mut self, graph: &Graph) -> Result<(), Stop>
+        requires graph { graph.now ≡ P.listing }
+    {
+        self.ledger.is_whole();
+        match self.ledger.next(graph) {
+            Next::Ticks(time) => self.ledger.tick(time).map_err(Stop::Refused),
+            Next::Quiet => Err(Stop::Rests),
+            Next::Work if self.ledger.has_halted() => Err(Stop::Rests),
+            Next::Work => Err(Stop::Broken),
+        }
+    }
+
+    fn answer_due(&mut self, number: u64) -> Result<(), Stop> {
+        let Some(call) = self.ledger.pending(number) else {
+            return Err(Stop::Broken);
+        };
+        let Found::After(answer, _) = call.found else {
+            return Err(Stop::Broken);
+        };
+        if let Some(slot) = self.answer(call, answer)? {
+            self.join_held(slot)?;
+        }
+        Ok(())
+    }
+}
