@@ -33,7 +33,7 @@ begun-lawful l sites limit small =
       place = begin (source l);
       leads = refl;
       spells = record { rows = λ w. refl; sides = λ w. refl; mark = refl; cells = refl; now = refl; made = refl; none_due = refl };
-      sound = record { tokens = refl; calls = refl; groups = refl; steps = refl; outwards = λ k p h. cc h; scopes = λ k p h. cc h; own = no_own; cells = refl; apart = λ m h. refl };
+      sound = record { tokens = refl; calls = refl; groups = refl; steps = refl; outwards = λ k p h. cc h; scopes = λ k p h. cc h; own = no_own; cells = refl; apart = λ m h. refl; once = λ m. omega arith };
       entries = refl;
       within = omega arith;
       small = small;

@@ -87,6 +87,7 @@ module _ (l : Listing) (sites : List Site) (s : Records) (L : Lawful l sites s) 
           own = rw T.cells L.sound.own;
           cells = rw T.cells (omega (arith, T.groups (only (λ h. is_settled s.cells h.side) (λ h. 1)), L.sound.cells));
           apart = λ m h. rw T.steps (L.sound.apart m (omega (arith, h, ap (weight (has_serial m)) T.tokens)));
+          once = rw T.steps L.sound.once;
         };
         entries = T.entries ∙ L.entries ∙ sym (ap (weight counts) T.journal);
         within = omega (arith, T.entries, T.limit, L.within);

@@ -291,7 +291,7 @@ module _ (l : Listing) (sites : List Site) (s : Records) (L : Lawful l sites s) 
 
   -- where nothing is inside, the side alone goes
   pub drops-empty : IsEmpty l sites s L c → (u : Bound) (s' : Records) → s'.limit ≡ s.limit → s'.entries ≡ s.entries + 1 → s'.next_mark ≡ s.next_mark → s'.now ≡ s.now → s'.made ≡ s.made
-      → s'.tokens ≡ s.tokens → s'.calls ≡ s.calls → ((w : Group → ℕ) → weight w s'.groups ≡ weight (but (λ (g : Group). side_inside c s.steps g.outer g.side) w) s.groups) → s'.scopes ≡ s.scopes → s'.steps ≡ s.steps → s'.cells ≡ slice_set s.cells c u
+      → s'.tokens ≡ s.tokens → s'.calls ≡ s.calls → ((w : Group → ℕ) → weight w s'.groups ≡ weight (but (group_goes (code l) c s) w) s.groups) → s'.scopes ≡ s.scopes → s'.steps ≡ s.steps → s'.cells ≡ slice_set s.cells c u
       → Drops (code l) c u s s'
   drops-empty E u s' limit entries mark now made tokens calls groups scopes steps cells =
       record {
@@ -302,7 +302,7 @@ module _ (l : Listing) (sites : List Site) (s : Records) (L : Lawful l sites s) 
         made = made;
         tokens = λ w. ap (weight w) tokens ∙ none-alike (token_goes (code l) c s) w (but (token_goes (code l) c s) w) s.tokens E.tokens (λ t h. sym (ap (λ b. cond b 0 (w t)) h));
         calls = λ w. ap (weight w) calls ∙ none-alike (call_goes (code l) c s) w (but (call_goes (code l) c s) w) s.calls E.calls (λ k h. sym (ap (λ b. cond b 0 (w k)) h));
-        groups = λ w. groups w ∙ none-alike (group_out (length s.scopes) (length s.steps)) (but (λ (g : Group). side_inside c s.steps g.outer g.side) w) (but (group_goes (code l) c s) w) s.groups L.sound.groups (λ g h. ap (λ b. cond b 0 (w g)) (group_at g h));
+        groups = groups;
         scopes = scopes;
         steps = steps;
         cells = cells;

@@ -145,4 +145,5 @@ module _ (l : Listing) (s s' : Records) (S : Sound s) (c : ℕ) (u : Bound) (D :
         own = rw D.cells (own_filled s.cells S.own c u unbound plain);
         cells = D.groups (only (λ h. is_settled s'.cells h.side) (λ h. 1)) ∙ none-alike (λ h. is_settled s.cells h.side) (but (group_goes cd c s) (only (λ h. is_settled s'.cells h.side) (λ h. 1))) (λ h. 0) s.groups S.cells settled_so ∙ weight-none (λ h. 0) s.groups (λ h. refl);
         apart = λ m h. rw D.steps (S.apart m (omega (arith, h, dropped-less (has_serial m) (token_goes cd c s) s.tokens s'.tokens D.tokens)));
+        once = rw D.steps S.once;
       }

@@ -1,5 +1,5 @@
 -- A group without members: nothing is inside its side.
-use Rattle.std.proofs.Common.{◌≡◌, ◌≤◌, ◌<◌, ℕ, zero, suc, ◌+◌, List, [], ◌∷◌, refl, sym, ap, ◌∙◌, arith, inl, inr, ◌⊎◌, ⊎_elim, Bool, true, false, cond, eq-eqb, not, Some}
+use Rattle.std.proofs.Common.{◌≡◌, ◌≤◌, ◌<◌, ℕ, zero, suc, ◌+◌, List, [], ◌∷◌, refl, sym, ap, ◌∙◌, arith, inl, inr, ◌⊎◌, ⊎_elim, Bool, true, false, cond, nat_eq, eq-eqb, not, Some}
 use Rattle.std.proofs.lemmas.Bool.{eqb-true}
 use Rattle.std.proofs.Math.Decide.{ℕ_discrete}
 use Rattle.std.specs.Prelude.{◌||◌}
@@ -8,10 +8,10 @@ use Rattle.orc_rules.specs.Nodes.{Listing, code}
 use Rattle.orc_rules.specs.Sites.{Site}
 use Rattle.orc_rules.specs.Timed.{IsIn}
 use Rattle.orc_rules.specs.Numbered.{Name, mark, cell, once}
-use Rattle.orc_ledger.specs.Same.{weight, only, None}
+use Rattle.orc_ledger.specs.Same.{weight, only, but, None}
 use Rattle.orc_ledger.specs.Spelling.{Path, whole, inside}
 use Rattle.orc_ledger.specs.Records.{Records, Sound, Lawful, its_env, raw_path, its_path, has_left, is_number, group_side, side_at, is_over}
-use Rattle.orc_ledger.specs.Calls.{within}
+use Rattle.orc_ledger.specs.Calls.{within, is_inside, group_goes}
 use Rattle.orc_ledger.specs.Homes.{aids, Nest}
 use Rattle.orc_ledger.specs.Next.{Numbers, AreGrouped, members, is_this, IsSide}
 use Rattle.orc_ledger.specs.declared.records.Token.{Token}
@@ -22,7 +22,7 @@ use Rattle.orc_ledger.specs.declared.records.Step.{Step}
 use Rattle.orc_ledger.specs.declared.records.Side.{Side}
 use Rattle.orc_ledger.specs.declared.records.Side.TheVariants.{Right, Left}
 use Rattle.orc_ledger.specs.declared.records.Group.{Group}
-use Rattle.orc_ledger.proofs.Weight.{weight-in}
+use Rattle.orc_ledger.proofs.Weight.{weight-in, weight-least, none-alike}
 use Rattle.orc_ledger.proofs.Growth.{path-none}
 use Rattle.orc_ledger.proofs.Homes.{home-least}
 use Rattle.orc_ledger.proofs.Lists.{sides-weigh}
@@ -43,6 +43,19 @@ two-in w f (z ∷ xs) x y (inl e) (inl g) off = absurd (off (ap f e ∙ sym (ap 
 two-in w f (z ∷ xs) x y (inl e) (inr j) off = omega (arith, ap w e, weight-in w xs y j)
 two-in w f (z ∷ xs) x y (inr i) (inl g) off = omega (arith, ap w g, weight-in w xs x i)
 two-in w f (z ∷ xs) x y (inr i) (inr j) off = omega (arith, two-in w f xs x y i j off)
+
+-- where one goes and no more than one, the others weigh what all do without it
+one-goes : {X : Type 0} (goes : X → Bool) (w : X → ℕ) (xs : List X) (x : X) → IsIn x xs → goes x ≡ true → weight (only goes (λ y. 1)) xs ≤ 1 → weight (but goes w) xs + w x ≡ weight w xs
+one-goes goes w [] x i mine few = elim i [ ]
+one-goes goes w (z ∷ xs) x (inl e) mine few =
+    let first : goes z ≡ true = ap goes (sym e) ∙ mine in
+    let none : None goes xs = omega (arith, few, ap {B = ℕ} (λ b. cond b 1 0) first) in
+    omega (arith, ap {B = ℕ} (λ b. cond b 0 (w z)) first, ap w e, none-alike goes (but goes w) w xs none (λ y h. ap (λ b. cond b 0 (w y)) h))
+one-goes goes w (z ∷ xs) x (inr i) mine few = go (goes z) few (one-goes goes w xs x i mine (omega (arith, few)))
+  where
+    go : (b : Bool) → cond b 1 0 + weight (only goes (λ y. 1)) xs ≤ 1 → weight (but goes w) xs + w x ≡ weight w xs → cond b 0 (w z) + weight (but goes w) xs + w x ≡ w z + weight w xs
+    go true h ih = absurd (omega (arith, h, weight-in (only goes (λ y. 1)) xs x i, ap {B = ℕ} (λ b. cond b 1 0) mine))
+    go false h ih = omega (arith, ih)
 
 or_cases : (a b : Bool) → (a || b) ≡ true → (a ≡ true) ⊎ (b ≡ true)
 or_cases true b h = inl refl
@@ -168,6 +181,41 @@ module _ (l : Listing) (sites : List Site) (s : Records) (L : Lawful l sites s) 
 
         unique : (h : Group) (p : Step) → IsIn h s.groups → IsSide p.entered h.side → aids c p.entered ≡ true → n.number h ≡ n.number g
         unique h p j fit yes_ = by_side h p.entered h.side j refl fit yes_
+
+    -- so of all groups its own alone goes
+    pub right-alone : (c : ℕ) → g.side ≡ Right c → (w : Group → ℕ) → weight (but (group_goes (code l) c s) w) s.groups + w g ≡ weight w s.groups
+    right-alone c side w = one-goes (group_goes (code l) c s) w s.groups g i mine (omega (arith, none-alike within_goes (only (group_goes (code l) c s) (λ h. 1)) of_cell s.groups (right-empty c side).groups (λ h out. by_side h.outer h.side out), weight-least of_cell open_cell s.groups (λ h. open_least h.outer h.side), sides-weigh l sites s L (is_side (cell c)), side_once l sites s L (cell c)))
+      where
+        within_goes : Group → Bool
+        within_goes h = inside c (raw_path (code l) s h.outer)
+
+        of_side : Side → ℕ
+        of_side (Right d) = once (cell c) (cell d)
+        of_side (Left m f scope) = 0
+
+        of_cell : Group → ℕ
+        of_cell h = of_side h.side
+
+        open_cell : Group → ℕ
+        open_cell = only (λ (h : Group). not (is_over (code l) s h.side)) (λ h. is_side (cell c) (group_side (code l) s h))
+
+        mine : group_goes (code l) c s g ≡ true
+        mine = ap (is_inside c (raw_path (code l) s g.outer)) side ∙ ap (λ b. cond b true (inside c (raw_path (code l) s g.outer))) (eq-eqb c c refl)
+
+        by_cell : (d : ℕ) (b : Bool) → b ≡ false → cond {A = ℕ} (cond (nat_eq c d) true b) 1 0 ≡ once (cell c) (cell d)
+        by_cell d b out = go (nat_eq c d) b out
+          where
+            go : (q b : Bool) → b ≡ false → cond {A = ℕ} (cond q true b) 1 0 ≡ cond q 1 0
+            go true b out = refl
+            go false b out = ap (λ z. cond {A = ℕ} z 1 0) out
+
+        by_side : (j : ℕ) (k : Side) → inside c (raw_path (code l) s j) ≡ false → cond {A = ℕ} (is_inside c (raw_path (code l) s j) k) 1 0 ≡ of_side k
+        by_side j (Right d) out = by_cell d (inside c (raw_path (code l) s j)) out
+        by_side j (Left m f scope) out = ap (λ z. cond {A = ℕ} z 1 0) out
+
+        open_least : (j : ℕ) (k : Side) → of_side k ≤ cond (not (is_over (code l) s k)) (is_side (cell c) (side_at (code l) s (its_path (code l) s j) k)) 0
+        open_least j (Right d) = omega arith
+        open_least j (Left m f scope) = omega arith
 
     pub left-empty : (m f scope : ℕ) → g.side ≡ Left m f scope → has_left s.steps m ≡ false → IsEmptied l sites s L m
     left-empty m f scope side live =

@@ -9,6 +9,7 @@ use Rattle.orc_names.specs.Scopes.{Env, close, without}
 use Rattle.orc_ledger.specs.Same.{weight, only, None}
 use Rattle.orc_ledger.specs.Spelling.{Path, whole, feeding, seen}
 use Rattle.orc_ledger.specs.Records.{standing, inwards, paths_from, path, is_number, has_left, is_out, entered_out, step_out, tries}
+use Rattle.orc_ledger.specs.Inside.{step_at}
 use Rattle.orc_ledger.specs.declared.records.Standing.{Standing}
 use Rattle.orc_ledger.specs.declared.records.Standing.TheVariants.{At, On}
 use Rattle.orc_ledger.specs.declared.records.Entered.{Entered}
@@ -36,6 +37,33 @@ none-left n (s ∷ ss) h = go s.published (is_number n s.entered) h (none-left n
     go p true h ih = absurd (omega (arith, h))
     go true false h ih = ih (omega (arith, h))
     go false false h ih = ih (omega (arith, h))
+
+-- the one step that enters an otherwise tells whether a publication has left it
+told_by : (n : ℕ) (ss : List Step) (k : ℕ) (p : Step) → slice_get ss k ≡ Some p → is_number n p.entered ≡ true → weight (tries n) ss ≤ 1 → has_left ss n ≡ p.published
+told_by n [] k p got is once = cc got
+told_by n (s ∷ ss) zero p got is once =
+    let same : s ≡ p = cc got in
+    go s.published (is_number n s.entered) (ap (λ (z : Step). is_number n z.entered) same ∙ is) once ∙ ap (λ (z : Step). z.published) same
+  where
+    go : (b q : Bool) → q ≡ true → cond q 1 0 + weight (tries n) ss ≤ 1 → ((b && q) || has_left ss n) ≡ b
+    go true true e h = refl
+    go false true e h = none-left n ss (omega (arith, h))
+    go b false e h = cc e
+told_by n (s ∷ ss) (suc k) p got is once = go s.published (is_number n s.entered) once (told_by n ss k p got is (omega (arith, once)))
+  where
+    some : (xs : List Step) (j : ℕ) → slice_get xs j ≡ Some p → 1 ≤ weight (tries n) xs
+    some [] j h = cc h
+    some (x ∷ xs) zero h = let same : x ≡ p = cc h in omega (arith, ap {B = ℕ} (λ b. cond b 1 0) (ap (λ (z : Step). is_number n z.entered) same ∙ is))
+    some (x ∷ xs) (suc j) h = omega (arith, some xs j h)
+
+    go : (b q : Bool) → cond q 1 0 + weight (tries n) ss ≤ 1 → has_left ss n ≡ p.published → ((b && q) || has_left ss n) ≡ p.published
+    go b true h ih = absurd (omega (arith, h, some ss k got))
+    go true false h ih = ih
+    go false false h ih = ih
+
+pub left-told : (n : ℕ) (ss : List Step) (i : ℕ) (p : Step) → step_at ss i ≡ Some p → is_number n p.entered ≡ true → weight (tries n) ss ≤ 1 → has_left ss n ≡ p.published
+left-told n ss zero p got is once = cc got
+left-told n ss (suc k) p got is once = told_by n ss k p got is once
 
 module _ (code : ℕ → Term) (env env' : ℕ → Env) (n : ℕ) (same : (i : ℕ) → i ≤ n → env' i ≡ env i) where
   pub standing-same : (st : Standing) → is_out n st ≡ false → standing code env' st ≡ standing code env st

@@ -35,7 +35,7 @@ module _ (l : Listing) (sites : List Site) (s : Records) (L : Lawful l sites s) 
         place = q;
         leads = journal_more x (begin (source l)) L.place q s.journal (entry.Tick t ∷ []) L.leads (q, (inr L.spells.none_due, (tick, refl)), refl);
         spells = record { rows = L.spells.rows; sides = L.spells.sides; mark = L.spells.mark; cells = L.spells.cells; now = refl; made = L.spells.made; none_due = L.spells.none_due };
-        sound = record { tokens = L.sound.tokens; calls = L.sound.calls; groups = L.sound.groups; steps = L.sound.steps; outwards = L.sound.outwards; scopes = L.sound.scopes; own = L.sound.own; cells = L.sound.cells; apart = L.sound.apart };
+        sound = record { tokens = L.sound.tokens; calls = L.sound.calls; groups = L.sound.groups; steps = L.sound.steps; outwards = L.sound.outwards; scopes = L.sound.scopes; own = L.sound.own; cells = L.sound.cells; apart = L.sound.apart; once = L.sound.once };
         entries = omega (arith, L.entries, weight-append counts s.journal (entry.Tick t ∷ []));
         within = omega (arith, room);
         small = L.small;

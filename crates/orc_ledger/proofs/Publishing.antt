@@ -210,4 +210,5 @@ module _ (l : Listing) (sites : List Site) (s : Records) (L : Lawful l sites s) 
             ⊎_elim (λ (old : 1 ≤ weight (has_serial m) s.tokens). tries_same m ∙ L.sound.apart m old)
             (λ (new : 1 ≤ weight (has_serial m) births). tries_same m ∙ none-tries (length s.scopes) s.next_mark m s.steps (later m new) L.sound.steps)
             (either_one (weight (has_serial m) s.tokens) (weight (has_serial m) births) (omega (arith, h, T.tokens (has_serial m))));
+        once = λ m. omega (arith, tries_same m, L.sound.once m);
       }

@@ -212,6 +212,7 @@ module _ (l : Listing) (sites : List Site) (s : Records) (L : Lawful l sites s) 
               (⊎_elim (λ (old : 1 ≤ weight (has_serial m) s.tokens). L.sound.apart m old)
               (λ (mine : 1 ≤ has_serial m (copy s' g n node scope T)). none-tries (length s.scopes) s.next_mark m s.steps (later_one m s.next_mark (omega (arith, mine))) L.sound.steps)
               (either_one (weight (has_serial m) s.tokens) (has_serial m (copy s' g n node scope T)) (omega (arith, h, T.tokens (has_serial m)))));
+          once = rw T.steps L.sound.once;
         };
         entries = omega (arith, L.entries, T.entries, ap (weight counts) T.journal, weight-append counts s.journal (entry.Right n s.next_mark ∷ []));
         within = omega (arith, T.entries, T.limit, room);

@@ -118,6 +118,17 @@ module _ (l : Listing) (sites : List Site) (s : Records) (L : Lawful l sites s) 
           let le = later m (omega (arith, f)) in
           omega (arith, all, L.sound.apart m old, own m, other (nat_eq m t.serial) refl le)
 
+  once_turned : ((m : ℕ) → weight (tries m) ps ≤ has_serial m t) → (m : ℕ) → weight (tries m) s'.steps ≤ 1
+  once_turned own m = go (nat_eq m t.serial) refl (ap (weight (tries m)) T.steps ∙ weight-append (tries m) s.steps ps)
+    where
+      go : (b : Bool) → nat_eq m t.serial ≡ b → weight (tries m) s'.steps ≡ weight (tries m) s.steps + weight (tries m) ps → weight (tries m) s'.steps ≤ 1
+      go true f all =
+          let mine : has_serial m t ≡ 1 = ap (λ b. cond {A = ℕ} b 1 0) f in
+          omega (arith, all, own m, mine, L.sound.apart m (omega (arith, weight-in (has_serial m) s.tokens t i, mine)))
+      go false f all =
+          let other : has_serial m t ≡ 0 = ap (λ b. cond {A = ℕ} b 1 0) f in
+          omega (arith, all, own m, other, L.sound.once m)
+
   pub sound_turned :
       None (token_out (length s'.scopes) (length s'.steps)) births
       → None (group_out (length s'.scopes) (length s'.steps)) gs
@@ -143,4 +154,5 @@ module _ (l : Listing) (sites : List Site) (s : Records) (L : Lawful l sites s) 
         own = own;
         cells = cells;
         apart = apart_turned later numbers;
+        once = once_turned numbers;
       }

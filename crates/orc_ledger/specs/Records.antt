@@ -194,6 +194,8 @@ pub record Sound (s : Records) : Type 0 where
   pub cells : Nobody (λ g. is_settled s.cells g.side) s.groups
   -- no otherwise has a live token's serial
   pub apart : (m : ℕ) → 1 ≤ weight (has_serial m) s.tokens → weight (tries m) s.steps ≡ 0
+  -- no two steps enter one otherwise
+  pub once : (m : ℕ) → weight (tries m) s.steps ≤ 1
 
 -- what a run of the program with these sites goes by
 abbrev pub context : Listing → List Site → Context

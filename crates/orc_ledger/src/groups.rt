@@ -19,6 +19,8 @@ pub(crate) struct Groups {
     // By number: where its group is among the items, if it is open, and how many members it has.
     places: Vec<usize>,
     sizes: Vec<u32>,
+    // By number: which step entered its group's side. Nothing is promised of it: who uses it tests it.
+    hints: Vec<usize>,
     // The numbers that no group has.
     free: Vec<u32>,
 }
@@ -30,6 +32,7 @@ impl Drop for Groups {
             items: _,
             places: _,
             sizes: _,
+            hints: _,
             free: _,
         } = self;
     }
@@ -102,6 +105,7 @@ fn place_of(items: &Vec<Group>, places: &Vec<usize>, number: u32) -> Option<usiz
 fn add_number(
     places: &mut Vec<usize>,
     sizes: &mut Vec<u32>,
+    hints: &mut Vec<usize>,
     free: &mut Vec<u32>,
 ) -> Result<(), LedgerFault>
     requires some { 1 ≤ vec_len places.old }
@@ -117,6 +121,7 @@ fn add_number(
 {
     reserve(places)?;
     reserve(sizes)?;
+    reserve(hints)?;
     let number = places.len();
     // The stack has room for all numbers.
     if free.try_reserve(number).is_err() {
@@ -125,6 +130,7 @@ fn add_number(
     push_within(free, number as u32);
     push_within(places, 0);
     push_within(sizes, 0);
+    push_within(hints, 0);
     Ok(())
 }
 
@@ -170,14 +176,18 @@ impl Groups {
     {
         let mut places = Vec::new(alloc);
         let mut sizes = Vec::new(alloc);
+        let mut hints = Vec::new(alloc);
         reserve(&mut places)?;
         reserve(&mut sizes)?;
+        reserve(&mut hints)?;
         push_within(&mut places, 0);
         push_within(&mut sizes, 0);
+        push_within(&mut hints, 0);
         Ok(Groups {
             items: Vec::new(alloc),
             places,
             sizes,
+            hints,
             free: Vec::new(alloc),
         })
     }
@@ -221,13 +231,26 @@ impl Groups {
     {
         reserve(&mut self.items)?;
         if self.free.len() == 0 {
-            add_number(&mut self.places, &mut self.sizes, &mut self.free)?;
+            add_number(
+                &mut self.places,
+                &mut self.sizes,
+                &mut self.hints,
+                &mut self.free,
+            )?;
         }
         Ok(())
     }
 
-    /// Opens a group, and gives its number, which was free.
-    pub(crate) fn open(&mut self, side: Side, outer: usize) -> u32
+    /// Which step enters the side of the group with this number, as `open` was told it. Any number where no group has this one.
+    pub(crate) fn hint(&self, number: u32) -> usize {
+        match self.hints.get(number as usize) {
+            Some(step) => *step,
+            None => 0,
+        }
+    }
+
+    /// Opens a group, and gives its number, which was free. Which step enters its side is told as a hint.
+    pub(crate) fn open(&mut self, side: Side, outer: usize, hint: usize) -> u32
         requires room { 1 ≤ self.old.room }
         ensures items { self.new.items ≡ self.old.items ++ record { side = side; outer = outer; number = result } ∷ [] }
         ensures free { (1 ≤ result) × None (λ (g : Its). nat_eq result g.number) self.old.items }
@@ -236,6 +259,7 @@ impl Groups {
         let number = take_free(&mut self.free);
         let place = self.items.len();
         set_place(&mut self.places, number, place);
+        set_place(&mut self.hints, number, hint);
         push_within(
             &mut self.items,
             Group {

@@ -1,15 +1,17 @@
 //! Groups that halt: nobody is in them any more.
 
-ghost use Rattle.std.specs.Prelude.{◌≡◌, IfOk, OnErr, IfErr, MatchOption};
+ghost use Rattle.std.specs.Prelude.{◌≡◌, ◌≤◌, IfOk, OnErr, IfErr, IfSome, MatchOption};
 ghost use Rattle.orc_rules.specs.Nodes.{code};
 ghost use Rattle.orc_rules.specs.Timed.{IsIn};
-ghost use Rattle.orc_ledger.specs.Records.{group_at, is_number, has_left};
+ghost use Rattle.orc_ledger.specs.Same.{weight};
+ghost use Rattle.orc_ledger.specs.Records.{group_at, is_number, has_left, tries};
 ghost use Rattle.orc_ledger.specs.Halting.{HasHalted, IsHinderedAt};
 ghost use Rattle.orc_ledger.specs.declared.records.Group.{Group as Its};
 
 use crate::ledger::{Ledger, LedgerFault, Program};
 use crate::marks::group_at;
 use crate::records::{Call, Entered, Group, Side, Step, Token};
+use crate::sides::step_at;
 
 /// What has become of a group that halted.
 #[derive(Clone, Copy, Debug, PartialEq, Eq)]
@@ -37,6 +39,19 @@ fn is_number(entered: Entered, number: u64) -> bool
     match entered {
         Entered::Try(other) => number == other,
         _ => false,
+    }
+}
+
+// Whether a publication has left an otherwise, if this is the step that enters it.
+fn left_at(steps: &Vec<Step>, step: usize, number: u64) -> Option<bool>
+    requires { weight (tries number) steps.now.items ≤ 1 }
+    ensures { IfSome result (λ left. left ≡ has_left steps.now.items number) }
+{
+    let step = step_at(steps, step)?;
+    if is_number(step.entered, number) {
+        Some(step.published)
+    } else {
+        None
     }
 }
 
@@ -70,16 +85,19 @@ impl<P: Program> Ledger<P> {
         group_at(&self.steps, group.outer)
     }
 
-    // Whether a publication has left an otherwise.
-    fn was_left(&self, number: u64) -> bool
+    // Whether a publication has left the otherwise of a group.
+    fn was_left(&self, group: u32, number: u64) -> bool
         ensures { result ≡ has_left self.now.steps number }
     {
-        has_left(&self.steps, number)
+        // The hint is right; were it not, this would only take longer.
+        match left_at(&self.steps, self.groups.hint(group), number) {
+            Some(left) => left,
+            None => has_left(&self.steps, number),
+        }
     }
 
     /// The group with this number, which has halted, ends. A cell's right side is lost: the cell has no value. The left side of an otherwise
-    /// starts the right side, unless a publication has left it: its group goes then, and no entry says so. Whether one has left it is looked up
-    /// among all steps of the run.
+    /// starts the right side, unless a publication has left it: its group goes then, and no entry says so.
     pub fn halt(&mut self, number: u32) -> Result<Halted, HaltFault>
         ensures done { IfOk result (λ h. HasHalted (code P.listing) self.old self.new number h) }
         ensures refused { OnErr result (self.new ≡ self.old) }
@@ -99,7 +117,7 @@ impl<P: Program> Ledger<P> {
                 Err(fault) => Err(HaltFault::Refused(fault)),
             },
             Side::Left(other, node, scope) => {
-                if self.was_left(other) {
+                if self.was_left(number, other) {
                     self.close(group);
                     return Ok(Halted::Closed(parent));
                 }

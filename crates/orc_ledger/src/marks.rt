@@ -197,7 +197,7 @@ impl<P: Program> Ledger<P> {
         // Its parent loses the token and gets the group: it has as many members as before.
         let number = self
             .groups
-            .open(Side::Left(token.serial, right, scope), token.step);
+            .open(Side::Left(token.serial, right, scope), token.step, step);
         self.groups.join(number);
         push_within(
             &mut self.steps,
@@ -256,7 +256,7 @@ impl<P: Program> Ledger<P> {
         self.next_mark = mark + 2;
         let inner = self.scopes.len() + 1;
         let step = self.steps.len() + 1;
-        let number = self.groups.open(Side::Right(cell), token.step);
+        let number = self.groups.open(Side::Right(cell), token.step, step);
         self.groups.join(parent);
         self.groups.join(number);
         push_within(

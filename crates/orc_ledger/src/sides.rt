@@ -1,22 +1,22 @@
 //! Sides that end: the right side of a cell that is bound or lost, and the left side of an otherwise.
 
-ghost use Rattle.std.specs.Prelude.{◌≡◌, ◌++◌, ◌∷◌, [], ◌<◌, ℕ, true, length, map, slice_index_or, false, IfOk, OnOk, OnErr, IfErr, slice_set};
+ghost use Rattle.std.specs.Prelude.{◌≡◌, ◌+◌, ◌-◌, ◌++◌, ◌∷◌, [], ◌<◌, ℕ, true, length, map, slice_index_or, false, IfOk, OnOk, OnErr, IfErr, slice_set};
 ghost use Rattle.orc_rules.specs.Nodes.{code};
 ghost use Rattle.orc_rules.specs.Term.{param};
 ghost use Rattle.orc_rules.specs.declared.param.Param.TheVariants.{Is};
 ghost use Rattle.orc_rules.specs.declared.entry.Entry.TheVariants.{Bind, Cancel, Lost};
 ghost use Rattle.orc_rules.specs.Timed.{IsIn};
-ghost use Rattle.orc_ledger.specs.Next.{members, numbers_of};
+ghost use Rattle.orc_ledger.specs.Next.{members, numbers_of, is_this};
 ghost use Rattle.orc_ledger.specs.declared.records.Side.TheVariants.{Left, Right};
 ghost use Rattle.orc_ledger.specs.declared.records.Standing.TheVariants.{At};
 ghost use Rattle.orc_ledger.specs.Same.{weight, but};
 ghost use Rattle.orc_ledger.specs.Tokens.{live, IsHeld};
-ghost use Rattle.orc_ledger.specs.OpenGroups.{HaveLeft, tokens_in, groups_in};
+ghost use Rattle.orc_ledger.specs.OpenGroups.{HaveLeft, tokens_in, groups_in, size_of};
 ghost use Rattle.orc_ledger.specs.declared.records.Token.{Token as Its};
 ghost use Rattle.orc_ledger.specs.declared.records.Group.{Group as Open};
 ghost use Rattle.orc_ledger.specs.Spelling.{Path, aiding};
 ghost use Rattle.orc_ledger.specs.Taking.{taker};
-ghost use Rattle.orc_ledger.specs.Records.{its_env, its_path, standing, is_over, has_left};
+ghost use Rattle.orc_ledger.specs.Records.{its_env, its_path, standing, is_over, has_left, group_at};
 ghost use Rattle.orc_ledger.specs.Calls.{Drops, Closes, Resumes, AreCancelled, IsRefused};
 ghost use Rattle.orc_ledger.specs.Homes.{aids};
 ghost use Rattle.orc_ledger.specs.Inside.{step_at, held_inside, stands_inside, side_inside, numbers_inside};
@@ -32,7 +32,7 @@ use orc_rules::entry::Entry;
 use orc_rules::value::Value;
 
 // The step with this number; there is no step 0.
-fn step_at(steps: &Vec<Step>, step: usize) -> Option<Step>
+pub(crate) fn step_at(steps: &Vec<Step>, step: usize) -> Option<Step>
     ensures { result ≡ step_at steps.now.items step }
 {
     if step == 0 {
@@ -142,6 +142,17 @@ fn drop_groups(groups: &mut Groups, steps: &Vec<Step>, cell: u64)
     }
 }
 
+// A group goes, and the one round it has a member less.
+fn take_out(groups: &mut Groups, steps: &Vec<Step>, group: Group)
+    requires { IsIn group groups.old.items }
+    ensures rest { (w : Open → ℕ) → weight w groups.new.items + w group ≡ weight w groups.old.items }
+    ensures sizes { (i : ℕ) → size_of groups.new.sizes i ≡ size_of groups.old.sizes i - is_this i (group_at steps.now.items group.outer) }
+{
+    let parent = group_at(steps, group.outer);
+    groups.take(group.number);
+    groups.leave(parent);
+}
+
 // A cell becomes something.
 fn settle(cells: &mut Vec<Bound>, cell: u64, bound: Bound)
     ensures { cells.new.items ≡ slice_set cells.old.items cell bound }
@@ -213,7 +224,7 @@ impl<P: Program> Ledger<P> {
         self.within(0, 0, 0)?;
         write(&mut self.journal, &Entry::Lost(cell))?;
         self.entries += 1;
-        drop_groups(&mut self.groups, &self.steps, cell);
+        take_out(&mut self.groups, &self.steps, group);
         settle(&mut self.cells, cell, Bound::Void);
         Ok(())
     }
@@ -225,9 +236,7 @@ impl<P: Program> Ledger<P> {
         requires empty { members (numbers_of self.old) self.old group.number ≡ 0 }
         ensures { Closes self.old self.new group }
     {
-        let parent = group_at(&self.steps, group.outer);
-        self.groups.take(group.number);
-        self.groups.leave(parent);
+        take_out(&mut self.groups, &self.steps, group);
     }
     /// The left side of an otherwise has halted, and no publication has left it: nothing is left in it. A token stands on the right side. Gives
     /// its slot.

@@ -1,7 +1,6 @@
-use Rattle.std.proofs.Common.{◌≡◌, refl, sym, ap, arith, true, [], append-nil}
+use Rattle.std.proofs.Common.{◌≡◌, refl, sym, arith, true, [], append-nil}
 use Rattle.orc_rules.specs.Nodes.{code}
 use Rattle.orc_rules.specs.Timed.{IsIn}
-use Rattle.orc_ledger.specs.Same.{weight}
 use Rattle.orc_ledger.specs.Tokens.{live}
 use Rattle.orc_ledger.specs.Records.{Records, is_over}
 use Rattle.orc_ledger.specs.Calls.{Closes}
@@ -9,8 +8,6 @@ use Rattle.orc_ledger.specs.Next.{members, numbers_of}
 use Rattle.orc_ledger.proofs.Closed.{closed-lawful}
 use Rattle.orc_ledger.proofs.Keeping.{told-kept, counted-kept}
 use Rattle.orc_ledger.proofs.Grouped.{closed-grouped}
-use Rattle.orc_ledger.specs.Next.{is_this}
-use Rattle.orc_ledger.specs.OpenGroups.{size_of}
 use Rattle.orc_ledger.proofs.Sizes.{closed-members}
 use Rattle.orc_ledger.proofs.ledger.Ledger.close.Goals as goal
 
@@ -24,8 +21,8 @@ invariant_of-self g c =
     let G = c.self.invariant.grouped in
     let s : Records = record { limit = b.limit; journal = b.journal.entries; entries = b.entries; next_mark = b.next_mark; now = b.time; made = b.calls.made; tokens = live b.tokens.items; slots = b.tokens.items; calls = b.calls.items; scopes = b.scopes.items; steps = b.steps.items; groups = b.groups.items; cells = b.cells.items } in
     let i : IsIn a.group s.groups = rw (← c.self.view_is) at c.requires.there in
-    let s' : Records = record { limit = b.limit; journal = b.journal.entries; entries = b.entries; next_mark = b.next_mark; now = b.time; made = b.calls.made; tokens = live b.tokens.items; slots = b.tokens.items; calls = b.calls.items; scopes = b.scopes.items; steps = b.steps.items; groups = c.leave.new.self.items; cells = b.cells.items } in
-    let T : Closes s s' a.group = record { limit = refl; journal = refl; entries = refl; mark = refl; now = refl; made = refl; tokens = refl; calls = refl; groups = λ w. omega (arith, ap (weight w) c.leave.ensures.items, c.take.ensures.one a.group i refl w); scopes = refl; steps = refl; cells = refl } in
+    let s' : Records = record { limit = b.limit; journal = b.journal.entries; entries = b.entries; next_mark = b.next_mark; now = b.time; made = b.calls.made; tokens = live b.tokens.items; slots = b.tokens.items; calls = b.calls.items; scopes = b.scopes.items; steps = b.steps.items; groups = c.take_out.new.groups.items; cells = b.cells.items } in
+    let T : Closes s s' a.group = record { limit = refl; journal = refl; entries = refl; mark = refl; now = refl; made = refl; tokens = refl; calls = refl; groups = c.take_out.ensures.rest; scopes = refl; steps = refl; cells = refl } in
     let empty : members (numbers_of s) s a.group.number ≡ 0 = rw (← c.self.view_is) at c.requires.empty in
     let over : is_over (code l) s a.group.side ≡ true = rw (← c.self.view_is) at c.requires.over in
     let L' = closed-lawful l sites s L a.group over s' T in
@@ -34,7 +31,7 @@ invariant_of-self g c =
       grouped = closed-grouped l sites s L G a.group i empty s' T;
       told = told-kept l sites s s' L L' [] (sym (append-nil s.journal)) tt (λ w. omega arith) c.self.invariant.told;
       counted = counted-kept l sites s s' L L' [] (sym (append-nil s.journal)) tt b.counts c.self.invariant.counted;
-      sized = λ j. omega (arith, c.leave.ensures.sizes j, ap (λ z. size_of z j) c.take.ensures.sizes, closed-members s s' a.group T j, c.self.invariant.sized j, ap (is_this j) c.group_at-parent.ensures);
+      sized = λ j. omega (arith, c.take_out.ensures.sizes j, closed-members s s' a.group T j, c.self.invariant.sized j);
     }
 
 pub returns : goal.returns
@@ -47,6 +44,6 @@ returns g c =
     let G = c.self.invariant.grouped in
     let s : Records = record { limit = b.limit; journal = b.journal.entries; entries = b.entries; next_mark = b.next_mark; now = b.time; made = b.calls.made; tokens = live b.tokens.items; slots = b.tokens.items; calls = b.calls.items; scopes = b.scopes.items; steps = b.steps.items; groups = b.groups.items; cells = b.cells.items } in
     let i : IsIn a.group s.groups = rw (← c.self.view_is) at c.requires.there in
-    let s' : Records = record { limit = b.limit; journal = b.journal.entries; entries = b.entries; next_mark = b.next_mark; now = b.time; made = b.calls.made; tokens = live b.tokens.items; slots = b.tokens.items; calls = b.calls.items; scopes = b.scopes.items; steps = b.steps.items; groups = c.leave.new.self.items; cells = b.cells.items } in
-    let T : Closes s s' a.group = record { limit = refl; journal = refl; entries = refl; mark = refl; now = refl; made = refl; tokens = refl; calls = refl; groups = λ w. omega (arith, ap (weight w) c.leave.ensures.items, c.take.ensures.one a.group i refl w); scopes = refl; steps = refl; cells = refl } in
+    let s' : Records = record { limit = b.limit; journal = b.journal.entries; entries = b.entries; next_mark = b.next_mark; now = b.time; made = b.calls.made; tokens = live b.tokens.items; slots = b.tokens.items; calls = b.calls.items; scopes = b.scopes.items; steps = b.steps.items; groups = c.take_out.new.groups.items; cells = b.cells.items } in
+    let T : Closes s s' a.group = record { limit = refl; journal = refl; entries = refl; mark = refl; now = refl; made = refl; tokens = refl; calls = refl; groups = c.take_out.ensures.rest; scopes = refl; steps = refl; cells = refl } in
     rw (← c.self.view_is) T

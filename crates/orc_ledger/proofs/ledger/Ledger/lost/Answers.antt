@@ -1,14 +1,16 @@
-use Rattle.std.proofs.Common.{◌≡◌, ◌+◌, ◌<◌, [], ◌∷◌, ◌++◌, refl, ap, arith}
+use Rattle.std.proofs.Common.{◌≡◌, ◌+◌, ◌<◌, ℕ, [], ◌∷◌, ◌++◌, refl, ap, arith}
 use Rattle.orc_rules.specs.declared.entry.Entry.TheVariants.{Lost}
 use Rattle.orc_rules.specs.Nodes.{code}
 use Rattle.orc_rules.specs.Timed.{IsIn}
 use Rattle.orc_names.specs.declared.names.Bound.TheVariants.{Void}
 use Rattle.orc_ledger.specs.Tokens.{live}
-use Rattle.orc_ledger.specs.Records.{Records}
-use Rattle.orc_ledger.specs.Calls.{Drops}
-use Rattle.orc_ledger.specs.Next.{members, numbers_of}
+use Rattle.orc_ledger.specs.Same.{weight, but}
+use Rattle.orc_ledger.specs.Records.{Records, group_at}
+use Rattle.orc_ledger.specs.Calls.{Drops, group_goes}
+use Rattle.orc_ledger.specs.Next.{members, numbers_of, is_this}
+use Rattle.orc_ledger.specs.declared.records.Group.{Group}
 use Rattle.orc_ledger.proofs.Binding.{lost-lawful}
-use Rattle.orc_ledger.proofs.Emptied.{right-empty}
+use Rattle.orc_ledger.proofs.Emptied.{right-empty, right-alone}
 use Rattle.orc_ledger.proofs.Calling.{drops-told}
 use Rattle.orc_ledger.proofs.Keeping.{counted-kept}
 use Rattle.orc_ledger.proofs.Grouped.{dropped-grouped}
@@ -27,8 +29,9 @@ invariant_of-self-2 g c =
     let there : IsIn a.group s.groups = rw (← c.self.view_is) at c.requires.there in
     let empty : members (numbers_of s) s a.group.number ≡ 0 = rw (← c.self.view_is) at c.requires.empty in
     let E = right-empty l sites s L (numbers_of s) G a.group there empty a.cell c.requires.side in
-    let s' : Records = record { limit = b.limit; journal = c.write.new.journal.entries; entries = b.entries + 1; next_mark = b.next_mark; now = b.time; made = b.calls.made; tokens = live b.tokens.items; slots = b.tokens.items; calls = b.calls.items; scopes = b.scopes.items; steps = b.steps.items; groups = c.drop_groups.new.groups.items; cells = c.settle.new.cells.items } in
-    let D : Drops (code l) a.cell Void s s' = drops-empty l sites s L a.cell E Void s' refl refl refl refl refl refl refl c.drop_groups.ensures.rest refl refl c.settle.ensures in
+    let s' : Records = record { limit = b.limit; journal = c.write.new.journal.entries; entries = b.entries + 1; next_mark = b.next_mark; now = b.time; made = b.calls.made; tokens = live b.tokens.items; slots = b.tokens.items; calls = b.calls.items; scopes = b.scopes.items; steps = b.steps.items; groups = c.take_out.new.groups.items; cells = c.settle.new.cells.items } in
+    let groups : (w : Group → ℕ) → weight w s'.groups ≡ weight (but (group_goes (code l) a.cell s) w) s.groups = λ w. omega (arith, c.take_out.ensures.rest w, right-alone l sites s L (numbers_of s) G a.group there empty a.cell c.requires.side w) in
+    let D : Drops (code l) a.cell Void s s' = drops-empty l sites s L a.cell E Void s' refl refl refl refl refl refl refl groups refl refl c.settle.ensures in
     let journal : s'.journal ≡ s.journal ++ Lost a.cell ∷ [] = ap (λ j. j.entries) c.in_ok-write.ensures.added in
     let room : s.entries < s.limit = rw (← c.self.view_is) at c.in_ok-within.ensures.room in
     let L' = lost-lawful l sites s L a.cell a.group there c.requires.side E room s' D journal in
@@ -37,7 +40,7 @@ invariant_of-self-2 g c =
       grouped = dropped-grouped l sites s L G a.cell Void s' D;
       told = drops-told l sites s s' L L' c.self.invariant.told a.cell Void (Lost a.cell) [] tt D journal;
       counted = counted-kept l sites s s' L L' (Lost a.cell ∷ []) journal (tt, tt) b.counts c.self.invariant.counted;
-      sized = λ j. omega (arith, c.drop_groups.ensures.sizes j (omega (arith, c.self.invariant.sized j)), c.self.invariant.sized j);
+      sized = λ j. omega (arith, c.take_out.ensures.sizes j, c.take_out.ensures.rest (λ (h : Group). is_this j (group_at s.steps h.outer)), c.self.invariant.sized j);
     }
 
 pub returns-clause-done : goal.returns-clause-done
@@ -52,6 +55,7 @@ returns-clause-done g c =
     let there : IsIn a.group s.groups = rw (← c.self.view_is) at c.requires.there in
     let empty : members (numbers_of s) s a.group.number ≡ 0 = rw (← c.self.view_is) at c.requires.empty in
     let E = right-empty l sites s L (numbers_of s) G a.group there empty a.cell c.requires.side in
-    let s' : Records = record { limit = b.limit; journal = c.write.new.journal.entries; entries = b.entries + 1; next_mark = b.next_mark; now = b.time; made = b.calls.made; tokens = live b.tokens.items; slots = b.tokens.items; calls = b.calls.items; scopes = b.scopes.items; steps = b.steps.items; groups = c.drop_groups.new.groups.items; cells = c.settle.new.cells.items } in
-    let D : Drops (code l) a.cell Void s s' = drops-empty l sites s L a.cell E Void s' refl refl refl refl refl refl refl c.drop_groups.ensures.rest refl refl c.settle.ensures in
+    let s' : Records = record { limit = b.limit; journal = c.write.new.journal.entries; entries = b.entries + 1; next_mark = b.next_mark; now = b.time; made = b.calls.made; tokens = live b.tokens.items; slots = b.tokens.items; calls = b.calls.items; scopes = b.scopes.items; steps = b.steps.items; groups = c.take_out.new.groups.items; cells = c.settle.new.cells.items } in
+    let groups : (w : Group → ℕ) → weight w s'.groups ≡ weight (but (group_goes (code l) a.cell s) w) s.groups = λ w. omega (arith, c.take_out.ensures.rest w, right-alone l sites s L (numbers_of s) G a.group there empty a.cell c.requires.side w) in
+    let D : Drops (code l) a.cell Void s s' = drops-empty l sites s L a.cell E Void s' refl refl refl refl refl refl refl groups refl refl c.settle.ensures in
     rw (← c.self.view_is) D
