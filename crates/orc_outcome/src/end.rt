@@ -12,7 +12,7 @@ pub enum End {
     Quiet,
     /// The journal has as many entries as the limit allows, and the run is not quiet.
     Limit,
-    /// As many tokens and calls, open groups or frames as there may be: one more was to come. The plain engine has no such limits.
+    /// As many tokens and calls, open groups or frames as there may be: one more was to come.
     Full,
     /// Memory was refused.
     Memory,

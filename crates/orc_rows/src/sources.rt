@@ -77,9 +77,14 @@ fn runs_the_deepest_sources(rt: HostRuntime) -> Result<(), Fail> {
     assert!(rt; run_row(alloc, &runs(&rights, 0, &["1\n"]))?.1);
     let lefts = nested(alloc, b"", b"1", b"<x<2", 4000)?;
     assert!(rt; run_row(alloc, &runs(&lefts, 0, &["1\n"]))?.1);
-    let mut others = nested(alloc, b"", b"stop", b";stop", 3999)?;
+    // As many sides are open at once as there may be beside the program itself; with one more the run is full.
+    let mut others = nested(alloc, b"", b"stop", b";stop", 1022)?;
     others.extend_from_slice(b";5")?;
     assert!(rt; run_row(alloc, &runs(&others, 0, &["5\n"]))?.1);
+    others.extend_from_slice(b";6")?;
+    assert!(rt; run_row(alloc, &runs(&others, 4, &[""]))?.1);
+    let deepest = nested(alloc, b"", b"stop", b";stop", 4000)?;
+    assert!(rt; run_row(alloc, &runs(&deepest, 4, &[""]))?.1);
     Ok(())
 }
 

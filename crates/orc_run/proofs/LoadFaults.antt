@@ -22,8 +22,7 @@ of_run source script (fault.Scope f) h = h
 of_run source script (fault.Script f) h = h
 of_run source script (fault.Journal f) h = h
 of_run source script (fault.Check f) h = h
-of_run source script fault.Memory h = absurd h
-of_run source script fault.Broken h = absurd h
+of_run source script (fault.Engine f) h = absurd h
 of_run source script (fault.Write w) h = tt
 
 pub of_other : (source script : List ℕ) (f : RunFault) → Loads source script → IsOther f → IsFaultOf source script f
@@ -32,8 +31,7 @@ of_other source script (fault.Scope f) loads h = absurd h
 of_other source script (fault.Script f) loads h = absurd h
 of_other source script (fault.Journal f) loads h = absurd h
 of_other source script (fault.Check f) loads h = absurd h
-of_other source script fault.Memory loads h = loads
-of_other source script fault.Broken loads h = loads
+of_other source script (fault.Engine f) loads h = loads
 of_other source script (fault.Write w) loads h = absurd h
 
 pub run_left : (source script : List ℕ) (options : Options) (old new : Option (List ℕ)) (f : RunFault) → IsLoadFault source script f → Keeps old new → LeavesAtFault source script options old new f
@@ -42,8 +40,7 @@ run_left source script options old new (fault.Scope f) h keeps = keeps
 run_left source script options old new (fault.Script f) h keeps = keeps
 run_left source script options old new (fault.Journal f) h keeps = keeps
 run_left source script options old new (fault.Check f) h keeps = keeps
-run_left source script options old new fault.Memory h keeps = keeps
-run_left source script options old new fault.Broken h keeps = keeps
+run_left source script options old new (fault.Engine f) h keeps = keeps
 run_left source script options old new (fault.Write w) h keeps = absurd h
 
 pub of_check : (source script journal : List ℕ) (f : RunFault) → IsLoadFault source script f → IsRefusal source script journal f
@@ -52,8 +49,7 @@ of_check source script journal (fault.Scope f) h = h
 of_check source script journal (fault.Script f) h = h
 of_check source script journal (fault.Journal f) h = absurd h
 of_check source script journal (fault.Check f) h = absurd h
-of_check source script journal fault.Memory h = h
-of_check source script journal fault.Broken h = h
+of_check source script journal (fault.Engine f) h = h
 of_check source script journal (fault.Write w) h = h
 
 pub refused : (source script journal : List ℕ) (f : RunFault) → IsRefusal source script journal f → IsCheckFault source script journal f
@@ -62,8 +58,7 @@ refused source script journal (fault.Scope f) h = h
 refused source script journal (fault.Script f) h = h
 refused source script journal (fault.Journal f) h = h
 refused source script journal (fault.Check f) h = h
-refused source script journal fault.Memory h = h
-refused source script journal fault.Broken h = h
+refused source script journal (fault.Engine f) h = h
 refused source script journal (fault.Write w) h = tt
 
 pub check_left : (source script journal : List ℕ) (old new : Option (List ℕ)) (f : RunFault) → IsRefusal source script journal f → Keeps old new → LeavesUnjudged source script journal old new f
@@ -72,8 +67,7 @@ check_left source script journal old new (fault.Scope f) h keeps = keeps
 check_left source script journal old new (fault.Script f) h keeps = keeps
 check_left source script journal old new (fault.Journal f) h keeps = keeps
 check_left source script journal old new (fault.Check f) h keeps = keeps
-check_left source script journal old new fault.Memory h keeps = keeps
-check_left source script journal old new fault.Broken h keeps = keeps
+check_left source script journal old new (fault.Engine f) h keeps = keeps
 check_left source script journal old new (fault.Write w) h keeps = absurd h
 
 pub draw_left : (source script journal : List ℕ) (old new : Option (List ℕ)) (f : RunFault) → IsRefusal source script journal f → Keeps old new → LeavesUndrawn source script journal old new (undrawn.Fault f)
@@ -82,8 +76,7 @@ draw_left source script journal old new (fault.Scope f) h keeps = keeps
 draw_left source script journal old new (fault.Script f) h keeps = keeps
 draw_left source script journal old new (fault.Journal f) h keeps = keeps
 draw_left source script journal old new (fault.Check f) h keeps = keeps
-draw_left source script journal old new fault.Memory h keeps = keeps
-draw_left source script journal old new fault.Broken h keeps = keeps
+draw_left source script journal old new (fault.Engine f) h keeps = keeps
 draw_left source script journal old new (fault.Write w) h keeps = absurd h
 
 -- a journal that the check accepts and that isn't drawn leaves the output as it was
@@ -95,8 +88,7 @@ undrawable_left source script journal out j state is (undrawn.Fault (fault.Scope
 undrawable_left source script journal out j state is (undrawn.Fault (fault.Script f)) h = absurd h
 undrawable_left source script journal out j state is (undrawn.Fault (fault.Journal f)) h = absurd h
 undrawable_left source script journal out j state is (undrawn.Fault (fault.Check f)) h = absurd h
-undrawable_left source script journal out j state is (undrawn.Fault fault.Memory) h = absurd h
-undrawable_left source script journal out j state is (undrawn.Fault fault.Broken) h = absurd h
+undrawable_left source script journal out j state is (undrawn.Fault (fault.Engine f)) h = absurd h
 
 pub beyond : (source script journal : List ℕ) (s : Summary) (f : RunFault) → IsOfRun source script journal s → IsLoadFault source script f → IsBeyond f
 beyond source script journal s (fault.Syntax f) of h =
@@ -110,6 +102,5 @@ beyond source script journal s (fault.Script f) of h =
     script_beyond script t f said h.1
 beyond source script journal s (fault.Journal f) of h = absurd h
 beyond source script journal s (fault.Check f) of h = absurd h
-beyond source script journal s fault.Memory of h = h
-beyond source script journal s fault.Broken of h = h
+beyond source script journal s (fault.Engine f) of h = h
 beyond source script journal s (fault.Write w) of h = absurd h

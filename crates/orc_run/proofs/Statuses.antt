@@ -17,7 +17,9 @@ use Rattle.orc_outcome.specs.declared.end.End.{End}
 use Rattle.orc_outcome.specs.declared.end.End.TheVariants as ends
 use Rattle.orc_outcome.specs.declared.end.Summary.{Summary}
 use Rattle.orc_run.specs.Commands.{failure_status, HasEnded, IsDone, IsUnread, LeavesUndone, WasCut}
-use Rattle.orc_run.specs.Faults.{journal_status, reason_status, scope_status, script_status, syntax_status}
+use Rattle.orc_engine.specs.declared.fault.EngineFault.{EngineFault}
+use Rattle.orc_engine.specs.declared.fault.EngineFault.TheVariants as engine
+use Rattle.orc_run.specs.Faults.{engine_status, journal_status, reason_status, scope_status, script_status, syntax_status}
 use Rattle.orc_run.specs.Running.{LeavesAtFault, Runs}
 use Rattle.orc_run.specs.Status.{read_status_of}
 use Rattle.orc_run.specs.Checked.{LeavesUnjudged}
@@ -51,8 +53,7 @@ unrun source script o old new (fault.Scope f) k = k
 unrun source script o old new (fault.Script f) k = k
 unrun source script o old new (fault.Journal f) k = k
 unrun source script o old new (fault.Check f) k = k
-unrun source script o old new fault.Memory k = k
-unrun source script o old new fault.Broken k = k
+unrun source script o old new (fault.Engine f) k = k
 unrun source script o old new (fault.Write w) k = tt
 
 pub unjudged : (source script journal : List ℕ) (old new : Option (List ℕ)) (f : RunFault) → LeavesUnjudged source script journal old new f → LeavesUndone (failure.Fault f) old new
@@ -61,8 +62,7 @@ unjudged source script journal old new (fault.Scope f) k = k
 unjudged source script journal old new (fault.Script f) k = k
 unjudged source script journal old new (fault.Journal f) k = k
 unjudged source script journal old new (fault.Check f) k = k
-unjudged source script journal old new fault.Memory k = k
-unjudged source script journal old new fault.Broken k = k
+unjudged source script journal old new (fault.Engine f) k = k
 unjudged source script journal old new (fault.Write w) k = tt
 
 pub unprinted : (source : List ℕ) (old new : Option (List ℕ)) (f : RunFault) → LeavesUnprinted source old new f → LeavesUndone (failure.Fault f) old new
@@ -71,8 +71,7 @@ unprinted source old new (fault.Scope f) k = k
 unprinted source old new (fault.Script f) k = k
 unprinted source old new (fault.Journal f) k = k
 unprinted source old new (fault.Check f) k = k
-unprinted source old new fault.Memory k = k
-unprinted source old new fault.Broken k = k
+unprinted source old new (fault.Engine f) k = k
 unprinted source old new (fault.Write w) k = tt
 
 pub undrawn_fault : (source script journal : List ℕ) (old new : Option (List ℕ)) (f : RunFault) → LeavesUndrawn source script journal old new (undrawn.Fault f) → LeavesUndone (failure.Fault f) old new
@@ -81,8 +80,7 @@ undrawn_fault source script journal old new (fault.Scope f) k = k
 undrawn_fault source script journal old new (fault.Script f) k = k
 undrawn_fault source script journal old new (fault.Journal f) k = k
 undrawn_fault source script journal old new (fault.Check f) k = k
-undrawn_fault source script journal old new fault.Memory k = k
-undrawn_fault source script journal old new fault.Broken k = k
+undrawn_fault source script journal old new (fault.Engine f) k = k
 undrawn_fault source script journal old new (fault.Write w) k = tt
 
 pub undrawn_rows : (source script journal : List ℕ) (old new : Option (List ℕ)) → LeavesUndrawn source script journal old new undrawn.Rows → LeavesUndone failure.Rows old new
@@ -96,8 +94,7 @@ kept (failure.Fault (fault.Scope f)) old new status e d k = k
 kept (failure.Fault (fault.Script f)) old new status e d k = k
 kept (failure.Fault (fault.Journal f)) old new status e d k = k
 kept (failure.Fault (fault.Check f)) old new status e d k = k
-kept (failure.Fault fault.Memory) old new status e d k = k
-kept (failure.Fault fault.Broken) old new status e d k = k
+kept (failure.Fault (fault.Engine f)) old new status e d k = k
 kept (failure.Fault (fault.Write w)) old new status e d k = absurd (d (sym e))
 kept failure.Rows old new status e d k = k
 
@@ -194,6 +191,11 @@ module _ (n : ℕ) (not_one : n ≢ 1) (not_five : n ≢ 5) (not_six : n ≢ 6) 
   not_reason reason.Deep h = not_one (sym h)
   not_reason reason.Memory h = not_five (sym h)
 
+  not_engine : (f : EngineFault) → engine_status f ≢ n
+  not_engine engine.Range h = not_seven (sym h)
+  not_engine engine.Memory h = not_five (sym h)
+  not_engine engine.Broken h = not_seven (sym h)
+
   not_read : (f : ReadFault) → read_status_of f ≢ n
   not_read read.Memory h = not_five (sym h)
   not_read read.Failed h = not_six (sym h)
@@ -205,8 +207,7 @@ module _ (n : ℕ) (not_one : n ≢ 1) (not_five : n ≢ 5) (not_six : n ≢ 6) 
   not_failed (failure.Fault (fault.Script f)) h = not_script f h
   not_failed (failure.Fault (fault.Journal f)) h = not_journal f h
   not_failed (failure.Fault (fault.Check f)) h = not_reason f.why h
-  not_failed (failure.Fault fault.Memory) h = not_five (sym h)
-  not_failed (failure.Fault fault.Broken) h = not_seven (sym h)
+  not_failed (failure.Fault (fault.Engine f)) h = not_engine f h
   not_failed (failure.Fault (fault.Write w)) h = not_six (sym h)
   not_failed failure.Rows h = not_one (sym h)
 

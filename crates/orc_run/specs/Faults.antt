@@ -15,6 +15,8 @@ use Rattle.orc_rules.specs.declared.entry.State.{State}
 use Rattle.orc_rules.specs.declared.entry.State.TheVariants as state
 use Rattle.orc_journal.specs.declared.text.JournalFault.{JournalFault}
 use Rattle.orc_journal.specs.declared.text.JournalFault.TheVariants as journal
+use Rattle.orc_engine.specs.declared.fault.EngineFault.{EngineFault}
+use Rattle.orc_engine.specs.declared.fault.EngineFault.TheVariants as engine
 use Rattle.orc_run.specs.declared.faults.RunFault.{RunFault}
 use Rattle.orc_run.specs.declared.faults.RunFault.TheVariants as fault
 
@@ -83,6 +85,11 @@ reason_word reason.Halted = codes "Halted"
 reason_word reason.Deep = codes "Deep"
 reason_word reason.Memory = codes "Memory"
 
+abbrev pub engine_line : EngineFault → List ℕ
+engine_line engine.Range = codes "E1"
+engine_line engine.Memory = codes "E2"
+engine_line engine.Broken = codes "E4"
+
 abbrev pub state_word : State → List ℕ
 state_word state.Halted = codes "Halted"
 state_word state.Quiet = codes "Quiet"
@@ -95,8 +102,7 @@ line (fault.Scope f) = codes "orc: " ++ scope_line f
 line (fault.Script f) = codes "orc: " ++ script_line f
 line (fault.Journal f) = codes "orc: " ++ journal_line f
 line (fault.Check f) = codes "orc: K at entry " ++ (decimal f.at ++ (codes ": " ++ reason_word f.why))
-line fault.Memory = codes "orc: E2"
-line fault.Broken = codes "orc: E4"
+line (fault.Engine f) = codes "orc: " ++ engine_line f
 line (fault.Write w) = codes "orc: write"
 
 -- 5 where memory was refused, else 1 for what is wrong with the program or the journal, 6 for the output, 7 for the engine
@@ -120,12 +126,15 @@ abbrev pub reason_status : RuleFault → ℕ
 reason_status reason.Memory = 5
 reason_status r = 1
 
+abbrev pub engine_status : EngineFault → ℕ
+engine_status engine.Memory = 5
+engine_status f = 7
+
 abbrev pub status : RunFault → ℕ
 status (fault.Syntax f) = syntax_status f
 status (fault.Scope f) = scope_status f.kind
 status (fault.Script f) = script_status f
 status (fault.Journal f) = journal_status f
 status (fault.Check f) = reason_status f.why
-status fault.Memory = 5
-status fault.Broken = 7
+status (fault.Engine f) = engine_status f
 status (fault.Write w) = 6

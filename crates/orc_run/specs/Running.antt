@@ -71,8 +71,7 @@ Loads source script = (l : Listing) × (t : Table) × Says script t × IsProgram
 abbrev pub IsFaultOf : List ℕ → List ℕ → RunFault → Type 0
 IsFaultOf source script (fault.Journal f) = ⊥
 IsFaultOf source script (fault.Check f) = ⊥
-IsFaultOf source script fault.Memory = Loads source script
-IsFaultOf source script fault.Broken = Loads source script
+IsFaultOf source script (fault.Engine f) = Loads source script
 IsFaultOf source script (fault.Write w) = Unit {0}
 IsFaultOf source script f = IsLoadFault source script f
 

@@ -18,7 +18,7 @@ const CODES: &str = "Faults, each one line on standard error, a code with its pl
   E     the engine
 
 Status:
-  0  halted, or done                    4  cut by the limit
+  0  halted, or done                    4  cut by a limit
   1  a fault in one of the files        5  memory was refused
   2  the command line was refused       6  a file or the output failed
   3  quiet: it waits for ever           7  the engine is at fault";

@@ -1,9 +1,10 @@
 //! Why a program is not run, and the line and the status of each cause.
 
 ghost use Rattle.std.specs.Prelude.{◌≡◌, Some};
-ghost use Rattle.orc_run.specs.Faults.{syntax_line, what_word, scope_line, journal_line, reason_word, state_word, line, status};
+ghost use Rattle.orc_run.specs.Faults.{syntax_line, what_word, scope_line, journal_line, engine_line, reason_word, state_word, line, status};
 
 use crate::output::WriteFault;
+use orc_engine::EngineFault;
 use orc_journal::JournalFault;
 use orc_rules::entry::{RuleFault, State};
 use orc_scope::{FaultKind, ScopeFault};
@@ -26,10 +27,8 @@ pub enum RunFault {
     Journal(JournalFault),
     /// An entry of the journal is refused.
     Check(CheckFault),
-    /// E2: memory was refused before the run began.
-    Memory,
-    /// E4: the engine chose an entry that the rules refuse. No run is known to end so.
-    Broken,
+    /// The engine didn't bring the run to an end.
+    Engine(EngineFault),
     /// The output was not taken whole, or memory for its text was refused.
     Write(WriteFault),
 }
@@ -124,6 +123,22 @@ impl fmt::Display for JournalLine {
     }
 }
 
+/// The code of a fault of the engine.
+#[derive(Clone, Copy)]
+struct EngineLine(EngineFault);
+
+impl fmt::Display for EngineLine {
+    ghost output = { λ e. Some (engine_line e.0) };
+
+    fn fmt<W: fmt::Write>(&self, f: &mut fmt::Formatter<W>) -> fmt::Result {
+        match self.0 {
+            EngineFault::Range => write!(f, "E1"),
+            EngineFault::Memory => write!(f, "E2"),
+            EngineFault::Broken => write!(f, "E4"),
+        }
+    }
+}
+
 /// The reason for which an entry is refused.
 #[derive(Clone, Copy)]
 struct ReasonWord(RuleFault);
@@ -189,8 +204,10 @@ impl fmt::Display for RunFault {
                 let why = ReasonWord(fault.why);
                 write!(f, "orc: K at entry {at}: {why}")
             }
-            RunFault::Memory => write!(f, "orc: E2"),
-            RunFault::Broken => write!(f, "orc: E4"),
+            RunFault::Engine(fault) => {
+                let fault = EngineLine(fault);
+                write!(f, "orc: {fault}")
+            }
             RunFault::Write(_) => write!(f, "orc: write"),
         }
     }
@@ -207,7 +224,7 @@ impl RunFault {
             RunFault::Syntax(SyntaxFault::Memory)
             | RunFault::Script(ScriptFault::Memory)
             | RunFault::Journal(JournalFault::Memory)
-            | RunFault::Memory => 5,
+            | RunFault::Engine(EngineFault::Memory) => 5,
             RunFault::Check(
                 CheckFault {
                     at: _,
@@ -225,7 +242,7 @@ impl RunFault {
             | RunFault::Script(_)
             | RunFault::Journal(_)
             | RunFault::Check(_) => 1,
-            RunFault::Broken => 7,
+            RunFault::Engine(_) => 7,
             RunFault::Write(_) => 6,
         }
     }

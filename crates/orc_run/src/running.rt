@@ -10,9 +10,9 @@ use crate::faults::RunFault;
 use crate::loading::{Loaded, load};
 use crate::output::{WriteFault, write_text};
 use crate::publications::write_values;
-use orc_outcome::{PlayFault, Played, Summary};
 // The engine. Another one with the same contract takes its place here.
-use orc_plain::play;
+use orc_engine::run_alone;
+use orc_outcome::{Played, Summary};
 use std::alloc::Global;
 use std::io::Write;
 
@@ -30,17 +30,14 @@ fn run_program(alloc: Global, loaded: &Loaded, options: &Options) -> Result<Play
     ensures ran { IfOk result (λ p. IsPlayed loaded.now.program loaded.now.answers options.now.journal options.now.limit p.summary p.published.items p.text.items) }
     ensures fault { IfErr result IsOther }
 {
-    play(
+    run_alone(
         alloc,
         &loaded.program,
         &loaded.answers,
         options.journal,
         options.limit,
     )
-    .map_err(|fault| match fault {
-        PlayFault::Memory => RunFault::Memory,
-        PlayFault::Broken => RunFault::Broken,
-    })
+    .map_err(RunFault::Engine)
 }
 
 // Writes what a run leaves: the journal's text, or a line for each publication.
@@ -63,9 +60,9 @@ fn write_run<W: Write>(
 /// Runs the program that a source spells, with the built-in sites and those of a script, and writes what it published, a line
 /// each, or its journal, once the run has ended, whichever way it ends.
 ///
-/// A fault is answered where the source's text, the script or the source's names are at fault, in this order; then `Memory` where
-/// memory is refused before the run begins, and `Broken` where the engine finds no entry that the rules allow; and `Write` where
-/// memory for the text is refused or the output isn't taken whole. Nothing is written then, but at a fault of the output a prefix
+/// A fault is answered where the source's text, the script or the source's names are at fault, in this order; then
+/// `Engine` where the engine brings the run to no end (the limit is out of range, or memory is refused before the run begins or for what is
+/// told of it); and `Write` where memory for the text is refused or the output isn't taken whole. Nothing is written then, but at a fault of the output a prefix
 /// of the text. A run for which memory is refused once it has begun ends so, and what it has published is written.
 pub fn run_text<W: Write>(
     alloc: Global,
