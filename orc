@@ -36,52 +36,112 @@ processors() {
     echo "${ORC_JOBS:-$((found > 0 ? found : 1))}"
 }
 
-# prove ROOT JOBS CRATE..: proves and builds each library in turn. Those below it are built, so `rt` makes no quick pass over the sources first.
+# prove ROOT JOBS CRATE: proves and builds a library. Those below it are built, so `rt` makes no quick pass over the sources first.
 prove() {
-    local root=$1 jobs=$2 crate status
-    shift 2
+    local status=0
+    # Another crate has failed: the program can't be built any more.
+    if [ -e "$room/failed" ]; then return 1; fi
+    (cd "$1/crates/$3" && rt lib --jobs "$2") >"$room/$3.log" 2>&1 || status=$?
+    cat "$room/$3.log" >>"$log"
+    [ "$status" = 0 ] || echo "$3" >>"$room/failed"
+    return "$status"
+}
+
+# tell CRATE: it is proved.
+tell() {
+    touch "$room/$1.proved"
+    say "proved $1, $(find "$room" -maxdepth 1 -name '*.proved' | wc -l) of $total crates ($((SECONDS - started)) s so far)"
+}
+
+# ranked CRATE..: these crates, first those from which the longest way leads to the program, counted in bytes of their files.
+ranked() {
     for crate; do
-        # The other lane has failed: the program can't be built any more.
-        if [ -e "$room/failed" ]; then return 1; fi
-        status=0
-        (cd "$root/crates/$crate" && rt lib --jobs "$jobs") >"$room/$crate.log" 2>&1 || status=$?
-        cat "$room/$crate.log" >>"$log"
-        if [ "$status" != 0 ]; then
-            echo "$crate" >>"$room/failed"
-            return 1
-        fi
-        touch "$room/$crate.proved"
-        say "proved $crate, $(find "$room" -maxdepth 1 -name '*.proved' | wc -l) of $total crates ($((SECONDS - started)) s so far)"
+        echo "$crate $(cat "$top/crates/$crate"/{src,specs,proofs}/* 2>/dev/null | wc -c)"
+    done | awk '
+        function way(crate,    i, parts, count, longest, next_way) {
+            if (crate in found) return found[crate]
+            count = split(users[crate], parts, " ")
+            for (i = 1; i <= count; i++) {
+                next_way = way(parts[i])
+                if (next_way > longest) longest = next_way
+            }
+            return found[crate] = size[crate] + longest
+        }
+        FILENAME == "-" { size[$1] = $2; next }
+        /^[a-z]/ {
+            split($0, sides, ":")
+            split(sides[1], names, " ")
+            count = split(sides[2], parts, " ")
+            for (i = 1; i <= count; i++) users[parts[i]] = users[parts[i]] " " names[1]
+        }
+        END { for (crate in size) print way(crate), crate }' - "$top/crates.txt" | sort -rn | cut -d ' ' -f 2
+}
+
+# Whether all that a crate stands on is proved.
+is_ready() {
+    local crate
+    for crate in $(below "$1"); do
+        [ "$crate" = "$1" ] || [ -e "$room/$crate.proved" ] || return 1
     done
 }
 
-# second JOBS: the lane beside the longest one. Two runs of `rt` can't work over one library at a time, so what stands on orc_rules is proved
-# in a folder of its own, over copies of what is built below it, and what was made of it goes back.
-second() {
-    local own=$room/own crate
-    prove "$top" "$1" orc_lex || return 1
-    until [ -e "$room/orc_rules.proved" ]; do
-        if [ -e "$room/failed" ]; then return 1; fi
+# apart CRATE JOBS: proves a crate in a folder of its own, over copies of what is built below it: two runs of `rt` can't work over one library
+# at a time. What was made of it, whole or not, goes back.
+apart() {
+    local crate=$1 own=$room/$1 each status=0
+    mkdir -p "$own/crates"
+    for each in $(below "$crate"); do
+        # `rt` wants the sources of each crate that its list names.
+        grep "^${each}[: ]" "$top/crates.txt" >>"$own/crates.txt"
+        mkdir -p "$own/crates/$each"
+        cp -r "$top/crates/$each"/{src,specs,proofs} "$own/crates/$each" 2>/dev/null || true
+        if [ "$each" != "$crate" ]; then
+            mkdir "$own/crates/$each/out"
+            cp -rl "$top/crates/$each/out/rlib" "$own/crates/$each/out" 2>/dev/null || cp -r "$top/crates/$each/out/rlib" "$own/crates/$each/out"
+        elif [ -e "$top/crates/$each/out" ]; then
+            mv "$top/crates/$each/out" "$own/crates/$each"
+        fi
+    done
+    prove "$own" "$2" "$crate" || status=1
+    [ ! -e "$own/crates/$crate/out" ] || mv "$own/crates/$crate/out" "$top/crates/$crate"
+    [ "$status" = 0 ] || return 1
+    rm -rf "$own"
+    tell "$crate"
+}
+
+# lane JOBS CRATE..: proves one of these crates after another, each as soon as what it stands on is proved, and those that no other lane has begun.
+lane() {
+    local jobs=$1 crate left
+    shift
+    while [ ! -e "$room/failed" ]; do
+        left=
+        for crate; do
+            [ ! -e "$room/$crate.begun" ] || continue
+            left=$crate
+            is_ready "$crate" || continue
+            # One lane alone can make the folder.
+            mkdir "$room/$crate.begun" 2>/dev/null || continue
+            apart "$crate" "$jobs" || return 1
+            continue 2
+        done
+        [ -n "$left" ] || return 0
         sleep 1
     done
-    mkdir -p "$own/crates"
-    for crate in $(below "${beside[@]}"); do
-        # `rt` wants the sources of each crate that its list names.
-        grep "^$crate[: ]" "$top/crates.txt" >>"$own/crates.txt"
-        mkdir -p "$own/crates/$crate/out"
-        cp -r "$top/crates/$crate"/{src,specs,proofs} "$own/crates/$crate"
-        [ ! -e "$room/$crate.proved" ] || cp -r "$top/crates/$crate/out/rlib" "$own/crates/$crate/out"
+    return 1
+}
+
+# What a lane that was broken off had made of a crate goes back.
+put_back() {
+    local own crate
+    for own in "$room"/*/crates; do
+        crate=$(basename "$(dirname "$own")")
+        if [ -e "$own/$crate/out" ] && [ ! -e "$top/crates/$crate/out" ]; then mv "$own/$crate/out" "$top/crates/$crate"; fi
     done
-    prove "$own" "$1" "${beside[@]}" || return 1
-    for crate in "${beside[@]}"; do
-        rm -rf "$top/crates/$crate/out"
-        mv "$own/crates/$crate/out" "$top/crates/$crate"
-    done
+    rm -rf "$room"
 }
 
 build() {
-    local jobs libraries first=() both=() crate
-    lane=
+    local jobs libraries each lanes=() crates
     if ! command -v rt >/dev/null; then
         say "'rt', the prover and compiler of Rattle, isn't on the PATH; the program can't be built without it"
         exit 70
@@ -89,38 +149,34 @@ build() {
     jobs=$(processors)
     log=$top/build.log
     started=$SECONDS
-    room=$(mktemp -d)
-    # The second lane is a process group of its own, which ends with this script.
-    trap '[ -z "$lane" ] || kill -- "-$lane" 2>/dev/null || true; rm -rf "$room"' EXIT
+    room=$(mktemp -d -p "$top" .build.XXXXXX)
+    # Each lane is a process group of its own, which ends with this script.
+    trap 'for each in "${lanes[@]}"; do kill -- "-$each" 2>/dev/null || true; done; wait; put_back' EXIT
     trap 'exit 130' INT TERM HUP
     : >"$log"
     libraries=$(below orc | grep -v '^orc$')
     total=$(wc -w <<<"$libraries")
     if [ -x "$program" ] || [ "$jobs" = 1 ]; then
         say "proving what is left or has changed, and building the program"
-        # shellcheck disable=SC2086
-        prove "$top" "$jobs" $libraries || true
+        for each in $libraries; do
+            prove "$top" "$jobs" "$each" || break
+            tell "$each"
+        done
     else
         say "building the program for the first time: every proof is checked, on $jobs processors."
         say "That takes ten minutes to an hour; the next call starts at once. The log is build.log."
         say "It may be broken off: the next call goes on from there."
-        beside=(orc_syntax orc_scope orc_site)
-        for crate in $libraries; do
-            case $crate in
-            orc_lex | orc_syntax | orc_scope | orc_site) ;;
-            # What stands on both lanes.
-            orc_draw | orc_run) both+=("$crate") ;;
-            *) first+=("$crate") ;;
-            esac
-        done
+        # shellcheck disable=SC2086
+        crates=$(ranked $libraries)
         set -m
-        second $((jobs / 2)) &
-        lane=$!
+        # shellcheck disable=SC2086
+        for ((each = 0; each < (jobs < 4 ? 2 : 3); each++)); do
+            lane $((jobs < 4 ? 1 : 2)) $crates &
+            lanes+=($!)
+        done
         set +m
-        prove "$top" $((jobs - jobs / 2 + (jobs > 3))) "${first[@]}" || true
-        wait "$lane" || true
-        lane=
-        [ -e "$room/failed" ] || prove "$top" "$jobs" "${both[@]}" || true
+        wait "${lanes[@]}" || true
+        lanes=()
     fi
     if [ ! -e "$room/failed" ]; then
         say "compiling orc ($((SECONDS - started)) s so far)"
@@ -132,7 +188,7 @@ build() {
         say "the program wasn't built; the log is build.log"
         exit 70
     fi
-    rm -rf "$room"
+    put_back
     trap - EXIT INT TERM HUP
     touch "$program"
     say "built in $((SECONDS - started)) s"
