@@ -387,11 +387,12 @@ impl<P: Naming> Desk<P> {
         requires answers { answers.now.sites ≡ P.sites }
         ensures { IfOk result (λ end. HasEnded P.listing answers.now self.new.ledger end) }
     {
+        let next = self.ledger.next(graph);
         if self.ledger.entries() < self.ledger.limit() {
             return Err(EngineFault::Broken);
         }
         self.ledger.is_whole();
-        match self.ledger.next(graph) {
+        match next {
             Next::Quiet => return Ok(End::Quiet),
             Next::Ticks(_) => return Ok(End::Limit),
             Next::Work => {}
@@ -420,8 +421,9 @@ impl<P: Naming> Desk<P> {
     fn pass_time(&mut self, graph: &Graph) -> Result<(), Stop>
         requires graph { graph.now ≡ P.listing }
     {
+        let next = self.ledger.next(graph);
         self.ledger.is_whole();
-        match self.ledger.next(graph) {
+        match next {
             Next::Ticks(time) => self.ledger.tick(time).map_err(Stop::Refused),
             Next::Quiet => Err(Stop::Rests),
             Next::Work if self.ledger.has_halted() => Err(Stop::Rests),

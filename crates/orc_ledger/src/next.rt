@@ -4,14 +4,13 @@ ghost use Rattle.std.specs.Prelude.{◌≡◌, ◌≤◌, ◌↔◌, true, false
 ghost use Rattle.orc_rules.specs.Nodes.{code, definitions};
 ghost use Rattle.orc_ledger.specs.Same.{only};
 ghost use Rattle.orc_ledger.specs.Tokens.{is_live};
-ghost use Rattle.orc_ledger.specs.Next.{numbers_of, ready, ready_one, open_empty, members, due_of, earlier, next_due, next_of};
+ghost use Rattle.orc_ledger.specs.Next.{numbers_of, ready, ready_one, open_empty, members, next_of};
 ghost use Rattle.orc_ledger.specs.Spoken.{spoken, IsRight};
 
 use crate::ledger::{Ledger, Program};
-use crate::records::{Call, Token};
+use crate::records::Token;
 use crate::what::What;
 use orc_graph::Graph;
-use orc_rules::value::Found;
 
 /// What comes next: an entry or a group that goes, a tick to that time, or nothing any more.
 #[derive(Clone, Copy, Debug, PartialEq, Eq)]
@@ -19,39 +18,6 @@ pub enum Next {
     Work,
     Ticks(u64),
     Quiet,
-}
-
-// The time at which a call is due, where it is ever answered and the time fits 64 bits.
-fn due_of(call: Call) -> Option<u64>
-    ensures { result ≡ due_of call }
-{
-    match call.found {
-        Found::After(_, delay) => call.made_at.checked_add(delay),
-        Found::Never => None,
-    }
-}
-
-fn earlier(one: Option<u64>, other: Option<u64>) -> Option<u64>
-    ensures { result ≡ earlier one other }
-{
-    match (one, other) {
-        (None, _) => other,
-        (Some(_), None) => one,
-        (Some(t), Some(u)) => Some(if u < t { u } else { t }),
-    }
-}
-
-// The least due time of these calls.
-fn next_due(calls: &[Call]) -> Option<u64>
-    ensures { result ≡ next_due calls.now }
-{
-    let mut least = None;
-    let mut left = calls.len();
-    while left > 0 {
-        left -= 1;
-        least = earlier(due_of(calls[left]), least);
-    }
-    least
 }
 
 impl<P: Program> Ledger<P> {
@@ -108,14 +74,15 @@ impl<P: Program> Ledger<P> {
     }
 
     // What comes next, as an equation alone.
-    fn find_next(&self, graph: &Graph) -> Next
+    fn find_next(&mut self, graph: &Graph) -> Next
         requires { graph.now ≡ P.listing }
-        ensures { spoken result ≡ next_of (code P.listing) (definitions P.listing) (numbers_of self.now) self.now }
+        ensures is { spoken result ≡ next_of (code P.listing) (definitions P.listing) (numbers_of self.old) self.old }
+        ensures same { self.new ≡ self.old }
     {
         if self.any_moves(graph) || self.any_empty() {
             return Next::Work;
         }
-        match next_due(self.calls.items()) {
+        match self.next_due() {
             None => Next::Quiet,
             Some(time) => {
                 if self.time < time {
@@ -128,11 +95,12 @@ impl<P: Program> Ledger<P> {
     }
 
     /// What comes next. Work where a token can move, a group has no members, or a call is due; else a tick to the least due time of the
-    /// pending calls; else nothing, the run is quiet. It looks at each token, each group and each call.
-    pub fn next(&self, graph: &Graph) -> Next
+    /// pending calls; else nothing, the run is quiet. It looks at each token and each group.
+    pub fn next(&mut self, graph: &Graph) -> Next
         requires { graph.now ≡ P.listing }
-        ensures is { spoken result ≡ next_of (code P.listing) (definitions P.listing) (numbers_of self.now) self.now }
-        ensures right { IsRight P.listing P.sites self.now result }
+        ensures is { spoken result ≡ next_of (code P.listing) (definitions P.listing) (numbers_of self.old) self.old }
+        ensures right { IsRight P.listing P.sites self.old result }
+        ensures same { self.new ≡ self.old }
     {
         let _time = &self.time;
         self.find_next(graph)
