@@ -1,12 +1,14 @@
 //! Groups that halt: nobody is in them any more.
 
-ghost use Rattle.std.specs.Prelude.{◌≡◌, ◌≤◌, IfOk, OnErr, IfErr, IfSome, MatchOption};
+ghost use Rattle.std.specs.Prelude.{◌≡◌, ◌≤◌, false, Some, IfOk, OnErr, IfErr, IfSome, IfNone, MatchOption};
 ghost use Rattle.orc_rules.specs.Nodes.{code};
 ghost use Rattle.orc_rules.specs.Timed.{IsIn};
 ghost use Rattle.orc_ledger.specs.Same.{weight};
 ghost use Rattle.orc_ledger.specs.Records.{group_at, is_number, has_left, tries};
+ghost use Rattle.orc_ledger.specs.Inside.{step_at};
 ghost use Rattle.orc_ledger.specs.Halting.{HasHalted, IsHinderedAt};
 ghost use Rattle.orc_ledger.specs.declared.records.Group.{Group as Its};
+ghost use Rattle.orc_ledger.specs.declared.records.Step.{Step as Entering};
 
 use crate::ledger::{Ledger, LedgerFault, Program};
 use crate::marks::group_at;
@@ -45,7 +47,8 @@ fn is_number(entered: Entered, number: u64) -> bool
 // Whether a publication has left an otherwise, if this is the step that enters it.
 fn left_at(steps: &Vec<Step>, step: usize, number: u64) -> Option<bool>
     requires { weight (tries number) steps.now.items ≤ 1 }
-    ensures { IfSome result (λ left. left ≡ has_left steps.now.items number) }
+    ensures left { IfSome result (λ left. left ≡ has_left steps.now.items number) }
+    ensures other { IfNone result ((p : Entering) → step_at steps.now.items step ≡ Some p → is_number number p.entered ≡ false) }
 {
     let step = step_at(steps, step)?;
     if is_number(step.entered, number) {
