@@ -398,9 +398,11 @@ impl<'a> Sheet<'a> {
                     let width = self.end(&span).saturating_sub(begin).max(pixels(2));
                     let height = count.saturating_mul(self.size.row).saturating_sub(4);
                     page.form(
-                        "<rect class=\"group\" x=\"%\" y=\"@\" width=\"%\" height=\"@\" rx=\"4\"/>\n",
+                        "<rect class=\"group\" x=\"%\" y=\"@\" width=\"%\" height=\"@\" rx=\"4\">",
                         &[begin, self.down(i).saturating_add(2), width, height],
                     );
+                    say_stay(page, &span);
+                    page.say("</rect>\n");
                 }
             }
         }
@@ -527,12 +529,14 @@ impl<'a> Sheet<'a> {
             &[self.indent(row), self.line(i)],
         );
         page.escaped(row.label.as_str());
+        page.say("</text><g>");
+        say_stay(page, span);
         page.say(match span.kind {
-            Kind::Pruning(_) => "</text><line class=\"span\"",
-            _ => "</text><line class=\"ospan\"",
+            Kind::Pruning(_) => "<line class=\"span\"",
+            _ => "<line class=\"ospan\"",
         });
         page.form(
-            " x1=\"%\" x2=\"%\" y1=\"%\" y2=\"%\"/><line class=\"span\" x1=\"%\" x2=\"%\" y1=\"%\" y2=\"%\"/>\n",
+            " x1=\"%\" x2=\"%\" y1=\"%\" y2=\"%\"/><line class=\"span\" x1=\"%\" x2=\"%\" y1=\"%\" y2=\"%\"/></g>\n",
             &[
                 begin,
                 end,
@@ -618,8 +622,8 @@ impl<'a> Sheet<'a> {
                             self.middle(i).saturating_add(self.reach()),
                         );
                         page.form(
-                            "<path class=\"win\" d=\"M% %L% %L% %\"/>\n",
-                            &[from, low, to, low, to, high],
+                            "<path class=\"win\" d=\"M% %L% %L% %\"><title>entry @: the first value, at time @</title></path>\n",
+                            &[from, low, to, low, to, high, at.entry, at.time],
                         );
                     }
                 }
@@ -648,6 +652,25 @@ pub(crate) fn class_of(span: &Span) -> &'static str {
         Some(_) => "cut",
         None => "nev",
     }
+}
+
+// What is told of a pruning or an otherwise where the reader points at it: when it stood.
+fn say_stay(page: &mut Page, span: &Span) {
+    let name = match span.kind {
+        Kind::Pruning(_) => "pruning",
+        _ => "otherwise",
+    };
+    page.say("<title>");
+    page.say(name);
+    page.form(
+        ", opened at time @ (entry @), ",
+        &[span.began.time, span.began.entry],
+    );
+    match span.end {
+        Some((_, at)) => page.form("ended at time @ (entry @)", &[at.time, at.entry]),
+        None => page.say("still open"),
+    }
+    page.say("</title>");
 }
 
 // What is told of a call where the reader points at it.
