@@ -1,0 +1,138 @@
+//! Where a program's variables are named, and where they are known.
+
+use orc_syntax::{Ast, Definition, Expr, Name, Node, Operator, Part, Span};
+use std::alloc::{AllocError, Global};
+
+/// What names a variable.
+#[derive(Clone, Copy)]
+pub(crate) enum Binder {
+    Sequence,
+    Pruning,
+    Val,
+    Parameter,
+}
+
+/// A variable where it is named.
+#[derive(Clone, Copy)]
+pub(crate) struct Binding<'a> {
+    pub name: Name<'a>,
+    pub binder: Binder,
+    /// Where it is known.
+    pub scope: Span,
+}
+
+/// All variables of a program.
+#[derive(Drop)]
+pub(crate) struct Bindings<'a> {
+    pub list: Vec<Binding<'a>>,
+    // The places of the parts that their whole is still to take.
+    parts: Vec<Span>,
+}
+
+const NOWHERE: Span = Span { start: 0, end: 0 };
+
+impl<'a> Bindings<'a> {
+    /// The variables of a program. The error is refused memory.
+    pub(crate) fn new(alloc: Global, ast: &Ast<'a>) -> Result<Bindings<'a>, AllocError> {
+        let mut bindings = Bindings {
+            list: Vec::new(alloc),
+            parts: Vec::new(alloc),
+        };
+        for definition in &ast.definitions {
+            bindings.read_definition(definition)?;
+        }
+        let _main = bindings.read_expression(&ast.main)?;
+        Ok(bindings)
+    }
+
+    fn read_definition(&mut self, definition: &Definition<'a>) -> Result<(), AllocError> {
+        let scope = self.read_expression(&definition.body)?;
+        for parameter in &definition.parameters {
+            self.add(*parameter, Binder::Parameter, scope)?;
+        }
+        Ok(())
+    }
+
+    // Where the expression stands.
+    fn read_expression(&mut self, expression: &Expr<'a>) -> Result<Span, AllocError> {
+        for node in &expression.nodes {
+            self.read_node(*node)?;
+        }
+        Ok(self.take())
+    }
+
+    fn read_node(&mut self, node: Node<'a>) -> Result<(), AllocError> {
+        match node.part {
+            Part::Plain(_) | Part::Variable(_) => {}
+            Part::Call(_, count) => {
+                let first = self.parts.len().saturating_sub(count);
+                self.parts.truncate(first);
+            }
+            Part::Operation(operator) => {
+                let right = self.take();
+                let left = self.take();
+                match operator {
+                    Operator::Seq(Some(name)) => self.add(name, Binder::Sequence, right)?,
+                    Operator::Prune(Some(name)) => self.add(name, Binder::Pruning, left)?,
+                    _ => {}
+                }
+            }
+            Part::Val(name) => {
+                let scope = self.take();
+                let _value = self.take();
+                self.add(name, Binder::Val, scope)?;
+            }
+        }
+        self.parts.push(node.span)?;
+        Ok(())
+    }
+
+    fn take(&mut self) -> Span {
+        self.parts.pop().unwrap_or(NOWHERE)
+    }
+
+    fn add(&mut self, name: Name<'a>, binder: Binder, scope: Span) -> Result<(), AllocError> {
+        self.list.push(Binding {
+            name,
+            binder,
+            scope,
+        })?;
+        Ok(())
+    }
+
+    /// The first variable of this name in the text.
+    pub(crate) fn first(&self, name: &[u8]) -> Option<Binding<'a>> {
+        let mut found: Option<Binding<'a>> = None;
+        for binding in self.list.iter() {
+            let is_first = match found {
+                Some(other) => binding.name.span.start < other.name.span.start,
+                None => true,
+            };
+            if is_first && binding.name.text == name {
+                found = Some(*binding);
+            }
+        }
+        found
+    }
+
+    /// The innermost variable of this name that is known at a place.
+    pub(crate) fn known(&self, name: &[u8], at: usize) -> Option<Binding<'a>> {
+        let mut found: Option<Binding<'a>> = None;
+        for binding in self.list.iter() {
+            let scope = binding.scope;
+            let is_known = scope.start <= at && at < scope.end;
+            let is_inner = match found {
+                Some(other) => width(scope) < width(other.scope),
+                None => true,
+            };
+            if is_known && is_inner && binding.name.text == name {
+                found = Some(*binding);
+            }
+        }
+        found
+    }
+}
+
+fn width(span: Span) -> usize {
+    span.end.saturating_sub(span.start)
+}

@@ -1,0 +1,76 @@
+//! The name that may have been meant.
+
+use std::alloc::{AllocError, Global};
+use strsim::osa_distance;
+
+/// Longer names are compared with nothing.
+const LONGEST: usize = 64;
+
+/// A name from which on two edits are few.
+const LONG: usize = 6;
+
+/// The search for the nearest of some names.
+#[derive(Clone, Copy)]
+pub(crate) struct Near<'n> {
+    alloc: Global,
+    name: &'n [u8],
+    // The most edits of a name that is to be taken.
+    most: usize,
+    // Whether a name that differs in capitals alone may still be taken.
+    is_open: bool,
+}
+
+// Whether two names differ in capitals alone.
+fn are_alike(a: &[u8], b: &[u8]) -> bool {
+    a.len() == b.len()
+        && a.iter()
+            .zip(b.iter())
+            .all(|(x, y)| x.to_ascii_lowercase() == y.to_ascii_lowercase())
+}
+
+// How many edits lead from one name to the other: a letter put in, taken out or changed, or two that change places. None where they are no
+// UTF-8.
+fn edits(alloc: Global, a: &[u8], b: &[u8]) -> Result<Option<usize>, AllocError> {
+    match (str::from_utf8(a), str::from_utf8(b)) {
+        (Ok(a), Ok(b)) => Ok(Some(osa_distance(alloc, a, b)?)),
+        _ => Ok(None),
+    }
+}
+
+impl<'n> Near<'n> {
+    pub(crate) fn new(alloc: Global, name: &'n [u8]) -> Near<'n> {
+        let most = match name.len() {
+            0 | 1 => 0,
+            LONG..=LONGEST => 2,
+            _ => 1,
+        };
+        Near {
+            alloc,
+            name,
+            most,
+            is_open: name.len() <= LONGEST,
+        }
+    }
+
+    /// Whether one more name is nearer than those before, and near enough. One that differs in capitals alone is the nearest. The error is
+    /// refused memory.
+    pub(crate) fn takes(&mut self, candidate: &[u8]) -> Result<bool, AllocError> {
+        if !self.is_open || candidate == self.name {
+            return Ok(false);
+        }
+        if are_alike(self.name, candidate) {
+            self.is_open = false;
+            return Ok(true);
+        }
+        if self.most == 0 || self.name.len().abs_diff(candidate.len()) > self.most {
+            return Ok(false);
+        }
+        match edits(self.alloc, self.name, candidate)? {
+            Some(edits) if edits <= self.most => {
+                self.most = edits.saturating_sub(1);
+                Ok(true)
+            }
+            _ => Ok(false),
+        }
+    }
+}

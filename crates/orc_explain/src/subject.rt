@@ -1,0 +1,44 @@
+//! What is explained.
+
+ghost use Rattle.std.specs.Prelude.{◌≡◌};
+
+/// A file as the command line names it, and what was read of it.
+#[derive(Clone, Copy)]
+pub struct Document<'a> {
+    pub name: &'a str,
+    pub text: &'a [u8],
+}
+
+/// The files of a command line.
+#[derive(Clone, Copy)]
+pub struct Subject<'a> {
+    pub source: Document<'a>,
+    /// None where no script was given.
+    pub script: Option<Document<'a>>,
+    /// None where the command takes no journal.
+    pub journal: Option<Document<'a>>,
+}
+
+impl<'a> Subject<'a> {
+    /// A program's file alone.
+    pub fn of_source(name: &'a str, text: &'a [u8]) -> Subject<'a>
+        ensures name { result.source.name.now ≡ name.now }
+        ensures text { result.source.text.now ≡ text.now }
+        ensures script { result.script ≡ None }
+        ensures journal { result.journal ≡ None }
+    {
+        Subject {
+            source: Document { name, text },
+            script: None,
+            journal: None,
+        }
+    }
+
+    /// The script's text, empty where no script was given.
+    pub(crate) fn script_text(&self) -> &'a [u8] {
+        match self.script {
+            Some(script) => script.text,
+            None => b"",
+        }
+    }
+}

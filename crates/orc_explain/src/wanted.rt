@@ -1,0 +1,362 @@
+//! What may have been meant where a token can't go on (S4).
+
+use crate::hint::Hint;
+use crate::tokens::Tokens;
+use orc_lex::token::{Kind, Plain, Token, What};
+
+pub(crate) const NO_IF: &str =
+    "there is no `if`: `(Ift(b) >> f) | (Iff(b) >> g)` runs f where b is true and g where it is false";
+
+const VAL: &str = "a value is named with `val x = g f`";
+
+const WHOLE: &str = "`val` begins a whole expression: put `( .. )` around it";
+
+const NO_TUPLES: &str = "there are no tuples: a `,` stands only between arguments and parameters";
+
+fn name_of<'a>(token: Option<Token<'a>>) -> Option<&'a [u8]> {
+    match token {
+        Some(
+            Token {
+                kind: Kind::Name(name),
+                ..
+            },
+        ) => Some(name),
+        _ => None,
+    }
+}
+
+fn is_number(token: Option<Token>) -> bool {
+    match token {
+        Some(
+            Token {
+                kind: Kind::Plain(Plain::Number(_)),
+                ..
+            },
+        ) => true,
+        _ => false,
+    }
+}
+
+fn is_reserved(word: &[u8]) -> bool {
+    match word {
+        b"def" | b"val" | b"stop" | b"true" | b"false" | b"signal" => true,
+        _ => false,
+    }
+}
+
+// A sign behind which something has to follow.
+fn is_sign(word: &[u8]) -> bool {
+    match word {
+        b"|" | b";" | b">" | b"<" | b">>" | b"<<" | b"=" | b"(" | b"," => true,
+        _ => false,
+    }
+}
+
+/// A source's text and its tokens round the place.
+#[derive(Clone, Copy)]
+struct Around<'s, 'a> {
+    text: &'a [u8],
+    tokens: &'s Tokens<'a>,
+}
+
+impl<'a> Around<'_, 'a> {
+    // A token's text.
+    fn text_of(&self, token: Token) -> &'a [u8] {
+        let span = token.span;
+        self.text.get(span.start..span.end).unwrap_or(b"")
+    }
+
+    // The text of the token at the place, nothing at the end.
+    fn here(&self) -> &'a [u8] {
+        match self.tokens.here {
+            Some(token) => self.text_of(token),
+            None => b"",
+        }
+    }
+
+    // The text of the n-th token before the place.
+    fn back(&self, n: usize) -> &'a [u8] {
+        match self.tokens.back(n) {
+            Some(token) => self.text_of(token),
+            None => b"",
+        }
+    }
+
+    // The bracket that was opened last of those that are still open.
+    fn open_bracket(&self) -> Option<Token<'a>> {
+        let mut closed: usize = 0;
+        for token in self.tokens.before.iter().rev() {
+            match self.text_of(*token) {
+                b")" => closed = closed.saturating_add(1),
+                b"(" if closed == 0 => return Some(*token),
+                b"(" => closed = closed.saturating_sub(1),
+                _ => {}
+            }
+        }
+        None
+    }
+
+    // Whether a `;` stands behind the last `val` in the same brackets.
+    fn is_val_ended(&self) -> bool {
+        let mut is_ended = self.here() == b";".as_slice();
+        let mut closed: usize = 0;
+        for token in self.tokens.before.iter().rev() {
+            match self.text_of(*token) {
+                b")" => closed = closed.saturating_add(1),
+                b"(" if closed == 0 => return false,
+                b"(" => closed = closed.saturating_sub(1),
+                b"val" if closed == 0 => return is_ended,
+                b";" if closed == 0 => is_ended = true,
+                _ => {}
+            }
+        }
+        false
+    }
+
+    // Whether a `def` or a `val` stands before the place.
+    fn has_begun(&self) -> bool {
+        for token in self.tokens.before.iter() {
+            match self.text_of(*token) {
+                b"def" | b"val" => return true,
+                _ => {}
+            }
+        }
+        false
+    }
+
+    // Whether a line ends between two tokens.
+    fn is_line_between(&self, first: Token, second: Token) -> bool {
+        let between = self.text.get(first.span.end..second.span.start);
+        between.unwrap_or(b"").iter().any(|byte| *byte == b'\n')
+    }
+
+    // The last name behind which blanks and a bracket stand: over a line's end, where there is one. The name of a definition is none.
+    fn loose_call(&self) -> Option<Token<'a>> {
+        let mut found: Option<Token<'a>> = None;
+        let mut over_lines: Option<Token<'a>> = None;
+        let mut is_defined = false;
+        let mut before: Option<Token<'a>> = None;
+        for token in self.tokens.before.iter() {
+            let word = self.text_of(*token);
+            if let Some(name) = before {
+                let is_apart = name.span.end < token.span.start;
+                if word == b"(".as_slice() && is_apart && name_of(before).is_some() && !is_defined {
+                    found = before;
+                    if self.is_line_between(name, *token) {
+                        over_lines = before;
+                    }
+                }
+                is_defined = self.text_of(name) == b"def".as_slice();
+            }
+            before = Some(*token);
+        }
+        over_lines.or(found)
+    }
+
+    // A word or a sign of another language.
+    fn foreign(&self, what: What) -> Option<Hint<'a>> {
+        let name = name_of(self.tokens.here);
+        match (self.back(1), self.here(), name) {
+            (b"if", _, _) | (_, b"then" | b"else", _) => Some(Hint::plain(NO_IF)),
+            (b"let" | b"var" | b"const", _, Some(name)) => Some(Hint::of_name(
+                "a value is named with `val`: `val % = g f`, with no sign between g and f",
+                name,
+            )),
+            (b"fn" | b"fun" | b"func" | b"function", _, Some(name)) => {
+                Some(Hint::of_name("a definition is `def %(a, b) = ..`", name))
+            }
+            (last, b"=", _) if last == b"=".as_slice() || is_behind_expression(what) => {
+                Some(Hint::plain(
+                    "`Eq(a, b)` says whether two values are the same; `=` stands only in `def` and `val`",
+                ))
+            }
+            _ => None,
+        }
+    }
+
+    fn expression(&self) -> Option<Hint<'a>> {
+        let here = self.here();
+        let is_restart = match here {
+            b"" | b";" | b"val" => true,
+            _ => false,
+        };
+        if is_restart && self.is_val_ended() {
+            return Some(Hint::plain(
+                "nothing stands between the two parts of a `val`: `val x = g f`, without the `;`",
+            ));
+        }
+        match (self.back(1), here) {
+            (b"", b"") => {
+                Some(Hint::plain("a program is an expression, with definitions before it"))
+            }
+            (_, b"val") => Some(Hint::plain(WHOLE)),
+            (b"(", b")") => {
+                Some(Hint::plain("empty brackets stand only behind the name of a call"))
+            }
+            (b"|", b"|") => Some(Hint::plain(
+                "parallel is one `|`; there is no sign for \"or\" of truth values",
+            )),
+            (_, b"def") => Some(Hint::plain(
+                "definitions stand before the main expression, not inside one",
+            )),
+            (sign, _) if is_sign(sign) => Some(Hint::of_name("something has to follow `%`", sign)),
+            (_, b"") if self.has_begun() => Some(self.main_expression()),
+            _ => None,
+        }
+    }
+
+    // Where definitions or `val`s stand, and no expression behind them.
+    fn main_expression(&self) -> Hint<'a> {
+        let Some(token) = self.loose_call() else {
+            return Hint::plain(
+                "after the last definition, and after the value of a `val`, an expression has to follow",
+            );
+        };
+        let name = self.text_of(token);
+        Hint::of_place(
+            "`%` in line # and the bracket after it were read as a call; put brackets around `%`",
+            name,
+            token.span.start,
+        )
+    }
+
+    // Whether what stands at the place begins a value, or is one sign of a comparison.
+    fn is_compared(&self) -> bool {
+        match self.here() {
+            b"(" | b"=" => true,
+            here => is_reserved(here) || is_number(self.tokens.here),
+        }
+    }
+
+    fn name(&self) -> Hint<'a> {
+        let here = self.here();
+        if is_reserved(here) && !self.is_behind_arrow() {
+            return Hint::of_name("`%` is a reserved word, so it can't be a name", here);
+        }
+        Hint::plain(self.name_words())
+    }
+
+    fn is_behind_arrow(&self) -> bool {
+        match self.back(1) {
+            b"<" | b">" => true,
+            _ => false,
+        }
+    }
+
+    fn name_words(&self) -> &'static str {
+        match self.back(1) {
+            b"<" | b">" => {
+                if self.is_compared() {
+                    "`Lt(a, b)` says whether a is less than b; `<x<` and `>x>` are operators with a name between"
+                } else {
+                    "one name stands between the two signs: `f >x> g`, `f <x< g`; without a name they are `>>` and `<<`"
+                }
+            }
+            b"(" | b"," if is_number(self.tokens.here) => {
+                "a parameter is a name: there are no definitions by cases; compare with `Eq` inside the body"
+            }
+            b"val" => VAL,
+            _ => "a definition is `def f(a) = ..`, and its parameters are names",
+        }
+    }
+
+    fn arrow(&self) -> Hint<'a> {
+        match (self.back(2), self.here()) {
+            (b">", b"<" | b"<<") | (b"<", b">" | b">>") => Hint::plain(
+                "both signs point the same way: `f >x> g` hands on, `f <x< g` waits for the first",
+            ),
+            _ => Hint::plain(
+                "`f >x> g` and `f <x< g` have a sign on both sides of the name; `Lt(a, b)` compares",
+            ),
+        }
+    }
+
+    fn assign(&self) -> Hint<'a> {
+        match (self.back(1), self.here()) {
+            (_, b"(") => Hint::plain("parameters belong to `def`: `def f(a) = ..`"),
+            (b")", _) => Hint::plain("a definition is `def f(a) = ..`"),
+            _ => Hint::plain(VAL),
+        }
+    }
+
+    fn paren(&self) -> Hint<'a> {
+        Hint::of_name(
+            "parameters stand in brackets, and the brackets stay where there are none: `def %() = ..`",
+            self.back(1),
+        )
+    }
+
+    // Whether a line ends between a token and the place, or the text does.
+    fn is_line_since(&self, token: Token) -> bool {
+        match self.tokens.here {
+            Some(here) => self.is_line_between(token, here),
+            None => true,
+        }
+    }
+
+    // A bracket that isn't closed here. What it is where the bracket stands in this line.
+    fn close(&self, otherwise: &'static str) -> Hint<'a> {
+        if let Some(open) = self.open_bracket() {
+            if self.is_line_since(open) {
+                return Hint::of_place(
+                    "the bracket that is still open stands in @",
+                    b"",
+                    open.span.start,
+                );
+            }
+        }
+        Hint::plain(match self.here() {
+            b"," => NO_TUPLES,
+            _ => otherwise,
+        })
+    }
+
+    // Whether a number with a `-` touches what stands before it.
+    fn is_minus(&self) -> bool {
+        match (self.tokens.back(1), self.tokens.here, self.here()) {
+            (Some(last), Some(token), [b'-', ..]) => last.span.end == token.span.start,
+            _ => false,
+        }
+    }
+
+    fn end(&self) -> Hint<'a> {
+        match self.here() {
+            b")" => Hint::plain("this `)` closes nothing"),
+            b"def" => Hint::plain("definitions stand before the main expression"),
+            b"," => Hint::plain(NO_TUPLES),
+            b"val" => Hint::plain(WHOLE),
+            _ if self.is_minus() => Hint::plain(
+                "`Sub(a, b)` is a difference: a `-` right before a digit belongs to the number",
+            ),
+            _ => Hint::plain(
+                "between two expressions an operator is missing: `f | g` side by side, `f >> g` one after another, `f ; g` where f has no answer",
+            ),
+        }
+    }
+}
+
+// Whether an expression stands before the place.
+fn is_behind_expression(what: What) -> bool {
+    match what {
+        What::End | What::Close | What::CommaOrClose => true,
+        _ => false,
+    }
+}
+
+/// The first hint that fits where this was wanted.
+pub(crate) fn hint_of<'a>(text: &'a [u8], tokens: &Tokens<'a>, what: What) -> Option<Hint<'a>> {
+    let around = Around { text, tokens };
+    if let Some(hint) = around.foreign(what) {
+        return Some(hint);
+    }
+    match what {
+        What::Expression => around.expression(),
+        What::Name => Some(around.name()),
+        What::Paren => Some(around.paren()),
+        What::Close => Some(around.close("between two expressions an operator is missing")),
+        What::CommaOrClose => Some(around.close("between two arguments a `,` is missing")),
+        What::Assign => Some(around.assign()),
+        What::Arrow => Some(around.arrow()),
+        What::End => Some(around.end()),
+    }
+}
