@@ -13,10 +13,10 @@ _orc() {
     esac
     local options=
     case ${COMP_WORDS[1]} in
-    run) options='--script --limit --journal --help -h' ;;
-    check) options='--script --help -h' ;;
+    run) options='--script --limit --journal --explain --help -h' ;;
+    check) options='--script --explain --help -h' ;;
     draw) options='--script --text --width --all --theme --help -h' ;;
-    print) options='--help -h' ;;
+    print) options='--explain --help -h' ;;
     help) mapfile -t COMPREPLY < <(compgen -W 'run check draw print' -- "$word"); return ;;
     esac
     case $word in

@@ -16,7 +16,8 @@ use Rattle.orc_outcome.specs.Status.{end_status_of}
 use Rattle.orc_outcome.specs.declared.end.End.{End}
 use Rattle.orc_outcome.specs.declared.end.End.TheVariants as ends
 use Rattle.orc_outcome.specs.declared.end.Summary.{Summary}
-use Rattle.orc_run.specs.Commands.{failure_status, HasEnded, IsDone, IsUnread, LeavesUndone, WasCut}
+use Rattle.orc_run.specs.Commands.{HasEnded, IsDone, IsUnread, LeavesUndone, WasCut}
+use Rattle.orc_run.specs.Failures.{failure_status}
 use Rattle.orc_engine.specs.declared.fault.EngineFault.{EngineFault}
 use Rattle.orc_engine.specs.declared.fault.EngineFault.TheVariants as engine
 use Rattle.orc_run.specs.Faults.{engine_status, journal_status, reason_status, scope_status, script_status, syntax_status}
@@ -30,8 +31,8 @@ use Rattle.orc_run.specs.declared.arguments.Job.{Job}
 use Rattle.orc_run.specs.declared.arguments.Job.TheVariants as job
 use Rattle.orc_run.specs.declared.inputs.ReadFault.{ReadFault}
 use Rattle.orc_run.specs.declared.inputs.ReadFault.TheVariants as read
-use Rattle.orc_run.specs.declared.commands.Failure.{Failure}
-use Rattle.orc_run.specs.declared.commands.Failure.TheVariants as failure
+use Rattle.orc_run.specs.declared.failures.Failure.{Failure}
+use Rattle.orc_run.specs.declared.failures.Failure.TheVariants as failure
 use Rattle.orc_run.specs.declared.drawing.Undrawn.TheVariants as undrawn
 use Rattle.orc_run.specs.declared.faults.RunFault.{RunFault}
 use Rattle.orc_run.specs.declared.faults.RunFault.TheVariants as fault

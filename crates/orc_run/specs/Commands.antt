@@ -8,22 +8,15 @@ use Rattle.orc_outcome.specs.declared.end.End.TheVariants as ends
 use Rattle.orc_outcome.specs.declared.end.Summary.{Summary}
 use Rattle.orc_run.specs.Checked.{Judges}
 use Rattle.orc_run.specs.Drawn.{Draws}
-use Rattle.orc_run.specs.Faults.{status}
 use Rattle.orc_run.specs.Inputs.{IsHeld, IsRead}
 use Rattle.orc_run.specs.Printed.{Prints}
 use Rattle.orc_run.specs.Running.{Ran}
-use Rattle.orc_run.specs.Status.{read_status_of}
 use Rattle.orc_run.specs.declared.arguments.Job.{Job}
 use Rattle.orc_run.specs.declared.arguments.Job.TheVariants as job
-use Rattle.orc_run.specs.declared.commands.Failure.{Failure}
-use Rattle.orc_run.specs.declared.commands.Failure.TheVariants as failure
+use Rattle.orc_run.specs.declared.failures.Failure.{Failure}
+use Rattle.orc_run.specs.declared.failures.Failure.TheVariants as failure
 use Rattle.orc_run.specs.declared.faults.RunFault.TheVariants as fault
 use Rattle.orc_run.specs.declared.running.Options.{Options}
-
-abbrev pub failure_status : Failure → ℕ
-failure_status (failure.Unread path f) = read_status_of f
-failure_status (failure.Fault f) = status f
-failure_status failure.Rows = 1
 
 -- what was written is the whole text of a run of the file's program with the script's sites, and the status says how it ended; `holds` says what is known of the files
 abbrev pub HasRun : (List ℕ → Option (List ℕ)) → List ℕ → Option (List ℕ) → Options → Option (List ℕ) → Option (List ℕ) → ℕ → Type 0

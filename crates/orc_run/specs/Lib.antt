@@ -1,6 +1,7 @@
 pub mod Checked
 pub mod Commands
 pub mod Drawn
+pub mod Failures
 pub mod Faults
 pub mod Inputs
 pub mod Output

@@ -23,6 +23,13 @@ Status:
   2  the command line was refused       6  a file or the output failed
   3  quiet: it waits for ever           7  the engine is at fault";
 
+/// A job, and whether what went wrong is to be explained.
+#[derive(Clone, Copy, Debug)]
+pub struct Asked<'a> {
+    pub job: Job<'a>,
+    pub explain: bool,
+}
+
 /// What a command line asks for.
 #[derive(Clone, Copy, Debug)]
 pub enum Job<'a> {
@@ -77,6 +84,13 @@ fn journal_flag<'a>(alloc: Global) -> Arg<'a> {
         .help("Write the run's journal instead of what it publishes")
 }
 
+fn explain_flag<'a>(alloc: Global) -> Arg<'a> {
+    Arg::new(alloc, "explain")
+        .long("explain")
+        .action(ArgAction::SetTrue)
+        .help("Explain what went wrong, below its line")
+}
+
 fn journal_argument<'a>(alloc: Global) -> Arg<'a> {
     Arg::new(alloc, "journal")
         .value_name("JOURNAL")
@@ -126,7 +140,8 @@ fn run_command<'a>(alloc: Global) -> Result<Command<'a>, AllocError> {
         .arg(file_argument(alloc))?
         .arg(script_argument(alloc))?
         .arg(limit_argument(alloc))?
-        .arg(journal_flag(alloc))
+        .arg(journal_flag(alloc))?
+        .arg(explain_flag(alloc))
 }
 
 fn check_command<'a>(alloc: Global) -> Result<Command<'a>, AllocError> {
@@ -134,7 +149,8 @@ fn check_command<'a>(alloc: Global) -> Result<Command<'a>, AllocError> {
         .about("Check a journal against a program, by the rules")
         .arg(file_argument(alloc))?
         .arg(journal_argument(alloc))?
-        .arg(script_argument(alloc))
+        .arg(script_argument(alloc))?
+        .arg(explain_flag(alloc))
 }
 
 fn draw_command<'a>(alloc: Global) -> Result<Command<'a>, AllocError> {
@@ -152,7 +168,8 @@ fn draw_command<'a>(alloc: Global) -> Result<Command<'a>, AllocError> {
 fn print_command<'a>(alloc: Global) -> Result<Command<'a>, AllocError> {
     Command::new(alloc, "print")
         .about("Write a program in its plain form")
-        .arg(file_argument(alloc))
+        .arg(file_argument(alloc))?
+        .arg(explain_flag(alloc))
 }
 
 fn orc_command<'a>(alloc: Global) -> Result<Command<'a>, AllocError> {
@@ -211,14 +228,23 @@ fn job_of<'a>(name: &str, given: &ArgMatches<'a>) -> Option<Job<'a>> {
     }
 }
 
+// Whether what goes wrong is to be explained: pictures have no such option.
+fn is_explained(name: &str, given: &ArgMatches) -> bool {
+    match name {
+        "run" | "check" | "print" => given.get_flag("explain"),
+        _ => false,
+    }
+}
+
 /// Reads a command line, whose first word is the program's name. An error asks for help or for the version, or refuses
 /// it.
-pub fn read_words<'a, S: AsStr>(alloc: Global, words: &'a [S]) -> Result<Job<'a>, Error> {
+pub fn read_words<'a, S: AsStr>(alloc: Global, words: &'a [S]) -> Result<Asked<'a>, Error> {
     let mut command = orc_command(alloc)?;
     let matches = command.try_get_matches_from_mut(words)?;
     if let Some((name, given)) = matches.subcommand() {
         if let Some(job) = job_of(name, given) {
-            return Ok(job);
+            let explain = is_explained(name, given);
+            return Ok(Asked { job, explain });
         }
     }
     Err(command.error(ErrorKind::MissingSubcommand, "no such command")?)

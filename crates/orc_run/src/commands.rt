@@ -4,10 +4,12 @@ ghost use Rattle.std.specs.Prelude.{◌≡◌, ◌≢◌, ◌<◌, ℕ, List, If
 ghost use Rattle.std.specs.Io.KnownBytes.{Keeps};
 ghost use Rattle.orc_outcome.specs.declared.end.End.TheVariants as ends;
 ghost use Rattle.orc_run.specs.Inputs.{IsHeld, IsRead};
-ghost use Rattle.orc_run.specs.Commands.{failure_status, HasDrawn, HasEnded, HasJudged, HasPrinted, HasRun, IsDone, IsUnread, LeavesUndone, WasCut};
+ghost use Rattle.orc_run.specs.Commands.{HasDrawn, HasEnded, HasJudged, HasPrinted, HasRun, IsDone, IsUnread, LeavesUndone, WasCut};
 
-use crate::arguments::{Job, read_words};
+use crate::arguments::{Asked, Job, read_words};
 use crate::drawing::{Undrawn, draw_text};
+use crate::explained::{Explained, subject_of};
+use crate::failures::{Failure, report};
 use crate::faults::RunFault;
 use crate::inputs::{Files, ReadFault};
 use crate::judging::check_text;
@@ -15,46 +17,11 @@ use crate::output::WriteFault;
 use crate::printing::print_text;
 use crate::running::{Options, run_text};
 use clap::error::ErrorKind;
-use orc_draw::MOST_ROWS;
+use orc_explain::{Document, Subject};
 use std::alloc::Global;
 use std::convert::AsStr;
-use std::fmt;
 use std::io::Write;
 use std::path::Path;
-
-/// Why a job was not done.
-#[derive(Clone, Copy)]
-pub enum Failure<'a> {
-    /// The file at this path could not be read.
-    Unread(&'a str, ReadFault),
-    Fault(RunFault),
-    /// A picture would have too many rows.
-    Rows,
-}
-
-impl fmt::Display for Failure<'_> {
-    fn fmt<W: fmt::Write>(&self, f: &mut fmt::Formatter<W>) -> fmt::Result {
-        match *self {
-            Failure::Unread(_, ReadFault::Memory) => write!(f, "orc: memory"),
-            Failure::Unread(path, ReadFault::Failed) => write!(f, "orc: read {path}"),
-            Failure::Fault(fault) => write!(f, "{fault}"),
-            Failure::Rows => write!(f, "orc: draw: over {MOST_ROWS} rows"),
-        }
-    }
-}
-
-impl Failure<'_> {
-    /// The process's status.
-    fn status(&self) -> u8
-        ensures { result ≡ failure_status self.now }
-    {
-        match self {
-            Failure::Unread(_, fault) => fault.status(),
-            Failure::Fault(fault) => fault.status(),
-            Failure::Rows => 1,
-        }
-    }
-}
 
 /// Reports a command line that asks for help or for the version, or was refused: the status.
 fn refuse<W: Write, V: Write>(error: &clap::Error, out: &mut W, err: &mut V) -> u8
@@ -115,15 +82,20 @@ fn run_file<'a, F: Files, W: Write>(
     options: &Options,
     files: &mut F,
     out: &mut W,
+    explained: &mut Explained,
 ) -> Result<u8, Failure<'a>>
     ensures done { IfOk result (HasRun (F.holds files.old) file.now (option_map (λ p. p.now) script.entry) options.now (W.contents out.old) (W.contents out.new)) }
     ensures undone { IfErr result (λ f. LeavesUndone f (W.contents out.old) (W.contents out.new)) }
 {
     let source = read(file, files)?;
-    let script = read_script(alloc, script, files)?;
-    match run_text(alloc, source.as_slice(), script.as_slice(), options, out) {
+    let answers = read_script(alloc, script, files)?;
+    match run_text(alloc, source.as_slice(), answers.as_slice(), options, out) {
         Ok(summary) => Ok(summary.end.status()),
-        Err(fault) => Err(Failure::Fault(fault)),
+        Err(fault) => {
+            let subject = subject_of(file, source.as_slice(), script, answers.as_slice());
+            explained.fault(alloc, &subject, fault);
+            Err(Failure::Fault(fault))
+        }
     }
 }
 
@@ -136,22 +108,31 @@ fn check_file<'a, F: Files, W: Write>(
     script: Option<&'a str>,
     files: &mut F,
     out: &mut W,
+    explained: &mut Explained,
 ) -> Result<u8, Failure<'a>>
     ensures done { IfOk result (HasJudged (F.holds files.old) file.now journal.entry.now (option_map (λ p. p.now) script.entry) (W.contents out.old) (W.contents out.new)) }
     ensures undone { IfErr result (λ f. LeavesUndone f (W.contents out.old) (W.contents out.new)) }
 {
     let source = read(file, files)?;
-    let journal = read(journal, files)?;
-    let script = read_script(alloc, script, files)?;
+    let lines = read(journal, files)?;
+    let answers = read_script(alloc, script, files)?;
     match check_text(
         alloc,
         source.as_slice(),
-        script.as_slice(),
-        journal.as_slice(),
+        answers.as_slice(),
+        lines.as_slice(),
         out,
     ) {
         Ok(()) => Ok(0),
-        Err(fault) => Err(Failure::Fault(fault)),
+        Err(fault) => {
+            let mut subject = subject_of(file, source.as_slice(), script, answers.as_slice());
+            subject.journal = Some(Document {
+                name: journal,
+                text: lines.as_slice(),
+            });
+            explained.fault(alloc, &subject, fault);
+            Err(Failure::Fault(fault))
+        }
     }
 }
 
@@ -199,6 +180,7 @@ fn print_file<'a, F: Files, W: Write>(
     file: &'a str,
     files: &mut F,
     out: &mut W,
+    explained: &mut Explained,
 ) -> Result<u8, Failure<'a>>
     ensures done { IfOk result (HasPrinted (F.holds files.old) file.now (W.contents out.old) (W.contents out.new)) }
     ensures undone { IfErr result (λ f. LeavesUndone f (W.contents out.old) (W.contents out.new)) }
@@ -206,7 +188,11 @@ fn print_file<'a, F: Files, W: Write>(
     let source = read(file, files)?;
     match print_text(alloc, source.as_slice(), out) {
         Ok(()) => Ok(0),
-        Err(fault) => Err(Failure::Fault(fault)),
+        Err(fault) => {
+            let subject = Subject::of_source(file, source.as_slice());
+            explained.fault(alloc, &subject, fault);
+            Err(Failure::Fault(fault))
+        }
     }
 }
 
@@ -216,6 +202,7 @@ fn do_job<'a, F: Files, W: Write>(
     job: Job<'a>,
     files: &mut F,
     out: &mut W,
+    explained: &mut Explained,
 ) -> Result<u8, Failure<'a>>
     ensures done { IfOk result (IsDone (F.holds files.old) job.entry (W.contents out.old) (W.contents out.new)) }
     ensures undone { IfErr result (λ f. LeavesUndone f (W.contents out.old) (W.contents out.new)) }
@@ -225,19 +212,19 @@ fn do_job<'a, F: Files, W: Write>(
             file,
             script,
             options,
-        } => run_file(alloc, file, script, &options, files, out),
+        } => run_file(alloc, file, script, &options, files, out, explained),
         Job::Check {
             file,
             journal,
             script,
-        } => check_file(alloc, file, journal, script, files, out),
+        } => check_file(alloc, file, journal, script, files, out, explained),
         Job::Draw {
             file,
             journal,
             script,
             options,
         } => draw_file(alloc, file, journal, script, options, files, out),
-        Job::Print { file } => print_file(alloc, file, files, out),
+        Job::Print { file } => print_file(alloc, file, files, out, explained),
     }
 }
 
@@ -267,14 +254,16 @@ where
     ensures quiet { result ≡ 3 → HasEnded ends.Quiet (W.contents out.old) (W.contents out.new) }
     ensures cut { result ≡ 4 → WasCut (W.contents out.old) (W.contents out.new) }
 {
-    let job = match read_words(alloc, words) {
+    let Asked { job, explain } = match read_words(alloc, words) {
         Err(error) => return refuse(&error, out, err),
-        Ok(job) => job,
+        Ok(asked) => asked,
     };
-    match do_job(alloc, job, files, out) {
+    let mut explained = Explained::new(explain);
+    match do_job(alloc, job, files, out, &mut explained) {
         Ok(status) => status,
         Err(failure) => {
-            let _ = writeln!(err, "{failure}");
+            explained.unread(alloc, &failure);
+            let _ = report(err, &failure, &explained);
             failure.status()
         }
     }

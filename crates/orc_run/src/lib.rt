@@ -4,6 +4,8 @@
 mod arguments;
 mod commands;
 mod drawing;
+mod explained;
+mod failures;
 mod faults;
 mod inputs;
 mod judging;
@@ -15,6 +17,8 @@ mod running;
 
 pub use commands::command;
 pub use drawing::{Undrawn, draw_text};
+pub use explained::Explained;
+pub use failures::{Failure, report};
 pub use faults::RunFault;
 pub use inputs::{Files, ReadFault};
 pub use judging::check_text;

@@ -1,0 +1,28 @@
+-- What is told of a job that was not done.
+use Rattle.std.specs.Prelude.{ℕ, List, [], ◌++◌, codes, decimal, string_bytes}
+use Rattle.orc_draw.specs.declared.fault.TheConstants.{MOST_ROWS}
+use Rattle.orc_run.specs.Faults.{line, status}
+use Rattle.orc_run.specs.Status.{read_status_of}
+use Rattle.orc_run.specs.declared.explained.Explained.{Explained}
+use Rattle.orc_run.specs.declared.explained.Explained.TheVariants as explained
+use Rattle.orc_run.specs.declared.failures.Failure.{Failure}
+use Rattle.orc_run.specs.declared.failures.Failure.TheVariants as failure
+use Rattle.orc_run.specs.declared.inputs.ReadFault.TheVariants as read
+
+abbrev pub failure_status : Failure → ℕ
+failure_status (failure.Unread path f) = read_status_of f
+failure_status (failure.Fault f) = status f
+failure_status failure.Rows = 1
+
+-- the line on standard error, without its LF
+abbrev pub failure_line : Failure → List ℕ
+failure_line (failure.Unread path read.Memory) = codes "orc: memory"
+failure_line (failure.Unread path read.Failed) = codes "orc: read " ++ path.now
+failure_line (failure.Fault f) = line f
+failure_line failure.Rows = codes "orc: draw: over " ++ (decimal MOST_ROWS ++ codes " rows")
+
+-- what follows it: nothing unless it is asked for
+abbrev pub told : Explained → List ℕ
+told explained.Unasked = []
+told explained.Nothing = []
+told (explained.Text text) = string_bytes text

@@ -1,0 +1,119 @@
+//! What explains a failure, where that is asked for.
+
+ghost use Rattle.std.specs.Prelude.{◌≡◌, false, if◌then◌else◌};
+ghost use Rattle.orc_run.specs.Failures.{told};
+ghost use Rattle.orc_run.specs.declared.explained.Explained.TheVariants.{Nothing, Unasked};
+
+use crate::failures::Failure;
+use crate::faults::RunFault;
+use crate::inputs::ReadFault;
+use orc_engine::EngineFault;
+use orc_explain::{Document, Fault, Subject, explain, explain_refused, explain_unread};
+use std::alloc::{AllocError, Global};
+
+/// What explains a failure.
+#[derive(Drop)]
+pub enum Explained {
+    /// The command line doesn't ask for it.
+    Unasked,
+    /// There is nothing to tell, or memory for it was refused.
+    Nothing,
+    Text(String),
+}
+
+// What is explained of a fault; nothing where its line says all.
+fn fault_of(fault: RunFault) -> Option<Fault> {
+    match fault {
+        RunFault::Syntax(fault) => Some(Fault::Syntax(fault)),
+        RunFault::Scope(fault) => Some(Fault::Scope(fault)),
+        RunFault::Script(fault) => Some(Fault::Script(fault)),
+        RunFault::Journal(fault) => Some(Fault::Journal(fault)),
+        RunFault::Check(_) => None,
+        RunFault::Engine(EngineFault::Range) => Some(Fault::Range),
+        RunFault::Engine(EngineFault::Memory) => Some(Fault::Begin),
+        RunFault::Engine(EngineFault::Broken) => Some(Fault::Broken),
+        RunFault::Write(_) => Some(Fault::Write),
+    }
+}
+
+impl Explained {
+    /// Nothing yet.
+    pub fn new(is_asked: bool) -> Explained
+        ensures { result ≡ (if is_asked then Nothing else Unasked) }
+    {
+        if is_asked {
+            Explained::Nothing
+        } else {
+            Explained::Unasked
+        }
+    }
+
+    /// The text, empty where nothing is told.
+    pub fn as_str(&self) -> &str
+        ensures { result.now ≡ told self.now }
+    {
+        match self {
+            Explained::Text(text) => text.as_str(),
+            Explained::Unasked | Explained::Nothing => "",
+        }
+    }
+
+    fn is_asked(&self) -> bool
+        ensures { self.now ≡ Unasked → result ≡ false }
+    {
+        match self {
+            Explained::Unasked => false,
+            Explained::Nothing | Explained::Text(_) => true,
+        }
+    }
+
+    // What is told, where memory for it was not refused.
+    fn tell(&mut self, text: Result<String, AllocError>) {
+        if let Ok(text) = text {
+            *self = Explained::Text(text);
+        }
+    }
+
+    /// Explains a fault that was found in these files. Where none of that is asked for, and where memory is refused, nothing is told.
+    pub fn fault(&mut self, alloc: Global, subject: &Subject, fault: RunFault)
+        ensures { self.old ≡ Unasked → self.new ≡ Unasked }
+    {
+        if !self.is_asked() {
+            return;
+        }
+        if let Some(fault) = fault_of(fault) {
+            self.tell(explain(alloc, subject, fault));
+        }
+    }
+
+    /// Explains that a file was not read, in the same way; of other failures nothing.
+    pub fn unread(&mut self, alloc: Global, failure: &Failure<'_>)
+        ensures { self.old ≡ Unasked → self.new ≡ Unasked }
+    {
+        if !self.is_asked() {
+            return;
+        }
+        match *failure {
+            Failure::Unread(_, ReadFault::Memory) => self.tell(explain_refused(alloc)),
+            Failure::Unread(path, ReadFault::Failed) => self.tell(explain_unread(alloc, path)),
+            Failure::Fault(_) | Failure::Rows => {}
+        }
+    }
+}
+
+/// The files of a command line, as they are named and read.
+pub fn subject_of<'a>(
+    file: &'a str,
+    source: &'a [u8],
+    script: Option<&'a str>,
+    answers: &'a [u8],
+) -> Subject<'a> {
+    let mut subject = Subject::of_source(file, source);
+    if let Some(name) = script {
+        subject.script = Some(Document {
+            name,
+            text: answers,
+        });
+    }
+    subject
+}

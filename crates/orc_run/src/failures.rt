@@ -1,0 +1,63 @@
+//! Why a job was not done, and how that is told.
+
+ghost use Rattle.std.specs.Prelude.{◌≡◌, ◌++◌, OnOk, Some, codes};
+ghost use Rattle.std.specs.Io.KnownBytes.{Appends};
+ghost use Rattle.orc_run.specs.Failures.{failure_line, failure_status, told};
+
+use crate::explained::Explained;
+use crate::faults::RunFault;
+use crate::inputs::ReadFault;
+use crate::output::{WriteFault, write_text};
+use orc_draw::MOST_ROWS;
+use std::fmt;
+use std::io::Write;
+
+/// Why a job was not done.
+#[derive(Clone, Copy)]
+pub enum Failure<'a> {
+    /// The file at this path could not be read.
+    Unread(&'a str, ReadFault),
+    Fault(RunFault),
+    /// A picture would have too many rows.
+    Rows,
+}
+
+impl fmt::Display for Failure<'_> {
+    ghost output = { λ f. Some (failure_line f) };
+
+    fn fmt<W: fmt::Write>(&self, f: &mut fmt::Formatter<W>) -> fmt::Result {
+        match *self {
+            Failure::Unread(_, ReadFault::Memory) => write!(f, "orc: memory"),
+            Failure::Unread(path, ReadFault::Failed) => write!(f, "orc: read {path}"),
+            Failure::Fault(fault) => write!(f, "{fault}"),
+            Failure::Rows => write!(f, "orc: draw: over {MOST_ROWS} rows"),
+        }
+    }
+}
+
+impl Failure<'_> {
+    /// The process's status.
+    pub fn status(&self) -> u8
+        ensures { result ≡ failure_status self.now }
+    {
+        match self {
+            Failure::Unread(_, fault) => fault.status(),
+            Failure::Fault(fault) => fault.status(),
+            Failure::Rows => 1,
+        }
+    }
+}
+
+/// Tells of a job that was not done: its line, and behind it what explains it. At a fault of the stream some of that may be missing at the end.
+pub fn report<V: Write>(
+    err: &mut V,
+    failure: &Failure<'_>,
+    explained: &Explained,
+) -> Result<(), WriteFault>
+    ensures { OnOk result (Appends (V.contents err.old) (V.contents err.new) (failure_line failure.now ++ (codes "\n" ++ told explained.now))) }
+{
+    if writeln!(err, "{failure}").is_err() {
+        return Err(WriteFault);
+    }
+    write_text(err, explained.as_str().as_bytes())
+}
