@@ -204,7 +204,7 @@ impl<P: Naming> Desk<P> {
             }
             Ok(Moved::Calls) => self.call(graph, answers, slot, token),
             Ok(Moved::Waits) => {
-                self.wait(graph, slot, token)?;
+                self.wait(graph, slot)?;
                 Ok(None)
             }
             Err(fault) => Err(Stop::Refused(fault)),
@@ -277,12 +277,15 @@ impl<P: Naming> Desk<P> {
         }
     }
 
-    // A token waits for each of its cells.
-    fn wait(&mut self, graph: &Graph, slot: usize, token: Token) -> Result<(), Stop>
+    // The token in a slot waits for each of its cells.
+    fn wait(&mut self, graph: &Graph, slot: usize) -> Result<(), Stop>
         requires graph { graph.now ≡ P.listing }
     {
+        let Some(token) = self.ledger.held(slot) else {
+            return Ok(());
+        };
         self.ledger
-            .awaited(graph, &token, &mut self.cells)
+            .park(graph, slot, token, &mut self.cells)
             .map_err(Stop::Refused)?;
         for cell in &self.cells {
             let handle = Handle {

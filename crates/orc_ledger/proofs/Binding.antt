@@ -1,5 +1,5 @@
 -- A bind, with the cancels that it leaves due, keeps the book lawful; and so does a lost cell.
-use Rattle.std.proofs.Common.{◌≡◌, ◌≤◌, ◌<◌, ℕ, zero, suc, ◌+◌, List, [], ◌∷◌, ◌++◌, refl, sym, ap, ◌∙◌, subst, arith, inl, inr, map, length, length-set, Bool, true, false, cond, nat_eq, eq-eqb, not}
+use Rattle.std.proofs.Common.{◌≡◌, ◌≤◌, ◌<◌, ℕ, zero, suc, ◌+◌, List, [], ◌∷◌, ◌++◌, refl, sym, ap, ◌∙◌, subst, arith, inl, inr, map, length, length-set, Bool, true, false, cond, nat_eq, eq-eqb, not, slice_get, Some}
 use Rattle.orc_rules.specs.declared.value.Value.{Value}
 use Rattle.orc_rules.specs.declared.entry.Entry.{Entry}
 use Rattle.orc_rules.specs.declared.entry.Entry.TheVariants.{Bind, Lost, Cancel}
@@ -92,6 +92,14 @@ module _ (l : Listing) (sites : List Site) (s : Records) (L : Lawful l sites s) 
         }
 
   -- the token t publishes v, which the right side of c takes
+  -- a cell whose right side takes a publication isn't bound
+  pub taken-unbound : (t : Token) → IsIn t s.tokens → (v : Value) → standing (code l) (its_env (code l) s) t.standing ≡ param (Is v) → (c : ℕ) (p : Path) → taker (its_path (code l) s t.step) ≡ aiding c p → slice_get s.cells c ≡ Some (bound.Cell c)
+  taken-unbound t i v form c p takes =
+      let f = token_found l sites s L t i in
+      let is : plug f.around (token t.serial (param (Is v))) ≡ L.place.marked = ap (λ z. plug f.around (token t.serial z)) (sym form) ∙ f.is in
+      let b = subst (λ m. kept.Bound c v t.serial L.place.mark m) is (bound_by c v t.serial L.place.mark f.around (token t.serial (param (Is v))) ended p (ap taker f.path ∙ takes) emits) in
+      unbound l sites s L c (subst (λ m. 1 ≤ times (cell c) m) b.is (omega (arith, times_part (cell c) (replaced b.around (one_here (in_opened b.left c b.right))), once_same (cell c) (cell c) refl)))
+
   pub bind-lawful : (t : Token) → IsIn t s.tokens → (v : Value) → standing (code l) (its_env (code l) s) t.standing ≡ param (Is v)
       → (c : ℕ) (p : Path) → taker (its_path (code l) s t.step) ≡ aiding c p
       → s.entries < s.limit → (s' : Records) → Drops (code l) c (bound.Is v) s s' → (ks : List ℕ) → AreCancelled (code l) c s ks
@@ -106,8 +114,7 @@ module _ (l : Listing) (sites : List Site) (s : Records) (L : Lawful l sites s) 
       let after = plug b.around (fill_marked (Is v) c b.left) in
       let conf = subst (λ m. Confined c m) (sym b.is) (confined l sites s L c) in
       let few = subst (λ m. times (cell c) m ≤ 1) (sym b.is) ((numbered l sites s L).single (cell c)) in
-      let some : 1 ≤ times (cell c) L.place.marked = subst (λ m. 1 ≤ times (cell c) m) b.is (omega (arith, times_part (cell c) (replaced b.around (one_here (in_opened b.left c b.right))), once_same (cell c) (cell c) refl)) in
-      let free = unbound l sites s L c some in
+      let free = taken-unbound t i v form c p takes in
       let g = goes c (Is v) b.around b.left b.right conf few in
       let rows : (w : Row → ℕ) → weight w (marks whole after) ≡ weight w (rows_of (code l) s') = λ w. omega (arith, g.rows w, ap (λ m. weight (kept.kept c (Is v) w) (marks whole m)) b.is, L.spells.rows (kept.kept c (Is v) w), rows-dropped l s s' L.sound c (bound.Is v) D free w) in
       let sides' : (w : Numbered → ℕ) → weight w (sides whole after) ≡ weight w (sides_of (code l) s') = λ w. omega (arith, g.sides w, ap (λ m. weight (kept.kept_side c (Is v) w) (sides whole m)) b.is, L.spells.sides (kept.kept_side c (Is v) w), sides-dropped l s s' L.sound c (bound.Is v) D free w) in

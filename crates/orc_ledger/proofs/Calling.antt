@@ -1,5 +1,5 @@
 -- Each kind of change of the records keeps what pending calls are told: the calls' part of Turns, Crosses, Resumes, Exchanges and Drops.
-use Rattle.std.proofs.Common.{◌≡◌, ◌≤◌, ℕ, ◌+◌, List, [], ◌∷◌, ◌++◌, ap, arith, map, true}
+use Rattle.std.proofs.Common.{◌≡◌, ℕ, ◌+◌, List, [], ◌∷◌, ◌++◌, ap, arith, map, true}
 use Rattle.orc_rules.specs.declared.value.Value.{Value}
 use Rattle.orc_rules.specs.declared.entry.Entry.{Entry}
 use Rattle.orc_rules.specs.declared.entry.Entry.TheVariants as entry
@@ -8,7 +8,7 @@ use Rattle.orc_rules.specs.Sites.{Site, find, is_scripted}
 use Rattle.orc_rules.specs.Timed.{nth_of}
 use Rattle.orc_names.specs.declared.names.Bound.{Bound}
 use Rattle.orc_names.specs.declared.names.Scope.{Scope}
-use Rattle.orc_ledger.specs.Same.{weight, but}
+use Rattle.orc_ledger.specs.Same.{weight}
 use Rattle.orc_ledger.specs.Records.{Records, Lawful}
 use Rattle.orc_ledger.specs.Told.{AreTold}
 use Rattle.orc_ledger.specs.Calls.{Turns, Crosses, Resumes, Exchanges, Drops, call_goes}

@@ -70,7 +70,7 @@ got_one zero x y h = (refl, ap (λ o. value_or x o) h)
     value_or d Nothing = d
 got_one (suc k) x y h = cc h
 
-current-push : (cells : List Bound) (b : Bound) → current (cells ++ Cell (length cells) ∷ []) b ≡ current cells b
+pub current-push : (cells : List Bound) (b : Bound) → current (cells ++ Cell (length cells) ∷ []) b ≡ current cells b
 current-push cells (Is v) = refl
 current-push cells (Cell d) = more cells d Cell
   where

@@ -1,10 +1,9 @@
 -- What the notes say of the calls that are due.
-use Rattle.std.proofs.Common.{◌≡◌, ◌≤◌, ◌<◌, ◌+◌, ◌⊎◌, ⊎_elim, ℕ, List, [], refl, sym, ap, ◌∙◌, subst, arith, Option, Some, None}
-use Rattle.std.specs.Prelude.{MatchOption}
+use Rattle.std.proofs.Common.{◌≡◌, ◌≤◌, ◌<◌, ◌+◌, ⊎_elim, ℕ, List, [], refl, sym, ap, ◌∙◌, subst, arith, Option, Some, None}
 use Rattle.orc_rules.specs.Timed.{IsIn}
 use Rattle.orc_ledger.specs.Dues.{IsNoted, IsEarliest, IsLeastFrom, KeepsBut}
 use Rattle.orc_ledger.specs.Next.{due_of, next_due}
-use Rattle.orc_ledger.specs.PendingCalls.{HasNote, HaveNotes, IsDueBeyond, IsLeastBeyond}
+use Rattle.orc_ledger.specs.PendingCalls.{HaveNotes, IsDueBeyond, IsLeastBeyond}
 use Rattle.orc_ledger.specs.declared.records.Call.{Call}
 use Rattle.orc_ledger.proofs.Telling.{next_none, next_some, next_least}
 

@@ -127,7 +127,7 @@ or_false : (a b : Bool) → (a || b) ≡ false → (a ≡ false) × (b ≡ false
 or_false true b h = cc h
 or_false false b h = (refl, h)
 
-args_stay : (w : Param) (c : ℕ) (ps : List Param) → has_arg c ps ≡ false → map (fill_param w c) ps ≡ ps
+pub args_stay : (w : Param) (c : ℕ) (ps : List Param) → has_arg c ps ≡ false → map (fill_param w c) ps ≡ ps
 args_stay w c [] h = refl
 args_stay w c (is.Name x ∷ ps) h = ap (λ qs. is.Name x ∷ qs) (args_stay w c ps h)
 args_stay w c (is.Is v ∷ ps) h = ap (λ qs. is.Is v ∷ qs) (args_stay w c ps h)

@@ -1,20 +1,18 @@
 -- An entry of a token that the place allows is the word of one of the records' tokens.
-use Rattle.std.proofs.Common.{◌≡◌, ℕ, List, refl, sym, ap, ◌∙◌, subst, inl, inr, ◌⊎◌, ⊎_elim, Option, Some, None}
+use Rattle.std.proofs.Common.{◌≡◌, ℕ, List, sym, ap, ◌∙◌, subst, ⊎_elim, Some}
 use Rattle.orc_rules.specs.declared.entry.Entry.{Entry}
 use Rattle.orc_rules.specs.declared.entry.Entry.TheVariants as entry
 use Rattle.orc_rules.specs.declared.entry.RuleFault.TheVariants as reason
 use Rattle.orc_rules.specs.Nodes.{Listing, code, definitions}
 use Rattle.orc_rules.specs.Sites.{Site}
-use Rattle.orc_rules.specs.Term.{Term}
 use Rattle.orc_rules.specs.Timed.{IsIn}
 use Rattle.orc_rules.specs.Journal.{Place, Leads}
 use Rattle.orc_rules.specs.Refusal.{HasToken, IsThere}
 use Rattle.orc_rules.proofs.Refusal.{meets_and_leads}
-use Rattle.orc_ledger.specs.Spelling.{whole, stands, pends}
-use Rattle.orc_ledger.specs.Records.{Records, Lawful, context, token_row, call_row}
+use Rattle.orc_ledger.specs.Spelling.{whole, stands}
+use Rattle.orc_ledger.specs.Records.{Records, Lawful, context}
 use Rattle.orc_ledger.specs.Doing.{term_of, what_of, names, Asks}
 use Rattle.orc_ledger.specs.declared.records.Token.{Token}
-use Rattle.orc_ledger.specs.declared.records.Call.{Call}
 use Rattle.orc_ledger.specs.declared.what.What.{What}
 use Rattle.orc_ledger.specs.declared.what.What.TheVariants.{Halt, Fork, Seq, Prune, Other, Def, Void, Publish, Send, Bind, Call as Calls}
 use Rattle.orc_ledger.proofs.Finding.{stands_row}

@@ -9,9 +9,8 @@ use Rattle.orc_rules.specs.Sites.{Site}
 use Rattle.orc_rules.specs.Term.{Halted}
 use Rattle.orc_rules.specs.Marked.{in_call, erase, Replaces, here}
 use Rattle.orc_rules.specs.Timed.{IsIn, IsDue}
-use Rattle.orc_rules.specs.Journal.{Place, Leads}
 use Rattle.orc_rules.specs.Refusal.{HasCall}
-use Rattle.orc_ledger.specs.Records.{Records, Lawful, context, is_over}
+use Rattle.orc_ledger.specs.Records.{Records, Lawful, is_over}
 use Rattle.orc_ledger.specs.Told.{AreTold}
 use Rattle.orc_ledger.specs.Doing.{names}
 use Rattle.orc_ledger.specs.declared.what.What.{What}

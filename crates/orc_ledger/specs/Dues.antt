@@ -1,5 +1,5 @@
 -- Calls noted with their due times.
-use Rattle.std.specs.Prelude.{◌≡◌, ◌≤◌, ◌<◌, ◌⊎◌, ℕ, List, []}
+use Rattle.std.specs.Prelude.{◌≡◌, ◌≤◌, ◌⊎◌, ℕ, List}
 use Rattle.orc_rules.specs.Timed.{IsIn}
 
 -- call k is noted with time t

@@ -1,12 +1,14 @@
 -- What every call of a ledger keeps.
 use Rattle.std.specs.Prelude.{ℕ, List}
-use Rattle.orc_rules.specs.Nodes.{Listing}
+use Rattle.orc_rules.specs.Nodes.{Listing, code, definitions}
 use Rattle.orc_rules.specs.Sites.{Site}
 use Rattle.orc_calls.specs.Counting.{AreCounted}
 use Rattle.orc_ledger.specs.Records.{Records, Lawful}
 use Rattle.orc_ledger.specs.Next.{AreGrouped, numbers_of}
 use Rattle.orc_ledger.specs.OpenGroups.{AreSizes}
 use Rattle.orc_ledger.specs.Told.{AreTold}
+use Rattle.orc_ledger.specs.Parking.{Parked}
+use Rattle.orc_ledger.specs.AtRest.{AreAtRest}
 
 pub record Kept (l : Listing) (sites : List Site) (counts : List (List ℕ × ℕ)) (sizes : List ℕ) (s : Records) : Type 0 where
   -- the journal leads from the program's term to a place that the records spell
@@ -19,3 +21,8 @@ pub record Kept (l : Listing) (sites : List Site) (counts : List (List ℕ × �
   pub counted : AreCounted sites counts lawful.place.calls
   -- of each group's number it is known how many members it has
   pub sized : AreSizes sizes s
+
+-- and that each token which is said to wait does
+pub record IsKept (l : Listing) (sites : List Site) (counts : List (List ℕ × ℕ)) (sizes : List ℕ) (q : Parked) (s : Records) : Type 0 where
+  pub kept : Kept l sites counts sizes s
+  pub rest : AreAtRest (code l) (definitions l) s q

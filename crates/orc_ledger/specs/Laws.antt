@@ -1,5 +1,5 @@
 -- What a token's word and what comes next promise of the rules: the statements.
-use Rattle.std.specs.Prelude.{◌≡◌, ◌≤◌, ◌⊎◌, ◌↔◌, ◌||◌, ℕ, List, Bool, true, false, not, Some}
+use Rattle.std.specs.Prelude.{◌≡◌, ◌≤◌, ◌⊎◌, ◌↔◌, ◌||◌, ℕ, List, true, false, not, Some}
 use Rattle.orc_rules.specs.declared.entry.Entry.{Entry}
 use Rattle.orc_rules.specs.declared.entry.Entry.TheVariants.{Tick}
 use Rattle.orc_rules.specs.Nodes.{Listing, code, definitions}

@@ -1,4 +1,5 @@
 pub mod Answers
+pub mod AtRest
 pub mod Awaiting
 pub mod Begun
 pub mod Calls
@@ -13,6 +14,7 @@ pub mod Moves
 pub mod Next
 pub mod OpenGroups
 pub mod Parameters
+pub mod Parking
 pub mod PendingCalls
 pub mod Records
 pub mod Requests

@@ -1,5 +1,5 @@
 -- The scopes that a call of a definition adds for its parameters.
-use Rattle.std.specs.Prelude.{◌≡◌, ◌≤◌, ◌+◌, ◌⊎◌, ℕ, List, [], ◌∷◌, ◌++◌, length, map, Some, None, slice_get, slice_index_or}
+use Rattle.std.specs.Prelude.{◌≡◌, ◌≤◌, ◌⊎◌, ℕ, List, [], ◌∷◌, ◌++◌, length, map, Some, None, slice_get, slice_index_or}
 use Rattle.orc_rules.specs.declared.param.Operand.{Operand}
 use Rattle.orc_rules.specs.declared.entry.Entry.TheVariants as entry
 use Rattle.orc_rules.specs.Timed.{IsIn}

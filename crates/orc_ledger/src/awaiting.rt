@@ -7,9 +7,11 @@ ghost use Rattle.orc_names.specs.Scopes.{env_of};
 ghost use Rattle.orc_ledger.specs.Awaiting.{cells_among, cells_of};
 ghost use Rattle.orc_ledger.specs.Doing.{closed, term_of};
 ghost use Rattle.orc_ledger.specs.Records.{its_env};
+ghost use Rattle.orc_ledger.specs.Tokens.{IsHeld};
 
 use crate::ledger::{Ledger, LedgerFault, Program, push_within, reserve};
 use crate::records::{Standing, Token};
+use crate::what::What;
 use orc_graph::{Graph, Node};
 use orc_names::{Bound, Scope, meaning};
 use orc_rules::param::Operand;
@@ -80,5 +82,27 @@ impl<P: Program> Ledger<P> {
         }
         listed.clear();
         Ok(())
+    }
+
+    /// Lists the cells for which a token waits, as `awaited` does, and parks it: `next` need not look at it until one of these cells is bound or
+    /// lost. A token that can move isn't parked. The only fault is `Memory`; what is listed is then not known, and the token isn't parked.
+    pub fn park(
+        &mut self,
+        graph: &Graph,
+        slot: usize,
+        token: Token,
+        listed: &mut Vec<u64>,
+    ) -> Result<(), LedgerFault>
+        requires graph { graph.now ≡ P.listing }
+        requires held { IsHeld self.old.slots slot token }
+        ensures listed { OnOk result (listed.new.items ≡ cells_of (term_of (code P.listing) self.old token)) }
+        ensures same { self.new ≡ self.old }
+        ensures why { IfErr result (λ fault. fault ≡ LedgerFault.Memory) }
+    {
+        self.awaited(graph, &token, listed)?;
+        match self.what(graph, &token) {
+            What::Wait(_) => self.tokens.park(slot, token.serial, listed),
+            _ => Ok(()),
+        }
     }
 }

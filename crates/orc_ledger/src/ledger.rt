@@ -67,14 +67,14 @@ pub struct Ledger<P: Program> {
 
 impl<P: Program> Model for Ledger<P> {
     ghost use Rattle.orc_ledger.specs.Records.{Records};
-    ghost use Rattle.orc_ledger.specs.Kept.{Kept};
+    ghost use Rattle.orc_ledger.specs.Kept.{IsKept};
     ghost use Rattle.orc_ledger.specs.Tokens.{live};
 
     ghost Value = { Records };
 
     ghost view = { λ b. record { limit = b.limit; journal = b.journal.entries; entries = b.entries; next_mark = b.next_mark; now = b.time; made = b.calls.made; tokens = live b.tokens.items; slots = b.tokens.items; calls = b.calls.items; scopes = b.scopes.items; steps = b.steps.items; groups = b.groups.items; cells = b.cells.items } };
 
-    ghost invariant = { λ b. Kept P.listing P.sites b.counts b.groups.sizes (record { limit = b.limit; journal = b.journal.entries; entries = b.entries; next_mark = b.next_mark; now = b.time; made = b.calls.made; tokens = live b.tokens.items; slots = b.tokens.items; calls = b.calls.items; scopes = b.scopes.items; steps = b.steps.items; groups = b.groups.items; cells = b.cells.items }) };
+    ghost invariant = { λ b. IsKept P.listing P.sites b.counts b.groups.sizes b.tokens.parked (record { limit = b.limit; journal = b.journal.entries; entries = b.entries; next_mark = b.next_mark; now = b.time; made = b.calls.made; tokens = live b.tokens.items; slots = b.tokens.items; calls = b.calls.items; scopes = b.scopes.items; steps = b.steps.items; groups = b.groups.items; cells = b.cells.items }) };
 }
 
 // Written out, so that each exit of a function that has a ledger drops it by one call.

@@ -12,6 +12,7 @@ mod ledger;
 mod marks;
 mod moves;
 mod next;
+mod parking;
 mod pending;
 mod publications;
 mod records;

@@ -42,6 +42,9 @@ impl<P: Program> Ledger<P> {
         ensures some { result ≡ true → 1 ≤ ready (code P.listing) (definitions P.listing) self.now }
         ensures none { result ≡ false → ready (code P.listing) (definitions P.listing) self.now ≡ 0 }
     {
+        if self.tokens.all_wait() {
+            return false;
+        }
         for slot in self.tokens.slots() {
             if self.can_move(graph, slot) {
                 return true;
@@ -95,7 +98,7 @@ impl<P: Program> Ledger<P> {
     }
 
     /// What comes next. Work where a token can move, a group has no members, or a call is due; else a tick to the least due time of the
-    /// pending calls; else nothing, the run is quiet. It looks at each token and each group.
+    /// pending calls; else nothing, the run is quiet. It looks at each token unless all are parked, and at each group.
     pub fn next(&mut self, graph: &Graph) -> Next
         requires { graph.now ≡ P.listing }
         ensures is { spoken result ≡ next_of (code P.listing) (definitions P.listing) (numbers_of self.old) self.old }

@@ -10,7 +10,7 @@ ghost use Rattle.orc_ledger.specs.Next.{members, numbers_of, is_this};
 ghost use Rattle.orc_ledger.specs.declared.records.Side.TheVariants.{Left, Right};
 ghost use Rattle.orc_ledger.specs.declared.records.Standing.TheVariants.{At};
 ghost use Rattle.orc_ledger.specs.Same.{weight, but};
-ghost use Rattle.orc_ledger.specs.Tokens.{live, IsHeld};
+ghost use Rattle.orc_ledger.specs.Tokens.{live, IsHeld, StayParked};
 ghost use Rattle.orc_ledger.specs.OpenGroups.{HaveLeft, tokens_in, groups_in, size_of};
 ghost use Rattle.orc_ledger.specs.declared.records.Token.{Token as Its};
 ghost use Rattle.orc_ledger.specs.declared.records.Group.{Group as Open};
@@ -112,6 +112,7 @@ fn drop_tokens(tokens: &mut Tokens, groups: &mut Groups, steps: &Vec<Step>, cell
     ensures rest { (w : Its → ℕ) → weight w (live tokens.new.items) ≡ weight (but (λ (t : Its). stands_inside cell steps.now.items t.step) w) (live tokens.old.items) }
     ensures groups { groups.new.items ≡ groups.old.items }
     ensures sizes { HaveLeft groups.old.sizes groups.new.sizes (tokens_in steps.now.items (live tokens.old.items)) (tokens_in steps.now.items (live tokens.new.items)) }
+    ensures parked { StayParked tokens.old tokens.new }
 {
     let count = tokens.slot_count();
     let mut slot = 0;
@@ -209,6 +210,7 @@ impl<P: Program> Ledger<P> {
         self.calls.drop_inside(&mut self.groups, &self.steps, cell);
         drop_groups(&mut self.groups, &self.steps, cell);
         settle(&mut self.cells, cell, Bound::Is(value));
+        self.tokens.wake(cell);
         Ok(())
     }
     /// The right side of a cell has halted without a publication: nothing is left in it. The cell has no value then.
@@ -226,6 +228,7 @@ impl<P: Program> Ledger<P> {
         self.entries += 1;
         take_out(&mut self.groups, &self.steps, group);
         settle(&mut self.cells, cell, Bound::Void);
+        self.tokens.wake(cell);
         Ok(())
     }
 

@@ -1,34 +1,49 @@
 //! The tokens, each in a slot.
 
-ghost use Rattle.std.specs.Prelude.{◌≡◌, [], ◌∷◌, ◌+◌, ◌≤◌, ◌<◌, ℕ, Some, None, length, IfSome, IfNone, IfOk, OnOk, IfErr, slice_get, slice_set, vec_len, vec_capacity};
+ghost use Rattle.std.specs.Prelude.{◌≡◌, [], ◌∷◌, ◌+◌, ◌≤◌, ◌<◌, ℕ, true, false, Some, None, length, IfSome, IfNone, IfOk, OnOk, IfErr, slice_get, slice_set, vec_len, vec_capacity};
+ghost use Rattle.orc_rules.specs.Timed.{IsIn};
 ghost use Rattle.orc_ledger.specs.Same.{weight};
-ghost use Rattle.orc_ledger.specs.Tokens.{live, IsHeld};
+ghost use Rattle.orc_ledger.specs.Parking.{is_set, notes_at, IsNoted};
+ghost use Rattle.orc_ledger.specs.Tokens.{live, IsHeld, StayParked, StayBut, StayWith};
 ghost use Rattle.orc_ledger.specs.declared.records.Token.{Token as Its};
 
 use crate::ledger::LedgerFault;
+use crate::parking::{Note, Parking};
 use crate::records::{Standing, Token};
 use std::alloc::Global;
 use std::marker::Model;
 
 /// The tokens in slots. A slot whose token has serial 0 is free, and is used again: a token is found by its slot, and its serial tells whether
 /// it is still the one that was put there.
-#[derive(Drop)]
 pub(crate) struct Tokens {
     slots: Vec<Token>,
     // Slots that became free. A slot may stand here that is in use again, so each is tested when it is taken.
     free: Vec<usize>,
     count: usize,
+    parking: Parking,
+}
+
+// Written out, so that a caller's proof sees one call and not the drop of each field.
+impl Drop for Tokens {
+    fn drop(self) {
+        let Tokens {
+            slots: _,
+            free: _,
+            count: _,
+            parking: _,
+        } = self;
+    }
 }
 
 impl Model for Tokens {
     ghost use Rattle.std.specs.Prelude.{◌≡◌, ◌-◌, length, vec_len, vec_capacity};
-    ghost use Rattle.orc_ledger.specs.Tokens.{Slots, live};
+    ghost use Rattle.orc_ledger.specs.Tokens.{Slots, AreHeld, live};
 
     ghost Value = { Slots };
 
-    ghost view = { λ t. record { items = t.slots.items; room = vec_capacity t.slots - vec_len t.slots } };
+    ghost view = { λ t. record { items = t.slots.items; room = vec_capacity t.slots - vec_len t.slots; parked = t.parking } };
 
-    ghost invariant = { λ t. t.count ≡ length (live t.slots.items) };
+    ghost invariant = { λ t. (t.count ≡ length (live t.slots.items)) × AreHeld t.slots.items t.parking.flags };
 }
 
 // What stands in a free slot.
@@ -60,11 +75,63 @@ fn free_slot(slots: &Vec<Token>, free: &mut Vec<usize>) -> Option<usize>
     }
 }
 
+// Whether the token of a note is still there.
+fn is_there(slots: &Vec<Token>, note: Note) -> bool
+    ensures { result ≡ false → (t : Its) → slice_get slots.now.items note.slot ≡ Some t → t.serial ≡ note.serial → ⊥ }
+{
+    match slots.get(note.slot) {
+        Some(token) => token.serial == note.serial,
+        None => false,
+    }
+}
+
+// The token of a note is not known to wait any more.
+fn rouse(slots: &Vec<Token>, parking: &mut Parking, note: Note)
+    ensures flags { (k : ℕ) → is_set parking.new.flags k ≡ true → is_set parking.old.flags k ≡ true }
+    ensures gone { (t : Its) → slice_get slots.now.items note.slot ≡ Some t → t.serial ≡ note.serial → is_set parking.new.flags note.slot ≡ true → ⊥ }
+    ensures notes { parking.new.notes ≡ parking.old.notes }
+{
+    if !is_there(slots, note) {
+        return;
+    }
+    parking.clear(note.slot);
+}
+
+// No token that is noted with this cell is known to wait any more. Its notes go.
+fn wake(slots: &Vec<Token>, parking: &mut Parking, cell: u64)
+    ensures flags { (k : ℕ) → is_set parking.new.flags k ≡ true → is_set parking.old.flags k ≡ true }
+    ensures gone { (k : ℕ) (t : Its) → IsHeld slots.now.items k t → is_set parking.new.flags k ≡ true → IsNoted parking.old cell k t.serial → ⊥ }
+    ensures others { (c : ℕ) → (c ≡ cell → ⊥) → notes_at parking.new.notes c ≡ notes_at parking.old.notes c }
+{
+    while let Some(note) = parking.take(cell) {
+        rouse(slots, parking, note);
+    }
+}
+
+// Notes a token with each of these cells.
+fn note_all(
+    parking: &mut Parking,
+    slot: usize,
+    serial: u64,
+    cells: &Vec<u64>,
+) -> Result<(), LedgerFault>
+    ensures flags { parking.new.flags ≡ parking.old.flags }
+    ensures kept { (c k n : ℕ) → IsNoted parking.old c k n → IsNoted parking.new c k n }
+    ensures noted { OnOk result ((c : ℕ) → IsIn c cells.now.items → IsNoted parking.new c slot serial) }
+    ensures why { IfErr result (λ fault. fault ≡ LedgerFault.Memory) }
+{
+    for cell in cells {
+        parking.note(*cell, Note { slot, serial })?;
+    }
+    Ok(())
+}
+
 impl Tokens {
     /// One token, in slot 0. The only fault is `Memory`.
     pub(crate) fn begin(alloc: Global, token: Token) -> Result<Tokens, LedgerFault>
         requires { 1 ≤ token.serial }
         ensures items { IfOk result (λ t. t.items ≡ token ∷ []) }
+        ensures parked { IfOk result (λ t. t.parked ≡ record { flags = []; notes = [] }) }
         ensures why { IfErr result (λ fault. fault ≡ LedgerFault.Memory) }
     {
         let mut slots = Vec::new(alloc);
@@ -75,6 +142,7 @@ impl Tokens {
             slots,
             free: Vec::new(alloc),
             count: 1,
+            parking: Parking::new(alloc),
         })
     }
 
@@ -133,6 +201,7 @@ impl Tokens {
     /// Makes room for one more token.
     pub(crate) fn reserve(&mut self) -> Result<(), LedgerFault>
         ensures items { self.new.items ≡ self.old.items }
+        ensures parked { self.new.parked ≡ self.old.parked }
         ensures room { OnOk result (1 ≤ self.new.room) }
         ensures why { IfErr result (λ fault. fault ≡ LedgerFault.Memory) }
     {
@@ -153,6 +222,7 @@ impl Tokens {
         ensures held { IsHeld self.new.items result token }
         ensures others { (k : ℕ) (t : Its) → IsHeld self.old.items k t → IsHeld self.new.items k t }
         ensures added { (w : Its → ℕ) → weight w (live self.new.items) ≡ weight w (live self.old.items) + w token }
+        ensures parked { StayParked self.old self.new }
     {
         let end = self.slots.len();
         self.count += 1;
@@ -174,7 +244,9 @@ impl Tokens {
         requires serial { 1 ≤ token.serial }
         ensures items { self.new.items ≡ slice_set self.old.items slot token }
         ensures room { self.new.room ≡ self.old.room }
+        ensures parked { StayParked self.old self.new }
     {
+        self.parking.clear(slot);
         put(&mut self.slots, slot, token);
     }
 
@@ -183,11 +255,46 @@ impl Tokens {
         requires { (t : Its) × IsHeld self.old.items slot t }
         ensures items { (free : Its) × (free.serial ≡ 0) × (self.new.items ≡ slice_set self.old.items slot free) }
         ensures room { self.new.room ≡ self.old.room }
+        ensures parked { StayParked self.old self.new }
     {
+        self.parking.clear(slot);
         put(&mut self.slots, slot, NOBODY);
         self.count -= 1;
         if self.free.len() < self.free.capacity() {
             self.free.push_reserved(slot);
         }
+    }
+
+    /// Whether each token is known to wait.
+    pub(crate) fn all_wait(&self) -> bool
+        ensures { result ≡ true → (k : ℕ) (t : Its) → IsHeld self.now.items k t → is_set self.now.parked.flags k ≡ true }
+    {
+        self.parking.len() == self.count
+    }
+
+    /// The token with this serial, in this slot, is known to wait for these cells. Where memory is refused it isn't.
+    pub(crate) fn park(
+        &mut self,
+        slot: usize,
+        serial: u64,
+        cells: &Vec<u64>,
+    ) -> Result<(), LedgerFault>
+        requires { (t : Its) × IsHeld self.old.items slot t × (t.serial ≡ serial) }
+        ensures items { self.new.items ≡ self.old.items }
+        ensures parked { StayWith slot serial cells.now.items self.old self.new }
+        ensures why { IfErr result (λ fault. fault ≡ LedgerFault.Memory) }
+    {
+        self.parking.reach(slot)?;
+        note_all(&mut self.parking, slot, serial, cells)?;
+        self.parking.set(slot);
+        Ok(())
+    }
+
+    /// No token that waits for this cell is known to wait any more.
+    pub(crate) fn wake(&mut self, cell: u64)
+        ensures items { self.new.items ≡ self.old.items }
+        ensures parked { StayBut cell self.old self.new }
+    {
+        wake(&self.slots, &mut self.parking, cell);
     }
 }

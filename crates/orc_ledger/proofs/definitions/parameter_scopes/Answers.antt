@@ -1,4 +1,4 @@
-use Rattle.std.proofs.Common.{◌≡◌, ◌≤◌, ◌-◌, ◌+◌, ◌<◌, ℕ, suc, List, ap, sym, ◌∙◌, subst, arith, length, length-append, [], ◌∷◌, ◌++◌, get_or, inl, inr}
+use Rattle.std.proofs.Common.{◌≡◌, ◌-◌, ◌+◌, ◌<◌, suc, List, ap, sym, ◌∙◌, subst, arith, length, length-append, [], ◌∷◌, ◌++◌, get_or, inr}
 use Rattle.std.specs.Prelude.{drop}
 use Rattle.std.proofs.Math.Seq.{drop-length}
 use Rattle.orc_rules.specs.declared.param.Operand.TheVariants.{Name}

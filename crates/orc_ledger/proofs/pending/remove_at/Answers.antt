@@ -1,10 +1,9 @@
-use Rattle.std.proofs.Common.{◌≡◌, ◌<◌, ◌+◌, ◌-◌, ℕ, List, Some, None, refl, sym, ap, ◌∙◌, subst, arith, length, get_or, length-set}
+use Rattle.std.proofs.Common.{◌≡◌, ◌<◌, ◌-◌, Some, None, refl, sym, ap, ◌∙◌, subst, arith, length, get_or, length-set}
 use Rattle.std.specs.Prelude.{slice_get, slice_set}
 use Rattle.std.specs.List.{swap_remove}
 use Rattle.orc_rules.specs.Timed.{IsIn}
 use Rattle.orc_ledger.specs.Same.{weight}
 use Rattle.orc_ledger.specs.PendingCalls.{ArePlaced}
-use Rattle.orc_ledger.specs.declared.records.Call.{Call}
 use Rattle.orc_ledger.proofs.Weight.{weight-swap_remove}
 use Rattle.orc_ledger.proofs.Placed.{or-got, removed-in, removed-other, removed-before, placed-last, placed-moved, moved-number}
 use Rattle.orc_ledger.proofs.pending.remove_at.Goals as goal

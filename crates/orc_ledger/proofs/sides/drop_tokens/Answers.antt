@@ -1,17 +1,18 @@
 use Rattle.std.proofs.Common.{◌+◌, ℕ, ap, sym, subst, refl, ◌∙◌, arith}
 use Rattle.orc_ledger.specs.Same.{weight}
-use Rattle.orc_ledger.specs.Tokens.{Slots, live}
+use Rattle.orc_ledger.specs.Tokens.{Slots, live, StayParked}
 use Rattle.orc_ledger.specs.Records.{group_at}
 use Rattle.orc_ledger.specs.Next.{is_this}
 use Rattle.orc_ledger.specs.OpenGroups.{GroupTable, size_of, tokens_in}
 use Rattle.orc_ledger.specs.declared.records.Token.{Token}
+use Rattle.orc_ledger.proofs.Flags.{stay-on}
 use Rattle.orc_ledger.proofs.Slots.{removed}
 use Rattle.orc_ledger.proofs.Dropped.{IsDrained, drained-none, drained-held, drained-gone, drained-kept, drained-all}
 use Rattle.orc_ledger.proofs.sides.drop_tokens.Goals as goal
 use Rattle.orc_ledger.proofs.sides.drop_tokens.Goals.{then-is_held_inside, else-is_held_inside}
 
 pub loop-slot-init : goal.loop-slot-init
-loop-slot-init c = record { drained = drained-none c.args.cell c.args.steps.now.items c.args.tokens.now.items c.slot_count-count.result (sym c.slot_count-count.ensures); groups = refl; sizes = λ i le. refl }
+loop-slot-init c = record { drained = drained-none c.args.cell c.args.steps.now.items c.args.tokens.now.items c.slot_count-count.result (sym c.slot_count-count.ensures); groups = refl; sizes = λ i le. refl; parked = λ k t h. (h, λ d i. i) }
 
 pub at-token-requires : goal.at-token-requires
 at-token-requires c = omega (arith, c.loop-slot.invariant.drained.len, c.loop-slot-test.true)
@@ -47,12 +48,14 @@ loop-slot-preserved c =
                   ap (λ z. weight mine (live z)) gone.2,
                   removed mine now c.loop-slot.slot token gone.0 (drained-held cell steps now c.loop-slot.slot token c.at-token.ensures inn) gone.1,
                 );
+            parked = subst (λ (z : Slots). StayParked c.args.tokens.now z) (sym w.tokens-is) (stay-on c.args.tokens.now c.loop-slot.tokens w.remove.new.self I.parked w.remove.ensures.parked);
           }
       | else-is_held_inside w ↦
           record {
             drained = subst (λ (z : Slots). IsDrained cell steps old z.items (c.loop-slot.slot + 1) count) (sym w.tokens-is) (drained-kept cell steps old now c.loop-slot.slot count token I.drained c.at-token.ensures (sym c.is_held_inside.ensures ∙ w.if-is_held_inside.false));
             groups = ap (λ (z : GroupTable). z.items) w.groups-is ∙ I.groups;
             sizes = λ i le. omega (arith, I.sizes i le, ap (λ (z : GroupTable). size_of z.sizes i) w.groups-is, ap (λ (z : Slots). tokens_in steps (live z.items) i) w.tokens-is);
+            parked = subst (λ (z : Slots). StayParked c.args.tokens.now z) (sym w.tokens-is) I.parked;
           }
     ]
 

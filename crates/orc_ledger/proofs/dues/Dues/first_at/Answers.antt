@@ -1,4 +1,4 @@
-use Rattle.std.proofs.Common.{◌≡◌, ◌<◌, ℕ, subst, true, false, List, [], ◌∷◌}
+use Rattle.std.proofs.Common.{◌≡◌, ◌<◌, ℕ, subst, false, List, ◌∷◌}
 use Rattle.std.specs.Prelude.{slice_get, IfSome, IsTrue, ⊤}
 use Rattle.std.specs.Ordering.{is_gt}
 use Rattle.orc_ledger.specs.Dues.{IsNoted, IsLeastFrom}

@@ -1,4 +1,4 @@
-use Rattle.std.proofs.Common.{◌≡◌, ℕ, take}
+use Rattle.std.proofs.Common.{◌≡◌, take}
 use Rattle.orc_rules.specs.Nodes.{code, definitions}
 use Rattle.orc_ledger.specs.Same.{weight, only}
 use Rattle.orc_ledger.specs.Tokens.{is_live}

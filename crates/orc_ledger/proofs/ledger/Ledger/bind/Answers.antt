@@ -16,7 +16,9 @@ use Rattle.orc_ledger.specs.declared.records.Call.{Call}
 use Rattle.orc_ledger.specs.declared.records.Group.{Group}
 use Rattle.orc_ledger.proofs.Weight.{weight-but}
 use Rattle.orc_ledger.proofs.Slots.{live-in}
-use Rattle.orc_ledger.proofs.Binding.{bind-lawful}
+use Rattle.orc_ledger.proofs.AtRest.{rest-dropped}
+use Rattle.orc_ledger.proofs.Binding.{bind-lawful, taken-unbound}
+use Rattle.orc_ledger.proofs.Flags.{stay-but}
 use Rattle.orc_ledger.proofs.Calling.{drops-told}
 use Rattle.orc_ledger.proofs.Keeping.{counted-kept, cancels_none}
 use Rattle.orc_ledger.proofs.Grouped.{dropped-grouped}
@@ -32,33 +34,37 @@ invariant_of-self-2 g c =
     let cd = code l in
     let s : Records = record { limit = b.limit; journal = b.journal.entries; entries = b.entries; next_mark = b.next_mark; now = b.time; made = b.calls.made; tokens = live b.tokens.items; slots = b.tokens.items; calls = b.calls.items; scopes = b.scopes.items; steps = b.steps.items; groups = b.groups.items; cells = b.cells.items } in
     let ks : List ℕ = c.sort_unstable.new.self.items in
-    let s' : Records = record { limit = b.limit; journal = c.write_bind.new.journal.entries; entries = b.entries + 1; next_mark = b.next_mark; now = b.time; made = c.drop_inside.new.self.made; tokens = live c.drop_tokens.new.tokens.items; slots = c.drop_tokens.new.tokens.items; calls = c.drop_inside.new.self.items; scopes = b.scopes.items; steps = b.steps.items; groups = c.drop_groups.new.groups.items; cells = c.settle.new.cells.items } in
+    let s' : Records = record { limit = b.limit; journal = c.write_bind.new.journal.entries; entries = b.entries + 1; next_mark = b.next_mark; now = b.time; made = c.drop_inside.new.self.made; tokens = live c.wake.new.self.items; slots = c.wake.new.self.items; calls = c.drop_inside.new.self.items; scopes = b.scopes.items; steps = b.steps.items; groups = c.drop_groups.new.groups.items; cells = c.settle.new.cells.items } in
     let groups : (w : Group → ℕ) → weight w s'.groups ≡ weight (but (λ (h : Group). side_inside a.cell s.steps h.outer h.side) w) s.groups = λ w. c.drop_groups.ensures.rest w ∙ ap (weight (but (λ (h : Group). side_inside a.cell s.steps h.outer h.side) w)) (c.drop_inside.ensures.groups ∙ c.drop_tokens.ensures.groups) in
-    let D : Drops cd a.cell (Is a.value) s s' = drops l g.P.Program.sites s c.self.invariant.lawful a.cell (Is a.value) s' refl refl refl refl c.drop_inside.ensures.made c.drop_tokens.ensures.rest c.drop_inside.ensures.rest groups refl refl c.settle.ensures in
-    let A : AreCancelled cd a.cell s ks = cancelled l g.P.Program.sites s c.self.invariant.lawful a.cell c.list_inside.new.numbers.items ks (c.in_ok-list_inside.ensures.listed ∙ ap (numbers_inside a.cell s.steps) c.items.ensures) c.sort_unstable.ensures.permutation c.sort_unstable.ensures.sorted in
+    let D : Drops cd a.cell (Is a.value) s s' = drops l g.P.Program.sites s c.self.invariant.kept.lawful a.cell (Is a.value) s' refl refl refl refl c.drop_inside.ensures.made (λ w. ap (λ z. weight w (live z)) c.wake.ensures.items ∙ c.drop_tokens.ensures.rest w) c.drop_inside.ensures.rest groups refl refl c.settle.ensures in
+    let A : AreCancelled cd a.cell s ks = cancelled l g.P.Program.sites s c.self.invariant.kept.lawful a.cell c.list_inside.new.numbers.items ks (c.in_ok-list_inside.ensures.listed ∙ ap (numbers_inside a.cell s.steps) c.items.ensures) c.sort_unstable.ensures.permutation c.sort_unstable.ensures.sorted in
     let journal : s'.journal ≡ s.journal ++ Bind a.token.serial a.cell a.value ∷ map Cancel ks = ap (λ j. j.entries) c.in_ok-write_bind.ensures.added in
     let held : IsHeld s.slots a.slot a.token = rw (← c.self.view_is) at c.requires.held in
     let form : standing cd (its_env cd s) a.token.standing ≡ param (is_.Is a.value) = rw (← c.self.view_is) at c.requires.form in
     let takes : (p : Path) × (taker (its_path cd s a.token.step) ≡ aiding a.cell p) = rw (← c.self.view_is) at c.requires.takes in
     let room : s.entries < s.limit = rw (← c.self.view_is) at c.in_ok-within.ensures.room in
-    let L' = bind-lawful l g.P.Program.sites s c.self.invariant.lawful a.token (live-in s.slots a.slot a.token held) a.value form a.cell takes.0 takes.1 room s' D ks A journal in
+    let L' = bind-lawful l g.P.Program.sites s c.self.invariant.kept.lawful a.token (live-in s.slots a.slot a.token held) a.value form a.cell takes.0 takes.1 room s' D ks A journal in
     record {
-      lawful = L';
-      grouped = dropped-grouped l g.P.Program.sites s c.self.invariant.lawful c.self.invariant.grouped a.cell (Is a.value) s' D;
-      told = drops-told l g.P.Program.sites s s' c.self.invariant.lawful L' c.self.invariant.told a.cell (Is a.value) (Bind a.token.serial a.cell a.value) ks tt D journal;
-      counted = counted-kept l g.P.Program.sites s s' c.self.invariant.lawful L' (Bind a.token.serial a.cell a.value ∷ map Cancel ks) journal (tt, cancels_none ks) b.counts c.self.invariant.counted;
-      sized = λ j.
-          let mine : Token → ℕ = λ t. is_this j (group_at s.steps t.step) in
-          let theirs : Call → ℕ = λ k. is_this j (group_at s.steps k.step) in
-          let its : Group → ℕ = λ h. is_this j (group_at s.steps h.outer) in
-          let K = c.self.invariant.sized j in
-          let fewer : weight mine s'.tokens ≤ weight mine s.tokens = omega (arith, c.drop_tokens.ensures.rest mine, weight-but (λ (t : Token). stands_inside a.cell s.steps t.step) mine s.tokens) in
-          let fewer_calls : weight theirs s'.calls ≤ weight theirs s.calls = omega (arith, c.drop_inside.ensures.rest theirs, weight-but (λ (k : Call). stands_inside a.cell s.steps k.step) theirs s.calls) in
-          let tokens = c.drop_tokens.ensures.sizes j (omega (arith, K)) in
-          let calls = c.drop_inside.ensures.sizes j (omega (arith, K, tokens, fewer)) in
-          let same : weight its c.drop_inside.new.groups.items ≡ weight its s.groups = ap (weight its) (c.drop_inside.ensures.groups ∙ c.drop_tokens.ensures.groups) in
-          let sides = c.drop_groups.ensures.sizes j (omega (arith, K, tokens, calls, fewer, fewer_calls, same)) in
-          omega (arith, K, tokens, calls, sides, fewer, fewer_calls, same);
+      kept = record {
+        lawful = L';
+        grouped = dropped-grouped l g.P.Program.sites s c.self.invariant.kept.lawful c.self.invariant.kept.grouped a.cell (Is a.value) s' D;
+        told = drops-told l g.P.Program.sites s s' c.self.invariant.kept.lawful L' c.self.invariant.kept.told a.cell (Is a.value) (Bind a.token.serial a.cell a.value) ks tt D journal;
+        counted = counted-kept l g.P.Program.sites s s' c.self.invariant.kept.lawful L' (Bind a.token.serial a.cell a.value ∷ map Cancel ks) journal (tt, cancels_none ks) b.counts c.self.invariant.kept.counted;
+        sized = λ j.
+            let mine : Token → ℕ = λ t. is_this j (group_at s.steps t.step) in
+            let theirs : Call → ℕ = λ k. is_this j (group_at s.steps k.step) in
+            let its : Group → ℕ = λ h. is_this j (group_at s.steps h.outer) in
+            let K = c.self.invariant.kept.sized j in
+            let woken : weight mine s'.tokens ≡ weight mine (live c.drop_tokens.new.tokens.items) = ap (λ z. weight mine (live z)) c.wake.ensures.items in
+            let fewer : weight mine s'.tokens ≤ weight mine s.tokens = omega (arith, woken, c.drop_tokens.ensures.rest mine, weight-but (λ (t : Token). stands_inside a.cell s.steps t.step) mine s.tokens) in
+            let fewer_calls : weight theirs s'.calls ≤ weight theirs s.calls = omega (arith, c.drop_inside.ensures.rest theirs, weight-but (λ (k : Call). stands_inside a.cell s.steps k.step) theirs s.calls) in
+            let tokens = c.drop_tokens.ensures.sizes j (omega (arith, K)) in
+            let calls = c.drop_inside.ensures.sizes j (omega (arith, woken, K, tokens, fewer)) in
+            let same : weight its c.drop_inside.new.groups.items ≡ weight its s.groups = ap (weight its) (c.drop_inside.ensures.groups ∙ c.drop_tokens.ensures.groups) in
+            let sides = c.drop_groups.ensures.sizes j (omega (arith, woken, K, tokens, calls, fewer, fewer_calls, same)) in
+            omega (arith, woken, K, tokens, calls, sides, fewer, fewer_calls, same);
+      };
+      rest = rest-dropped l s s' c.self.invariant.kept.lawful.sound a.cell (Is a.value) D (taken-unbound l g.P.Program.sites s c.self.invariant.kept.lawful a.token (live-in s.slots a.slot a.token held) a.value form a.cell takes.0 takes.1) b.tokens c.wake.new.self refl refl c.self.invariant.rest (stay-but b.tokens c.drop_tokens.new.tokens c.wake.new.self a.cell c.drop_tokens.ensures.parked c.wake.ensures.parked);
     }
 
 pub returns-clause-done : goal.returns-clause-done
@@ -69,9 +75,9 @@ returns-clause-done g c =
     let cd = code l in
     let s : Records = record { limit = b.limit; journal = b.journal.entries; entries = b.entries; next_mark = b.next_mark; now = b.time; made = b.calls.made; tokens = live b.tokens.items; slots = b.tokens.items; calls = b.calls.items; scopes = b.scopes.items; steps = b.steps.items; groups = b.groups.items; cells = b.cells.items } in
     let ks : List ℕ = c.sort_unstable.new.self.items in
-    let s' : Records = record { limit = b.limit; journal = c.write_bind.new.journal.entries; entries = b.entries + 1; next_mark = b.next_mark; now = b.time; made = c.drop_inside.new.self.made; tokens = live c.drop_tokens.new.tokens.items; slots = c.drop_tokens.new.tokens.items; calls = c.drop_inside.new.self.items; scopes = b.scopes.items; steps = b.steps.items; groups = c.drop_groups.new.groups.items; cells = c.settle.new.cells.items } in
+    let s' : Records = record { limit = b.limit; journal = c.write_bind.new.journal.entries; entries = b.entries + 1; next_mark = b.next_mark; now = b.time; made = c.drop_inside.new.self.made; tokens = live c.wake.new.self.items; slots = c.wake.new.self.items; calls = c.drop_inside.new.self.items; scopes = b.scopes.items; steps = b.steps.items; groups = c.drop_groups.new.groups.items; cells = c.settle.new.cells.items } in
     let groups : (w : Group → ℕ) → weight w s'.groups ≡ weight (but (λ (h : Group). side_inside a.cell s.steps h.outer h.side) w) s.groups = λ w. c.drop_groups.ensures.rest w ∙ ap (weight (but (λ (h : Group). side_inside a.cell s.steps h.outer h.side) w)) (c.drop_inside.ensures.groups ∙ c.drop_tokens.ensures.groups) in
-    let D : Drops cd a.cell (Is a.value) s s' = drops l g.P.Program.sites s c.self.invariant.lawful a.cell (Is a.value) s' refl refl refl refl c.drop_inside.ensures.made c.drop_tokens.ensures.rest c.drop_inside.ensures.rest groups refl refl c.settle.ensures in
+    let D : Drops cd a.cell (Is a.value) s s' = drops l g.P.Program.sites s c.self.invariant.kept.lawful a.cell (Is a.value) s' refl refl refl refl c.drop_inside.ensures.made (λ w. ap (λ z. weight w (live z)) c.wake.ensures.items ∙ c.drop_tokens.ensures.rest w) c.drop_inside.ensures.rest groups refl refl c.settle.ensures in
     rw (← c.self.view_is) D
 
 pub returns-clause-journal : goal.returns-clause-journal
@@ -82,9 +88,9 @@ returns-clause-journal g c =
     let cd = code l in
     let s : Records = record { limit = b.limit; journal = b.journal.entries; entries = b.entries; next_mark = b.next_mark; now = b.time; made = b.calls.made; tokens = live b.tokens.items; slots = b.tokens.items; calls = b.calls.items; scopes = b.scopes.items; steps = b.steps.items; groups = b.groups.items; cells = b.cells.items } in
     let ks : List ℕ = c.sort_unstable.new.self.items in
-    let s' : Records = record { limit = b.limit; journal = c.write_bind.new.journal.entries; entries = b.entries + 1; next_mark = b.next_mark; now = b.time; made = c.drop_inside.new.self.made; tokens = live c.drop_tokens.new.tokens.items; slots = c.drop_tokens.new.tokens.items; calls = c.drop_inside.new.self.items; scopes = b.scopes.items; steps = b.steps.items; groups = c.drop_groups.new.groups.items; cells = c.settle.new.cells.items } in
+    let s' : Records = record { limit = b.limit; journal = c.write_bind.new.journal.entries; entries = b.entries + 1; next_mark = b.next_mark; now = b.time; made = c.drop_inside.new.self.made; tokens = live c.wake.new.self.items; slots = c.wake.new.self.items; calls = c.drop_inside.new.self.items; scopes = b.scopes.items; steps = b.steps.items; groups = c.drop_groups.new.groups.items; cells = c.settle.new.cells.items } in
     let groups : (w : Group → ℕ) → weight w s'.groups ≡ weight (but (λ (h : Group). side_inside a.cell s.steps h.outer h.side) w) s.groups = λ w. c.drop_groups.ensures.rest w ∙ ap (weight (but (λ (h : Group). side_inside a.cell s.steps h.outer h.side) w)) (c.drop_inside.ensures.groups ∙ c.drop_tokens.ensures.groups) in
-    let D : Drops cd a.cell (Is a.value) s s' = drops l g.P.Program.sites s c.self.invariant.lawful a.cell (Is a.value) s' refl refl refl refl c.drop_inside.ensures.made c.drop_tokens.ensures.rest c.drop_inside.ensures.rest groups refl refl c.settle.ensures in
+    let D : Drops cd a.cell (Is a.value) s s' = drops l g.P.Program.sites s c.self.invariant.kept.lawful a.cell (Is a.value) s' refl refl refl refl c.drop_inside.ensures.made (λ w. ap (λ z. weight w (live z)) c.wake.ensures.items ∙ c.drop_tokens.ensures.rest w) c.drop_inside.ensures.rest groups refl refl c.settle.ensures in
     let journal : s'.journal ≡ s.journal ++ Bind a.token.serial a.cell a.value ∷ map Cancel ks = ap (λ j. j.entries) c.in_ok-write_bind.ensures.added in
     rw (← c.self.view_is) journal
 
@@ -96,5 +102,5 @@ returns-clause-cancelled g c =
     let cd = code l in
     let s : Records = record { limit = b.limit; journal = b.journal.entries; entries = b.entries; next_mark = b.next_mark; now = b.time; made = b.calls.made; tokens = live b.tokens.items; slots = b.tokens.items; calls = b.calls.items; scopes = b.scopes.items; steps = b.steps.items; groups = b.groups.items; cells = b.cells.items } in
     let ks : List ℕ = c.sort_unstable.new.self.items in
-    let A : AreCancelled cd a.cell s ks = cancelled l g.P.Program.sites s c.self.invariant.lawful a.cell c.list_inside.new.numbers.items ks (c.in_ok-list_inside.ensures.listed ∙ ap (numbers_inside a.cell s.steps) c.items.ensures) c.sort_unstable.ensures.permutation c.sort_unstable.ensures.sorted in
+    let A : AreCancelled cd a.cell s ks = cancelled l g.P.Program.sites s c.self.invariant.kept.lawful a.cell c.list_inside.new.numbers.items ks (c.in_ok-list_inside.ensures.listed ∙ ap (numbers_inside a.cell s.steps) c.items.ensures) c.sort_unstable.ensures.permutation c.sort_unstable.ensures.sorted in
     rw (← c.self.view_is) A

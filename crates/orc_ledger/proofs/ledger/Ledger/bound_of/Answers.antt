@@ -6,4 +6,4 @@ returns-clause-free g c =
     let b = c.self.inside in
     let a = c.args in
     let free = rw (c.deref.ensures.value, c.deref-2.ensures.value) at c.meaning.ensures.free in
-    rw (← c.self.view_is) (free-name b.cells.items b.scopes.items a.scope a.operand c.self.invariant.lawful.sound.scopes c.meaning.result free)
+    rw (← c.self.view_is) (free-name b.cells.items b.scopes.items a.scope a.operand c.self.invariant.kept.lawful.sound.scopes c.meaning.result free)

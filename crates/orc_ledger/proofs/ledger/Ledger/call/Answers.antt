@@ -1,6 +1,6 @@
 use Rattle.std.proofs.Common.{◌≡◌, ◌<◌, ◌+◌, [], ◌∷◌, refl, ap, arith}
 use Rattle.orc_rules.specs.declared.entry.Entry.TheVariants as entry
-use Rattle.orc_rules.specs.Nodes.{code}
+use Rattle.orc_rules.specs.Nodes.{code, definitions}
 use Rattle.orc_rules.specs.Sites.{find}
 use Rattle.orc_rules.specs.Timed.{nth_of}
 use Rattle.orc_ledger.specs.Same.{weight}
@@ -10,6 +10,7 @@ use Rattle.orc_ledger.specs.Doing.{IsCall, term_of}
 use Rattle.orc_ledger.specs.Requests.{IsMade}
 use Rattle.orc_ledger.specs.Tokens.{live, IsHeld}
 use Rattle.orc_ledger.specs.declared.records.Call.{Call}
+use Rattle.orc_ledger.proofs.AtRest.{rest-kept, same-terms}
 use Rattle.orc_ledger.proofs.Asked.{found-there, nth-there, called-kept}
 use Rattle.orc_ledger.proofs.Slots.{live-in, removed}
 use Rattle.orc_ledger.proofs.ledger.Ledger.call.Goals as goal
@@ -20,7 +21,7 @@ invariant_of-self-2 g c =
     let a = c.args in
     let l = g.P.Program.listing in
     let sites = g.P.Program.sites in
-    let K = c.self.invariant in
+    let K = c.self.invariant.kept in
     let s : Records = record { limit = b.limit; journal = b.journal.entries; entries = b.entries; next_mark = b.next_mark; now = b.time; made = b.calls.made; tokens = live b.tokens.items; slots = b.tokens.items; calls = b.calls.items; scopes = b.scopes.items; steps = b.steps.items; groups = b.groups.items; cells = b.cells.items } in
     let held : IsHeld s.slots a.slot a.token = rw (← c.self.view_is) at c.requires.held in
     let m = c.ask-site.result in
@@ -46,7 +47,7 @@ invariant_of-self-2 g c =
       cells = refl;
     } in
     let room : s.entries < s.limit = rw (← c.self.view_is) at c.in_ok-within.ensures.room in
-    called-kept l sites b.counts b.groups.sizes s K a.answers.now.sites c.requires.answers m args a.token (live-in s.slots a.slot a.token held) asks room made c.next_number.ensures found which s' refl refl c.len.ensures T c.write_call.new.counts c.in_ok-write_call.ensures.counted
+    record { kept = called-kept l sites b.counts b.groups.sizes s K a.answers.now.sites c.requires.answers m args a.token (live-in s.slots a.slot a.token held) asks room made c.next_number.ensures found which s' refl refl c.len.ensures T c.write_call.new.counts c.in_ok-write_call.ensures.counted; rest = rest-kept (code l) (definitions l) s s' b.tokens c.remove.new.self refl refl c.self.invariant.rest (live-in b.tokens.items) (c.remove.ensures.parked) (same-terms (code l) s s' refl refl) }
 
 pub returns-clause-done : goal.returns-clause-done
 returns-clause-done g c =
@@ -54,7 +55,7 @@ returns-clause-done g c =
     let a = c.args in
     let l = g.P.Program.listing in
     let sites = g.P.Program.sites in
-    let K = c.self.invariant in
+    let K = c.self.invariant.kept in
     let s : Records = record { limit = b.limit; journal = b.journal.entries; entries = b.entries; next_mark = b.next_mark; now = b.time; made = b.calls.made; tokens = live b.tokens.items; slots = b.tokens.items; calls = b.calls.items; scopes = b.scopes.items; steps = b.steps.items; groups = b.groups.items; cells = b.cells.items } in
     let held : IsHeld s.slots a.slot a.token = rw (← c.self.view_is) at c.requires.held in
     let m = c.ask-site.result in

@@ -17,8 +17,8 @@ invariant_of-self g c =
     let a = c.args in
     let l = g.P.Program.listing in
     let sites = g.P.Program.sites in
-    let L = c.self.invariant.lawful in
-    let G = c.self.invariant.grouped in
+    let L = c.self.invariant.kept.lawful in
+    let G = c.self.invariant.kept.grouped in
     let s : Records = record { limit = b.limit; journal = b.journal.entries; entries = b.entries; next_mark = b.next_mark; now = b.time; made = b.calls.made; tokens = live b.tokens.items; slots = b.tokens.items; calls = b.calls.items; scopes = b.scopes.items; steps = b.steps.items; groups = b.groups.items; cells = b.cells.items } in
     let i : IsIn a.group s.groups = rw (← c.self.view_is) at c.requires.there in
     let s' : Records = record { limit = b.limit; journal = b.journal.entries; entries = b.entries; next_mark = b.next_mark; now = b.time; made = b.calls.made; tokens = live b.tokens.items; slots = b.tokens.items; calls = b.calls.items; scopes = b.scopes.items; steps = b.steps.items; groups = c.take_out.new.groups.items; cells = b.cells.items } in
@@ -27,11 +27,14 @@ invariant_of-self g c =
     let over : is_over (code l) s a.group.side ≡ true = rw (← c.self.view_is) at c.requires.over in
     let L' = closed-lawful l sites s L a.group over s' T in
     record {
-      lawful = L';
-      grouped = closed-grouped l sites s L G a.group i empty s' T;
-      told = told-kept l sites s s' L L' [] (sym (append-nil s.journal)) tt (λ w. omega arith) c.self.invariant.told;
-      counted = counted-kept l sites s s' L L' [] (sym (append-nil s.journal)) tt b.counts c.self.invariant.counted;
-      sized = λ j. omega (arith, c.take_out.ensures.sizes j, closed-members s s' a.group T j, c.self.invariant.sized j);
+      kept = record {
+        lawful = L';
+        grouped = closed-grouped l sites s L G a.group i empty s' T;
+        told = told-kept l sites s s' L L' [] (sym (append-nil s.journal)) tt (λ w. omega arith) c.self.invariant.kept.told;
+        counted = counted-kept l sites s s' L L' [] (sym (append-nil s.journal)) tt b.counts c.self.invariant.kept.counted;
+        sized = λ j. omega (arith, c.take_out.ensures.sizes j, closed-members s s' a.group T j, c.self.invariant.kept.sized j);
+      };
+      rest = c.self.invariant.rest;
     }
 
 pub returns : goal.returns
@@ -40,8 +43,8 @@ returns g c =
     let a = c.args in
     let l = g.P.Program.listing in
     let sites = g.P.Program.sites in
-    let L = c.self.invariant.lawful in
-    let G = c.self.invariant.grouped in
+    let L = c.self.invariant.kept.lawful in
+    let G = c.self.invariant.kept.grouped in
     let s : Records = record { limit = b.limit; journal = b.journal.entries; entries = b.entries; next_mark = b.next_mark; now = b.time; made = b.calls.made; tokens = live b.tokens.items; slots = b.tokens.items; calls = b.calls.items; scopes = b.scopes.items; steps = b.steps.items; groups = b.groups.items; cells = b.cells.items } in
     let i : IsIn a.group s.groups = rw (← c.self.view_is) at c.requires.there in
     let s' : Records = record { limit = b.limit; journal = b.journal.entries; entries = b.entries; next_mark = b.next_mark; now = b.time; made = b.calls.made; tokens = live b.tokens.items; slots = b.tokens.items; calls = b.calls.items; scopes = b.scopes.items; steps = b.steps.items; groups = c.take_out.new.groups.items; cells = b.cells.items } in

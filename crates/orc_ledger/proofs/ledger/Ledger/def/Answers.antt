@@ -3,7 +3,7 @@ use Rattle.std.specs.Prelude.{slice_get, slice_set, slice_index_or, option_map, 
 use Rattle.orc_rules.specs.declared.entry.Entry.TheVariants.{Def}
 use Rattle.orc_rules.specs.declared.param.Operand.{Operand}
 use Rattle.orc_rules.specs.Timed.{IsIn}
-use Rattle.orc_rules.specs.Nodes.{Listing, Routine, definitions, definition_of}
+use Rattle.orc_rules.specs.Nodes.{Listing, Routine, definitions, definition_of, code}
 use Rattle.orc_names.specs.declared.names.Bound.{Bound}
 use Rattle.orc_names.specs.declared.names.Scope.{Scope}
 use Rattle.orc_graph.specs.Ranges.{params_at}
@@ -14,6 +14,7 @@ use Rattle.orc_ledger.specs.Tokens.{live, IsHeld}
 use Rattle.orc_ledger.specs.Calls.{born}
 use Rattle.orc_ledger.specs.Parameters.{Adds, IsDefined}
 use Rattle.orc_ledger.specs.declared.records.Token.{Token}
+use Rattle.orc_ledger.proofs.AtRest.{rest-kept, turns-terms}
 use Rattle.orc_ledger.proofs.Slots.{live-in, replaced, set-there}
 use Rattle.orc_ledger.proofs.Calling.{turns-told}
 use Rattle.orc_ledger.proofs.Keeping.{counted-kept}
@@ -35,8 +36,8 @@ invariant_of-self-2 g c =
     let l = g.P.Program.listing in
     let sites = g.P.Program.sites in
     let s : Records = record { limit = b.limit; journal = b.journal.entries; entries = b.entries; next_mark = b.next_mark; now = b.time; made = b.calls.made; tokens = live b.tokens.items; slots = b.tokens.items; calls = b.calls.items; scopes = b.scopes.items; steps = b.steps.items; groups = b.groups.items; cells = b.cells.items } in
-    let L = c.self.invariant.lawful in
-    let G = c.self.invariant.grouped in
+    let L = c.self.invariant.kept.lawful in
+    let G = c.self.invariant.kept.grouped in
     let held : IsHeld s.slots a.slot a.token = rw (← c.self.view_is) at c.requires.held in
     let i : IsIn a.token s.tokens = live-in s.slots a.slot a.token held in
     let same_routines : c.args.graph.now.routines ≡ l.routines = ap (λ (z : Listing). z.routines) c.requires.graph in
@@ -63,11 +64,14 @@ invariant_of-self-2 g c =
     let T : IsDefined s a.token r.body newest more s' = turns s s' a.token (first ∷ []) more [] [] [] (Def a.token.serial b.next_mark) refl journal refl (omega arith) refl refl tokens refl scopes (sym (append-nil s.steps)) (sym (append-nil s.groups)) (sym (append-nil s.cells)) in
     let L' = def-lawful l sites s L a.token i c.requires.at.0 a.scope c.requires.at.1 (definition_of l r) a.definition r.body newest (slice_index_or l.lists a.list []) more c.requires.at.2 (declared l a.definition r got.1) refl adds s' room T in
     record {
-      lawful = L';
-      grouped = defined-grouped l sites s L G a.token i r.body newest more s' T;
-      told = turns-told l sites s s' L L' c.self.invariant.told a.token (first ∷ []) more [] [] [] (Def a.token.serial b.next_mark) tt T;
-      counted = counted-kept l sites s s' L L' (Def a.token.serial b.next_mark ∷ []) journal (tt, tt) b.counts c.self.invariant.counted;
-      sized = λ j. omega (arith, turned-members s s' L.sound a.token i (first ∷ []) more [] [] [] _ T j, c.self.invariant.sized j, ap (is_this j) (group-kept s.steps [] a.token.step (step_in l sites s L a.token i)));
+      kept = record {
+        lawful = L';
+        grouped = defined-grouped l sites s L G a.token i r.body newest more s' T;
+        told = turns-told l sites s s' L L' c.self.invariant.kept.told a.token (first ∷ []) more [] [] [] (Def a.token.serial b.next_mark) tt T;
+        counted = counted-kept l sites s s' L L' (Def a.token.serial b.next_mark ∷ []) journal (tt, tt) b.counts c.self.invariant.kept.counted;
+        sized = λ j. omega (arith, turned-members s s' L.sound a.token i (first ∷ []) more [] [] [] _ T j, c.self.invariant.kept.sized j, ap (is_this j) (group-kept s.steps [] a.token.step (step_in l sites s L a.token i)));
+      };
+      rest = rest-kept (code l) (definitions l) s s' b.tokens c.replace.new.self refl refl c.self.invariant.rest (live-in b.tokens.items) (c.replace.ensures.parked) (turns-terms l sites s L s' a.token i (first ∷ []) more [] [] [] (Def a.token.serial b.next_mark) T (λ n. refl) (λ z. refl));
     }
 
 pub returns-clause-done : goal.returns-clause-done
@@ -77,8 +81,8 @@ returns-clause-done g c e =
     let l = g.P.Program.listing in
     let sites = g.P.Program.sites in
     let s : Records = record { limit = b.limit; journal = b.journal.entries; entries = b.entries; next_mark = b.next_mark; now = b.time; made = b.calls.made; tokens = live b.tokens.items; slots = b.tokens.items; calls = b.calls.items; scopes = b.scopes.items; steps = b.steps.items; groups = b.groups.items; cells = b.cells.items } in
-    let L = c.self.invariant.lawful in
-    let G = c.self.invariant.grouped in
+    let L = c.self.invariant.kept.lawful in
+    let G = c.self.invariant.kept.grouped in
     let held : IsHeld s.slots a.slot a.token = rw (← c.self.view_is) at c.requires.held in
     let i : IsIn a.token s.tokens = live-in s.slots a.slot a.token held in
     let same_routines : c.args.graph.now.routines ≡ l.routines = ap (λ (z : Listing). z.routines) c.requires.graph in
@@ -112,8 +116,8 @@ returns-clause-held g c e =
     let l = g.P.Program.listing in
     let sites = g.P.Program.sites in
     let s : Records = record { limit = b.limit; journal = b.journal.entries; entries = b.entries; next_mark = b.next_mark; now = b.time; made = b.calls.made; tokens = live b.tokens.items; slots = b.tokens.items; calls = b.calls.items; scopes = b.scopes.items; steps = b.steps.items; groups = b.groups.items; cells = b.cells.items } in
-    let L = c.self.invariant.lawful in
-    let G = c.self.invariant.grouped in
+    let L = c.self.invariant.kept.lawful in
+    let G = c.self.invariant.kept.grouped in
     let held : IsHeld s.slots a.slot a.token = rw (← c.self.view_is) at c.requires.held in
     let i : IsIn a.token s.tokens = live-in s.slots a.slot a.token held in
     let same_routines : c.args.graph.now.routines ≡ l.routines = ap (λ (z : Listing). z.routines) c.requires.graph in
@@ -147,6 +151,6 @@ replace-requires-clause-serial g c =
     let l = g.P.Program.listing in
     let sites = g.P.Program.sites in
     let s : Records = record { limit = b.limit; journal = b.journal.entries; entries = b.entries; next_mark = b.next_mark; now = b.time; made = b.calls.made; tokens = live b.tokens.items; slots = b.tokens.items; calls = b.calls.items; scopes = b.scopes.items; steps = b.steps.items; groups = b.groups.items; cells = b.cells.items } in
-    let L = c.self.invariant.lawful in
+    let L = c.self.invariant.kept.lawful in
     let held : IsHeld s.slots a.slot a.token = rw (← c.self.view_is) at c.requires.held in
     later_mark l sites s L a.token (live-in s.slots a.slot a.token held)

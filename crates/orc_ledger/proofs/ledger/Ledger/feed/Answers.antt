@@ -2,7 +2,7 @@ use Rattle.std.proofs.Common.{◌≡◌, ◌<◌, ◌++◌, ℕ, ◌+◌, List, 
 use Rattle.std.specs.Prelude.{slice_get, slice_set}
 use Rattle.orc_rules.specs.declared.entry.Entry.TheVariants.{Seq}
 use Rattle.orc_rules.specs.Timed.{IsIn}
-use Rattle.orc_rules.specs.Nodes.{code}
+use Rattle.orc_rules.specs.Nodes.{code, definitions}
 use Rattle.orc_ledger.specs.Same.{weight}
 use Rattle.orc_ledger.specs.Records.{Records, group_at, depth_at}
 use Rattle.orc_ledger.specs.Tokens.{live, IsHeld}
@@ -10,6 +10,7 @@ use Rattle.orc_ledger.specs.Calls.{born, IsFed}
 use Rattle.orc_ledger.specs.declared.records.Token.{Token}
 use Rattle.orc_ledger.specs.declared.records.Entered.TheVariants.{Feed}
 use Rattle.orc_ledger.specs.declared.records.Step.{Step}
+use Rattle.orc_ledger.proofs.AtRest.{rest-kept, same-terms}
 use Rattle.orc_ledger.proofs.Slots.{live-in, replaced, set-there}
 use Rattle.orc_ledger.proofs.Calling.{turns-told}
 use Rattle.orc_ledger.proofs.Keeping.{counted-kept}
@@ -29,8 +30,8 @@ invariant_of-self-2 g c =
     let sites = g.P.Program.sites in
     let cd = code l in
     let s : Records = record { limit = b.limit; journal = b.journal.entries; entries = b.entries; next_mark = b.next_mark; now = b.time; made = b.calls.made; tokens = live b.tokens.items; slots = b.tokens.items; calls = b.calls.items; scopes = b.scopes.items; steps = b.steps.items; groups = b.groups.items; cells = b.cells.items } in
-    let L = c.self.invariant.lawful in
-    let G = c.self.invariant.grouped in
+    let L = c.self.invariant.kept.lawful in
+    let G = c.self.invariant.kept.grouped in
     let held : IsHeld s.slots a.slot a.token = rw (← c.self.view_is) at c.requires.held in
     let i : IsIn a.token s.tokens = live-in s.slots a.slot a.token held in
     let room : s.entries < s.limit = rw (← c.self.view_is) at c.in_ok-within.ensures.room in
@@ -47,11 +48,14 @@ invariant_of-self-2 g c =
     let T : IsFed s a.token a.scope a.left a.name a.right s' = turns s s' a.token (first ∷ []) [] (step ∷ []) [] [] (Seq a.token.serial b.next_mark) refl journal refl (omega arith) refl refl tokens refl (sym (append-nil s.scopes)) (steps) (sym (append-nil s.groups)) (sym (append-nil s.cells)) in
     let L' = feed-lawful l sites s L a.token i c.requires.at.0 a.scope c.requires.at.1 a.left a.name a.right c.requires.at.2 s' room T in
     record {
-      lawful = L';
-      grouped = fed-grouped l sites s L G a.token i a.scope a.left a.name a.right s' T;
-      told = turns-told l sites s s' L L' c.self.invariant.told a.token (first ∷ []) [] (step ∷ []) [] [] (Seq a.token.serial b.next_mark) tt T;
-      counted = counted-kept l sites s s' L L' (Seq a.token.serial b.next_mark ∷ []) journal (tt, tt) b.counts c.self.invariant.counted;
-      sized = λ j. omega (arith, turned-members s s' L.sound a.token i (first ∷ []) [] (step ∷ []) [] [] _ T j, c.self.invariant.sized j, ap (is_this j) (group-end s.steps step));
+      kept = record {
+        lawful = L';
+        grouped = fed-grouped l sites s L G a.token i a.scope a.left a.name a.right s' T;
+        told = turns-told l sites s s' L L' c.self.invariant.kept.told a.token (first ∷ []) [] (step ∷ []) [] [] (Seq a.token.serial b.next_mark) tt T;
+        counted = counted-kept l sites s s' L L' (Seq a.token.serial b.next_mark ∷ []) journal (tt, tt) b.counts c.self.invariant.kept.counted;
+        sized = λ j. omega (arith, turned-members s s' L.sound a.token i (first ∷ []) [] (step ∷ []) [] [] _ T j, c.self.invariant.kept.sized j, ap (is_this j) (group-end s.steps step));
+      };
+      rest = rest-kept (code l) (definitions l) s s' b.tokens c.replace.new.self refl refl c.self.invariant.rest (live-in b.tokens.items) (c.replace.ensures.parked) (same-terms (code l) s s' refl refl);
     }
 
 pub returns-clause-done : goal.returns-clause-done
@@ -62,8 +66,8 @@ returns-clause-done g c =
     let sites = g.P.Program.sites in
     let cd = code l in
     let s : Records = record { limit = b.limit; journal = b.journal.entries; entries = b.entries; next_mark = b.next_mark; now = b.time; made = b.calls.made; tokens = live b.tokens.items; slots = b.tokens.items; calls = b.calls.items; scopes = b.scopes.items; steps = b.steps.items; groups = b.groups.items; cells = b.cells.items } in
-    let L = c.self.invariant.lawful in
-    let G = c.self.invariant.grouped in
+    let L = c.self.invariant.kept.lawful in
+    let G = c.self.invariant.kept.grouped in
     let held : IsHeld s.slots a.slot a.token = rw (← c.self.view_is) at c.requires.held in
     let i : IsIn a.token s.tokens = live-in s.slots a.slot a.token held in
     let room : s.entries < s.limit = rw (← c.self.view_is) at c.in_ok-within.ensures.room in
@@ -88,8 +92,8 @@ replace-requires-clause-serial g c =
     let sites = g.P.Program.sites in
     let cd = code l in
     let s : Records = record { limit = b.limit; journal = b.journal.entries; entries = b.entries; next_mark = b.next_mark; now = b.time; made = b.calls.made; tokens = live b.tokens.items; slots = b.tokens.items; calls = b.calls.items; scopes = b.scopes.items; steps = b.steps.items; groups = b.groups.items; cells = b.cells.items } in
-    let L = c.self.invariant.lawful in
-    let G = c.self.invariant.grouped in
+    let L = c.self.invariant.kept.lawful in
+    let G = c.self.invariant.kept.grouped in
     let held : IsHeld s.slots a.slot a.token = rw (← c.self.view_is) at c.requires.held in
     let i : IsIn a.token s.tokens = live-in s.slots a.slot a.token held in
     later_mark l sites s L a.token i
@@ -102,8 +106,8 @@ returns-clause-left g c =
     let sites = g.P.Program.sites in
     let cd = code l in
     let s : Records = record { limit = b.limit; journal = b.journal.entries; entries = b.entries; next_mark = b.next_mark; now = b.time; made = b.calls.made; tokens = live b.tokens.items; slots = b.tokens.items; calls = b.calls.items; scopes = b.scopes.items; steps = b.steps.items; groups = b.groups.items; cells = b.cells.items } in
-    let L = c.self.invariant.lawful in
-    let G = c.self.invariant.grouped in
+    let L = c.self.invariant.kept.lawful in
+    let G = c.self.invariant.kept.grouped in
     let held : IsHeld s.slots a.slot a.token = rw (← c.self.view_is) at c.requires.held in
     let i : IsIn a.token s.tokens = live-in s.slots a.slot a.token held in
     let count : c.len-step.result + 1 ≡ length s.steps + 1 = omega (arith, c.len-step.ensures, ap length c.in_ok-reserve.ensures.items) in

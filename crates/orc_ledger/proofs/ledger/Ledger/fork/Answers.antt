@@ -2,12 +2,14 @@ use Rattle.std.proofs.Common.{◌≡◌, ◌<◌, ◌++◌, ℕ, ◌+◌, [], �
 use Rattle.std.specs.Prelude.{slice_get, slice_set}
 use Rattle.orc_rules.specs.declared.entry.Entry.TheVariants.{Fork}
 use Rattle.orc_rules.specs.Timed.{IsIn}
-use Rattle.orc_rules.specs.Nodes.{code}
+use Rattle.orc_rules.specs.Nodes.{code, definitions}
 use Rattle.orc_ledger.specs.Same.{weight}
 use Rattle.orc_ledger.specs.Records.{Records}
 use Rattle.orc_ledger.specs.Tokens.{live, IsHeld}
 use Rattle.orc_ledger.specs.Calls.{born, IsForked, HasRoom}
 use Rattle.orc_ledger.specs.declared.records.Token.{Token}
+use Rattle.orc_ledger.proofs.AtRest.{rest-kept, same-terms}
+use Rattle.orc_ledger.proofs.Flags.{stay-on, stay-same}
 use Rattle.orc_ledger.proofs.Slots.{live-in, replaced, set-there}
 use Rattle.orc_ledger.proofs.Calling.{turns-told}
 use Rattle.orc_ledger.proofs.Keeping.{counted-kept}
@@ -28,8 +30,8 @@ invariant_of-self-2 g c =
     let sites = g.P.Program.sites in
     let cd = code l in
     let s : Records = record { limit = b.limit; journal = b.journal.entries; entries = b.entries; next_mark = b.next_mark; now = b.time; made = b.calls.made; tokens = live b.tokens.items; slots = b.tokens.items; calls = b.calls.items; scopes = b.scopes.items; steps = b.steps.items; groups = b.groups.items; cells = b.cells.items } in
-    let L = c.self.invariant.lawful in
-    let G = c.self.invariant.grouped in
+    let L = c.self.invariant.kept.lawful in
+    let G = c.self.invariant.kept.grouped in
     let held : IsHeld s.slots a.slot a.token = rw (← c.self.view_is) at c.requires.held in
     let i : IsIn a.token s.tokens = live-in s.slots a.slot a.token held in
     let room : s.entries < s.limit = rw (← c.self.view_is) at c.in_ok-within.ensures.room in
@@ -42,11 +44,14 @@ invariant_of-self-2 g c =
     let T : IsForked s a.token a.scope a.left a.right s' = turns s s' a.token (first ∷ second ∷ []) [] [] [] [] (Fork a.token.serial b.next_mark (b.next_mark + 1)) refl journal refl (omega arith) refl refl tokens refl (sym (append-nil s.scopes)) (sym (append-nil s.steps)) (c.join.ensures.items ∙ sym (append-nil s.groups)) (sym (append-nil s.cells)) in
     let L' = fork-lawful l sites s L a.token i c.requires.at.0 a.scope c.requires.at.1 a.left a.right c.requires.at.2 s' room T in
     record {
-      lawful = L';
-      grouped = forked-grouped l sites s L G a.token i a.scope a.left a.right s' T;
-      told = turns-told l sites s s' L L' c.self.invariant.told a.token (first ∷ second ∷ []) [] [] [] [] (Fork a.token.serial b.next_mark (b.next_mark + 1)) tt T;
-      counted = counted-kept l sites s s' L L' (Fork a.token.serial b.next_mark (b.next_mark + 1) ∷ []) journal (tt, tt) b.counts c.self.invariant.counted;
-      sized = λ j. omega (arith, c.join.ensures.sizes j, turned-members s s' L.sound a.token i (first ∷ second ∷ []) [] [] [] [] _ T j, c.self.invariant.sized j, ap (is_this j) c.group_at-group.ensures, ap (is_this j) (group-kept s.steps [] a.token.step (step_in l sites s L a.token i)));
+      kept = record {
+        lawful = L';
+        grouped = forked-grouped l sites s L G a.token i a.scope a.left a.right s' T;
+        told = turns-told l sites s s' L L' c.self.invariant.kept.told a.token (first ∷ second ∷ []) [] [] [] [] (Fork a.token.serial b.next_mark (b.next_mark + 1)) tt T;
+        counted = counted-kept l sites s s' L L' (Fork a.token.serial b.next_mark (b.next_mark + 1) ∷ []) journal (tt, tt) b.counts c.self.invariant.kept.counted;
+        sized = λ j. omega (arith, c.join.ensures.sizes j, turned-members s s' L.sound a.token i (first ∷ second ∷ []) [] [] [] [] _ T j, c.self.invariant.kept.sized j, ap (is_this j) c.group_at-group.ensures, ap (is_this j) (group-kept s.steps [] a.token.step (step_in l sites s L a.token i)));
+      };
+      rest = rest-kept (code l) (definitions l) s s' b.tokens c.add-other.new.self refl refl c.self.invariant.rest (live-in b.tokens.items) (stay-on b.tokens c.reserve.new.self c.add-other.new.self (stay-same b.tokens c.reserve.new.self c.in_ok-reserve.ensures.items c.in_ok-reserve.ensures.parked) (stay-on c.reserve.new.self c.replace.new.self c.add-other.new.self c.replace.ensures.parked c.add-other.ensures.parked)) (same-terms (code l) s s' refl refl);
     }
 
 pub returns-clause-done : goal.returns-clause-done
@@ -57,8 +62,8 @@ returns-clause-done g c =
     let sites = g.P.Program.sites in
     let cd = code l in
     let s : Records = record { limit = b.limit; journal = b.journal.entries; entries = b.entries; next_mark = b.next_mark; now = b.time; made = b.calls.made; tokens = live b.tokens.items; slots = b.tokens.items; calls = b.calls.items; scopes = b.scopes.items; steps = b.steps.items; groups = b.groups.items; cells = b.cells.items } in
-    let L = c.self.invariant.lawful in
-    let G = c.self.invariant.grouped in
+    let L = c.self.invariant.kept.lawful in
+    let G = c.self.invariant.kept.grouped in
     let held : IsHeld s.slots a.slot a.token = rw (← c.self.view_is) at c.requires.held in
     let i : IsIn a.token s.tokens = live-in s.slots a.slot a.token held in
     let room : s.entries < s.limit = rw (← c.self.view_is) at c.in_ok-within.ensures.room in
@@ -79,8 +84,8 @@ replace-requires-clause-serial g c =
     let sites = g.P.Program.sites in
     let cd = code l in
     let s : Records = record { limit = b.limit; journal = b.journal.entries; entries = b.entries; next_mark = b.next_mark; now = b.time; made = b.calls.made; tokens = live b.tokens.items; slots = b.tokens.items; calls = b.calls.items; scopes = b.scopes.items; steps = b.steps.items; groups = b.groups.items; cells = b.cells.items } in
-    let L = c.self.invariant.lawful in
-    let G = c.self.invariant.grouped in
+    let L = c.self.invariant.kept.lawful in
+    let G = c.self.invariant.kept.grouped in
     let held : IsHeld s.slots a.slot a.token = rw (← c.self.view_is) at c.requires.held in
     let i : IsIn a.token s.tokens = live-in s.slots a.slot a.token held in
     later_mark l sites s L a.token i
@@ -93,8 +98,8 @@ returns-clause-left g c =
     let sites = g.P.Program.sites in
     let cd = code l in
     let s : Records = record { limit = b.limit; journal = b.journal.entries; entries = b.entries; next_mark = b.next_mark; now = b.time; made = b.calls.made; tokens = live b.tokens.items; slots = b.tokens.items; calls = b.calls.items; scopes = b.scopes.items; steps = b.steps.items; groups = b.groups.items; cells = b.cells.items } in
-    let L = c.self.invariant.lawful in
-    let G = c.self.invariant.grouped in
+    let L = c.self.invariant.kept.lawful in
+    let G = c.self.invariant.kept.grouped in
     let held : IsHeld s.slots a.slot a.token = rw (← c.self.view_is) at c.requires.held in
     let i : IsIn a.token s.tokens = live-in s.slots a.slot a.token held in
     let first : Token = born s a.token s.next_mark a.left a.scope a.token.step in
@@ -110,8 +115,8 @@ join-requires-clause-open g c =
     let sites = g.P.Program.sites in
     let cd = code l in
     let s : Records = record { limit = b.limit; journal = b.journal.entries; entries = b.entries; next_mark = b.next_mark; now = b.time; made = b.calls.made; tokens = live b.tokens.items; slots = b.tokens.items; calls = b.calls.items; scopes = b.scopes.items; steps = b.steps.items; groups = b.groups.items; cells = b.cells.items } in
-    let L = c.self.invariant.lawful in
-    let G = c.self.invariant.grouped in
+    let L = c.self.invariant.kept.lawful in
+    let G = c.self.invariant.kept.grouped in
     let held : IsHeld s.slots a.slot a.token = rw (← c.self.view_is) at c.requires.held in
     let i : IsIn a.token s.tokens = live-in s.slots a.slot a.token held in
     subst (IsOpen s.groups) (sym c.group_at-group.ensures) (open-token l sites s L G a.token i)
@@ -124,9 +129,9 @@ join-requires-clause-fits g c =
     let sites = g.P.Program.sites in
     let cd = code l in
     let s : Records = record { limit = b.limit; journal = b.journal.entries; entries = b.entries; next_mark = b.next_mark; now = b.time; made = b.calls.made; tokens = live b.tokens.items; slots = b.tokens.items; calls = b.calls.items; scopes = b.scopes.items; steps = b.steps.items; groups = b.groups.items; cells = b.cells.items } in
-    let L = c.self.invariant.lawful in
-    let G = c.self.invariant.grouped in
+    let L = c.self.invariant.kept.lawful in
+    let G = c.self.invariant.kept.grouped in
     let held : IsHeld s.slots a.slot a.token = rw (← c.self.view_is) at c.requires.held in
     let i : IsIn a.token s.tokens = live-in s.slots a.slot a.token held in
     let places : HasRoom s 1 0 0 = rw (← c.self.view_is) at c.in_ok-within.ensures.places in
-    omega (arith, size-few s b.groups.sizes 1 0 0 c.self.invariant.sized places c.group_at-group.result)
+    omega (arith, size-few s b.groups.sizes 1 0 0 c.self.invariant.kept.sized places c.group_at-group.result)

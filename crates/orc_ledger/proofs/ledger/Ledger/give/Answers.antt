@@ -3,18 +3,22 @@ use Rattle.orc_rules.specs.declared.value.Answer.TheVariants.{Value as Gives}
 use Rattle.orc_rules.specs.declared.entry.Entry.TheVariants.{Return}
 use Rattle.orc_rules.specs.Timed.{IsIn}
 use Rattle.orc_calls.specs.Due.{DueNow}
+use Rattle.orc_rules.specs.Nodes.{code, definitions}
 use Rattle.orc_ledger.specs.Same.{weight}
 use Rattle.orc_ledger.specs.Records.{Records}
 use Rattle.orc_ledger.specs.Tokens.{live}
 use Rattle.orc_ledger.specs.Calls.{Exchanges}
 use Rattle.orc_ledger.specs.declared.records.Standing.TheVariants.{On}
 use Rattle.orc_ledger.specs.declared.records.Token.{Token}
+use Rattle.orc_ledger.proofs.AtRest.{rest-kept, same-terms}
+use Rattle.orc_ledger.proofs.Flags.{stay-on, stay-same}
 use Rattle.orc_ledger.proofs.Answered.{due-there}
 use Rattle.orc_ledger.proofs.Asking.{return-lawful}
 use Rattle.orc_ledger.proofs.Calling.{returns-told}
 use Rattle.orc_ledger.proofs.Grouped.{returned-grouped}
 use Rattle.orc_ledger.proofs.Keeping.{counted-kept, from_one}
 use Rattle.orc_ledger.proofs.Sizes.{exchanged-members}
+use Rattle.orc_ledger.proofs.Slots.{live-in}
 use Rattle.orc_ledger.proofs.ledger.Ledger.give.Goals as goal
 
 pub invariant_of-self-2 : goal.invariant_of-self-2
@@ -23,7 +27,7 @@ invariant_of-self-2 g c =
     let a = c.args in
     let l = g.P.Program.listing in
     let sites = g.P.Program.sites in
-    let K = c.self.invariant in
+    let K = c.self.invariant.kept in
     let s : Records = record { limit = b.limit; journal = b.journal.entries; entries = b.entries; next_mark = b.next_mark; now = b.time; made = b.calls.made; tokens = live b.tokens.items; slots = b.tokens.items; calls = b.calls.items; scopes = b.scopes.items; steps = b.steps.items; groups = b.groups.items; cells = b.cells.items } in
     let pends : IsIn a.call s.calls = rw (← c.self.view_is) at c.requires.pends in
     let due : DueNow a.call.made_at a.call.found (Gives a.value) s.now = rw (← c.self.view_is) at c.requires.due in
@@ -49,11 +53,14 @@ invariant_of-self-2 g c =
     } in
     let L' = return-lawful l sites s K.lawful a.call pends a.value (due-there l sites b.counts b.groups.sizes s K a.call pends (Gives a.value) due) room s' T in
     record {
-      lawful = L';
-      grouped = returned-grouped l sites s K.lawful K.grouped a.call pends t refl s' e T;
-      told = returns-told l sites s s' K.lawful L' K.told [] (t ∷ []) a.call e tt T;
-      counted = counted-kept l sites s s' K.lawful L' (e ∷ []) journal (tt, tt) b.counts K.counted;
-      sized = λ j. omega (arith, exchanged-members s s' [] (t ∷ []) (a.call ∷ []) [] 0 e T j, K.sized j);
+      kept = record {
+        lawful = L';
+        grouped = returned-grouped l sites s K.lawful K.grouped a.call pends t refl s' e T;
+        told = returns-told l sites s s' K.lawful L' K.told [] (t ∷ []) a.call e tt T;
+        counted = counted-kept l sites s s' K.lawful L' (e ∷ []) journal (tt, tt) b.counts K.counted;
+        sized = λ j. omega (arith, exchanged-members s s' [] (t ∷ []) (a.call ∷ []) [] 0 e T j, K.sized j);
+      };
+      rest = rest-kept (code l) (definitions l) s s' b.tokens c.add-slot.new.self refl refl c.self.invariant.rest (live-in b.tokens.items) (stay-on b.tokens c.reserve.new.self c.add-slot.new.self (stay-same b.tokens c.reserve.new.self c.in_ok-reserve.ensures.items c.in_ok-reserve.ensures.parked) c.add-slot.ensures.parked) (same-terms (code l) s s' refl refl);
     }
 
 pub returns-clause-done : goal.returns-clause-done
@@ -62,7 +69,7 @@ returns-clause-done g c =
     let a = c.args in
     let l = g.P.Program.listing in
     let sites = g.P.Program.sites in
-    let K = c.self.invariant in
+    let K = c.self.invariant.kept in
     let s : Records = record { limit = b.limit; journal = b.journal.entries; entries = b.entries; next_mark = b.next_mark; now = b.time; made = b.calls.made; tokens = live b.tokens.items; slots = b.tokens.items; calls = b.calls.items; scopes = b.scopes.items; steps = b.steps.items; groups = b.groups.items; cells = b.cells.items } in
     let pends : IsIn a.call s.calls = rw (← c.self.view_is) at c.requires.pends in
     let due : DueNow a.call.made_at a.call.found (Gives a.value) s.now = rw (← c.self.view_is) at c.requires.due in
@@ -92,4 +99,4 @@ pub add-slot-requires-clause-serial : goal.add-slot-requires-clause-serial
 add-slot-requires-clause-serial g c =
     let b = c.self.inside in
     let s : Records = record { limit = b.limit; journal = b.journal.entries; entries = b.entries; next_mark = b.next_mark; now = b.time; made = b.calls.made; tokens = live b.tokens.items; slots = b.tokens.items; calls = b.calls.items; scopes = b.scopes.items; steps = b.steps.items; groups = b.groups.items; cells = b.cells.items } in
-    from_one g.P.Program.listing g.P.Program.sites s c.self.invariant.lawful
+    from_one g.P.Program.listing g.P.Program.sites s c.self.invariant.kept.lawful

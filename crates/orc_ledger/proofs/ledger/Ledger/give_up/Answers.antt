@@ -21,7 +21,7 @@ invariant_of-self-2 g c =
     let a = c.args in
     let l = g.P.Program.listing in
     let sites = g.P.Program.sites in
-    let K = c.self.invariant in
+    let K = c.self.invariant.kept in
     let s : Records = record { limit = b.limit; journal = b.journal.entries; entries = b.entries; next_mark = b.next_mark; now = b.time; made = b.calls.made; tokens = live b.tokens.items; slots = b.tokens.items; calls = b.calls.items; scopes = b.scopes.items; steps = b.steps.items; groups = b.groups.items; cells = b.cells.items } in
     let pends : IsIn a.call s.calls = rw (← c.self.view_is) at c.requires.pends in
     let due : DueNow a.call.made_at a.call.found Halt s.now = rw (← c.self.view_is) at c.requires.due in
@@ -45,11 +45,14 @@ invariant_of-self-2 g c =
     } in
     let L' = return_halt-lawful l sites s K.lawful a.call pends (due-there l sites b.counts b.groups.sizes s K a.call pends Halt due) room s' T in
     record {
-      lawful = L';
-      grouped = halted-grouped l sites s K.lawful K.grouped a.call s' e T;
-      told = returns-told l sites s s' K.lawful L' K.told [] [] a.call e tt T;
-      counted = counted-kept l sites s s' K.lawful L' (e ∷ []) journal (tt, tt) b.counts K.counted;
-      sized = λ j. omega (arith, c.leave.ensures.sizes j, exchanged-members s s' [] [] (a.call ∷ []) [] 0 e T j, K.sized j, ap (is_this j) c.group_at-group.ensures);
+      kept = record {
+        lawful = L';
+        grouped = halted-grouped l sites s K.lawful K.grouped a.call s' e T;
+        told = returns-told l sites s s' K.lawful L' K.told [] [] a.call e tt T;
+        counted = counted-kept l sites s s' K.lawful L' (e ∷ []) journal (tt, tt) b.counts K.counted;
+        sized = λ j. omega (arith, c.leave.ensures.sizes j, exchanged-members s s' [] [] (a.call ∷ []) [] 0 e T j, K.sized j, ap (is_this j) c.group_at-group.ensures);
+      };
+      rest = c.self.invariant.rest;
     }
 
 pub returns-clause-done : goal.returns-clause-done
@@ -58,7 +61,7 @@ returns-clause-done g c =
     let a = c.args in
     let l = g.P.Program.listing in
     let sites = g.P.Program.sites in
-    let K = c.self.invariant in
+    let K = c.self.invariant.kept in
     let s : Records = record { limit = b.limit; journal = b.journal.entries; entries = b.entries; next_mark = b.next_mark; now = b.time; made = b.calls.made; tokens = live b.tokens.items; slots = b.tokens.items; calls = b.calls.items; scopes = b.scopes.items; steps = b.steps.items; groups = b.groups.items; cells = b.cells.items } in
     let pends : IsIn a.call s.calls = rw (← c.self.view_is) at c.requires.pends in
     let due : DueNow a.call.made_at a.call.found Halt s.now = rw (← c.self.view_is) at c.requires.due in

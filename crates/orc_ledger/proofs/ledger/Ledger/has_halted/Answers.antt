@@ -1,4 +1,4 @@
-use Rattle.std.proofs.Common.{◌≡◌, [], subst, refl}
+use Rattle.std.proofs.Common.{[], subst, refl}
 use Rattle.orc_rules.specs.Nodes.{source}
 use Rattle.orc_rules.specs.Term.{Halted}
 use Rattle.orc_rules.specs.Marked.{erase}
@@ -15,7 +15,7 @@ returns g c e p at =
     let l = g.P.Program.listing in
     let sites = g.P.Program.sites in
     let s : Records = c.args.self.now in
-    let K = subst (λ (z : Records). Kept l sites c.self.inside.counts c.self.inside.groups.sizes z) c.self.view_is c.self.invariant in
+    let K = subst (λ (z : Records). Kept l sites c.self.inside.counts c.self.inside.groups.sizes z) c.self.view_is c.self.invariant.kept in
     let L = K.lawful in
     subst (λ q. Halted (erase (Place.marked q))) (journal_one (context l sites) (source l) [] (begin (source l)) L.place p s.journal refl L.leads at)
     (root-halted l sites s L (numbers_of s) K.grouped (c.is_empty.ensures.0 e))

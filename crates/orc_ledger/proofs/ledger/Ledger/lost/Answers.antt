@@ -9,6 +9,8 @@ use Rattle.orc_ledger.specs.Records.{Records, group_at}
 use Rattle.orc_ledger.specs.Calls.{Drops, group_goes}
 use Rattle.orc_ledger.specs.Next.{members, numbers_of, is_this}
 use Rattle.orc_ledger.specs.declared.records.Group.{Group}
+use Rattle.orc_ledger.specs.declared.records.Token.{Token}
+use Rattle.orc_ledger.proofs.AtRest.{rest-dropped, side-unbound}
 use Rattle.orc_ledger.proofs.Binding.{lost-lawful}
 use Rattle.orc_ledger.proofs.Emptied.{right-empty, right-alone}
 use Rattle.orc_ledger.proofs.Calling.{drops-told}
@@ -23,24 +25,27 @@ invariant_of-self-2 g c =
     let a = c.args in
     let l = g.P.Program.listing in
     let sites = g.P.Program.sites in
-    let L = c.self.invariant.lawful in
-    let G = c.self.invariant.grouped in
+    let L = c.self.invariant.kept.lawful in
+    let G = c.self.invariant.kept.grouped in
     let s : Records = record { limit = b.limit; journal = b.journal.entries; entries = b.entries; next_mark = b.next_mark; now = b.time; made = b.calls.made; tokens = live b.tokens.items; slots = b.tokens.items; calls = b.calls.items; scopes = b.scopes.items; steps = b.steps.items; groups = b.groups.items; cells = b.cells.items } in
     let there : IsIn a.group s.groups = rw (← c.self.view_is) at c.requires.there in
     let empty : members (numbers_of s) s a.group.number ≡ 0 = rw (← c.self.view_is) at c.requires.empty in
     let E = right-empty l sites s L (numbers_of s) G a.group there empty a.cell c.requires.side in
-    let s' : Records = record { limit = b.limit; journal = c.write.new.journal.entries; entries = b.entries + 1; next_mark = b.next_mark; now = b.time; made = b.calls.made; tokens = live b.tokens.items; slots = b.tokens.items; calls = b.calls.items; scopes = b.scopes.items; steps = b.steps.items; groups = c.take_out.new.groups.items; cells = c.settle.new.cells.items } in
+    let s' : Records = record { limit = b.limit; journal = c.write.new.journal.entries; entries = b.entries + 1; next_mark = b.next_mark; now = b.time; made = b.calls.made; tokens = live c.wake.new.self.items; slots = c.wake.new.self.items; calls = b.calls.items; scopes = b.scopes.items; steps = b.steps.items; groups = c.take_out.new.groups.items; cells = c.settle.new.cells.items } in
     let groups : (w : Group → ℕ) → weight w s'.groups ≡ weight (but (group_goes (code l) a.cell s) w) s.groups = λ w. omega (arith, c.take_out.ensures.rest w, right-alone l sites s L (numbers_of s) G a.group there empty a.cell c.requires.side w) in
-    let D : Drops (code l) a.cell Void s s' = drops-empty l sites s L a.cell E Void s' refl refl refl refl refl refl refl groups refl refl c.settle.ensures in
+    let D : Drops (code l) a.cell Void s s' = drops-empty l sites s L a.cell E Void s' refl refl refl refl refl (ap live c.wake.ensures.items) refl groups refl refl c.settle.ensures in
     let journal : s'.journal ≡ s.journal ++ Lost a.cell ∷ [] = ap (λ j. j.entries) c.in_ok-write.ensures.added in
     let room : s.entries < s.limit = rw (← c.self.view_is) at c.in_ok-within.ensures.room in
     let L' = lost-lawful l sites s L a.cell a.group there c.requires.side E room s' D journal in
     record {
-      lawful = L';
-      grouped = dropped-grouped l sites s L G a.cell Void s' D;
-      told = drops-told l sites s s' L L' c.self.invariant.told a.cell Void (Lost a.cell) [] tt D journal;
-      counted = counted-kept l sites s s' L L' (Lost a.cell ∷ []) journal (tt, tt) b.counts c.self.invariant.counted;
-      sized = λ j. omega (arith, c.take_out.ensures.sizes j, c.take_out.ensures.rest (λ (h : Group). is_this j (group_at s.steps h.outer)), c.self.invariant.sized j);
+      kept = record {
+        lawful = L';
+        grouped = dropped-grouped l sites s L G a.cell Void s' D;
+        told = drops-told l sites s s' L L' c.self.invariant.kept.told a.cell Void (Lost a.cell) [] tt D journal;
+        counted = counted-kept l sites s s' L L' (Lost a.cell ∷ []) journal (tt, tt) b.counts c.self.invariant.kept.counted;
+        sized = λ j. omega (arith, c.take_out.ensures.sizes j, c.take_out.ensures.rest (λ (h : Group). is_this j (group_at s.steps h.outer)), c.self.invariant.kept.sized j, ap (λ z. weight (λ (t : Token). is_this j (group_at s.steps t.step)) (live z)) c.wake.ensures.items);
+      };
+      rest = rest-dropped l s s' L.sound a.cell Void D (side-unbound s L.sound a.group there a.cell c.requires.side) b.tokens c.wake.new.self refl refl c.self.invariant.rest c.wake.ensures.parked;
     }
 
 pub returns-clause-done : goal.returns-clause-done
@@ -49,13 +54,13 @@ returns-clause-done g c =
     let a = c.args in
     let l = g.P.Program.listing in
     let sites = g.P.Program.sites in
-    let L = c.self.invariant.lawful in
-    let G = c.self.invariant.grouped in
+    let L = c.self.invariant.kept.lawful in
+    let G = c.self.invariant.kept.grouped in
     let s : Records = record { limit = b.limit; journal = b.journal.entries; entries = b.entries; next_mark = b.next_mark; now = b.time; made = b.calls.made; tokens = live b.tokens.items; slots = b.tokens.items; calls = b.calls.items; scopes = b.scopes.items; steps = b.steps.items; groups = b.groups.items; cells = b.cells.items } in
     let there : IsIn a.group s.groups = rw (← c.self.view_is) at c.requires.there in
     let empty : members (numbers_of s) s a.group.number ≡ 0 = rw (← c.self.view_is) at c.requires.empty in
     let E = right-empty l sites s L (numbers_of s) G a.group there empty a.cell c.requires.side in
-    let s' : Records = record { limit = b.limit; journal = c.write.new.journal.entries; entries = b.entries + 1; next_mark = b.next_mark; now = b.time; made = b.calls.made; tokens = live b.tokens.items; slots = b.tokens.items; calls = b.calls.items; scopes = b.scopes.items; steps = b.steps.items; groups = c.take_out.new.groups.items; cells = c.settle.new.cells.items } in
+    let s' : Records = record { limit = b.limit; journal = c.write.new.journal.entries; entries = b.entries + 1; next_mark = b.next_mark; now = b.time; made = b.calls.made; tokens = live c.wake.new.self.items; slots = c.wake.new.self.items; calls = b.calls.items; scopes = b.scopes.items; steps = b.steps.items; groups = c.take_out.new.groups.items; cells = c.settle.new.cells.items } in
     let groups : (w : Group → ℕ) → weight w s'.groups ≡ weight (but (group_goes (code l) a.cell s) w) s.groups = λ w. omega (arith, c.take_out.ensures.rest w, right-alone l sites s L (numbers_of s) G a.group there empty a.cell c.requires.side w) in
-    let D : Drops (code l) a.cell Void s s' = drops-empty l sites s L a.cell E Void s' refl refl refl refl refl refl refl groups refl refl c.settle.ensures in
+    let D : Drops (code l) a.cell Void s s' = drops-empty l sites s L a.cell E Void s' refl refl refl refl refl (ap live c.wake.ensures.items) refl groups refl refl c.settle.ensures in
     rw (← c.self.view_is) D

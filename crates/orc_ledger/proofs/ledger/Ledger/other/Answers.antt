@@ -2,7 +2,7 @@ use Rattle.std.proofs.Common.{◌≡◌, ◌<◌, ◌++◌, ℕ, ◌+◌, List, 
 use Rattle.std.specs.Prelude.{slice_get, slice_set}
 use Rattle.orc_rules.specs.declared.entry.Entry.TheVariants.{Other}
 use Rattle.orc_rules.specs.Timed.{IsIn}
-use Rattle.orc_rules.specs.Nodes.{code}
+use Rattle.orc_rules.specs.Nodes.{code, definitions}
 use Rattle.orc_ledger.specs.Same.{weight, None}
 use Rattle.orc_ledger.specs.Records.{Records, depth_at}
 use Rattle.orc_ledger.specs.Tokens.{live, IsHeld}
@@ -12,6 +12,7 @@ use Rattle.orc_ledger.specs.declared.records.Entered.TheVariants.{Try}
 use Rattle.orc_ledger.specs.declared.records.Step.{Step}
 use Rattle.orc_ledger.specs.declared.records.Side.TheVariants.{Left}
 use Rattle.orc_ledger.specs.declared.records.Group.{Group}
+use Rattle.orc_ledger.proofs.AtRest.{rest-kept, rest-same, same-terms}
 use Rattle.orc_ledger.proofs.Slots.{live-in, replaced, set-there}
 use Rattle.orc_ledger.proofs.Calling.{turns-told}
 use Rattle.orc_ledger.proofs.Keeping.{counted-kept}
@@ -32,8 +33,8 @@ invariant_of-self-2 g c =
     let sites = g.P.Program.sites in
     let cd = code l in
     let s : Records = record { limit = b.limit; journal = b.journal.entries; entries = b.entries; next_mark = b.next_mark; now = b.time; made = b.calls.made; tokens = live b.tokens.items; slots = b.tokens.items; calls = b.calls.items; scopes = b.scopes.items; steps = b.steps.items; groups = b.groups.items; cells = b.cells.items } in
-    let L = c.self.invariant.lawful in
-    let G = c.self.invariant.grouped in
+    let L = c.self.invariant.kept.lawful in
+    let G = c.self.invariant.kept.grouped in
     let held : IsHeld s.slots a.slot a.token = rw (← c.self.view_is) at c.requires.held in
     let i : IsIn a.token s.tokens = live-in s.slots a.slot a.token held in
     let number = c.open-number.result in
@@ -56,11 +57,14 @@ invariant_of-self-2 g c =
     let T : IsTried s a.token a.scope a.left a.right number s' = turns s s' a.token (first ∷ []) [] (step ∷ []) (group ∷ []) [] (Other a.token.serial b.next_mark) refl journal refl (omega arith) refl refl tokens refl (sym (append-nil s.scopes)) (steps) (groups) (sym (append-nil s.cells)) in
     let L' = try-lawful l sites s L a.token i c.requires.at.0 a.scope c.requires.at.1 a.left a.right number c.requires.at.2 s' room T in
     record {
-      lawful = L';
-      grouped = tried-grouped l sites s L G a.token i a.scope a.left a.right number free s' T;
-      told = turns-told l sites s s' L L' c.self.invariant.told a.token (first ∷ []) [] (step ∷ []) (group ∷ []) [] (Other a.token.serial b.next_mark) tt T;
-      counted = counted-kept l sites s s' L L' (Other a.token.serial b.next_mark ∷ []) journal (tt, tt) b.counts c.self.invariant.counted;
-      sized = λ j. omega (arith, c.join.ensures.sizes j, ap (λ z. size_of z j) c.open-number.ensures.sizes, c.in_ok-reserve-2.ensures.sizes j, turned-members s s' L.sound a.token i (first ∷ []) [] (step ∷ []) (group ∷ []) [] _ T j, c.self.invariant.sized j, ap (is_this j) (group-end s.steps step), ap (is_this j) (group-kept s.steps (step ∷ []) a.token.step (step_in l sites s L a.token i)));
+      kept = record {
+        lawful = L';
+        grouped = tried-grouped l sites s L G a.token i a.scope a.left a.right number free s' T;
+        told = turns-told l sites s s' L L' c.self.invariant.kept.told a.token (first ∷ []) [] (step ∷ []) (group ∷ []) [] (Other a.token.serial b.next_mark) tt T;
+        counted = counted-kept l sites s s' L L' (Other a.token.serial b.next_mark ∷ []) journal (tt, tt) b.counts c.self.invariant.kept.counted;
+        sized = λ j. omega (arith, c.join.ensures.sizes j, ap (λ z. size_of z j) c.open-number.ensures.sizes, c.in_ok-reserve-2.ensures.sizes j, turned-members s s' L.sound a.token i (first ∷ []) [] (step ∷ []) (group ∷ []) [] _ T j, c.self.invariant.kept.sized j, ap (is_this j) (group-end s.steps step), ap (is_this j) (group-kept s.steps (step ∷ []) a.token.step (step_in l sites s L a.token i)));
+      };
+      rest = rest-kept (code l) (definitions l) s s' b.tokens c.replace.new.self refl refl c.self.invariant.rest (live-in b.tokens.items) (c.replace.ensures.parked) (same-terms (code l) s s' refl refl);
     }
 
 pub returns-clause-done : goal.returns-clause-done
@@ -71,8 +75,8 @@ returns-clause-done g c =
     let sites = g.P.Program.sites in
     let cd = code l in
     let s : Records = record { limit = b.limit; journal = b.journal.entries; entries = b.entries; next_mark = b.next_mark; now = b.time; made = b.calls.made; tokens = live b.tokens.items; slots = b.tokens.items; calls = b.calls.items; scopes = b.scopes.items; steps = b.steps.items; groups = b.groups.items; cells = b.cells.items } in
-    let L = c.self.invariant.lawful in
-    let G = c.self.invariant.grouped in
+    let L = c.self.invariant.kept.lawful in
+    let G = c.self.invariant.kept.grouped in
     let held : IsHeld s.slots a.slot a.token = rw (← c.self.view_is) at c.requires.held in
     let i : IsIn a.token s.tokens = live-in s.slots a.slot a.token held in
     let number = c.open-number.result in
@@ -103,8 +107,8 @@ replace-requires-clause-serial g c =
     let sites = g.P.Program.sites in
     let cd = code l in
     let s : Records = record { limit = b.limit; journal = b.journal.entries; entries = b.entries; next_mark = b.next_mark; now = b.time; made = b.calls.made; tokens = live b.tokens.items; slots = b.tokens.items; calls = b.calls.items; scopes = b.scopes.items; steps = b.steps.items; groups = b.groups.items; cells = b.cells.items } in
-    let L = c.self.invariant.lawful in
-    let G = c.self.invariant.grouped in
+    let L = c.self.invariant.kept.lawful in
+    let G = c.self.invariant.kept.grouped in
     let held : IsHeld s.slots a.slot a.token = rw (← c.self.view_is) at c.requires.held in
     let i : IsIn a.token s.tokens = live-in s.slots a.slot a.token held in
     later_mark l sites s L a.token i
@@ -117,8 +121,8 @@ returns-clause-left g c =
     let sites = g.P.Program.sites in
     let cd = code l in
     let s : Records = record { limit = b.limit; journal = b.journal.entries; entries = b.entries; next_mark = b.next_mark; now = b.time; made = b.calls.made; tokens = live b.tokens.items; slots = b.tokens.items; calls = b.calls.items; scopes = b.scopes.items; steps = b.steps.items; groups = b.groups.items; cells = b.cells.items } in
-    let L = c.self.invariant.lawful in
-    let G = c.self.invariant.grouped in
+    let L = c.self.invariant.kept.lawful in
+    let G = c.self.invariant.kept.grouped in
     let held : IsHeld s.slots a.slot a.token = rw (← c.self.view_is) at c.requires.held in
     let i : IsIn a.token s.tokens = live-in s.slots a.slot a.token held in
     let count : c.len-step.result + 1 ≡ length s.steps + 1 = omega (arith, c.len-step.ensures, ap length c.in_ok-reserve.ensures.items) in
@@ -134,11 +138,11 @@ invariant_of-self-in_err-reserve-2 g c =
     let sites = g.P.Program.sites in
     let cd = code l in
     let s : Records = record { limit = b.limit; journal = b.journal.entries; entries = b.entries; next_mark = b.next_mark; now = b.time; made = b.calls.made; tokens = live b.tokens.items; slots = b.tokens.items; calls = b.calls.items; scopes = b.scopes.items; steps = b.steps.items; groups = b.groups.items; cells = b.cells.items } in
-    let L = c.self.invariant.lawful in
-    let G = c.self.invariant.grouped in
+    let L = c.self.invariant.kept.lawful in
+    let G = c.self.invariant.kept.grouped in
     let held : IsHeld s.slots a.slot a.token = rw (← c.self.view_is) at c.requires.held in
     let i : IsIn a.token s.tokens = live-in s.slots a.slot a.token held in
-    kept-still l sites b.counts b.groups.sizes c.reserve-2.new.self.sizes s _ c.self.invariant (λ k. record { limit = b.limit; journal = b.journal.entries; entries = b.entries; next_mark = b.next_mark; now = b.time; made = b.calls.made; tokens = live b.tokens.items; slots = b.tokens.items; calls = b.calls.items; scopes = b.scopes.items; steps = sym c.in_ok-reserve.ensures.items k; groups = sym c.reserve-2.ensures.items k; cells = b.cells.items }) c.reserve-2.ensures.sizes
+    record { kept = kept-still l sites b.counts b.groups.sizes c.reserve-2.new.self.sizes s _ c.self.invariant.kept (λ k. record { limit = b.limit; journal = b.journal.entries; entries = b.entries; next_mark = b.next_mark; now = b.time; made = b.calls.made; tokens = live b.tokens.items; slots = b.tokens.items; calls = b.calls.items; scopes = b.scopes.items; steps = sym c.in_ok-reserve.ensures.items k; groups = sym c.reserve-2.ensures.items k; cells = b.cells.items }) c.reserve-2.ensures.sizes; rest = rest-same (code l) (definitions l) s _ b.tokens.parked b.tokens.parked (λ k. record { limit = b.limit; journal = b.journal.entries; entries = b.entries; next_mark = b.next_mark; now = b.time; made = b.calls.made; tokens = live b.tokens.items; slots = b.tokens.items; calls = b.calls.items; scopes = b.scopes.items; steps = sym c.in_ok-reserve.ensures.items k; groups = sym c.reserve-2.ensures.items k; cells = b.cells.items }) refl c.self.invariant.rest }
 
 pub invariant_of-self-in_err-write : goal.invariant_of-self-in_err-write
 invariant_of-self-in_err-write g c =
@@ -148,11 +152,11 @@ invariant_of-self-in_err-write g c =
     let sites = g.P.Program.sites in
     let cd = code l in
     let s : Records = record { limit = b.limit; journal = b.journal.entries; entries = b.entries; next_mark = b.next_mark; now = b.time; made = b.calls.made; tokens = live b.tokens.items; slots = b.tokens.items; calls = b.calls.items; scopes = b.scopes.items; steps = b.steps.items; groups = b.groups.items; cells = b.cells.items } in
-    let L = c.self.invariant.lawful in
-    let G = c.self.invariant.grouped in
+    let L = c.self.invariant.kept.lawful in
+    let G = c.self.invariant.kept.grouped in
     let held : IsHeld s.slots a.slot a.token = rw (← c.self.view_is) at c.requires.held in
     let i : IsIn a.token s.tokens = live-in s.slots a.slot a.token held in
-    kept-still l sites b.counts b.groups.sizes c.reserve-2.new.self.sizes s _ c.self.invariant (λ k. record { limit = b.limit; journal = (sym c.in_err-write.ensures.refused k).entries; entries = b.entries; next_mark = b.next_mark; now = b.time; made = b.calls.made; tokens = live b.tokens.items; slots = b.tokens.items; calls = b.calls.items; scopes = b.scopes.items; steps = sym c.in_ok-reserve.ensures.items k; groups = sym c.reserve-2.ensures.items k; cells = b.cells.items }) c.reserve-2.ensures.sizes
+    record { kept = kept-still l sites b.counts b.groups.sizes c.reserve-2.new.self.sizes s _ c.self.invariant.kept (λ k. record { limit = b.limit; journal = (sym c.in_err-write.ensures.refused k).entries; entries = b.entries; next_mark = b.next_mark; now = b.time; made = b.calls.made; tokens = live b.tokens.items; slots = b.tokens.items; calls = b.calls.items; scopes = b.scopes.items; steps = sym c.in_ok-reserve.ensures.items k; groups = sym c.reserve-2.ensures.items k; cells = b.cells.items }) c.reserve-2.ensures.sizes; rest = rest-same (code l) (definitions l) s _ b.tokens.parked b.tokens.parked (λ k. record { limit = b.limit; journal = (sym c.in_err-write.ensures.refused k).entries; entries = b.entries; next_mark = b.next_mark; now = b.time; made = b.calls.made; tokens = live b.tokens.items; slots = b.tokens.items; calls = b.calls.items; scopes = b.scopes.items; steps = sym c.in_ok-reserve.ensures.items k; groups = sym c.reserve-2.ensures.items k; cells = b.cells.items }) refl c.self.invariant.rest }
 
 pub join-requires-clause-open : goal.join-requires-clause-open
 join-requires-clause-open g c =
@@ -167,13 +171,13 @@ join-requires-clause-fits g c =
     let sites = g.P.Program.sites in
     let cd = code l in
     let s : Records = record { limit = b.limit; journal = b.journal.entries; entries = b.entries; next_mark = b.next_mark; now = b.time; made = b.calls.made; tokens = live b.tokens.items; slots = b.tokens.items; calls = b.calls.items; scopes = b.scopes.items; steps = b.steps.items; groups = b.groups.items; cells = b.cells.items } in
-    let L = c.self.invariant.lawful in
-    let G = c.self.invariant.grouped in
+    let L = c.self.invariant.kept.lawful in
+    let G = c.self.invariant.kept.grouped in
     let held : IsHeld s.slots a.slot a.token = rw (← c.self.view_is) at c.requires.held in
     let i : IsIn a.token s.tokens = live-in s.slots a.slot a.token held in
     let n = c.open-number.result in
     let places : HasRoom s 0 1 0 = rw (← c.self.view_is) at c.in_ok-within.ensures.places in
-    omega (arith, size-few s b.groups.sizes 0 1 0 c.self.invariant.sized places n, ap (λ z. size_of z n) c.open-number.ensures.sizes, c.in_ok-reserve-2.ensures.sizes n)
+    omega (arith, size-few s b.groups.sizes 0 1 0 c.self.invariant.kept.sized places n, ap (λ z. size_of z n) c.open-number.ensures.sizes, c.in_ok-reserve-2.ensures.sizes n)
 
 pub replace-requires-clause-held : goal.replace-requires-clause-held
 replace-requires-clause-held g c =
@@ -183,8 +187,8 @@ replace-requires-clause-held g c =
     let sites = g.P.Program.sites in
     let cd = code l in
     let s : Records = record { limit = b.limit; journal = b.journal.entries; entries = b.entries; next_mark = b.next_mark; now = b.time; made = b.calls.made; tokens = live b.tokens.items; slots = b.tokens.items; calls = b.calls.items; scopes = b.scopes.items; steps = b.steps.items; groups = b.groups.items; cells = b.cells.items } in
-    let L = c.self.invariant.lawful in
-    let G = c.self.invariant.grouped in
+    let L = c.self.invariant.kept.lawful in
+    let G = c.self.invariant.kept.grouped in
     let held : IsHeld s.slots a.slot a.token = rw (← c.self.view_is) at c.requires.held in
     let i : IsIn a.token s.tokens = live-in s.slots a.slot a.token held in
     (a.token, held)

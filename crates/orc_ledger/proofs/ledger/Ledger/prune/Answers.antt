@@ -2,10 +2,11 @@ use Rattle.std.proofs.Common.{◌≡◌, ◌<◌, ◌++◌, ℕ, ◌+◌, List, 
 use Rattle.std.specs.Prelude.{slice_get, slice_set}
 use Rattle.orc_rules.specs.declared.entry.Entry.TheVariants.{Open}
 use Rattle.orc_rules.specs.Timed.{IsIn}
-use Rattle.orc_rules.specs.Nodes.{code}
+use Rattle.orc_rules.specs.Nodes.{code, definitions}
 use Rattle.orc_names.specs.declared.names.Bound.{Bound}
 use Rattle.orc_names.specs.declared.names.Bound.TheVariants.{Cell}
 use Rattle.orc_names.specs.declared.names.Scope.{Scope}
+use Rattle.orc_names.specs.Scopes.{current}
 use Rattle.orc_ledger.specs.Same.{weight, None}
 use Rattle.orc_ledger.specs.Records.{Records, group_at}
 use Rattle.orc_ledger.specs.Tokens.{live, IsHeld}
@@ -15,11 +16,13 @@ use Rattle.orc_ledger.specs.declared.records.Entered.TheVariants.{Aid}
 use Rattle.orc_ledger.specs.declared.records.Step.{Step}
 use Rattle.orc_ledger.specs.declared.records.Side.TheVariants.{Right}
 use Rattle.orc_ledger.specs.declared.records.Group.{Group}
+use Rattle.orc_ledger.proofs.AtRest.{rest-kept, rest-same, turns-terms}
+use Rattle.orc_ledger.proofs.Flags.{stay-on, stay-same}
 use Rattle.orc_ledger.proofs.Slots.{live-in, replaced, set-there}
 use Rattle.orc_ledger.proofs.Calling.{turns-told}
 use Rattle.orc_ledger.proofs.Keeping.{counted-kept}
 use Rattle.orc_ledger.proofs.Made.{turns, later_mark, step_in}
-use Rattle.orc_ledger.proofs.Leaves.{open-lawful}
+use Rattle.orc_ledger.proofs.Leaves.{open-lawful, current-push}
 use Rattle.orc_ledger.proofs.Grouped.{opened-grouped}
 use Rattle.orc_ledger.specs.Next.{is_this}
 use Rattle.orc_ledger.specs.OpenGroups.{IsOpen, size_of}
@@ -35,8 +38,8 @@ invariant_of-self-2 g c =
     let sites = g.P.Program.sites in
     let cd = code l in
     let s : Records = record { limit = b.limit; journal = b.journal.entries; entries = b.entries; next_mark = b.next_mark; now = b.time; made = b.calls.made; tokens = live b.tokens.items; slots = b.tokens.items; calls = b.calls.items; scopes = b.scopes.items; steps = b.steps.items; groups = b.groups.items; cells = b.cells.items } in
-    let L = c.self.invariant.lawful in
-    let G = c.self.invariant.grouped in
+    let L = c.self.invariant.kept.lawful in
+    let G = c.self.invariant.kept.grouped in
     let held : IsHeld s.slots a.slot a.token = rw (← c.self.view_is) at c.requires.held in
     let i : IsIn a.token s.tokens = live-in s.slots a.slot a.token held in
     let number = c.open-number.result in
@@ -63,11 +66,14 @@ invariant_of-self-2 g c =
     let T : IsOpened s a.token a.scope a.left a.name a.right number s' = turns s s' a.token (first ∷ second ∷ []) (name ∷ []) (step ∷ []) (group ∷ []) (Cell (length s.cells) ∷ []) (Open a.token.serial (length s.cells) b.next_mark (b.next_mark + 1)) refl entry refl (omega arith) refl refl tokens refl (scopes) (steps) (groups) (cells) in
     let L' = open-lawful l sites s L a.token i c.requires.at.0 a.scope c.requires.at.1 a.left a.name a.right number c.requires.at.2 s' room T in
     record {
-      lawful = L';
-      grouped = opened-grouped l sites s L G a.token i a.scope a.left a.name a.right number free s' T;
-      told = turns-told l sites s s' L L' c.self.invariant.told a.token (first ∷ second ∷ []) (name ∷ []) (step ∷ []) (group ∷ []) (Cell (length s.cells) ∷ []) (Open a.token.serial (length s.cells) b.next_mark (b.next_mark + 1)) tt T;
-      counted = counted-kept l sites s s' L L' (Open a.token.serial (length s.cells) b.next_mark (b.next_mark + 1) ∷ []) entry (tt, tt) b.counts c.self.invariant.counted;
-      sized = λ j. omega (arith, c.join-2.ensures.sizes j, c.join.ensures.sizes j, ap (λ z. size_of z j) c.open-number.ensures.sizes, c.in_ok-reserve-5.ensures.sizes j, turned-members s s' L.sound a.token i (first ∷ second ∷ []) (name ∷ []) (step ∷ []) (group ∷ []) (Cell (length s.cells) ∷ []) _ T j, c.self.invariant.sized j, ap (is_this j) (group-end s.steps step), ap (is_this j) (group-kept s.steps (step ∷ []) a.token.step (step_in l sites s L a.token i)), ap (is_this j) c.group_at-parent.ensures, ap (λ z. is_this j (group_at z a.token.step)) c.in_ok-reserve-3.ensures.items);
+      kept = record {
+        lawful = L';
+        grouped = opened-grouped l sites s L G a.token i a.scope a.left a.name a.right number free s' T;
+        told = turns-told l sites s s' L L' c.self.invariant.kept.told a.token (first ∷ second ∷ []) (name ∷ []) (step ∷ []) (group ∷ []) (Cell (length s.cells) ∷ []) (Open a.token.serial (length s.cells) b.next_mark (b.next_mark + 1)) tt T;
+        counted = counted-kept l sites s s' L L' (Open a.token.serial (length s.cells) b.next_mark (b.next_mark + 1) ∷ []) entry (tt, tt) b.counts c.self.invariant.kept.counted;
+        sized = λ j. omega (arith, c.join-2.ensures.sizes j, c.join.ensures.sizes j, ap (λ z. size_of z j) c.open-number.ensures.sizes, c.in_ok-reserve-5.ensures.sizes j, turned-members s s' L.sound a.token i (first ∷ second ∷ []) (name ∷ []) (step ∷ []) (group ∷ []) (Cell (length s.cells) ∷ []) _ T j, c.self.invariant.kept.sized j, ap (is_this j) (group-end s.steps step), ap (is_this j) (group-kept s.steps (step ∷ []) a.token.step (step_in l sites s L a.token i)), ap (is_this j) c.group_at-parent.ensures, ap (λ z. is_this j (group_at z a.token.step)) c.in_ok-reserve-3.ensures.items);
+      };
+      rest = rest-kept (code l) (definitions l) s s' b.tokens c.add-other.new.self refl refl c.self.invariant.rest (live-in b.tokens.items) (stay-on b.tokens c.reserve.new.self c.add-other.new.self (stay-same b.tokens c.reserve.new.self c.in_ok-reserve.ensures.items c.in_ok-reserve.ensures.parked) (stay-on c.reserve.new.self c.replace.new.self c.add-other.new.self c.replace.ensures.parked c.add-other.ensures.parked)) (turns-terms l sites s L s' a.token i (first ∷ second ∷ []) (name ∷ []) (step ∷ []) (group ∷ []) (Cell (length s.cells) ∷ []) (Open a.token.serial (length s.cells) b.next_mark (b.next_mark + 1)) T (λ n. refl) (λ z. ap (λ y. current y z) T.cells ∙ current-push s.cells z));
     }
 
 pub returns-clause-done : goal.returns-clause-done
@@ -78,8 +84,8 @@ returns-clause-done g c =
     let sites = g.P.Program.sites in
     let cd = code l in
     let s : Records = record { limit = b.limit; journal = b.journal.entries; entries = b.entries; next_mark = b.next_mark; now = b.time; made = b.calls.made; tokens = live b.tokens.items; slots = b.tokens.items; calls = b.calls.items; scopes = b.scopes.items; steps = b.steps.items; groups = b.groups.items; cells = b.cells.items } in
-    let L = c.self.invariant.lawful in
-    let G = c.self.invariant.grouped in
+    let L = c.self.invariant.kept.lawful in
+    let G = c.self.invariant.kept.grouped in
     let held : IsHeld s.slots a.slot a.token = rw (← c.self.view_is) at c.requires.held in
     let i : IsIn a.token s.tokens = live-in s.slots a.slot a.token held in
     let number = c.open-number.result in
@@ -114,8 +120,8 @@ replace-requires-clause-serial g c =
     let sites = g.P.Program.sites in
     let cd = code l in
     let s : Records = record { limit = b.limit; journal = b.journal.entries; entries = b.entries; next_mark = b.next_mark; now = b.time; made = b.calls.made; tokens = live b.tokens.items; slots = b.tokens.items; calls = b.calls.items; scopes = b.scopes.items; steps = b.steps.items; groups = b.groups.items; cells = b.cells.items } in
-    let L = c.self.invariant.lawful in
-    let G = c.self.invariant.grouped in
+    let L = c.self.invariant.kept.lawful in
+    let G = c.self.invariant.kept.grouped in
     let held : IsHeld s.slots a.slot a.token = rw (← c.self.view_is) at c.requires.held in
     let i : IsIn a.token s.tokens = live-in s.slots a.slot a.token held in
     later_mark l sites s L a.token i
@@ -128,8 +134,8 @@ returns-clause-left g c =
     let sites = g.P.Program.sites in
     let cd = code l in
     let s : Records = record { limit = b.limit; journal = b.journal.entries; entries = b.entries; next_mark = b.next_mark; now = b.time; made = b.calls.made; tokens = live b.tokens.items; slots = b.tokens.items; calls = b.calls.items; scopes = b.scopes.items; steps = b.steps.items; groups = b.groups.items; cells = b.cells.items } in
-    let L = c.self.invariant.lawful in
-    let G = c.self.invariant.grouped in
+    let L = c.self.invariant.kept.lawful in
+    let G = c.self.invariant.kept.grouped in
     let held : IsHeld s.slots a.slot a.token = rw (← c.self.view_is) at c.requires.held in
     let i : IsIn a.token s.tokens = live-in s.slots a.slot a.token held in
     let cell : c.len-cell.result ≡ length s.cells = omega (arith, c.len-cell.ensures, ap length c.in_ok-reserve-4.ensures.items) in
@@ -148,8 +154,8 @@ returns-clause-right g c =
     let sites = g.P.Program.sites in
     let cd = code l in
     let s : Records = record { limit = b.limit; journal = b.journal.entries; entries = b.entries; next_mark = b.next_mark; now = b.time; made = b.calls.made; tokens = live b.tokens.items; slots = b.tokens.items; calls = b.calls.items; scopes = b.scopes.items; steps = b.steps.items; groups = b.groups.items; cells = b.cells.items } in
-    let L = c.self.invariant.lawful in
-    let G = c.self.invariant.grouped in
+    let L = c.self.invariant.kept.lawful in
+    let G = c.self.invariant.kept.grouped in
     let held : IsHeld s.slots a.slot a.token = rw (← c.self.view_is) at c.requires.held in
     let i : IsIn a.token s.tokens = live-in s.slots a.slot a.token held in
     let cell : c.len-cell.result ≡ length s.cells = omega (arith, c.len-cell.ensures, ap length c.in_ok-reserve-4.ensures.items) in
@@ -168,11 +174,11 @@ invariant_of-self-in_err-reserve-5 g c =
     let sites = g.P.Program.sites in
     let cd = code l in
     let s : Records = record { limit = b.limit; journal = b.journal.entries; entries = b.entries; next_mark = b.next_mark; now = b.time; made = b.calls.made; tokens = live b.tokens.items; slots = b.tokens.items; calls = b.calls.items; scopes = b.scopes.items; steps = b.steps.items; groups = b.groups.items; cells = b.cells.items } in
-    let L = c.self.invariant.lawful in
-    let G = c.self.invariant.grouped in
+    let L = c.self.invariant.kept.lawful in
+    let G = c.self.invariant.kept.grouped in
     let held : IsHeld s.slots a.slot a.token = rw (← c.self.view_is) at c.requires.held in
     let i : IsIn a.token s.tokens = live-in s.slots a.slot a.token held in
-    kept-still l sites b.counts b.groups.sizes c.reserve-5.new.self.sizes s _ c.self.invariant (λ k. record { limit = b.limit; journal = b.journal.entries; entries = b.entries; next_mark = b.next_mark; now = b.time; made = b.calls.made; tokens = live (sym c.in_ok-reserve.ensures.items k); slots = sym c.in_ok-reserve.ensures.items k; calls = b.calls.items; scopes = sym c.in_ok-reserve-2.ensures.items k; steps = sym c.in_ok-reserve-3.ensures.items k; groups = sym c.reserve-5.ensures.items k; cells = sym c.in_ok-reserve-4.ensures.items k }) c.reserve-5.ensures.sizes
+    record { kept = kept-still l sites b.counts b.groups.sizes c.reserve-5.new.self.sizes s _ c.self.invariant.kept (λ k. record { limit = b.limit; journal = b.journal.entries; entries = b.entries; next_mark = b.next_mark; now = b.time; made = b.calls.made; tokens = live (sym c.in_ok-reserve.ensures.items k); slots = sym c.in_ok-reserve.ensures.items k; calls = b.calls.items; scopes = sym c.in_ok-reserve-2.ensures.items k; steps = sym c.in_ok-reserve-3.ensures.items k; groups = sym c.reserve-5.ensures.items k; cells = sym c.in_ok-reserve-4.ensures.items k }) c.reserve-5.ensures.sizes; rest = rest-same (code l) (definitions l) s _ b.tokens.parked c.reserve.new.self.parked (λ k. record { limit = b.limit; journal = b.journal.entries; entries = b.entries; next_mark = b.next_mark; now = b.time; made = b.calls.made; tokens = live (sym c.in_ok-reserve.ensures.items k); slots = sym c.in_ok-reserve.ensures.items k; calls = b.calls.items; scopes = sym c.in_ok-reserve-2.ensures.items k; steps = sym c.in_ok-reserve-3.ensures.items k; groups = sym c.reserve-5.ensures.items k; cells = sym c.in_ok-reserve-4.ensures.items k }) c.in_ok-reserve.ensures.parked c.self.invariant.rest }
 
 pub invariant_of-self-in_err-write : goal.invariant_of-self-in_err-write
 invariant_of-self-in_err-write g c =
@@ -182,11 +188,11 @@ invariant_of-self-in_err-write g c =
     let sites = g.P.Program.sites in
     let cd = code l in
     let s : Records = record { limit = b.limit; journal = b.journal.entries; entries = b.entries; next_mark = b.next_mark; now = b.time; made = b.calls.made; tokens = live b.tokens.items; slots = b.tokens.items; calls = b.calls.items; scopes = b.scopes.items; steps = b.steps.items; groups = b.groups.items; cells = b.cells.items } in
-    let L = c.self.invariant.lawful in
-    let G = c.self.invariant.grouped in
+    let L = c.self.invariant.kept.lawful in
+    let G = c.self.invariant.kept.grouped in
     let held : IsHeld s.slots a.slot a.token = rw (← c.self.view_is) at c.requires.held in
     let i : IsIn a.token s.tokens = live-in s.slots a.slot a.token held in
-    kept-still l sites b.counts b.groups.sizes c.reserve-5.new.self.sizes s _ c.self.invariant (λ k. record { limit = b.limit; journal = (sym c.in_err-write.ensures.refused k).entries; entries = b.entries; next_mark = b.next_mark; now = b.time; made = b.calls.made; tokens = live (sym c.in_ok-reserve.ensures.items k); slots = sym c.in_ok-reserve.ensures.items k; calls = b.calls.items; scopes = sym c.in_ok-reserve-2.ensures.items k; steps = sym c.in_ok-reserve-3.ensures.items k; groups = sym c.reserve-5.ensures.items k; cells = sym c.in_ok-reserve-4.ensures.items k }) c.reserve-5.ensures.sizes
+    record { kept = kept-still l sites b.counts b.groups.sizes c.reserve-5.new.self.sizes s _ c.self.invariant.kept (λ k. record { limit = b.limit; journal = (sym c.in_err-write.ensures.refused k).entries; entries = b.entries; next_mark = b.next_mark; now = b.time; made = b.calls.made; tokens = live (sym c.in_ok-reserve.ensures.items k); slots = sym c.in_ok-reserve.ensures.items k; calls = b.calls.items; scopes = sym c.in_ok-reserve-2.ensures.items k; steps = sym c.in_ok-reserve-3.ensures.items k; groups = sym c.reserve-5.ensures.items k; cells = sym c.in_ok-reserve-4.ensures.items k }) c.reserve-5.ensures.sizes; rest = rest-same (code l) (definitions l) s _ b.tokens.parked c.reserve.new.self.parked (λ k. record { limit = b.limit; journal = (sym c.in_err-write.ensures.refused k).entries; entries = b.entries; next_mark = b.next_mark; now = b.time; made = b.calls.made; tokens = live (sym c.in_ok-reserve.ensures.items k); slots = sym c.in_ok-reserve.ensures.items k; calls = b.calls.items; scopes = sym c.in_ok-reserve-2.ensures.items k; steps = sym c.in_ok-reserve-3.ensures.items k; groups = sym c.reserve-5.ensures.items k; cells = sym c.in_ok-reserve-4.ensures.items k }) c.in_ok-reserve.ensures.parked c.self.invariant.rest }
 
 pub join-requires-clause-open : goal.join-requires-clause-open
 join-requires-clause-open g c =
@@ -196,8 +202,8 @@ join-requires-clause-open g c =
     let sites = g.P.Program.sites in
     let cd = code l in
     let s : Records = record { limit = b.limit; journal = b.journal.entries; entries = b.entries; next_mark = b.next_mark; now = b.time; made = b.calls.made; tokens = live b.tokens.items; slots = b.tokens.items; calls = b.calls.items; scopes = b.scopes.items; steps = b.steps.items; groups = b.groups.items; cells = b.cells.items } in
-    let L = c.self.invariant.lawful in
-    let G = c.self.invariant.grouped in
+    let L = c.self.invariant.kept.lawful in
+    let G = c.self.invariant.kept.grouped in
     let held : IsHeld s.slots a.slot a.token = rw (← c.self.view_is) at c.requires.held in
     let i : IsIn a.token s.tokens = live-in s.slots a.slot a.token held in
     let group : Group = record { side = Right c.len-cell.result; outer = c.args.token.step; number = c.open-number.result } in
@@ -213,13 +219,13 @@ join-requires-clause-fits g c =
     let sites = g.P.Program.sites in
     let cd = code l in
     let s : Records = record { limit = b.limit; journal = b.journal.entries; entries = b.entries; next_mark = b.next_mark; now = b.time; made = b.calls.made; tokens = live b.tokens.items; slots = b.tokens.items; calls = b.calls.items; scopes = b.scopes.items; steps = b.steps.items; groups = b.groups.items; cells = b.cells.items } in
-    let L = c.self.invariant.lawful in
-    let G = c.self.invariant.grouped in
+    let L = c.self.invariant.kept.lawful in
+    let G = c.self.invariant.kept.grouped in
     let held : IsHeld s.slots a.slot a.token = rw (← c.self.view_is) at c.requires.held in
     let i : IsIn a.token s.tokens = live-in s.slots a.slot a.token held in
     let n = c.group_at-parent.result in
     let places : HasRoom s 1 1 0 = rw (← c.self.view_is) at c.in_ok-within.ensures.places in
-    omega (arith, size-few s b.groups.sizes 1 1 0 c.self.invariant.sized places n, ap (λ z. size_of z n) c.open-number.ensures.sizes, c.in_ok-reserve-5.ensures.sizes n)
+    omega (arith, size-few s b.groups.sizes 1 1 0 c.self.invariant.kept.sized places n, ap (λ z. size_of z n) c.open-number.ensures.sizes, c.in_ok-reserve-5.ensures.sizes n)
 
 pub join-requires-2-clause-open : goal.join-requires-2-clause-open
 join-requires-2-clause-open g c =
@@ -234,13 +240,13 @@ join-requires-2-clause-fits g c =
     let sites = g.P.Program.sites in
     let cd = code l in
     let s : Records = record { limit = b.limit; journal = b.journal.entries; entries = b.entries; next_mark = b.next_mark; now = b.time; made = b.calls.made; tokens = live b.tokens.items; slots = b.tokens.items; calls = b.calls.items; scopes = b.scopes.items; steps = b.steps.items; groups = b.groups.items; cells = b.cells.items } in
-    let L = c.self.invariant.lawful in
-    let G = c.self.invariant.grouped in
+    let L = c.self.invariant.kept.lawful in
+    let G = c.self.invariant.kept.grouped in
     let held : IsHeld s.slots a.slot a.token = rw (← c.self.view_is) at c.requires.held in
     let i : IsIn a.token s.tokens = live-in s.slots a.slot a.token held in
     let n = c.open-number.result in
     let places : HasRoom s 1 1 0 = rw (← c.self.view_is) at c.in_ok-within.ensures.places in
-    omega (arith, size-few s b.groups.sizes 1 1 0 c.self.invariant.sized places n, ap (λ z. size_of z n) c.open-number.ensures.sizes, c.in_ok-reserve-5.ensures.sizes n, c.join.ensures.sizes n, one-most n c.group_at-parent.result)
+    omega (arith, size-few s b.groups.sizes 1 1 0 c.self.invariant.kept.sized places n, ap (λ z. size_of z n) c.open-number.ensures.sizes, c.in_ok-reserve-5.ensures.sizes n, c.join.ensures.sizes n, one-most n c.group_at-parent.result)
 
 pub replace-requires-clause-held : goal.replace-requires-clause-held
 replace-requires-clause-held g c =
@@ -250,8 +256,8 @@ replace-requires-clause-held g c =
     let sites = g.P.Program.sites in
     let cd = code l in
     let s : Records = record { limit = b.limit; journal = b.journal.entries; entries = b.entries; next_mark = b.next_mark; now = b.time; made = b.calls.made; tokens = live b.tokens.items; slots = b.tokens.items; calls = b.calls.items; scopes = b.scopes.items; steps = b.steps.items; groups = b.groups.items; cells = b.cells.items } in
-    let L = c.self.invariant.lawful in
-    let G = c.self.invariant.grouped in
+    let L = c.self.invariant.kept.lawful in
+    let G = c.self.invariant.kept.grouped in
     let held : IsHeld s.slots a.slot a.token = rw (← c.self.view_is) at c.requires.held in
     let i : IsIn a.token s.tokens = live-in s.slots a.slot a.token held in
     (a.token, rw c.in_ok-reserve.ensures.items held)

@@ -1,7 +1,7 @@
 use Rattle.std.proofs.Common.{◌≡◌, ◌<◌, ◌++◌, ℕ, ◌+◌, [], ◌∷◌, sym, refl, ap, arith, append-nil}
 use Rattle.orc_rules.specs.declared.entry.Entry.TheVariants.{Publish}
 use Rattle.orc_rules.specs.Timed.{IsIn}
-use Rattle.orc_rules.specs.Nodes.{code}
+use Rattle.orc_rules.specs.Nodes.{code, definitions}
 use Rattle.orc_rules.specs.Term.{param}
 use Rattle.orc_rules.specs.declared.param.Param.TheVariants as is_
 use Rattle.orc_ledger.specs.Same.{weight}
@@ -11,6 +11,7 @@ use Rattle.orc_ledger.specs.Records.{Records, its_env, its_path, standing}
 use Rattle.orc_ledger.specs.Tokens.{live, IsHeld}
 use Rattle.orc_ledger.specs.Calls.{Crosses, Publishes}
 use Rattle.orc_ledger.specs.declared.records.Token.{Token}
+use Rattle.orc_ledger.proofs.AtRest.{rest-kept, same-terms}
 use Rattle.orc_ledger.proofs.Slots.{live-in, removed}
 use Rattle.orc_ledger.proofs.Calling.{crosses-told}
 use Rattle.orc_ledger.proofs.Keeping.{counted-kept}
@@ -29,8 +30,8 @@ leave_others-requires-clause-within g c =
     let sites = g.P.Program.sites in
     let cd = code l in
     let s : Records = record { limit = b.limit; journal = b.journal.entries; entries = b.entries; next_mark = b.next_mark; now = b.time; made = b.calls.made; tokens = live b.tokens.items; slots = b.tokens.items; calls = b.calls.items; scopes = b.scopes.items; steps = b.steps.items; groups = b.groups.items; cells = b.cells.items } in
-    let L = c.self.invariant.lawful in
-    let G = c.self.invariant.grouped in
+    let L = c.self.invariant.kept.lawful in
+    let G = c.self.invariant.kept.grouped in
     let held : IsHeld s.slots a.slot a.token = rw (← c.self.view_is) at c.requires.held in
     let i : IsIn a.token s.tokens = live-in s.slots a.slot a.token held in
     step_in l sites s L a.token i
@@ -43,8 +44,8 @@ invariant_of-self-2 g c =
     let sites = g.P.Program.sites in
     let cd = code l in
     let s : Records = record { limit = b.limit; journal = b.journal.entries; entries = b.entries; next_mark = b.next_mark; now = b.time; made = b.calls.made; tokens = live b.tokens.items; slots = b.tokens.items; calls = b.calls.items; scopes = b.scopes.items; steps = b.steps.items; groups = b.groups.items; cells = b.cells.items } in
-    let L = c.self.invariant.lawful in
-    let G = c.self.invariant.grouped in
+    let L = c.self.invariant.kept.lawful in
+    let G = c.self.invariant.kept.grouped in
     let held : IsHeld s.slots a.slot a.token = rw (← c.self.view_is) at c.requires.held in
     let i : IsIn a.token s.tokens = live-in s.slots a.slot a.token held in
     let form : standing cd (its_env cd s) a.token.standing ≡ param (is_.Is a.value) = rw (← c.self.view_is) at c.requires.form in
@@ -58,11 +59,14 @@ invariant_of-self-2 g c =
     let T : Crosses s s' a.token [] [] ns (Publish a.token.serial a.value) = crosses s s' a.token [] [] ns (Publish a.token.serial a.value) refl journal refl (omega arith) refl refl tokens refl (sym (append-nil s.scopes)) marks c.leave.ensures.items refl in
     let L' = publish-lawful l sites s L a.token i a.value form takes room s' T in
     record {
-      lawful = L';
-      grouped = published-grouped l sites s L G a.token s' ns (Publish a.token.serial a.value) T;
-      told = crosses-told l sites s s' L L' c.self.invariant.told a.token [] [] ns (Publish a.token.serial a.value) tt T;
-      counted = counted-kept l sites s s' L L' (Publish a.token.serial a.value ∷ []) journal (tt, tt) b.counts c.self.invariant.counted;
-      sized = λ j. omega (arith, c.leave.ensures.sizes j, crossed-members s s' a.token [] [] ns (Publish a.token.serial a.value) T j, c.self.invariant.sized j, ap (is_this j) c.group_at-group.ensures);
+      kept = record {
+        lawful = L';
+        grouped = published-grouped l sites s L G a.token s' ns (Publish a.token.serial a.value) T;
+        told = crosses-told l sites s s' L L' c.self.invariant.kept.told a.token [] [] ns (Publish a.token.serial a.value) tt T;
+        counted = counted-kept l sites s s' L L' (Publish a.token.serial a.value ∷ []) journal (tt, tt) b.counts c.self.invariant.kept.counted;
+        sized = λ j. omega (arith, c.leave.ensures.sizes j, crossed-members s s' a.token [] [] ns (Publish a.token.serial a.value) T j, c.self.invariant.kept.sized j, ap (is_this j) c.group_at-group.ensures);
+      };
+      rest = rest-kept (code l) (definitions l) s s' b.tokens c.remove.new.self refl refl c.self.invariant.rest (live-in b.tokens.items) (c.remove.ensures.parked) (same-terms (code l) s s' refl refl);
     }
 
 pub returns-clause-done : goal.returns-clause-done
@@ -73,8 +77,8 @@ returns-clause-done g c =
     let sites = g.P.Program.sites in
     let cd = code l in
     let s : Records = record { limit = b.limit; journal = b.journal.entries; entries = b.entries; next_mark = b.next_mark; now = b.time; made = b.calls.made; tokens = live b.tokens.items; slots = b.tokens.items; calls = b.calls.items; scopes = b.scopes.items; steps = b.steps.items; groups = b.groups.items; cells = b.cells.items } in
-    let L = c.self.invariant.lawful in
-    let G = c.self.invariant.grouped in
+    let L = c.self.invariant.kept.lawful in
+    let G = c.self.invariant.kept.grouped in
     let held : IsHeld s.slots a.slot a.token = rw (← c.self.view_is) at c.requires.held in
     let i : IsIn a.token s.tokens = live-in s.slots a.slot a.token held in
     let form : standing cd (its_env cd s) a.token.standing ≡ param (is_.Is a.value) = rw (← c.self.view_is) at c.requires.form in

@@ -13,7 +13,7 @@ returns-in-Err-clause-why g c =
     let l = g.P.Program.listing in
     let sites = g.P.Program.sites in
     let s : Records = record { limit = b.limit; journal = b.journal.entries; entries = b.entries; next_mark = b.next_mark; now = b.time; made = b.calls.made; tokens = live b.tokens.items; slots = b.tokens.items; calls = b.calls.items; scopes = b.scopes.items; steps = b.steps.items; groups = b.groups.items; cells = b.cells.items } in
-    let K = c.self.invariant in
+    let K = c.self.invariant.kept in
     let call = c.in-Some.call in
     let pends : IsIn call s.calls = c.in-Some.ensures.0 in
     let number : call.number ≡ a.number = c.in-Some.ensures.1 in
@@ -26,7 +26,7 @@ returns-then-self-clause-why g c =
     let l = g.P.Program.listing in
     let sites = g.P.Program.sites in
     let s : Records = record { limit = b.limit; journal = b.journal.entries; entries = b.entries; next_mark = b.next_mark; now = b.time; made = b.calls.made; tokens = live b.tokens.items; slots = b.tokens.items; calls = b.calls.items; scopes = b.scopes.items; steps = b.steps.items; groups = b.groups.items; cells = b.cells.items } in
-    let K = c.self.invariant in
+    let K = c.self.invariant.kept in
     let call = c.in-Some.call in
     let pends : IsIn call s.calls = c.in-Some.ensures.0 in
     let number : call.number ≡ a.number = c.in-Some.ensures.1 in
@@ -41,7 +41,7 @@ returns-in-Err-give-clause-why g c =
     let l = g.P.Program.listing in
     let sites = g.P.Program.sites in
     let s : Records = record { limit = b.limit; journal = b.journal.entries; entries = b.entries; next_mark = b.next_mark; now = b.time; made = b.calls.made; tokens = live b.tokens.items; slots = b.tokens.items; calls = b.calls.items; scopes = b.scopes.items; steps = b.steps.items; groups = b.groups.items; cells = b.cells.items } in
-    let K = c.self.invariant in
+    let K = c.self.invariant.kept in
     let call = c.in-Some.call in
     let pends : IsIn call s.calls = c.in-Some.ensures.0 in
     let number : call.number ≡ a.number = c.in-Some.ensures.1 in
@@ -56,7 +56,7 @@ returns-in-Err-give_up-clause-why g c =
     let l = g.P.Program.listing in
     let sites = g.P.Program.sites in
     let s : Records = record { limit = b.limit; journal = b.journal.entries; entries = b.entries; next_mark = b.next_mark; now = b.time; made = b.calls.made; tokens = live b.tokens.items; slots = b.tokens.items; calls = b.calls.items; scopes = b.scopes.items; steps = b.steps.items; groups = b.groups.items; cells = b.cells.items } in
-    let K = c.self.invariant in
+    let K = c.self.invariant.kept in
     let call = c.in-Some.call in
     let pends : IsIn call s.calls = c.in-Some.ensures.0 in
     let number : call.number ≡ a.number = c.in-Some.ensures.1 in

@@ -1,6 +1,7 @@
 use Rattle.std.proofs.Common.{◌≡◌, ◌<◌, ◌+◌, ◌∙◌, ◌++◌, ◌∷◌, [], ℕ, refl, ap, arith, false}
 use Rattle.orc_rules.specs.declared.entry.Entry.TheVariants.{Right}
 use Rattle.orc_rules.specs.Timed.{IsIn}
+use Rattle.orc_rules.specs.Nodes.{code, definitions}
 use Rattle.orc_ledger.specs.Same.{weight}
 use Rattle.orc_ledger.specs.Tokens.{live}
 use Rattle.orc_ledger.specs.Records.{Records, has_left}
@@ -8,6 +9,8 @@ use Rattle.orc_ledger.specs.Calls.{Resumes}
 use Rattle.orc_ledger.specs.Next.{members, numbers_of}
 use Rattle.orc_ledger.specs.declared.records.Standing.TheVariants.{At}
 use Rattle.orc_ledger.specs.declared.records.Token.{Token}
+use Rattle.orc_ledger.proofs.AtRest.{rest-kept, same-terms}
+use Rattle.orc_ledger.proofs.Flags.{stay-on, stay-same}
 use Rattle.orc_ledger.proofs.Emptied.{left-empty}
 use Rattle.orc_ledger.proofs.Resuming.{right-lawful}
 use Rattle.orc_ledger.proofs.Calling.{resumes-told}
@@ -16,6 +19,7 @@ use Rattle.orc_ledger.proofs.Grouped.{resumed-grouped}
 use Rattle.orc_ledger.proofs.Closed.{mark-later}
 use Rattle.orc_ledger.specs.OpenGroups.{size_of}
 use Rattle.orc_ledger.proofs.Sizes.{resumed-members}
+use Rattle.orc_ledger.proofs.Slots.{live-in}
 use Rattle.orc_ledger.proofs.ledger.Ledger.right.Goals as goal
 
 pub add-slot-requires-clause-serial : goal.add-slot-requires-clause-serial
@@ -24,8 +28,8 @@ add-slot-requires-clause-serial g c =
     let a = c.args in
     let l = g.P.Program.listing in
     let sites = g.P.Program.sites in
-    let L = c.self.invariant.lawful in
-    let G = c.self.invariant.grouped in
+    let L = c.self.invariant.kept.lawful in
+    let G = c.self.invariant.kept.grouped in
     let s : Records = record { limit = b.limit; journal = b.journal.entries; entries = b.entries; next_mark = b.next_mark; now = b.time; made = b.calls.made; tokens = live b.tokens.items; slots = b.tokens.items; calls = b.calls.items; scopes = b.scopes.items; steps = b.steps.items; groups = b.groups.items; cells = b.cells.items } in
     let i : IsIn a.group s.groups = rw (← c.self.view_is) at c.requires.there in
     mark-later l sites s L G a.group i a.number a.node a.scope c.requires.side
@@ -36,8 +40,8 @@ invariant_of-self-2 g c =
     let a = c.args in
     let l = g.P.Program.listing in
     let sites = g.P.Program.sites in
-    let L = c.self.invariant.lawful in
-    let G = c.self.invariant.grouped in
+    let L = c.self.invariant.kept.lawful in
+    let G = c.self.invariant.kept.grouped in
     let s : Records = record { limit = b.limit; journal = b.journal.entries; entries = b.entries; next_mark = b.next_mark; now = b.time; made = b.calls.made; tokens = live b.tokens.items; slots = b.tokens.items; calls = b.calls.items; scopes = b.scopes.items; steps = b.steps.items; groups = b.groups.items; cells = b.cells.items } in
     let i : IsIn a.group s.groups = rw (← c.self.view_is) at c.requires.there in
     let copy : Token = record { serial = s.next_mark; standing = At a.node a.scope; step = a.group.outer } in
@@ -48,14 +52,17 @@ invariant_of-self-2 g c =
     let empty : members (numbers_of s) s a.group.number ≡ 0 = rw (← c.self.view_is) at c.requires.empty in
     let stays : has_left s.steps a.number ≡ false = rw (← c.self.view_is) at c.requires.stays in
     let room : s.entries < s.limit = rw (← c.self.view_is) at c.in_ok-within.ensures.room in
-    let K = c.self.invariant in
+    let K = c.self.invariant.kept in
     let L' = right-lawful l sites s L a.group i a.number a.node a.scope c.requires.side stays (left-empty l sites s L (numbers_of s) G a.group i empty a.number a.node a.scope c.requires.side stays) room s' T in
     record {
-      lawful = L';
-      grouped = resumed-grouped l sites s L G a.group i empty a.number a.node a.scope s' T;
-      told = resumes-told l sites s s' L L' K.told a.group a.number a.node a.scope T;
-      counted = counted-kept l sites s s' L L' (Right a.number s.next_mark ∷ []) journal (tt, tt) b.counts K.counted;
-      sized = λ j. omega (arith, ap (λ z. size_of z j) c.take-left.ensures.sizes, resumed-members s s' a.group a.number a.node a.scope T j, K.sized j);
+      kept = record {
+        lawful = L';
+        grouped = resumed-grouped l sites s L G a.group i empty a.number a.node a.scope s' T;
+        told = resumes-told l sites s s' L L' K.told a.group a.number a.node a.scope T;
+        counted = counted-kept l sites s s' L L' (Right a.number s.next_mark ∷ []) journal (tt, tt) b.counts K.counted;
+        sized = λ j. omega (arith, ap (λ z. size_of z j) c.take-left.ensures.sizes, resumed-members s s' a.group a.number a.node a.scope T j, K.sized j);
+      };
+      rest = rest-kept (code l) (definitions l) s s' b.tokens c.add-slot.new.self refl refl c.self.invariant.rest (live-in b.tokens.items) (stay-on b.tokens c.reserve.new.self c.add-slot.new.self (stay-same b.tokens c.reserve.new.self c.in_ok-reserve.ensures.items c.in_ok-reserve.ensures.parked) c.add-slot.ensures.parked) (same-terms (code l) s s' refl refl);
     }
 
 pub returns-clause-done : goal.returns-clause-done
@@ -64,8 +71,8 @@ returns-clause-done g c =
     let a = c.args in
     let l = g.P.Program.listing in
     let sites = g.P.Program.sites in
-    let L = c.self.invariant.lawful in
-    let G = c.self.invariant.grouped in
+    let L = c.self.invariant.kept.lawful in
+    let G = c.self.invariant.kept.grouped in
     let s : Records = record { limit = b.limit; journal = b.journal.entries; entries = b.entries; next_mark = b.next_mark; now = b.time; made = b.calls.made; tokens = live b.tokens.items; slots = b.tokens.items; calls = b.calls.items; scopes = b.scopes.items; steps = b.steps.items; groups = b.groups.items; cells = b.cells.items } in
     let i : IsIn a.group s.groups = rw (← c.self.view_is) at c.requires.there in
     let copy : Token = record { serial = s.next_mark; standing = At a.node a.scope; step = a.group.outer } in

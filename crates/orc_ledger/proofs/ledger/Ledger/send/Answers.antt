@@ -2,7 +2,7 @@ use Rattle.std.proofs.Common.{◌≡◌, ◌≤◌, ◌<◌, ◌++◌, ℕ, ◌+
 use Rattle.std.specs.Prelude.{slice_get, slice_set}
 use Rattle.orc_rules.specs.declared.entry.Entry.TheVariants.{Send}
 use Rattle.orc_rules.specs.Timed.{IsIn}
-use Rattle.orc_rules.specs.Nodes.{code}
+use Rattle.orc_rules.specs.Nodes.{code, definitions}
 use Rattle.orc_rules.specs.Term.{param}
 use Rattle.orc_rules.specs.declared.param.Param.TheVariants as is_
 use Rattle.orc_names.specs.Scopes.{close, without}
@@ -16,6 +16,7 @@ use Rattle.orc_ledger.specs.Tokens.{live, IsHeld}
 use Rattle.orc_ledger.specs.Calls.{Crosses, Publishes, HasRoom}
 use Rattle.orc_ledger.specs.declared.records.Standing.TheVariants.{At}
 use Rattle.orc_ledger.specs.declared.records.Token.{Token}
+use Rattle.orc_ledger.proofs.AtRest.{rest-kept, crosses-terms}
 use Rattle.orc_ledger.proofs.Slots.{live-in, replaced, set-there}
 use Rattle.orc_ledger.proofs.Calling.{crosses-told}
 use Rattle.orc_ledger.proofs.Keeping.{counted-kept}
@@ -35,8 +36,8 @@ leave_others-requires-clause-within g c =
     let sites = g.P.Program.sites in
     let cd = code l in
     let s : Records = record { limit = b.limit; journal = b.journal.entries; entries = b.entries; next_mark = b.next_mark; now = b.time; made = b.calls.made; tokens = live b.tokens.items; slots = b.tokens.items; calls = b.calls.items; scopes = b.scopes.items; steps = b.steps.items; groups = b.groups.items; cells = b.cells.items } in
-    let L = c.self.invariant.lawful in
-    let G = c.self.invariant.grouped in
+    let L = c.self.invariant.kept.lawful in
+    let G = c.self.invariant.kept.grouped in
     let held : IsHeld s.slots a.slot a.token = rw (← c.self.view_is) at c.requires.held in
     let i : IsIn a.token s.tokens = live-in s.slots a.slot a.token held in
     step_in l sites s L a.token i
@@ -49,8 +50,8 @@ invariant_of-self-2 g c =
     let sites = g.P.Program.sites in
     let cd = code l in
     let s : Records = record { limit = b.limit; journal = b.journal.entries; entries = b.entries; next_mark = b.next_mark; now = b.time; made = b.calls.made; tokens = live b.tokens.items; slots = b.tokens.items; calls = b.calls.items; scopes = b.scopes.items; steps = b.steps.items; groups = b.groups.items; cells = b.cells.items } in
-    let L = c.self.invariant.lawful in
-    let G = c.self.invariant.grouped in
+    let L = c.self.invariant.kept.lawful in
+    let G = c.self.invariant.kept.grouped in
     let held : IsHeld s.slots a.slot a.token = rw (← c.self.view_is) at c.requires.held in
     let i : IsIn a.token s.tokens = live-in s.slots a.slot a.token held in
     let form : standing cd (its_env cd s) a.token.standing ≡ param (is_.Is a.value) = rw (← c.self.view_is) at c.requires.form in
@@ -71,11 +72,14 @@ invariant_of-self-2 g c =
     let T : Crosses s s' a.token (first ∷ []) (name ∷ []) ns (Send a.token.serial b.next_mark a.value) = crosses s s' a.token (first ∷ []) (name ∷ []) ns (Send a.token.serial b.next_mark a.value) refl journal refl (omega arith) refl refl tokens refl scopes marks (c.leave.ensures.items ∙ c.join.ensures.items) refl in
     let L' = send-lawful l sites s L a.token i a.value form a.name a.right a.scope a.outer fits.0 fits.1 takes room s' T in
     record {
-      lawful = L';
-      grouped = sent-grouped l sites s L G a.token i s' first (name ∷ []) ns (Send a.token.serial b.next_mark a.value) T c.requires.way.0 way;
-      told = crosses-told l sites s s' L L' c.self.invariant.told a.token (first ∷ []) (name ∷ []) ns (Send a.token.serial b.next_mark a.value) tt T;
-      counted = counted-kept l sites s s' L L' (Send a.token.serial b.next_mark a.value ∷ []) journal (tt, tt) b.counts c.self.invariant.counted;
-      sized = λ j. omega (arith, c.leave.ensures.sizes j, c.join.ensures.sizes j, crossed-members s s' a.token (first ∷ []) (name ∷ []) ns (Send a.token.serial b.next_mark a.value) T j, c.self.invariant.sized j, ap (is_this j) c.group_at-left.ensures, ap (is_this j) c.group_at-joined.ensures);
+      kept = record {
+        lawful = L';
+        grouped = sent-grouped l sites s L G a.token i s' first (name ∷ []) ns (Send a.token.serial b.next_mark a.value) T c.requires.way.0 way;
+        told = crosses-told l sites s s' L L' c.self.invariant.kept.told a.token (first ∷ []) (name ∷ []) ns (Send a.token.serial b.next_mark a.value) tt T;
+        counted = counted-kept l sites s s' L L' (Send a.token.serial b.next_mark a.value ∷ []) journal (tt, tt) b.counts c.self.invariant.kept.counted;
+        sized = λ j. omega (arith, c.leave.ensures.sizes j, c.join.ensures.sizes j, crossed-members s s' a.token (first ∷ []) (name ∷ []) ns (Send a.token.serial b.next_mark a.value) T j, c.self.invariant.kept.sized j, ap (is_this j) c.group_at-left.ensures, ap (is_this j) c.group_at-joined.ensures);
+      };
+      rest = rest-kept (code l) (definitions l) s s' b.tokens c.replace.new.self refl refl c.self.invariant.rest (live-in b.tokens.items) (c.replace.ensures.parked) (crosses-terms l sites s L s' a.token i (first ∷ []) (name ∷ []) ns (Send a.token.serial b.next_mark a.value) T);
     }
 
 pub returns-clause-done : goal.returns-clause-done
@@ -86,8 +90,8 @@ returns-clause-done g c =
     let sites = g.P.Program.sites in
     let cd = code l in
     let s : Records = record { limit = b.limit; journal = b.journal.entries; entries = b.entries; next_mark = b.next_mark; now = b.time; made = b.calls.made; tokens = live b.tokens.items; slots = b.tokens.items; calls = b.calls.items; scopes = b.scopes.items; steps = b.steps.items; groups = b.groups.items; cells = b.cells.items } in
-    let L = c.self.invariant.lawful in
-    let G = c.self.invariant.grouped in
+    let L = c.self.invariant.kept.lawful in
+    let G = c.self.invariant.kept.grouped in
     let held : IsHeld s.slots a.slot a.token = rw (← c.self.view_is) at c.requires.held in
     let i : IsIn a.token s.tokens = live-in s.slots a.slot a.token held in
     let form : standing cd (its_env cd s) a.token.standing ≡ param (is_.Is a.value) = rw (← c.self.view_is) at c.requires.form in
@@ -116,8 +120,8 @@ replace-requires-clause-serial g c =
     let sites = g.P.Program.sites in
     let cd = code l in
     let s : Records = record { limit = b.limit; journal = b.journal.entries; entries = b.entries; next_mark = b.next_mark; now = b.time; made = b.calls.made; tokens = live b.tokens.items; slots = b.tokens.items; calls = b.calls.items; scopes = b.scopes.items; steps = b.steps.items; groups = b.groups.items; cells = b.cells.items } in
-    let L = c.self.invariant.lawful in
-    let G = c.self.invariant.grouped in
+    let L = c.self.invariant.kept.lawful in
+    let G = c.self.invariant.kept.grouped in
     let held : IsHeld s.slots a.slot a.token = rw (← c.self.view_is) at c.requires.held in
     let i : IsIn a.token s.tokens = live-in s.slots a.slot a.token held in
     later_mark l sites s L a.token i
@@ -130,8 +134,8 @@ returns-clause-right g c =
     let sites = g.P.Program.sites in
     let cd = code l in
     let s : Records = record { limit = b.limit; journal = b.journal.entries; entries = b.entries; next_mark = b.next_mark; now = b.time; made = b.calls.made; tokens = live b.tokens.items; slots = b.tokens.items; calls = b.calls.items; scopes = b.scopes.items; steps = b.steps.items; groups = b.groups.items; cells = b.cells.items } in
-    let L = c.self.invariant.lawful in
-    let G = c.self.invariant.grouped in
+    let L = c.self.invariant.kept.lawful in
+    let G = c.self.invariant.kept.grouped in
     let held : IsHeld s.slots a.slot a.token = rw (← c.self.view_is) at c.requires.held in
     let i : IsIn a.token s.tokens = live-in s.slots a.slot a.token held in
     let count : c.len-inner.result + 1 ≡ length s.scopes + 1 = omega (arith, c.len-inner.ensures, ap length c.in_ok-reserve.ensures.items) in
@@ -147,8 +151,8 @@ join-requires-clause-open g c =
     let sites = g.P.Program.sites in
     let cd = code l in
     let s : Records = record { limit = b.limit; journal = b.journal.entries; entries = b.entries; next_mark = b.next_mark; now = b.time; made = b.calls.made; tokens = live b.tokens.items; slots = b.tokens.items; calls = b.calls.items; scopes = b.scopes.items; steps = b.steps.items; groups = b.groups.items; cells = b.cells.items } in
-    let L = c.self.invariant.lawful in
-    let G = c.self.invariant.grouped in
+    let L = c.self.invariant.kept.lawful in
+    let G = c.self.invariant.kept.grouped in
     let held : IsHeld s.slots a.slot a.token = rw (← c.self.view_is) at c.requires.held in
     let i : IsIn a.token s.tokens = live-in s.slots a.slot a.token held in
     let way : reach s.steps c.requires.way.0 a.token.step ≡ a.outer = rw (← c.self.view_is) at c.requires.way.1 in
@@ -162,9 +166,9 @@ join-requires-clause-fits g c =
     let sites = g.P.Program.sites in
     let cd = code l in
     let s : Records = record { limit = b.limit; journal = b.journal.entries; entries = b.entries; next_mark = b.next_mark; now = b.time; made = b.calls.made; tokens = live b.tokens.items; slots = b.tokens.items; calls = b.calls.items; scopes = b.scopes.items; steps = b.steps.items; groups = b.groups.items; cells = b.cells.items } in
-    let L = c.self.invariant.lawful in
-    let G = c.self.invariant.grouped in
+    let L = c.self.invariant.kept.lawful in
+    let G = c.self.invariant.kept.grouped in
     let held : IsHeld s.slots a.slot a.token = rw (← c.self.view_is) at c.requires.held in
     let i : IsIn a.token s.tokens = live-in s.slots a.slot a.token held in
     let places : HasRoom s 0 0 0 = rw (← c.self.view_is) at c.in_ok-within.ensures.places in
-    omega (arith, size-few s b.groups.sizes 0 0 0 c.self.invariant.sized places c.group_at-joined.result)
+    omega (arith, size-few s b.groups.sizes 0 0 0 c.self.invariant.kept.sized places c.group_at-joined.result)

@@ -16,7 +16,7 @@ find_taker-requires-clause-within g c =
     let cd = code l in
     let s : Records = record { limit = b.limit; journal = b.journal.entries; entries = b.entries; next_mark = b.next_mark; now = b.time; made = b.calls.made; tokens = live b.tokens.items; slots = b.tokens.items; calls = b.calls.items; scopes = b.scopes.items; steps = b.steps.items; groups = b.groups.items; cells = b.cells.items } in
     let held : IsHeld s.slots c.requires.0 a.token = rw (← c.self.view_is) at c.requires.1 in
-    omega (arith, step-within s c.self.invariant.lawful.sound a.token (live-in s.slots c.requires.0 a.token held), ap length c.deref.ensures.value)
+    omega (arith, step-within s c.self.invariant.kept.lawful.sound a.token (live-in s.slots c.requires.0 a.token held), ap length c.deref.ensures.value)
 
 pub returns-clause-takes : goal.returns-clause-takes
 returns-clause-takes g c =
@@ -46,4 +46,4 @@ returns-clause-there g c =
     let cd = code l in
     let s : Records = record { limit = b.limit; journal = b.journal.entries; entries = b.entries; next_mark = b.next_mark; now = b.time; made = b.calls.made; tokens = live b.tokens.items; slots = b.tokens.items; calls = b.calls.items; scopes = b.scopes.items; steps = b.steps.items; groups = b.groups.items; cells = b.cells.items } in
     let entered : IsEntered s.steps c.find_taker.result = subst (λ (ss : List Step). IsEntered ss c.find_taker.result) c.deref.ensures.value c.find_taker.ensures.entered in
-    rw (← c.self.view_is) (is-there s c.self.invariant.lawful.sound c.find_taker.result entered)
+    rw (← c.self.view_is) (is-there s c.self.invariant.kept.lawful.sound c.find_taker.result entered)

@@ -17,7 +17,7 @@ invariant_of-self-2 g c =
     let t = c.args.time in
     let l = g.P.Program.listing in
     let sites = g.P.Program.sites in
-    let K = c.self.invariant in
+    let K = c.self.invariant.kept in
     let s : Records = record { limit = b.limit; journal = b.journal.entries; entries = b.entries; next_mark = b.next_mark; now = b.time; made = b.calls.made; tokens = live b.tokens.items; slots = b.tokens.items; calls = b.calls.items; scopes = b.scopes.items; steps = b.steps.items; groups = b.groups.items; cells = b.cells.items } in
     let may : MayTick l sites s t = rw (← c.self.view_is) at c.requires in
     let room : s.entries < s.limit = c.if-self.false in
@@ -25,7 +25,7 @@ invariant_of-self-2 g c =
     let journal : c.write.new.journal.entries ≡ s.journal ++ Tick t ∷ [] = ap (λ j. j.entries) c.in_ok-write.ensures.added in
     let L' = tick-lawful l sites s K.lawful t (ticks-there l sites b.counts b.groups.sizes s K t may) room in
     let K' : Kept l sites b.counts b.groups.sizes s' = record { lawful = L'; grouped = ticked-grouped l sites s K.lawful K.grouped t; told = tick-told l sites s s' K.lawful L' K.told t refl refl; counted = counted-kept l sites s s' K.lawful L' (Tick t ∷ []) refl (tt, tt) b.counts K.counted; sized = K.sized } in
-    subst (λ es. Kept l sites b.counts b.groups.sizes (record s { journal = es; entries = s.entries + 1; now = t })) (sym journal) K'
+    record { kept = subst (λ es. Kept l sites b.counts b.groups.sizes (record s { journal = es; entries = s.entries + 1; now = t })) (sym journal) K'; rest = c.self.invariant.rest }
 
 pub returns-clause-done : goal.returns-clause-done
 returns-clause-done g c =

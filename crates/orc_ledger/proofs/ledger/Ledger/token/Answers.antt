@@ -1,4 +1,3 @@
-use Rattle.orc_ledger.specs.Tokens.{IsHeld}
 use Rattle.orc_ledger.proofs.Slots.{live-in}
 use Rattle.orc_ledger.proofs.ledger.Ledger.token.Goals as goal
 

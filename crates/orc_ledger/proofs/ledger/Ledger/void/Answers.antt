@@ -1,13 +1,14 @@
 use Rattle.std.proofs.Common.{◌≡◌, ◌<◌, ◌++◌, ℕ, ◌+◌, [], ◌∷◌, sym, refl, ap, ◌∙◌, arith, append-nil}
 use Rattle.orc_rules.specs.declared.entry.Entry.TheVariants.{Void}
 use Rattle.orc_rules.specs.Timed.{IsIn}
-use Rattle.orc_rules.specs.Nodes.{code}
+use Rattle.orc_rules.specs.Nodes.{code, definitions}
 use Rattle.orc_rules.specs.Journal.{IsVoid}
 use Rattle.orc_ledger.specs.Same.{weight}
 use Rattle.orc_ledger.specs.Records.{Records, its_env, standing}
 use Rattle.orc_ledger.specs.Tokens.{live, IsHeld}
 use Rattle.orc_ledger.specs.Calls.{IsVoided}
 use Rattle.orc_ledger.specs.declared.records.Token.{Token}
+use Rattle.orc_ledger.proofs.AtRest.{rest-kept, same-terms}
 use Rattle.orc_ledger.proofs.Slots.{live-in, removed}
 use Rattle.orc_ledger.proofs.Calling.{turns-told}
 use Rattle.orc_ledger.proofs.Keeping.{counted-kept}
@@ -26,8 +27,8 @@ invariant_of-self-2 g c =
     let sites = g.P.Program.sites in
     let cd = code l in
     let s : Records = record { limit = b.limit; journal = b.journal.entries; entries = b.entries; next_mark = b.next_mark; now = b.time; made = b.calls.made; tokens = live b.tokens.items; slots = b.tokens.items; calls = b.calls.items; scopes = b.scopes.items; steps = b.steps.items; groups = b.groups.items; cells = b.cells.items } in
-    let L = c.self.invariant.lawful in
-    let G = c.self.invariant.grouped in
+    let L = c.self.invariant.kept.lawful in
+    let G = c.self.invariant.kept.grouped in
     let held : IsHeld s.slots a.slot a.token = rw (← c.self.view_is) at c.requires.held in
     let i : IsIn a.token s.tokens = live-in s.slots a.slot a.token held in
     let void : IsVoid (standing cd (its_env cd s) a.token.standing) = rw (← c.self.view_is) at c.requires.void in
@@ -38,11 +39,14 @@ invariant_of-self-2 g c =
     let T : IsVoided s a.token s' = turns s s' a.token [] [] [] [] [] (Void a.token.serial) refl journal refl (omega arith) refl refl tokens refl (sym (append-nil s.scopes)) (sym (append-nil s.steps)) (c.leave.ensures.items ∙ sym (append-nil s.groups)) (sym (append-nil s.cells)) in
     let L' = void-lawful l sites s L a.token i void room s' T in
     record {
-      lawful = L';
-      grouped = turned-grouped l sites s L G a.token i s' [] [] [] (Void a.token.serial) T (λ b j. elim j [ ]);
-      told = turns-told l sites s s' L L' c.self.invariant.told a.token [] [] [] [] [] (Void a.token.serial) tt T;
-      counted = counted-kept l sites s s' L L' (Void a.token.serial ∷ []) journal (tt, tt) b.counts c.self.invariant.counted;
-      sized = λ j. omega (arith, c.leave.ensures.sizes j, turned-members s s' L.sound a.token i [] [] [] [] [] _ T j, c.self.invariant.sized j, ap (is_this j) c.group_at-group.ensures);
+      kept = record {
+        lawful = L';
+        grouped = turned-grouped l sites s L G a.token i s' [] [] [] (Void a.token.serial) T (λ b j. elim j [ ]);
+        told = turns-told l sites s s' L L' c.self.invariant.kept.told a.token [] [] [] [] [] (Void a.token.serial) tt T;
+        counted = counted-kept l sites s s' L L' (Void a.token.serial ∷ []) journal (tt, tt) b.counts c.self.invariant.kept.counted;
+        sized = λ j. omega (arith, c.leave.ensures.sizes j, turned-members s s' L.sound a.token i [] [] [] [] [] _ T j, c.self.invariant.kept.sized j, ap (is_this j) c.group_at-group.ensures);
+      };
+      rest = rest-kept (code l) (definitions l) s s' b.tokens c.remove.new.self refl refl c.self.invariant.rest (live-in b.tokens.items) (c.remove.ensures.parked) (same-terms (code l) s s' refl refl);
     }
 
 pub returns-clause-done : goal.returns-clause-done
@@ -53,8 +57,8 @@ returns-clause-done g c =
     let sites = g.P.Program.sites in
     let cd = code l in
     let s : Records = record { limit = b.limit; journal = b.journal.entries; entries = b.entries; next_mark = b.next_mark; now = b.time; made = b.calls.made; tokens = live b.tokens.items; slots = b.tokens.items; calls = b.calls.items; scopes = b.scopes.items; steps = b.steps.items; groups = b.groups.items; cells = b.cells.items } in
-    let L = c.self.invariant.lawful in
-    let G = c.self.invariant.grouped in
+    let L = c.self.invariant.kept.lawful in
+    let G = c.self.invariant.kept.grouped in
     let held : IsHeld s.slots a.slot a.token = rw (← c.self.view_is) at c.requires.held in
     let i : IsIn a.token s.tokens = live-in s.slots a.slot a.token held in
     let void : IsVoid (standing cd (its_env cd s) a.token.standing) = rw (← c.self.view_is) at c.requires.void in

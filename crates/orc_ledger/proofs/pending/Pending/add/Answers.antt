@@ -1,4 +1,4 @@
-use Rattle.std.proofs.Common.{◌≡◌, ◌+◌, ◌++◌, ◌∷◌, [], List, ℕ, sym, ap, ◌∙◌, subst, arith, length}
+use Rattle.std.proofs.Common.{◌≡◌, ◌+◌, ◌++◌, ◌∷◌, [], ℕ, sym, ap, ◌∙◌, subst, arith, length}
 use Rattle.orc_ledger.specs.Same.{weight}
 use Rattle.orc_ledger.specs.PendingCalls.{Pendings, ArePlaced, HasNote, HaveNotes}
 use Rattle.orc_ledger.proofs.Weight.{weight-append}

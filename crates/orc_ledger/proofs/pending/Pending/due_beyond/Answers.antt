@@ -1,4 +1,4 @@
-use Rattle.std.proofs.Common.{◌≡◌, ◌≤◌, ◌<◌, ◌-◌, ℕ, ap, sym, subst, arith, length}
+use Rattle.std.proofs.Common.{◌<◌, ◌-◌, ℕ, sym, subst, arith, length}
 use Rattle.std.specs.Prelude.{MatchOption}
 use Rattle.orc_rules.specs.Timed.{IsIn}
 use Rattle.orc_ledger.specs.PendingCalls.{Pendings, IsDueBeyond, IsLeastBeyond}

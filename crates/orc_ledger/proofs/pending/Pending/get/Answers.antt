@@ -3,7 +3,6 @@ use Rattle.orc_rules.specs.Timed.{IsIn}
 use Rattle.orc_ledger.specs.Same.{weight}
 use Rattle.orc_ledger.specs.Calls.{has_number}
 use Rattle.orc_ledger.specs.PendingCalls.{Pendings}
-use Rattle.orc_ledger.specs.declared.records.Call.{Call}
 use Rattle.orc_ledger.proofs.Placed.{none-there, got-in}
 use Rattle.orc_ledger.proofs.pending.Pending.get.Goals as goal
 

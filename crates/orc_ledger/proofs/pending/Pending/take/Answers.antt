@@ -1,4 +1,4 @@
-use Rattle.std.proofs.Common.{◌≡◌, ◌+◌, ℕ, Some, sym, ap, ◌∙◌, subst, ⊎_elim, arith, cond, eq-eqb}
+use Rattle.std.proofs.Common.{◌≡◌, ℕ, sym, ap, ◌∙◌, subst, ⊎_elim, arith, cond, eq-eqb}
 use Rattle.orc_rules.specs.Timed.{IsIn}
 use Rattle.orc_ledger.specs.Same.{weight}
 use Rattle.orc_ledger.specs.Calls.{has_number}

@@ -3,6 +3,7 @@ use Rattle.std.specs.Prelude.{slice_set}
 use Rattle.orc_ledger.specs.Tokens.{live, IsHeld}
 use Rattle.orc_ledger.specs.declared.records.Standing.TheVariants.{At}
 use Rattle.orc_ledger.specs.declared.records.Token.{Token}
+use Rattle.orc_ledger.proofs.Flags.{held-cleared, stay-cleared}
 use Rattle.orc_ledger.proofs.Slots.{count-weight, removed}
 use Rattle.orc_ledger.proofs.tokens.Tokens.remove.Goals as goal
 
@@ -16,16 +17,26 @@ pub overflow_sub-self : goal.overflow_sub-self
 overflow_sub-self c =
     let b = c.self.inside in
     let h : IsHeld b.slots.items c.args.slot c.requires.0 = rw (← c.self.view_is) at c.requires.1 in
-    omega (arith, c.self.invariant, one_less b.slots.items c.args.slot c.requires.0 h)
+    omega (arith, c.self.invariant.0, one_less b.slots.items c.args.slot c.requires.0 h)
 
 pub invariant_of-self : goal.invariant_of-self
 invariant_of-self c =
     let b = c.self.inside in
-    let h : IsHeld b.slots.items c.args.slot c.requires.0 = rw (← c.self.view_is) at c.requires.1 in
-    omega (arith, c.self.invariant, one_less b.slots.items c.args.slot c.requires.0 h, ap (λ z. length (live z)) c.put.ensures.items)
+    let h : IsHeld b.slots.items c.args.slot c.requires.0 = rw (← c.self.view_is) at c.requires.1 in (
+      omega (arith, c.self.invariant.0, one_less b.slots.items c.args.slot c.requires.0 h, ap (λ z. length (live z)) c.put.ensures.items),
+      held-cleared b.slots.items c.put.new.slots.items b.parking c.clear.new.self c.args.slot nobody c.put.ensures.items c.clear.ensures.flags c.self.invariant.1,
+    )
 
 pub invariant_of-self-else-len-capacity : goal.invariant_of-self-else-len-capacity
 invariant_of-self-else-len-capacity c =
     let b = c.self.inside in
-    let h : IsHeld b.slots.items c.args.slot c.requires.0 = rw (← c.self.view_is) at c.requires.1 in
-    omega (arith, c.self.invariant, one_less b.slots.items c.args.slot c.requires.0 h, ap (λ z. length (live z)) c.put.ensures.items)
+    let h : IsHeld b.slots.items c.args.slot c.requires.0 = rw (← c.self.view_is) at c.requires.1 in (
+      omega (arith, c.self.invariant.0, one_less b.slots.items c.args.slot c.requires.0 h, ap (λ z. length (live z)) c.put.ensures.items),
+      held-cleared b.slots.items c.put.new.slots.items b.parking c.clear.new.self c.args.slot nobody c.put.ensures.items c.clear.ensures.flags c.self.invariant.1,
+    )
+
+pub returns-then-len-capacity-clause-parked : goal.returns-then-len-capacity-clause-parked
+returns-then-len-capacity-clause-parked c = let b = c.self.inside in rw (← c.self.view_is) (stay-cleared b.slots.items c.put.new.slots.items b.parking c.clear.new.self c.args.slot nobody c.put.ensures.items c.clear.ensures.flags c.clear.ensures.notes)
+
+pub returns-else-len-capacity-clause-parked : goal.returns-else-len-capacity-clause-parked
+returns-else-len-capacity-clause-parked c = let b = c.self.inside in rw (← c.self.view_is) (stay-cleared b.slots.items c.put.new.slots.items b.parking c.clear.new.self c.args.slot nobody c.put.ensures.items c.clear.ensures.flags c.clear.ensures.notes)
