@@ -268,7 +268,7 @@ module _ (l : Listing) (sites : List Site) (s : Records) (L : Lawful l sites s) 
       }
 
   -- each call has its own number
-  one_number : (k : ℕ) → weight (has_number k) s.calls ≤ 1
+  pub one_number : (k : ℕ) → weight (has_number k) s.calls ≤ 1
   one_number k = omega (arith, (numbered l sites s L).single (call k), times-calls k whole L.place.marked, rows-weigh l sites s L (is_call k), weight-none (λ (t : Token). is_call k (token_row (code l) s t)) s.tokens (λ t. refl))
 
   no_more : (b : Bool) (n : ℕ) → cond b n 0 ≤ n

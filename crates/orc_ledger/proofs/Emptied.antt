@@ -161,6 +161,13 @@ module _ (l : Listing) (sites : List Site) (s : Records) (L : Lawful l sites s) 
   side_one : (nm : Name) (k : Group) (e : Side) → k.side ≡ e → is_over (code l) s e ≡ false → is_side nm (side_at (code l) s (its_path (code l) s k.outer) e) ≡ 1 → only (λ (k : Group). not (is_over (code l) s k.side)) (λ k. is_side nm (group_side (code l) s k)) k ≡ 1
   side_one nm k e is live one = ap (λ z. cond (not (is_over (code l) s z)) (is_side nm (side_at (code l) s (its_path (code l) s k.outer) z)) 0) is ∙ ap (λ b. cond (not b) (is_side nm (side_at (code l) s (its_path (code l) s k.outer) e)) 0) live ∙ one
 
+  -- no other group is the same cell's
+  pub right-one : (c : ℕ) → g.side ≡ Right c → (h : Group) → IsIn h s.groups → h.side ≡ Right c → n.number h ≡ n.number g
+  right-one c side h j is = one_group (cell c) h j (side_one (cell c) g (Right c) side refl (itself c)) (side_one (cell c) h (Right c) is refl (itself c))
+    where
+      itself : (d : ℕ) → once (cell d) (cell d) ≡ 1
+      itself d = ap (λ b. cond {A = ℕ} b 1 0) (eq-eqb d d refl)
+
   module _ (empty : members n s (n.number g) ≡ 0) where
     pub right-empty : (c : ℕ) → g.side ≡ Right c → IsEmpty l sites s L c
     right-empty c side =

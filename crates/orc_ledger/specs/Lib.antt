@@ -3,6 +3,7 @@ pub mod AtRest
 pub mod Awaiting
 pub mod Begun
 pub mod Calls
+pub mod Crowd
 pub mod Doing
 pub mod Dues
 pub mod Halting

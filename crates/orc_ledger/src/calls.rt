@@ -69,11 +69,15 @@ impl<P: Program> Ledger<P> {
         self.entries += 1;
         self.next_mark = mark + 1;
         self.calls.take(call.number);
-        let slot = self.tokens.add(Token {
-            serial: mark,
-            standing: Standing::On(value),
-            step: call.step,
-        });
+        let group = group_at(&self.steps, call.step);
+        let slot = self.tokens.add(
+            Token {
+                serial: mark,
+                standing: Standing::On(value),
+                step: call.step,
+            },
+            group,
+        );
         Ok(slot)
     }
 

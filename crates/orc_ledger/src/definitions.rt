@@ -10,6 +10,7 @@ ghost use Rattle.orc_ledger.specs.declared.records.Standing.TheVariants.{At};
 ghost use Rattle.orc_ledger.specs.declared.records.Token.{Token as Its};
 
 use crate::ledger::{Ledger, LedgerFault, Program, push_within, reserve, write};
+use crate::marks::group_at;
 use crate::records::{Standing, Token};
 use orc_graph::Graph;
 use orc_names::{Bound, Scope, meaning};
@@ -111,6 +112,7 @@ impl<P: Program> Ledger<P> {
             return Ok(false);
         };
         reserve_scopes(&mut self.scopes, added.len())?;
+        let group = group_at(&self.steps, token.step);
         let mark = self.next_mark;
         write(&mut self.journal, &Entry::Def(token.serial, mark))?;
         self.entries += 1;
@@ -123,6 +125,7 @@ impl<P: Program> Ledger<P> {
                 standing: Standing::At(body as usize, newest),
                 step: token.step,
             },
+            group,
         );
         Ok(true)
     }

@@ -1,12 +1,13 @@
 //! The open groups, each found by its number, and how many members each group has.
 
-ghost use Rattle.std.specs.Prelude.{◌≡◌, [], ◌∷◌, ◌++◌, ◌+◌, ◌-◌, ◌^◌, ◌≤◌, ◌<◌, ℕ, List, Some, length, nat_eq, IfOk, IfErr, OnOk, OnErr, MatchOption, slice_get, slice_set, vec_len, vec_capacity};
+ghost use Rattle.std.specs.Prelude.{◌≡◌, [], ◌∷◌, ◌++◌, ◌+◌, ◌-◌, ◌^◌, ◌≤◌, ◌<◌, ℕ, List, Some, length, nat_eq, IfNone, IfOk, IfErr, OnOk, OnErr, MatchOption, slice_get, slice_set, vec_len, vec_capacity};
 ghost use Rattle.orc_rules.specs.Timed.{IsIn};
 ghost use Rattle.orc_ledger.specs.Same.{weight, None};
 ghost use Rattle.orc_ledger.specs.Next.{is_this};
 ghost use Rattle.orc_ledger.specs.OpenGroups.{IsOpen, LeadTo, size_of};
 ghost use Rattle.orc_ledger.specs.declared.records.Group.{Group as Its};
 
+use crate::chains::Chains;
 use crate::ledger::{LedgerFault, push_within, reserve};
 use crate::records::{Group, Side};
 use std::alloc::Global;
@@ -23,6 +24,8 @@ pub(crate) struct Groups {
     hints: Vec<usize>,
     // The numbers that no group has.
     free: Vec<u32>,
+    // The places in `items` by parent.
+    chains: Chains,
 }
 
 // Written out, so that a caller's proof sees one call and not the drop of each field.
@@ -34,6 +37,7 @@ impl Drop for Groups {
             sizes: _,
             hints: _,
             free: _,
+            chains: _,
         } = self;
     }
 }
@@ -147,7 +151,12 @@ fn take_free(free: &mut Vec<u32>) -> u32
 }
 
 // The group at a place goes, and the last one takes its place.
-fn remove_at(items: &mut Vec<Group>, places: &mut Vec<usize>, place: usize) -> Group
+fn remove_at(
+    items: &mut Vec<Group>,
+    places: &mut Vec<usize>,
+    chains: &mut Chains,
+    place: usize,
+) -> Group
     requires lead { LeadTo items.old.items places.old.items }
     requires there { place < vec_len items.old }
     ensures group { slice_get items.old.items place ≡ Some result }
@@ -158,6 +167,7 @@ fn remove_at(items: &mut Vec<Group>, places: &mut Vec<usize>, place: usize) -> G
     ensures rest { (w : Its → ℕ) → weight w items.new.items + w result ≡ weight w items.old.items }
 {
     let group = items.swap_remove(place);
+    chains.swap_take(place, items.len());
     match group_in(items, place) {
         None => group,
         Some(moved) => {
@@ -174,6 +184,7 @@ impl Groups {
         ensures sizes { IfOk result (λ t. (i : ℕ) → size_of t.sizes i ≡ 0) }
         ensures why { IfErr result (λ fault. fault ≡ LedgerFault.Memory) }
     {
+        let chains = Chains::begin(alloc)?;
         let mut places = Vec::new(alloc);
         let mut sizes = Vec::new(alloc);
         let mut hints = Vec::new(alloc);
@@ -189,6 +200,7 @@ impl Groups {
             sizes,
             hints,
             free: Vec::new(alloc),
+            chains,
         })
     }
 
@@ -214,6 +226,13 @@ impl Groups {
         self.items[place]
     }
 
+    /// The places of the groups in a group, each once. They are a hint.
+    pub(crate) fn list(&self, parent: u32, places: &mut Vec<usize>)
+        ensures once { (k : ℕ) → weight (is_this k) places.new.items ≤ 1 }
+    {
+        self.chains.list(parent, places);
+    }
+
     /// How many members a number has.
     pub(crate) fn size(&self, number: u32) -> u32
         ensures { result ≡ size_of self.now.sizes number }
@@ -230,6 +249,9 @@ impl Groups {
         ensures why { IfErr result (λ fault. fault ≡ LedgerFault.Memory) }
     {
         reserve(&mut self.items)?;
+        if self.chains.reserve().is_err() {
+            return Err(LedgerFault::Memory);
+        }
         if self.free.len() == 0 {
             add_number(
                 &mut self.places,
@@ -249,8 +271,8 @@ impl Groups {
         }
     }
 
-    /// Opens a group, and gives its number, which was free. Which step enters its side is told as a hint.
-    pub(crate) fn open(&mut self, side: Side, outer: usize, hint: usize) -> u32
+    /// Opens a group in the one with the number `parent`, and gives its number, which was free. Which step enters its side is told as a hint.
+    pub(crate) fn open(&mut self, side: Side, outer: usize, hint: usize, parent: u32) -> u32
         requires room { 1 ≤ self.old.room }
         ensures items { self.new.items ≡ self.old.items ++ record { side = side; outer = outer; number = result } ∷ [] }
         ensures free { (1 ≤ result) × None (λ (g : Its). nat_eq result g.number) self.old.items }
@@ -268,6 +290,7 @@ impl Groups {
                 number,
             },
         );
+        self.chains.put(place, parent);
         number
     }
 
@@ -301,7 +324,7 @@ impl Groups {
         ensures rest { (w : Its → ℕ) → weight w self.new.items + w result ≡ weight w self.old.items }
         ensures sizes { self.new.sizes ≡ self.old.sizes }
     {
-        let group = remove_at(&mut self.items, &mut self.places, place);
+        let group = remove_at(&mut self.items, &mut self.places, &mut self.chains, place);
         push_within(&mut self.free, group.number);
         group
     }
@@ -318,6 +341,7 @@ impl Groups {
     pub(crate) fn take(&mut self, number: u32) -> Option<Group>
         ensures group { MatchOption result ((g : Its) → IsIn g self.old.items → g.number ≡ number → ⊥) (λ g. IsIn g self.old.items × (g.number ≡ number)) }
         ensures one { (g : Its) → IsIn g self.old.items → g.number ≡ number → (w : Its → ℕ) → weight w self.new.items + w g ≡ weight w self.old.items }
+        ensures none { IfNone result (self.new.items ≡ self.old.items) }
         ensures sizes { self.new.sizes ≡ self.old.sizes }
     {
         let place = place_of(&self.items, &self.places, number)?;

@@ -8,6 +8,7 @@ ghost use Rattle.orc_ledger.specs.Calls.{HasRoom, IsRefused};
 ghost use Rattle.orc_ledger.specs.Whole.{IsWhole};
 ghost use Rattle.orc_ledger.specs.declared.records.Token.{Token as Its};
 
+use crate::crowd::Crowd;
 use crate::groups::Groups;
 use crate::pending::Pending;
 use crate::records::{Standing, Step, Token};
@@ -62,6 +63,8 @@ pub struct Ledger<P: Program> {
     pub(crate) steps: Vec<Step>,
     pub(crate) groups: Groups,
     pub(crate) cells: Vec<Bound>,
+    // Lent to a bind.
+    pub(crate) crowd: Crowd,
     pub(crate) program: PhantomData<P>,
 }
 
@@ -93,6 +96,7 @@ impl<P: Program> Drop for Ledger<P> {
             steps,
             groups,
             cells,
+            crowd,
             program: _,
         } = self;
         drop(journal);
@@ -103,6 +107,7 @@ impl<P: Program> Drop for Ledger<P> {
         drop(steps);
         drop(groups);
         drop(cells);
+        drop(crowd);
     }
 }
 
@@ -165,6 +170,7 @@ impl<P: Program> Ledger<P> {
                 step: 0,
             },
         )?;
+        let calls = Pending::begin(alloc)?;
         Ok(Ledger {
             limit,
             journal: Journal::new(alloc, Version::Two),
@@ -172,12 +178,13 @@ impl<P: Program> Ledger<P> {
             next_mark: 2,
             time: 0,
             tokens,
-            calls: Pending::new(alloc),
+            calls,
             counts: Counts::new(alloc),
             scopes: Vec::new(alloc),
             steps: Vec::new(alloc),
             groups,
             cells,
+            crowd: Crowd::new(alloc),
             program: PhantomData,
         })
     }
@@ -206,6 +213,7 @@ impl<P: Program> Ledger<P> {
             steps,
             groups,
             cells,
+            crowd,
             program: _,
         } = self;
         drop(tokens);
@@ -215,6 +223,7 @@ impl<P: Program> Ledger<P> {
         drop(steps);
         drop(groups);
         drop(cells);
+        drop(crowd);
         journal
     }
 

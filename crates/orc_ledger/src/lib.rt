@@ -3,6 +3,8 @@
 
 mod awaiting;
 mod calls;
+mod chains;
+mod crowd;
 mod definitions;
 mod dues;
 mod groups;

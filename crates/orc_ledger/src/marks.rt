@@ -110,12 +110,16 @@ impl<P: Program> Ledger<P> {
                 standing: Standing::At(left, scope),
                 step: token.step,
             },
+            group,
         );
-        let other = self.tokens.add(Token {
-            serial: mark + 1,
-            standing: Standing::At(right, scope),
-            step: token.step,
-        });
+        let other = self.tokens.add(
+            Token {
+                serial: mark + 1,
+                standing: Standing::At(right, scope),
+                step: token.step,
+            },
+            group,
+        );
         Ok(other)
     }
 
@@ -165,6 +169,7 @@ impl<P: Program> Ledger<P> {
                 standing: Standing::At(left, scope),
                 step,
             },
+            group,
         );
         Ok(())
     }
@@ -194,10 +199,14 @@ impl<P: Program> Ledger<P> {
         self.entries += 1;
         self.next_mark = mark + 1;
         let step = self.steps.len() + 1;
+        let parent = group_at(&self.steps, token.step);
         // Its parent loses the token and gets the group: it has as many members as before.
-        let number = self
-            .groups
-            .open(Side::Left(token.serial, right, scope), token.step, step);
+        let number = self.groups.open(
+            Side::Left(token.serial, right, scope),
+            token.step,
+            step,
+            parent,
+        );
         self.groups.join(number);
         push_within(
             &mut self.steps,
@@ -216,6 +225,7 @@ impl<P: Program> Ledger<P> {
                 standing: Standing::At(left, scope),
                 step,
             },
+            number,
         );
         Ok(())
     }
@@ -256,7 +266,9 @@ impl<P: Program> Ledger<P> {
         self.next_mark = mark + 2;
         let inner = self.scopes.len() + 1;
         let step = self.steps.len() + 1;
-        let number = self.groups.open(Side::Right(cell), token.step, step);
+        let number = self
+            .groups
+            .open(Side::Right(cell), token.step, step, parent);
         self.groups.join(parent);
         self.groups.join(number);
         push_within(
@@ -285,12 +297,16 @@ impl<P: Program> Ledger<P> {
                 standing: Standing::At(left, inner),
                 step: token.step,
             },
+            parent,
         );
-        let other = self.tokens.add(Token {
-            serial: mark + 1,
-            standing: Standing::At(right, scope),
-            step,
-        });
+        let other = self.tokens.add(
+            Token {
+                serial: mark + 1,
+                standing: Standing::At(right, scope),
+                step,
+            },
+            number,
+        );
         Ok(other)
     }
 }

@@ -1,19 +1,21 @@
 //! The calls that pend, by their numbers.
 
-ghost use Rattle.std.specs.Prelude.{◌≡◌, ◌+◌, ◌≤◌, ◌<◌, ◌-◌, ◌⊎◌, ◌^◌, [], ℕ, Some, None, true, false, IfSome, IfNone, MatchOption, OnOk, length, vec_len, slice_get, slice_set};
+ghost use Rattle.std.specs.Prelude.{◌≡◌, ◌+◌, ◌≤◌, ◌<◌, ◌-◌, ◌⊎◌, ◌^◌, [], ℕ, Some, None, true, false, IfSome, IfNone, MatchOption, IfOk, IfErr, OnOk, length, vec_len, slice_get, slice_set};
 ghost use Rattle.orc_rules.specs.Timed.{IsIn};
 ghost use Rattle.orc_ledger.specs.Same.{weight, but};
 ghost use Rattle.orc_ledger.specs.Calls.{has_number};
+ghost use Rattle.orc_ledger.specs.Crowd.{is_listed};
 ghost use Rattle.orc_ledger.specs.Inside.{stands_inside};
-ghost use Rattle.orc_ledger.specs.Next.{due_of, next_due};
+ghost use Rattle.orc_ledger.specs.Next.{due_of, next_due, is_this};
 ghost use Rattle.orc_ledger.specs.Dues.{IsNoted};
 ghost use Rattle.orc_ledger.specs.OpenGroups.{HaveLeft, calls_in};
 ghost use Rattle.orc_ledger.specs.PendingCalls.{ArePlaced, HasNote, HaveNotes, is_numbered, IsDueBeyond, IsLeastBeyond};
 ghost use Rattle.orc_ledger.specs.declared.records.Call.{Call as Its};
 
+use crate::chains::Chains;
 use crate::dues::Dues;
 use crate::groups::Groups;
-use crate::ledger::push_within;
+use crate::ledger::{LedgerFault, push_within};
 use crate::marks::group_at;
 use crate::records::{Call, Step};
 use crate::sides::is_inside;
@@ -26,6 +28,8 @@ pub(crate) struct Pending {
     items: Vec<Call>,
     places: Vec<usize>,
     dues: Dues,
+    // The places in `items` by group.
+    chains: Chains,
 }
 
 // Written out, so that a caller's proof sees one call and not the drop of each field.
@@ -35,6 +39,7 @@ impl Drop for Pending {
             items: _,
             places: _,
             dues: _,
+            chains: _,
         } = self;
     }
 }
@@ -119,7 +124,12 @@ fn find(items: &Vec<Call>, places: &Vec<usize>, number: u64) -> Option<Spot>
 }
 
 // The call at a place goes, and the last one takes its place.
-fn remove_at(items: &mut Vec<Call>, places: &mut Vec<usize>, place: usize) -> Call
+fn remove_at(
+    items: &mut Vec<Call>,
+    places: &mut Vec<usize>,
+    chains: &mut Chains,
+    place: usize,
+) -> Call
     requires placed { ArePlaced items.old.items places.old.items }
     requires there { place < vec_len items.old }
     ensures call { slice_get items.old.items place ≡ Some result }
@@ -131,6 +141,7 @@ fn remove_at(items: &mut Vec<Call>, places: &mut Vec<usize>, place: usize) -> Ca
     ensures others { (c : Its) → IsIn c items.new.items → IsIn c items.old.items × (c.number ≡ result.number → ⊥) }
 {
     let call = items.swap_remove(place);
+    chains.swap_take(place, items.len());
     match call_at(items, place) {
         None => call,
         Some(moved) => {
@@ -154,6 +165,7 @@ fn drop_inside(
     items: &mut Vec<Call>,
     places: &mut Vec<usize>,
     dues: &mut Dues,
+    chains: &mut Chains,
     groups: &mut Groups,
     steps: &Vec<Step>,
     cell: u64,
@@ -171,7 +183,7 @@ fn drop_inside(
     while i < items.len() {
         let step = items[i].step;
         if is_inside(steps, step, cell) {
-            let gone = remove_at(items, places, i);
+            let gone = remove_at(items, places, chains, i);
             forget(dues, gone);
             groups.leave(group_at(steps, gone.step));
         } else {
@@ -235,16 +247,19 @@ fn due_beyond(
 }
 
 impl Pending {
-    /// No calls.
-    pub(crate) fn new(alloc: Global) -> Pending
-        ensures items { result.items ≡ [] }
-        ensures made { result.made ≡ 0 }
+    /// No calls. The only fault is `Memory`.
+    pub(crate) fn begin(alloc: Global) -> Result<Pending, LedgerFault>
+        ensures items { IfOk result (λ p. p.items ≡ []) }
+        ensures made { IfOk result (λ p. p.made ≡ 0) }
+        ensures why { IfErr result (λ fault. fault ≡ LedgerFault.Memory) }
     {
-        Pending {
+        let chains = Chains::begin(alloc)?;
+        Ok(Pending {
             items: Vec::new(alloc),
             places: Vec::new(alloc),
             dues: Dues::new(alloc),
-        }
+            chains,
+        })
     }
 
     /// How many calls pend.
@@ -281,14 +296,15 @@ impl Pending {
     {
         self.items.try_reserve(1)?;
         self.places.try_reserve(1)?;
+        self.chains.reserve()?;
         if let Some(time) = due_of(call) {
             self.dues.note(time, call.number)?;
         }
         Ok(())
     }
 
-    /// Adds a call with the next number, where there is room and its due time is noted.
-    pub(crate) fn add(&mut self, call: Call)
+    /// Adds a call of this group with the next number, where there is room and its due time is noted.
+    pub(crate) fn add(&mut self, call: Call, group: u32)
         requires number { call.number ≡ self.old.made + 1 }
         requires room { 1 ≤ self.old.room }
         requires noted { HasNote self.old.notes call }
@@ -298,6 +314,7 @@ impl Pending {
         let place = self.items.len();
         push_within(&mut self.items, call);
         push_within(&mut self.places, place);
+        self.chains.put(place, group);
     }
 
     /// Takes the call with this number out, where there is one.
@@ -310,11 +327,23 @@ impl Pending {
         match find(&self.items, &self.places, number) {
             None => None,
             Some(spot) => {
-                let call = remove_at(&mut self.items, &mut self.places, spot.place);
+                let call = remove_at(
+                    &mut self.items,
+                    &mut self.places,
+                    &mut self.chains,
+                    spot.place,
+                );
                 forget(&mut self.dues, call);
                 Some(call)
             }
         }
+    }
+
+    /// The places of a group's calls, each once. They are a hint.
+    pub(crate) fn list(&self, group: u32, places: &mut Vec<usize>)
+        ensures once { (k : ℕ) → weight (is_this k) places.new.items ≤ 1 }
+    {
+        self.chains.list(group, places);
     }
 
     /// The calls, in no order.
@@ -335,10 +364,32 @@ impl Pending {
             &mut self.items,
             &mut self.places,
             &mut self.dues,
+            &mut self.chains,
             groups,
             steps,
             cell,
         );
+    }
+
+    /// The calls with these numbers, which are those inside the right side of a cell, go, and leave their groups.
+    pub(crate) fn drop_listed(
+        &mut self,
+        groups: &mut Groups,
+        steps: &Vec<Step>,
+        cell: u64,
+        numbers: &Vec<u64>,
+    )
+        requires listed { (c : Its) → IsIn c self.old.items → is_listed numbers.now.items c.number ≡ stands_inside cell steps.now.items c.step }
+        ensures made { self.new.made ≡ self.old.made }
+        ensures rest { (w : Its → ℕ) → weight w self.new.items ≡ weight (but (λ (k : Its). stands_inside cell steps.now.items k.step) w) self.old.items }
+        ensures groups { groups.new.items ≡ groups.old.items }
+        ensures sizes { HaveLeft groups.old.sizes groups.new.sizes (calls_in steps.now.items self.old.items) (calls_in steps.now.items self.new.items) }
+    {
+        for number in numbers {
+            if let Some(gone) = self.take(*number) {
+                groups.leave(group_at(steps, gone.step));
+            }
+        }
     }
 
     /// The least due time. Notes before it whose calls pend no more go.

@@ -89,6 +89,7 @@ impl<P: Program> Ledger<P> {
                 standing: Standing::At(right, inner),
                 step: outer,
             },
+            joined,
         );
         Ok(())
     }

@@ -17,6 +17,7 @@ ghost use Rattle.orc_ledger.specs.Same.{weight};
 ghost use Rattle.orc_ledger.specs.Tokens.{IsHeld};
 
 use crate::ledger::{Ledger, LedgerFault, Program};
+use crate::marks::group_at;
 use crate::records::{Call, Request, Standing, Token};
 use crate::what::What;
 use orc_calls::Counts;
@@ -148,7 +149,8 @@ impl<P: Program> Ledger<P> {
         )?;
         self.entries += 1;
         self.tokens.remove(slot);
-        self.calls.add(call);
+        let group = group_at(&self.steps, call.step);
+        self.calls.add(call, group);
         Ok(call)
     }
 

@@ -1,34 +1,41 @@
 //! Sides that end: the right side of a cell that is bound or lost, and the left side of an otherwise.
 
-ghost use Rattle.std.specs.Prelude.{◌≡◌, ◌+◌, ◌-◌, ◌++◌, ◌∷◌, [], ◌<◌, ℕ, true, length, map, slice_index_or, false, IfOk, OnOk, OnErr, IfErr, slice_set};
+ghost use Rattle.std.specs.Prelude.{◌≡◌, ◌≤◌, ◌+◌, ◌-◌, ◌++◌, ◌∷◌, [], ◌<◌, ℕ, true, length, map, slice_index_or, List, false, IfOk, OnOk, OnErr, IfErr, slice_set};
 ghost use Rattle.orc_rules.specs.Nodes.{code};
 ghost use Rattle.orc_rules.specs.Term.{param};
 ghost use Rattle.orc_rules.specs.declared.param.Param.TheVariants.{Is};
 ghost use Rattle.orc_rules.specs.declared.entry.Entry.TheVariants.{Bind, Cancel, Lost};
-ghost use Rattle.orc_rules.specs.Timed.{IsIn};
+ghost use Rattle.std.specs.List.Sorted.{IsPermutation, IsSorted};
+ghost use Rattle.std.specs.Ordering.{nat_cmp};
+ghost use Rattle.orc_rules.specs.Timed.{IsIn, IsRising};
 ghost use Rattle.orc_ledger.specs.Next.{members, numbers_of, is_this};
 ghost use Rattle.orc_ledger.specs.declared.records.Side.TheVariants.{Left, Right};
 ghost use Rattle.orc_ledger.specs.declared.records.Standing.TheVariants.{At};
 ghost use Rattle.orc_ledger.specs.Same.{weight, but};
 ghost use Rattle.orc_ledger.specs.Tokens.{live, IsHeld, StayParked};
-ghost use Rattle.orc_ledger.specs.OpenGroups.{HaveLeft, tokens_in, groups_in, size_of};
+ghost use Rattle.orc_ledger.specs.OpenGroups.{HaveLeft, tokens_in, calls_in, groups_in, size_of};
 ghost use Rattle.orc_ledger.specs.declared.records.Token.{Token as Its};
 ghost use Rattle.orc_ledger.specs.declared.records.Group.{Group as Open};
 ghost use Rattle.orc_ledger.specs.Spelling.{Path, aiding};
 ghost use Rattle.orc_ledger.specs.Taking.{taker};
 ghost use Rattle.orc_ledger.specs.Records.{its_env, its_path, standing, is_over, has_left, group_at};
 ghost use Rattle.orc_ledger.specs.Calls.{Drops, Closes, Resumes, AreCancelled, IsRefused};
+ghost use Rattle.orc_ledger.specs.Crowd.{is_listed, IsCrowd};
+ghost use Rattle.orc_ledger.specs.declared.records.Call.{Call as Pends};
 ghost use Rattle.orc_ledger.specs.Homes.{aids};
 ghost use Rattle.orc_ledger.specs.Inside.{step_at, held_inside, stands_inside, side_inside, numbers_inside};
 
+use crate::crowd::{Crowd, do_rise};
 use crate::groups::Groups;
 use crate::ledger::{Ledger, LedgerFault, Program, push_within, reserve, write};
 use crate::marks::group_at;
+use crate::pending::Pending;
 use crate::records::{Call, Entered, Group, Side, Standing, Step, Token};
 use crate::tokens::Tokens;
 use orc_journal::Journal;
 use orc_names::Bound;
 use orc_rules::entry::Entry;
+use orc_rules::limits::MOST_GROUPS;
 use orc_rules::value::Value;
 
 // The step with this number; there is no step 0.
@@ -126,6 +133,114 @@ fn drop_tokens(tokens: &mut Tokens, groups: &mut Groups, steps: &Vec<Step>, cell
     }
 }
 
+// The tokens in these slots, which are those inside, go, and leave their groups.
+fn drop_listed(
+    tokens: &mut Tokens,
+    groups: &mut Groups,
+    steps: &Vec<Step>,
+    cell: u64,
+    slots: &Vec<usize>,
+)
+    requires listed { (k : ℕ) (t : Its) → IsHeld tokens.old.items k t → is_listed slots.now.items k ≡ stands_inside cell steps.now.items t.step }
+    ensures rest { (w : Its → ℕ) → weight w (live tokens.new.items) ≡ weight (but (λ (t : Its). stands_inside cell steps.now.items t.step) w) (live tokens.old.items) }
+    ensures groups { groups.new.items ≡ groups.old.items }
+    ensures sizes { HaveLeft groups.old.sizes groups.new.sizes (tokens_in steps.now.items (live tokens.old.items)) (tokens_in steps.now.items (live tokens.new.items)) }
+    ensures parked { StayParked tokens.old tokens.new }
+{
+    for slot in slots {
+        if let Some(token) = tokens.held(*slot) {
+            tokens.remove(*slot);
+            groups.leave(group_at(steps, token.step));
+        }
+    }
+}
+
+// The tokens inside go, and leave their groups: they are in these slots, if their slots are known.
+fn leave_tokens(
+    tokens: &mut Tokens,
+    groups: &mut Groups,
+    steps: &Vec<Step>,
+    cell: u64,
+    known: bool,
+    slots: &Vec<usize>,
+)
+    requires listed { known ≡ true → (k : ℕ) (t : Its) → IsHeld tokens.old.items k t → is_listed slots.now.items k ≡ stands_inside cell steps.now.items t.step }
+    ensures rest { (w : Its → ℕ) → weight w (live tokens.new.items) ≡ weight (but (λ (t : Its). stands_inside cell steps.now.items t.step) w) (live tokens.old.items) }
+    ensures groups { groups.new.items ≡ groups.old.items }
+    ensures sizes { HaveLeft groups.old.sizes groups.new.sizes (tokens_in steps.now.items (live tokens.old.items)) (tokens_in steps.now.items (live tokens.new.items)) }
+    ensures parked { StayParked tokens.old tokens.new }
+{
+    if known {
+        drop_listed(tokens, groups, steps, cell, slots);
+    } else {
+        drop_tokens(tokens, groups, steps, cell);
+    }
+}
+
+// The calls inside go, and leave their groups: they have these numbers, if they are known.
+fn leave_calls(
+    calls: &mut Pending,
+    groups: &mut Groups,
+    steps: &Vec<Step>,
+    cell: u64,
+    known: bool,
+    numbers: &Vec<u64>,
+)
+    requires listed { known ≡ true → (c : Pends) → IsIn c calls.old.items → is_listed numbers.now.items c.number ≡ stands_inside cell steps.now.items c.step }
+    ensures made { calls.new.made ≡ calls.old.made }
+    ensures rest { (w : Pends → ℕ) → weight w calls.new.items ≡ weight (but (λ (k : Pends). stands_inside cell steps.now.items k.step) w) calls.old.items }
+    ensures groups { groups.new.items ≡ groups.old.items }
+    ensures sizes { HaveLeft groups.old.sizes groups.new.sizes (calls_in steps.now.items calls.old.items) (calls_in steps.now.items calls.new.items) }
+{
+    if known {
+        calls.drop_listed(groups, steps, cell, numbers);
+    } else {
+        calls.drop_inside(groups, steps, cell);
+    }
+}
+
+// The group of the innermost right side of a cell round a step, where only left sides of otherwises are between.
+fn side_group(steps: &Vec<Step>, from: usize) -> u32 {
+    let mut at = from;
+    for _outwards in 0..MOST_GROUPS {
+        match step_at(steps, at) {
+            Some(step) => match step.entered {
+                Entered::Try(_) => at = step.outer,
+                _ => return step.group,
+            },
+            None => return 0,
+        }
+    }
+    0
+}
+
+// The numbers of the calls inside, in rising order. True where the slots of the tokens inside are known too.
+fn list_side(
+    crowd: &mut Crowd,
+    tokens: &Tokens,
+    calls: &Pending,
+    groups: &Groups,
+    steps: &Vec<Step>,
+    cell: u64,
+    group: u32,
+    numbers: &mut Vec<u64>,
+) -> Result<bool, LedgerFault>
+    requires sized { (i : ℕ) → size_of groups.now.sizes i ≡ tokens_in steps.now.items (live tokens.now.items) i + calls_in steps.now.items calls.now.items i + groups_in steps.now.items groups.now.items i }
+    ensures known { IfOk result (λ known. known ≡ true → IsRising numbers.new.items × IsCrowd steps.now.items tokens.now.items calls.now.items groups.now.items cell crowd.new.groups.items crowd.new.slots.items numbers.new.items) }
+    ensures listed { IfOk result (λ known. known ≡ false → (found : List ℕ) × (found ≡ numbers_inside cell steps.now.items calls.now.items) × IsPermutation found numbers.new.items × IsSorted nat_cmp numbers.new.items) }
+    ensures why { IfErr result (λ fault. fault ≡ LedgerFault.Memory) }
+{
+    if crowd.find(tokens, calls, groups, steps, cell, group, numbers) {
+        numbers.sort_unstable();
+        if do_rise(numbers) {
+            return Ok(true);
+        }
+    }
+    list_inside(calls.items(), steps, cell, numbers)?;
+    numbers.sort_unstable();
+    Ok(false)
+}
+
 // The groups inside go, the side's own too, and leave their parents.
 fn drop_groups(groups: &mut Groups, steps: &Vec<Step>, cell: u64)
     ensures rest { (w : Open → ℕ) → weight w groups.new.items ≡ weight (but (λ (g : Open). side_inside cell steps.now.items g.outer g.side) w) groups.old.items }
@@ -140,6 +255,34 @@ fn drop_groups(groups: &mut Groups, steps: &Vec<Step>, cell: u64)
         } else {
             place += 1;
         }
+    }
+}
+
+// The groups with these numbers, which are those inside, go, and leave their parents.
+fn drop_numbered(groups: &mut Groups, steps: &Vec<Step>, cell: u64, numbers: &Vec<u32>)
+    requires listed { (g : Open) → IsIn g groups.old.items → is_listed numbers.now.items g.number ≡ side_inside cell steps.now.items g.outer g.side }
+    requires once { (i : ℕ) → weight (λ (g : Open). is_this i g.number) groups.old.items ≤ 1 }
+    ensures rest { (w : Open → ℕ) → weight w groups.new.items ≡ weight (but (λ (g : Open). side_inside cell steps.now.items g.outer g.side) w) groups.old.items }
+    ensures sizes { HaveLeft groups.old.sizes groups.new.sizes (groups_in steps.now.items groups.old.items) (groups_in steps.now.items groups.new.items) }
+{
+    for number in numbers {
+        if let Some(gone) = groups.take(*number) {
+            groups.leave(group_at(steps, gone.outer));
+        }
+    }
+}
+
+// The groups inside go, the side's own too, and leave their parents: they have these numbers, if they are known.
+fn leave_groups(groups: &mut Groups, steps: &Vec<Step>, cell: u64, known: bool, numbers: &Vec<u32>)
+    requires listed { known ≡ true → (g : Open) → IsIn g groups.old.items → is_listed numbers.now.items g.number ≡ side_inside cell steps.now.items g.outer g.side }
+    requires once { (i : ℕ) → weight (λ (g : Open). is_this i g.number) groups.old.items ≤ 1 }
+    ensures rest { (w : Open → ℕ) → weight w groups.new.items ≡ weight (but (λ (g : Open). side_inside cell steps.now.items g.outer g.side) w) groups.old.items }
+    ensures sizes { HaveLeft groups.old.sizes groups.new.sizes (groups_in steps.now.items groups.old.items) (groups_in steps.now.items groups.new.items) }
+{
+    if known {
+        drop_numbered(groups, steps, cell, numbers);
+    } else {
+        drop_groups(groups, steps, cell);
     }
 }
 
@@ -202,13 +345,41 @@ impl<P: Program> Ledger<P> {
         ensures why { IfErr result (λ fault. IsRefused self.old 0 0 0 fault) }
     {
         self.within(0, 0, 0)?;
-        list_inside(self.calls.items(), &self.steps, cell, cancelled)?;
-        cancelled.sort_unstable();
+        let known = list_side(
+            &mut self.crowd,
+            &self.tokens,
+            &self.calls,
+            &self.groups,
+            &self.steps,
+            cell,
+            side_group(&self.steps, token.step),
+            cancelled,
+        )?;
         write_bind(&mut self.journal, token.serial, cell, value, cancelled)?;
         self.entries += 1;
-        drop_tokens(&mut self.tokens, &mut self.groups, &self.steps, cell);
-        self.calls.drop_inside(&mut self.groups, &self.steps, cell);
-        drop_groups(&mut self.groups, &self.steps, cell);
+        leave_tokens(
+            &mut self.tokens,
+            &mut self.groups,
+            &self.steps,
+            cell,
+            known,
+            &self.crowd.slots,
+        );
+        leave_calls(
+            &mut self.calls,
+            &mut self.groups,
+            &self.steps,
+            cell,
+            known,
+            cancelled,
+        );
+        leave_groups(
+            &mut self.groups,
+            &self.steps,
+            cell,
+            known,
+            &self.crowd.groups,
+        );
         settle(&mut self.cells, cell, Bound::Is(value));
         self.tokens.wake(cell);
         Ok(())
@@ -265,13 +436,17 @@ impl<P: Program> Ledger<P> {
         write(&mut self.journal, &Entry::Right(number, mark))?;
         self.entries += 1;
         self.next_mark = mark + 1;
+        let parent = group_at(&self.steps, group.outer);
         // Its parent loses the group and gets the token: it has as many members as before.
         let _left = self.groups.take(group.number);
-        let slot = self.tokens.add(Token {
-            serial: mark,
-            standing: Standing::At(node, scope),
-            step: group.outer,
-        });
+        let slot = self.tokens.add(
+            Token {
+                serial: mark,
+                standing: Standing::At(node, scope),
+                step: group.outer,
+            },
+            parent,
+        );
         Ok(slot)
     }
 }

@@ -3,10 +3,12 @@
 ghost use Rattle.std.specs.Prelude.{◌≡◌, [], ◌∷◌, ◌+◌, ◌≤◌, ◌<◌, ℕ, true, false, Some, None, length, IfSome, IfNone, IfOk, OnOk, IfErr, slice_get, slice_set, vec_len, vec_capacity};
 ghost use Rattle.orc_rules.specs.Timed.{IsIn};
 ghost use Rattle.orc_ledger.specs.Same.{weight};
+ghost use Rattle.orc_ledger.specs.Next.{is_this};
 ghost use Rattle.orc_ledger.specs.Parking.{is_set, notes_at, IsNoted};
 ghost use Rattle.orc_ledger.specs.Tokens.{live, IsHeld, StayParked, StayBut, StayWith};
 ghost use Rattle.orc_ledger.specs.declared.records.Token.{Token as Its};
 
+use crate::chains::Chains;
 use crate::ledger::LedgerFault;
 use crate::parking::{Note, Parking};
 use crate::records::{Standing, Token};
@@ -21,6 +23,8 @@ pub(crate) struct Tokens {
     free: Vec<usize>,
     count: usize,
     parking: Parking,
+    // The slots by group.
+    chains: Chains,
 }
 
 // Written out, so that a caller's proof sees one call and not the drop of each field.
@@ -31,6 +35,7 @@ impl Drop for Tokens {
             free: _,
             count: _,
             parking: _,
+            chains: _,
         } = self;
     }
 }
@@ -134,6 +139,8 @@ impl Tokens {
         ensures parked { IfOk result (λ t. t.parked ≡ record { flags = []; notes = [] }) }
         ensures why { IfErr result (λ fault. fault ≡ LedgerFault.Memory) }
     {
+        let mut chains = Chains::begin(alloc)?;
+        chains.put(0, 0);
         let mut slots = Vec::new(alloc);
         if slots.push(token).is_err() {
             return Err(LedgerFault::Memory);
@@ -143,6 +150,7 @@ impl Tokens {
             free: Vec::new(alloc),
             count: 1,
             parking: Parking::new(alloc),
+            chains,
         })
     }
 
@@ -212,11 +220,14 @@ impl Tokens {
         if self.free.len() == self.free.capacity() && self.free.try_reserve(1).is_err() {
             return Err(LedgerFault::Memory);
         }
+        if self.chains.reserve().is_err() {
+            return Err(LedgerFault::Memory);
+        }
         Ok(())
     }
 
-    /// Puts a token into a slot, and gives its number.
-    pub(crate) fn add(&mut self, token: Token) -> usize
+    /// Puts a token of this group into a slot, and gives its number.
+    pub(crate) fn add(&mut self, token: Token, group: u32) -> usize
         requires room { 1 ≤ self.old.room }
         requires serial { 1 ≤ token.serial }
         ensures held { IsHeld self.new.items result token }
@@ -229,17 +240,19 @@ impl Tokens {
         match free_slot(&self.slots, &mut self.free) {
             Some(slot) => {
                 put(&mut self.slots, slot, token);
+                self.chains.put(slot, group);
                 slot
             }
             None => {
                 self.slots.push_reserved(token);
+                self.chains.put(end, group);
                 end
             }
         }
     }
 
-    /// Another token takes the slot of one that goes.
-    pub(crate) fn replace(&mut self, slot: usize, token: Token)
+    /// Another token, of this group, takes the slot of one that goes.
+    pub(crate) fn replace(&mut self, slot: usize, token: Token, group: u32)
         requires held { (t : Its) × IsHeld self.old.items slot t }
         requires serial { 1 ≤ token.serial }
         ensures items { self.new.items ≡ slice_set self.old.items slot token }
@@ -248,6 +261,14 @@ impl Tokens {
     {
         self.parking.clear(slot);
         put(&mut self.slots, slot, token);
+        self.chains.put(slot, group);
+    }
+
+    /// The slots of a group's tokens, each once. They are a hint.
+    pub(crate) fn list(&self, group: u32, slots: &mut Vec<usize>)
+        ensures once { (k : ℕ) → weight (is_this k) slots.new.items ≤ 1 }
+    {
+        self.chains.list(group, slots);
     }
 
     /// A token goes, and its slot is free.
@@ -259,6 +280,7 @@ impl Tokens {
     {
         self.parking.clear(slot);
         put(&mut self.slots, slot, NOBODY);
+        self.chains.take(slot);
         self.count -= 1;
         if self.free.len() < self.free.capacity() {
             self.free.push_reserved(slot);
