@@ -1,7 +1,8 @@
 //! One worker, which holds all tokens and waits for nobody.
 
-ghost use Rattle.std.specs.Prelude.{◌≡◌, ◌≤◌, IfOk};
+ghost use Rattle.std.specs.Prelude.{◌≡◌, ◌≤◌, ◌↔◌, Err, IfOk, IfErr};
 ghost use Rattle.orc_outcome.specs.Outcome.{IsPlayed};
+ghost use Rattle.orc_engine.specs.Ranges.{IsInRange};
 
 use crate::desk::{Desk, Stop, Turn};
 use crate::fault::EngineFault;
@@ -27,7 +28,8 @@ pub fn run_alone(
     keeps_text: bool,
     limit: u64,
 ) -> Result<Played, EngineFault>
-    ensures { IfOk result (λ p. IsPlayed program.now answers.now keeps_text limit p.summary p.published.items p.text.items) }
+    ensures played { IfOk result (λ p. IsPlayed program.now answers.now keeps_text limit p.summary p.published.items p.text.items) }
+    ensures range { result ≡ Err EngineFault.Range ↔ (IsInRange 1 limit → ⊥) }
 {
     if limit < 1 || limit > MOST_ENTRIES {
         return Err(EngineFault::Range);
@@ -50,12 +52,13 @@ fn run_named<P: Naming>(
     requires program { program.now ≡ P.listing }
     requires graph { graph.now ≡ P.listing }
     requires answers { answers.now.sites ≡ P.sites }
-    ensures { IfOk result (λ p. IsPlayed program.now answers.now keeps_text limit p.summary p.published.items p.text.items) }
+    ensures played { IfOk result (λ p. IsPlayed program.now answers.now keeps_text limit p.summary p.published.items p.text.items) }
+    ensures range { IfErr result (λ fault. fault ≡ EngineFault.Range → ⊥) }
 {
     let Ok(ledger) = Ledger::<P>::begin(alloc, limit, graph.root() as usize) else {
         return Err(EngineFault::Memory);
     };
-    let mut desk = Desk::new(alloc, ledger);
+    let mut desk = Desk::new(alloc, ledger, false);
     let stop = play(&mut desk, graph, answers);
     let end = desk.end(program, graph, answers, stop)?;
     tell(alloc, desk.into_ledger(), answers, keeps_text, limit, end)
@@ -71,7 +74,8 @@ fn play<P: Naming>(desk: &mut Desk<P>, graph: &Graph, answers: &Answers) -> Stop
     }
     for _turn in 0..u64::MAX {
         let went = match desk.turn(graph, answers) {
-            Ok(Turn::Went) => Ok(()),
+            // The table answers each call here.
+            Ok(Turn::Went) | Ok(Turn::Asks(_)) => Ok(()),
             Ok(Turn::Rests) => desk.rest(graph),
             Err(stop) => Err(stop),
         };

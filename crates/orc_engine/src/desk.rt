@@ -1,6 +1,6 @@
 //! The records of a run and what its workers do with them: tokens move, calls are answered, groups halt, time passes.
 
-ghost use Rattle.std.specs.Prelude.{◌≡◌, IfOk};
+ghost use Rattle.std.specs.Prelude.{◌≡◌, IfOk, IfErr};
 ghost use Rattle.orc_engine.specs.Ends.{HasEnded};
 ghost use Rattle.orc_rules.specs.Nodes.{code, definitions};
 ghost use Rattle.orc_ledger.specs.Doing.{what_of};
@@ -22,7 +22,9 @@ use orc_rules::answers::Answers;
 use orc_rules::limits::MOST_GROUPS;
 use orc_rules::program::Program;
 use orc_rules::value::{Answer, Args, Found};
+use orc_site::{Due, Request, due_after};
 use std::alloc::Global;
+use std::mem;
 
 /// The most moves of a token in its turn.
 const MOVES: u32 = 64;
@@ -31,6 +33,8 @@ const MOVES: u32 = 64;
 #[derive(Clone, Copy)]
 pub(crate) enum Turn {
     Went,
+    /// The call with this number was recorded, and is to be made.
+    Asks(u64),
     /// No token is left whose turn comes.
     Rests,
 }
@@ -43,6 +47,19 @@ pub(crate) enum Stop {
     /// An entry was refused, or memory for what is noted of it.
     Refused(LedgerFault),
     Broken,
+    /// The call with this number was answered otherwise than the table says.
+    Site(u64),
+}
+
+// How a token goes on after a move.
+#[derive(Clone, Copy)]
+enum Step {
+    // In this slot.
+    On(usize),
+    // Not now.
+    Done,
+    // The call with this number was recorded in its place, and is to be made.
+    Asks(u64),
 }
 
 /// A run: its ledger, the tokens whose turn comes, and those that wait.
@@ -51,6 +68,9 @@ pub(crate) struct Desk<P: Naming> {
     ledger: Ledger<P>,
     ready: Ready,
     waiting: Waiting,
+    asks: bool,
+    // The calls that were cancelled, where others are told of them.
+    gone: Vec<u64>,
     // Lent to the ledger's calls.
     scopes: Vec<Scope>,
     cancelled: Vec<u64>,
@@ -66,6 +86,8 @@ impl<P: Naming> Drop for Desk<P> {
             ledger,
             ready,
             waiting,
+            asks: _,
+            gone,
             scopes,
             cancelled,
             cells,
@@ -74,6 +96,7 @@ impl<P: Naming> Drop for Desk<P> {
         drop(ledger);
         drop(ready);
         drop(waiting);
+        drop(gone);
         drop(scopes);
         drop(cancelled);
         drop(cells);
@@ -82,12 +105,15 @@ impl<P: Naming> Drop for Desk<P> {
 }
 
 impl<P: Naming> Desk<P> {
-    pub(crate) fn new(alloc: Global, ledger: Ledger<P>) -> Desk<P> {
+    /// A run that begins. Where it `asks`, somebody else makes the calls and is told which are cancelled; else the table answers them here.
+    pub(crate) fn new(alloc: Global, ledger: Ledger<P>, asks: bool) -> Desk<P> {
         Desk {
             alloc,
             ledger,
             ready: Ready::new(alloc),
             waiting: Waiting::new(alloc),
+            asks,
+            gone: Vec::new(alloc),
             scopes: Vec::new(alloc),
             cancelled: Vec::new(alloc),
             cells: Vec::new(alloc),
@@ -103,6 +129,8 @@ impl<P: Naming> Desk<P> {
             ledger,
             ready,
             waiting,
+            asks: _,
+            gone,
             scopes,
             cancelled,
             cells,
@@ -110,6 +138,7 @@ impl<P: Naming> Desk<P> {
         } = self;
         drop(ready);
         drop(waiting);
+        drop(gone);
         drop(scopes);
         drop(cancelled);
         drop(cells);
@@ -146,8 +175,9 @@ impl<P: Naming> Desk<P> {
                 return Ok(Turn::Went);
             };
             match self.step(graph, answers, slot, token)? {
-                None => return Ok(Turn::Went),
-                Some(next) => slot = next,
+                Step::On(next) => slot = next,
+                Step::Done => return Ok(Turn::Went),
+                Step::Asks(number) => return Ok(Turn::Asks(number)),
             }
         }
         self.join_held(slot)?;
@@ -167,14 +197,14 @@ impl<P: Naming> Desk<P> {
         }
     }
 
-    // One move of a token. Gives the slot in which it goes on, if it does.
+    // One move of a token.
     fn step(
         &mut self,
         graph: &Graph,
         answers: &Answers,
         slot: usize,
         token: Token,
-    ) -> Result<Option<usize>, Stop>
+    ) -> Result<Step, Stop>
         requires graph { graph.now ≡ P.listing }
         requires answers { answers.now.sites ≡ P.sites }
         requires held { IsHeld self.old.ledger.slots slot token }
@@ -187,25 +217,26 @@ impl<P: Naming> Desk<P> {
             .ledger
             .advance(graph, slot, token, &mut self.scopes, &mut self.cancelled)
         {
-            Ok(Moved::On) => Ok(Some(slot)),
+            Ok(Moved::On) => Ok(Step::On(slot)),
             Ok(Moved::Forked(other)) => self.part(slot, other),
             Ok(Moved::Sent(group)) => {
                 self.close(group)?;
-                Ok(Some(slot))
+                Ok(Step::On(slot))
             }
             Ok(Moved::Gone(group)) => {
                 self.close(group)?;
-                Ok(None)
+                Ok(Step::Done)
             }
             Ok(Moved::Bound(cell, group)) => {
+                self.note_cancelled()?;
                 self.wake(cell)?;
                 self.close(group)?;
-                Ok(None)
+                Ok(Step::Done)
             }
             Ok(Moved::Calls) => self.call(graph, answers, slot, token),
             Ok(Moved::Waits) => {
                 self.wait(graph, slot)?;
-                Ok(None)
+                Ok(Step::Done)
             }
             Err(fault) => Err(Stop::Refused(fault)),
         }
@@ -213,13 +244,13 @@ impl<P: Naming> Desk<P> {
 
     // Two tokens stand in these slots: one goes on, and the turn of the other one comes. The left side of `f | g` goes on; but the right side of a
     // pruning, so that its group may be gone before the left side opens more.
-    fn part(&mut self, left: usize, right: usize) -> Result<Option<usize>, Stop> {
+    fn part(&mut self, left: usize, right: usize) -> Result<Step, Stop> {
         if self.is_beside(left, right) {
             self.join_held(right)?;
-            Ok(Some(left))
+            Ok(Step::On(left))
         } else {
             self.join_held(left)?;
-            Ok(Some(right))
+            Ok(Step::On(right))
         }
     }
 
@@ -233,14 +264,14 @@ impl<P: Naming> Desk<P> {
         }
     }
 
-    // A call of a site. Where it is due at once it is answered at once, and the token on its answer goes on.
+    // A call of a site. One that the table answers at once is answered at once, and the token on its answer goes on.
     fn call(
         &mut self,
         graph: &Graph,
         answers: &Answers,
         slot: usize,
         token: Token,
-    ) -> Result<Option<usize>, Stop>
+    ) -> Result<Step, Stop>
         requires graph { graph.now ≡ P.listing }
         requires answers { answers.now.sites ≡ P.sites }
         requires held { IsHeld self.old.ledger.slots slot token }
@@ -250,15 +281,19 @@ impl<P: Naming> Desk<P> {
             .ledger
             .call(graph, answers, slot, token, &mut self.args)
         {
+            Ok(call) if self.asks => Ok(Step::Asks(call.number)),
             Ok(call) => self.answer_at_once(call),
             Err(fault) => Err(Stop::Refused(fault)),
         }
     }
 
-    fn answer_at_once(&mut self, call: Call) -> Result<Option<usize>, Stop> {
-        match call.found {
-            Found::After(answer, 0) => self.answer(call, answer),
-            _ => Ok(None),
+    fn answer_at_once(&mut self, call: Call) -> Result<Step, Stop> {
+        let Found::After(answer, 0) = call.found else {
+            return Ok(Step::Done);
+        };
+        match self.answer(call, answer)? {
+            Some(slot) => Ok(Step::On(slot)),
+            None => Ok(Step::Done),
         }
     }
 
@@ -273,7 +308,8 @@ impl<P: Naming> Desk<P> {
             }
             Err(ReturnFault::Limit) => Err(Stop::Refused(LedgerFault::Limit)),
             Err(ReturnFault::Memory) => Err(Stop::Refused(LedgerFault::Memory)),
-            Err(_) => Err(Stop::Broken),
+            Err(ReturnFault::Wrong) => Err(Stop::Site(call.number)),
+            Err(ReturnFault::Gone) => Err(Stop::Broken),
         }
     }
 
@@ -341,7 +377,8 @@ impl<P: Naming> Desk<P> {
         requires program { program.now ≡ P.listing }
         requires graph { graph.now ≡ P.listing }
         requires answers { answers.now.sites ≡ P.sites }
-        ensures { IfOk result (λ end. HasEnded P.listing answers.now self.new.ledger end) }
+        ensures ended { IfOk result (λ end. HasEnded P.listing answers.now self.new.ledger end) }
+        ensures range { IfErr result (λ fault. fault ≡ EngineFault.Range → ⊥) }
     {
         match stop {
             Stop::Rests => self.rested(graph, answers),
@@ -349,6 +386,7 @@ impl<P: Naming> Desk<P> {
             Stop::Refused(LedgerFault::Full) => self.crowded(answers),
             Stop::Refused(LedgerFault::Limit) => self.cut(program, graph, answers),
             Stop::Broken => Err(EngineFault::Broken),
+            Stop::Site(number) => Err(EngineFault::Site(number)),
         }
     }
 
@@ -356,7 +394,8 @@ impl<P: Naming> Desk<P> {
     fn rested(&mut self, graph: &Graph, answers: &Answers) -> Result<End, EngineFault>
         requires graph { graph.now ≡ P.listing }
         requires answers { answers.now.sites ≡ P.sites }
-        ensures { IfOk result (λ end. HasEnded P.listing answers.now self.new.ledger end) }
+        ensures ended { IfOk result (λ end. HasEnded P.listing answers.now self.new.ledger end) }
+        ensures range { IfErr result (λ fault. fault ≡ EngineFault.Range → ⊥) }
     {
         match self.ledger.next(graph) {
             Next::Quiet => Ok(End::Quiet),
@@ -368,7 +407,8 @@ impl<P: Naming> Desk<P> {
     // How a run ends for which one of the engine's limits is reached.
     fn crowded(&mut self, answers: &Answers) -> Result<End, EngineFault>
         requires answers { answers.now.sites ≡ P.sites }
-        ensures { IfOk result (λ end. HasEnded P.listing answers.now self.new.ledger end) }
+        ensures ended { IfOk result (λ end. HasEnded P.listing answers.now self.new.ledger end) }
+        ensures range { IfErr result (λ fault. fault ≡ EngineFault.Range → ⊥) }
     {
         if is_crowded(self.ledger.journal()) {
             Ok(End::Full)
@@ -388,7 +428,8 @@ impl<P: Naming> Desk<P> {
         requires program { program.now ≡ P.listing }
         requires graph { graph.now ≡ P.listing }
         requires answers { answers.now.sites ≡ P.sites }
-        ensures { IfOk result (λ end. HasEnded P.listing answers.now self.new.ledger end) }
+        ensures ended { IfOk result (λ end. HasEnded P.listing answers.now self.new.ledger end) }
+        ensures range { IfErr result (λ fault. fault ≡ EngineFault.Range → ⊥) }
     {
         let next = self.ledger.next(graph);
         if self.ledger.entries() < self.ledger.limit() {
@@ -410,27 +451,17 @@ impl<P: Naming> Desk<P> {
         }
     }
 
-    /// No token can move: an answer that is due, else a tick. It stops where nothing can come next.
+    /// No token can move: an answer that is due, by the table, else a tick. It stops where nothing can come next.
     pub(crate) fn rest(&mut self, graph: &Graph) -> Result<(), Stop>
         requires graph { graph.now ≡ P.listing }
     {
-        match self.ledger.due_beyond(0) {
-            Some(number) => self.answer_due(number),
-            None => self.pass_time(graph),
+        if let Some(number) = self.due_beyond(0) {
+            return self.answer_due(number);
         }
-    }
-
-    // A tick to the time at which the next call is due.
-    fn pass_time(&mut self, graph: &Graph) -> Result<(), Stop>
-        requires graph { graph.now ≡ P.listing }
-    {
-        let next = self.ledger.next(graph);
-        self.ledger.is_whole();
-        match next {
-            Next::Ticks(time) => self.ledger.tick(time).map_err(Stop::Refused),
-            Next::Quiet => Err(Stop::Rests),
-            Next::Work if self.ledger.has_halted() => Err(Stop::Rests),
-            Next::Work => Err(Stop::Broken),
+        if self.pass_time(graph)? {
+            Ok(())
+        } else {
+            Err(Stop::Broken)
         }
     }
 
@@ -441,9 +472,93 @@ impl<P: Naming> Desk<P> {
         let Found::After(answer, _) = call.found else {
             return Err(Stop::Broken);
         };
+        self.answer_pending(call, answer)
+    }
+
+    // A call is answered, and the turn of the token on its answer comes.
+    fn answer_pending(&mut self, call: Call, answer: Answer) -> Result<(), Stop> {
         if let Some(slot) = self.answer(call, answer)? {
             self.join_held(slot)?;
         }
         Ok(())
+    }
+
+    /// No token can move and no call is due: a tick to the time at which the next one is. False where another entry comes next. It stops where
+    /// nothing can come next.
+    pub(crate) fn pass_time(&mut self, graph: &Graph) -> Result<bool, Stop>
+        requires graph { graph.now ≡ P.listing }
+    {
+        let next = self.ledger.next(graph);
+        self.ledger.is_whole();
+        match next {
+            Next::Ticks(time) => match self.ledger.tick(time) {
+                Ok(()) => Ok(true),
+                Err(fault) => Err(Stop::Refused(fault)),
+            },
+            Next::Quiet => Err(Stop::Rests),
+            Next::Work if self.ledger.has_halted() => Err(Stop::Rests),
+            Next::Work => Ok(false),
+        }
+    }
+
+    /// Whether somebody else makes the calls.
+    pub(crate) fn asks(&self) -> bool {
+        self.asks
+    }
+
+    /// How many tokens have a turn that comes.
+    pub(crate) fn ready(&self) -> usize {
+        self.ready.len()
+    }
+
+    /// The time of the run.
+    pub(crate) fn time(&self) -> u64 {
+        self.ledger.time()
+    }
+
+    /// The least number over this one whose call is due.
+    pub(crate) fn due_beyond(&mut self, number: u64) -> Option<u64> {
+        self.ledger.due_beyond(number)
+    }
+
+    /// What the call with this number asks, if it pends.
+    pub(crate) fn request(&self, number: u64) -> Option<Request> {
+        let asked = self.ledger.request(number)?;
+        if asked.nth < 1 {
+            return None;
+        }
+        Some(Request {
+            number,
+            site: asked.site,
+            args: asked.args.copied(),
+            nth: asked.nth,
+            made_at: asked.made_at,
+        })
+    }
+
+    /// When the call with this number is due, by the table, if it pends.
+    pub(crate) fn due_of(&self, number: u64) -> Option<Due> {
+        let call = self.ledger.pending(number)?;
+        Some(due_after(call.made_at, call.found))
+    }
+
+    /// The call with this number was answered so, if it still pends.
+    pub(crate) fn answered(&mut self, number: u64, answer: Answer) -> Result<(), Stop> {
+        match self.ledger.pending(number) {
+            Some(call) => self.answer_pending(call, answer),
+            None => Ok(()),
+        }
+    }
+
+    fn note_cancelled(&mut self) -> Result<(), Stop> {
+        if self.asks && self.gone.extend_from_slice(&self.cancelled).is_err() {
+            return Err(Stop::Refused(LedgerFault::Memory));
+        }
+        Ok(())
+    }
+
+    /// Exchanges the numbers of the calls that were cancelled since the last time for those in `numbers`, of which there are none.
+    pub(crate) fn take_cancelled(&mut self, numbers: &mut Vec<u64>) {
+        mem::swap(&mut self.gone, numbers);
     }
 }

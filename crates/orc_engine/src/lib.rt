@@ -6,11 +6,17 @@
 mod alone;
 mod desk;
 mod fault;
+mod floor;
+mod hub;
+mod poller;
+mod pool;
 mod quiet;
 mod ready;
 mod sizes;
 mod telling;
 mod waiting;
+mod worker;
 
 pub use alone::run_alone;
 pub use fault::EngineFault;
+pub use pool::run_pool;

@@ -29,6 +29,10 @@ impl Ready {
         }
     }
 
+    pub(crate) fn len(&self) -> usize {
+        self.handles.len()
+    }
+
     /// Makes room for one more. The error is refused memory.
     pub(crate) fn reserve(&mut self) -> Result<(), AllocError> {
         self.handles.reserve(1)

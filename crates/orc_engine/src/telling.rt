@@ -1,6 +1,6 @@
 //! What is told of a run at its end.
 
-ghost use Rattle.std.specs.Prelude.{◌≡◌, IfOk};
+ghost use Rattle.std.specs.Prelude.{◌≡◌, IfOk, IfErr};
 ghost use Rattle.orc_journal.specs.declared.journal.Version.TheVariants.{Two};
 ghost use Rattle.orc_journal.specs.Texts.{AreOf};
 ghost use Rattle.orc_outcome.specs.Outcome.{text_of, IsPlayed};
@@ -17,6 +17,7 @@ use std::alloc::Global;
 fn text_of(alloc: Global, journal: &Journal, answers: &Answers) -> Result<Vec<u8>, EngineFault>
     ensures text { IfOk result (λ text. text.items ≡ text_of answers.now.names journal.now.entries) }
     ensures fits { IfOk result (λ _. AreOf answers.now.names Two journal.now.entries) }
+    ensures range { IfErr result (λ fault. fault ≡ EngineFault.Range → ⊥) }
 {
     if journal.version() != Version::Two {
         return Err(EngineFault::Broken);
@@ -40,7 +41,8 @@ pub(crate) fn tell<P: Naming>(
 ) -> Result<Played, EngineFault>
     requires sites { answers.now.sites ≡ P.sites }
     requires ended { HasEnded P.listing answers.now ledger end }
-    ensures { IfOk result (λ p. IsPlayed P.listing answers.now keeps_text limit p.summary p.published.items p.text.items) }
+    ensures played { IfOk result (λ p. IsPlayed P.listing answers.now keeps_text limit p.summary p.published.items p.text.items) }
+    ensures range { IfErr result (λ fault. fault ≡ EngineFault.Range → ⊥) }
 {
     if ledger.limit() != limit {
         return Err(EngineFault::Broken);

@@ -196,6 +196,7 @@ module _ (n : ℕ) (not_one : n ≢ 1) (not_five : n ≢ 5) (not_six : n ≢ 6) 
   not_engine engine.Range h = not_seven (sym h)
   not_engine engine.Memory h = not_five (sym h)
   not_engine engine.Broken h = not_seven (sym h)
+  not_engine (engine.Site number) h = not_seven (sym h)
 
   not_read : (f : ReadFault) → read_status_of f ≢ n
   not_read read.Memory h = not_five (sym h)

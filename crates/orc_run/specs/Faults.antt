@@ -89,6 +89,7 @@ abbrev pub engine_line : EngineFault → List ℕ
 engine_line engine.Range = codes "E1"
 engine_line engine.Memory = codes "E2"
 engine_line engine.Broken = codes "E4"
+engine_line (engine.Site number) = codes "E5 at call " ++ decimal number
 
 abbrev pub state_word : State → List ℕ
 state_word state.Halted = codes "Halted"

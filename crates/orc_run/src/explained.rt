@@ -32,6 +32,8 @@ fn fault_of(fault: RunFault) -> Option<Fault> {
         RunFault::Engine(EngineFault::Range) => Some(Fault::Range),
         RunFault::Engine(EngineFault::Memory) => Some(Fault::Begin),
         RunFault::Engine(EngineFault::Broken) => Some(Fault::Broken),
+        // No command line has sites of its own.
+        RunFault::Engine(EngineFault::Site(_)) => None,
         RunFault::Write(_) => Some(Fault::Write),
     }
 }

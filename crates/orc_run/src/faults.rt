@@ -135,6 +135,7 @@ impl fmt::Display for EngineLine {
             EngineFault::Range => write!(f, "E1"),
             EngineFault::Memory => write!(f, "E2"),
             EngineFault::Broken => write!(f, "E4"),
+            EngineFault::Site(number) => write!(f, "E5 at call {number}"),
         }
     }
 }

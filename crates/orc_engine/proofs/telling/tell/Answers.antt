@@ -7,8 +7,8 @@ use Rattle.orc_ledger.specs.Whole.{IsWhole}
 use Rattle.orc_engine.proofs.telling.tell.Goals as goal
 use Rattle.orc_engine.proofs.telling.tell.Goals.{then-keeps_text+in_ok-text, else-keeps_text}
 
-pub returns : goal.returns
-returns g c =
+pub returns-clause-played : goal.returns-clause-played
+returns-clause-played g c =
     let l = g.P.Program.listing in
     let t = c.args.answers.now in
     let s = c.args.ledger in

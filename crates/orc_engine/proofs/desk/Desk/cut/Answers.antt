@@ -10,8 +10,8 @@ use Rattle.orc_ledger.specs.Spoken.{IsRight}
 use Rattle.orc_ledger.specs.declared.next.Next.TheVariants.{Ticks}
 use Rattle.orc_engine.proofs.desk.Desk.cut.Goals as goal
 
-pub returns-in-Ticks : goal.returns-in-Ticks
-returns-in-Ticks g c p at =
+pub returns-in-Ticks-clause-ended : goal.returns-in-Ticks-clause-ended
+returns-in-Ticks-clause-ended g c p at =
     let s = c.next-next.new.self in
     let said = subst (λ z. IsRight g.P.Program.listing g.P.Program.sites z (Ticks c.in-Ticks.field-0)) (sym c.next-next.ensures.same) c.in-Ticks.ensures.right in
     let right = subst (λ z. IsRight g.P.Program.listing z s (Ticks c.in-Ticks.field-0)) (sym c.requires.answers) said in (
@@ -19,15 +19,15 @@ returns-in-Ticks g c p at =
       λ quiet. quiet.no_tick c.in-Ticks.field-0 (right p at),
     )
 
-pub returns-then-can_use_rule : goal.returns-then-can_use_rule
-returns-then-can_use_rule g c p at =
+pub returns-then-can_use_rule-clause-ended : goal.returns-then-can_use_rule-clause-ended
+returns-then-can_use_rule-clause-ended g c p at =
     let s = c.next-next.new.self in
     let l = g.P.Program.listing in
     let moves = subst (λ z. (q : Place) → IsAt l z s q → IsQuiet (context l z) (moment q) → ⊥) (sym c.requires.answers) (c.can_use_rule.ensures c.if-can_use_rule.true) in
     (omega (arith, c.is_whole.ensures.entries, c.is_whole.ensures.within, c.if-entries-limit.false, c.entries.ensures, c.limit.ensures), λ quiet. moves p at quiet)
 
-pub returns-in-Some-false : goal.returns-in-Some-false
-returns-in-Some-false g c p at =
+pub returns-in-Some-false-clause-ended : goal.returns-in-Some-false-clause-ended
+returns-in-Some-false-clause-ended g c p at =
     let l = g.P.Program.listing in
     let t = c.args.answers.now in
     let field = c.in-Some-false.field-0 in

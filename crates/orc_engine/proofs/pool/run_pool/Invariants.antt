@@ -1,0 +1,5 @@
+-- The program and the sites that are run name the ledger's.
+use Rattle.orc_engine.proofs.pool.run_pool.Given as goal
+
+abbrev pub ghosts-run_named : goal.ghosts-run_named
+ghosts-run_named g a = record { listing = a.program.now; sites = a.answers.now.sites }

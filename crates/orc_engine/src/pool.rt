@@ -1,0 +1,178 @@
+//! Several workers: the calling thread, and others beside it.
+
+ghost use Rattle.std.specs.Prelude.{◌≡◌, ◌≤◌, ◌↔◌, Err, IfOk, IfErr};
+ghost use Rattle.orc_outcome.specs.Outcome.{IsPlayed};
+ghost use Rattle.orc_engine.specs.Ranges.{IsInRange};
+
+use crate::desk::Desk;
+use crate::fault::EngineFault;
+use crate::floor::Floor;
+use crate::hub::Hub;
+use crate::telling::tell;
+use crate::worker::Worker;
+use orc_graph::Graph;
+use orc_ledger::{Ledger, Program as Naming};
+use orc_outcome::Played;
+use orc_rules::answers::Answers;
+use orc_rules::limits::{MOST_ENTRIES, MOST_WORKERS};
+use orc_rules::program::Program;
+use orc_site::{Gate, Sites};
+use std::alloc::Global;
+use std::marker::Brand;
+use std::sync::{Condvar, Mutex, Wait};
+use std::thread;
+use std::thread::{Scope, Threads};
+
+/// Runs a program on the calling thread and `workers - 1` more; one that can't be started is left out. What is run and what it answers is as of
+/// [`run_alone`](crate::run_alone), whatever the workers do when.
+///
+/// Each call goes through `gate`, is made by `sites` and polled outside every lock, and `sites` is told which ones are cancelled. Where the sites go
+/// by the table and the gate is open, the table answers, and nobody is asked. Where neither may wait for another thread, the calling thread does
+/// everything, and no other is started: there would be nothing for it to do.
+///
+/// The fault is Range where there are no workers or over `MOST_WORKERS`, or the limit is 0 or over `MOST_ENTRIES`, and then alone; Site where the
+/// sites answered a call otherwise than the table says, or not when it was due; Memory or Broken as of `run_alone`.
+pub fn run_pool<R, S, G>(
+    rt: &R,
+    alloc: Global,
+    program: &Program,
+    answers: &Answers,
+    sites: &S,
+    gate: &G,
+    workers: usize,
+    keeps_text: bool,
+    limit: u64,
+) -> Result<Played, EngineFault>
+where
+    R: Threads + Wait + Sync,
+    S: Sites + Sync,
+    S::Call: Send,
+    G: Gate + Sync,
+    ensures played { IfOk result (λ p. IsPlayed program.now answers.now keeps_text limit p.summary p.published.items p.text.items) }
+    ensures range { result ≡ Err EngineFault.Range ↔ (IsInRange workers limit → ⊥) }
+{
+    if workers < 1 || workers > MOST_WORKERS || limit < 1 || limit > MOST_ENTRIES {
+        return Err(EngineFault::Range);
+    }
+    let Ok(graph) = Graph::build(alloc, program) else {
+        return Err(EngineFault::Memory);
+    };
+    run_named::<Brand, R, S, G>(
+        rt,
+        alloc,
+        program,
+        &graph,
+        answers,
+        sites,
+        gate,
+        workers,
+        keeps_text,
+        limit as usize,
+    )
+}
+
+fn run_named<'x, P, R, S, G>(
+    rt: &'x R,
+    alloc: Global,
+    program: &'x Program,
+    graph: &'x Graph,
+    answers: &'x Answers,
+    sites: &'x S,
+    gate: &'x G,
+    workers: usize,
+    keeps_text: bool,
+    limit: usize,
+) -> Result<Played, EngineFault>
+where
+    P: Naming + Send + Sync,
+    R: Threads + Wait + Sync,
+    S: Sites + Sync,
+    S::Call: Send,
+    G: Gate + Sync,
+    requires limit { (1 ≤ limit) × (limit ≤ 10000000) }
+    requires program { program.now ≡ P.listing }
+    requires graph { graph.now ≡ P.listing }
+    requires answers { answers.now.sites ≡ P.sites }
+    ensures played { IfOk result (λ p. IsPlayed program.now answers.now keeps_text limit p.summary p.published.items p.text.items) }
+    ensures range { IfErr result (λ fault. fault ≡ EngineFault.Range → ⊥) }
+{
+    let Ok(ledger) = Ledger::<P>::begin(alloc, limit, graph.root() as usize) else {
+        return Err(EngineFault::Memory);
+    };
+    let asks = !(sites.goes_by_table() && gate.is_open());
+    let mut desk = Desk::new(alloc, ledger, asks);
+    if desk.begin().is_err() {
+        return Err(EngineFault::Memory);
+    }
+    let floor = Mutex::new(Floor::new(alloc, desk));
+    play(rt, alloc, graph, answers, &floor, sites, gate, workers);
+    let (mut desk, stop) = floor.into_inner().into_desk();
+    let end = desk.end(program, graph, answers, stop)?;
+    tell(alloc, desk.into_ledger(), answers, keeps_text, limit, end)
+}
+
+// All workers play. The others are of use only where one may wait for another.
+fn play<'x, P, R, S, G>(
+    rt: &'x R,
+    alloc: Global,
+    graph: &'x Graph,
+    answers: &'x Answers,
+    floor: &'x Mutex<Floor<P, S::Call>>,
+    sites: &'x S,
+    gate: &'x G,
+    workers: usize,
+)
+where
+    P: Naming + Send + Sync,
+    R: Threads + Wait + Sync,
+    S: Sites + Sync,
+    S::Call: Send,
+    G: Gate + Sync,
+    requires graph { graph.now ≡ P.listing }
+    requires answers { answers.now.sites ≡ P.sites }
+{
+    let bell = Condvar::new();
+    let others = if sites.may_wait() || gate.may_wait() {
+        workers.saturating_sub(1)
+    } else {
+        0
+    };
+    let hub = Hub {
+        alloc,
+        graph,
+        answers,
+        floor,
+        bell: &bell,
+        sites,
+        gate,
+    };
+    run_all(rt, Worker::first(rt, &hub), others);
+}
+
+// The first worker's thread is the calling one. Another that can't be started is left out.
+fn run_all<'h, P, R, S, G>(rt: &R, first: Worker<'h, P, R, S, G>, others: usize)
+where
+    P: Naming + Send + Sync,
+    R: Threads + Wait + Sync,
+    S: Sites + Sync,
+    S::Call: Send,
+    G: Gate + Sync,
+{
+    thread::scope(thread::scope_env(), rt, move |scope| {
+        for _ in 0..others {
+            start(scope, first.another());
+        }
+        first.work();
+    });
+}
+
+fn start<'s, 'h: 's, E, P, R, S, G>(scope: &Scope<'s, E>, worker: Worker<'h, P, R, S, G>)
+where
+    P: Naming + Send + Sync + 's,
+    R: Wait + Sync,
+    S: Sites + Sync,
+    S::Call: Send,
+    G: Gate + Sync,
+{
+    let _left_out = scope.spawn(move || worker.work());
+}
