@@ -16,6 +16,8 @@ mod journals;
 #[cfg(test)]
 mod parts;
 #[cfg(test)]
+mod pools;
+#[cfg(test)]
 mod programs;
 #[cfg(test)]
 mod pushes;

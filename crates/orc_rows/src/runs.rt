@@ -13,9 +13,9 @@ use orc_syntax::parse;
 use std::alloc::Global;
 use std::test::Fail;
 
-struct Loaded {
-    program: Program,
-    answers: Answers,
+pub(crate) struct Loaded {
+    pub(crate) program: Program,
+    pub(crate) answers: Answers,
 }
 
 impl Drop for Loaded {
@@ -27,7 +27,7 @@ impl Drop for Loaded {
     }
 }
 
-fn load(alloc: Global, source: &[u8], script: &[u8]) -> Option<Loaded> {
+pub(crate) fn load(alloc: Global, source: &[u8], script: &[u8]) -> Option<Loaded> {
     let ast = parse(alloc, source).ok()?;
     let answers = read_script(alloc, script).ok()?;
     let names = answers.names(alloc).ok()?;
