@@ -6,7 +6,6 @@ ghost use Rattle.orc_engine.specs.Ranges.{IsInRange};
 
 use crate::desk::{Desk, Stop, Turn};
 use crate::fault::EngineFault;
-use crate::telling::tell;
 use orc_graph::Graph;
 use orc_ledger::{Ledger, Program as Naming};
 use orc_outcome::Played;
@@ -60,8 +59,7 @@ fn run_named<P: Naming>(
     };
     let mut desk = Desk::new(alloc, ledger, false);
     let stop = play(&mut desk, graph, answers);
-    let end = desk.end(program, graph, answers, stop)?;
-    tell(alloc, desk.into_ledger(), answers, keeps_text, limit, end)
+    desk.finish(program, graph, answers, stop, keeps_text, limit)
 }
 
 // Turns until the run stops.

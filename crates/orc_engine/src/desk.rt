@@ -1,6 +1,7 @@
 //! The records of a run and what its workers do with them: tokens move, calls are answered, groups halt, time passes.
 
 ghost use Rattle.std.specs.Prelude.{◌≡◌, IfOk, IfErr};
+ghost use Rattle.orc_outcome.specs.Outcome.{IsPlayed};
 ghost use Rattle.orc_engine.specs.Ends.{HasEnded};
 ghost use Rattle.orc_rules.specs.Nodes.{code, definitions};
 ghost use Rattle.orc_ledger.specs.Doing.{what_of};
@@ -10,6 +11,7 @@ use crate::fault::EngineFault;
 use crate::quiet::is_quiet_at;
 use crate::ready::{Handle, Ready};
 use crate::sizes::is_crowded;
+use crate::telling::tell;
 use crate::waiting::Waiting;
 use orc_graph::Graph;
 use orc_ledger::{
@@ -17,7 +19,7 @@ use orc_ledger::{
     Token, What,
 };
 use orc_names::Scope;
-use orc_outcome::End;
+use orc_outcome::{End, Played};
 use orc_rules::answers::Answers;
 use orc_rules::limits::MOST_GROUPS;
 use orc_rules::program::Program;
@@ -121,7 +123,7 @@ impl<P: Naming> Desk<P> {
         }
     }
 
-    pub(crate) fn into_ledger(self) -> Ledger<P>
+    fn into_ledger(self) -> Ledger<P>
         ensures { result ≡ self.ledger }
     {
         let Desk {
@@ -366,8 +368,29 @@ impl<P: Naming> Desk<P> {
         Ok(())
     }
 
-    /// How a run ends that stops so. The fault is Broken where it can't end so.
-    pub(crate) fn end(
+    /// What is told of the run, which stops so.
+    pub(crate) fn finish(
+        mut self,
+        program: &Program,
+        graph: &Graph,
+        answers: &Answers,
+        stop: Stop,
+        keeps_text: bool,
+        limit: usize,
+    ) -> Result<Played, EngineFault>
+        requires program { program.now ≡ P.listing }
+        requires graph { graph.now ≡ P.listing }
+        requires answers { answers.now.sites ≡ P.sites }
+        ensures played { IfOk result (λ p. IsPlayed P.listing answers.now keeps_text limit p.summary p.published.items p.text.items) }
+        ensures range { IfErr result (λ fault. fault ≡ EngineFault.Range → ⊥) }
+    {
+        let end = self.end(program, graph, answers, stop)?;
+        let alloc = self.alloc;
+        tell(alloc, self.into_ledger(), answers, keeps_text, limit, end)
+    }
+
+    // How a run ends that stops so. The fault is Broken where it can't end so.
+    fn end(
         &mut self,
         program: &Program,
         graph: &Graph,

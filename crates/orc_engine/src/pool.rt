@@ -8,7 +8,6 @@ use crate::desk::Desk;
 use crate::fault::EngineFault;
 use crate::floor::Floor;
 use crate::hub::Hub;
-use crate::telling::tell;
 use crate::worker::Worker;
 use orc_graph::Graph;
 use orc_ledger::{Ledger, Program as Naming};
@@ -106,9 +105,8 @@ where
     }
     let floor = Mutex::new(Floor::new(alloc, desk));
     play(rt, alloc, graph, answers, &floor, sites, gate, workers);
-    let (mut desk, stop) = floor.into_inner().into_desk();
-    let end = desk.end(program, graph, answers, stop)?;
-    tell(alloc, desk.into_ledger(), answers, keeps_text, limit, end)
+    let (desk, stop) = floor.into_inner().into_desk();
+    desk.finish(program, graph, answers, stop, keeps_text, limit)
 }
 
 // All workers play. The others are of use only where one may wait for another.
