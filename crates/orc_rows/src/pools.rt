@@ -274,18 +274,34 @@ fn publishes_the_same_on_any_number_of_workers(rt: HostRuntime) -> Result<(), Fa
         (
             b"(1 | 2) >x> (10 | 20) >y> Add(x, y)",
             b"",
-            &[Value::Number(11), Value::Number(21), Value::Number(12), Value::Number(22)],
+            &[
+                Value::Number(11),
+                Value::Number(21),
+                Value::Number(12),
+                Value::Number(22),
+            ],
         ),
         // Several calls are due at one time.
         (
             b"(Rwait(2) | Rwait(2) | Rwait(2) | Rwait(1)) >> Add(1, 1)",
             b"",
-            &[Value::Number(2), Value::Number(2), Value::Number(2), Value::Number(2)],
+            &[
+                Value::Number(2),
+                Value::Number(2),
+                Value::Number(2),
+                Value::Number(2),
+            ],
         ),
         (
             b"def f(n) = Ift(b) >> Add(n, -1) >m> (f(m) | n) <b< Lt(0, n)\nf(5)",
             b"",
-            &[Value::Number(1), Value::Number(2), Value::Number(3), Value::Number(4), Value::Number(5)],
+            &[
+                Value::Number(1),
+                Value::Number(2),
+                Value::Number(3),
+                Value::Number(4),
+                Value::Number(5),
+            ],
         ),
     ];
     for row in rows {
@@ -307,10 +323,28 @@ fn ends_as_the_rules_say_on_any_number_of_workers(rt: HostRuntime) -> Result<(),
         (b"def f() = f() >> 1\nf()", b"", &[], 100_000, End::Full),
         (b"def f() = f() ; 1\nf()", b"", &[], 100_000, End::Full),
         (b"def f() = f()\nf()", b"", &[], 500, End::Limit),
-        (b"Never() | 1", b"Never() = never\n", &[Value::Number(1)], 500, End::Quiet),
+        (
+            b"Never() | 1",
+            b"Never() = never\n",
+            &[Value::Number(1)],
+            500,
+            End::Quiet,
+        ),
         // After the last of five entries only moves of marks are left, or none.
-        (b"Never() | (Never() | Never())", b"Never() = never\n", &[], 5, End::Quiet),
-        (b"def clock() = Rwait(1) >> clock()\nclock()", b"", &[], 100, End::Limit),
+        (
+            b"Never() | (Never() | Never())",
+            b"Never() = never\n",
+            &[],
+            5,
+            End::Quiet,
+        ),
+        (
+            b"def clock() = Rwait(1) >> clock()\nclock()",
+            b"",
+            &[],
+            100,
+            End::Limit,
+        ),
     ];
     for (source, script, values, limit, end) in rows {
         for workers in [1, 2, 4, 16] {
@@ -344,7 +378,12 @@ fn each_worker_makes_calls_while_others_are_held(rt: HostRuntime) -> Result<(), 
     // The first call is held until another one was made.
     let gate = Turnstile::new(1, 2, 2);
     assert!(rt; passes(&rt, alloc, b"Add(1, 2) | Add(3, 4)", two, &gate, 2));
-    let four: &[Value] = &[Value::Number(3), Value::Number(7), Value::Number(11), Value::Number(15)];
+    let four: &[Value] = &[
+        Value::Number(3),
+        Value::Number(7),
+        Value::Number(11),
+        Value::Number(15),
+    ];
     let sources: [&[u8]; 3] = [
         b"Add(1, 2) | Add(3, 4) | Add(5, 6) | Add(7, 8)",
         b"Add(1, 2) | (Add(3, 4) | (Add(5, 6) | Add(7, 8)))",
@@ -354,12 +393,20 @@ fn each_worker_makes_calls_while_others_are_held(rt: HostRuntime) -> Result<(), 
         let gate = Turnstile::new(1, 4, 4);
         assert!(rt; passes(&rt, alloc, source, four, &gate, 4), "at {source:?}");
         let gate = Turnstile::new(1, 4, 4);
-        assert!(rt; passes(&rt, alloc, source, four, &gate, 16), "at {source:?}");
+        assert!(rt;
+            passes(&rt, alloc, source, four, &gate, 16),
+            "at {source:?}"
+        );
     }
     // All are due at one time, and each is held until all were polled again and their answers were taken.
     let gate = Turnstile::new(5, 8, 8);
     let signals: &[u8] = b"(Rwait(3) | Rwait(3) | Rwait(3) | Rwait(3)) >> Add(1, 1)";
-    let twos: &[Value] = &[Value::Number(2), Value::Number(2), Value::Number(2), Value::Number(2)];
+    let twos: &[Value] = &[
+        Value::Number(2),
+        Value::Number(2),
+        Value::Number(2),
+        Value::Number(2),
+    ];
     assert!(rt; passes(&rt, alloc, signals, twos, &gate, 4));
     // The right side of an otherwise starts while another call is held.
     let gate = Turnstile::new(2, 3, 3);
@@ -374,7 +421,10 @@ fn each_worker_makes_calls_while_others_are_held(rt: HostRuntime) -> Result<(), 
     ];
     for source in sources {
         let gate = Turnstile::new(1, 1, 3);
-        assert!(rt; passes(&rt, alloc, source, added, &gate, 2), "at {source:?}");
+        assert!(rt;
+            passes(&rt, alloc, source, added, &gate, 2),
+            "at {source:?}"
+        );
     }
     Ok(())
 }
@@ -412,7 +462,10 @@ fn fault_by<R: Threads + Wait + Sync>(
         wrong,
     };
     let (program, answers) = (&loaded.program, &loaded.answers);
-    run_pool(rt, alloc, program, answers, &sites, &Open, workers, false, 100).err()
+    run_pool(
+        rt, alloc, program, answers, &sites, &Open, workers, false, 100,
+    )
+    .err()
 }
 
 #[test]
@@ -440,7 +493,9 @@ fn told<R: Threads + Wait + Sync>(
     let loaded = load(alloc, source, b"")?;
     let sites = Counting::new(&loaded.answers, holds);
     let (program, answers) = (&loaded.program, &loaded.answers);
-    let played = run_pool(rt, alloc, program, answers, &sites, &sites, workers, false, 1000);
+    let played = run_pool(
+        rt, alloc, program, answers, &sites, &sites, workers, false, 1000,
+    );
     match played {
         Ok(played) => Some((sites.counts(), played.summary.published)),
         Err(_) => None,
@@ -451,12 +506,24 @@ fn told<R: Threads + Wait + Sync>(
 fn sites_are_told_of_calls_and_cancels(rt: HostRuntime) -> Result<(), Fail> {
     let alloc = rt.alloc();
     for workers in [1, 2, 4, 16] {
-        let three = told(&rt, alloc, b"x <x< (Rwait(5) | Rwait(9) | Rwait(7))", false, workers);
+        let three = told(
+            &rt,
+            alloc,
+            b"x <x< (Rwait(5) | Rwait(9) | Rwait(7))",
+            false,
+            workers,
+        );
         assert_eq!(rt; three, Some(((3, 2, 0), 1)), "on {workers}");
     }
     // The first call is told cancelled while it is held before it is made.
     for workers in [2, 4, 16] {
-        let early = told(&rt, alloc, b"x <x< (Rwait(5) | Rwait(5) >> 1)", true, workers);
+        let early = told(
+            &rt,
+            alloc,
+            b"x <x< (Rwait(5) | Rwait(5) >> 1)",
+            true,
+            workers,
+        );
         assert_eq!(rt; early.map(|e| e.0.2), Some(0), "on {workers}");
         assert_eq!(rt; early.map(|e| e.1), Some(1), "on {workers}");
     }
