@@ -8,6 +8,7 @@ complete -c orc -n '__fish_seen_subcommand_from help' -f -a 'run check draw prin
 complete -c orc -s h -l help -d 'Write a help text'
 complete -c orc -n __fish_use_subcommand -s V -l version -d 'Write the version'
 complete -c orc -n '__fish_seen_subcommand_from run check draw' -l script -r -F -d 'The answers of the sites'
+complete -c orc -n '__fish_seen_subcommand_from run' -l workers -x -d 'The number of workers'
 complete -c orc -n '__fish_seen_subcommand_from run' -l limit -x -d 'The greatest number of entries'
 complete -c orc -n '__fish_seen_subcommand_from run' -l journal -d 'Write the journal'
 complete -c orc -n '__fish_seen_subcommand_from run check print' -l explain -d 'Explain what went wrong'

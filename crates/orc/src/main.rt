@@ -53,5 +53,5 @@ fn main(rt: HostRuntime) -> ExitCode {
     let mut files = SystemFiles { rt: &rt };
     let mut out = rt.stdout();
     let mut err = rt.stderr();
-    ExitCode::from(command(alloc, words.as_slice(), &mut files, &mut out, &mut err))
+    ExitCode::from(command(&rt, alloc, words.as_slice(), &mut files, &mut out, &mut err))
 }

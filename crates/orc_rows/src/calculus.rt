@@ -29,7 +29,7 @@ fn falls_back_where_a_side_ends_empty(rt: HostRuntime) -> Result<(), Fail> {
             ..runs(b"((Add(y, x) ; 5) <x< stop) <y< Never()", 3, &["5\n"])
         },
     ];
-    assert_eq!(rt; wrong(rt.alloc(), rows.as_slice())?.as_str(), "");
+    assert_eq!(rt; wrong(&rt, rows.as_slice())?.as_str(), "");
     Ok(())
 }
 
@@ -47,7 +47,7 @@ fn drops_the_losers_of_a_race(rt: HostRuntime) -> Result<(), Fail> {
             &["3\n"],
         ),
     ];
-    assert_eq!(rt; wrong(rt.alloc(), rows.as_slice())?.as_str(), "");
+    assert_eq!(rt; wrong(&rt, rows.as_slice())?.as_str(), "");
     Ok(())
 }
 
@@ -70,7 +70,7 @@ fn puts_values_for_names(rt: HostRuntime) -> Result<(), Fail> {
         runs(b"def f(x, y) = x\nf(1, y) <y< stop", 0, &["1\n"]),
         runs(b"def f(x) = x ; 2\nf(y) <y< stop", 0, &["2\n"]),
     ];
-    assert_eq!(rt; wrong(rt.alloc(), rows.as_slice())?.as_str(), "");
+    assert_eq!(rt; wrong(&rt, rows.as_slice())?.as_str(), "");
     Ok(())
 }
 
@@ -107,7 +107,7 @@ fn answers_calls_in_the_order_of_their_lines(rt: HostRuntime) -> Result<(), Fail
             ..refused(b"A()", "orc: L1 at line 1\n")
         },
     ];
-    assert_eq!(rt; wrong(rt.alloc(), rows.as_slice())?.as_str(), "");
+    assert_eq!(rt; wrong(&rt, rows.as_slice())?.as_str(), "");
     Ok(())
 }
 
@@ -174,7 +174,7 @@ fn counts_entries_and_time(rt: HostRuntime) -> Result<(), Fail> {
         (b"x <x< stop", b"", End::Halted, Some(4), 0),
     ];
     for (source, script, end, entries, now) in rows {
-        let (told, _) = summary(rt.alloc(), source, script, 100_000)?;
+        let (told, _) = summary(&rt, source, script, 100_000)?;
         assert_eq!(rt; told.end, end, "at {source:?}");
         assert_eq!(rt; told.now, now, "at {source:?}");
         if let Some(entries) = entries {
@@ -188,7 +188,7 @@ fn counts_entries_and_time(rt: HostRuntime) -> Result<(), Fail> {
 #[test]
 fn cuts_a_metronome(rt: HostRuntime) -> Result<(), Fail> {
     let source = b"def m() = signal | Rwait(1) >> m()\nm()";
-    let (told, text) = summary(rt.alloc(), source, b"", 50)?;
+    let (told, text) = summary(&rt, source, b"", 50)?;
     assert_eq!(rt; told.end, End::Limit);
     assert_eq!(rt; told.entries, 50);
     let mut lines = 0_u64;
@@ -202,7 +202,7 @@ fn cuts_a_metronome(rt: HostRuntime) -> Result<(), Fail> {
         words: &["--limit", "50"],
         ..runs(source, 4, &outs)
     };
-    let (done, may) = run_row(rt.alloc(), &row)?;
+    let (done, may) = run_row(&rt, &row)?;
     assert!(rt; may, "{done:?}");
     Ok(())
 }
@@ -212,7 +212,7 @@ fn cuts_a_metronome(rt: HostRuntime) -> Result<(), Fail> {
 fn runs_races_one_after_another(rt: HostRuntime) -> Result<(), Fail> {
     let source =
         b"def loop(n) = Lt(n, 1100) >b> (Iff(b) >> n | Ift(b) >> (x <x< (n | Never() | Rwait(5))) >> Add(n, 1) >m> loop(m))\nloop(0)";
-    let (told, text) = summary(rt.alloc(), source, NEVER, 100_000)?;
+    let (told, text) = summary(&rt, source, NEVER, 100_000)?;
     assert_eq!(rt; told.end, End::Halted);
     assert_eq!(rt; told.now, 0);
     assert_eq!(rt; text.as_str(), "1100\n");
@@ -220,6 +220,6 @@ fn runs_races_one_after_another(rt: HostRuntime) -> Result<(), Fail> {
         script: NEVER,
         ..runs(source, 0, &["1100\n"])
     };
-    assert!(rt; run_row(rt.alloc(), &row)?.1);
+    assert!(rt; run_row(&rt, &row)?.1);
     Ok(())
 }

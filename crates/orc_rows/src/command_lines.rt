@@ -59,7 +59,7 @@ fn refuses_command_lines(rt: HostRuntime) -> Result<(), Fail> {
     ];
     // No file is read: there is none.
     for (words, first) in rows {
-        let done = orc(rt.alloc(), words, &[])?;
+        let done = orc(&rt, words, &[])?;
         assert_eq!(rt; done.status, 2, "at {words:?}");
         assert_eq!(rt; done.out.as_str(), "", "at {words:?}");
         assert!(rt;
@@ -93,7 +93,7 @@ fn gives_help_and_version(rt: HostRuntime) -> Result<(), Fail> {
         ),
     ];
     for (words, first) in rows {
-        let done = orc(rt.alloc(), words, &[])?;
+        let done = orc(&rt, words, &[])?;
         assert_eq!(rt; done.status, 0, "at {words:?}");
         assert!(rt;
             done.out.as_str().starts_with(first),

@@ -11,7 +11,7 @@ fn prints_programs(rt: HostRuntime) -> Result<(), Fail> {
         (b"1|(2|3) -- three", "1 | (2 | 3)\n"),
     ];
     for (source, text) in rows {
-        let done = orc(rt.alloc(), &["orc", "print", "a.orc"], &[("a.orc", source)])?;
+        let done = orc(&rt, &["orc", "print", "a.orc"], &[("a.orc", source)])?;
         assert_eq!(rt; done.status, 0, "at {text}");
         assert_eq!(rt; done.out.as_str(), text);
         assert_eq!(rt; done.err.as_str(), "", "at {text}");
@@ -21,15 +21,11 @@ fn prints_programs(rt: HostRuntime) -> Result<(), Fail> {
 
 #[test]
 fn prints_no_text_that_spells_nothing(rt: HostRuntime) -> Result<(), Fail> {
-    let done = orc(
-        rt.alloc(),
-        &["orc", "print", "a.orc"],
-        &[("a.orc", b"(1 | 2")],
-    )?;
+    let done = orc(&rt, &["orc", "print", "a.orc"], &[("a.orc", b"(1 | 2")])?;
     assert_eq!(rt; done.status, 1);
     assert_eq!(rt; done.out.as_str(), "");
     assert_eq!(rt; done.err.as_str(), "orc: S4 at 6: Close\n");
-    let done = orc(rt.alloc(), &["orc", "print", "b.orc"], &[])?;
+    let done = orc(&rt, &["orc", "print", "b.orc"], &[])?;
     assert_eq!(rt; done.status, 6);
     assert_eq!(rt; done.out.as_str(), "");
     assert_eq!(rt; done.err.as_str(), "orc: read b.orc\n");
@@ -72,7 +68,7 @@ fn writes_journals(rt: HostRuntime) -> Result<(), Fail> {
         },
     ];
     for row in rows.as_slice() {
-        let (done, may) = run_row(rt.alloc(), row)?;
+        let (done, may) = run_row(&rt, row)?;
         assert!(rt; may, "{done:?}");
     }
     Ok(())
@@ -84,13 +80,13 @@ fn counts_no_cancels(rt: HostRuntime) -> Result<(), Fail> {
     let source: &[u8] = b"x <x< (Rwait(2) >> 20 | Rwait(1) >> 10)";
     for (limit, status) in [("11", 0), ("10", 4)] {
         let words = ["orc", "run", "a.orc", "--journal", "--limit", limit];
-        let done = orc(rt.alloc(), words.as_slice(), &[("a.orc", source)])?;
+        let done = orc(&rt, words.as_slice(), &[("a.orc", source)])?;
         assert_eq!(rt; done.status, status, "at {limit}");
         let cancels = done.out.as_str().matches("\ncancel 1\n").count();
         assert_eq!(rt; cancels, 1, "at {limit}: {}", done.out);
     }
     let done = orc(
-        rt.alloc(),
+        &rt,
         &["orc", "run", "a.orc", "--limit", "11"],
         &[("a.orc", source)],
     )?;

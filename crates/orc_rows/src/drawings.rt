@@ -2,7 +2,9 @@
 
 use crate::harness::{Done, checked, orc, recorded};
 use std::alloc::Global;
+use std::sync::Wait;
 use std::test::Fail;
+use std::thread::Threads;
 
 const RACE: &str = "x <x< (1 | Add(2, 3))";
 
@@ -13,9 +15,14 @@ const SVG: &[&str] = &["orc", "draw", "a.orc", "a.journal", "--theme", "dark"];
 const TEXT: &[&str] = &["orc", "draw", "a.orc", "a.journal", "--text", "--all"];
 
 // Draws a journal of a program without a script.
-fn drawn(alloc: Global, words: &[&str], source: &[u8], journal: &[u8]) -> Result<Done, Fail> {
+fn drawn<R: Threads + Wait + Sync + AllocGlobal>(
+    rt: &R,
+    words: &[&str],
+    source: &[u8],
+    journal: &[u8],
+) -> Result<Done, Fail> {
     let files = [("a.orc", source), ("a.journal", journal)];
-    orc(alloc, words, &files)
+    orc(rt, words, &files)
 }
 
 #[test]
@@ -43,7 +50,7 @@ fn draws_both_versions_as_far_as_they_go(rt: HostRuntime) -> Result<(), Fail> {
         ),
     ];
     for (source, journal, picture) in rows {
-        let done = drawn(rt.alloc(), TEXT, source.as_bytes(), journal.as_bytes())?;
+        let done = drawn(&rt, TEXT, source.as_bytes(), journal.as_bytes())?;
         assert_eq!(rt; done.out.as_str(), picture);
         assert_eq!(rt; done.err.as_str(), "", "at {journal}");
         assert_eq!(rt; done.status, 0, "at {journal}");
@@ -64,10 +71,10 @@ fn answers_a_refused_journal_as_a_check_does(rt: HostRuntime) -> Result<(), Fail
         (LATE, "orc-journal 2\nopen 1 1 2 3\n"),
     ];
     for (source, journal) in rows {
-        let check = checked(alloc, source.as_bytes(), b"", journal.as_bytes())?;
+        let check = checked(&rt, source.as_bytes(), b"", journal.as_bytes())?;
         assert_eq!(rt; check.status, 1, "at {journal}");
         for words in [SVG, TEXT] {
-            let done = drawn(alloc, words, source.as_bytes(), journal.as_bytes())?;
+            let done = drawn(&rt, words, source.as_bytes(), journal.as_bytes())?;
             assert_eq!(rt; done.status, check.status, "at {journal}");
             assert_eq!(rt; done.err.as_str(), check.err.as_str());
             assert_eq!(rt; done.out.as_str(), "", "at {journal}");
@@ -93,9 +100,9 @@ fn draws_two_thousand_rows_and_no_more(rt: HostRuntime) -> Result<(), Fail> {
     for (count, status, line) in rows {
         let text = calls(alloc, count)?;
         let source = text.as_str().as_bytes();
-        let journal = recorded(alloc, source, b"", "100000")?;
+        let journal = recorded(&rt, source, b"", "100000")?;
         for words in [SVG, TEXT] {
-            let done = drawn(alloc, words, source, journal.out.as_str().as_bytes())?;
+            let done = drawn(&rt, words, source, journal.out.as_str().as_bytes())?;
             assert_eq!(rt; done.status, status, "at {count}");
             assert_eq!(rt; done.err.as_str(), line);
             assert_eq!(rt; done.out.is_empty(), status == 1, "at {count}");

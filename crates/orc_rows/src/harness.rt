@@ -4,7 +4,9 @@ use orc_run::{Files, Options, ReadFault, Summary, command, run_text};
 use std::alloc::Global;
 use std::io;
 use std::io::Write;
+use std::sync::Wait;
 use std::test::Fail;
+use std::thread::Threads;
 
 /// Files in memory: each path with its bytes.
 #[derive(Drop)]
@@ -110,22 +112,27 @@ impl Done {
 }
 
 /// Does one command line over files in memory and a standard output: the status, and what standard error has.
-pub fn orc_into<W: Write>(
-    alloc: Global,
+pub fn orc_into<R: Threads + Wait + Sync + AllocGlobal, W: Write>(
+    rt: &R,
     words: &[&str],
     files: &[(&str, &[u8])],
     out: &mut W,
 ) -> Result<(u8, String), Fail> {
+    let alloc = rt.alloc();
     let mut files = MemoryFiles { alloc, files };
     let mut err = Vec::new(alloc);
-    let status = command(alloc, words, &mut files, out, &mut err);
+    let status = command(rt, alloc, words, &mut files, out, &mut err);
     Ok((status, String::from_utf8(err)?))
 }
 
 /// Does one command line over files in memory.
-pub fn orc(alloc: Global, words: &[&str], files: &[(&str, &[u8])]) -> Result<Done, Fail> {
-    let mut out = Vec::new(alloc);
-    let (status, err) = orc_into(alloc, words, files, &mut out)?;
+pub fn orc<R: Threads + Wait + Sync + AllocGlobal>(
+    rt: &R,
+    words: &[&str],
+    files: &[(&str, &[u8])],
+) -> Result<Done, Fail> {
+    let mut out = Vec::new(rt.alloc());
+    let (status, err) = orc_into(rt, words, files, &mut out)?;
     Ok(Done {
         status,
         out: String::from_utf8(out)?,
@@ -134,7 +141,12 @@ pub fn orc(alloc: Global, words: &[&str], files: &[(&str, &[u8])]) -> Result<Don
 }
 
 /// Runs a program with a limit of entries, and writes its journal.
-pub fn recorded(alloc: Global, source: &[u8], script: &[u8], limit: &str) -> Result<Done, Fail> {
+pub fn recorded<R: Threads + Wait + Sync + AllocGlobal>(
+    rt: &R,
+    source: &[u8],
+    script: &[u8],
+    limit: &str,
+) -> Result<Done, Fail> {
     let words = [
         "orc",
         "run",
@@ -145,18 +157,23 @@ pub fn recorded(alloc: Global, source: &[u8], script: &[u8], limit: &str) -> Res
         limit,
         "--journal",
     ];
-    orc(alloc, &words, &[("a.orc", source), ("a.script", script)])
+    orc(rt, &words, &[("a.orc", source), ("a.script", script)])
 }
 
 /// Checks a journal of a program.
-pub fn checked(alloc: Global, source: &[u8], script: &[u8], journal: &[u8]) -> Result<Done, Fail> {
+pub fn checked<R: Threads + Wait + Sync + AllocGlobal>(
+    rt: &R,
+    source: &[u8],
+    script: &[u8],
+    journal: &[u8],
+) -> Result<Done, Fail> {
     let words = ["orc", "check", "a.orc", "a.journal", "--script", "a.script"];
     let files = [
         ("a.orc", source),
         ("a.journal", journal),
         ("a.script", script),
     ];
-    orc(alloc, &words, &files)
+    orc(rt, &words, &files)
 }
 
 /// A program, and all that its run may do: the status, standard error, and standard output, which is one of `outs`.
@@ -196,8 +213,11 @@ pub fn refused<'a>(source: &'a [u8], err: &'a str) -> Row<'a> {
 }
 
 /// Runs a row's program: what it did, and whether it may.
-pub fn run_row<'a>(alloc: Global, row: &Row<'a>) -> Result<(Done, bool), Fail> {
-    let mut words: Vec<&'a str> = Vec::new(alloc);
+pub fn run_row<'a, R: Threads + Wait + Sync + AllocGlobal>(
+    rt: &R,
+    row: &Row<'a>,
+) -> Result<(Done, bool), Fail> {
+    let mut words: Vec<&'a str> = Vec::new(rt.alloc());
     for word in ["orc", "run", "a.orc", "--script", "a.script"] {
         words.push(word)?;
     }
@@ -205,7 +225,7 @@ pub fn run_row<'a>(alloc: Global, row: &Row<'a>) -> Result<(Done, bool), Fail> {
         words.push(*word)?;
     }
     let files: [(&'a str, &'a [u8]); 2] = [("a.orc", row.source), ("a.script", row.script)];
-    let done = orc(alloc, words.as_slice(), files.as_slice())?;
+    let done = orc(rt, words.as_slice(), files.as_slice())?;
     let mut listed = false;
     for out in row.outs {
         listed = listed || *out == done.out.as_str();
@@ -215,10 +235,11 @@ pub fn run_row<'a>(alloc: Global, row: &Row<'a>) -> Result<(Done, bool), Fail> {
 }
 
 /// The sources and outcomes of the rows that differ from what they may be.
-pub fn wrong(alloc: Global, rows: &[Row]) -> Result<String, Fail> {
+pub fn wrong<R: Threads + Wait + Sync + AllocGlobal>(rt: &R, rows: &[Row]) -> Result<String, Fail> {
+    let alloc = rt.alloc();
     let mut wrong = String::new(alloc);
     for row in rows {
-        let (done, may) = run_row(alloc, row)?;
+        let (done, may) = run_row(rt, row)?;
         if !may {
             let line = format!(in alloc; "{:?}: {done:?}\n", row.source)?;
             wrong.push_str(line.as_str())?;
@@ -228,17 +249,19 @@ pub fn wrong(alloc: Global, rows: &[Row]) -> Result<String, Fail> {
 }
 
 /// What a run is told to have done: how it ended, how many entries its journal has, its time, and the text that it wrote.
-pub fn summary(
-    alloc: Global,
+pub fn summary<R: Threads + Wait + Sync + AllocGlobal>(
+    rt: &R,
     source: &[u8],
     script: &[u8],
     limit: u64,
 ) -> Result<(Summary, String), Fail> {
+    let alloc = rt.alloc();
     let mut out = Vec::new(alloc);
     let options = Options {
+        workers: 4,
         limit,
         journal: false,
     };
-    let summary = run_text(alloc, source, script, &options, &mut out)?;
+    let summary = run_text(rt, alloc, source, script, &options, &mut out)?;
     Ok((summary, String::from_utf8(out)?))
 }

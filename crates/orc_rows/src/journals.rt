@@ -2,7 +2,9 @@
 
 use crate::harness::checked;
 use std::alloc::Global;
+use std::sync::Wait;
 use std::test::Fail;
+use std::thread::Threads;
 
 const RACE: &str = "x <x< (1 | Add(2, 3))";
 
@@ -11,10 +13,14 @@ const SUM: &str = "(1 | 2) >x> Add(x, 10)";
 const LATE: &str = "(Rwait(3) >> Ift(false)) ; 9";
 
 // A line for each journal of which a check says something else than this.
-fn wrong(alloc: Global, rows: &[(&str, &str, u8, &str)]) -> Result<String, Fail> {
+fn wrong<R: Threads + Wait + Sync + AllocGlobal>(
+    rt: &R,
+    rows: &[(&str, &str, u8, &str)],
+) -> Result<String, Fail> {
+    let alloc = rt.alloc();
     let mut wrong = String::new(alloc);
     for (source, journal, status, said) in rows {
-        let done = checked(alloc, source.as_bytes(), b"", journal.as_bytes())?;
+        let done = checked(rt, source.as_bytes(), b"", journal.as_bytes())?;
         let (out, err) = if *status == 0 {
             (*said, "")
         } else {
@@ -69,7 +75,7 @@ fn takes_and_refuses_a_race(rt: HostRuntime) -> Result<(), Fail> {
             "ok 1 Halted\n",
         ),
     ];
-    assert_eq!(rt; wrong(rt.alloc(), rows.as_slice())?.as_str(), "");
+    assert_eq!(rt; wrong(&rt, rows.as_slice())?.as_str(), "");
     Ok(())
 }
 
@@ -102,7 +108,7 @@ fn follows_a_fallback_in_time(rt: HostRuntime) -> Result<(), Fail> {
             "orc: K at entry 5: Number\n",
         ),
     ];
-    assert_eq!(rt; wrong(rt.alloc(), rows.as_slice())?.as_str(), "");
+    assert_eq!(rt; wrong(&rt, rows.as_slice())?.as_str(), "");
     Ok(())
 }
 
@@ -137,7 +143,7 @@ fn follows_cells(rt: HostRuntime) -> Result<(), Fail> {
             "orc: K at entry 5: Halted\n",
         ),
     ];
-    assert_eq!(rt; wrong(rt.alloc(), rows.as_slice())?.as_str(), "");
+    assert_eq!(rt; wrong(&rt, rows.as_slice())?.as_str(), "");
     Ok(())
 }
 
@@ -163,7 +169,7 @@ fn counts_the_answers_of_a_line(rt: HostRuntime) -> Result<(), Fail> {
         ),
     ];
     for (script, status, out, err) in rows {
-        let done = checked(rt.alloc(), source, script, journal)?;
+        let done = checked(&rt, source, script, journal)?;
         assert_eq!(rt; done.status, status, "at {script:?}");
         assert_eq!(rt; done.out.as_str(), out);
         assert_eq!(rt; done.err.as_str(), err);
@@ -198,7 +204,7 @@ fn reads_journals_line_by_line(rt: HostRuntime) -> Result<(), Fail> {
             "orc: J2 at line 2\n",
         ),
     ];
-    assert_eq!(rt; wrong(rt.alloc(), rows.as_slice())?.as_str(), "");
+    assert_eq!(rt; wrong(&rt, rows.as_slice())?.as_str(), "");
     Ok(())
 }
 
@@ -217,7 +223,7 @@ fn checks_each_front_of_a_journal(rt: HostRuntime) -> Result<(), Fail> {
             lines = lines.saturating_add(1);
             line_ends = true;
         }
-        let done = checked(alloc, SUM.as_bytes(), b"", front)?;
+        let done = checked(&rt, SUM.as_bytes(), b"", front)?;
         let said = if end < header.len() {
             format!(in alloc; "orc: J1\n")?
         } else if !line_ends {

@@ -16,7 +16,7 @@ fn runs_plain_terms(rt: HostRuntime) -> Result<(), Fail> {
         runs(b"(1 | 2) >x> 3 >x> x", 0, &["3\n3\n"]),
         runs(b"1 -- one\n{- {- all -} -}", 0, &["1\n"]),
     ];
-    assert_eq!(rt; wrong(rt.alloc(), rows.as_slice())?.as_str(), "");
+    assert_eq!(rt; wrong(&rt, rows.as_slice())?.as_str(), "");
     Ok(())
 }
 
@@ -36,7 +36,7 @@ fn calls_built_in_sites(rt: HostRuntime) -> Result<(), Fail> {
         runs(b"Add(9223372036854775807, 1)", 0, &[""]),
         runs(b"Sub(-9223372036854775808, 1)", 0, &[""]),
     ];
-    assert_eq!(rt; wrong(rt.alloc(), rows.as_slice())?.as_str(), "");
+    assert_eq!(rt; wrong(&rt, rows.as_slice())?.as_str(), "");
     Ok(())
 }
 
@@ -64,7 +64,7 @@ fn binds_and_waits(rt: HostRuntime) -> Result<(), Fail> {
             ..runs(b"A() | A()", 0, &["2\n1\n"])
         },
     ];
-    assert_eq!(rt; wrong(rt.alloc(), rows.as_slice())?.as_str(), "");
+    assert_eq!(rt; wrong(&rt, rows.as_slice())?.as_str(), "");
     Ok(())
 }
 
@@ -96,7 +96,7 @@ fn calls_sites_of_scripts(rt: HostRuntime) -> Result<(), Fail> {
             ..refused(b"1", "orc: L1 at line 2\n")
         },
     ];
-    assert_eq!(rt; wrong(rt.alloc(), rows.as_slice())?.as_str(), "");
+    assert_eq!(rt; wrong(&rt, rows.as_slice())?.as_str(), "");
     Ok(())
 }
 
@@ -121,7 +121,7 @@ fn ends_at_its_limit(rt: HostRuntime) -> Result<(), Fail> {
             ..runs(b"1", 0, &["1\n"])
         },
     ];
-    assert_eq!(rt; wrong(rt.alloc(), rows.as_slice())?.as_str(), "");
+    assert_eq!(rt; wrong(&rt, rows.as_slice())?.as_str(), "");
     Ok(())
 }
 
@@ -153,6 +153,6 @@ fn refuses_sources(rt: HostRuntime) -> Result<(), Fail> {
         ),
         refused(b"def f() = 1\ndef f() = 2\nf()", "orc: C4 at 16\n"),
     ];
-    assert_eq!(rt; wrong(rt.alloc(), rows.as_slice())?.as_str(), "");
+    assert_eq!(rt; wrong(&rt, rows.as_slice())?.as_str(), "");
     Ok(())
 }

@@ -2,7 +2,9 @@
 
 use crate::harness::{checked, recorded};
 use std::alloc::Global;
+use std::sync::Wait;
 use std::test::Fail;
+use std::thread::Threads;
 
 const NEVER: &str = "Never() = never";
 
@@ -47,10 +49,11 @@ fn rests(source: &str) -> Case {
 }
 
 // What a case's run and the check of its journal answer otherwise than they must.
-fn fault_of(alloc: Global, case: &Case) -> Result<String, Fail> {
+fn fault_of<R: Threads + Wait + Sync + AllocGlobal>(rt: &R, case: &Case) -> Result<String, Fail> {
+    let alloc = rt.alloc();
     let (source, script) = (case.source.as_bytes(), case.script.as_bytes());
-    let run = recorded(alloc, source, script, case.limit)?;
-    let check = checked(alloc, source, script, run.out.as_bytes())?;
+    let run = recorded(rt, source, script, case.limit)?;
+    let check = checked(rt, source, script, run.out.as_bytes())?;
     let lines = run.out.as_str().lines().count().saturating_sub(1);
     let said = format!(in alloc; "ok {lines} {}\n", case.state)?;
     let fits = run.status == case.status
@@ -113,7 +116,7 @@ fn takes_what_runs_write(rt: HostRuntime) -> Result<(), Fail> {
     ];
     let mut wrong = String::new(rt.alloc());
     for case in cases {
-        wrong.push_str(fault_of(rt.alloc(), &case)?.as_str())?;
+        wrong.push_str(fault_of(&rt, &case)?.as_str())?;
     }
     assert_eq!(rt; wrong.as_str(), "");
     Ok(())
@@ -147,10 +150,10 @@ fn refuses_the_answers_of_another_script(rt: HostRuntime) -> Result<(), Fail> {
         ),
     ];
     for (case, cut) in rows {
-        assert_eq!(rt; fault_of(alloc, &case)?.as_str(), "");
+        assert_eq!(rt; fault_of(&rt, &case)?.as_str(), "");
         let source = case.source.as_bytes();
-        let run = recorded(alloc, source, case.script.as_bytes(), case.limit)?;
-        let check = checked(alloc, source, cut.as_bytes(), run.out.as_bytes())?;
+        let run = recorded(&rt, source, case.script.as_bytes(), case.limit)?;
+        let check = checked(&rt, source, cut.as_bytes(), run.out.as_bytes())?;
         assert_eq!(rt; check.status, 1, "at {cut}");
         assert_eq!(rt; check.out.as_str(), "", "at {cut}");
         assert!(rt;
@@ -179,7 +182,7 @@ fn has_as_many_entries_as_the_limit(rt: HostRuntime) -> Result<(), Fail> {
         (loops, "100000", 4, 100_000),
     ];
     for (source, limit, status, entries) in rows {
-        let run = recorded(alloc, source.as_bytes(), b"", limit)?;
+        let run = recorded(&rt, source.as_bytes(), b"", limit)?;
         assert_eq!(rt; run.status, status, "at {source} {limit}");
         assert_eq!(rt; run.err.as_str(), "", "at {source} {limit}");
         assert_eq!(rt;
@@ -196,9 +199,9 @@ fn has_as_many_entries_as_the_limit(rt: HostRuntime) -> Result<(), Fail> {
 fn refuses_the_journal_of_a_long_loop_as_deep(rt: HostRuntime) -> Result<(), Fail> {
     let alloc = rt.alloc();
     let source = b"def m() = signal | Rwait(1) >> m()\nm()";
-    let run = recorded(alloc, source, b"", "100000")?;
+    let run = recorded(&rt, source, b"", "100000")?;
     assert_eq!(rt; run.status, 4);
-    let check = checked(alloc, source, b"", run.out.as_bytes())?;
+    let check = checked(&rt, source, b"", run.out.as_bytes())?;
     assert_eq!(rt; check.status, 1);
     assert_eq!(rt; check.out.as_str(), "");
     assert!(rt; check.err.as_str().ends_with(": Deep\n"), "{}", check.err);
@@ -209,7 +212,7 @@ fn refuses_the_journal_of_a_long_loop_as_deep(rt: HostRuntime) -> Result<(), Fai
 #[test]
 fn leaves_out_what_does_not_happen(rt: HostRuntime) -> Result<(), Fail> {
     let alloc = rt.alloc();
-    let race = recorded(alloc, b"x <x< (Rwait(2) >> 20 | Rwait(1) >> 10)", b"", "50")?;
+    let race = recorded(&rt, b"x <x< (Rwait(2) >> 20 | Rwait(1) >> 10)", b"", "50")?;
     let journal = race.out.as_str();
     for call in ["1", "2"] {
         let made = format!(in alloc; " {call} Rwait(2)\n")?;
@@ -218,7 +221,7 @@ fn leaves_out_what_does_not_happen(rt: HostRuntime) -> Result<(), Fail> {
         assert!(rt; !late, "{journal}");
     }
     assert!(rt; journal.contains(" Rwait(2)\n"), "{journal}");
-    let other = recorded(alloc, b"(1 ; 2) >x> Add(x, 1)", b"", "50")?;
+    let other = recorded(&rt, b"(1 ; 2) >x> Add(x, 1)", b"", "50")?;
     assert!(rt; !other.out.as_str().contains("right"), "{}", other.out);
     Ok(())
 }

@@ -34,7 +34,7 @@ fn blames_the_first_other_line(rt: HostRuntime) -> Result<(), Fail> {
             script,
             ..refused(b"1", err)
         };
-        let (done, may) = run_row(rt.alloc(), &row)?;
+        let (done, may) = run_row(&rt, &row)?;
         assert!(rt; may, "at {script:?}: {done:?}");
     }
     Ok(())
@@ -75,7 +75,7 @@ fn takes_lines_of_the_plainest_form(rt: HostRuntime) -> Result<(), Fail> {
         },
         refused(b"A()", "orc: C7 at 0\n"),
     ];
-    assert_eq!(rt; wrong(rt.alloc(), rows.as_slice())?.as_str(), "");
+    assert_eq!(rt; wrong(&rt, rows.as_slice())?.as_str(), "");
     Ok(())
 }
 
@@ -95,12 +95,12 @@ fn takes_1024_answers(rt: HostRuntime) -> Result<(), Fail> {
         script: &most,
         ..runs(b"A()", 0, &["1\n"])
     };
-    assert!(rt; run_row(rt.alloc(), &row)?.1);
+    assert!(rt; run_row(&rt, &row)?.1);
     let more = line_of(rt.alloc(), 1025)?;
     let row = Row {
         script: &more,
         ..refused(b"A()", "orc: L1 at line 1\n")
     };
-    assert!(rt; run_row(rt.alloc(), &row)?.1);
+    assert!(rt; run_row(&rt, &row)?.1);
     Ok(())
 }

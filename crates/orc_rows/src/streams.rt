@@ -3,7 +3,9 @@
 use crate::harness::{FailingFiles, IdleWriter, MemoryFiles, ShortWriter, checked, orc, orc_into};
 use orc_run::{ReadFault, command};
 use std::alloc::Global;
+use std::sync::Wait;
 use std::test::Fail;
+use std::thread::Threads;
 
 const FILES: [(&str, &[u8]); 3] = [
     ("a.orc", b"Pair(1, 9) | (Pair(2, 9) ; 6)"),
@@ -42,12 +44,12 @@ fn fails_at_each_call_of_a_writer(rt: HostRuntime) -> Result<(), Fail> {
         (&["orc", "print", "--help"], ""),
     ];
     for (words, text) in rows {
-        let whole = orc(alloc, words, FILES.as_slice())?;
+        let whole = orc(&rt, words, FILES.as_slice())?;
         assert!(rt; text.is_empty() || whole.out.as_str() == text, "{whole:?}");
         let bytes = whole.out.as_bytes();
         for room in 0..bytes.len() {
             let mut out = ShortWriter::new(alloc, room, 1);
-            let (status, err) = orc_into(alloc, words, FILES.as_slice(), &mut out)?;
+            let (status, err) = orc_into(&rt, words, FILES.as_slice(), &mut out)?;
             assert_eq!(rt; status, 6, "at {words:?} {room}");
             assert!(rt;
                 out.taken.as_slice() == &bytes[..room],
@@ -56,7 +58,7 @@ fn fails_at_each_call_of_a_writer(rt: HostRuntime) -> Result<(), Fail> {
             assert_eq!(rt; err.as_str(), "orc: write\n");
         }
         let mut out = ShortWriter::new(alloc, bytes.len(), 1);
-        let (status, err) = orc_into(alloc, words, FILES.as_slice(), &mut out)?;
+        let (status, err) = orc_into(&rt, words, FILES.as_slice(), &mut out)?;
         assert_eq!(rt; status, whole.status, "at {words:?}");
         assert!(rt; out.taken.as_slice() == bytes, "at {words:?}");
         assert_eq!(rt; err.as_str(), "");
@@ -69,12 +71,12 @@ fn fails_at_each_call_of_a_writer(rt: HostRuntime) -> Result<(), Fail> {
 fn fails_at_a_writer_that_takes_nothing(rt: HostRuntime) -> Result<(), Fail> {
     let alloc = rt.alloc();
     for words in [RUN, CHECK, PRINT, &["orc", "--version"]] {
-        let (status, err) = orc_into(alloc, words, FILES.as_slice(), &mut IdleWriter)?;
+        let (status, err) = orc_into(&rt, words, FILES.as_slice(), &mut IdleWriter)?;
         assert_eq!(rt; status, 6, "at {words:?}");
         assert_eq!(rt; err.as_str(), "orc: write\n", "at {words:?}");
     }
     let files: [(&str, &[u8]); 1] = [("a.orc", b"stop")];
-    let (status, err) = orc_into(alloc, &["orc", "run", "a.orc"], &files, &mut IdleWriter)?;
+    let (status, err) = orc_into(&rt, &["orc", "run", "a.orc"], &files, &mut IdleWriter)?;
     assert_eq!(rt; status, 0);
     assert_eq!(rt; err.as_str(), "");
     Ok(())
@@ -87,7 +89,7 @@ fn fails_at_a_short_writer(rt: HostRuntime) -> Result<(), Fail> {
     let files: [(&str, &[u8]); 1] = [("a.orc", b"Add(100, 23)")];
     for at_once in [1, 2, 10] {
         let mut out = ShortWriter::new(alloc, 2, at_once);
-        let (status, err) = orc_into(alloc, &["orc", "run", "a.orc"], &files, &mut out)?;
+        let (status, err) = orc_into(&rt, &["orc", "run", "a.orc"], &files, &mut out)?;
         assert_eq!(rt; status, 6);
         assert_eq!(rt; out.taken.as_slice(), b"12".as_slice());
         assert_eq!(rt; err.as_str(), "orc: write\n");
@@ -112,9 +114,9 @@ fn keeps_its_status_without_standard_error(rt: HostRuntime) -> Result<(), Fail> 
         };
         let mut out = Vec::new(alloc);
         let mut err = ShortWriter::new(alloc, 3, 2);
-        let status = command(alloc, words, &mut files, &mut out, &mut err);
+        let status = command(&rt, alloc, words, &mut files, &mut out, &mut err);
         assert_eq!(rt; status, expected, "at {words:?}");
-        let status = command(alloc, words, &mut files, &mut out, &mut IdleWriter);
+        let status = command(&rt, alloc, words, &mut files, &mut out, &mut IdleWriter);
         assert_eq!(rt; status, expected, "at {words:?}");
     }
     Ok(())
@@ -140,7 +142,7 @@ fn blames_the_first_file_that_is_not_read(rt: HostRuntime) -> Result<(), Fail> {
             let mut files = FailingFiles { alloc, good, fault };
             let mut out = Vec::new(alloc);
             let mut err = Vec::new(alloc);
-            let status = command(alloc, words, &mut files, &mut out, &mut err);
+            let status = command(&rt, alloc, words, &mut files, &mut out, &mut err);
             assert_eq!(rt; status, expected, "at {words:?}");
             assert!(rt; out.is_empty(), "at {words:?}");
             assert_eq!(rt; String::from_utf8(err)?.as_str(), said, "at {words:?}");
@@ -158,8 +160,8 @@ struct Faulty<'a> {
     line: &'a str,
 }
 
-fn is_blamed(alloc: Global, files: &Faulty) -> Result<bool, Fail> {
-    let done = checked(alloc, files.source, files.script, files.journal)?;
+fn is_blamed<R: Threads + Wait + Sync + AllocGlobal>(rt: &R, files: &Faulty) -> Result<bool, Fail> {
+    let done = checked(rt, files.source, files.script, files.journal)?;
     Ok(done.status == 1 && done.out.is_empty() && done.err.as_str() == files.line)
 }
 
@@ -193,7 +195,7 @@ fn blames_the_first_file_at_fault(rt: HostRuntime) -> Result<(), Fail> {
         ..script
     };
     for files in [entry, header, name, script, source].as_slice() {
-        assert!(rt; is_blamed(rt.alloc(), files)?, "at {:?}", files.source);
+        assert!(rt; is_blamed(&rt, files)?, "at {:?}", files.source);
     }
     Ok(())
 }

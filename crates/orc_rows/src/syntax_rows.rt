@@ -36,7 +36,7 @@ fn blames_the_first_fault(rt: HostRuntime) -> Result<(), Fail> {
         runs(b"def f(a) =\r\n  a -- the same\r\nf(1)\r\n", 0, &["1\n"]),
         refused(b"-- one\r1", "orc: S4 at 8: Expression\n"),
     ];
-    assert_eq!(rt; wrong(rt.alloc(), rows.as_slice())?.as_str(), "");
+    assert_eq!(rt; wrong(&rt, rows.as_slice())?.as_str(), "");
     Ok(())
 }
 

@@ -4,7 +4,7 @@ use crate::running::Options;
 use clap::error::ErrorKind;
 use clap::{Arg, ArgAction, ArgMatches, Command, Error, value_parser};
 use orc_draw::{Form, Theme};
-use orc_rules::limits::MOST_ENTRIES;
+use orc_rules::limits::{MOST_ENTRIES, MOST_WORKERS};
 use std::alloc::{AllocError, Global};
 use std::convert::AsStr;
 
@@ -66,6 +66,15 @@ fn script_argument<'a>(alloc: Global) -> Arg<'a> {
         .long("script")
         .value_name("F")
         .help("The answers of the program's own sites [default: none]")
+}
+
+fn workers_argument<'a>(alloc: Global) -> Arg<'a> {
+    Arg::new(alloc, "workers")
+        .long("workers")
+        .value_name("N")
+        .value_parser(value_parser!(u64).range(1..=MOST_WORKERS as i64))
+        .default_value("4")
+        .help("The number of workers, 1 to 16")
 }
 
 fn limit_argument<'a>(alloc: Global) -> Arg<'a> {
@@ -139,6 +148,7 @@ fn run_command<'a>(alloc: Global) -> Result<Command<'a>, AllocError> {
         .about("Run a program and write what it publishes")
         .arg(file_argument(alloc))?
         .arg(script_argument(alloc))?
+        .arg(workers_argument(alloc))?
         .arg(limit_argument(alloc))?
         .arg(journal_flag(alloc))?
         .arg(explain_flag(alloc))
@@ -205,6 +215,7 @@ fn job_of<'a>(name: &str, given: &ArgMatches<'a>) -> Option<Job<'a>> {
             file,
             script: given.get_str("script"),
             options: Options {
+                workers: given.get_one::<u64>("workers")?,
                 limit: given.get_one::<u64>("limit")?,
                 journal: given.get_flag("journal"),
             },

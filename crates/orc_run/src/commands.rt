@@ -22,6 +22,8 @@ use std::alloc::Global;
 use std::convert::AsStr;
 use std::io::Write;
 use std::path::Path;
+use std::sync::Wait;
+use std::thread::Threads;
 
 /// Reports a command line that asks for help or for the version, or was refused: the status.
 fn refuse<W: Write, V: Write>(error: &clap::Error, out: &mut W, err: &mut V) -> u8
@@ -75,7 +77,8 @@ fn read_script<'a, F: Files>(
 
 // Runs the program of a file: the status says how the run ended.
 #[tactic(auto, using(crate::proofs::Statuses::unread, crate::proofs::Statuses::unrun))]
-fn run_file<'a, F: Files, W: Write>(
+fn run_file<'a, R: Threads + Wait + Sync, F: Files, W: Write>(
+    rt: &R,
     alloc: Global,
     file: &'a str,
     script: Option<&'a str>,
@@ -89,7 +92,14 @@ fn run_file<'a, F: Files, W: Write>(
 {
     let source = read(file, files)?;
     let answers = read_script(alloc, script, files)?;
-    match run_text(alloc, source.as_slice(), answers.as_slice(), options, out) {
+    match run_text(
+        rt,
+        alloc,
+        source.as_slice(),
+        answers.as_slice(),
+        options,
+        out,
+    ) {
         Ok(summary) => Ok(summary.end.status()),
         Err(fault) => {
             let subject = subject_of(file, source.as_slice(), script, answers.as_slice());
@@ -197,7 +207,8 @@ fn print_file<'a, F: Files, W: Write>(
 }
 
 // Does what a command line asks for: the status.
-fn do_job<'a, F: Files, W: Write>(
+fn do_job<'a, R: Threads + Wait + Sync, F: Files, W: Write>(
+    rt: &R,
     alloc: Global,
     job: Job<'a>,
     files: &mut F,
@@ -212,7 +223,7 @@ fn do_job<'a, F: Files, W: Write>(
             file,
             script,
             options,
-        } => run_file(alloc, file, script, &options, files, out, explained),
+        } => run_file(rt, alloc, file, script, &options, files, out, explained),
         Job::Check {
             file,
             journal,
@@ -235,7 +246,8 @@ fn do_job<'a, F: Files, W: Write>(
 /// fault, nothing was written to standard output. Where it says that a run ended quiet, or was cut by its limit or one of the
 /// engine's, the whole text of a run that ended so was.
 #[tactic(auto, using(crate::proofs::Statuses::kept, crate::proofs::Statuses::untouched, crate::proofs::Statuses::faultless, crate::proofs::Statuses::ended_quiet, crate::proofs::Statuses::ended_cut, crate::proofs::Statuses::not_quiet, crate::proofs::Statuses::not_cut))]
-pub fn command<S, F, W, V>(
+pub fn command<R, S, F, W, V>(
+    rt: &R,
     alloc: Global,
     words: &[S],
     files: &mut F,
@@ -243,6 +255,7 @@ pub fn command<S, F, W, V>(
     err: &mut V,
 ) -> u8
 where
+    R: Threads + Wait + Sync,
     S: AsStr,
     F: Files,
     W: Write,
@@ -259,7 +272,7 @@ where
         Ok(asked) => asked,
     };
     let mut explained = Explained::new(explain);
-    match do_job(alloc, job, files, out, &mut explained) {
+    match do_job(rt, alloc, job, files, out, &mut explained) {
         Ok(status) => status,
         Err(failure) => {
             explained.unread(alloc, &failure);

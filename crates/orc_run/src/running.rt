@@ -1,8 +1,9 @@
 //! From a source text to what its run published.
 
-ghost use Rattle.std.specs.Prelude.{◌≡◌, ℕ, List, length, IfOk, IfErr, OnOk, OnErr};
+ghost use Rattle.std.specs.Prelude.{◌≡◌, ◌↔◌, ℕ, List, length, Err, IfOk, IfErr, OnOk, OnErr};
 ghost use Rattle.std.specs.Io.KnownBytes.{Appends};
 ghost use Rattle.orc_outcome.specs.Outcome.{IsPlayed};
+ghost use Rattle.orc_engine.specs.Ranges.{IsInRange};
 ghost use Rattle.orc_run.specs.Output.{AppendsPrefix};
 ghost use Rattle.orc_run.specs.Running.{Ran, LeavesAtFault, IsFaultOf, IsOther, kept};
 
@@ -11,14 +12,19 @@ use crate::loading::{Loaded, load};
 use crate::output::{WriteFault, write_text};
 use crate::publications::write_values;
 // The engine. Another one with the same contract takes its place here.
-use orc_engine::run_alone;
+use orc_engine::{EngineFault, run_alone, run_pool};
 use orc_outcome::{Played, Summary};
+use orc_site::{Open, Scripted};
 use std::alloc::Global;
 use std::io::Write;
+use std::sync::Wait;
+use std::thread::Threads;
 
 /// How a program is run.
 #[derive(Clone, Copy, Debug, PartialEq, Eq)]
 pub struct Options {
+    /// How many workers run it, 1 to 16.
+    pub workers: u64,
     /// The most entries that the run's journal may have, cancels not counted.
     pub limit: u64,
     /// Whether the journal is written, in place of what was published.
@@ -26,18 +32,48 @@ pub struct Options {
 }
 
 // Runs a program.
-fn run_program(alloc: Global, loaded: &Loaded, options: &Options) -> Result<Played, RunFault>
+fn play<R: Threads + Wait + Sync>(
+    rt: &R,
+    alloc: Global,
+    loaded: &Loaded,
+    options: &Options,
+) -> Result<Played, EngineFault>
     ensures ran { IfOk result (λ p. IsPlayed loaded.now.program loaded.now.answers options.now.journal options.now.limit p.summary p.published.items p.text.items) }
-    ensures fault { IfErr result IsOther }
+    ensures range { result ≡ Err EngineFault.Range ↔ (IsInRange options.now.workers options.now.limit → ⊥) }
 {
-    run_alone(
+    if options.workers == 1 {
+        return run_alone(
+            alloc,
+            &loaded.program,
+            &loaded.answers,
+            options.journal,
+            options.limit,
+        );
+    }
+    run_pool(
+        rt,
         alloc,
         &loaded.program,
         &loaded.answers,
+        &Scripted::new(&loaded.answers),
+        &Open,
+        options.workers as usize,
         options.journal,
         options.limit,
     )
-    .map_err(RunFault::Engine)
+}
+
+fn run_program<R: Threads + Wait + Sync>(
+    rt: &R,
+    alloc: Global,
+    loaded: &Loaded,
+    options: &Options,
+) -> Result<Played, RunFault>
+    ensures ran { IfOk result (λ p. IsPlayed loaded.now.program loaded.now.answers options.now.journal options.now.limit p.summary p.published.items p.text.items) }
+    ensures fault { IfErr result IsOther }
+    ensures range { IfErr result (λ f. f ≡ RunFault.Engine EngineFault.Range → IsInRange options.now.workers options.now.limit → ⊥) }
+{
+    play(rt, alloc, loaded, options).map_err(RunFault::Engine)
 }
 
 // Writes what a run leaves: the journal's text, or a line for each publication.
@@ -64,7 +100,8 @@ fn write_run<W: Write>(
 /// `Engine` where the engine brings the run to no end (the limit is out of range, or memory is refused before the run begins or for what is
 /// told of it); and `Write` where memory for the text is refused or the output isn't taken whole. Nothing is written then, but at a fault of the output a prefix
 /// of the text. A run for which memory is refused once it has begun ends so, and what it has published is written.
-pub fn run_text<W: Write>(
+pub fn run_text<R: Threads + Wait + Sync, W: Write>(
+    rt: &R,
     alloc: Global,
     source: &[u8],
     script: &[u8],
@@ -74,9 +111,10 @@ pub fn run_text<W: Write>(
     ensures ran { IfOk result (Ran source.now script.now options.now (W.contents out.old) (W.contents out.new)) }
     ensures fault { IfErr result (LeavesAtFault source.now script.now options.now (W.contents out.old) (W.contents out.new)) }
     ensures cause { IfErr result (IsFaultOf source.now script.now) }
+    ensures range { IfErr result (λ f. f ≡ RunFault.Engine EngineFault.Range → IsInRange options.now.workers options.now.limit → ⊥) }
 {
     let loaded = load(alloc, source, script)?;
-    let played = run_program(alloc, &loaded, options)?;
+    let played = run_program(rt, alloc, &loaded, options)?;
     match write_run(alloc, &played, options.journal, out) {
         Ok(()) => Ok(played.summary),
         Err(fault) => Err(RunFault::Write(fault)),
