@@ -27,6 +27,16 @@ is_so() {
     if [ "$2" = "$3" ]; then pass; else fail "$1: wanted is" "$2" "but it gives" "$3"; fi
 }
 
+# Builds the program of storms where it isn't built yet; its path is in `storms`.
+need_storms() {
+    storms=$top/crates/orc_storms/out/orc_storms
+    if [ ! -x "$storms" ]; then (cd "$top/crates/orc_storms" && rt run -- 1) >/dev/null 2>&1; fi
+    if [ ! -x "$storms" ]; then
+        echo "the program isn't built: there is no $storms" >&2
+        exit 1
+    fi
+}
+
 # The last line, 'N passed, M failed', and the status.
 finish() {
     echo "$passed passed, $failed failed"

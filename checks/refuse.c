@@ -1,10 +1,12 @@
-// A heap that refuses one request: preloaded before a program, the one whose number, counted from 1, stands in REFUSE. The file that is
-// open as descriptor 9 gets a byte when it does, so that whoever runs the program knows whether that many requests came.
+// A heap that refuses one request: preloaded before a program, the one whose number, counted from 1, stands in REFUSE. The start of a thread is
+// a request too. The file that is open as descriptor 9 gets a byte when one is refused, so that whoever runs the program knows whether that many
+// requests came.
 typedef __SIZE_TYPE__ size_t;
 
 extern char **environ;
 void *__libc_malloc(size_t);
 void *__libc_realloc(void *, size_t);
+void *dlsym(void *, const char *);
 long write(int, const void *, size_t);
 
 static size_t wanted(void) {
@@ -21,7 +23,7 @@ static size_t wanted(void) {
 
 static int is_refused(void) {
     static size_t requests;
-    if (++requests != wanted()) return 0;
+    if (__atomic_add_fetch(&requests, 1, __ATOMIC_SEQ_CST) != wanted()) return 0;
     write(9, "!", 1);
     return 1;
 }
@@ -32,4 +34,11 @@ void *malloc(size_t bytes) {
 
 void *realloc(void *old, size_t bytes) {
     return is_refused() ? 0 : __libc_realloc(old, bytes);
+}
+
+int pthread_create(void *thread, const void *attributes, void *(*start)(void *), void *argument) {
+    static int (*create)(void *, const void *, void *(*)(void *), void *);
+    if (is_refused()) return 11; // EAGAIN
+    if (!create) *(void **)&create = dlsym((void *)-1, "pthread_create"); // RTLD_NEXT
+    return create(thread, attributes, start, argument);
 }

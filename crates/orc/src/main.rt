@@ -1,13 +1,14 @@
 //! The program `orc`: the real files and streams around the library orc_run.
 #![tactic(auto)]
 
-use orc_run::{Files, ReadFault, command};
+use orc_rules::limits::LONGEST_JOURNAL;
+use orc_run::{Failure, Files, ReadFault, command};
 use std::io::{ErrorKind, Read};
 use std::process::ExitCode;
 use std::{env, fs, io, rt};
 
 /// A byte more than the longest text that any command takes, in bytes: so much of a file tells that it is too long.
-const MOST: u64 = 1_073_741_825;
+const MOST: u64 = LONGEST_JOURNAL as u64 + 1;
 
 /// The files of the system.
 #[derive(Drop)]
@@ -36,19 +37,21 @@ fn failed(rt: &impl Eprint, line: &str, status: u8) -> ExitCode {
     ExitCode::from(status)
 }
 
+fn refused(rt: &impl Eprint) -> ExitCode {
+    let failure = Failure::Unread("", ReadFault::Memory);
+    let _ = eprintln!(rt; "{failure}");
+    ExitCode::from(failure.status())
+}
+
 fn main(rt: HostRuntime) -> ExitCode {
     let alloc = rt.alloc();
     let args = match env::args(&rt) {
         Ok(args) => args,
-        Err(error) if error.kind() == ErrorKind::OutOfMemory => return failed(
-            &rt,
-            "orc: memory",
-            5,
-        ),
+        Err(error) if error.kind() == ErrorKind::OutOfMemory => return refused(&rt),
         Err(_) => return failed(&rt, "error: an argument is not UTF-8", 2),
     };
     let Ok(words) = args.collect::<Vec<String>>(alloc) else {
-        return failed(&rt, "orc: memory", 5);
+        return refused(&rt);
     };
     let mut files = SystemFiles { rt: &rt };
     let mut out = rt.stdout();

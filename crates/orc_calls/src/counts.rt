@@ -1,6 +1,6 @@
 //! How many calls there were of each site with the same arguments.
 
-ghost use Rattle.std.specs.Prelude.{◌≡◌, ◌≤◌, [], OnOk, OnErr};
+ghost use Rattle.std.specs.Prelude.{◌≡◌, ◌≤◌, [], IfOk, OnOk, OnErr};
 ghost use Rattle.orc_calls.specs.Counting.{nth_in, CountsOne, CountsCall, NextFound, NextNth};
 
 use crate::key::Key;
@@ -40,6 +40,17 @@ impl Counts {
             next: BTreeMap::new(alloc),
             alloc,
         }
+    }
+
+    /// The same counts once more. The error is refused memory.
+    pub fn copy(&self) -> Result<Counts, AllocError>
+        ensures { IfOk result (λ c. c ≡ self.now) }
+    {
+        let next = self.next.clone()?;
+        Ok(Counts {
+            next,
+            alloc: self.alloc,
+        })
     }
 
     /// Which call of a site with these arguments the next one is, from 1; 1 for a site whose calls aren't counted.

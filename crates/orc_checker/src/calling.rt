@@ -118,6 +118,8 @@ impl Marked {
         self.find_call(k).ok_or(RuleFault::Mark)
     }
 
+    // Both returns ask when the next call is due, so that calls which pend no more don't stay noted until the next tick.
+
     /// `return K A V`.
     pub(crate) fn answered(
         &mut self,
@@ -141,6 +143,7 @@ impl Marked {
             },
         );
         push_within(&mut self.marks, pending.at);
+        let _due = self.rest.next_due(&self.nodes, &mut self.due);
         Ok(())
     }
 
@@ -165,6 +168,7 @@ impl Marked {
             pending.at,
             true,
         );
+        let _due = self.rest.next_due(&self.nodes, &mut self.due);
         Ok(())
     }
 }

@@ -1,12 +1,12 @@
 // The sides that may have halted.
 
-ghost use Rattle.std.specs.Prelude.{◌≡◌, ◌++◌, ◌∷◌, ℕ, false, [], IfSome, IfNone};
+ghost use Rattle.std.specs.Prelude.{◌≡◌, ◌++◌, ◌∷◌, ℕ, false, [], IfOk, IfSome, IfNone};
 ghost use Rattle.orc_checker.specs.Sides.{MayBe, AreKnown, is_side, is_side_at, has_ended, is_set, DoesEnd};
 
 use crate::arena::{Double, Kind, Single};
 use crate::nodes::Nodes;
 use crate::room::push_within;
-use std::alloc::Global;
+use std::alloc::{AllocError, Global};
 use std::marker::Model;
 
 /// The places of the sides that may have halted: of all that have, and of some that haven't, or that stand no more. Where memory for a
@@ -82,6 +82,17 @@ impl Candidates {
             places: Vec::new(alloc),
             all: false,
         }
+    }
+
+    /// The same places once more. The error is refused memory.
+    pub(crate) fn copy(&self, alloc: Global) -> Result<Candidates, AllocError>
+        ensures { IfOk result (λ c. c ≡ self.now) }
+    {
+        let places = Vec::from_slice(alloc, &self.places)?;
+        Ok(Candidates {
+            places,
+            all: self.all,
+        })
     }
 
     /// A place may be that of a side which has halted.

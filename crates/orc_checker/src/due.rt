@@ -1,6 +1,6 @@
 // The nodes that wait, by the due times of their calls.
 
-ghost use Rattle.std.specs.Prelude.{◌≡◌, ℕ, [], List, IfSome, OnOk, MatchOption};
+ghost use Rattle.std.specs.Prelude.{◌≡◌, ℕ, [], List, IfOk, IfSome, OnOk, MatchOption};
 ghost use Rattle.orc_checker.specs.DueTimes.{IsFirst, IsNoted, Drops};
 
 use orc_rules::entry::RuleFault;
@@ -28,6 +28,14 @@ impl Due {
         Due {
             nodes: BTreeSet::new(alloc),
         }
+    }
+
+    /// The same nodes once more. The error is refused memory.
+    pub(crate) fn copy(&self) -> Result<Due, AllocError>
+        ensures { IfOk result (λ d. d ≡ self.now) }
+    {
+        let nodes = self.nodes.clone()?;
+        Ok(Due { nodes })
     }
 
     /// Puts a node in, where there is a time.

@@ -53,6 +53,15 @@ impl Halts {
         Ok(Halts { flags, active })
     }
 
+    /// The same flags once more. The error is refused memory.
+    pub(crate) fn copy(&self, alloc: Global) -> Result<Halts, AllocError>
+        ensures { IfOk result (λ h. h ≡ self.now) }
+    {
+        let flags = Vec::from_slice(alloc, &self.flags)?;
+        let active = Vec::from_slice(alloc, &self.active)?;
+        Ok(Halts { flags, active })
+    }
+
     /// Whether the term of that node has halted.
     pub fn at(&self, node: usize) -> bool
         ensures { result ≡ halt_flag self.now node }

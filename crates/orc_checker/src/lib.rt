@@ -25,6 +25,7 @@ mod reading;
 pub mod rest;
 mod room;
 mod routines;
+mod scopes;
 mod side;
 pub mod sides;
 mod status;

@@ -139,6 +139,34 @@ impl Marked {
         })
     }
 
+    /// The same marked term once more, on which an entry can be tried. The error is refused memory.
+    pub fn copy(&self, alloc: Global) -> Result<Self, AllocError>
+        ensures { IfOk result (λ m. m ≡ self.now) }
+    {
+        let nodes = self.nodes.copy(alloc)?;
+        let scopes = Vec::from_slice(alloc, &self.scopes)?;
+        let cells = Vec::from_slice(alloc, &self.cells)?;
+        let marks = Vec::from_slice(alloc, &self.marks)?;
+        let flags = Vec::from_slice(alloc, &self.flags)?;
+        let prunings = Vec::from_slice(alloc, &self.prunings)?;
+        let halts = self.halts.copy(alloc)?;
+        let rest = self.rest.copy(alloc)?;
+        let candidates = self.candidates.copy(alloc)?;
+        let due = self.due.copy()?;
+        Ok(Marked {
+            nodes,
+            scopes,
+            cells,
+            marks,
+            halts,
+            flags,
+            prunings,
+            rest,
+            candidates,
+            due,
+        })
+    }
+
     /// Applies one entry; after a RuleFault nothing has changed.
     pub fn step(
         &mut self,

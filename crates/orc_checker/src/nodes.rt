@@ -98,6 +98,22 @@ fn keep_restless(items: &Vec<Node>, list: &mut Vec<usize>)
     }
 }
 
+// Room for two more in a list of those with tokens. A full list forgets the others first, and grows only where more than half of it stays: so
+// it is as long as there are tokens at one time, and not as there were nodes.
+fn reserve_listed(items: &Vec<Node>, list: &mut Vec<usize>) -> Result<(), AllocError>
+    ensures listed { AreListed items.now.items list.old.items → AreListed items.now.items list.new.items }
+    ensures room { IfOk result (λ _. vec_len list.new + 2 ≤ vec_capacity list.new) }
+{
+    if list.capacity() - list.len() >= 2 {
+        return Ok(());
+    }
+    keep_restless(items, list);
+    if list.len() < list.capacity() / 2 {
+        return Ok(());
+    }
+    list.try_reserve(2)
+}
+
 // The hint of that number, the number itself where there is none.
 fn hint_at(hints: &Vec<usize>, i: usize) -> usize
     ensures { result ≡ slice_index_or hints.now.items i i }
@@ -160,6 +176,22 @@ impl Nodes {
             hints,
             restless,
             ranks: Ranks::new(alloc),
+        })
+    }
+
+    /// The same nodes once more. The error is refused memory.
+    pub(crate) fn copy(&self, alloc: Global) -> Result<Nodes, AllocError>
+        ensures { IfOk result (λ n. n.items ≡ self.now.items) }
+    {
+        let items = Vec::from_slice(alloc, &self.items)?;
+        let hints = Vec::from_slice(alloc, &self.hints)?;
+        let restless = Vec::from_slice(alloc, &self.restless)?;
+        let ranks = self.ranks.copy(alloc)?;
+        Ok(Nodes {
+            items,
+            hints,
+            restless,
+            ranks,
         })
     }
 
@@ -253,7 +285,7 @@ impl Nodes {
     {
         self.items.try_reserve(2)?;
         self.hints.try_reserve(2)?;
-        self.restless.try_reserve(2)?;
+        reserve_listed(&self.items, &mut self.restless)?;
         Ok(())
     }
 

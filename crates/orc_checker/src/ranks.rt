@@ -1,13 +1,13 @@
 // Ranks of the nodes, which tell how many stand one below the other.
 
-ghost use Rattle.std.specs.Prelude.{◌≡◌, ◌<◌, ◌⊎◌, ◌∷◌, ◌++◌, [], List, length, slice_index_or, IfSome};
+ghost use Rattle.std.specs.Prelude.{◌≡◌, ◌<◌, ◌⊎◌, ◌∷◌, ◌++◌, [], List, length, slice_index_or, IfOk, IfSome};
 ghost use Rattle.orc_checker.specs.Hints.{lifted};
 ghost use Rattle.orc_checker.specs.Ranks.{rank, AreKept, AreLevelsAtMost};
 ghost use Rattle.orc_checker.specs.declared.arena.Node.{Node as NodeOf};
 
 use crate::arena::{Kind, Node};
 use crate::marked::Marked;
-use std::alloc::Global;
+use std::alloc::{AllocError, Global};
 
 /// For each node a number that is greater than that of the node above it, while `are_kept` says so; none is greater than `most`.
 /// A node that is put in between takes a number that is free, so that no other has to change.
@@ -66,6 +66,18 @@ impl Ranks {
             most: 0,
             are_kept: true,
         }
+    }
+
+    /// The same ranks once more. The error is refused memory.
+    pub(crate) fn copy(&self, alloc: Global) -> Result<Ranks, AllocError>
+        ensures { IfOk result (λ r. (nodes : List NodeOf) → AreKept nodes self.now → AreKept nodes r) }
+    {
+        let numbers = Vec::from_slice(alloc, &self.numbers)?;
+        Ok(Ranks {
+            numbers,
+            most: self.most,
+            are_kept: self.are_kept,
+        })
     }
 
     /// Ranks a node that came behind so many others.

@@ -9,7 +9,7 @@ use orc_calls::{Counts, check_due};
 use orc_rules::answers::Answers;
 use orc_rules::entry::RuleFault;
 use orc_rules::value::{Answer, Args, Found};
-use std::alloc::Global;
+use std::alloc::{AllocError, Global};
 use std::marker::Model;
 
 /// A call that was made: what the table of sites says of it, when it was made, and the node where it was put.
@@ -60,6 +60,22 @@ impl Rest {
             to_cancel: Vec::new(alloc),
             cancels,
         }
+    }
+
+    /// The same once more. The error is refused memory.
+    pub(crate) fn copy(&self, alloc: Global) -> Result<Rest, AllocError>
+        ensures { IfOk result (λ r. r ≡ self.now) }
+    {
+        let calls = Vec::from_slice(alloc, &self.calls)?;
+        let to_cancel = Vec::from_slice(alloc, &self.to_cancel)?;
+        let counts = self.counts.copy()?;
+        Ok(Rest {
+            calls,
+            counts,
+            time: self.time,
+            to_cancel,
+            cancels: self.cancels,
+        })
     }
 
     /// What the table says of the next call of a site with these arguments.

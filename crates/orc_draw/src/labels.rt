@@ -2,10 +2,10 @@
 
 use crate::page::Page;
 use crate::picture::Subject;
-use crate::sketch::Purpose;
 use crate::story::{Called, Kind};
 use orc_lex::token::Span;
 use orc_rules::entry::Entry;
+use orc_sketch::Purpose;
 use std::alloc::{AllocError, Global};
 
 /// How many columns of a left side are shown, where it is longer than `LONGEST`.

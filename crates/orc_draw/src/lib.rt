@@ -1,7 +1,7 @@
 //! Pictures of journals: which calls were out when, who won each race, and what was published.
 //!
 //! `draw` takes a program's tree, the table that answered its calls, and a journal that was checked against both, and gives
-//! a picture as SVG or as rows of text. It replays the journal on the tree (`story`), picks the rows (`rows`), shares the
+//! a picture as SVG or as rows of text. It replays the journal on the tree's sketch (`story`), picks the rows (`rows`), shares the
 //! width among the times (`scale`), and writes the marks (`text`, `svg`). It works in whole numbers, never recurs, and takes
 //! time in proportion to the journal, but for its searches by entry.
 #![tactic(auto)]
@@ -13,12 +13,11 @@ mod page;
 mod picture;
 mod rows;
 mod scale;
-mod sketch;
 mod slots;
 mod story;
 mod style;
 mod svg;
 mod text;
 
-pub use fault::{DrawFault, MOST_ROWS};
+pub use fault::DrawFault;
 pub use picture::{Form, Options, Subject, Theme, draw};

@@ -4,7 +4,6 @@ use crate::fault::DrawFault;
 use crate::labels::Texts;
 use crate::page::Page;
 use crate::rows::{Row, Rows};
-use crate::sketch::Sketch;
 use crate::slots::Slots;
 use crate::story::{Event, Moment, Shown, Span, Story};
 use crate::{svg, text};
@@ -12,6 +11,7 @@ use orc_journal::Journal;
 use orc_rules::answers::Answers;
 use orc_rules::entry::State;
 use orc_rules::value::Value;
+use orc_sketch::Sketch;
 use orc_syntax::Ast;
 use std::alloc::{AllocError, Global};
 
@@ -129,20 +129,12 @@ impl<'a> Picture<'a> {
 // The most values that a summary or one time shows.
 const FEW: u64 = 6;
 
-fn state_word(state: State) -> &'static str {
-    match state {
-        State::Halted => "Halted",
-        State::Quiet => "Quiet",
-        State::Running => "Running",
-    }
-}
-
 // How many entries there are, where the run stands, and what was published.
 fn summary(alloc: Global, subject: &Subject, story: &Story) -> Result<String, AllocError> {
     let mut page = Page::new(alloc);
     page.number(subject.journal.len() as u64);
     page.say(" entries, ");
-    page.say(state_word(subject.state));
+    page.say(subject.state.word());
     page.say(" at time ");
     page.number(story.now);
     page.say(", publishes ");

@@ -1,8 +1,9 @@
 //! The rows of a picture: each shown span with its label, in a tree.
 
-use crate::fault::{DrawFault, MOST_ROWS};
+use crate::fault::DrawFault;
 use crate::labels::Texts;
 use crate::story::{End, Kind, Span};
+use orc_rules::limits::MOST_ROWS;
 use std::alloc::{AllocError, Global};
 
 /// A row: its span, how far it stands in, and its label.

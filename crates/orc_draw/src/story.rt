@@ -1,13 +1,14 @@
 //! What happened in a run: its calls, prunings and otherwises, from when to when, one inside the other.
 
-use crate::fault::{DrawFault, MOST_ROWS};
-use crate::sketch::{Purpose, Shape, Sketch};
+use crate::fault::DrawFault;
 use orc_calls::{Counts, due_time};
 use orc_journal::Journal;
 use orc_lex::token::Span as Place;
 use orc_rules::answers::Answers;
 use orc_rules::entry::Entry;
+use orc_rules::limits::MOST_ROWS;
 use orc_rules::value::{Args, Value};
+use orc_sketch::{Purpose, Shape, Sketch};
 use std::alloc::Global;
 use std::collections::HashMap;
 

@@ -1,6 +1,7 @@
 //! One worker, which holds all tokens and waits for nobody.
 
 ghost use Rattle.std.specs.Prelude.{◌≡◌, ◌≤◌, ◌↔◌, Err, IfOk, IfErr};
+ghost use Rattle.orc_rules.specs.declared.limits.TheConstants.{MOST_ENTRIES};
 ghost use Rattle.orc_outcome.specs.Outcome.{IsPlayed};
 ghost use Rattle.orc_engine.specs.Ranges.{IsInRange};
 
@@ -47,7 +48,7 @@ fn run_named<P: Naming>(
     keeps_text: bool,
     limit: usize,
 ) -> Result<Played, EngineFault>
-    requires limit { (1 ≤ limit) × (limit ≤ 10000000) }
+    requires limit { (1 ≤ limit) × (limit ≤ MOST_ENTRIES) }
     requires program { program.now ≡ P.listing }
     requires graph { graph.now ≡ P.listing }
     requires answers { answers.now.sites ≡ P.sites }

@@ -15,8 +15,8 @@ use crate::telling::tell;
 use crate::waiting::Waiting;
 use orc_graph::Graph;
 use orc_ledger::{
-    Call, HaltFault, Halted, Ledger, LedgerFault, Moved, Next, Program as Naming, ReturnFault,
-    Token, What,
+    Call, Called, HaltFault, Halted, Ledger, LedgerFault, Moved, Next, Program as Naming,
+    ReturnFault, Token, What,
 };
 use orc_names::Scope;
 use orc_outcome::{End, Played};
@@ -160,11 +160,21 @@ impl<P: Naming> Desk<P> {
         }
     }
 
-    /// The turn of a token: it moves until it is gone, waits, or has made its moves.
+    /// The turn of a token: it moves until it is gone, waits, or has made its moves. Between two rounds that of a call which is due, if the table answers
+    /// it here: else tokens that move on and on would starve it.
     pub(crate) fn turn(&mut self, graph: &Graph, answers: &Answers) -> Result<Turn, Stop>
         requires graph { graph.now ≡ P.listing }
         requires answers { answers.now.sites ≡ P.sites }
     {
+        if self.is_between() {
+            self.sweep();
+            if !self.asks
+                && let Some(number) = self.due_beyond(0)
+            {
+                self.answer_due(number)?;
+                return Ok(Turn::Went);
+            }
+        }
         let Some(handle) = self.ready.take() else {
             return Ok(Turn::Rests);
         };
@@ -184,6 +194,16 @@ impl<P: Naming> Desk<P> {
         }
         self.join_held(slot)?;
         Ok(Turn::Went)
+    }
+
+    // Tokens that are gone wait no more before the one that has waited longest: many may go at once, and their turns would take all rounds.
+    fn sweep(&mut self) {
+        for _ in 0..self.ready.len() {
+            match self.ready.oldest() {
+                Some(handle) if !self.is_there(handle) => self.ready.drop_oldest(),
+                _ => return,
+            }
+        }
     }
 
     // Whether the slot still holds the token.
@@ -266,7 +286,7 @@ impl<P: Naming> Desk<P> {
         }
     }
 
-    // A call of a site. One that the table answers at once is answered at once, and the token on its answer goes on.
+    // A call of a site. Where the table answers it here and at once, the token on its answer goes on.
     fn call(
         &mut self,
         graph: &Graph,
@@ -279,23 +299,26 @@ impl<P: Naming> Desk<P> {
         requires held { IsHeld self.old.ledger.slots slot token }
         requires calls { what_of (code P.listing) (definitions P.listing) self.old.ledger token ≡ What.Call }
     {
+        if self.asks {
+            return match self
+                .ledger
+                .call(graph, answers, slot, token, &mut self.args)
+            {
+                Ok(call) => Ok(Step::Asks(call.number)),
+                Err(fault) => Err(Stop::Refused(fault)),
+            };
+        }
         match self
             .ledger
-            .call(graph, answers, slot, token, &mut self.args)
+            .call_through(graph, answers, slot, token, &mut self.args)
         {
-            Ok(call) if self.asks => Ok(Step::Asks(call.number)),
-            Ok(call) => self.answer_at_once(call),
+            Ok(Called::Answered) => Ok(Step::On(slot)),
+            Ok(Called::Halted(group)) => {
+                self.close(group)?;
+                Ok(Step::Done)
+            }
+            Ok(Called::Pends(_)) => Ok(Step::Done),
             Err(fault) => Err(Stop::Refused(fault)),
-        }
-    }
-
-    fn answer_at_once(&mut self, call: Call) -> Result<Step, Stop> {
-        let Found::After(answer, 0) = call.found else {
-            return Ok(Step::Done);
-        };
-        match self.answer(call, answer)? {
-            Some(slot) => Ok(Step::On(slot)),
-            None => Ok(Step::Done),
         }
     }
 
@@ -527,6 +550,11 @@ impl<P: Naming> Desk<P> {
     /// Whether somebody else makes the calls.
     pub(crate) fn asks(&self) -> bool {
         self.asks
+    }
+
+    /// Whether it is between two rounds of turns: calls that are due have their turn then.
+    pub(crate) fn is_between(&self) -> bool {
+        self.ready.is_between()
     }
 
     /// How many tokens have a turn that comes.

@@ -21,7 +21,10 @@ pub(crate) enum News<C: Drop> {
     Answered(u64, Answer),
     /// The call with this number is answered then.
     Waits(u64, Due, Box<C>),
-    Failed(Stop),
+    /// The call with this number was due and didn't answer.
+    Late(u64),
+    /// Memory was refused.
+    Refused,
 }
 
 /// What a worker has to do outside the lock.
@@ -137,7 +140,8 @@ impl<P: Naming, C: Drop> Floor<P, C> {
             News::None => Ok(()),
             News::Answered(number, answer) => self.desk.answered(number, answer),
             News::Waits(number, due, call) => self.park(number, due, call),
-            News::Failed(stop) => Err(stop),
+            News::Late(number) => self.miss(number),
+            News::Refused => Err(Stop::Refused(LedgerFault::Memory)),
         };
         if let Err(stop) = heard {
             self.stop(stop);
@@ -158,6 +162,14 @@ impl<P: Naming, C: Drop> Floor<P, C> {
         }
     }
 
+    // A call owes its answer, if it still pends: sites that were told of its cancel need not answer it.
+    fn miss(&self, number: u64) -> Result<(), Stop> {
+        match self.desk.due_of(number) {
+            Some(_) => Err(Stop::Site(number)),
+            None => Ok(()),
+        }
+    }
+
     // Turns of tokens.
     fn play(&mut self, graph: &Graph, answers: &Answers) -> Errand<C>
         requires graph { graph.now ≡ P.listing }
@@ -166,6 +178,12 @@ impl<P: Naming, C: Drop> Floor<P, C> {
         for _turn in 0..TURNS {
             if self.is_over() {
                 return Errand::Over;
+            }
+            if self.desk.asks()
+                && self.desk.is_between()
+                && let Some(errand) = self.take_due()
+            {
+                return errand;
             }
             match self.desk.turn(graph, answers) {
                 Ok(Turn::Went) => {}
@@ -202,7 +220,8 @@ impl<P: Naming, C: Drop> Floor<P, C> {
             return Errand::None;
         }
         if self.desk.due_beyond(0).is_some() {
-            return self.ask();
+            // The others that are due are in some worker's hand.
+            return self.take_due().unwrap_or(Errand::Rest);
         }
         match self.desk.pass_time(graph) {
             Ok(true) => Errand::None,
@@ -214,15 +233,11 @@ impl<P: Naming, C: Drop> Floor<P, C> {
         }
     }
 
-    // A parked call that is due. The others that are due are in some worker's hand.
-    fn ask(&mut self) -> Errand<C> {
-        match self.parked_due() {
-            Some(number) => match self.parked.remove(&number) {
-                Some(call) => Errand::Ask(number, self.desk.time(), call),
-                None => Errand::Rest,
-            },
-            None => Errand::Rest,
-        }
+    // A parked call that is due, to be asked again.
+    fn take_due(&mut self) -> Option<Errand<C>> {
+        let number = self.parked_due()?;
+        let call = self.parked.remove(&number)?;
+        Some(Errand::Ask(number, self.desk.time(), call))
     }
 
     // The least number of a parked call that is due.

@@ -1,6 +1,7 @@
 //! Several workers: the calling thread, and others beside it.
 
 ghost use Rattle.std.specs.Prelude.{◌≡◌, ◌≤◌, ◌↔◌, Err, IfOk, IfErr};
+ghost use Rattle.orc_rules.specs.declared.limits.TheConstants.{MOST_ENTRIES};
 ghost use Rattle.orc_outcome.specs.Outcome.{IsPlayed};
 ghost use Rattle.orc_engine.specs.Ranges.{IsInRange};
 
@@ -88,7 +89,7 @@ where
     S: Sites + Sync,
     S::Call: Send,
     G: Gate + Sync,
-    requires limit { (1 ≤ limit) × (limit ≤ 10000000) }
+    requires limit { (1 ≤ limit) × (limit ≤ MOST_ENTRIES) }
     requires program { program.now ≡ P.listing }
     requires graph { graph.now ≡ P.listing }
     requires answers { answers.now.sites ≡ P.sites }

@@ -46,6 +46,21 @@ impl Ready {
         }
     }
 
+    /// The token that has waited longest.
+    pub(crate) fn oldest(&self) -> Option<Handle> {
+        self.handles.front().copied()
+    }
+
+    /// The token that has waited longest waits no more.
+    pub(crate) fn drop_oldest(&mut self) {
+        let _gone = self.handles.pop_front();
+    }
+
+    /// Whether a round has ended, and no turn of the next one has begun.
+    pub(crate) fn is_between(&self) -> bool {
+        self.turns % ROUND == 0
+    }
+
     /// Takes the token whose turn it is.
     pub(crate) fn take(&mut self) -> Option<Handle> {
         self.turns = self.turns.wrapping_add(1);

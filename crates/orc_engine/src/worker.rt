@@ -124,14 +124,14 @@ impl<P: Naming, R: Wait, S: Sites, G: Gate> Shift<'_, P, R, S, G> {
     fn make(&self, request: Request) -> News<S::Call> {
         self.hub.gate.pass(request.number);
         let Ok(mut call) = self.hub.sites.call(&request) else {
-            return News::Failed(Stop::Refused(LedgerFault::Memory));
+            return News::Refused;
         };
         match self.poller.ask(&mut call, request.made_at) {
             Polled::Answered(answer) => News::Answered(request.number, answer),
-            Polled::Late => News::Failed(Stop::Site(request.number)),
+            Polled::Late => News::Late(request.number),
             Polled::Waits(due) => match Box::new(self.hub.alloc, call) {
                 Ok(call) => News::Waits(request.number, due, call),
-                Err(_) => News::Failed(Stop::Refused(LedgerFault::Memory)),
+                Err(_) => News::Refused,
             },
         }
     }
@@ -140,7 +140,7 @@ impl<P: Naming, R: Wait, S: Sites, G: Gate> Shift<'_, P, R, S, G> {
     fn ask(&self, number: u64, now: u64, mut call: Box<S::Call>) -> News<S::Call> {
         match self.poller.ask(&mut *call, now) {
             Polled::Answered(answer) => News::Answered(number, answer),
-            Polled::Late | Polled::Waits(_) => News::Failed(Stop::Site(number)),
+            Polled::Late | Polled::Waits(_) => News::Late(number),
         }
     }
 }

@@ -3,6 +3,7 @@
 use crate::page::Page;
 use crate::subject::Subject;
 use orc_journal::JournalFault;
+use orc_rules::limits::MOST_ENTRIES;
 use orc_scope::ScopeFault;
 use orc_site::ScriptFault;
 use orc_syntax::SyntaxFault;
@@ -45,7 +46,9 @@ impl Page {
             Fault::Script(fault) => self.script(alloc, subject, fault),
             Fault::Journal(fault) => self.journal(alloc, subject, fault),
             Fault::Range => {
-                self.note("the limit is 1 to 10000000\n");
+                self.note("the limit is 1 to ");
+                self.number(MOST_ENTRIES);
+                self.say("\n");
                 Ok(())
             }
             Fault::Begin => {

@@ -1,8 +1,7 @@
 //! Hints: what may have been meant.
 
 use crate::page::Page;
-use crate::place::place_of;
-use crate::subject::Document;
+use orc_page::{Document, place_of};
 
 /// A hint's words. `%` stands for a name, `@` for the line and the column of a place, and `#` for its line.
 #[derive(Clone, Copy)]

@@ -1,135 +1,51 @@
-//! A text that is written piece by piece.
+//! The text of an explanation.
 
 use std::alloc::{AllocError, Global};
-use std::fmt;
+use std::ops::{Deref, DerefMut};
 
-/// The longest word that is shown whole, in bytes.
-const LONGEST_WORD: usize = 100;
-
-/// The text of an explanation. Where memory is refused nothing more is written, and the text isn't given out.
+/// A page of `orc_page`, to which the modules here add what they have to say.
 #[derive(Drop)]
 pub(crate) struct Page {
-    text: String,
-    is_refused: bool,
-    /// How wide the numbers of the lines are that stand at the left.
-    pub gutter: u64,
+    page: orc_page::Page,
 }
 
 impl Page {
     pub(crate) fn new(alloc: Global) -> Page {
         Page {
-            text: String::new(alloc),
-            is_refused: false,
-            gutter: 1,
+            page: orc_page::Page::new(alloc),
         }
     }
 
     /// The text. The error is that memory for a part of it was refused.
     pub(crate) fn finish(self) -> Result<String, AllocError> {
-        let Page {
-            text,
-            is_refused,
-            gutter: _,
-        } = self;
-        if is_refused {
-            Err(AllocError)
-        } else {
-            Ok(text)
+        let Page { page } = self;
+        page.finish()
+    }
+
+    /// A number below a million, with a comma behind its thousands.
+    pub(crate) fn grouped(&mut self, number: u64) {
+        if number < 1_000 {
+            return self.number(number);
         }
+        self.number(number / 1_000);
+        self.say(",");
+        let units = number % 1_000;
+        self.number(units / 100);
+        self.number(units / 10 % 10);
+        self.number(units % 10);
     }
+}
 
-    pub(crate) fn say(&mut self, text: &str) {
-        if !self.is_refused {
-            self.is_refused = self.text.push_str(text).is_err();
-        }
+impl Deref for Page {
+    type Target = orc_page::Page;
+
+    fn deref(&self) -> &orc_page::Page {
+        &self.page
     }
+}
 
-    fn sign(&mut self, sign: char) {
-        if !self.is_refused {
-            self.is_refused = self.text.push(sign).is_err();
-        }
-    }
-
-    fn print<T: fmt::Display + Drop>(&mut self, item: T) {
-        if !self.is_refused {
-            self.is_refused = write!(self.text, "{item}").is_err();
-        }
-    }
-
-    pub(crate) fn number(&mut self, number: u64) {
-        self.print(number);
-    }
-
-    /// The number of a character, as Unicode writes it.
-    pub(crate) fn code(&mut self, code: u32) {
-        if !self.is_refused {
-            self.is_refused = write!(self.text, "{code:04X}").is_err();
-        }
-    }
-
-    /// The same sign so many times.
-    pub(crate) fn fill(&mut self, sign: char, times: u64) {
-        for _time in 0..times {
-            self.sign(sign);
-        }
-    }
-
-    /// A byte of a text: a blank is shown as a blank, and what isn't printable ASCII as `?`.
-    pub(crate) fn byte(&mut self, byte: u8) {
-        let shown = match byte {
-            b'\t' | b'\r' => b' ',
-            32..=126 => byte,
-            _ => b'?',
-        };
-        self.sign(shown as char);
-    }
-
-    /// A word of a text. What is beyond its first 100 bytes is left out.
-    pub(crate) fn word(&mut self, word: &[u8]) {
-        for byte in word.iter().take(LONGEST_WORD) {
-            self.byte(*byte);
-        }
-        if word.len() > LONGEST_WORD {
-            self.say("..");
-        }
-    }
-
-    /// The name of a file.
-    pub(crate) fn path(&mut self, path: &str) {
-        for sign in path.chars() {
-            let is_shown = sign.is_ascii() && !sign.is_ascii_control();
-            self.sign(if is_shown { sign } else { '?' });
-        }
-    }
-
-    /// A number of things: their name takes an `s` but for one of them.
-    pub(crate) fn count(&mut self, number: u64, name: &str) {
-        self.number(number);
-        self.say(" ");
-        self.say(name);
-        if number != 1 {
-            self.say("s");
-        }
-    }
-
-    /// A line of its own below what was shown.
-    pub(crate) fn note(&mut self, text: &str) {
-        self.fill(' ', self.gutter);
-        self.say(" = ");
-        self.say(text);
-    }
-
-    /// Such a line that says what to do.
-    pub(crate) fn help(&mut self, text: &str) {
-        self.note("help: ");
-        self.say(text);
-        self.say("\n");
-    }
-
-    /// Such a line that says what may stand there.
-    pub(crate) fn expected(&mut self, text: &str) {
-        self.note("expected: ");
-        self.say(text);
-        self.say("\n");
+impl DerefMut for Page {
+    fn deref_mut(&mut self) -> &mut orc_page::Page {
+        &mut self.page
     }
 }

@@ -4,11 +4,12 @@ use crate::bindings::{Binder, Bindings};
 use crate::hint::Hint;
 use crate::near::Near;
 use crate::page::Page;
-use crate::subject::{Document, Subject};
+use crate::subject::Subject;
 use crate::tokens::span_at;
 use crate::wanted::NO_IF;
+use orc_page::Document;
 use orc_rules::answers::Answers;
-use orc_rules::limits::MOST_ARGUMENTS;
+use orc_rules::limits::{MOST_ARGUMENTS, MOST_NODES};
 use orc_scope::{FaultKind, ScopeFault};
 use orc_site::read_script;
 use orc_syntax::{Ast, Definition, Expr, Name, Part, parse};
@@ -96,7 +97,7 @@ fn has_wide_call(expression: &Expr) -> bool {
     false
 }
 
-// Whether a call or a definition has over 16 arguments or parameters.
+// Whether a call or a definition has too many arguments or parameters.
 fn has_many(ast: &Ast) -> bool {
     for definition in &ast.definitions {
         if definition.parameters.len() > MOST_ARGUMENTS || has_wide_call(&definition.body) {
@@ -393,11 +394,17 @@ impl Page {
     // An argument or a parameter too many, or else nodes.
     fn too_many(&mut self, are_arguments: bool) {
         if are_arguments {
-            self.say("the 17th argument or parameter\n");
-            self.expected("at most 16");
+            self.say("the ");
+            self.number(MOST_ARGUMENTS as u64 + 1);
+            self.say("th argument or parameter\n");
+            self.note("expected: at most ");
+            self.number(MOST_ARGUMENTS as u64);
+            self.say("\n");
             self.help("put the numbers into fewer parameters");
         } else {
-            self.say("the program has over 65,535 nodes when it is written out\n");
+            self.say("the program has over ");
+            self.grouped(MOST_NODES as u64);
+            self.say(" nodes when it is written out\n");
         }
     }
 }

@@ -1,8 +1,9 @@
 //! Faults of a script (L).
 
 use crate::page::Page;
-use crate::subject::{Document, Subject};
+use crate::subject::Subject;
 use orc_lex::token::Span;
+use orc_page::Document;
 use orc_rules::builtin::Builtin;
 use orc_rules::digits::digits_at;
 use orc_rules::limits::{LONGEST_SOURCE, MOST_ANSWERS, MOST_ARGUMENTS};
@@ -19,7 +20,7 @@ const TIME: &str = "digits alone, at most 9223372036854775807";
 
 /// What a piece of a line is.
 #[derive(Clone, Copy, PartialEq, Eq)]
-enum Kind {
+pub(crate) enum Kind {
     Name,
     Number,
     /// A sign, or what is none.
@@ -29,9 +30,9 @@ enum Kind {
 
 /// A piece of a line.
 #[derive(Clone, Copy)]
-struct Piece<'a> {
+pub(crate) struct Piece<'a> {
     kind: Kind,
-    text: &'a [u8],
+    pub text: &'a [u8],
     span: Span,
 }
 
@@ -94,15 +95,15 @@ fn is_in_range(text: &[u8]) -> bool {
 
 /// A line as its pieces, and the one that is looked at.
 #[derive(Drop)]
-struct Line<'a> {
-    pieces: Vec<Piece<'a>>,
+pub(crate) struct Line<'a> {
+    pub pieces: Vec<Piece<'a>>,
     at: usize,
     end: Piece<'a>,
 }
 
 impl<'a> Line<'a> {
-    // The pieces of the line that stands there, up to its comment. The error is refused memory.
-    fn new(alloc: Global, text: &'a [u8], span: Span) -> Result<Line<'a>, AllocError> {
+    /// The pieces of the line that stands there, up to its comment. The error is refused memory.
+    pub(crate) fn new(alloc: Global, text: &'a [u8], span: Span) -> Result<Line<'a>, AllocError> {
         let mut line = Line {
             pieces: Vec::new(alloc),
             at: 0,
@@ -272,7 +273,7 @@ impl<'a> Line<'a> {
     }
 }
 
-// What is wrong, in words.
+// What is wrong, in words: behind the name or the numbers, where it has some.
 fn words(wrong: Wrong) -> &'static str {
     match wrong {
         Wrong::Name => "the name of a site has to stand here",
@@ -287,7 +288,7 @@ fn words(wrong: Wrong) -> &'static str {
         Wrong::Time => "a number of units of time has to stand here",
         Wrong::Range => "this number is out of range",
         Wrong::More => "`after`, `then` or the end of the line has to stand here",
-        Wrong::Many => "over 16 patterns or 1,024 answers",
+        Wrong::Many => " answers",
     }
 }
 
@@ -331,6 +332,12 @@ impl Page {
             Wrong::BuiltIn | Wrong::Reserved => {
                 self.say("`");
                 self.word(here.text);
+            }
+            Wrong::Many => {
+                self.say("over ");
+                self.number(MOST_ARGUMENTS as u64);
+                self.say(" patterns or ");
+                self.grouped(MOST_ANSWERS as u64);
             }
             _ => {}
         }

@@ -2,9 +2,8 @@
 
 use crate::hint::Hint;
 use crate::page::Page;
-use crate::place::begins_character;
-use crate::subject::Document;
 use orc_lex::token::Span;
+use orc_page::{Document, begins_character};
 
 const COMMENT: &str = "a comment is `-- ..` to the end of the line, or `{- .. -}`";
 

@@ -2,12 +2,7 @@
 
 ghost use Rattle.std.specs.Prelude.{◌≡◌};
 
-/// A file as the command line names it, and what was read of it.
-#[derive(Clone, Copy)]
-pub struct Document<'a> {
-    pub name: &'a str,
-    pub text: &'a [u8],
-}
+use orc_page::Document;
 
 /// The files of a command line.
 #[derive(Clone, Copy)]
@@ -35,7 +30,7 @@ impl<'a> Subject<'a> {
     }
 
     /// The script's text, empty where no script was given.
-    pub(crate) fn script_text(&self) -> &'a [u8] {
+    pub fn script_text(&self) -> &'a [u8] {
         match self.script {
             Some(script) => script.text,
             None => b"",

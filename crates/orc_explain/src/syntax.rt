@@ -1,10 +1,10 @@
 //! Faults of a source's text (S).
 
 use crate::page::Page;
-use crate::subject::Document;
 use crate::tokens::{Tokens, span_at};
 use crate::wanted::hint_of;
 use orc_lex::token::{Kind, Side, Span, Token, What};
+use orc_page::Document;
 use orc_rules::limits::LONGEST_SOURCE;
 use orc_syntax::SyntaxFault;
 use std::alloc::{AllocError, Global};

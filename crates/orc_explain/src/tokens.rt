@@ -1,9 +1,9 @@
 //! The tokens before a place of a source.
 
 use crate::page::Page;
-use crate::subject::Document;
 use orc_lex::lexer::{Piece, piece_at};
 use orc_lex::token::{Kind, Plain, Span, Token};
+use orc_page::Document;
 use std::alloc::{AllocError, Global};
 
 /// The tokens of a source up to a place, and the one that begins there.

@@ -1,5 +1,6 @@
 -- What is added behind a list leaves what stands in it as it is.
 use Rattle.std.proofs.Common.{◌≡◌, ℕ, zero, suc, ◌+◌, ◌-◌, ◌≤◌, List, [], ◌∷◌, ◌++◌, length, map, get_or, take, drop, Option, Some, None, refl, ap, ◌∙◌, sym, arith, length-append, length-drop, length-take}
+use Rattle.orc_rules.specs.declared.limits.TheConstants.{MOST_ARGUMENTS}
 use Rattle.std.proofs.lemmas.List.{take-append-le, drop-append-le, drop_at, take_all, append-nil}
 use Rattle.std.specs.Prelude.{slice_get, option_map}
 use Rattle.orc_rules.specs.Nodes.{Routine}
@@ -26,11 +27,11 @@ pub within_more : (n m : ℕ) (rs : List Range) → n ≤ m → AreWithin n rs �
 within_more n m [] le h = tt
 within_more n m (r ∷ rs) le h = (h.0, omega (arith, le, h.1), h.2, within_more n m rs le h.3)
 
-pub within_push : (n : ℕ) (rs : List Range) (r : Range) → AreWithin n rs → r.start ≤ r.end → r.end ≤ n → r.end ≤ r.start + 16 → AreWithin n (rs ++ r ∷ [])
+pub within_push : (n : ℕ) (rs : List Range) (r : Range) → AreWithin n rs → r.start ≤ r.end → r.end ≤ n → r.end ≤ r.start + MOST_ARGUMENTS → AreWithin n (rs ++ r ∷ [])
 within_push n [] r h a b c = (a, b, c, tt)
 within_push n (q ∷ rs) r h a b c = (h.0, h.1, h.2, within_push n rs r h.3 a b c)
 
-pub within_at : (n : ℕ) (rs : List Range) (i : ℕ) (r : Range) → AreWithin n rs → slice_get rs i ≡ Some r → (r.start ≤ r.end) × (r.end ≤ n) × (r.end ≤ r.start + 16)
+pub within_at : (n : ℕ) (rs : List Range) (i : ℕ) (r : Range) → AreWithin n rs → slice_get rs i ≡ Some r → (r.start ≤ r.end) × (r.end ≤ n) × (r.end ≤ r.start + MOST_ARGUMENTS)
 within_at n [] i r h e = cc e
 within_at n (q ∷ rs) zero r h e = let is : q ≡ r = cc e in rw (← is) (h.0, h.1, h.2)
 within_at n (q ∷ rs) (suc i) r h e = within_at n rs i r h.3 e

@@ -1,6 +1,7 @@
 -- Lists that stand one behind another in one list.
 use Rattle.std.specs.Prelude.{ℕ, ◌+◌, ◌≤◌, List, [], ◌∷◌, Option, Some, None, slice_get}
 use Rattle.std.specs.List.{slice_range}
+use Rattle.orc_rules.specs.declared.limits.TheConstants.{MOST_ARGUMENTS}
 use Rattle.orc_rules.specs.Nodes.{Routine}
 use Rattle.orc_graph.specs.declared.numbers.Range.{Range}
 
@@ -8,10 +9,10 @@ use Rattle.orc_graph.specs.declared.numbers.Range.{Range}
 abbrev pub cut : {X : Type 0} → List X → Range → List X
 cut xs r = slice_range xs r.start r.end
 
--- each range ends within so many items, and has 16 of them at most
+-- each range ends within so many items, and has no more of them than a call has arguments
 abbrev pub AreWithin : ℕ → List Range → Type 0
 AreWithin n [] = Unit {0}
-AreWithin n (r ∷ rs) = (r.start ≤ r.end) × (r.end ≤ n) × (r.end ≤ r.start + 16) × AreWithin n rs
+AreWithin n (r ∷ rs) = (r.start ≤ r.end) × (r.end ≤ n) × (r.end ≤ r.start + MOST_ARGUMENTS) × AreWithin n rs
 
 abbrev pub params_or_none : Option Routine → List ℕ
 params_or_none (Some r) = r.params

@@ -2,6 +2,7 @@
 
 ghost use Rattle.std.specs.Prelude.{◌≡◌, ◌≤◌, ◌++◌, ◌∷◌, [], length, map, slice_get, slice_index_or, option_map, IfOk, IfErr};
 ghost use Rattle.orc_rules.specs.Nodes.{ArePartsFirst, node_of, unfold_node, code};
+ghost use Rattle.orc_rules.specs.declared.limits.TheConstants.{MOST_ARGUMENTS};
 ghost use Rattle.orc_graph.specs.Graph.{term_node};
 ghost use Rattle.orc_graph.specs.Ranges.{params_at};
 
@@ -154,7 +155,7 @@ impl Graph {
     /// The operands of the list with that number, none where there is no such list.
     pub fn operands(&self, list: usize) -> &[Operand]
         ensures value { result.now ≡ slice_index_or self.now.lists list [] }
-        ensures len { length result.now ≤ 16 }
+        ensures len { length result.now ≤ MOST_ARGUMENTS }
     {
         self.lists.get(list)
     }

@@ -1,13 +1,14 @@
 //! The lists of operands, one behind another.
 
 ghost use Rattle.std.specs.Prelude.{◌≡◌, ◌++◌, ◌∷◌, ◌≤◌, [], length, map, slice_index_or, slice_get, OnOk};
+ghost use Rattle.orc_rules.specs.declared.limits.TheConstants.{MOST_ARGUMENTS};
 
 use crate::numbers::{GraphFault, Range, part, place, put};
 use orc_rules::param::Operand;
 use std::alloc::Global;
 use std::marker::Model;
 
-/// Lists of 16 operands at most, by their numbers.
+/// Lists of operands, by their numbers, each of a call.
 #[derive(Drop)]
 pub(crate) struct Lists {
     operands: Vec<Operand>,
@@ -49,7 +50,7 @@ impl Lists {
 
     /// Adds a list at the end.
     pub(crate) fn push(&mut self, operands: &[Operand]) -> Result<(), GraphFault>
-        requires { length operands.now ≤ 16 }
+        requires { length operands.now ≤ MOST_ARGUMENTS }
         ensures { OnOk result (self.new ≡ self.old ++ operands.now ∷ []) }
     {
         let range = place(&mut self.operands, operands)?;
@@ -60,7 +61,7 @@ impl Lists {
     /// The list of that number, none where there is no such list.
     pub(crate) fn get(&self, number: usize) -> &[Operand]
         ensures value { result.now ≡ slice_index_or self.now number [] }
-        ensures len { length result.now ≤ 16 }
+        ensures len { length result.now ≤ MOST_ARGUMENTS }
     {
         match range_at(&self.ranges, number) {
             Some(range) => part(&self.operands, range),

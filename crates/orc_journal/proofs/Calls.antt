@@ -1,5 +1,6 @@
 -- The arguments of a call.
 use Rattle.std.proofs.Common.{◌≡◌, ℕ, zero, suc, ◌<◌, ◌≤◌, true, false, List, [], ◌∷◌, ◌++◌, length, Option, Some, None, refl, sym, ap, subst, ◌∙◌, append_assoc, arith, inl, inr}
+use Rattle.orc_rules.specs.declared.limits.TheConstants.{MOST_ARGUMENTS}
 use Rattle.std.specs.Prelude.{option_map, codes}
 use Rattle.std.specs.Prelude.{pos, negsuc}
 use Rattle.orc_rules.specs.declared.value.Value.{Value}
@@ -67,24 +68,24 @@ no_close (Truth true) more rest f = refl
 no_close (Truth false) more rest f = refl
 no_close Signal more rest f = refl
 
-pub arguments_again : (vs : List Value) (rest : List ℕ) → length vs ≤ 16 → AreValues vs → arguments_at (arguments vs ++ rest) ≡ Some (vs, rest)
+pub arguments_again : (vs : List Value) (rest : List ℕ) → length vs ≤ MOST_ARGUMENTS → AreValues vs → arguments_at (arguments vs ++ rest) ≡ Some (vs, rest)
 unfolding arguments_at
 arguments_again [] rest count f = refl
-arguments_again (v ∷ vs) rest count f = rw (no_close v (closing vs) rest f.0) (values_again 16 (v ∷ vs) rest (omega arith) count f)
+arguments_again (v ∷ vs) rest count f = rw (no_close v (closing vs) rest f.0) (values_again MOST_ARGUMENTS (v ∷ vs) rest (omega arith) count f)
 
-pub arguments_take : (bytes : List ℕ) (vs : List Value) (rest : List ℕ) → arguments_at bytes ≡ Some (vs, rest) → (bytes ≡ arguments vs ++ rest) × (length vs ≤ 16) × AreValues vs
+pub arguments_take : (bytes : List ℕ) (vs : List Value) (rest : List ℕ) → arguments_at bytes ≡ Some (vs, rest) → (bytes ≡ arguments vs ++ rest) × (length vs ≤ MOST_ARGUMENTS) × AreValues vs
 unfolding arguments_at
 arguments_take bytes vs rest e =
-    let a = bind_some (after (codes "(") bytes) (λ r. or_else (option_map (λ r. ([], r)) (after (codes ")") r)) (values_at 16 r)) (vs, rest) e in
+    let a = bind_some (after (codes "(") bytes) (λ r. or_else (option_map (λ r. ([], r)) (after (codes ")") r)) (values_at MOST_ARGUMENTS r)) (vs, rest) e in
     let t = after_takes (codes "(") bytes a.0 a.1 in
     elim (or_else_some _ _ (vs, rest) a.2) [
       | inl h ↦ none_of a.0 t (after (codes ")") a.0) refl h
-      | inr h ↦ some_of a.0 t vs (values_take 16 a.0 vs rest h)
+      | inr h ↦ some_of a.0 t vs (values_take MOST_ARGUMENTS a.0 vs rest h)
     ] where
-      none_of : (r : List ℕ) → bytes ≡ 40 ∷ r → (o : Option (List ℕ)) → after (codes ")") r ≡ o → option_map {U = List Value × List ℕ} (λ q. ([], q)) o ≡ Some (vs, rest) → (bytes ≡ arguments vs ++ rest) × (length vs ≤ 16) × AreValues vs
+      none_of : (r : List ℕ) → bytes ≡ 40 ∷ r → (o : Option (List ℕ)) → after (codes ")") r ≡ o → option_map {U = List Value × List ℕ} (λ q. ([], q)) o ≡ Some (vs, rest) → (bytes ≡ arguments vs ++ rest) × (length vs ≤ MOST_ARGUMENTS) × AreValues vs
       none_of r t None q p = absurd cc
-      none_of r t (Some x) q p = subst (λ (y : List Value × List ℕ). (bytes ≡ arguments y.0 ++ y.1) × (length y.0 ≤ 16) × AreValues y.0) (same_some ([], x) (vs, rest) p) (t ∙ ap (λ (u : List ℕ). 40 ∷ u) (after_takes (codes ")") r x q), omega arith, tt)
+      none_of r t (Some x) q p = subst (λ (y : List Value × List ℕ). (bytes ≡ arguments y.0 ++ y.1) × (length y.0 ≤ MOST_ARGUMENTS) × AreValues y.0) (same_some ([], x) (vs, rest) p) (t ∙ ap (λ (u : List ℕ). 40 ∷ u) (after_takes (codes ")") r x q), omega arith, tt)
 
-      some_of : (r : List ℕ) → bytes ≡ 40 ∷ r → (ws : List Value) → Listed 16 r ws rest → (bytes ≡ arguments ws ++ rest) × (length ws ≤ 16) × AreValues ws
+      some_of : (r : List ℕ) → bytes ≡ 40 ∷ r → (ws : List Value) → Listed MOST_ARGUMENTS r ws rest → (bytes ≡ arguments ws ++ rest) × (length ws ≤ MOST_ARGUMENTS) × AreValues ws
       some_of r t [] l = absurd (omega (arith, l.some))
       some_of r t (w ∷ ws) l = (t ∙ ap (λ (u : List ℕ). 40 ∷ u) l.text, l.count, l.values)

@@ -1,5 +1,6 @@
 -- The name of a site is read as that site.
 use Rattle.std.proofs.Common.{◌≡◌, ℕ, zero, suc, ◌<◌, ◌≤◌, Bool, true, false, cond, List, [], ◌∷◌, ◌++◌, length, Option, Some, None, refl, sym, ap, subst, ◌∙◌, append_assoc, arith, ◌==◌, slice_index_or}
+use Rattle.orc_rules.specs.declared.limits.TheConstants.{MOST_ARGUMENTS}
 use Rattle.std.specs.Prelude.{option_map, codes, bytes_eq}
 use Rattle.std.proofs.lemmas.Bool.{eqb-true}
 use Rattle.orc_rules.specs.declared.value.Value.{Value}
@@ -61,7 +62,7 @@ bare_there (n ∷ ns) zero are lt = are.0
 bare_there (n ∷ ns) (suc s) are lt = bare_there ns s are.2 (omega (arith, lt))
 
 -- a call after a space
-pub call_code : (names : List (List ℕ)) → AreNames names → IsCode (λ (p : ℕ × List Value). call names p.0 p.1) (λ p. (p.0 < length names) × (length p.1 ≤ 16) × AreValues p.1) (call_field names)
+pub call_code : (names : List (List ℕ)) → AreNames names → IsCode (λ (p : ℕ × List Value). call names p.0 p.1) (λ p. (p.0 < length names) × (length p.1 ≤ MOST_ARGUMENTS) × AreValues p.1) (call_field names)
 unfolding call_field name_at
 call_code names are = record {
   takes = λ bytes x rest e.
@@ -71,7 +72,7 @@ call_code names are = record {
       let n = site_of a.0 (site_named names (split_name a.0).0) refl b.0.0 b.0.1 b.1 in
       let t = arguments_take b.0.1 c.0.0 c.0.1 c.1 in
       let text : bytes ≡ call names b.0.0 c.0.0 ++ c.0.1 = after_takes (codes " ") bytes a.0 a.1 ∙ ap (λ (u : List ℕ). 32 ∷ u) (n.0 ∙ ap (λ (u : List ℕ). slice_index_or names b.0.0 [] ++ u) t.0 ∙ sym (append_assoc (slice_index_or names b.0.0 []) (arguments c.0.0) c.0.1)) in
-      subst (λ (y : (ℕ × List Value) × List ℕ). (bytes ≡ call names y.0.0 y.0.1 ++ y.1) × ((y.0.0 < length names) × (length y.0.1 ≤ 16) × AreValues y.0.1)) (same_some ((b.0.0, c.0.0), c.0.1) (x, rest) c.2) (text, (n.1, t.1, t.2));
+      subst (λ (y : (ℕ × List Value) × List ℕ). (bytes ≡ call names y.0.0 y.0.1 ++ y.1) × ((y.0.0 < length names) × (length y.0.1 ≤ MOST_ARGUMENTS) × AreValues y.0.1)) (same_some ((b.0.0, c.0.0), c.0.1) (x, rest) c.2) (text, (n.1, t.1, t.2));
   again = λ x rest f st. called x.0 x.1 rest f.0 f.1 f.2;
   stops = λ x rest. refl;
 } where
@@ -85,7 +86,7 @@ call_code names are = record {
   opens [] rest = (_, refl)
   opens (v ∷ vs) rest = (_, refl)
 
-  called : (s : ℕ) (vs : List Value) (rest : List ℕ) → s < length names → length vs ≤ 16 → AreValues vs → call_field names (call names s vs ++ rest) ≡ Some ((s, vs), rest)
+  called : (s : ℕ) (vs : List Value) (rest : List ℕ) → s < length names → length vs ≤ MOST_ARGUMENTS → AreValues vs → call_field names (call names s vs ++ rest) ≡ Some ((s, vs), rest)
   called s vs rest lt count f =
       let o = opens vs rest in
       let regrouped : call names s vs ++ rest ≡ 32 ∷ (slice_index_or names s [] ++ 40 ∷ o.0) = ap (λ (u : List ℕ). 32 ∷ u) (append_assoc (slice_index_or names s []) (arguments vs) rest ∙ ap (λ (u : List ℕ). slice_index_or names s [] ++ u) o.1) in

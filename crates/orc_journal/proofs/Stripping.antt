@@ -1,5 +1,6 @@
 -- A text has one journal: its lines are taken off one by one.
-use Rattle.std.proofs.Common.{◌≡◌, ℕ, zero, suc, ◌+◌, ◌<◌, ◌≤◌, Bool, true, false, cond, List, [], ◌∷◌, ◌++◌, length, get_or, drop, Option, Some, None, refl, sym, ap, subst, ◌∙◌, append_assoc, length-append, arith, ◌==◌, Result, Ok, Err}
+use Rattle.std.proofs.Common.{◌≡◌, ℕ, zero, suc, ◌+◌, ◌<◌, ◌≤◌, Bool, true, false, cond, List, [], ◌∷◌, ◌++◌, length, get_or, drop, Option, Some, None, refl, sym, ap, subst, ◌∙◌, append_assoc, length-append, arith, ◌==◌, inl, inr, Result, Ok, Err}
+use Rattle.orc_rules.specs.declared.limits.TheConstants.{MOST_ENTRIES}
 use Rattle.std.specs.Prelude.{codes, is_err, OnOk}
 use Rattle.std.proofs.lemmas.Bool.{eqb-true, false≢true}
 use Rattle.std.proofs.lemmas.List.{append-nil, flat_map_more}
@@ -8,8 +9,11 @@ use Rattle.orc_rules.specs.Sites.{AreNames}
 use Rattle.orc_rules.specs.Text.{word, fields, line, Fits}
 use Rattle.orc_journal.specs.declared.journal.Version.{Version}
 use Rattle.orc_journal.specs.declared.journal.Version.TheVariants.{One, Two}
+use Rattle.orc_journal.specs.declared.text.JournalFault.{JournalFault}
+use Rattle.orc_journal.specs.declared.text.JournalFault.TheVariants.{Header, Line, Long, Memory}
 use Rattle.orc_journal.specs.Reading.{entry_at}
-use Rattle.orc_journal.specs.Texts.{Written, header, entry_lines, is_of, AreOf, counts, count, IsJournal, NoLine}
+use Rattle.orc_journal.specs.Lines.{Left, HasRead}
+use Rattle.orc_journal.specs.Texts.{Written, header, entry_lines, is_of, AreOf, counts, count, IsJournal, IsFault, NoLine}
 use Rattle.orc_journal.proofs.Codes.{same_some}
 use Rattle.orc_journal.proofs.Entries.{entry_again}
 use Rattle.orc_journal.proofs.Whole.{codes_of}
@@ -44,6 +48,16 @@ count_front (e ∷ es) gs = go (counts e) (count_front es gs) where
   go : (b : Bool) → count es ≤ count (es ++ gs) → cond b (suc (count es)) (count es) ≤ cond b (suc (count (es ++ gs))) (count (es ++ gs))
   go true ih = omega (arith, ih)
   go false ih = ih
+
+pub read_more : (names : List (List ℕ)) (text : List ℕ) (l : Left) (es : List Entry) (e : Entry) (behind : List ℕ) (counted : ℕ) → l.rest ≡ line names e ++ behind → Fits names e → is_of l.version e ≡ true → counted ≡ cond (counts e) (l.counted + 1) l.counted
+    → HasRead names text l es → HasRead names text (record { version = l.version; rest = behind; read = l.read + 1; counted = counted }) (es ++ e ∷ [])
+read_more names text l es e behind counted here fits known is read = record {
+  front = front_more names text l.version es l.rest e behind read.front here;
+  each = are_more names l.version es e read.each fits known;
+  size = read.size;
+  number = omega (arith, read.number, length-append es (e ∷ []));
+  counts = is ∙ ap (λ (n : ℕ). cond (counts e) (n + 1) n) read.counts ∙ sym (count_more es e);
+}
 
 -- ---- taking off
 
@@ -90,7 +104,7 @@ no_line names are text v es rest j front each some none is =
       go (g ∷ gs) e of_v = none g (entry_lines names gs) of_v.0 of_v.1 e
 
 pub too_many : (names : List (List ℕ)) → AreNames names → (text : List ℕ) (v : Version) (es : List Entry) (rest : List ℕ) (j : Written) → text ≡ header v ++ (entry_lines names es ++ rest) → AreOf names v es
-    → 10000000 < count es → IsJournal names text j → ⊥
+    → MOST_ENTRIES < count es → IsJournal names text j → ⊥
 too_many names are text v es rest j front each many is =
     let r = rest_of names are text v es rest j front each is in
     omega (arith, many, count_front es r.1.0, ap count r.1.1, is.limit)
@@ -106,6 +120,17 @@ whole_same names are text v es rest j front each none is =
           let entries : es ≡ j.entries = sym (e ∙ append-nil es) in
           λ i. record { version = version i; entries = entries i }
       go (g ∷ gs) e h = absurd (omega (arith, none, ap length h, some_line names g (entry_lines names gs)))
+
+pub one_journal : (names : List (List ℕ)) → AreNames names → (text : List ℕ) (i j : Written) → IsJournal names text i → IsJournal names text j → i ≡ j
+one_journal names are text i j one other = whole_same names are text i.version i.entries [] j (one.whole ∙ ap (λ (t : List ℕ). header i.version ++ t) (sym (append-nil (entry_lines names i.entries)))) one.each refl other
+
+-- it has no fault but that memory is refused
+pub no_fault : (names : List (List ℕ)) → AreNames names → (text : List ℕ) (j : Written) (f : JournalFault) → IsFault names text f → IsJournal names text j → f ≡ Memory
+no_fault names are text j Header (size, none) is = absurd (none j.version (entry_lines names j.entries) is.whole)
+no_fault names are text j (Line n) (v, es, rest, begins, few, at, some, none) is = absurd (no_line names are text v es rest j begins.front begins.each some none is)
+no_fault names are text j Long (inl over) is = absurd (omega (arith, over, is.size))
+no_fault names are text j Long (inr (v, es, rest, begins, many)) is = absurd (too_many names are text v es rest j begins.front begins.each many is)
+no_fault names are text j Memory h is = refl
 
 pub not_empty : (rest : List ℕ) → (length rest == 0) ≡ false → 0 < length rest
 not_empty [] e = absurd cc

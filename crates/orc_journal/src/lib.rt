@@ -3,6 +3,7 @@
 
 mod fitting;
 mod journal;
+mod lines;
 mod reading;
 mod room;
 mod rows;
@@ -11,6 +12,7 @@ mod writing;
 
 pub use fitting::has_line;
 pub use journal::{Journal, Version};
+pub use lines::Lines;
 pub use reading::read_entry;
 pub use text::{JournalFault, read_journal, write_header, write_journal};
 pub use writing::{write_entry, write_publication, write_value};

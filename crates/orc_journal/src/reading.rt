@@ -6,6 +6,7 @@ ghost use Rattle.orc_journal.specs.Reading.{after, is_plain, number_at, value_at
 ghost use Rattle.orc_rules.specs.Text.{line, Fits};
 ghost use Rattle.orc_rules.specs.declared.limits.TheConstants.{MOST_ARGUMENTS};
 ghost use Rattle.orc_rules.specs.declared.entry.Entry.{Entry as EntryOf};
+ghost use Rattle.orc_rules.specs.declared.kind.Kind.TheVariants.{Call};
 
 use orc_rules::answers::Answers;
 use orc_rules::digits::digits_at;
@@ -157,28 +158,30 @@ fn name_at<'a>(bytes: &'a [u8], answers: &Answers) -> Option<(u32, &'a [u8])>
     Some((site, rest))
 }
 
+// The arguments of a call are put into `args`.
 #[tactic(auto, unfolding(crate::specs::Reading::arguments_at))]
-fn arguments_at(bytes: &[u8]) -> Option<(Args, &[u8])>
-    ensures { Gives (λ x. (x.0, x.1.now)) result (arguments_at bytes.now) }
+fn arguments_at<'a>(bytes: &'a [u8], args: &mut Args) -> Option<&'a [u8]>
+    ensures { Gives (λ r. (args.new, r.now)) result (arguments_at bytes.now) }
 {
     let rest = after(b"(", bytes)?;
     if let Some(rest) = after(b")", rest) {
-        return Some((Args::new(), rest));
+        args.clear();
+        return Some(rest);
     }
-    values_at(rest)
+    values_at(rest, args)
 }
 
 // One to `MOST_ARGUMENTS` values with commas between them, and the bracket.
-fn values_at(bytes: &[u8]) -> Option<(Args, &[u8])>
-    ensures { Gives (λ x. (x.0, x.1.now)) result (values_at MOST_ARGUMENTS bytes.now) }
+fn values_at<'a>(bytes: &'a [u8], args: &mut Args) -> Option<&'a [u8]>
+    ensures { Gives (λ r. (args.new, r.now)) result (values_at MOST_ARGUMENTS bytes.now) }
 {
-    let mut args = Args::new();
+    args.clear();
     let mut rest = bytes;
     for _ in 0..MOST_ARGUMENTS {
         let (value, behind) = value_at(rest)?;
         args.push(value);
         if let Some(behind) = after(b")", behind) {
-            return Some((args, behind));
+            return Some(behind);
         }
         rest = after(b", ", behind)?;
     }
@@ -186,12 +189,12 @@ fn values_at(bytes: &[u8]) -> Option<(Args, &[u8])>
 }
 
 #[tactic(auto, unfolding(crate::specs::Reading::call_field))]
-fn call_field<'a>(bytes: &'a [u8], answers: &Answers) -> Option<((u32, Args), &'a [u8])>
-    ensures { Gives (λ x. (x.0, x.1.now)) result (call_field answers.now.names bytes.now) }
+fn call_field<'a>(bytes: &'a [u8], answers: &Answers, args: &mut Args) -> Option<(u32, &'a [u8])>
+    ensures { Gives (λ x. ((x.0, args.new), x.1.now)) result (call_field answers.now.names bytes.now) }
 {
     let (site, rest) = name_at(after(b" ", bytes)?, answers)?;
-    let (args, rest) = arguments_at(rest)?;
-    Some(((site, args), rest))
+    let rest = arguments_at(rest, args)?;
+    Some((site, rest))
 }
 
 // The word of this kind.
@@ -238,107 +241,142 @@ fn kind_at(bytes: &[u8]) -> Option<(Kind, &[u8])>
     }
 }
 
+// The fields of a call. They have a function of their own, since no other entry has room for arguments.
+#[inline(never)]
 #[tactic(auto, unfolding(crate::specs::Reading::fields_at))]
-fn fields_at<'a>(kind: Kind, bytes: &'a [u8], answers: &Answers) -> Option<(Entry, &'a [u8])>
-    ensures { Gives (λ x. (x.0, x.1.now)) result (fields_at answers.now.names kind bytes.now) }
+fn call_at<'a>(bytes: &'a [u8], answers: &Answers, entry: &mut Entry) -> Option<&'a [u8]>
+    ensures { Gives (λ r. (entry.new, r.now)) result (fields_at answers.now.names Call bytes.now) }
+{
+    let (s, rest) = number_field(bytes)?;
+    let (k, rest) = number_field(rest)?;
+    let mut args = Args::new();
+    let (site, rest) = call_field(rest, answers, &mut args)?;
+    *entry = Entry::Call(s, k, site, args);
+    Some(rest)
+}
+
+// The fields of an entry of this kind are put into `entry`, which is overwritten in its place: it has room for the arguments of a call, and
+// to copy it takes longer than to read a line.
+#[tactic(auto, unfolding(crate::specs::Reading::fields_at))]
+fn fields_at<'a>(
+    kind: Kind,
+    bytes: &'a [u8],
+    answers: &Answers,
+    entry: &mut Entry,
+) -> Option<&'a [u8]>
+    ensures { Gives (λ r. (entry.new, r.now)) result (fields_at answers.now.names kind bytes.now) }
 {
     match kind {
         Kind::End => {
             let (s, rest) = number_field(bytes)?;
-            Some((Entry::End(s), rest))
+            *entry = Entry::End(s);
+            Some(rest)
         }
         Kind::Fork => {
             let (s, rest) = number_field(bytes)?;
             let ((a, b), rest) = pair_field(rest)?;
-            Some((Entry::Fork(s, a, b), rest))
+            *entry = Entry::Fork(s, a, b);
+            Some(rest)
         }
         Kind::Seq => {
             let ((s, a), rest) = pair_field(bytes)?;
-            Some((Entry::Seq(s, a), rest))
+            *entry = Entry::Seq(s, a);
+            Some(rest)
         }
         Kind::Other => {
             let ((s, a), rest) = pair_field(bytes)?;
-            Some((Entry::Other(s, a), rest))
+            *entry = Entry::Other(s, a);
+            Some(rest)
         }
         Kind::Def => {
             let ((s, a), rest) = pair_field(bytes)?;
-            Some((Entry::Def(s, a), rest))
+            *entry = Entry::Def(s, a);
+            Some(rest)
         }
         Kind::Void => {
             let (s, rest) = number_field(bytes)?;
-            Some((Entry::Void(s), rest))
+            *entry = Entry::Void(s);
+            Some(rest)
         }
         Kind::Open => {
             let (s, rest) = number_field(bytes)?;
             let (c, rest) = number_field(rest)?;
             let ((a, b), rest) = pair_field(rest)?;
-            Some((Entry::Open(s, c, a, b), rest))
+            *entry = Entry::Open(s, c, a, b);
+            Some(rest)
         }
         Kind::Send => {
             let (s, rest) = number_field(bytes)?;
             let ((a, v), rest) = sent_field(rest)?;
-            Some((Entry::Send(s, a, v), rest))
+            *entry = Entry::Send(s, a, v);
+            Some(rest)
         }
-        Kind::Call => {
-            let (s, rest) = number_field(bytes)?;
-            let (k, rest) = number_field(rest)?;
-            let ((site, args), rest) = call_field(rest, answers)?;
-            Some((Entry::Call(s, k, site, args), rest))
-        }
+        Kind::Call => call_at(bytes, answers, entry),
         Kind::Return | Kind::ReturnHalt => {
             let (k, rest) = number_field(bytes)?;
             let (outcome, rest) = outcome_field(rest)?;
             match outcome {
-                None => Some((Entry::ReturnHalt(k), rest)),
-                Some((a, v)) => Some((Entry::Return(k, a, v), rest)),
+                None => {
+                    *entry = Entry::ReturnHalt(k);
+                }
+                Some((a, v)) => {
+                    *entry = Entry::Return(k, a, v);
+                }
             }
+            Some(rest)
         }
         Kind::Bind => {
             let (s, rest) = number_field(bytes)?;
             let ((c, v), rest) = sent_field(rest)?;
-            Some((Entry::Bind(s, c, v), rest))
+            *entry = Entry::Bind(s, c, v);
+            Some(rest)
         }
         Kind::Lost => {
             let (c, rest) = number_field(bytes)?;
-            Some((Entry::Lost(c), rest))
+            *entry = Entry::Lost(c);
+            Some(rest)
         }
         Kind::Right => {
             let ((s, a), rest) = pair_field(bytes)?;
-            Some((Entry::Right(s, a), rest))
+            *entry = Entry::Right(s, a);
+            Some(rest)
         }
         Kind::Publish => {
             let ((s, v), rest) = sent_field(bytes)?;
-            Some((Entry::Publish(s, v), rest))
+            *entry = Entry::Publish(s, v);
+            Some(rest)
         }
         Kind::Tick => {
             let (t, rest) = number_field(bytes)?;
-            Some((Entry::Tick(t), rest))
+            *entry = Entry::Tick(t);
+            Some(rest)
         }
         Kind::Cancel => {
             let (k, rest) = number_field(bytes)?;
-            Some((Entry::Cancel(k), rest))
+            *entry = Entry::Cancel(k);
+            Some(rest)
         }
     }
 }
 
 // The entry whose line stands first.
 #[tactic(auto, unfolding(crate::specs::Reading::entry_at))]
-fn entry_at<'a>(bytes: &'a [u8], answers: &Answers) -> Option<(Entry, &'a [u8])>
-    ensures { Gives (λ x. (x.0, x.1.now)) result (entry_at answers.now.names bytes.now) }
+fn entry_at<'a>(bytes: &'a [u8], answers: &Answers, entry: &mut Entry) -> Option<&'a [u8]>
+    ensures { Gives (λ r. (entry.new, r.now)) result (entry_at answers.now.names bytes.now) }
 {
     let (kind, rest) = kind_at(bytes)?;
-    let (entry, rest) = fields_at(kind, rest, answers)?;
-    let rest = after(b"\n", rest)?;
-    Some((entry, rest))
+    let rest = fields_at(kind, rest, answers, entry)?;
+    after(b"\n", rest)
 }
 
-/// The entry whose line stands first, and the bytes after the line. None exactly where no line of an entry stands first.
-pub fn read_entry<'a>(bytes: &'a [u8], answers: &Answers) -> Option<(Entry, &'a [u8])>
+/// Puts the entry whose line stands first into `entry`, and gives the bytes after the line. None exactly where no line of an entry stands
+/// first; then `entry` may have become another one.
+pub fn read_entry<'a>(bytes: &'a [u8], answers: &Answers, entry: &mut Entry) -> Option<&'a [u8]>
     // What is read was written so.
-    ensures found { IfSome result (λ x. (bytes.now ≡ line answers.now.names x.0 ++ x.1.now) × Fits answers.now.names x.0) }
+    ensures found { IfSome result (λ r. (bytes.now ≡ line answers.now.names entry.new ++ r.now) × Fits answers.now.names entry.new) }
     // What is written so is read, whatever follows it.
-    ensures only { (e : EntryOf) (rest : List ℕ) → Fits answers.now.names e → bytes.now ≡ line answers.now.names e ++ rest → Gives {Y = EntryOf × List ℕ} (λ x. (x.0, x.1.now)) result (Some (e, rest)) }
+    ensures only { (e : EntryOf) (rest : List ℕ) → Fits answers.now.names e → bytes.now ≡ line answers.now.names e ++ rest → Gives {Y = EntryOf × List ℕ} (λ r. (entry.new, r.now)) result (Some (e, rest)) }
 {
     answers.are_apart();
-    entry_at(bytes, answers)
+    entry_at(bytes, answers, entry)
 }

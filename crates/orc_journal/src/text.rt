@@ -5,17 +5,18 @@ ghost use Rattle.orc_rules.specs.declared.entry.Entry.{Entry as EntryOf};
 ghost use Rattle.orc_rules.specs.Digits.{Gives};
 ghost use Rattle.orc_rules.specs.Text.{line, Fits, IsNamed};
 ghost use Rattle.orc_journal.specs.declared.text.JournalFault.TheVariants.{Memory as MemoryFault};
+ghost use Rattle.orc_journal.specs.Faults.{journal_line, journal_status};
 ghost use Rattle.orc_journal.specs.Reading.{header_at};
 ghost use Rattle.orc_journal.specs.Texts.{Written, header, is_of, counts, journal_text, AreOf, IsJournal, IsFault};
 
 use crate::fitting::has_line;
 use crate::journal::{Journal, Version};
-use crate::reading::{after, read_entry};
+use crate::lines::{Lines, is_known};
 use crate::writing::write_entry;
 use orc_rules::answers::Answers;
 use orc_rules::entry::Entry;
-use orc_rules::limits::{LONGEST_JOURNAL, MOST_ENTRIES};
 use std::alloc::{AllocError, Global};
+use std::fmt;
 
 /// Why a journal isn't read.
 #[derive(Clone, Copy, PartialEq, Eq, Debug)]
@@ -30,6 +31,32 @@ pub enum JournalFault {
     Memory,
 }
 
+// Its code and its place.
+impl fmt::Display for JournalFault {
+    ghost output = { λ f. Some (journal_line f) };
+
+    fn fmt<W: fmt::Write>(&self, f: &mut fmt::Formatter<W>) -> fmt::Result {
+        match *self {
+            JournalFault::Header => write!(f, "J1"),
+            JournalFault::Line(number) => write!(f, "J2 at line {number}"),
+            JournalFault::Long => write!(f, "J3"),
+            JournalFault::Memory => write!(f, "J4"),
+        }
+    }
+}
+
+impl JournalFault {
+    /// The process's status at this fault.
+    pub fn status(self) -> u8
+        ensures { result ≡ journal_status self }
+    {
+        match self {
+            JournalFault::Memory => 5,
+            _ => 1,
+        }
+    }
+}
+
 /// Writes the first line of a journal.
 pub fn write_header(out: &mut Vec<u8>, version: Version) -> Result<(), AllocError>
     ensures { OnOk result (out.new.items ≡ out.old.items ++ header version) }
@@ -37,48 +64,6 @@ pub fn write_header(out: &mut Vec<u8>, version: Version) -> Result<(), AllocErro
     match version {
         Version::One => out.extend_from_slice(b"orc-journal 1\n"),
         Version::Two => out.extend_from_slice(b"orc-journal 2\n"),
-    }
-}
-
-// The version of the first line, and what follows it.
-fn read_header(text: &[u8]) -> Option<(Version, &[u8])>
-    ensures { Gives (λ x. (x.0, x.1.now)) result (header_at text.now) }
-{
-    if let Some(rest) = after(b"orc-journal 1\n", text) {
-        return Some((Version::One, rest));
-    }
-    let rest = after(b"orc-journal 2\n", text)?;
-    Some((Version::Two, rest))
-}
-
-fn is_known(version: Version, entry: &Entry) -> bool
-    ensures { result ≡ is_of version entry.now }
-{
-    !matches!((version, entry), (Version::One, Entry::Cancel(_)))
-}
-
-// How many entries count for the limit, with one more.
-fn count_with(counted: u64, entry: &Entry) -> u64
-    requires { counted < 2 ^ 63 }
-    ensures { result ≡ (if counts entry.now then counted + 1 else counted) }
-{
-    if matches!(entry, Entry::Cancel(_)) {
-        counted
-    } else {
-        counted + 1
-    }
-}
-
-// The entry of that version whose line stands first, and the bytes behind the line.
-fn next_entry<'a>(version: Version, bytes: &'a [u8], answers: &Answers) -> Option<(Entry, &'a [u8])>
-    ensures found { IfSome result (λ x. (bytes.now ≡ line answers.now.names x.0 ++ x.1.now) × Fits answers.now.names x.0 × (is_of version x.0 ≡ true)) }
-    ensures only { (e : EntryOf) (rest : List ℕ) → Fits answers.now.names e → is_of version e ≡ true → bytes.now ≡ line answers.now.names e ++ rest → Gives {Y = EntryOf × List ℕ} (λ x. (x.0, x.1.now)) result (Some (e, rest)) }
-{
-    let (entry, rest) = read_entry(bytes, answers)?;
-    if is_known(version, &entry) {
-        Some((entry, rest))
-    } else {
-        None
     }
 }
 
@@ -91,28 +76,17 @@ pub fn read_journal(alloc: Global, text: &[u8], answers: &Answers) -> Result<Jou
     // A journal's text is read as that journal, unless memory is refused.
     ensures only { (j : Written) → IsJournal answers.now.names text.now j → MatchResult result (λ k. k ≡ j) (λ f. f ≡ MemoryFault) }
 {
-    if text.len() > LONGEST_JOURNAL {
-        return Err(JournalFault::Long);
-    }
-    let Some((version, rest)) = read_header(text) else {
-        return Err(JournalFault::Header);
-    };
     answers.are_apart();
-    let mut journal = Journal::new(alloc, version);
-    let mut counted: u64 = 0;
-    let mut rest = rest;
-    while !rest.is_empty() {
-        let Some((entry, behind)) = next_entry(version, rest, answers) else {
-            return Err(JournalFault::Line(journal.len() + 2));
-        };
-        counted = count_with(counted, &entry);
-        if counted > MOST_ENTRIES {
-            return Err(JournalFault::Long);
-        }
+    let mut lines = match Lines::new(text) {
+        Ok(lines) => lines,
+        Err(fault) => return Err(fault),
+    };
+    let mut journal = Journal::new(alloc, lines.version());
+    let mut entry = Entry::Tick(0);
+    while lines.next(answers, &mut entry)? {
         if journal.push(&entry).is_err() {
             return Err(JournalFault::Memory);
         }
-        rest = behind;
     }
     Ok(journal)
 }

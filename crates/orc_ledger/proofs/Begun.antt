@@ -1,5 +1,6 @@
 -- A new book is lawful, and what its tables note is so: the definitions ask nothing that can't be.
 use Rattle.std.proofs.Common.{◌≡◌, ◌≤◌, ℕ, zero, suc, List, [], ◌∷◌, ◌+◌, refl, sym, ap, subst, arith, inl, inr, Option, Some, None, Bool, true, false, cond, nat_eq}
+use Rattle.orc_rules.specs.declared.limits.TheConstants.{MOST_ENTRIES}
 use Rattle.std.specs.Prelude.{slice_get}
 use Rattle.orc_rules.specs.Nodes.{Listing, source}
 use Rattle.orc_rules.specs.Sites.{Site}
@@ -27,7 +28,7 @@ no_own : (c d : ℕ) → slice_get (bound.Void ∷ []) c ≡ Some (bound.Cell d)
 no_own zero d h = cc h
 no_own (suc c) d h = cc h
 
-pub begun-lawful : (l : Listing) (sites : List Site) (limit : ℕ) → limit ≤ 10000000 → Lawful l sites (begun limit l.root)
+pub begun-lawful : (l : Listing) (sites : List Site) (limit : ℕ) → limit ≤ MOST_ENTRIES → Lawful l sites (begun limit l.root)
 begun-lawful l sites limit small =
     record {
       place = begin (source l);

@@ -1,5 +1,6 @@
 -- The table of open groups: each number leads to its group's place, and is one group's or free.
 use Rattle.std.proofs.Common.{◌≡◌, ◌≤◌, ◌<◌, ◌+◌, ◌-◌, ℕ, zero, suc, List, [], ◌∷◌, ◌++◌, refl, sym, ap, ◌∙◌, arith, inl, inr, ◌⊎◌, ⊎_elim, Bool, true, false, cond, nat_eq, eq-eqb, Some, None, length, get_or, length-append, length-set}
+use Rattle.orc_rules.specs.declared.limits.TheConstants.{MOST_GROUPS}
 use Rattle.std.specs.Prelude.{slice_get, slice_set, nat_lt}
 use Rattle.std.specs.List.{swap_remove}
 use Rattle.std.proofs.lemmas.Bool.{eqb-true, ltb-true, ltb-false}
@@ -65,7 +66,7 @@ opened-numbered gs places free free' g N popped =
 
 -- ---- one number more
 
-pub grown-numbered : (gs : List Group) (places free : List ℕ) → AreNumbered gs places free → length free ≡ 0 → length places < 1024 → AreNumbered gs (places ++ 0 ∷ []) (length places ∷ [])
+pub grown-numbered : (gs : List Group) (places free : List ℕ) → AreNumbered gs places free → length free ≡ 0 → length places < MOST_GROUPS → AreNumbered gs (places ++ 0 ∷ []) (length places ∷ [])
 grown-numbered gs places free N none few =
     let n = length places in
     let more : length (places ++ 0 ∷ []) ≡ n + 1 = length-append places (0 ∷ []) in

@@ -83,7 +83,7 @@ try_test code s n = record { frame = λ e p. by_entered e p; feeds = λ x g scop
 any_test : (code : ℕ → Term) (s : Records) → IsTest code s (λ p. true) (λ e. false)
 any_test code s = record { frame = λ e p. refl; feeds = λ x g scope. refl }
 
-within-seen : (n : ℕ) (left : ℕ → Bool) (p : Path) → left n ≡ false → within n (seen left p) ≡ within n p
+pub within-seen : (n : ℕ) (left : ℕ → Bool) (p : Path) → left n ≡ false → within n (seen left p) ≡ within n p
 within-seen n left whole h = refl
 within-seen n left (feeding x g p) h = within-seen n left p h
 within-seen n left (aiding c p) h = within-seen n left p h

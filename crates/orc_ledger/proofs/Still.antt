@@ -27,7 +27,7 @@ abbrev pub is_side : Name → Numbered → ℕ
 is_side nm (right_of d p) = once nm (cell d)
 is_side nm (left_of n g p) = once nm (mark n)
 
-aiding_out : (nm : Name) (d : ℕ) (p : Path) → in_name nm p ≡ false → once nm (cell d) ≡ 0 → in_name nm (aiding d p) ≡ false
+pub aiding_out : (nm : Name) (d : ℕ) (p : Path) → in_name nm p ≡ false → once nm (cell d) ≡ 0 → in_name nm (aiding d p) ≡ false
 aiding_out (mark n) d p h e = h
 aiding_out (call k) d p h e = h
 aiding_out (cell c) d p h e = go (nat_eq c d) e
@@ -36,7 +36,7 @@ aiding_out (cell c) d p h e = go (nat_eq c d) e
     go true e = absurd (omega (arith, e))
     go false e = h
 
-trying_out : (nm : Name) (d : ℕ) (p : Path) → in_name nm p ≡ false → once nm (mark d) ≡ 0 → in_name nm (trying d p) ≡ false
+pub trying_out : (nm : Name) (d : ℕ) (p : Path) → in_name nm p ≡ false → once nm (mark d) ≡ 0 → in_name nm (trying d p) ≡ false
 trying_out (cell n) d p h e = h
 trying_out (call k) d p h e = h
 trying_out (mark c) d p h e = go (nat_eq c d) e
@@ -45,13 +45,13 @@ trying_out (mark c) d p h e = go (nat_eq c d) e
     go true e = absurd (omega (arith, e))
     go false e = h
 
-feeding_same : (nm : Name) (x : ℕ) (g : Term) (p : Path) → in_name nm (feeding x g p) ≡ in_name nm p
+pub feeding_same : (nm : Name) (x : ℕ) (g : Term) (p : Path) → in_name nm (feeding x g p) ≡ in_name nm p
 feeding_same (mark n) x g p = refl
 feeding_same (call k) x g p = refl
 feeding_same (cell c) x g p = refl
 
 -- where the side isn't in the term, and it isn't in the side, nothing in it is
-none_in : (nm : Name) (p : Path) (m : Marked) → in_name nm p ≡ false → weight (is_side nm) (sides p m) ≡ 0 → weight (row_at nm) (marks p m) ≡ 0
+pub none_in : (nm : Name) (p : Path) (m : Marked) → in_name nm p ≡ false → weight (is_side nm) (sides p m) ≡ 0 → weight (row_at nm) (marks p m) ≡ 0
 none_in nm p ended out no_side = refl
 none_in nm p (token s t) out no_side = ap {B = ℕ} (λ b. cond b 1 0 + 0) out
 none_in nm p (in_call k) out no_side = ap {B = ℕ} (λ b. cond b 1 0 + 0) out

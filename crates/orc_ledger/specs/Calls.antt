@@ -1,6 +1,7 @@
 -- What the calls of a book do to its records.
 use Rattle.std.specs.Prelude.{ℕ, ◌+◌, ◌≡◌, ◌≤◌, ◌<◌, ◌⊎◌, ◌↔◌, List, [], ◌∷◌, ◌++◌, Bool, true, false, cond, nat_eq, map, length, slice_set}
 use Rattle.orc_rules.specs.declared.entry.Entry.{Entry}
+use Rattle.orc_rules.specs.declared.limits.TheConstants.{MOST_TOKENS, MOST_GROUPS, MOST_FRAMES}
 use Rattle.orc_rules.specs.declared.entry.Entry.TheVariants.{End, Fork, Seq, Other, Open, Void as Void_, Right as Right_}
 use Rattle.orc_rules.specs.Term.{Term}
 use Rattle.orc_rules.specs.Timed.{IsIn, IsRising}
@@ -109,10 +110,10 @@ IsFree s number = (1 ≤ number) × None (λ (g : Group). nat_eq number g.number
 
 -- so many more tokens and groups find room, and a token with so many left sides of a `>x>` round it
 abbrev pub HasRoom : Records → ℕ → ℕ → ℕ → Type 0
-HasRoom s tokens groups depth = (length s.tokens + length s.calls + tokens ≤ 65536) × (length s.groups + 1 + groups ≤ 1024) × (depth ≤ 4096)
+HasRoom s tokens groups depth = (length s.tokens + length s.calls + tokens ≤ MOST_TOKENS) × (length s.groups + 1 + groups ≤ MOST_GROUPS) × (depth ≤ MOST_FRAMES)
 
 abbrev pub IsFull : Records → ℕ → ℕ → ℕ → Type 0
-IsFull s tokens groups depth = (65536 < length s.tokens + length s.calls + tokens) ⊎ ((1024 < length s.groups + 1 + groups) ⊎ (4096 < depth))
+IsFull s tokens groups depth = (MOST_TOKENS < length s.tokens + length s.calls + tokens) ⊎ ((MOST_GROUPS < length s.groups + 1 + groups) ⊎ (MOST_FRAMES < depth))
 
 -- why a call that adds an entry, such tokens and such groups is refused: the first cause that there is
 abbrev pub IsRefused : Records → ℕ → ℕ → ℕ → LedgerFault → Type 0

@@ -1,4 +1,5 @@
 pub mod Answers
+pub mod AtOnce
 pub mod AtRest
 pub mod Awaiting
 pub mod Begun
@@ -13,6 +14,7 @@ pub mod Kept
 pub mod Laws
 pub mod Moves
 pub mod Next
+pub mod Offered
 pub mod OpenGroups
 pub mod Parameters
 pub mod Parking

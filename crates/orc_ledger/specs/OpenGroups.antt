@@ -1,5 +1,6 @@
 -- The table of the open groups: each is found by its number, and each number says how many members it has.
 use Rattle.std.specs.Prelude.{◌≡◌, ◌≤◌, ◌<◌, ◌+◌, ◌⊎◌, ℕ, List, length, Some, slice_get, slice_index_or}
+use Rattle.orc_rules.specs.declared.limits.TheConstants.{MOST_GROUPS}
 use Rattle.orc_ledger.specs.Same.{weight}
 use Rattle.orc_ledger.specs.Records.{Records, group_at}
 use Rattle.orc_ledger.specs.Next.{is_this, members, numbers_of}
@@ -33,7 +34,7 @@ pub record AreNumbered (gs : List Group) (places free : List ℕ) : Type 0 where
   pub root : weight (is_this 0) free + weight (is_named 0) gs ≡ 0
   pub within : (i : ℕ) → 1 ≤ weight (is_this i) free → i < length places
   pub all : length free + length gs + 1 ≡ length places
-  pub few : length places ≤ 1024
+  pub few : length places ≤ MOST_GROUPS
 
 -- how many of these tokens, calls and groups each group has
 abbrev pub tokens_in : List Step → List Token → ℕ → ℕ

@@ -3,6 +3,7 @@ use Rattle.std.specs.Prelude.{ℕ, zero, suc, ◌+◌, ◌*◌, ◌≤◌, ◌�
 use Rattle.orc_rules.specs.declared.entry.Entry.{Entry}
 use Rattle.orc_rules.specs.declared.entry.Entry.TheVariants.{Cancel}
 use Rattle.orc_rules.specs.declared.entry.Entry.TheVariants as entry
+use Rattle.orc_rules.specs.declared.limits.TheConstants.{MOST_ENTRIES}
 use Rattle.orc_rules.specs.declared.param.Param.TheVariants.{Is}
 use Rattle.orc_rules.specs.Term.{Term, param}
 use Rattle.orc_rules.specs.Nodes.{Listing, code, source, definitions}
@@ -224,5 +225,5 @@ pub record Lawful (l : Listing) (sites : List Site) (s : Records) : Type 0 where
   -- cancels don't count
   pub entries : s.entries ≡ weight counts s.journal
   pub within : s.entries ≤ s.limit
-  pub small : s.limit ≤ 10000000
+  pub small : s.limit ≤ MOST_ENTRIES
   pub counted : s.next_mark ≤ 2 * s.entries + 2

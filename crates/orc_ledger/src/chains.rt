@@ -5,6 +5,7 @@ ghost use Rattle.orc_ledger.specs.Same.{weight};
 ghost use Rattle.orc_ledger.specs.Next.{is_this};
 
 use crate::ledger::{LedgerFault, push_within, reserve};
+use orc_rules::limits::MOST_GROUPS;
 use std::alloc::{AllocError, Global};
 
 // A place in the chain of a group, with its neighbours. That of group 0, which never goes, isn't kept.
@@ -82,7 +83,7 @@ impl Chains {
     {
         let mut firsts = Vec::new(alloc);
         // As many groups as there may be.
-        for _group in 0..1024 {
+        for _group in 0..MOST_GROUPS {
             reserve(&mut firsts)?;
             push_within(&mut firsts, NOWHERE);
         }

@@ -2,6 +2,7 @@
 
 ghost use Rattle.std.specs.Prelude.{◌≡◌, [], ◌∷◌, ◌++◌, ◌+◌, ◌-◌, ◌^◌, ◌≤◌, ◌<◌, ℕ, List, Some, length, nat_eq, IfNone, IfOk, IfErr, OnOk, OnErr, MatchOption, slice_get, slice_set, vec_len, vec_capacity};
 ghost use Rattle.orc_rules.specs.Timed.{IsIn};
+ghost use Rattle.orc_rules.specs.declared.limits.TheConstants.{MOST_GROUPS};
 ghost use Rattle.orc_ledger.specs.Same.{weight, None};
 ghost use Rattle.orc_ledger.specs.Next.{is_this};
 ghost use Rattle.orc_ledger.specs.OpenGroups.{IsOpen, LeadTo, size_of};
@@ -14,7 +15,7 @@ use std::alloc::Global;
 use std::marker::Model;
 
 /// The open groups in a table by number. Number 0 is the program's own group, which is no item. A number is used again once its group is gone,
-/// so that there are never more than 1,024.
+/// so that there are never more than `MOST_GROUPS`.
 pub(crate) struct Groups {
     items: Vec<Group>,
     // By number: where its group is among the items, if it is open, and how many members it has.
@@ -113,7 +114,7 @@ fn add_number(
     free: &mut Vec<u32>,
 ) -> Result<(), LedgerFault>
     requires some { 1 ≤ vec_len places.old }
-    requires few { vec_len places.old < 1024 }
+    requires few { vec_len places.old < MOST_GROUPS }
     requires none { vec_len free.old ≡ 0 }
     ensures places { OnOk result (places.new.items ≡ places.old.items ++ 0 ∷ []) }
     ensures sizes { OnOk result (sizes.new.items ≡ sizes.old.items ++ 0 ∷ []) }

@@ -1,6 +1,9 @@
 //! Laws of a ledger's records: each function's contract is the law. They tie what a token does next, and what comes next, to the rules.
 
 ghost use Rattle.orc_ledger.specs.Laws.{WordIsOffered, WaitIsStill, WordIsAllowed, NoneIsLost, NextTicks, NextIsQuiet, WorkHasCause, WorkIsAllowed, TickIsNext, QuietIsNext, RootHasHalted};
+ghost use Rattle.orc_ledger.specs.Offered.{NothingIsLost};
+
+use crate::ledger::{Ledger, Program};
 
 /// The place of the journal has an entry of a token exactly where the token's word names it.
 pub fn word_is_offered()
@@ -56,3 +59,19 @@ pub fn quiet_is_next()
 pub fn root_has_halted()
     ensures { RootHasHalted }
 {}
+
+/// Nothing of Orc is lost, in one statement. Of each entry with which the ledger's journal may go on by the rules:
+///
+/// - one of a token is that token's word, and its new numbers are those that the ledger gives next;
+/// - for a return the call pends, and [`Ledger::returned`] answers neither `Gone` nor `Wrong`;
+/// - the side that a `lost` or a `right` leaves is an open group; no call pends in it, its inner groups included, and each token in it makes a move
+///   of marks next;
+/// - a tick is one that [`Ledger::tick`] takes; [`Ledger::next`] says it, unless a token makes a move of marks next or a group goes without an entry;
+/// - it is no cancel.
+///
+/// And where the run is quiet by the rules, `next` says that, with the same exceptions.
+pub fn offered<P: Program>(ledger: &Ledger<P>)
+    ensures { NothingIsLost P.listing P.sites ledger.now }
+{
+    let _journal = &ledger.journal;
+}

@@ -2,6 +2,7 @@
 
 ghost use Rattle.std.specs.Prelude.{◌≡◌, ◌+◌, ◌<◌, ◌≤◌, ◌++◌, ◌∷◌, [], ℕ, length, vec_len, vec_capacity, IfOk, IfErr, IfSome, IfNone, OnOk, OnErr};
 ghost use Rattle.orc_rules.specs.Timed.{IsIn};
+ghost use Rattle.orc_rules.specs.declared.limits.TheConstants.{MOST_ENTRIES};
 ghost use Rattle.orc_ledger.specs.Tokens.{IsHeld};
 ghost use Rattle.orc_ledger.specs.Begun.{begun};
 ghost use Rattle.orc_ledger.specs.Calls.{HasRoom, IsRefused};
@@ -17,6 +18,7 @@ use orc_calls::Counts;
 use orc_journal::{Journal, Version};
 use orc_names::{Bound, Scope};
 use orc_rules::entry::Entry;
+use orc_rules::limits::{MOST_FRAMES, MOST_GROUPS, MOST_TOKENS};
 use std::alloc::{AllocError, Global};
 use std::marker::{Brand, Model, PhantomData};
 
@@ -150,7 +152,7 @@ impl<P: Program> Ledger<P> {
     /// A new run: token 1 stands at the program's main term, whose node is `root`, in slot 0. The journal is to have at most `limit` entries beside
     /// the cancels. The only fault is `Memory`.
     pub fn begin(alloc: Global, limit: usize, root: usize) -> Result<Ledger<P>, LedgerFault>
-        requires limit { (1 ≤ limit) × (limit ≤ 10000000) }
+        requires limit { (1 ≤ limit) × (limit ≤ MOST_ENTRIES) }
         requires root { root ≡ P.listing.root }
         ensures begun { IfOk result (λ s. s ≡ begun limit root) }
         ensures why { IfErr result (λ fault. fault ≡ LedgerFault.Memory) }
@@ -299,10 +301,10 @@ impl<P: Program> Ledger<P> {
         ensures room { OnOk result (self.now.entries < self.now.limit) }
         ensures places { OnOk result (HasRoom self.now tokens groups depth) }
     {
-        if self.tokens.len() > 65_536 - tokens
-            || self.calls.len() > 65_536 - tokens - self.tokens.len()
-            || self.groups.len() > 1_023 - groups
-            || depth > 4_096
+        if self.tokens.len() > MOST_TOKENS - tokens
+            || self.calls.len() > MOST_TOKENS - tokens - self.tokens.len()
+            || self.groups.len() > MOST_GROUPS - 1 - groups
+            || depth as usize > MOST_FRAMES
         {
             return Err(LedgerFault::Full);
         }

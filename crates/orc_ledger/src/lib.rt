@@ -1,6 +1,7 @@
 //! The records of a run under one invariant: the journal of what they did leads from the program to a place that they spell.
 #![tactic(auto)]
 
+mod at_once;
 mod awaiting;
 mod calls;
 mod chains;
@@ -27,10 +28,11 @@ mod tokens;
 mod view;
 mod what;
 
+pub use at_once::Called;
 pub use calls::ReturnFault;
 pub use halting::{HaltFault, Halted};
 pub use laws::{
-    next_is_quiet, next_ticks, none_is_lost, quiet_is_next, root_has_halted, tick_is_next,
+    next_is_quiet, next_ticks, none_is_lost, offered, quiet_is_next, root_has_halted, tick_is_next,
     wait_is_still, word_is_allowed, word_is_offered, work_has_cause, work_is_allowed,
 };
 pub use ledger::{Ledger, LedgerFault, Program};

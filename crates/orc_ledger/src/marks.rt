@@ -13,6 +13,7 @@ use crate::ledger::{Ledger, LedgerFault, Program, push_within, reserve, write};
 use crate::records::{Entered, Side, Standing, Step, Token};
 use orc_names::{Bound, Scope};
 use orc_rules::entry::Entry;
+use orc_rules::limits::MOST_FRAMES;
 
 // The group of a token that took this step last.
 pub(crate) fn group_at(steps: &Vec<Step>, step: usize) -> u32
@@ -142,7 +143,7 @@ impl<P: Program> Ledger<P> {
     {
         let group = group_at(&self.steps, token.step);
         let depth = depth_at(&self.steps, token.step);
-        if depth >= 4_096 {
+        if depth as usize >= MOST_FRAMES {
             return Err(LedgerFault::Full);
         }
         self.within(0, 0, depth + 1)?;

@@ -53,11 +53,19 @@ impl<P: Program> Ledger<P> {
         false
     }
 
+    /// How many tokens, pending calls and open groups are in the group of that number: its live count. That of the program is 0; where no group has
+    /// the number nobody is in it.
+    pub fn member_count(&self, number: u32) -> u32
+        ensures { result ≡ members (numbers_of self.now) self.now number }
+    {
+        self.groups.size(number)
+    }
+
     /// Whether nobody is in the group of that number, no token, no pending call and no group. That of the program is 0.
     pub fn is_empty(&self, number: u32) -> bool
         ensures { result ≡ true ↔ (members (numbers_of self.now) self.now number ≡ 0) }
     {
-        self.groups.size(number) == 0
+        self.member_count(number) == 0
     }
 
     // Whether the program's own group or an open one has no members.

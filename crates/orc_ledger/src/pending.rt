@@ -317,6 +317,26 @@ impl Pending {
         self.chains.put(place, group);
     }
 
+    /// Makes room for the number of a call that won't pend. Whether memory is refused or not, the calls stay.
+    pub(crate) fn reserve_number(&mut self) -> Result<(), AllocError>
+        ensures items { self.new.items ≡ self.old.items }
+        ensures made { self.new.made ≡ self.old.made }
+        ensures room { OnOk result (1 ≤ self.new.room) }
+    {
+        self.items.try_reserve(1)?;
+        self.places.try_reserve(1)?;
+        Ok(())
+    }
+
+    /// The next number is that of a call that doesn't pend.
+    pub(crate) fn pass_number(&mut self)
+        requires room { 1 ≤ self.old.room }
+        ensures items { self.new.items ≡ self.old.items }
+        ensures made { self.new.made ≡ self.old.made + 1 }
+    {
+        push_within(&mut self.places, 0);
+    }
+
     /// Takes the call with this number out, where there is one.
     pub(crate) fn take(&mut self, number: u64) -> Option<Call>
         ensures made { self.new.made ≡ self.old.made }

@@ -84,7 +84,7 @@ fn write_call(
 
 impl<P: Program> Ledger<P> {
     // The site that a token calls. Its arguments are put into `args`.
-    fn ask(&self, graph: &Graph, token: Token, args: &mut Args) -> u32
+    pub(crate) fn ask(&self, graph: &Graph, token: Token, args: &mut Args) -> u32
         requires graph { graph.now ≡ P.listing }
         requires calls { what_of (code P.listing) (definitions P.listing) self.now token ≡ What.Call }
         ensures { IsCall result args.new (term_of (code P.listing) self.now token) }

@@ -91,7 +91,7 @@ pub fn are_arguments(
 ) -> bool
     ensures { result ≡ true → AreArguments cells.now scopes.now scope operands.now args.now }
 {
-    // It recurses over the arguments of one call, which are 16 at most.
+    // It recurses over the arguments of one call, which are `MOST_ARGUMENTS` at most.
     match (operands, args) {
         ([], []) => true,
         ([operand, operands @ ..], [arg, args @ ..]) => {

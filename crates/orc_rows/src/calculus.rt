@@ -1,6 +1,6 @@
 //! Prunings, otherwises, definitions, time and scripts: what runs may publish, how they end, and when.
 
-use crate::harness::{Row, refused, run_row, runs, summary, wrong};
+use crate::harness::{Row, refused, runs, summary, wrong};
 use orc_run::End;
 use std::test::Fail;
 
@@ -174,11 +174,13 @@ fn counts_entries_and_time(rt: HostRuntime) -> Result<(), Fail> {
         (b"x <x< stop", b"", End::Halted, Some(4), 0),
     ];
     for (source, script, end, entries, now) in rows {
-        let (told, _) = summary(&rt, source, script, 100_000)?;
-        assert_eq!(rt; told.end, end, "at {source:?}");
-        assert_eq!(rt; told.now, now, "at {source:?}");
-        if let Some(entries) = entries {
-            assert_eq!(rt; told.entries, entries, "at {source:?}");
+        for workers in [1, 2, 4, 16] {
+            let (told, _) = summary(&rt, source, script, 100_000, workers)?;
+            assert_eq!(rt; told.end, end, "at {source:?}");
+            assert_eq!(rt; told.now, now, "at {source:?}");
+            if let Some(entries) = entries {
+                assert_eq!(rt; told.entries, entries, "at {source:?}");
+            }
         }
     }
     Ok(())
@@ -188,22 +190,23 @@ fn counts_entries_and_time(rt: HostRuntime) -> Result<(), Fail> {
 #[test]
 fn cuts_a_metronome(rt: HostRuntime) -> Result<(), Fail> {
     let source = b"def m() = signal | Rwait(1) >> m()\nm()";
-    let (told, text) = summary(&rt, source, b"", 50)?;
-    assert_eq!(rt; told.end, End::Limit);
-    assert_eq!(rt; told.entries, 50);
-    let mut lines = 0_u64;
-    for line in text.as_str().lines() {
-        assert_eq!(rt; line, "signal");
-        lines = lines.saturating_add(1);
+    for workers in [1, 2, 4, 16] {
+        let (told, text) = summary(&rt, source, b"", 50, workers)?;
+        assert_eq!(rt; told.end, End::Limit);
+        assert_eq!(rt; told.entries, 50);
+        let mut lines = 0_u64;
+        for line in text.as_str().lines() {
+            assert_eq!(rt; line, "signal");
+            lines = lines.saturating_add(1);
+        }
+        assert_eq!(rt; told.published, lines);
+        let outs = [text.as_str()];
+        let row = Row {
+            words: &["--limit", "50"],
+            ..runs(source, 4, &outs)
+        };
+        assert_eq!(rt; wrong(&rt, &[row])?.as_str(), "");
     }
-    assert_eq!(rt; told.published, lines);
-    let outs = [text.as_str()];
-    let row = Row {
-        words: &["--limit", "50"],
-        ..runs(source, 4, &outs)
-    };
-    let (done, may) = run_row(&rt, &row)?;
-    assert!(rt; may, "{done:?}");
     Ok(())
 }
 
@@ -212,14 +215,16 @@ fn cuts_a_metronome(rt: HostRuntime) -> Result<(), Fail> {
 fn runs_races_one_after_another(rt: HostRuntime) -> Result<(), Fail> {
     let source =
         b"def loop(n) = Lt(n, 1100) >b> (Iff(b) >> n | Ift(b) >> (x <x< (n | Never() | Rwait(5))) >> Add(n, 1) >m> loop(m))\nloop(0)";
-    let (told, text) = summary(&rt, source, NEVER, 100_000)?;
-    assert_eq!(rt; told.end, End::Halted);
-    assert_eq!(rt; told.now, 0);
-    assert_eq!(rt; text.as_str(), "1100\n");
+    for workers in [1, 2, 4, 16] {
+        let (told, text) = summary(&rt, source, NEVER, 100_000, workers)?;
+        assert_eq!(rt; told.end, End::Halted);
+        assert_eq!(rt; told.now, 0);
+        assert_eq!(rt; text.as_str(), "1100\n");
+    }
     let row = Row {
         script: NEVER,
         ..runs(source, 0, &["1100\n"])
     };
-    assert!(rt; run_row(&rt, &row)?.1);
+    assert_eq!(rt; wrong(&rt, &[row])?.as_str(), "");
     Ok(())
 }

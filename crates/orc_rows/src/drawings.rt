@@ -100,7 +100,7 @@ fn draws_two_thousand_rows_and_no_more(rt: HostRuntime) -> Result<(), Fail> {
     for (count, status, line) in rows {
         let text = calls(alloc, count)?;
         let source = text.as_str().as_bytes();
-        let journal = recorded(&rt, source, b"", "100000")?;
+        let journal = recorded(&rt, source, b"", "100000", "4")?;
         for words in [SVG, TEXT] {
             let done = drawn(&rt, words, source, journal.out.as_str().as_bytes())?;
             assert_eq!(rt; done.status, status, "at {count}");

@@ -8,6 +8,9 @@ use std::sync::Wait;
 use std::test::Fail;
 use std::thread::Threads;
 
+/// The numbers of workers on which programs are run.
+pub const WORKERS: [&str; 4] = ["1", "2", "4", "16"];
+
 /// Files in memory: each path with its bytes.
 #[derive(Drop)]
 pub struct MemoryFiles<'a> {
@@ -140,12 +143,13 @@ pub fn orc<R: Threads + Wait + Sync + AllocGlobal>(
     })
 }
 
-/// Runs a program with a limit of entries, and writes its journal.
+/// Runs a program with a limit of entries, on so many workers, and writes its journal.
 pub fn recorded<R: Threads + Wait + Sync + AllocGlobal>(
     rt: &R,
     source: &[u8],
     script: &[u8],
     limit: &str,
+    workers: &str,
 ) -> Result<Done, Fail> {
     let words = [
         "orc",
@@ -155,6 +159,8 @@ pub fn recorded<R: Threads + Wait + Sync + AllocGlobal>(
         "a.script",
         "--limit",
         limit,
+        "--workers",
+        workers,
         "--journal",
     ];
     orc(rt, &words, &[("a.orc", source), ("a.script", script)])
@@ -212,13 +218,40 @@ pub fn refused<'a>(source: &'a [u8], err: &'a str) -> Row<'a> {
     }
 }
 
-/// Runs a row's program: what it did, and whether it may.
+/// Runs a row's program on four workers: what it did, and whether it may.
 pub fn run_row<'a, R: Threads + Wait + Sync + AllocGlobal>(
     rt: &R,
     row: &Row<'a>,
 ) -> Result<(Done, bool), Fail> {
+    run_row_on(rt, row, 4)
+}
+
+// The word for 1, 2, 4 or 16 workers.
+fn word_of<'a>(workers: u64) -> &'a str {
+    match workers {
+        1 => "1",
+        2 => "2",
+        4 => "4",
+        _ => "16",
+    }
+}
+
+// Runs a row's program on so many workers.
+fn run_row_on<'a, R: Threads + Wait + Sync + AllocGlobal>(
+    rt: &R,
+    row: &Row<'a>,
+    workers: u64,
+) -> Result<(Done, bool), Fail> {
     let mut words: Vec<&'a str> = Vec::new(rt.alloc());
-    for word in ["orc", "run", "a.orc", "--script", "a.script"] {
+    for word in [
+        "orc",
+        "run",
+        "a.orc",
+        "--script",
+        "a.script",
+        "--workers",
+        word_of(workers),
+    ] {
         words.push(word)?;
     }
     for word in row.words {
@@ -234,31 +267,36 @@ pub fn run_row<'a, R: Threads + Wait + Sync + AllocGlobal>(
     Ok((done, may))
 }
 
-/// The sources and outcomes of the rows that differ from what they may be.
+/// The sources and outcomes of the rows that differ from what they may be, on each number of workers.
 pub fn wrong<R: Threads + Wait + Sync + AllocGlobal>(rt: &R, rows: &[Row]) -> Result<String, Fail> {
     let alloc = rt.alloc();
     let mut wrong = String::new(alloc);
     for row in rows {
-        let (done, may) = run_row(rt, row)?;
-        if !may {
-            let line = format!(in alloc; "{:?}: {done:?}\n", row.source)?;
-            wrong.push_str(line.as_str())?;
+        for workers in [1, 2, 4, 16] {
+            let (done, may) = run_row_on(rt, row, workers)?;
+            if !may {
+                let line = format!(in alloc; "{:?}: {done:?} on ", row.source)?;
+                wrong.push_str(line.as_str())?;
+                wrong.push_str(word_of(workers))?;
+                wrong.push_str("\n")?;
+            }
         }
     }
     Ok(wrong)
 }
 
-/// What a run is told to have done: how it ended, how many entries its journal has, its time, and the text that it wrote.
+/// What a run on so many workers is told to have done: how it ended, how many entries its journal has, its time, and the text that it wrote.
 pub fn summary<R: Threads + Wait + Sync + AllocGlobal>(
     rt: &R,
     source: &[u8],
     script: &[u8],
     limit: u64,
+    workers: u64,
 ) -> Result<(Summary, String), Fail> {
     let alloc = rt.alloc();
     let mut out = Vec::new(alloc);
     let options = Options {
-        workers: 4,
+        workers,
         limit,
         journal: false,
     };

@@ -10,11 +10,17 @@ mod documents;
 #[cfg(test)]
 mod drawings;
 #[cfg(test)]
+mod gates;
+#[cfg(test)]
 mod harness;
+#[cfg(test)]
+mod hostile;
 #[cfg(test)]
 mod journals;
 #[cfg(test)]
 mod parts;
+#[cfg(test)]
+mod pool_rows;
 #[cfg(test)]
 mod pools;
 #[cfg(test)]

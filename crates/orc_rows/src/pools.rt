@@ -1,188 +1,20 @@
 //! Runs on several workers: what they publish and how they end, whatever gate and sites stand round them.
 
-use crate::runs::{Loaded, load};
+use crate::gates::{Held, Slow, Turnstile};
+use crate::runs::{Loaded, ORDERED, load};
 use orc_engine::{EngineFault, run_pool};
 use orc_outcome::{End, Played};
-use orc_rules::answers::Answers;
-use orc_rules::value::{Args, Value};
+use orc_plain::play as play_plainly;
+use orc_rules::value::Value;
 use orc_run::check_text;
-use orc_site::{Gate, Open, Request, Scripted, SiteCall, Sites};
-use std::alloc::{AllocError, Global};
+use orc_site::{Gate, Open, Scripted};
+use std::alloc::Global;
 use std::sync::Wait;
-use std::sync::atomic::{AtomicU64, Ordering};
 use std::test::Fail;
 use std::thread::Threads;
 
-// How often a gate looks before it gives up.
-const LOOKS: u64 = 2_000_000_000;
-
-/// Holds the numbers from the first to the last until so many were entered.
-#[derive(Drop)]
-struct Turnstile {
-    first: u64,
-    last: u64,
-    wanted: u64,
-    entered: AtomicU64,
-    ran_out: AtomicU64,
-}
-
-impl Turnstile {
-    fn new(first: u64, last: u64, wanted: u64) -> Turnstile {
-        Turnstile {
-            first,
-            last,
-            wanted,
-            entered: AtomicU64::new(0),
-            ran_out: AtomicU64::new(0),
-        }
-    }
-
-    fn held_all(&self) -> bool {
-        self.ran_out.load(Ordering::SeqCst) == 0
-    }
-}
-
-impl Gate for Turnstile {
-    fn pass(&self, number: u64) {
-        self.entered.fetch_add(1, Ordering::SeqCst);
-        if number < self.first || number > self.last {
-            return;
-        }
-        for _ in 0..LOOKS {
-            if self.entered.load(Ordering::SeqCst) >= self.wanted {
-                return;
-            }
-        }
-        self.ran_out.fetch_add(1, Ordering::SeqCst);
-    }
-}
-
-/// Holds nobody, and doesn't say so.
-#[derive(Drop)]
-struct Slow;
-
-impl Gate for Slow {
-    fn pass(&self, _number: u64) {}
-}
-
-/// Sites whose calls are held at a gate.
-#[derive(Drop)]
-struct Held<'a> {
-    scripted: Scripted<'a>,
-    gate: &'a Turnstile,
-}
-
-impl<'a> Sites for Held<'a> {
-    type Call = SiteCall<'a>;
-
-    fn call(&self, request: &Request) -> Result<SiteCall<'a>, AllocError> {
-        self.gate.pass(request.number);
-        self.scripted.call(request)
-    }
-
-    fn cancel(&self, _number: u64) {}
-}
-
-/// How sites go wrong.
-#[derive(Clone, Copy)]
-enum Wrong {
-    /// They answer a call without its arguments.
-    Value,
-    /// They think that a call was made at another time.
-    Time,
-}
-
-/// Sites that go wrong.
-#[derive(Drop)]
-struct Liar<'a> {
-    scripted: Scripted<'a>,
-    wrong: Wrong,
-}
-
-impl<'a> Sites for Liar<'a> {
-    type Call = SiteCall<'a>;
-
-    fn call(&self, request: &Request) -> Result<SiteCall<'a>, AllocError> {
-        let mut other = request.copied();
-        match self.wrong {
-            Wrong::Value => other.args = Args::new(),
-            Wrong::Time => other.made_at = other.made_at.saturating_add(2),
-        }
-        self.scripted.call(&other)
-    }
-
-    fn cancel(&self, _number: u64) {}
-
-    fn may_wait(&self) -> bool {
-        false
-    }
-}
-
-/// Counts the calls that pass and those that are cancelled. The first call is held until it is cancelled, where `holds`.
-#[derive(Drop)]
-struct Counting<'a> {
-    scripted: Scripted<'a>,
-    holds: bool,
-    passed: AtomicU64,
-    cancelled: AtomicU64,
-    first_gone: AtomicU64,
-    ran_out: AtomicU64,
-}
-
-impl<'a> Counting<'a> {
-    fn new(answers: &'a Answers, holds: bool) -> Counting<'a> {
-        Counting {
-            scripted: Scripted::new(answers),
-            holds,
-            passed: AtomicU64::new(0),
-            cancelled: AtomicU64::new(0),
-            first_gone: AtomicU64::new(0),
-            ran_out: AtomicU64::new(0),
-        }
-    }
-
-    // How many calls passed, how many were cancelled, and how many were held in vain.
-    fn counts(&self) -> (u64, u64, u64) {
-        (
-            self.passed.load(Ordering::SeqCst),
-            self.cancelled.load(Ordering::SeqCst),
-            self.ran_out.load(Ordering::SeqCst),
-        )
-    }
-}
-
-impl Gate for Counting<'_> {
-    fn pass(&self, number: u64) {
-        self.passed.fetch_add(1, Ordering::SeqCst);
-        if !self.holds || number != 1 {
-            return;
-        }
-        for _ in 0..LOOKS {
-            if self.first_gone.load(Ordering::SeqCst) == 1 {
-                return;
-            }
-        }
-        self.ran_out.fetch_add(1, Ordering::SeqCst);
-    }
-}
-
-impl<'a> Sites for Counting<'a> {
-    type Call = SiteCall<'a>;
-
-    fn call(&self, request: &Request) -> Result<SiteCall<'a>, AllocError> {
-        self.scripted.call(request)
-    }
-
-    fn cancel(&self, number: u64) {
-        self.cancelled.fetch_add(1, Ordering::SeqCst);
-        if number == 1 {
-            self.first_gone.store(1, Ordering::SeqCst);
-        }
-    }
-}
-
-// A run by sites that the table answers.
-fn play<R: Threads + Wait + Sync, G: Gate + Sync>(
+/// A run by sites that the table answers.
+pub(crate) fn play<R: Threads + Wait + Sync, G: Gate + Sync>(
     rt: &R,
     alloc: Global,
     loaded: &Loaded,
@@ -215,8 +47,8 @@ fn times(value: &Value, values: &[Value]) -> u64 {
     times
 }
 
-// Whether these are the same values, in any order.
-fn are_same(some: &[Value], others: &[Value]) -> bool {
+/// Whether these are the same values, in any order.
+pub(crate) fn are_same(some: &[Value], others: &[Value]) -> bool {
     for value in some {
         if times(value, some) != times(value, others) {
             return false;
@@ -225,8 +57,8 @@ fn are_same(some: &[Value], others: &[Value]) -> bool {
     some.len() == others.len()
 }
 
-// Whether the check accepts a run's journal.
-fn is_accepted(alloc: Global, source: &[u8], script: &[u8], played: &Played) -> bool {
+/// Whether the check accepts a run's journal.
+pub(crate) fn is_accepted(alloc: Global, source: &[u8], script: &[u8], played: &Played) -> bool {
     let mut out = Vec::new(alloc);
     check_text(alloc, source, script, &played.text, &mut out).is_ok()
 }
@@ -310,6 +142,55 @@ fn publishes_the_same_on_any_number_of_workers(rt: HostRuntime) -> Result<(), Fa
             let open = end_of(&rt, alloc, row, &Open, workers, 1000);
             assert_eq!(rt; open, Some(End::Halted), "at {source:?} on {workers}");
             let slow = end_of(&rt, alloc, row, &Slow, workers, 1000);
+            assert_eq!(rt; slow, Some(End::Halted), "at {source:?} on {workers}");
+        }
+    }
+    Ok(())
+}
+
+// The reference engine publishes the same values and ends so, at the same time.
+#[test]
+fn publishes_what_the_reference_does_on_any_number_of_workers(rt: HostRuntime) -> Result<(), Fail> {
+    let alloc = rt.alloc();
+    for (source, script) in ORDERED {
+        let loaded = load(alloc, source, script);
+        assert!(rt; loaded.is_some(), "at {source:?}");
+        let Some(loaded) = loaded else {
+            continue;
+        };
+        let reference = play_plainly(alloc, &loaded.program, &loaded.answers, false, 10_000);
+        assert!(rt; reference.is_ok(), "at {source:?}");
+        let Ok(reference) = reference else {
+            continue;
+        };
+        for workers in [1, 2, 4, 16] {
+            let row = (source, script, reference.published.as_slice());
+            let end = end_of(&rt, alloc, row, &Slow, workers, 10_000);
+            assert_eq!(rt;
+                end,
+                Some(reference.summary.end),
+                "at {source:?} on {workers}"
+            );
+        }
+    }
+    Ok(())
+}
+
+// Tokens that loop for ever starve neither the others nor a call, whether it is under way or due.
+#[test]
+fn starves_nothing_on_any_number_of_workers(rt: HostRuntime) -> Result<(), Fail> {
+    let alloc = rt.alloc();
+    let sources: [&[u8]; 3] = [
+        b"def loop() = loop()\nx <x< (loop() | 1)",
+        b"def loop() = loop()\nx <x< (loop() | Add(0, 1))",
+        b"def loop() = loop()\nx <x< (Rwait(1) >> loop() | Rwait(1) >> 1)",
+    ];
+    for source in sources {
+        for workers in [1, 2, 4, 16] {
+            let row: (&[u8], &[u8], &[Value]) = (source, b"", &[Value::Number(1)]);
+            let open = end_of(&rt, alloc, row, &Open, workers, 10_000_000);
+            assert_eq!(rt; open, Some(End::Halted), "at {source:?} on {workers}");
+            let slow = end_of(&rt, alloc, row, &Slow, workers, 10_000_000);
             assert_eq!(rt; slow, Some(End::Halted), "at {source:?} on {workers}");
         }
     }
@@ -429,104 +310,60 @@ fn each_worker_makes_calls_while_others_are_held(rt: HostRuntime) -> Result<(), 
     Ok(())
 }
 
+// How many values a program publishes on so many workers, by sites of which each call is held until all are called. None where a call was held in
+// vain.
+fn published_when_held<R: Threads + Wait + Sync>(
+    rt: &R,
+    alloc: Global,
+    source: &[u8],
+    workers: usize,
+) -> Option<u64> {
+    let loaded = load(alloc, source, b"")?;
+    let calls = workers as u64;
+    let gate = Turnstile::new(1, calls, calls);
+    let sites = Held {
+        scripted: Scripted::new(&loaded.answers),
+        gate: &gate,
+    };
+    let (program, answers) = (&loaded.program, &loaded.answers);
+    let played = run_pool(
+        rt, alloc, program, answers, &sites, &Open, workers, false, 1000,
+    )
+    .ok()?;
+    if gate.held_all() && played.summary.end == End::Halted {
+        Some(played.summary.published)
+    } else {
+        None
+    }
+}
+
 #[test]
 fn sites_may_hold_their_calls(rt: HostRuntime) -> Result<(), Fail> {
     let alloc = rt.alloc();
-    let loaded = load(alloc, b"Add(1, 2) | Add(3, 4)", b"");
-    assert!(rt; loaded.is_some());
-    if let Some(loaded) = loaded {
-        let gate = Turnstile::new(1, 2, 2);
-        let sites = Held {
-            scripted: Scripted::new(&loaded.answers),
-            gate: &gate,
-        };
-        let (program, answers) = (&loaded.program, &loaded.answers);
-        let played = run_pool(&rt, alloc, program, answers, &sites, &Open, 2, false, 100);
-        assert_eq!(rt; played.map(|p| p.summary.published), Ok(2));
-        assert!(rt; gate.held_all());
-    }
+    let two = b"Add(1, 2) | Add(3, 4)";
+    assert_eq!(rt; published_when_held(&rt, alloc, two, 2), Some(2));
+    let four = b"Add(1, 2) | Add(3, 4) | (Add(5, 6) | Add(7, 8))";
+    assert_eq!(rt; published_when_held(&rt, alloc, four, 4), Some(4));
+    // As many as there may be workers, each with a call of its own.
+    let sixteen =
+        b"def four(n) = Add(n, 1) | Add(n, 2) | (Add(n, 3) | Add(n, 4))\nfour(0) | four(4) | (four(8) | four(12))";
+    assert_eq!(rt; published_when_held(&rt, alloc, sixteen, 16), Some(16));
     Ok(())
 }
 
-// How a run by sites that go wrong fails.
-fn fault_by<R: Threads + Wait + Sync>(
-    rt: &R,
-    alloc: Global,
-    source: &[u8],
-    wrong: Wrong,
-    workers: usize,
-) -> Option<EngineFault> {
-    let loaded = load(alloc, source, b"")?;
-    let sites = Liar {
-        scripted: Scripted::new(&loaded.answers),
-        wrong,
-    };
-    let (program, answers) = (&loaded.program, &loaded.answers);
-    run_pool(
-        rt, alloc, program, answers, &sites, &Open, workers, false, 100,
-    )
-    .err()
-}
-
+// One worker waits in vain for another call, and goes on when the gate gives up.
 #[test]
-fn wrong_answers_of_sites_are_found(rt: HostRuntime) -> Result<(), Fail> {
+fn one_worker_holds_one_call(rt: HostRuntime) -> Result<(), Fail> {
     let alloc = rt.alloc();
-    for workers in [1, 2, 16] {
-        let value = fault_by(&rt, alloc, b"Add(1, 1)", Wrong::Value, workers);
-        assert_eq!(rt; value, Some(EngineFault::Site(1)));
-        let early = fault_by(&rt, alloc, b"Rwait(1) >> 1", Wrong::Value, workers);
-        assert_eq!(rt; early, Some(EngineFault::Site(1)));
-        let late = fault_by(&rt, alloc, b"Rwait(1) >> 1", Wrong::Time, workers);
-        assert_eq!(rt; late, Some(EngineFault::Site(1)));
-    }
-    Ok(())
-}
-
-// What sites and a gate that count are told of, and how many values are published.
-fn told<R: Threads + Wait + Sync>(
-    rt: &R,
-    alloc: Global,
-    source: &[u8],
-    holds: bool,
-    workers: usize,
-) -> Option<((u64, u64, u64), u64)> {
-    let loaded = load(alloc, source, b"")?;
-    let sites = Counting::new(&loaded.answers, holds);
-    let (program, answers) = (&loaded.program, &loaded.answers);
-    let played = run_pool(
-        rt, alloc, program, answers, &sites, &sites, workers, false, 1000,
+    let gate = Turnstile::that_looks(1, 2, 2, 1000);
+    let row: (&[u8], &[u8], &[Value]) = (
+        b"Add(1, 2) | Add(3, 4)",
+        b"",
+        &[Value::Number(3), Value::Number(7)],
     );
-    match played {
-        Ok(played) => Some((sites.counts(), played.summary.published)),
-        Err(_) => None,
-    }
-}
-
-#[test]
-fn sites_are_told_of_calls_and_cancels(rt: HostRuntime) -> Result<(), Fail> {
-    let alloc = rt.alloc();
-    for workers in [1, 2, 4, 16] {
-        let three = told(
-            &rt,
-            alloc,
-            b"x <x< (Rwait(5) | Rwait(9) | Rwait(7))",
-            false,
-            workers,
-        );
-        assert_eq!(rt; three, Some(((3, 2, 0), 1)), "on {workers}");
-    }
-    // The first call is told cancelled while it is held before it is made.
-    for workers in [2, 4, 16] {
-        let early = told(
-            &rt,
-            alloc,
-            b"x <x< (Rwait(5) | Rwait(5) >> 1)",
-            true,
-            workers,
-        );
-        assert_eq!(rt; early.map(|e| e.0.2), Some(0), "on {workers}");
-        assert_eq!(rt; early.map(|e| e.1), Some(1), "on {workers}");
-    }
+    let end = end_of(&rt, alloc, row, &gate, 1, 1000);
+    assert_eq!(rt; end, Some(End::Halted));
+    assert!(rt; !gate.held_all());
     Ok(())
 }
 

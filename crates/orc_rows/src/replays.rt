@@ -1,6 +1,6 @@
 //! Journals that runs write: what stands in them, and that a check takes them with the run's end.
 
-use crate::harness::{checked, recorded};
+use crate::harness::{WORKERS, checked, recorded};
 use std::alloc::Global;
 use std::sync::Wait;
 use std::test::Fail;
@@ -48,11 +48,23 @@ fn rests(source: &str) -> Case {
     }
 }
 
-// What a case's run and the check of its journal answer otherwise than they must.
+// What a case's runs and the checks of their journals answer otherwise than they must, on each number of workers.
 fn fault_of<R: Threads + Wait + Sync + AllocGlobal>(rt: &R, case: &Case) -> Result<String, Fail> {
+    let mut faults = String::new(rt.alloc());
+    for workers in WORKERS {
+        faults.push_str(fault_on(rt, case, workers)?.as_str())?;
+    }
+    Ok(faults)
+}
+
+fn fault_on<R: Threads + Wait + Sync + AllocGlobal>(
+    rt: &R,
+    case: &Case,
+    workers: &str,
+) -> Result<String, Fail> {
     let alloc = rt.alloc();
     let (source, script) = (case.source.as_bytes(), case.script.as_bytes());
-    let run = recorded(rt, source, script, case.limit)?;
+    let run = recorded(rt, source, script, case.limit, workers)?;
     let check = checked(rt, source, script, run.out.as_bytes())?;
     let lines = run.out.as_str().lines().count().saturating_sub(1);
     let said = format!(in alloc; "ok {lines} {}\n", case.state)?;
@@ -64,7 +76,7 @@ fn fault_of<R: Threads + Wait + Sync + AllocGlobal>(rt: &R, case: &Case) -> Resu
     if fits {
         return Ok(String::new(alloc));
     }
-    Ok(format!(in alloc; "{}: {} {check:?}\n", case.source, run.status)?)
+    Ok(format!(in alloc; "{} on {workers}: {} {check:?}\n", case.source, run.status)?)
 }
 
 #[test]
@@ -152,7 +164,7 @@ fn refuses_the_answers_of_another_script(rt: HostRuntime) -> Result<(), Fail> {
     for (case, cut) in rows {
         assert_eq!(rt; fault_of(&rt, &case)?.as_str(), "");
         let source = case.source.as_bytes();
-        let run = recorded(&rt, source, case.script.as_bytes(), case.limit)?;
+        let run = recorded(&rt, source, case.script.as_bytes(), case.limit, "4")?;
         let check = checked(&rt, source, cut.as_bytes(), run.out.as_bytes())?;
         assert_eq!(rt; check.status, 1, "at {cut}");
         assert_eq!(rt; check.out.as_str(), "", "at {cut}");
@@ -182,14 +194,16 @@ fn has_as_many_entries_as_the_limit(rt: HostRuntime) -> Result<(), Fail> {
         (loops, "100000", 4, 100_000),
     ];
     for (source, limit, status, entries) in rows {
-        let run = recorded(&rt, source.as_bytes(), b"", limit)?;
-        assert_eq!(rt; run.status, status, "at {source} {limit}");
-        assert_eq!(rt; run.err.as_str(), "", "at {source} {limit}");
-        assert_eq!(rt;
-            entries_in(run.out.as_str()),
-            entries,
-            "at {source} {limit}"
-        );
+        for workers in WORKERS {
+            let run = recorded(&rt, source.as_bytes(), b"", limit, workers)?;
+            assert_eq!(rt; run.status, status, "at {source} {limit}");
+            assert_eq!(rt; run.err.as_str(), "", "at {source} {limit}");
+            assert_eq!(rt;
+                entries_in(run.out.as_str()),
+                entries,
+                "at {source} {limit}"
+            );
+        }
     }
     Ok(())
 }
@@ -199,7 +213,7 @@ fn has_as_many_entries_as_the_limit(rt: HostRuntime) -> Result<(), Fail> {
 fn refuses_the_journal_of_a_long_loop_as_deep(rt: HostRuntime) -> Result<(), Fail> {
     let alloc = rt.alloc();
     let source = b"def m() = signal | Rwait(1) >> m()\nm()";
-    let run = recorded(&rt, source, b"", "100000")?;
+    let run = recorded(&rt, source, b"", "100000", "4")?;
     assert_eq!(rt; run.status, 4);
     let check = checked(&rt, source, b"", run.out.as_bytes())?;
     assert_eq!(rt; check.status, 1);
@@ -212,7 +226,13 @@ fn refuses_the_journal_of_a_long_loop_as_deep(rt: HostRuntime) -> Result<(), Fai
 #[test]
 fn leaves_out_what_does_not_happen(rt: HostRuntime) -> Result<(), Fail> {
     let alloc = rt.alloc();
-    let race = recorded(&rt, b"x <x< (Rwait(2) >> 20 | Rwait(1) >> 10)", b"", "50")?;
+    let race = recorded(
+        &rt,
+        b"x <x< (Rwait(2) >> 20 | Rwait(1) >> 10)",
+        b"",
+        "50",
+        "4",
+    )?;
     let journal = race.out.as_str();
     for call in ["1", "2"] {
         let made = format!(in alloc; " {call} Rwait(2)\n")?;
@@ -221,7 +241,7 @@ fn leaves_out_what_does_not_happen(rt: HostRuntime) -> Result<(), Fail> {
         assert!(rt; !late, "{journal}");
     }
     assert!(rt; journal.contains(" Rwait(2)\n"), "{journal}");
-    let other = recorded(&rt, b"(1 ; 2) >x> Add(x, 1)", b"", "50")?;
+    let other = recorded(&rt, b"(1 ; 2) >x> Add(x, 1)", b"", "50", "4")?;
     assert!(rt; !other.out.as_str().contains("right"), "{}", other.out);
     Ok(())
 }

@@ -1,5 +1,6 @@
 //! Runs of the engine that moves tokens over a graph: what they publish, how they end, and that the check of journals accepts them.
 
+use crate::pools::are_same;
 use orc_engine::{EngineFault, run_alone};
 use orc_outcome::{End, Played, Summary};
 use orc_plain::play;
@@ -88,51 +89,44 @@ fn publishes_what_the_rules_allow(rt: HostRuntime) -> Result<(), Fail> {
     Ok(())
 }
 
-// Whether two runs have published the same values, each as often, in any order.
-fn are_same(one: &[Value], other: &[Value]) -> bool {
-    one.len() == other.len()
-        && one.iter().all(|value| {
-            one.iter().filter(|v| *v == value).count()
-                == other.iter().filter(|v| *v == value).count()
-        })
-}
+/// Programs whose publications don't hang on the order of what is free, with their scripts.
+pub(crate) const ORDERED: [(&[u8], &[u8]); 8] = [
+    (b"1 | (2 | 3) >x> Add(x, 10)", b""),
+    (
+        b"def tree(n) = Lt(0, n) >b> (Iff(b) >> n | Ift(b) >> Sub(n, 1) >m> (tree(m) | tree(m)))\ntree(6)",
+        b"",
+    ),
+    (
+        b"(A() | B()) >x> (y <y< (A() | Rwait(x) >> B()))",
+        b"A() = 1 after 7\nB() = 20 after 3\n",
+    ),
+    (
+        b"def retry(n) = A(n) ; Lt(n, 3) >b> Ift(b) >> Rwait(2) >> Add(n, 1) >m> retry(m)\nretry(0)",
+        b"A(2) = 5 after 1\nA(_) = halt after 4\n",
+    ),
+    (
+        b"def clock(n) = Lt(0, n) >b> Ift(b) >> (n | Rwait(3) >> Sub(n, 1) >m> clock(m))\nclock(9)",
+        b"",
+    ),
+    (
+        b"(Add(x, y) <x< (A() ; 3)) <y< Rwait(4) >> 2",
+        b"A() = halt after 9\n",
+    ),
+    (
+        b"(Add(x, 1) <x< stop) ; ((x <x< Never()) | 4)",
+        b"Never() = never\n",
+    ),
+    (
+        b"val a = A()\nval b = B()\nIf(Eq(a, b)) >> 1 ; Add(a, b)",
+        b"A() = 1 after 2\nA() = 9\nB() = 1 after 8\nIf(true) = signal\nIf(false) = halt\n",
+    ),
+];
 
-// Programs whose publications don't hang on the order of what is free: the reference engine publishes the same values, at the same time at last.
+// The reference engine publishes the same values, at the same time at last.
 #[test]
 fn publishes_what_the_reference_does(rt: HostRuntime) -> Result<(), Fail> {
     let alloc = rt.alloc();
-    let rows: [(&[u8], &[u8]); 8] = [
-        (b"1 | (2 | 3) >x> Add(x, 10)", b""),
-        (
-            b"def tree(n) = Lt(0, n) >b> (Iff(b) >> n | Ift(b) >> Sub(n, 1) >m> (tree(m) | tree(m)))\ntree(6)",
-            b"",
-        ),
-        (
-            b"(A() | B()) >x> (y <y< (A() | Rwait(x) >> B()))",
-            b"A() = 1 after 7\nB() = 20 after 3\n",
-        ),
-        (
-            b"def retry(n) = A(n) ; Lt(n, 3) >b> Ift(b) >> Rwait(2) >> Add(n, 1) >m> retry(m)\nretry(0)",
-            b"A(2) = 5 after 1\nA(_) = halt after 4\n",
-        ),
-        (
-            b"def clock(n) = Lt(0, n) >b> Ift(b) >> (n | Rwait(3) >> Sub(n, 1) >m> clock(m))\nclock(9)",
-            b"",
-        ),
-        (
-            b"(Add(x, y) <x< (A() ; 3)) <y< Rwait(4) >> 2",
-            b"A() = halt after 9\n",
-        ),
-        (
-            b"(Add(x, 1) <x< stop) ; ((x <x< Never()) | 4)",
-            b"Never() = never\n",
-        ),
-        (
-            b"val a = A()\nval b = B()\nIf(Eq(a, b)) >> 1 ; Add(a, b)",
-            b"A() = 1 after 2\nA() = 9\nB() = 1 after 8\nIf(true) = signal\nIf(false) = halt\n",
-        ),
-    ];
-    for (source, script) in rows {
+    for (source, script) in ORDERED {
         let loaded = load(alloc, source, script);
         assert!(rt; loaded.is_some(), "at {source:?}");
         let Some(loaded) = loaded else {
@@ -181,6 +175,9 @@ fn starves_no_token(rt: HostRuntime) -> Result<(), Fail> {
     let source = b"def loop() = loop()\nx <x< (loop() | 1)";
     assert_eq!(rt; ends(alloc, source, 100_000), Some((End::Halted, 1)));
     let source = b"def loop() = loop()\nx <x< (1 | loop())";
+    assert_eq!(rt; ends(alloc, source, 100_000), Some((End::Halted, 1)));
+    // Two calls are due at one time, and what follows the first one loops for ever.
+    let source = b"def loop() = loop()\nx <x< (Rwait(1) >> loop() | Rwait(1) >> 1)";
     assert_eq!(rt; ends(alloc, source, 100_000), Some((End::Halted, 1)));
     let source = b"def fork() = fork() | fork()\nx <x< (Rwait(0) >> 1 | 2 | fork())";
     assert_eq!(rt;

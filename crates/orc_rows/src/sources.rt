@@ -52,11 +52,11 @@ fn counts_operators(rt: HostRuntime) -> Result<(), Fail> {
     let alloc = rt.alloc();
     let most = nested(alloc, b"1 | ", b"1", b"", 4000)?;
     let lines = repeated(alloc, b"1\n", 4001)?;
-    let (told, text) = summary(&rt, &most, b"", 100_000)?;
+    let (told, text) = summary(&rt, &most, b"", 100_000, 4)?;
     assert_eq!(rt; told.end, End::Halted);
     assert_eq!(rt; told.entries, 8001);
     assert!(rt; text.as_bytes() == lines.as_slice());
-    let run = recorded(&rt, &most, b"", "8001")?;
+    let run = recorded(&rt, &most, b"", "8001", "4")?;
     assert_eq!(rt; run.status, 0);
     let check = checked(&rt, &most, b"", run.out.as_bytes())?;
     assert_eq!(rt; check.out.as_str(), "ok 8001 Halted\n");

@@ -24,3 +24,4 @@ pub mod Timed
 pub mod Trace
 pub mod Unique
 pub mod Verdict
+pub mod Faults

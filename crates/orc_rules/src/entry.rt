@@ -1,6 +1,7 @@
 //! The entries of a journal, what they show, and why they are refused.
 
 ghost use Rattle.std.specs.Prelude.{◌≡◌};
+ghost use Rattle.orc_rules.specs.Faults.{reason_status, reason_word, state_word};
 ghost use Rattle.orc_rules.specs.Kinds.{kind_of};
 
 use crate::kind::Kind;
@@ -108,10 +109,39 @@ pub enum RuleFault {
     Time,
     /// The side hasn't halted.
     Halted,
-    /// The term after the entry would nest over 10,000 levels.
+    /// The term after the entry would nest over `MOST_LEVELS` levels.
     Deep,
     /// A growth was refused.
     Memory,
+}
+
+impl RuleFault {
+    /// The reason's word.
+    pub fn word(self) -> &'static str
+        ensures { result.now ≡ reason_word self }
+    {
+        match self {
+            RuleFault::Cancel => "Cancel",
+            RuleFault::Mark => "Mark",
+            RuleFault::Form => "Form",
+            RuleFault::Number => "Number",
+            RuleFault::Answer => "Answer",
+            RuleFault::Time => "Time",
+            RuleFault::Halted => "Halted",
+            RuleFault::Deep => "Deep",
+            RuleFault::Memory => "Memory",
+        }
+    }
+
+    /// The process's status where an entry is refused for this reason.
+    pub fn status(self) -> u8
+        ensures { result ≡ reason_status self }
+    {
+        match self {
+            RuleFault::Memory => 5,
+            _ => 1,
+        }
+    }
 }
 
 /// Where a journal has brought a run.
@@ -123,4 +153,17 @@ pub enum State {
     Quiet,
     /// A rule can be used, now or after a tick.
     Running,
+}
+
+impl State {
+    /// The state's word.
+    pub fn word(self) -> &'static str
+        ensures { result.now ≡ state_word self }
+    {
+        match self {
+            State::Halted => "Halted",
+            State::Quiet => "Quiet",
+            State::Running => "Running",
+        }
+    }
 }

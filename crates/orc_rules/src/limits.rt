@@ -41,3 +41,9 @@ pub const MOST_FRAMES: usize = 4_096;
 
 /// The most workers of a run.
 pub const MOST_WORKERS: usize = 16;
+
+/// The workers of a run where no number is asked for.
+pub const DEFAULT_WORKERS: usize = 4;
+
+/// The most rows of a picture.
+pub const MOST_ROWS: u64 = 2_000;

@@ -5,6 +5,7 @@ use Rattle.std.specs.Io.KnownBytes.{Keeps, Appends}
 use Rattle.orc_rules.specs.declared.entry.RuleFault.TheVariants as reason
 use Rattle.orc_rules.specs.declared.entry.State.{State}
 use Rattle.orc_rules.specs.declared.entry.State.TheVariants as state
+use Rattle.orc_rules.specs.Faults.{state_word}
 use Rattle.orc_rules.specs.Sites.{Table}
 use Rattle.orc_rules.specs.Nodes.{Listing, source}
 use Rattle.orc_rules.specs.Verdict.{IsVerdict, IsFault as Faults}
@@ -17,7 +18,6 @@ use Rattle.orc_journal.specs.declared.text.JournalFault.TheVariants as journal
 use Rattle.orc_journal.specs.Texts.{Written, IsJournal, IsFault as IsBadText}
 use Rattle.orc_checker.specs.Checker.{context}
 use Rattle.orc_verdict.specs.Verdicts.{records_cancels, IsCutShort}
-use Rattle.orc_run.specs.Faults.{state_word}
 use Rattle.orc_run.specs.Output.{AppendsPrefix}
 use Rattle.orc_run.specs.Running.{IsLoadFault, IsProgramOf, Runs}
 use Rattle.orc_outcome.specs.declared.end.End.{End}

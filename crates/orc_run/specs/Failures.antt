@@ -1,6 +1,6 @@
 -- What is told of a job that was not done.
 use Rattle.std.specs.Prelude.{ℕ, List, [], ◌++◌, codes, decimal, string_bytes}
-use Rattle.orc_draw.specs.declared.fault.TheConstants.{MOST_ROWS}
+use Rattle.orc_rules.specs.declared.limits.TheConstants.{MOST_ROWS}
 use Rattle.orc_run.specs.Faults.{line, status}
 use Rattle.orc_run.specs.Status.{read_status_of}
 use Rattle.orc_run.specs.declared.explained.Explained.{Explained}

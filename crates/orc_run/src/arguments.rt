@@ -4,7 +4,7 @@ use crate::running::Options;
 use clap::error::ErrorKind;
 use clap::{Arg, ArgAction, ArgMatches, Command, Error, value_parser};
 use orc_draw::{Form, Theme};
-use orc_rules::limits::{MOST_ENTRIES, MOST_WORKERS};
+use orc_rules::limits::{DEFAULT_ENTRIES, DEFAULT_WORKERS, MOST_ENTRIES, MOST_WORKERS};
 use std::alloc::{AllocError, Global};
 use std::convert::AsStr;
 
@@ -22,6 +22,40 @@ Status:
   1  a fault in one of the files        5  memory was refused
   2  the command line was refused       6  a file or the output failed
   3  quiet: it waits for ever           7  the engine is at fault";
+
+/// What the help says of limits, which a command borrows.
+pub struct Ranges {
+    workers: String,
+    default_workers: String,
+    limit: String,
+    default_limit: String,
+}
+
+// Written out, so that a caller's proof sees one call and not the drop of each field.
+impl Drop for Ranges {
+    fn drop(self) {
+        let Ranges {
+            workers: _,
+            default_workers: _,
+            limit: _,
+            default_limit: _,
+        } = self;
+    }
+}
+
+impl Ranges {
+    /// The error is refused memory.
+    pub fn new(alloc: Global) -> Result<Ranges, AllocError> {
+        Ok(Ranges {
+            workers: format!(in alloc; "The number of workers, 1 to {MOST_WORKERS}")?,
+            default_workers: format!(in alloc; "{DEFAULT_WORKERS}")?,
+            limit: format!(in alloc;
+                "The greatest number of journal entries, 1 to {MOST_ENTRIES}"
+            )?,
+            default_limit: format!(in alloc; "{DEFAULT_ENTRIES}")?,
+        })
+    }
+}
 
 /// A job, and whether what went wrong is to be explained.
 #[derive(Clone, Copy, Debug)]
@@ -68,22 +102,22 @@ fn script_argument<'a>(alloc: Global) -> Arg<'a> {
         .help("The answers of the program's own sites [default: none]")
 }
 
-fn workers_argument<'a>(alloc: Global) -> Arg<'a> {
+fn workers_argument<'a>(alloc: Global, ranges: &'a Ranges) -> Arg<'a> {
     Arg::new(alloc, "workers")
         .long("workers")
         .value_name("N")
         .value_parser(value_parser!(u64).range(1..=MOST_WORKERS as i64))
-        .default_value("4")
-        .help("The number of workers, 1 to 16")
+        .default_value(ranges.default_workers.as_str())
+        .help(ranges.workers.as_str())
 }
 
-fn limit_argument<'a>(alloc: Global) -> Arg<'a> {
+fn limit_argument<'a>(alloc: Global, ranges: &'a Ranges) -> Arg<'a> {
     Arg::new(alloc, "limit")
         .long("limit")
         .value_name("N")
         .value_parser(value_parser!(u64).range(1..=MOST_ENTRIES as i64))
-        .default_value("100000")
-        .help("The greatest number of journal entries, 1 to 10000000")
+        .default_value(ranges.default_limit.as_str())
+        .help(ranges.limit.as_str())
 }
 
 fn journal_flag<'a>(alloc: Global) -> Arg<'a> {
@@ -93,11 +127,16 @@ fn journal_flag<'a>(alloc: Global) -> Arg<'a> {
         .help("Write the run's journal instead of what it publishes")
 }
 
-fn explain_flag<'a>(alloc: Global) -> Arg<'a> {
+/// What `--explain` does where a run may end in more ways than one.
+const EXPLAIN_RUN: &str = "Explain what went wrong, or how the run ended";
+
+const EXPLAIN: &str = "Explain what went wrong, below its line";
+
+fn explain_flag<'a>(alloc: Global, help: &'static str) -> Arg<'a> {
     Arg::new(alloc, "explain")
         .long("explain")
         .action(ArgAction::SetTrue)
-        .help("Explain what went wrong, below its line")
+        .help(help)
 }
 
 fn journal_argument<'a>(alloc: Global) -> Arg<'a> {
@@ -143,15 +182,15 @@ fn theme_argument<'a>(alloc: Global) -> Arg<'a> {
         .help("The colours of the SVG")
 }
 
-fn run_command<'a>(alloc: Global) -> Result<Command<'a>, AllocError> {
+fn run_command<'a>(alloc: Global, ranges: &'a Ranges) -> Result<Command<'a>, AllocError> {
     Command::new(alloc, "run")
         .about("Run a program and write what it publishes")
         .arg(file_argument(alloc))?
         .arg(script_argument(alloc))?
-        .arg(workers_argument(alloc))?
-        .arg(limit_argument(alloc))?
+        .arg(workers_argument(alloc, ranges))?
+        .arg(limit_argument(alloc, ranges))?
         .arg(journal_flag(alloc))?
-        .arg(explain_flag(alloc))
+        .arg(explain_flag(alloc, EXPLAIN_RUN))
 }
 
 fn check_command<'a>(alloc: Global) -> Result<Command<'a>, AllocError> {
@@ -160,7 +199,7 @@ fn check_command<'a>(alloc: Global) -> Result<Command<'a>, AllocError> {
         .arg(file_argument(alloc))?
         .arg(journal_argument(alloc))?
         .arg(script_argument(alloc))?
-        .arg(explain_flag(alloc))
+        .arg(explain_flag(alloc, EXPLAIN))
 }
 
 fn draw_command<'a>(alloc: Global) -> Result<Command<'a>, AllocError> {
@@ -179,17 +218,17 @@ fn print_command<'a>(alloc: Global) -> Result<Command<'a>, AllocError> {
     Command::new(alloc, "print")
         .about("Write a program in its plain form")
         .arg(file_argument(alloc))?
-        .arg(explain_flag(alloc))
+        .arg(explain_flag(alloc, EXPLAIN))
 }
 
-fn orc_command<'a>(alloc: Global) -> Result<Command<'a>, AllocError> {
+fn orc_command<'a>(alloc: Global, ranges: &'a Ranges) -> Result<Command<'a>, AllocError> {
     Command::new(alloc, "orc")
         .version(VERSION)
         .about("Run programs of the Orc calculus, and check their journals")
         .after_help(CODES)
         .subcommand_required(true)
         .arg_required_else_help(true)
-        .subcommand(run_command(alloc)?)?
+        .subcommand(run_command(alloc, ranges)?)?
         .subcommand(check_command(alloc)?)?
         .subcommand(draw_command(alloc)?)?
         .subcommand(print_command(alloc)?)
@@ -249,8 +288,12 @@ fn is_explained(name: &str, given: &ArgMatches) -> bool {
 
 /// Reads a command line, whose first word is the program's name. An error asks for help or for the version, or refuses
 /// it.
-pub fn read_words<'a, S: AsStr>(alloc: Global, words: &'a [S]) -> Result<Asked<'a>, Error> {
-    let mut command = orc_command(alloc)?;
+pub fn read_words<'a, S: AsStr>(
+    alloc: Global,
+    words: &'a [S],
+    ranges: &'a Ranges,
+) -> Result<Asked<'a>, Error> {
+    let mut command = orc_command(alloc, ranges)?;
     let matches = command.try_get_matches_from_mut(words)?;
     if let Some((name, given)) = matches.subcommand() {
         if let Some(job) = job_of(name, given) {

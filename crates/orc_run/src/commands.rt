@@ -6,7 +6,7 @@ ghost use Rattle.orc_outcome.specs.declared.end.End.TheVariants as ends;
 ghost use Rattle.orc_run.specs.Inputs.{IsHeld, IsRead};
 ghost use Rattle.orc_run.specs.Commands.{HasDrawn, HasEnded, HasJudged, HasPrinted, HasRun, IsDone, IsUnread, LeavesUndone, WasCut};
 
-use crate::arguments::{Asked, Job, read_words};
+use crate::arguments::{Asked, Job, Ranges, read_words};
 use crate::drawing::{Undrawn, draw_text};
 use crate::explained::{Explained, subject_of};
 use crate::failures::{Failure, report};
@@ -100,7 +100,11 @@ fn run_file<'a, R: Threads + Wait + Sync, F: Files, W: Write>(
         options,
         out,
     ) {
-        Ok(summary) => Ok(summary.end.status()),
+        Ok(summary) => {
+            let subject = subject_of(file, source.as_slice(), script, answers.as_slice());
+            explained.ended(rt, alloc, &subject, options, summary);
+            Ok(summary.end.status())
+        }
         Err(fault) => {
             let subject = subject_of(file, source.as_slice(), script, answers.as_slice());
             explained.fault(alloc, &subject, fault);
@@ -267,13 +271,20 @@ where
     ensures quiet { result ≡ 3 → HasEnded ends.Quiet (W.contents out.old) (W.contents out.new) }
     ensures cut { result ≡ 4 → WasCut (W.contents out.old) (W.contents out.new) }
 {
-    let Asked { job, explain } = match read_words(alloc, words) {
+    let ranges = match Ranges::new(alloc) {
+        Err(error) => return refuse(&clap::Error::from(error), out, err),
+        Ok(ranges) => ranges,
+    };
+    let Asked { job, explain } = match read_words(alloc, words, &ranges) {
         Err(error) => return refuse(&error, out, err),
         Ok(asked) => asked,
     };
     let mut explained = Explained::new(explain);
     match do_job(rt, alloc, job, files, out, &mut explained) {
-        Ok(status) => status,
+        Ok(status) => {
+            let _ = explained.write(err);
+            status
+        }
         Err(failure) => {
             explained.unread(alloc, &failure);
             let _ = report(err, &failure, &explained);

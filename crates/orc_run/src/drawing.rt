@@ -54,7 +54,7 @@ fn picture_of<'a>(
 /// and writes the picture, which is called by the name.
 ///
 /// A fault is answered where `check_text` answers it, and the same one; where memory for the picture is refused or the output isn't taken
-/// whole; and where the picture would have over 2,000 rows. Nothing is written then, but at a fault of the output a prefix of a picture.
+/// whole; and where the picture would have over `MOST_ROWS` rows. Nothing is written then, but at a fault of the output a prefix of a picture.
 pub fn draw_text<W: Write>(
     alloc: Global,
     name: &str,

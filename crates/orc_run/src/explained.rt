@@ -1,17 +1,27 @@
-//! What explains a failure, where that is asked for.
+//! What explains a failure, or how a run ended, where that is asked for.
 
-ghost use Rattle.std.specs.Prelude.{◌≡◌, false, if◌then◌else◌};
+ghost use Rattle.std.specs.Prelude.{◌≡◌, false, if◌then◌else◌, OnOk};
+ghost use Rattle.std.specs.Io.KnownBytes.{Appends};
 ghost use Rattle.orc_run.specs.Failures.{told};
 ghost use Rattle.orc_run.specs.declared.explained.Explained.TheVariants.{Nothing, Unasked};
 
+use crate::ending::explain_run;
 use crate::failures::Failure;
 use crate::faults::RunFault;
 use crate::inputs::ReadFault;
+use crate::output::{WriteFault, write_text};
+use crate::running::Options;
 use orc_engine::EngineFault;
 use orc_explain::{Document, Fault, Subject, explain, explain_refused, explain_unread};
+use orc_outcome::Summary;
+use orc_refusal::explain_refusal;
+use orc_verdict::CheckFault;
 use std::alloc::{AllocError, Global};
+use std::io::Write;
+use std::sync::Wait;
+use std::thread::Threads;
 
-/// What explains a failure.
+/// What explains a failure, or how a run ended.
 #[derive(Drop)]
 pub enum Explained {
     /// The command line doesn't ask for it.
@@ -21,7 +31,7 @@ pub enum Explained {
     Text(String),
 }
 
-// What is explained of a fault; nothing where its line says all.
+// What is explained of a fault of texts or of a run; nothing of others, or where its line says all.
 fn fault_of(fault: RunFault) -> Option<Fault> {
     match fault {
         RunFault::Syntax(fault) => Some(Fault::Syntax(fault)),
@@ -83,8 +93,43 @@ impl Explained {
         if !self.is_asked() {
             return;
         }
+        if let RunFault::Check(fault) = fault {
+            self.refusal(alloc, subject, fault);
+        }
         if let Some(fault) = fault_of(fault) {
             self.tell(explain(alloc, subject, fault));
+        }
+    }
+
+    /// Explains in the same way how a run of these files ended.
+    pub fn ended<R: Threads + Wait + Sync>(
+        &mut self,
+        rt: &R,
+        alloc: Global,
+        subject: &Subject,
+        options: &Options,
+        summary: Summary,
+    )
+        ensures { self.old ≡ Unasked → self.new ≡ Unasked }
+    {
+        if self.is_asked() {
+            self.tell(explain_run(rt, alloc, subject, options, summary));
+        }
+    }
+
+    /// Writes what is told where no failure has a line. At a fault of the stream some of it may be missing at the end.
+    pub fn write<V: Write>(&self, err: &mut V) -> Result<(), WriteFault>
+        ensures { OnOk result (Appends (V.contents err.old) (V.contents err.new) (told self.now)) }
+    {
+        write_text(err, self.as_str().as_bytes())
+    }
+
+    // Explains why an entry of the journal is refused.
+    fn refusal(&mut self, alloc: Global, subject: &Subject, fault: CheckFault) {
+        if let Some(journal) = subject.journal {
+            let source = subject.source.text;
+            let script = subject.script_text();
+            self.tell(explain_refusal(alloc, source, script, &journal, fault));
         }
     }
 

@@ -8,7 +8,7 @@ use crate::explained::Explained;
 use crate::faults::RunFault;
 use crate::inputs::ReadFault;
 use crate::output::{WriteFault, write_text};
-use orc_draw::MOST_ROWS;
+use orc_rules::limits::MOST_ROWS;
 use std::fmt;
 use std::io::Write;
 

@@ -2,15 +2,16 @@
 
 ghost use Rattle.std.specs.Prelude.{◌≡◌, length, IfOk, IfErr, OnOk};
 ghost use Rattle.orc_run.specs.Checked.{verdict_line, Accepts, Judges, LeavesUnjudged, IsBeyond, IsCheckFault, IsJudged, IsOfRun, IsRefusal, StandsSo};
+ghost use Rattle.orc_journal.specs.Texts.{Written};
 ghost use Rattle.orc_outcome.specs.declared.end.Summary.{Summary as RunSummary};
 
-use crate::faults::{RunFault, StateWord};
+use crate::faults::RunFault;
 use crate::loading::load;
 use crate::output::{WriteFault, write_text};
 use orc_journal::{Journal, read_journal};
 use orc_rules::answers::Answers;
 use orc_rules::entry::State;
-use orc_verdict::check_journal;
+use orc_verdict::{TextFault, check_journal, check_lines};
 use std::alloc::{AllocError, Global};
 use std::io::Write;
 
@@ -18,7 +19,7 @@ use std::io::Write;
 fn line_of(alloc: Global, entries: usize, state: State) -> Result<Vec<u8>, AllocError>
     ensures { IfOk result (λ t. t.items ≡ verdict_line entries state) }
 {
-    let word = StateWord(state);
+    let word = state.word();
     let line = format!(in alloc; "ok {entries} {word}\n")?;
     Ok(line.into_bytes())
 }
@@ -61,6 +62,37 @@ pub fn judge(
     }
 }
 
+// How many entries a checked journal has, and where it has brought the run.
+#[derive(Clone, Copy)]
+struct Brought {
+    entries: usize,
+    state: State,
+}
+
+// The same of a journal whose entries needn't be kept.
+fn judge_lines(
+    alloc: Global,
+    source: &[u8],
+    script: &[u8],
+    journal: &[u8],
+) -> Result<Brought, RunFault>
+    ensures judged { IfOk result (λ b. (j : Written) × IsJudged source.now script.now journal.now j b.state × (b.entries ≡ length j.entries)) }
+    ensures cause { IfErr result (IsRefusal source.now script.now journal.now) }
+    ensures accepted { (s : RunSummary) → IsOfRun source.now script.now journal.now s → IfOk result (λ b. StandsSo s.end b.state × (b.entries ≡ s.entries)) }
+    ensures beyond { (s : RunSummary) → IsOfRun source.now script.now journal.now s → IfErr result IsBeyond }
+{
+    let loaded = load(alloc, source, script)?;
+    loaded.answers.are_apart();
+    match check_lines(alloc, &loaded.program, &loaded.answers, journal) {
+        Ok(checked) => Ok(Brought {
+            entries: checked.entries,
+            state: checked.verdict.state,
+        }),
+        Err(TextFault::Journal(fault)) => Err(RunFault::Journal(fault)),
+        Err(TextFault::Check(fault)) => Err(RunFault::Check(fault)),
+    }
+}
+
 /// Checks a journal's text against the program that a source spells, with the built-in sites and those of a script, and writes `ok N STATE`
 /// with the number of entries and where the run stands.
 ///
@@ -80,8 +112,8 @@ pub fn check_text<W: Write>(
     ensures accepted { (s : RunSummary) → IsOfRun source.now script.now journal.now s → OnOk result (Accepts s (W.contents out.old) (W.contents out.new)) }
     ensures beyond { (s : RunSummary) → IsOfRun source.now script.now journal.now s → IfErr result IsBeyond }
 {
-    let judged = judge(alloc, source, script, journal)?;
-    let Ok(line) = line_of(alloc, judged.journal.len(), judged.state) else {
+    let brought = judge_lines(alloc, source, script, journal)?;
+    let Ok(line) = line_of(alloc, brought.entries, brought.state) else {
         return Err(RunFault::Write(WriteFault));
     };
     match write_text(out, line.as_slice()) {

@@ -4,6 +4,7 @@
 mod arguments;
 mod commands;
 mod drawing;
+mod ending;
 mod explained;
 mod failures;
 mod faults;

@@ -23,7 +23,7 @@ use std::thread::Threads;
 /// How a program is run.
 #[derive(Clone, Copy, Debug, PartialEq, Eq)]
 pub struct Options {
-    /// How many workers run it, 1 to 16.
+    /// How many workers run it, 1 to `MOST_WORKERS`.
     pub workers: u64,
     /// The most entries that the run's journal may have, cancels not counted.
     pub limit: u64,
@@ -31,8 +31,8 @@ pub struct Options {
     pub journal: bool,
 }
 
-// Runs a program.
-fn play<R: Threads + Wait + Sync>(
+/// Runs a program.
+pub fn play<R: Threads + Wait + Sync>(
     rt: &R,
     alloc: Global,
     loaded: &Loaded,

@@ -10,3 +10,4 @@ pub mod Program
 pub mod Scope
 pub mod Shallow
 pub mod Written
+pub mod Faults

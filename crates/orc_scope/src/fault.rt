@@ -1,12 +1,14 @@
 //! Faults of names.
 
-ghost use Rattle.std.specs.Prelude.{◌≡◌, ◌++◌, List, true, false};
+ghost use Rattle.std.specs.Prelude.{◌≡◌, ◌++◌, List, Some, true, false};
 ghost use Rattle.orc_scope.specs.declared.fault.ScopeFault.{ScopeFault as Fault};
 ghost use Rattle.orc_scope.specs.declared.fault.FaultKind.TheVariants.{Memory};
+ghost use Rattle.orc_scope.specs.Faults.{scope_line, scope_status};
 ghost use Rattle.orc_scope.specs.Scope.{IsBefore, IsLeast, rank};
 
 use orc_syntax::Span;
 use std::alloc::AllocError;
+use std::fmt;
 
 /// What is wrong with a name or a number of parts.
 #[derive(Clone, Copy, Debug, PartialEq, Eq)]
@@ -25,7 +27,7 @@ pub enum FaultKind {
     CallOfVariable,
     /// A called name that means nothing.
     NoSite,
-    /// A 17th parameter or argument, or over 65,535 nodes in all terms.
+    /// A parameter or argument behind `MOST_ARGUMENTS` others, or over `MOST_NODES` nodes in all terms.
     TooMany,
     /// A growth was refused.
     Memory,
@@ -45,6 +47,39 @@ impl From<AllocError> for ScopeFault {
         ScopeFault {
             kind: FaultKind::Memory,
             span: Span { start: 0, end: 0 },
+        }
+    }
+}
+
+// Its code and its place.
+impl fmt::Display for ScopeFault {
+    ghost output = { λ f. Some (scope_line f) };
+
+    fn fmt<W: fmt::Write>(&self, f: &mut fmt::Formatter<W>) -> fmt::Result {
+        let start = self.span.start;
+        let code = match self.kind {
+            FaultKind::Unbound => "C1",
+            FaultKind::NotValue => "C2",
+            FaultKind::Arity { want: _, got: _ } => "C3",
+            FaultKind::DefinedTwice => "C4",
+            FaultKind::ParameterTwice => "C5",
+            FaultKind::CallOfVariable => "C6",
+            FaultKind::NoSite => "C7",
+            FaultKind::TooMany => "C8",
+            FaultKind::Memory => return write!(f, "C9"),
+        };
+        write!(f, "{code} at {start}")
+    }
+}
+
+impl ScopeFault {
+    /// The process's status at this fault.
+    pub fn status(self) -> u8
+        ensures { result ≡ scope_status self.kind }
+    {
+        match self.kind {
+            FaultKind::Memory => 5,
+            _ => 1,
         }
     }
 }

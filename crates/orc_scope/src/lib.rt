@@ -21,4 +21,6 @@ mod numbers;
 mod writing;
 
 pub use checking::check;
+pub use definitions::variables;
 pub use fault::{FaultKind, ScopeFault};
+pub use names::Names;

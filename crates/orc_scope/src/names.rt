@@ -1,6 +1,6 @@
 //! Lists of names that are found by their text.
 
-ghost use Rattle.std.specs.Prelude.{◌≡◌, ◌-◌, ◌++◌, ◌∷◌, [], ℕ, List, map, length, take, bytes_eq, OnOk, OnErr};
+ghost use Rattle.std.specs.Prelude.{◌≡◌, ◌-◌, ◌++◌, ◌∷◌, [], ℕ, List, map, length, take, bytes_eq, slice_get, option_map, OnOk, OnErr};
 ghost use Rattle.std.specs.HashMap.{get_by};
 ghost use Rattle.orc_syntax.specs.Ast.{text_of};
 ghost use Rattle.orc_scope.specs.Scope.{position};
@@ -56,6 +56,13 @@ impl<'a> Names<'a> {
         ensures { result ≡ position self.now text.now }
     {
         self.places.get(&text).copied()
+    }
+
+    /// The name at a place, from 0.
+    pub fn get(&self, place: usize) -> Option<&'a [u8]>
+        ensures { option_map (λ n. n.now) result ≡ slice_get self.now place }
+    {
+        self.texts.get(place).copied()
     }
 
     /// Adds a name at the end. Where a growth is refused nothing changes.

@@ -1,82 +1,37 @@
 //! Runs programs on many workers again and again, and tells how many of the runs were odd: ended otherwise than they have to, or left a journal
-//! that isn't accepted. Its argument is how often each program is run.
+//! that isn't accepted.
+//!
+//!     orc_storms ROUNDS                       each program so often, on 2, 4 and 16 workers
+//!     orc_storms NAME WORKERS [ROUNDS]        one of them on so many workers, once where nothing is said; also `due` and `asks`
 #![tactic(auto)]
 
-use orc_engine::{EngineFault, run_pool};
-use orc_outcome::{End, Played};
-use orc_rules::answers::Answers;
-use orc_rules::program::Program;
-use orc_run::check_text;
-use orc_scope::check;
-use orc_site::{Gate, Scripted, read_script};
-use orc_syntax::parse;
+mod gates;
+mod storm;
+
+use gates::{Sleepy, Slow, Turnstile};
+use orc_engine::EngineFault;
+use orc_outcome::Played;
+use orc_site::{Gate, Scripted};
 use std::alloc::Global;
 use std::sync::Wait;
-use std::sync::atomic::{AtomicU64, Ordering};
 use std::thread::Threads;
+use std::time::Clock;
 use std::{env, io};
-
-const SCRIPT: &[u8] = b"Never() = never\nSlow() = 1 after 3\n";
+use storm::{ASKS, DUE, Loaded, STORMS, Storm, load, run};
 
 /// How often each program is run where no argument says so.
 const ROUNDS: u32 = 3;
 
-/// How often a gate looks before it gives up.
-const LOOKS: u64 = 2_000_000_000;
-
-/// Holds nobody, and doesn't say so: all workers are at work.
-#[derive(Drop)]
-struct Slow;
-
-impl Gate for Slow {
-    fn pass(&self, _number: u64) {}
-}
-
-/// Holds each call until so many were made.
-#[derive(Drop)]
-struct Turnstile {
-    wanted: u64,
-    entered: AtomicU64,
-    ran_out: AtomicU64,
-}
-
-impl Gate for Turnstile {
-    fn pass(&self, _number: u64) {
-        self.entered.fetch_add(1, Ordering::SeqCst);
-        for _ in 0..LOOKS {
-            if self.entered.load(Ordering::SeqCst) >= self.wanted {
-                return;
-            }
-        }
-        self.ran_out.fetch_add(1, Ordering::SeqCst);
+// Whether a run ended as it has to, and its journal is accepted.
+fn is_right(alloc: Global, storm: &Storm, played: Result<Played, EngineFault>) -> bool {
+    match played {
+        Ok(played) => storm.is_right(&played) && storm.is_accepted(alloc, &played),
+        Err(_) => false,
     }
 }
 
-/// A program, and how its runs have to end.
-#[derive(Clone, Copy)]
-struct Storm {
-    name: &'static str,
-    source: &'static [u8],
-    end: End,
-    published: u64,
-}
-
-#[derive(Drop)]
-struct Loaded {
-    program: Program,
-    answers: Answers,
-}
-
-fn load(alloc: Global, source: &[u8]) -> Option<Loaded> {
-    let ast = parse(alloc, source).ok()?;
-    let answers = read_script(alloc, SCRIPT).ok()?;
-    let names = answers.names(alloc).ok()?;
-    let program = check(alloc, &ast, names.as_slice()).ok()?;
-    drop(names);
-    Some(Loaded { program, answers })
-}
-
-fn run<R: Threads + Wait + Sync, G: Gate + Sync>(
+// A run by sites that the table answers.
+fn run_scripted<R: Threads + Wait + Sync, G: Gate + Sync>(
     rt: &R,
     alloc: Global,
     loaded: &Loaded,
@@ -84,28 +39,14 @@ fn run<R: Threads + Wait + Sync, G: Gate + Sync>(
     workers: usize,
 ) -> Result<Played, EngineFault> {
     let sites = Scripted::new(&loaded.answers);
-    let (program, answers) = (&loaded.program, &loaded.answers);
-    run_pool(
-        rt, alloc, program, answers, &sites, gate, workers, true, 100_000,
-    )
-}
-
-// Whether a run ended as it has to, and its journal is accepted.
-fn is_right(alloc: Global, storm: Storm, played: Result<Played, EngineFault>) -> bool {
-    let Ok(played) = played else {
-        return false;
-    };
-    let mut verdict = Vec::new(alloc);
-    played.summary.end == storm.end
-        && played.summary.published == storm.published
-        && check_text(alloc, storm.source, SCRIPT, &played.text, &mut verdict).is_ok()
+    run(rt, alloc, loaded, &sites, gate, workers)
 }
 
 // How many runs of a program on so many workers are odd.
 fn count_odd<R: Threads + Wait + Sync>(
     rt: &R,
     alloc: Global,
-    storm: Storm,
+    storm: &Storm,
     workers: usize,
     rounds: u32,
 ) -> u32 {
@@ -114,7 +55,7 @@ fn count_odd<R: Threads + Wait + Sync>(
     };
     let mut odd = 0u32;
     for _ in 0..rounds {
-        let played = run(rt, alloc, &loaded, &Slow, workers);
+        let played = run_scripted(rt, alloc, &loaded, &Slow, workers);
         if !is_right(alloc, storm, played) {
             odd = odd.saturating_add(1);
         }
@@ -126,7 +67,7 @@ fn count_odd<R: Threads + Wait + Sync>(
 fn count_held<R: Threads + Wait + Sync>(
     rt: &R,
     alloc: Global,
-    storm: Storm,
+    storm: &Storm,
     workers: usize,
     rounds: u32,
 ) -> u32 {
@@ -135,67 +76,21 @@ fn count_held<R: Threads + Wait + Sync>(
     };
     let mut odd = 0u32;
     for _ in 0..rounds {
-        let gate = Turnstile {
-            wanted: workers as u64,
-            entered: AtomicU64::new(0),
-            ran_out: AtomicU64::new(0),
-        };
-        let played = run(rt, alloc, &loaded, &gate, workers);
-        if !is_right(alloc, storm, played) || gate.ran_out.load(Ordering::SeqCst) > 0 {
+        let gate = Turnstile::new(workers as u64);
+        let played = run_scripted(rt, alloc, &loaded, &gate, workers);
+        if !is_right(alloc, storm, played) || !gate.held_all() {
             odd = odd.saturating_add(1);
         }
     }
     odd
 }
 
-// How often each program is run: the first argument, where it is a number.
-fn rounds_of(words: &[String]) -> u32 {
-    match words.get(1) {
-        Some(word) => word.parse::<u32>().unwrap_or(ROUNDS),
-        None => ROUNDS,
-    }
-}
-
-fn main(rt: HostRuntime) -> io::Result<()> {
-    let alloc = rt.alloc();
-    let words = env::args(&rt)?.collect::<Vec<String>>(alloc)?;
-    let rounds = rounds_of(words.as_slice());
-    let storms = [
-        Storm {
-            name: "fan",
-            source: b"def tree(n) = Lt(0, n) >b> (Iff(b) >> Add(n, 1) | Ift(b) >> Add(n, -1) >m> (tree(m) | tree(m)))\ntree(6)",
-            end: End::Halted,
-            published: 64,
-        },
-        Storm {
-            name: "late",
-            source: b"def tree(n) = Lt(0, n) >b> (Iff(b) >> Slow() | Ift(b) >> Add(n, -1) >m> (tree(m) | tree(m)))\ntree(6)",
-            end: End::Halted,
-            published: 64,
-        },
-        Storm {
-            name: "race",
-            source: b"def loop(n) = Lt(n, 50) >b> (Iff(b) >> n | Ift(b) >> (x <x< (n | Never() | Slow())) >> Add(n, 1) >m> loop(m))\nloop(0) | loop(20)",
-            end: End::Halted,
-            published: 2,
-        },
-        Storm {
-            name: "mixed",
-            source: b"def mix(n) = Lt(n, 30) >b> (Iff(b) >> n | Ift(b) >> ((Ift(false) ; (x <x< (Slow() | Slow()))) ; stop) >> Add(n, 1) >m> mix(m))\nmix(0) | mix(9) | Never()",
-            end: End::Quiet,
-            published: 2,
-        },
-        Storm {
-            name: "deep",
-            source: b"def f() = Add(1, 1) >> (f() ; 1)\nf() | f()",
-            end: End::Full,
-            published: 0,
-        },
-    ];
-    for storm in storms {
+// Every program so often.
+fn run_all<R: Threads + Wait + Sync + Print>(rt: &R, alloc: Global, rounds: u32) -> io::Result<()> {
+    for storm in &STORMS {
         for workers in [2, 4, 16] {
-            let odd = count_odd(&rt, alloc, storm, workers, rounds);
-            println!(&rt;
+            let odd = count_odd(rt, alloc, storm, workers, rounds);
+            println!(rt;
                 "{} on {workers} workers, {rounds} runs: {odd} odd",
                 storm.name
             )?;
@@ -211,16 +106,99 @@ fn main(rt: HostRuntime) -> io::Result<()> {
             8,
             b"(Add(1, 2) | Add(3, 4) | (Add(5, 6) | Add(7, 8))) | ((Add(1, 2) | Add(3, 4)) | (Add(5, 6) | Add(7, 8)))".as_slice(),
         ),
+        (
+            16,
+            b"def four(n) = Add(n, 1) | Add(n, 2) | (Add(n, 3) | Add(n, 4))\nfour(0) | four(4) | (four(8) | four(12))".as_slice(),
+        ),
     ];
     for (workers, source) in held {
-        let storm = Storm {
-            name: "held",
-            source,
-            end: End::Halted,
-            published: workers as u64,
-        };
-        let odd = count_held(&rt, alloc, storm, workers, rounds);
-        println!(&rt; "held on {workers} workers, {rounds} runs: {odd} odd")?;
+        let odd = count_held(rt, alloc, &Storm::held(source, workers), workers, rounds);
+        println!(rt; "held on {workers} workers, {rounds} runs: {odd} odd")?;
     }
     Ok(())
+}
+
+// What a run has come to. A check that was refused memory is made again.
+fn tell<R: Print>(
+    rt: &R,
+    alloc: Global,
+    storm: &Storm,
+    played: Result<Played, EngineFault>,
+) -> io::Result<()> {
+    match played {
+        Ok(played) => {
+            let is_accepted = storm.is_accepted(alloc, &played)
+                || storm.is_accepted(alloc, &played);
+            println!(rt;
+                "{:?}, as it has to: {}, accepted: {is_accepted}",
+                played.summary.end,
+                storm.is_right(&played)
+            )
+        }
+        Err(fault) => println!(rt; "fault {fault:?}"),
+    }
+}
+
+// One program so often on so many workers.
+fn run_one<R: Threads + Wait + Sync + Print + Clock>(
+    rt: &R,
+    alloc: Global,
+    storm: &Storm,
+    workers: usize,
+    rounds: u32,
+) -> io::Result<()> {
+    for _ in 0..rounds {
+        let Some(loaded) = load(alloc, storm.source) else {
+            println!(rt; "fault Memory")?;
+            continue;
+        };
+        let played = if storm.name == ASKS.name {
+            let sites = Sleepy::new(rt, &loaded.answers);
+            run(rt, alloc, &loaded, &sites, &Slow, workers)
+        } else {
+            run_scripted(rt, alloc, &loaded, &Slow, workers)
+        };
+        tell(rt, alloc, storm, played)?;
+    }
+    Ok(())
+}
+
+fn storm_named(name: &str) -> Option<Storm> {
+    for storm in &STORMS {
+        if storm.name == name {
+            return Some(*storm);
+        }
+    }
+    if name == DUE.name {
+        return Some(DUE);
+    }
+    if name == ASKS.name {
+        return Some(ASKS);
+    }
+    None
+}
+
+// The number that an argument says, else another one.
+fn number_of(words: &[String], place: usize, otherwise: u32) -> u32 {
+    match words.get(place) {
+        Some(word) => word.parse::<u32>().unwrap_or(otherwise),
+        None => otherwise,
+    }
+}
+
+fn main(rt: HostRuntime) -> io::Result<()> {
+    let alloc = rt.alloc();
+    let words = env::args(&rt)?.collect::<Vec<String>>(alloc)?;
+    let named = match words.get(1) {
+        Some(word) => storm_named(word.as_str()),
+        None => None,
+    };
+    match named {
+        Some(storm) => {
+            let workers = number_of(words.as_slice(), 2, 1) as usize;
+            let rounds = number_of(words.as_slice(), 3, 1);
+            run_one(&rt, alloc, &storm, workers, rounds)
+        }
+        None => run_all(&rt, alloc, number_of(words.as_slice(), 1, ROUNDS)),
+    }
 }

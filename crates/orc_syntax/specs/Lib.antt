@@ -9,3 +9,4 @@ pub mod View
 pub mod Text
 pub mod Nested
 pub mod Same
+pub mod Faults

@@ -1,11 +1,15 @@
 //! Why a text is no program.
 
+ghost use Rattle.std.specs.Prelude.{◌≡◌, Some};
+ghost use Rattle.orc_syntax.specs.Faults.{syntax_line, syntax_status};
+
 use orc_lex::token::{Span, What};
+use std::fmt;
 
 /// Why a text is no program, and where. Places are bytes from 0.
 #[derive(Clone, Copy, Debug, PartialEq, Eq)]
 pub enum SyntaxFault {
-    /// S6: it has over 1,048,576 bytes.
+    /// S6: it has over `LONGEST_SOURCE` bytes.
     Long,
     /// S1: its bytes stop being UTF-8 there.
     Encoding(usize),
@@ -21,4 +25,40 @@ pub enum SyntaxFault {
     Comment(usize),
     /// S8: a growth was refused.
     Memory,
+}
+
+// Its code and its place.
+impl fmt::Display for SyntaxFault {
+    ghost output = { λ f. Some (syntax_line f) };
+
+    fn fmt<W: fmt::Write>(&self, f: &mut fmt::Formatter<W>) -> fmt::Result {
+        match *self {
+            SyntaxFault::Encoding(at) => write!(f, "S1 at {at}"),
+            SyntaxFault::Character(at) => write!(f, "S2 at {at}"),
+            SyntaxFault::Number(span) => {
+                let start = span.start;
+                write!(f, "S3 at {start}")
+            }
+            SyntaxFault::Expected(at, what) => {
+                let word = what.word();
+                write!(f, "S4 at {at}: {word}")
+            }
+            SyntaxFault::Deep(at) => write!(f, "S5 at {at}"),
+            SyntaxFault::Long => write!(f, "S6"),
+            SyntaxFault::Comment(at) => write!(f, "S7 at {at}"),
+            SyntaxFault::Memory => write!(f, "S8"),
+        }
+    }
+}
+
+impl SyntaxFault {
+    /// The process's status at this fault.
+    pub fn status(self) -> u8
+        ensures { result ≡ syntax_status self }
+    {
+        match self {
+            SyntaxFault::Memory => 5,
+            _ => 1,
+        }
+    }
 }

@@ -1,5 +1,5 @@
 -- The verdict on a journal, entry by entry.
-use Rattle.std.proofs.Common.{◌≡◌, ◌≢◌, ◌<◌, ◌≤◌, ◌+◌, ℕ, zero, suc, List, [], ◌∷◌, ◌++◌, length, map, take, Bool, Some, None, refl, sym, ap, subst, inl, inr, arith}
+use Rattle.std.proofs.Common.{◌≡◌, ◌≢◌, ◌<◌, ◌≤◌, ◌+◌, ℕ, zero, suc, List, [], ◌∷◌, ◌++◌, length, map, take, Bool, Some, None, refl, sym, ap, subst, inl, inr, arith, append_assoc, length-append}
 use Rattle.std.specs.Prelude.{slice_get}
 use Rattle.orc_rules.specs.declared.entry.Entry.{Entry}
 use Rattle.orc_rules.specs.declared.entry.RuleFault.{RuleFault}
@@ -17,7 +17,9 @@ use Rattle.orc_checker.specs.Checker.{State, Spells, Begins, Applies, context}
 use Rattle.orc_verdict.specs.Deepening.{deepening}
 use Rattle.orc_verdict.specs.Heights.{AreHeights, AreAtMost}
 use Rattle.orc_verdict.specs.Reasons.{RefusedFor}
-use Rattle.orc_verdict.specs.Verdicts.{Takes, IsStopped, Stops, IsCutFrom}
+use Rattle.orc_journal.specs.declared.journal.Version.{Version}
+use Rattle.orc_verdict.specs.Lines.{IsRefusedAt}
+use Rattle.orc_verdict.specs.Verdicts.{records_cancels, Takes, IsStopped, Stops, IsCutFrom}
 use Rattle.orc_verdict.proofs.Deepening.{deepens_at_most}
 
 are_journal : (x : Context) (p : Place) (es : List Entry) (q : Place) → AreTaken x p es q → Journal x p es q
@@ -147,3 +149,27 @@ take_all [] zero le = refl
 take_all [] (suc n) le = refl
 take_all (x ∷ xs) zero le = absurd (omega (arith, le))
 take_all (x ∷ xs) (suc n) le = ap (λ z. x ∷ z) (take_all xs n (omega (arith, le)))
+
+-- ---- entries that are taken as they are read
+
+front_of : {X : Type 0} (xs ys : List X) → take (length xs) (xs ++ ys) ≡ xs
+front_of [] [] = refl
+front_of [] (y ∷ ys) = refl
+front_of (x ∷ xs) ys = ap (λ z. x ∷ z) (front_of xs ys)
+
+next_of : {X : Type 0} (xs : List X) (x : X) (ys : List X) → slice_get (xs ++ x ∷ ys) (length xs) ≡ Some x
+next_of [] x ys = refl
+next_of (z ∷ xs) x ys = next_of xs x ys
+
+-- the journal of a text is refused at the entry that was read last, whatever is left
+pub refused_at : (l : Listing) (t : Table) (v : Version) (es : List Entry) (e : Entry) (more : List Entry) (s : State) (levels : ℕ) (at : ℕ) (why : RuleFault) → AreDone l t (records_cancels v) es s levels → Stops l t e s why → at ≡ length (es ++ e ∷ [])
+    → IsRefusedAt l t v ((es ++ e ∷ []) ++ more) (record { at = at; why = why })
+refused_at l t v es e more s levels at why done stops is =
+    let x = context l t (records_cancels v) in
+    let stopped = stopped_there l t (records_cancels v) es e s levels why done stops in
+    let taken = subst (λ z. AreTaken x (begin (source l)) z done.0) (sym (front_of es (e ∷ more))) done.1 in
+    let number : at ≡ 1 + length es = omega (arith, is, length-append es (e ∷ [])) in
+    subst (λ z. IsRefusedAt l t v z (record { at = at; why = why })) (sym (append_assoc es (e ∷ []) more)) (
+      λ firm. fault_from x (begin (source l)) 1 (es ++ e ∷ more) (length es) e done.0 why at taken (next_of es e more) (refused_of x done.0 e why firm stopped) number,
+      λ memory. inr (cut_from x (begin (source l)) 1 (es ++ e ∷ more) (length es) e done.0 at taken (next_of es e more) (subst (IsStopped x done.0 e) memory stopped) number),
+    )

@@ -5,6 +5,7 @@ pub mod Deepening
 pub mod Entries
 pub mod Fitting
 pub mod Judging
+pub mod Labels
 pub mod Levels
 pub mod Nesting
 pub mod Parts

@@ -2,6 +2,9 @@ pub mod Deepening
 pub mod Depth
 pub mod Finding
 pub mod Heights
+pub mod Lines
 pub mod Reasons
 pub mod Standing
 pub mod Verdicts
+pub mod Faults
+pub mod Applying

@@ -1,20 +1,57 @@
 // Entries applied, and refused for the first reason.
 
-ghost use Rattle.std.specs.Prelude.{◌≡◌, IfOk, IfErr, OnErr};
+ghost use Rattle.std.specs.Prelude.{◌≡◌, true, IfOk, IfErr, OnErr};
+ghost use Rattle.orc_rules.specs.Nodes.{code};
 ghost use Rattle.orc_checker.specs.Labelling.{Shows};
-ghost use Rattle.orc_verdict.specs.Reasons.{IsWhy};
+ghost use Rattle.orc_verdict.specs.Applying.{ShowsTaken, StaysShallow};
+ghost use Rattle.orc_verdict.specs.Heights.{AreHeights};
+ghost use Rattle.orc_verdict.specs.Verdicts.{Stops};
 
+use crate::depth::{depth_of, most_depth};
+use crate::heights::Heights;
 use crate::reasons::first_reason;
+use crate::verdict::{allowed, deepening};
 use orc_checker::Marked;
 use orc_rules::answers::Answers;
 use orc_rules::entry::{Entry, Label, RuleFault};
+use orc_rules::laws::meets_and_leads;
+use orc_rules::limits::MOST_LEVELS;
 use orc_rules::program::Program;
 use std::alloc::Global;
 
-/// Applies one entry and gives its label, none for a move of marks or a tick. The error is the first reason why the entry is refused,
-/// or Memory where there is none; then nothing has changed. How deep the term nests afterwards is not asked: `check_journal` alone has
-/// that limit.
-pub fn apply(
+// Why an entry was refused that leads on only where memory is: the first reason, or Memory where there is none.
+fn reason_or_memory(
+    marked: &mut Marked,
+    program: &Program,
+    answers: &Answers,
+    entry: &Entry,
+) -> RuleFault
+    ensures why { Stops program.now answers.now entry.now marked.old result }
+    ensures same { marked.new ≡ marked.old }
+{
+    meets_and_leads();
+    match first_reason(marked, program, answers, entry) {
+        Some(reason) => reason,
+        None => RuleFault::Memory,
+    }
+}
+
+// Whether the term after an entry surely nests no deeper than a checked term may.
+fn stays_shallow(heights: &Heights, marked: &Marked, entry: &Entry) -> bool
+    ensures { result ≡ true → StaysShallow heights.now entry.now marked.now }
+{
+    let most = heights.most();
+    let Some(levels) = most_depth(marked, most) else {
+        return false;
+    };
+    match allowed(levels, deepening(most, entry)) {
+        Some(_) => true,
+        None => false,
+    }
+}
+
+// Applies an entry, whatever the depth of the term after it.
+fn apply_at_any_depth(
     alloc: Global,
     marked: &mut Marked,
     program: &Program,
@@ -22,14 +59,51 @@ pub fn apply(
     entry: &Entry,
 ) -> Result<Option<Label>, RuleFault>
     ensures done { IfOk result (λ label. Shows program.now answers.now entry.now marked.old marked.new label) }
-    ensures why { IfErr result (λ r. IsWhy program.now answers.now entry.now marked.old r) }
+    ensures why { IfErr result (Stops program.now answers.now entry.now marked.old) }
     ensures refused { OnErr result (marked.new ≡ marked.old) }
 {
     match marked.apply(alloc, program, answers, entry) {
         Ok(label) => Ok(label),
-        Err(_) => match first_reason(marked, program, answers, entry) {
-            Some(reason) => Err(reason),
-            None => Err(RuleFault::Memory),
-        },
+        Err(_) => Err(reason_or_memory(marked, program, answers, entry)),
+    }
+}
+
+/// Applies one entry and gives its label, none for a move of marks or a tick; `heights` are those of the program's terms. The error is the first
+/// reason why the entry is refused, Deep where the term after it would nest over `MOST_LEVELS` levels, or Memory where there is no other but
+/// perhaps its depth; then nothing has changed.
+///
+/// An entry after which the term may nest too deep is tried on a copy of the marked term.
+pub fn apply(
+    alloc: Global,
+    heights: &Heights,
+    marked: &mut Marked,
+    program: &Program,
+    answers: &Answers,
+    entry: &Entry,
+) -> Result<Option<Label>, RuleFault>
+    ensures done { IfOk result (λ label. AreHeights (code program.now) heights.now → ShowsTaken program.now answers.now entry.now marked.old marked.new label) }
+    ensures why { IfErr result (λ why. AreHeights (code program.now) heights.now → Stops program.now answers.now entry.now marked.old why) }
+    ensures refused { OnErr result (marked.new ≡ marked.old) }
+{
+    meets_and_leads();
+    if stays_shallow(heights, marked, entry) {
+        return match apply_at_any_depth(alloc, marked, program, answers, entry) {
+            Ok(label) => Ok(label),
+            Err(why) => Err(why),
+        };
+    }
+    let Ok(mut tried) = marked.copy(alloc) else {
+        return Err(reason_or_memory(marked, program, answers, entry));
+    };
+    let label = apply_at_any_depth(alloc, &mut tried, program, answers, entry)?;
+    match depth_of(alloc, heights, &tried) {
+        Ok(levels) => {
+            if levels > MOST_LEVELS {
+                return Err(RuleFault::Deep);
+            }
+            *marked = tried;
+            Ok(label)
+        }
+        Err(_) => Err(RuleFault::Memory),
     }
 }

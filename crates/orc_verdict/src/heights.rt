@@ -12,12 +12,18 @@ use std::marker::Model;
 #[derive(Drop)]
 pub struct Heights {
     levels: Vec<usize>,
+    most: usize,
 }
 
 impl Model for Heights {
+    ghost use Rattle.std.specs.Prelude.{ℕ, List};
+    ghost use Rattle.orc_verdict.specs.Heights.{AreAtMost};
+
     ghost Value = { List ℕ };
 
     ghost view = { λ h. h.levels.items };
+
+    ghost invariant = { λ h. AreAtMost h.levels.items h.most };
 }
 
 // The levels of that node, 1 where there is none.
@@ -53,6 +59,17 @@ fn level_of(levels: &Vec<usize>, node: TermNode) -> usize
     }
 }
 
+// As many levels as the deepest term has, and at least 1.
+fn most_of(levels: &Vec<usize>) -> usize
+    ensures { AreAtMost levels.now.items result }
+{
+    let mut most = 1;
+    for i in 0..levels.len() {
+        most = most.max(levels[i]);
+    }
+    most
+}
+
 impl Heights {
     /// The levels of a program's terms. The error is refused memory.
     pub fn new(alloc: Global, program: &Program) -> Result<Heights, AllocError>
@@ -64,7 +81,8 @@ impl Heights {
         for i in 0..program.len() {
             levels.push(level_of(&levels, program.node(i)))?;
         }
-        Ok(Heights { levels })
+        let most = most_of(&levels);
+        Ok(Heights { levels, most })
     }
 
     /// How deep the term of that node nests, in levels.
@@ -78,10 +96,6 @@ impl Heights {
     pub fn most(&self) -> usize
         ensures { AreAtMost self.now result }
     {
-        let mut most = 1;
-        for i in 0..self.levels.len() {
-            most = most.max(self.levels[i]);
-        }
-        most
+        self.most
     }
 }

@@ -123,7 +123,7 @@ pub(crate) fn standing_of(
 }
 
 /// The token that an entry names.
-pub(crate) fn mark_named(entry: &Entry) -> Option<u64>
+pub fn mark_named(entry: &Entry) -> Option<u64>
     ensures { result ≡ mark_of entry.now }
 {
     match entry {

@@ -9,6 +9,7 @@ ghost use Rattle.orc_rules.specs.declared.limits.TheConstants.{MOST_LEVELS};
 ghost use Rattle.orc_rules.specs.declared.entry.RuleFault.TheVariants as reason;
 ghost use Rattle.orc_checker.specs.Checker.{Spells, context};
 ghost use Rattle.orc_verdict.specs.Deepening.{deepening};
+ghost use Rattle.orc_verdict.specs.Faults.{check_line};
 ghost use Rattle.orc_verdict.specs.Heights.{AreHeights, AreAtMost};
 ghost use Rattle.orc_verdict.specs.Verdicts.{records_cancels, Takes, Stops, IsCutShort};
 
@@ -23,6 +24,7 @@ use orc_rules::laws::{meets_and_leads, tests_are_right};
 use orc_rules::limits::MOST_LEVELS;
 use orc_rules::program::Program;
 use std::alloc::Global;
+use std::fmt;
 
 /// Where a journal has brought a run, and the time there, in units of logical time.
 #[derive(Clone, Copy, PartialEq, Eq, Debug)]
@@ -38,15 +40,26 @@ pub struct CheckFault {
     pub why: RuleFault,
 }
 
+// Its code, the entry and the reason.
+impl fmt::Display for CheckFault {
+    ghost output = { λ f. Some (check_line f) };
+
+    fn fmt<W: fmt::Write>(&self, f: &mut fmt::Formatter<W>) -> fmt::Result {
+        let at = self.at;
+        let why = self.why.word();
+        write!(f, "K at entry {at}: {why}")
+    }
+}
+
 /// The marked term after the entries that were taken, and a number of levels that it doesn't exceed.
 #[derive(Drop)]
-struct Taken {
-    marked: Marked,
-    levels: usize,
+pub(crate) struct Taken {
+    pub marked: Marked,
+    pub levels: usize,
 }
 
 /// How many levels an entry adds at most, where no term of the program has more than `most`.
-fn deepening(most: usize, entry: &Entry) -> usize
+pub(crate) fn deepening(most: usize, entry: &Entry) -> usize
     ensures { result ≡ deepening most entry.now }
 {
     match entry {
@@ -57,7 +70,7 @@ fn deepening(most: usize, entry: &Entry) -> usize
 }
 
 /// The sum, where a checked term may have as many levels.
-fn allowed(levels: usize, more: usize) -> Option<usize>
+pub(crate) fn allowed(levels: usize, more: usize) -> Option<usize>
     ensures { IfSome result (λ n. (n ≡ levels + more) × (n ≤ MOST_LEVELS)) }
 {
     match levels.checked_add(more) {
@@ -67,7 +80,7 @@ fn allowed(levels: usize, more: usize) -> Option<usize>
 }
 
 /// Takes an entry. The error is the first reason why it is refused; refused memory only where there is no other but its depth.
-fn take(
+pub(crate) fn take(
     alloc: Global,
     program: &Program,
     answers: &Answers,
@@ -116,7 +129,7 @@ fn take(
 }
 
 /// Where a run stands.
-fn state_of(program: &Program, marked: &mut Marked) -> State
+pub(crate) fn state_of(program: &Program, marked: &mut Marked) -> State
     ensures state { (x : Context) (p : Place) → x.definitions ≡ definitions program.now → Spells x (code program.now) marked.old p → IsAt x p result }
     ensures same { marked.new ≡ marked.old }
 {
@@ -131,7 +144,7 @@ fn state_of(program: &Program, marked: &mut Marked) -> State
 }
 
 /// Whether cancels stand in a journal of that version.
-fn records_cancels(version: Version) -> bool
+pub(crate) fn records_cancels(version: Version) -> bool
     ensures { result ≡ records_cancels version }
 {
     match version {

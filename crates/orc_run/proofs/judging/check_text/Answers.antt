@@ -8,23 +8,21 @@ use Rattle.orc_run.proofs.judging.check_text.Goals as goal
 -- memory for the line was refused, and nothing written
 pub returns-in_default-clause-fault : goal.returns-in_default-clause-fault
 returns-in_default-clause-fault g c =
-    let judged = c.in_ok-judged.judged in
-    (judged.journal, judged.state, c.in_ok-judged.ensures.judged, ([], verdict_line (length judged.journal.entries) judged.state, refl, Appends-nil _))
+    let (j, judged, number) = c.in_ok-brought.ensures.judged in
+    let state = c.in_ok-brought.brought.state in
+    (j, state, judged, ([], verdict_line (length j.entries) state, refl, Appends-nil _))
 
 -- ---- the journal of a run
 
-pub returns-in_err-judged-clause-beyond : goal.returns-in_err-judged-clause-beyond
-returns-in_err-judged-clause-beyond g c = λ s of.
+pub returns-in_err-brought-clause-beyond : goal.returns-in_err-brought-clause-beyond
+returns-in_err-brought-clause-beyond g c = λ s of.
     let (y, is, from) = err_from_is_err_and c.from_residual.result c.from_residual.ensures.1 in
-    let found : IsBeyond y = rw from (c.in_err-judged.ensures.beyond s of) in
+    let found : IsBeyond y = rw from (c.in_err-brought.ensures.beyond s of) in
     rw is found
 
 -- it is accepted
 pub returns-in-Ok-write_text-clause-accepted : goal.returns-in-Ok-write_text-clause-accepted
 returns-in-Ok-write_text-clause-accepted g c = λ s of.
-    let judged = c.in_ok-judged.judged in
-    let so = c.in_ok-judged.ensures.accepted s of in (
-      judged.state,
-      so.0,
-      same_line _ _ _ _ s.entries judged.state (c.as_slice.ensures.value ∙ c.in-Ok.ensures) (c.len.ensures ∙ so.1) c.in-Ok-write_text.ensures.ok,
-    )
+    let state = c.in_ok-brought.brought.state in
+    let so = c.in_ok-brought.ensures.accepted s of in
+    (state, so.0, same_line _ _ _ _ s.entries state (c.as_slice.ensures.value ∙ c.in-Ok.ensures) so.1 c.in-Ok-write_text.ensures.ok)

@@ -1,4 +1,5 @@
-use Rattle.std.proofs.Common.{rules, ◌≡◌, List, [], None, Option, map, inl, inr, sym, ap, subst, ◌∙◌, arith}
+use Rattle.std.proofs.Common.{rules, ◌≡◌, List, [], None, Option, map, inl, inr, sym, ap, subst, ◌∙◌, arith, suc}
+use Rattle.orc_rules.specs.declared.limits.TheConstants.{MOST_NODES}
 use Rattle.orc_syntax.specs.Ast.{text_of}
 use Rattle.orc_scope.specs.declared.fault.ScopeFault.{ScopeFault}
 use Rattle.orc_scope.specs.declared.fault.FaultKind.TheVariants.{TooMany}
@@ -38,7 +39,7 @@ returns-then-looking-eq0 c = λ s is.
     let faults : program_faults sites s ≡ [] = subst (λ (o : Option ScopeFault). IsLeast o (program_faults sites s)) none (subst (λ (u : Known). IsLeast c.in_ok-fault.field-0 (faults_with u s)) k least) in
     let room = c.in_ok-fault.ensures.room s (known_in sites s) (variables s) is in
     let full : c.program_fault.new.looking.room ≡ 0 = search rules in
-    let first : c.new-looking.result.room ≡ 65536 = c.new-looking.ensures.room in
+    let first : c.new-looking.result.room ≡ suc MOST_NODES = c.new-looking.ensures.room in
     inr (inr (record {
       faults = faults;
       nodes = omega (arith, room, full, first);
@@ -58,7 +59,7 @@ returns-in_default-new c = λ s is.
     let faults : program_faults sites s ≡ [] = subst (λ (o : Option ScopeFault). IsLeast o (program_faults sites s)) none (subst (λ (u : Known). IsLeast c.in_ok-fault.field-0 (faults_with u s)) k least) in
     let room = c.in_ok-fault.ensures.room s (known_in sites s) (variables s) is in
     let some : c.program_fault.new.looking.room ≡ 0 → ⊥ = search rules in
-    let first : c.new-looking.result.room ≡ 65536 = c.new-looking.ensures.room in
+    let first : c.new-looking.result.room ≡ suc MOST_NODES = c.new-looking.ensures.room in
     let few = few_numbers sites s faults (omega (arith, room, some, first)) in
     let names : c.in_ok-variables.field-0 ≡ variables s = c.in_ok-variables.ensures s is in
     let small : AreSmall (record { known = known_of known; names = c.in_ok-variables.field-0 }) =
@@ -78,7 +79,7 @@ returns c = λ s is.
     let faults : program_faults sites s ≡ [] = subst (λ (o : Option ScopeFault). IsLeast o (program_faults sites s)) none (subst (λ (u : Known). IsLeast c.in_ok-fault.field-0 (faults_with u s)) k least) in
     let room = c.in_ok-fault.ensures.room s (known_in sites s) (variables s) is in
     let some : c.program_fault.new.looking.room ≡ 0 → ⊥ = search rules in
-    let first : c.new-looking.result.room ≡ 65536 = c.new-looking.ensures.room in
+    let first : c.new-looking.result.room ≡ suc MOST_NODES = c.new-looking.ensures.room in
     let names : c.in_ok-variables.field-0 ≡ variables s = c.in_ok-variables.ensures s is in
     let numbers : c.in-Some-new.numbers ≡ record { known = known_in sites s; names = variables s } = search (rules, k, names) in
     let made = c.in_ok-write_out.ensures s is (small_calls (known_in sites s) s faults) in

@@ -27,9 +27,12 @@ returns-clause-done c code =
 pub wake-requires : goal.wake-requires
 wake-requires c = record { room = search rules; node = can_wake c.args.self.now.nodes _ _ _ _ _ (c.reserve.ensures.nodes ∙ ap State.nodes c.self.view_is) c.in_ok-pending.ensures.there (λ v. refl) }
 
+pub next_due-due-requires : goal.next_due-due-requires
+next_due-due-requires c = still_noted _ _ _ _ _ (wait_on _ _ _ (same_wait _ _ c.reserve.ensures.nodes) (wait_written _ _ _ _ c.wake.ensures refl)) refl c.self.invariant.0
+
 pub invariant_of-self-2 : goal.invariant_of-self-2
 invariant_of-self-2 c = (
-  still_noted _ _ _ _ _ (wait_on _ _ _ (same_wait _ _ c.reserve.ensures.nodes) (wait_written _ _ _ _ c.wake.ensures refl)) refl c.self.invariant.0,
+  c.next_due-due.ensures.noted,
   known_kept _ _ _ _ _ _ _ c.self.invariant.1
       (sides_on (length c.self.inside.nodes.items) _ _ _ (sides_same (length c.self.inside.nodes.items) _ _ c.reserve.ensures.nodes) (sides_woken (length c.self.inside.nodes.items) _ _ _ _ c.wake.ensures (can_wake c.args.self.now.nodes _ _ _ _ _ (c.reserve.ensures.nodes ∙ ap State.nodes c.self.view_is) c.in_ok-pending.ensures.there (λ v. refl)) (λ p lt. refl)))
       (flags_same _ _ _ _ refl) (λ p m. m) c.reserve.ensures.flags refl

@@ -27,8 +27,11 @@ returns-clause-done c code =
 pub write_node-requires : goal.write_node-requires
 write_node-requires c = can_rest c.args.self.now.nodes _ _ _ _ _ (ap State.nodes c.self.view_is) c.in_ok-pending.ensures.there (λ v. refl) refl
 
+pub next_due-due-requires : goal.next_due-due-requires
+next_due-due-requires c = still_noted _ _ _ _ _ (wait_written _ _ _ _ c.write_node.ensures.items refl) refl c.self.invariant.0
+
 pub invariant_of-self : goal.invariant_of-self
 invariant_of-self c = (
-  still_noted _ _ _ _ _ (wait_written _ _ _ _ c.write_node.ensures.items refl) refl c.self.invariant.0,
+  c.next_due-due.ensures.noted,
   known_kept _ _ _ _ _ _ _ c.self.invariant.1 (sides_written (length c.self.inside.nodes.items) _ _ _ _ c.write_node.ensures.items (can_rest c.args.self.now.nodes _ _ _ _ _ (ap State.nodes c.self.view_is) c.in_ok-pending.ensures.there (λ v. refl) refl) (λ p lt. refl)) c.settle.ensures.known c.settle.ensures.kept refl c.settle.ensures.len (ap length c.write_node.ensures.items ∙ length-set c.self.inside.nodes.items _ _),
 )

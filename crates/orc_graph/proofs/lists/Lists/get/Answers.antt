@@ -1,4 +1,5 @@
 use Rattle.std.proofs.Common.{◌≡◌, ◌≤◌, ◌+◌, ◌-◌, ℕ, length, get_or, ap, ◌∙◌, sym, [], List, Some, None, take, drop, arith, length-take}
+use Rattle.orc_rules.specs.declared.limits.TheConstants.{MOST_ARGUMENTS}
 use Rattle.std.specs.Prelude.{slice_get}
 use Rattle.orc_rules.specs.declared.param.Operand.{Operand}
 use Rattle.orc_graph.specs.declared.numbers.Range.{Range}
@@ -6,7 +7,7 @@ use Rattle.orc_graph.specs.Ranges.{cut}
 use Rattle.orc_graph.proofs.Runs.{within_at, map_at, map_past}
 use Rattle.orc_graph.proofs.lists.Lists.get.Goals as goal
 
-cut-few : (xs : List Operand) (r : Range) → r.end ≤ r.start + 16 → length (cut xs r) ≤ 16
+cut-few : (xs : List Operand) (r : Range) → r.end ≤ r.start + MOST_ARGUMENTS → length (cut xs r) ≤ MOST_ARGUMENTS
 cut-few xs r few = omega (arith, few, length-take (r.end - r.start) (drop r.start xs))
 
 pub part-requires-clause-order : goal.part-requires-clause-order

@@ -1,4 +1,5 @@
 use Rattle.std.proofs.Common.{◌≡◌, ◌≤◌, ◌+◌, ◌++◌, ◌∷◌, [], List, length, map, ap, ◌∙◌, sym, refl, arith, length-append}
+use Rattle.orc_rules.specs.declared.limits.TheConstants.{MOST_ARGUMENTS}
 use Rattle.std.proofs.lemmas.List.{map-append}
 use Rattle.orc_rules.specs.declared.param.Operand.{Operand}
 use Rattle.orc_graph.specs.declared.numbers.Range.{Range}
@@ -9,7 +10,7 @@ use Rattle.orc_graph.proofs.lists.Lists.push.Goals as goal
 more : (xs ys : List Operand) (rs : List Range) → AreWithin (length xs) rs → AreWithin (length (xs ++ ys)) rs
 more xs ys rs h = within_more (length xs) (length (xs ++ ys)) rs (omega (arith, length-append xs ys)) h
 
-added : (xs ys : List Operand) (rs : List Range) (r : Range) → AreWithin (length xs) rs → r.start ≡ length xs → r.end ≡ length xs + length ys → length ys ≤ 16 → AreWithin (length (xs ++ ys)) (rs ++ r ∷ [])
+added : (xs ys : List Operand) (rs : List Range) (r : Range) → AreWithin (length xs) rs → r.start ≡ length xs → r.end ≡ length xs + length ys → length ys ≤ MOST_ARGUMENTS → AreWithin (length (xs ++ ys)) (rs ++ r ∷ [])
 added xs ys rs r h s e few = within_push (length (xs ++ ys)) rs r (more xs ys rs h) (omega (arith, s, e)) (omega (arith, e, length-append xs ys)) (omega (arith, s, e, few))
 
 seen : (xs ys : List Operand) (rs : List Range) (r : Range) → AreWithin (length xs) rs → r.start ≡ length xs → r.end ≡ length xs + length ys → map (cut (xs ++ ys)) (rs ++ r ∷ []) ≡ map (cut xs) rs ++ ys ∷ []

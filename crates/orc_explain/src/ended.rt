@@ -1,0 +1,16 @@
+//! A run that has ended.
+
+use orc_outcome::Summary;
+use orc_rules::answers::Answers;
+use orc_rules::program::Program;
+
+/// A run that has ended, with its journal.
+#[derive(Clone, Copy)]
+pub struct Ended<'a> {
+    pub program: &'a Program,
+    /// What answered its calls.
+    pub answers: &'a Answers,
+    pub summary: Summary,
+    /// The text of its journal.
+    pub journal: &'a [u8],
+}

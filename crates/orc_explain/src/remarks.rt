@@ -1,0 +1,386 @@
+//! What looks like a mistake in a run that has halted, and isn't one of the language.
+
+use crate::page::Page;
+use crate::replay::Made;
+use crate::rules::{Rule, Rules};
+use crate::scene::{Scene, begin, name_of};
+use orc_rules::builtin::is_same;
+use orc_rules::entry::Entry;
+use orc_rules::value::Value;
+use std::alloc::{AllocError, Global};
+use std::collections::HashMap;
+
+/// How many remarks of a kind are told.
+const SHOWN: u64 = 4;
+
+/// Calls that were made at one spot, and for which the same is to be said.
+#[derive(Clone, Copy)]
+struct Group {
+    first: Made,
+    // The number of the first one.
+    number: u64,
+    count: u64,
+}
+
+/// Such calls, those of each spot together, in the order of the first ones.
+struct Groups {
+    list: Vec<Group>,
+    // The place in the list of a spot's group.
+    places: HashMap<usize, usize>,
+}
+
+impl Drop for Groups {
+    fn drop(self) {
+        let Groups { list: _, places: _ } = self;
+    }
+}
+
+impl Groups {
+    fn new(alloc: Global) -> Groups {
+        Groups {
+            list: Vec::new(alloc),
+            places: HashMap::new(alloc),
+        }
+    }
+
+    fn add(&mut self, made: Made, number: u64) -> Result<(), AllocError> {
+        let place = self.places.get(&made.spot).copied();
+        match place {
+            Some(place) => {
+                if let Some(group) = self.list.get_mut(place) {
+                    group.count = group.count.saturating_add(1);
+                }
+            }
+            None => {
+                self.places.insert(made.spot, self.list.len())?;
+                self.list.push(Group {
+                    first: made,
+                    number,
+                    count: 1,
+                })?;
+            }
+        }
+        Ok(())
+    }
+}
+
+/// What is to be said of a run's calls, and of the lines of its script.
+struct Remarks {
+    // Calls of built-in sites with the wrong kinds or number of arguments.
+    wrong: Groups,
+    // Calls of a script's sites that no line answers.
+    unanswered: Groups,
+    // Whether a line of the script has answered a call, by the lines' places in their list.
+    used: Vec<bool>,
+}
+
+impl Drop for Remarks {
+    fn drop(self) {
+        let Remarks {
+            wrong: _,
+            unanswered: _,
+            used: _,
+        } = self;
+    }
+}
+
+// What a built-in site takes, where the arguments are something else.
+fn wanted(name: &[u8], args: &[Value]) -> Option<&'static str> {
+    match name {
+        b"Add" | b"Sub" | b"Lt" => match args {
+            [Value::Number(_), Value::Number(_)] => None,
+            _ => Some("two numbers"),
+        },
+        b"Eq" => match args {
+            [_, _] => None,
+            _ => Some("two values"),
+        },
+        b"Ift" | b"Iff" => match args {
+            [Value::Truth(_)] => None,
+            _ => Some("`true` or `false`"),
+        },
+        b"Rwait" => match args {
+            [Value::Number(_)] => None,
+            _ => Some("a number of units of time"),
+        },
+        _ => None,
+    }
+}
+
+// Whether an earlier line answers all calls that a later one would.
+fn hides(rules: &Rules, earlier: &Rule, later: &Rule) -> bool {
+    let hiding = rules.patterns(earlier);
+    let hidden = rules.patterns(later);
+    earlier.name == later.name
+        && hiding.len() == hidden.len()
+        && hiding.iter().zip(hidden.iter()).all(|(pattern, other)| match (pattern, other) {
+            (None, _) => true,
+            (Some(a), Some(b)) => is_same(*a, *b),
+            (Some(_), None) => false,
+        })
+}
+
+// The first argument that a line's patterns don't take, from 1, with its pattern; and how many there are.
+fn differences(patterns: &[Option<Value>], args: &[Value]) -> (u64, Option<(u64, Value)>) {
+    let mut count: u64 = 0;
+    let mut first = None;
+    let mut place: u64 = 0;
+    for (pattern, arg) in patterns.iter().zip(args.iter()) {
+        place = place.saturating_add(1);
+        if let Some(value) = *pattern {
+            if !is_same(value, *arg) {
+                count = count.saturating_add(1);
+                if first.is_none() {
+                    first = Some((place, value));
+                }
+            }
+        }
+    }
+    (count, first)
+}
+
+impl Remarks {
+    fn new(alloc: Global, scene: &Scene, rules: &Rules) -> Result<Remarks, AllocError> {
+        let mut remarks = Remarks {
+            wrong: Groups::new(alloc),
+            unanswered: Groups::new(alloc),
+            used: Vec::new(alloc),
+        };
+        for _rule in &rules.list {
+            remarks.used.push(false)?;
+        }
+        let mut number: u64 = 0;
+        for made in &scene.replay.calls {
+            number = number.saturating_add(1);
+            if let Some(Entry::Call(_, _, site, args)) = scene.journal.get(made.entry) {
+                let name = name_of(scene.ended.answers, site);
+                if scene.ended.answers.is_scripted(site) {
+                    remarks.scripted(rules, name, args.as_slice(), *made, number)?;
+                } else if wanted(name, args.as_slice()).is_some() {
+                    remarks.wrong.add(*made, number)?;
+                }
+            }
+        }
+        Ok(remarks)
+    }
+
+    fn scripted(
+        &mut self,
+        rules: &Rules,
+        name: &[u8],
+        args: &[Value],
+        made: Made,
+        number: u64,
+    ) -> Result<(), AllocError> {
+        match rules.first(name, args) {
+            Some(place) => {
+                if let Some(used) = self.used.get_mut(place) {
+                    *used = true;
+                }
+                Ok(())
+            }
+            None => self.unanswered.add(made, number),
+        }
+    }
+
+    fn unused(&self) -> u64 {
+        let mut count: u64 = 0;
+        for used in &self.used {
+            if !*used {
+                count = count.saturating_add(1);
+            }
+        }
+        count
+    }
+
+    fn is_empty(&self) -> bool {
+        self.wrong.list.is_empty() && self.unanswered.list.is_empty() && self.unused() == 0
+    }
+}
+
+impl Scene<'_, '_> {
+    /// What is to be said of a run that has halted. Nothing at all where nothing looks wrong.
+    pub(crate) fn halted(&self, page: &mut Page) -> Result<(), AllocError> {
+        let script = self.subject.script_text();
+        let rules = Rules::new(self.alloc, script)?;
+        let remarks = Remarks::new(self.alloc, self, &rules)?;
+        let is_silent = self.ended.summary.published == 0;
+        if !is_silent && remarks.is_empty() {
+            return Ok(());
+        }
+        begin(page, self.ended.summary);
+        if is_silent {
+            page.note("nothing was published\n");
+        }
+        self.wrong_calls(page, &remarks.wrong)?;
+        self.unanswered_calls(page, &remarks.unanswered, &rules)?;
+        self.unused_lines(page, &remarks, &rules);
+        Ok(())
+    }
+
+    // `call 3, Ift(3), in line 1, column 5 halted`, the first call of a group.
+    fn halted_call(&self, page: &mut Page, group: &Group) -> Result<(), AllocError> {
+        page.note("call ");
+        page.number(group.number);
+        page.say(", ");
+        self.call(page, group.first.entry)?;
+        page.say(", made in ");
+        self.place(page, group.first.spot);
+        page.say(", halted: ");
+        Ok(())
+    }
+
+    // How many calls more were made there.
+    fn others(&self, page: &mut Page, group: &Group) {
+        if group.count > 1 {
+            page.say("; so did ");
+            page.count(group.count.saturating_sub(1), "more call");
+            page.say(" there");
+        }
+        page.say("\n");
+    }
+
+    fn wrong_calls(&self, page: &mut Page, groups: &Groups) -> Result<(), AllocError> {
+        let mut shown: u64 = 0;
+        for group in &groups.list {
+            if shown < SHOWN {
+                shown = shown.saturating_add(1);
+                self.halted_call(page, group)?;
+                if let Some(Entry::Call(_, _, site, args)) = self.journal.get(group.first.entry) {
+                    let name = name_of(self.ended.answers, site);
+                    page.say("`");
+                    page.word(name);
+                    page.say("` takes ");
+                    page.say(wanted(name, args.as_slice()).unwrap_or("other values"));
+                }
+                self.others(page, group);
+            }
+        }
+        self.rest(page, groups.list.len() as u64, shown);
+        Ok(())
+    }
+
+    fn unanswered_calls(
+        &self,
+        page: &mut Page,
+        groups: &Groups,
+        rules: &Rules,
+    ) -> Result<(), AllocError> {
+        let mut shown: u64 = 0;
+        for group in &groups.list {
+            if shown < SHOWN {
+                shown = shown.saturating_add(1);
+                self.halted_call(page, group)?;
+                page.say("no line of the script answers it");
+                if let Some(Entry::Call(_, _, site, args)) = self.journal.get(group.first.entry) {
+                    let name = name_of(self.ended.answers, site);
+                    self.nearest(page, rules, name, args.as_slice())?;
+                }
+                self.others(page, group);
+            }
+        }
+        self.rest(page, groups.list.len() as u64, shown);
+        Ok(())
+    }
+
+    // The line that is nearest to a call: of those for as many arguments the one with the fewest other values, else the first of the site.
+    fn nearest(
+        &self,
+        page: &mut Page,
+        rules: &Rules,
+        name: &[u8],
+        args: &[Value],
+    ) -> Result<(), AllocError> {
+        let mut nearest: Option<(u64, Rule)> = None;
+        for rule in &rules.list {
+            if rule.name == name {
+                let patterns = rules.patterns(rule);
+                let far = if patterns.len() == args.len() {
+                    differences(patterns, args).0
+                } else {
+                    u64::MAX
+                };
+                let is_nearer = match nearest {
+                    Some((other, _)) => far < other,
+                    None => true,
+                };
+                if is_nearer {
+                    nearest = Some((far, *rule));
+                }
+            }
+        }
+        match nearest {
+            Some((_, rule)) => self.missed(page, rules, &rule, args),
+            None => Ok(()),
+        }
+    }
+
+    // Why a line doesn't answer a call.
+    fn missed(
+        &self,
+        page: &mut Page,
+        rules: &Rules,
+        rule: &Rule,
+        args: &[Value],
+    ) -> Result<(), AllocError> {
+        let patterns = rules.patterns(rule);
+        page.say("; the nearest one, line ");
+        page.number(rule.number as u64);
+        if patterns.len() != args.len() {
+            page.say(", is for ");
+            page.count(patterns.len() as u64, "argument");
+            return Ok(());
+        }
+        let (_count, first) = differences(patterns, args);
+        if let Some((place, value)) = first {
+            page.say(", wants ");
+            self.value(page, value)?;
+            page.say(" as argument ");
+            page.number(place);
+        }
+        Ok(())
+    }
+
+    fn unused_lines(&self, page: &mut Page, remarks: &Remarks, rules: &Rules) {
+        let mut shown: u64 = 0;
+        for (place, rule) in rules.list.iter().enumerate() {
+            if !remarks.used.get(place).copied().unwrap_or(true) && shown < SHOWN {
+                shown = shown.saturating_add(1);
+                page.note("line ");
+                page.number(rule.number as u64);
+                page.say(" of the script answered no call");
+                self.hidden(page, rules, place, rule);
+                page.say("\n");
+            }
+        }
+        self.rest(page, remarks.unused(), shown);
+    }
+
+    // That an earlier line hides a line, or that its site was never called.
+    fn hidden(&self, page: &mut Page, rules: &Rules, place: usize, rule: &Rule) {
+        for earlier in rules.list.iter().take(place) {
+            if hides(rules, earlier, rule) {
+                page.say(": line ");
+                page.number(earlier.number as u64);
+                page.say(" comes first and answers all of its calls");
+                return;
+            }
+        }
+        if !self.is_called(rule.name) {
+            page.say(": `");
+            page.word(rule.name);
+            page.say("` was never called");
+        }
+    }
+
+    fn is_called(&self, name: &[u8]) -> bool {
+        for made in &self.replay.calls {
+            if let Some(Entry::Call(_, _, site, _)) = self.journal.get(made.entry) {
+                if name_of(self.ended.answers, site) == name {
+                    return true;
+                }
+            }
+        }
+        false
+    }
+}

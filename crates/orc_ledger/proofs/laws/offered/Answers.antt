@@ -1,0 +1,5 @@
+use Rattle.orc_ledger.proofs.Joint.{nothing-lost}
+use Rattle.orc_ledger.proofs.laws.offered.Goals as goal
+
+pub returns : goal.returns
+returns g c = rw (← c.ledger.view_is) (nothing-lost g.P.Program.listing g.P.Program.sites _ _ _ c.ledger.invariant.kept)

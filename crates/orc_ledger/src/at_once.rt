@@ -1,0 +1,161 @@
+//! Calls that the table of sites answers at once: the call and its answer in one go.
+
+ghost use Rattle.std.specs.Prelude.{◌≡◌, ◌++◌, ◌∷◌, [], ◌≤◌, length, IfOk, IfErr, IfSome, OnOk, OnErr};
+ghost use Rattle.orc_rules.specs.Nodes.{code, definitions};
+ghost use Rattle.orc_rules.specs.declared.entry.Entry.TheVariants.{Call as Calls};
+ghost use Rattle.orc_rules.specs.declared.value.Found.TheVariants.{After};
+ghost use Rattle.orc_calls.specs.Counting.{CountsCall};
+ghost use Rattle.orc_ledger.specs.AtOnce.{IsCalled};
+ghost use Rattle.orc_ledger.specs.Calls.{IsRefused};
+ghost use Rattle.orc_ledger.specs.Doing.{what_of};
+ghost use Rattle.orc_ledger.specs.Tokens.{IsHeld};
+
+use crate::ledger::{Ledger, LedgerFault, Program};
+use crate::marks::group_at;
+use crate::records::{Call, Standing, Token};
+use crate::what::What;
+use orc_calls::Counts;
+use orc_graph::Graph;
+use orc_journal::Journal;
+use orc_rules::answers::Answers;
+use orc_rules::entry::Entry;
+use orc_rules::value::{Answer, Args, Found};
+
+/// What became of a call of a site.
+#[derive(Clone, Copy)]
+pub enum Called {
+    /// It pends.
+    Pends(Call),
+    /// It was answered at once: a token on the answer stands in the slot of the one that made it.
+    Answered,
+    /// It halted at once, in this group, which may have no member any more.
+    Halted(u32),
+}
+
+// The answer that the table gives at once, if it does.
+fn answer_at_once(found: Found) -> Option<Answer>
+    ensures { IfSome result (λ answer. found ≡ After answer 0) }
+{
+    match found {
+        Found::After(answer, delay) => { if delay == 0 { Some(answer) } else { None } }
+        Found::Never => None,
+    }
+}
+
+// Writes a call, which is counted, and its answer. Where memory is refused nothing changes.
+fn write_answered(
+    journal: &mut Journal,
+    counts: &mut Counts,
+    answers: &Answers,
+    token: u64,
+    call: u64,
+    site: u32,
+    args: &Args,
+    answer: &Entry,
+) -> Result<(), LedgerFault>
+    ensures added { OnOk result (journal.new ≡ record { version = journal.old.version; entries = (journal.old.entries ++ Calls token call site args.now ∷ []) ++ answer.now ∷ [] }) }
+    ensures counted { OnOk result (CountsCall answers.now.sites site args.now counts.old counts.new) }
+    ensures refused { OnErr result ((journal.new ≡ journal.old) × (counts.new ≡ counts.old)) }
+    ensures why { IfErr result (λ fault. fault ≡ LedgerFault.Memory) }
+{
+    let entries = journal.len();
+    if journal
+        .push_call(token, call, site, args.as_slice())
+        .is_err()
+    {
+        return Err(LedgerFault::Memory);
+    }
+    let called = journal.len();
+    if journal.push(answer).is_err() {
+        journal.truncate(entries);
+        return Err(LedgerFault::Memory);
+    }
+    match counts.add(answers, site, args) {
+        Ok(()) => Ok(()),
+        Err(_) => {
+            journal.truncate(called);
+            journal.truncate(entries);
+            Err(LedgerFault::Memory)
+        }
+    }
+}
+
+impl<P: Program> Ledger<P> {
+    /// A call of a site with values, as `call` makes it; where the table answers it at once its answer is recorded too, if the journal may have
+    /// both entries. `args` is lent for the arguments.
+    pub fn call_through(
+        &mut self,
+        graph: &Graph,
+        answers: &Answers,
+        slot: usize,
+        token: Token,
+        args: &mut Args,
+    ) -> Result<Called, LedgerFault>
+        requires graph { graph.now ≡ P.listing }
+        requires answers { answers.now.sites ≡ P.sites }
+        requires held { IsHeld self.old.slots slot token }
+        requires calls { what_of (code P.listing) (definitions P.listing) self.old token ≡ What.Call }
+        ensures done { IfOk result (λ called. IsCalled P.listing P.sites self.old slot token called self.new) }
+        ensures refused { OnErr result (self.new ≡ self.old) }
+        ensures why { IfErr result (λ fault. IsRefused self.old 0 0 0 fault) }
+    {
+        self.within(0, 0, 0)?;
+        let site = self.ask(graph, token, args);
+        let found = self.counts.found(answers, site, args);
+        let answer = match answer_at_once(found) {
+            Some(answer) if self.limit - self.entries >= 2 => answer,
+            _ => return Ok(Called::Pends(self.call(graph, answers, slot, token, args)?)),
+        };
+        let number = self.calls.next_number();
+        match self.calls.reserve_number() {
+            Ok(()) => {}
+            Err(_) => return Err(LedgerFault::Memory),
+        }
+        let group = group_at(&self.steps, token.step);
+        match answer {
+            Answer::Value(value) => {
+                let mark = self.next_mark;
+                write_answered(
+                    &mut self.journal,
+                    &mut self.counts,
+                    answers,
+                    token.serial,
+                    number,
+                    site,
+                    args,
+                    &Entry::Return(number, mark, value),
+                )?;
+                self.entries += 2;
+                self.next_mark = mark + 1;
+                self.calls.pass_number();
+                self.tokens.replace(
+                    slot,
+                    Token {
+                        serial: mark,
+                        standing: Standing::On(value),
+                        step: token.step,
+                    },
+                    group,
+                );
+                Ok(Called::Answered)
+            }
+            Answer::Halt => {
+                write_answered(
+                    &mut self.journal,
+                    &mut self.counts,
+                    answers,
+                    token.serial,
+                    number,
+                    site,
+                    args,
+                    &Entry::ReturnHalt(number),
+                )?;
+                self.entries += 2;
+                self.calls.pass_number();
+                self.tokens.remove(slot);
+                self.groups.leave(group);
+                Ok(Called::Halted(group))
+            }
+        }
+    }
+}

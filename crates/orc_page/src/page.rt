@@ -1,0 +1,167 @@
+//! A text that is written piece by piece.
+
+use orc_rules::value::Value;
+use std::alloc::{AllocError, Global};
+use std::fmt;
+
+/// The longest word that is shown whole, in bytes.
+const LONGEST_WORD: usize = 100;
+
+/// A text. Where memory is refused nothing more is written, and the text isn't given out.
+#[derive(Drop)]
+pub struct Page {
+    text: String,
+    is_refused: bool,
+    /// How wide the numbers of the lines are that stand at the left.
+    pub(crate) gutter: u64,
+}
+
+impl Page {
+    /// No text.
+    pub fn new(alloc: Global) -> Page {
+        Page {
+            text: String::new(alloc),
+            is_refused: false,
+            gutter: 1,
+        }
+    }
+
+    /// The text. The error is that memory for a part of it was refused.
+    pub fn finish(self) -> Result<String, AllocError> {
+        let Page {
+            text,
+            is_refused,
+            gutter: _,
+        } = self;
+        if is_refused {
+            Err(AllocError)
+        } else {
+            Ok(text)
+        }
+    }
+
+    /// What has been written.
+    pub fn as_str(&self) -> &str {
+        self.text.as_str()
+    }
+
+    /// How many bytes have been written. Each is a column, since all is ASCII.
+    pub fn len(&self) -> usize {
+        self.text.len()
+    }
+
+    /// Takes back what stands behind that many bytes.
+    pub fn truncate(&mut self, len: usize) {
+        for _byte in len..self.text.len() {
+            if self.text.len() > len {
+                let _sign = self.text.pop();
+            }
+        }
+    }
+
+    /// Words as they stand.
+    pub fn say(&mut self, text: &str) {
+        if !self.is_refused {
+            self.is_refused = self.text.push_str(text).is_err();
+        }
+    }
+
+    fn sign(&mut self, sign: char) {
+        if !self.is_refused {
+            self.is_refused = self.text.push(sign).is_err();
+        }
+    }
+
+    fn print<T: fmt::Display + Drop>(&mut self, item: T) {
+        if !self.is_refused {
+            self.is_refused = write!(self.text, "{item}").is_err();
+        }
+    }
+
+    /// A number in decimal.
+    pub fn number(&mut self, number: u64) {
+        self.print(number);
+    }
+
+    /// A value as programs write it.
+    pub fn value(&mut self, value: Value) {
+        match value {
+            Value::Number(number) => self.print(number),
+            Value::Truth(truth) => self.print(truth),
+            Value::Signal => self.say("signal"),
+        }
+    }
+
+    /// The number of a character, as Unicode writes it.
+    pub fn code(&mut self, code: u32) {
+        if !self.is_refused {
+            self.is_refused = write!(self.text, "{code:04X}").is_err();
+        }
+    }
+
+    /// The same sign so many times.
+    pub fn fill(&mut self, sign: char, times: u64) {
+        for _time in 0..times {
+            self.sign(sign);
+        }
+    }
+
+    /// A byte of a text: a blank is shown as a blank, and what isn't printable ASCII as `?`.
+    pub fn byte(&mut self, byte: u8) {
+        let shown = match byte {
+            b'\t' | b'\r' => b' ',
+            32..=126 => byte,
+            _ => b'?',
+        };
+        self.sign(shown as char);
+    }
+
+    /// A word of a text. What is beyond its first 100 bytes is left out.
+    pub fn word(&mut self, word: &[u8]) {
+        for byte in word.iter().take(LONGEST_WORD) {
+            self.byte(*byte);
+        }
+        if word.len() > LONGEST_WORD {
+            self.say("..");
+        }
+    }
+
+    /// The name of a file.
+    pub fn path(&mut self, path: &str) {
+        for sign in path.chars() {
+            let is_shown = sign.is_ascii() && !sign.is_ascii_control();
+            self.sign(if is_shown { sign } else { '?' });
+        }
+    }
+
+    /// A number of things: their name takes an `s` but for one of them.
+    pub fn count(&mut self, number: u64, name: &str) {
+        self.number(number);
+        self.say(" ");
+        self.say(name);
+        if number != 1 {
+            self.say("s");
+        }
+    }
+
+    /// A line of its own below what was shown.
+    pub fn note(&mut self, text: &str) {
+        self.inset();
+        self.say(" = ");
+        self.say(text);
+    }
+
+    /// Such a line that says what to do.
+    pub fn help(&mut self, text: &str) {
+        self.note("help: ");
+        self.say(text);
+        self.say("\n");
+    }
+
+    /// Such a line that says what may stand there.
+    pub fn expected(&mut self, text: &str) {
+        self.note("expected: ");
+        self.say(text);
+        self.say("\n");
+    }
+}

@@ -1,0 +1,273 @@
+//! Why an entry is refused, said under its place.
+
+use crate::allowed::{Allowed, entry_of};
+use crate::line::{field, say_entry, whole};
+use crate::replay::Replay;
+use orc_calls::due_time;
+use orc_lex::token::Span;
+use orc_page::{Page, left_out};
+use orc_rules::answers::Answers;
+use orc_rules::entry::{Entry, RuleFault};
+use orc_rules::limits::MOST_ARGUMENTS;
+use orc_rules::program::Program;
+use orc_rules::value::{Answer, Found};
+use orc_verdict::mark_named;
+use std::alloc::{AllocError, Global};
+
+/// An entry that is refused, with its line, what was before it, and what is allowed there.
+#[derive(Clone, Copy)]
+pub(crate) struct Refused<'r> {
+    pub program: &'r Program,
+    pub answers: &'r Answers,
+    pub replay: &'r Replay,
+    pub allowed: &'r Allowed,
+    /// None where a cancel is due behind the last entry.
+    pub entry: Option<&'r Entry>,
+    pub line: &'r [u8],
+    /// The number of its line in the journal's file.
+    pub number: u64,
+}
+
+// The new numbers of an entry and what they have to be, in their order in its line.
+fn numbers_of(replay: &Replay, entry: &Entry) -> [Option<(u64, u64)>; 3] {
+    let mark = replay.marked.new_mark();
+    let second = mark.saturating_add(1);
+    match entry {
+        Entry::Fork(_, a, b) => [Some((*a, mark)), Some((*b, second)), None],
+        Entry::Open(_, c, a, b) => [
+            Some((*c, replay.marked.new_cell())),
+            Some((*a, mark)),
+            Some((*b, second)),
+        ],
+        Entry::Call(_, k, _, _) => [Some((*k, replay.marked.new_call())), None, None],
+        Entry::Seq(_, a)
+        | Entry::Other(_, a)
+        | Entry::Def(_, a)
+        | Entry::Send(_, a, _)
+        | Entry::Return(_, a, _)
+        | Entry::Right(_, a) => [Some((*a, mark)), None, None],
+        _ => [None, None, None],
+    }
+}
+
+impl Refused<'_> {
+    // Shows the entry with carets under a part of its line. What is said next stands behind them.
+    fn show(&self, page: &mut Page, part: Span) {
+        let first = left_out((part.start as u64).saturating_add(1));
+        page.row(self.number, self.line, first, part.start);
+        page.carets(self.line, first, part);
+    }
+
+    fn show_whole(&self, page: &mut Page) {
+        self.show(page, whole(self.line));
+    }
+
+    fn show_word(&self, page: &mut Page, number: usize) {
+        self.show(page, field(self.line, number));
+    }
+
+    /// Shows the entry, and says why it is refused. The error is refused memory.
+    pub(crate) fn say(
+        &self,
+        page: &mut Page,
+        alloc: Global,
+        why: RuleFault,
+    ) -> Result<(), AllocError> {
+        let Some(entry) = self.entry else {
+            self.say_end(page);
+            return Ok(());
+        };
+        match why {
+            RuleFault::Cancel => self.say_cancel(page),
+            RuleFault::Mark => self.say_mark(page),
+            RuleFault::Form => return self.say_form(page, alloc, entry),
+            RuleFault::Number => self.say_number(page, entry),
+            RuleFault::Answer => self.say_answer(page, entry),
+            RuleFault::Time => self.say_time(page, entry),
+            RuleFault::Halted => {
+                self.show_word(page, 1);
+                page.say("that side hasn't halted\n");
+            }
+            RuleFault::Deep => {
+                self.show_whole(page);
+                page.say("the term would nest over 10,000 levels\n");
+            }
+            RuleFault::Memory => {}
+        }
+        Ok(())
+    }
+
+    // A cancel is due behind the last entry.
+    fn say_end(&self, page: &mut Page) {
+        self.show_whole(page);
+        page.say("the journal ends here, and cancel ");
+        page.number(self.allowed.cancel().unwrap_or(0));
+        page.say(" is due\n");
+    }
+
+    fn say_cancel(&self, page: &mut Page) {
+        self.show_whole(page);
+        match self.allowed.cancel() {
+            Some(call) => {
+                page.say("cancel ");
+                page.number(call);
+                page.say(" has to come first\n");
+            }
+            None => page.say("no cancel is due\n"),
+        }
+    }
+
+    // The token is missing, or where it stands, the cell that a `bind` names beside it.
+    fn say_mark(&self, page: &mut Page) {
+        let marked = &self.replay.marked;
+        if self.replay.first.stands() {
+            self.show_word(page, 2);
+            self.replay.second.say(marked, page);
+        } else {
+            self.show_word(page, 1);
+            self.replay.first.say(marked, page);
+        }
+    }
+
+    fn say_form(&self, page: &mut Page, alloc: Global, entry: &Entry) -> Result<(), AllocError> {
+        let mark = mark_named(entry).unwrap_or(0);
+        match entry_of(&self.replay.marked, self.program, mark) {
+            Some(other) if other.kind().word() == entry.kind().word() => {
+                self.show_whole(page);
+                page.say("this has to be `");
+                say_entry(page, alloc, self.answers, &other)?;
+                page.say("`\n");
+            }
+            Some(other) => {
+                self.show_word(page, 0);
+                page.say("mark ");
+                page.number(mark);
+                page.say(" may `");
+                page.word(other.kind().word());
+                page.say("`\n");
+            }
+            None => self.say_waits(page, mark),
+        }
+        Ok(())
+    }
+
+    // The token waits for cells.
+    fn say_waits(&self, page: &mut Page, mark: u64) {
+        let marked = &self.replay.marked;
+        let mut cells: u64 = 0;
+        for place in 0..MOST_ARGUMENTS {
+            if marked.awaited(self.program, mark, place).is_some() {
+                cells = cells.saturating_add(1);
+            }
+        }
+        if cells == 0 {
+            self.show_whole(page);
+            page.say("another kind of term, name, argument, value or taker stands there\n");
+            return;
+        }
+        self.show_word(page, 0);
+        page.say("mark ");
+        page.number(mark);
+        page.say(if cells == 1 {
+            " waits for cell"
+        } else {
+            " waits for cells"
+        });
+        let mut sign = " ";
+        for place in 0..MOST_ARGUMENTS {
+            if let Some(cell) = marked.awaited(self.program, mark, place) {
+                page.say(sign);
+                page.number(cell);
+                sign = ", ";
+            }
+        }
+        page.say("\n");
+    }
+
+    fn say_number(&self, page: &mut Page, entry: &Entry) {
+        for (place, number) in numbers_of(self.replay, entry).iter().enumerate() {
+            if let Some((number, next)) = number {
+                if number != next {
+                    self.show_word(page, place.saturating_add(2));
+                    page.say("the next number is ");
+                    page.number(*next);
+                    page.say("\n");
+                    return;
+                }
+            }
+        }
+    }
+
+    // What the table says of the call that an entry returns, and when the call was made.
+    fn returned(&self, entry: &Entry) -> Option<(Found, u64)> {
+        let (Entry::Return(call, _, _) | Entry::ReturnHalt(call)) = entry else {
+            return None;
+        };
+        let place = call.checked_sub(1)? as usize;
+        let called = self.replay.marked.calls().get(place)?;
+        Some((called.found, called.at))
+    }
+
+    fn say_answer(&self, page: &mut Page, entry: &Entry) {
+        let answer = match entry {
+            Entry::Return(_, _, _) => 3,
+            _ => 2,
+        };
+        self.show_word(page, answer);
+        match self.returned(entry) {
+            Some((Found::After(Answer::Value(value), _), _)) => {
+                page.say("the table's answer is ");
+                page.value(value);
+            }
+            Some((Found::After(Answer::Halt, _), _)) => page.say("the table's answer is halt"),
+            Some((Found::Never, _)) | None => page.say("the table says never"),
+        }
+        page.say("\n");
+    }
+
+    fn say_time(&self, page: &mut Page, entry: &Entry) {
+        self.show_word(page, 1);
+        match entry {
+            Entry::Return(call, _, _) | Entry::ReturnHalt(call) => {
+                self.say_due(page, *call, self.returned(entry));
+            }
+            _ => self.say_tick(page),
+        }
+        page.say("\n");
+    }
+
+    fn say_due(&self, page: &mut Page, call: u64, returned: Option<(Found, u64)>) {
+        page.say("call ");
+        page.number(call);
+        let due = match returned {
+            Some((found, at)) => due_time(found, at),
+            None => None,
+        };
+        match due {
+            Some(time) => {
+                page.say(" is due at ");
+                page.number(time);
+                page.say(", and now it is ");
+                page.number(self.replay.marked.now());
+            }
+            None => page.say(" is never due: its due time is over the greatest time"),
+        }
+    }
+
+    fn say_tick(&self, page: &mut Page) {
+        let things = self.allowed.things();
+        if things > 0 {
+            page.say("a tick comes only where nothing can be done now: ");
+            page.count(things, "thing");
+            page.say(" can");
+            return;
+        }
+        match self.allowed.tick() {
+            Some(time) => {
+                page.say("the next due time is ");
+                page.number(time);
+            }
+            None => page.say("no call that is out is ever due"),
+        }
+    }
+}

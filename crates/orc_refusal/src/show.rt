@@ -1,0 +1,197 @@
+//! The two lines of a term: itself, and its marks below.
+
+use crate::strip::{Stretch, Strip};
+use crate::way::Label;
+use orc_page::Page;
+use std::alloc::{AllocError, Global};
+use std::mem;
+
+/// A longer line isn't shown whole, in columns.
+const LONGEST: usize = 76;
+
+/// What is shown of a longer line.
+const SHOWN: usize = 70;
+
+/// What is shown of it before what is named, at most.
+const BEFORE: usize = 34;
+
+/// The columns behind a line in which numbers have room.
+const BEHIND: usize = 32;
+
+/// What stands before a line whose front isn't shown.
+const CUT: &str = ".. ";
+
+/// The part of a term's line that is shown.
+#[derive(Clone, Copy)]
+struct Window {
+    first: usize,
+    end: usize,
+    /// Whether something stands before it, and behind it.
+    is_front_cut: bool,
+    is_end_cut: bool,
+}
+
+impl Strip<'_, '_> {
+    fn window(&self) -> Window {
+        let len = self.page.len();
+        let is_inner = self.way.is_inner();
+        if len <= LONGEST && !self.is_cut {
+            return Window {
+                first: 0,
+                end: len,
+                is_front_cut: is_inner,
+                is_end_cut: is_inner,
+            };
+        }
+        let first = match self.named {
+            Some(named) => named.start.saturating_sub(BEFORE),
+            None => 0,
+        };
+        let end = first.saturating_add(SHOWN).min(len);
+        Window {
+            first,
+            end,
+            is_front_cut: first > 0 || is_inner,
+            is_end_cut: end < len || self.is_cut || is_inner,
+        }
+    }
+
+    // What is named, where it is shown.
+    fn named_in(&self, window: Window) -> Option<Stretch> {
+        let named = self.named?;
+        let end = named.end.min(window.end);
+        if named.start < window.first || named.start >= end {
+            return None;
+        }
+        Some(Stretch {
+            start: named.start.saturating_sub(window.first),
+            end: end.saturating_sub(window.first),
+        })
+    }
+
+    /// Writes the term, and below it its marks. The error is refused memory.
+    pub(crate) fn show(&mut self, page: &mut Page, alloc: Global) -> Result<(), AllocError> {
+        let window = self.window();
+        let text = mem::replace(&mut self.page, Page::new(alloc)).finish()?;
+        indent(page);
+        if window.is_front_cut {
+            page.say(CUT);
+        }
+        let text = text.as_bytes();
+        for byte in text.get(window.first..window.end).unwrap_or(b"") {
+            page.byte(*byte);
+        }
+        if window.is_end_cut {
+            page.say(" ..");
+        }
+        page.say("\n");
+        let rule = self.rule(alloc, window)?;
+        let signs = rule.signs.trim_ascii_end();
+        if !signs.is_empty() {
+            indent(page);
+            if window.is_front_cut {
+                page.fill(' ', CUT.len() as u64);
+            }
+            for byte in signs {
+                page.byte(*byte);
+            }
+            page.say("\n");
+        }
+        Ok(())
+    }
+
+    // The carets under what is named, the numbers of the marks beside it, and what the carets mean.
+    fn rule(&self, alloc: Global, window: Window) -> Result<Rule, AllocError> {
+        let mut rule = Rule::new(alloc, window.end.saturating_sub(window.first))?;
+        let named = self.named_in(window);
+        if let Some(named) = named {
+            rule.underline(named);
+        }
+        for note in &self.notes {
+            if note.column >= window.first && note.column < window.end {
+                let mut number = Page::new(alloc);
+                number.number(note.mark);
+                let column = note.column.saturating_sub(window.first);
+                rule.put(column, number.finish()?.as_bytes());
+            }
+        }
+        if let Some(named) = named {
+            let mut label = Page::new(alloc);
+            match self.way.label() {
+                Label::Mark(mark) => {
+                    label.say(" mark ");
+                    label.number(mark);
+                }
+                Label::Call(call) => {
+                    label.say(" call ");
+                    label.number(call);
+                }
+                Label::Nothing => {}
+            }
+            rule.put_last(named.end, label.finish()?.as_bytes());
+        }
+        Ok(rule)
+    }
+}
+
+// A line below a term begins as far inside as the term.
+fn indent(page: &mut Page) {
+    page.inset();
+    page.say("     ");
+}
+
+/// A line of blanks with signs in it.
+#[derive(Drop)]
+struct Rule {
+    signs: Vec<u8>,
+}
+
+impl Rule {
+    // As many blanks as a line has columns, and some more behind them. The error is refused memory.
+    fn new(alloc: Global, columns: usize) -> Result<Rule, AllocError> {
+        let mut signs = Vec::new(alloc);
+        for _column in 0..columns.saturating_add(BEHIND) {
+            signs.push(b' ')?;
+        }
+        Ok(Rule { signs })
+    }
+
+    fn underline(&mut self, stretch: Stretch) {
+        for (column, sign) in self.signs.iter_mut().enumerate() {
+            if column >= stretch.start && column < stretch.end {
+                *sign = b'^';
+            }
+        }
+    }
+
+    // Whether so many columns are blank.
+    fn is_blank(&self, start: usize, end: usize) -> bool {
+        match self.signs.get(start..end) {
+            Some(signs) => signs.iter().all(|sign| *sign == b' '),
+            None => false,
+        }
+    }
+
+    fn write(&mut self, start: usize, text: &[u8]) {
+        for (place, byte) in text.iter().enumerate() {
+            if let Some(sign) = self.signs.get_mut(start.saturating_add(place)) {
+                *sign = *byte;
+            }
+        }
+    }
+
+    // Puts a number where there is room for it, apart from what stands beside it.
+    fn put(&mut self, start: usize, text: &[u8]) {
+        let end = start.saturating_add(text.len());
+        if self.is_blank(start.saturating_sub(1), end.saturating_add(1)) {
+            self.write(start, text);
+        }
+    }
+
+    // Puts a text behind which nothing stands.
+    fn put_last(&mut self, start: usize, text: &[u8]) {
+        if self.is_blank(start, self.signs.len()) {
+            self.write(start, text);
+        }
+    }
+}

@@ -1,0 +1,311 @@
+//! A term in one line, with what stands under it.
+
+use crate::names::Names;
+use crate::replay::Replay;
+use crate::sign::Sign;
+use crate::spent::Spent;
+use crate::task::Task;
+use crate::way::Way;
+use orc_journal::Journal;
+use orc_page::Page;
+use orc_rules::program::Program;
+use std::alloc::{AllocError, Global};
+
+/// A part off the way to what is named that takes more columns is left out.
+const LONGEST_PART: usize = 28;
+
+/// What is written behind the place that is shown, in columns.
+const AHEAD: usize = 300;
+
+/// Where a mark's number goes.
+#[derive(Clone, Copy)]
+pub(crate) struct Note {
+    pub column: usize,
+    pub mark: u64,
+}
+
+/// A part that is left out where it is long: where it began, and how many nodes of the program were seen in it.
+#[derive(Clone, Copy)]
+struct Part {
+    start: usize,
+    seen: usize,
+    is_long: bool,
+}
+
+/// Where what is named stands in the line, in columns.
+#[derive(Clone, Copy)]
+pub(crate) struct Stretch {
+    pub start: usize,
+    pub end: usize,
+}
+
+/// A term that is written from its left to its right, as far as it is shown.
+pub(crate) struct Strip<'r, 's> {
+    pub program: &'r Program,
+    pub replay: &'r Replay,
+    pub journal: &'r Journal,
+    pub names: &'r Names<'r, 's>,
+    pub way: &'r Way,
+    pub spent: &'r Spent,
+    pub page: Page,
+    pub notes: Vec<Note>,
+    pub named: Option<Stretch>,
+    /// Whether something stands behind what was written.
+    pub is_cut: bool,
+    /// The variables of the source that is being written.
+    pub bound: Vec<u32>,
+    tasks: Vec<Task>,
+    parts: Vec<Part>,
+    most: usize,
+}
+
+// Written out, so that a caller's proof sees one call and not the drop of each field.
+impl Drop for Strip<'_, '_> {
+    fn drop(self) {
+        let Strip {
+            program: _,
+            replay: _,
+            journal: _,
+            names: _,
+            way: _,
+            spent: _,
+            page: _,
+            notes: _,
+            named: _,
+            is_cut: _,
+            bound: _,
+            tasks: _,
+            parts: _,
+            most: _,
+        } = self;
+    }
+}
+
+impl<'r, 's> Strip<'r, 's> {
+    /// The term before an entry. The error is refused memory.
+    pub(crate) fn new(
+        alloc: Global,
+        program: &'r Program,
+        replay: &'r Replay,
+        journal: &'r Journal,
+        names: &'r Names<'r, 's>,
+        way: &'r Way,
+        spent: &'r Spent,
+    ) -> Result<Strip<'r, 's>, AllocError> {
+        let mut strip = Strip {
+            program,
+            replay,
+            journal,
+            names,
+            way,
+            spent,
+            page: Page::new(alloc),
+            notes: Vec::new(alloc),
+            named: None,
+            is_cut: false,
+            bound: Vec::new(alloc),
+            tasks: Vec::new(alloc),
+            parts: Vec::new(alloc),
+            most: AHEAD,
+        };
+        strip.write()?;
+        Ok(strip)
+    }
+
+    fn write(&mut self) -> Result<(), AllocError> {
+        match self.way.top() {
+            Some(top) => {
+                // What stands left of the named part is short.
+                self.most = usize::MAX;
+                self.push(Task::Way(top, 0))?;
+            }
+            None => self.push(Task::Node(0, 0))?,
+        }
+        for _task in 0..u64::MAX {
+            if self.page.len() > self.most {
+                self.is_cut = true;
+                return Ok(());
+            }
+            match self.tasks.pop() {
+                Some(task) => self.act(task)?,
+                None => return Ok(()),
+            }
+        }
+        Ok(())
+    }
+
+    fn act(&mut self, task: Task) -> Result<(), AllocError> {
+        match task {
+            Task::Open => self.open(),
+            Task::Close => {
+                self.close();
+                Ok(())
+            }
+            Task::Bind(name) => {
+                self.bound.push(name)?;
+                Ok(())
+            }
+            Task::Unbind => {
+                let _name = self.bound.pop();
+                Ok(())
+            }
+            _ if self.is_long() => Ok(()),
+            Task::Node(at, level) => self.node(at, level),
+            Task::Way(at, level) => self.way_node(at, level),
+            Task::Source(node, scope, level) => {
+                self.see();
+                self.source(node, scope, level)
+            }
+            Task::Operand(operand, scope) => {
+                self.operand(operand, scope);
+                Ok(())
+            }
+            Task::Sign(sign) => {
+                self.sign(sign);
+                Ok(())
+            }
+            Task::Say(text) => {
+                self.page.say(text);
+                Ok(())
+            }
+            Task::Underline(start) => {
+                let end = self.page.len();
+                self.named = Some(Stretch { start, end });
+                Ok(())
+            }
+        }
+    }
+
+    /// Lets a part wait, which is then written next.
+    pub(crate) fn push(&mut self, task: Task) -> Result<(), AllocError> {
+        self.tasks.push(task)?;
+        Ok(())
+    }
+
+    /// From here on the line goes on for so long that all that is shown is written.
+    pub(crate) fn begin_named(&mut self) -> Result<(), AllocError> {
+        let start = self.page.len();
+        self.most = start.saturating_add(AHEAD);
+        self.push(Task::Underline(start))
+    }
+
+    fn open(&mut self) -> Result<(), AllocError> {
+        let is_long = self.is_long();
+        let start = self.page.len();
+        self.parts.push(Part {
+            start,
+            seen: 0,
+            is_long,
+        })?;
+        Ok(())
+    }
+
+    // Ends a part: it is left out where it has become long.
+    fn close(&mut self) {
+        let is_long = self.is_long();
+        let Some(part) = self.parts.pop() else {
+            return;
+        };
+        if !is_long {
+            return;
+        }
+        self.page.truncate(part.start);
+        for _note in 0..self.notes.len() {
+            match self.notes.last() {
+                Some(note) if note.column >= part.start => {
+                    let _note = self.notes.pop();
+                }
+                _ => break,
+            }
+        }
+        self.page.say("..");
+    }
+
+    // Whether the part that is being written is left out: each node of the program takes a column at least.
+    fn is_long(&self) -> bool {
+        match self.parts.last() {
+            Some(part) => {
+                part.is_long
+                    || part.seen > LONGEST_PART
+                    || self.page.len().saturating_sub(part.start) > LONGEST_PART
+            }
+            None => false,
+        }
+    }
+
+    fn see(&mut self) {
+        if let Some(part) = self.parts.last_mut() {
+            part.seen = part.seen.saturating_add(1);
+        }
+    }
+
+    fn sign(&mut self, sign: Sign) {
+        match sign {
+            Sign::Par => self.page.say(" | "),
+            Sign::Other => self.page.say(" ; "),
+            Sign::Seq(name) if self.names.argument(name).is_some() => self.page.say(" >> "),
+            Sign::Prune(name) if self.names.argument(name).is_some() => self.page.say(" << "),
+            Sign::Seq(name) => {
+                self.page.say(" >");
+                self.names.say_variable(&mut self.page, name);
+                self.page.say("> ");
+            }
+            Sign::Prune(name) => {
+                self.page.say(" <");
+                self.names.say_variable(&mut self.page, name);
+                self.page.say("< ");
+            }
+            Sign::Opened(cell) => {
+                self.page.say(" <");
+                self.names.say_cell(&mut self.page, cell);
+                self.page.say("< ");
+            }
+        }
+    }
+
+    /// Lets an operation wait with its parts, in brackets where its place wants a tighter form.
+    pub(crate) fn push_joined(
+        &mut self,
+        sign: Sign,
+        wanted: usize,
+        left: Side,
+        right: Side,
+    ) -> Result<(), AllocError> {
+        let is_inner = sign.levels().own < wanted;
+        if is_inner {
+            self.push(Task::Say(")"))?;
+        }
+        self.push_side(right, sign.bound_right())?;
+        self.push(Task::Sign(sign))?;
+        self.push_side(left, sign.bound_left())?;
+        if is_inner {
+            self.push(Task::Say("("))?;
+        }
+        Ok(())
+    }
+
+    // Lets a side wait in which this name is bound.
+    fn push_side(&mut self, side: Side, name: Option<u32>) -> Result<(), AllocError> {
+        if side.is_part {
+            self.push(Task::Close)?;
+        }
+        if name.is_some() {
+            self.push(Task::Unbind)?;
+        }
+        self.push(side.task)?;
+        if let Some(name) = name {
+            self.push(Task::Bind(name))?;
+        }
+        if side.is_part {
+            self.push(Task::Open)?;
+        }
+        Ok(())
+    }
+}
+
+/// A side of an operation, left out where it is a part that is long.
+#[derive(Clone, Copy)]
+pub(crate) struct Side {
+    pub task: Task,
+    pub is_part: bool,
+}

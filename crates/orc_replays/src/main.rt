@@ -1,0 +1,80 @@
+//! Replays a journal by calls of the ledger, entry by entry, and tells whether that writes the same journal. Its arguments are the files of a program,
+//! of a script and of a journal of the second version.
+#![tactic(auto)]
+
+#[cfg(test)]
+mod random;
+mod replaying;
+#[cfg(test)]
+mod rows;
+
+use crate::replaying::{Odd, Stop, replay_journal};
+use orc_journal::read_journal;
+use orc_rules::answers::Answers;
+use orc_rules::entry::State;
+use orc_rules::program::Program;
+use orc_scope::check;
+use orc_site::read_script;
+use orc_syntax::parse;
+use std::alloc::Global;
+use std::io::Read;
+use std::{env, fs, io, rt};
+
+/// A program with its sites.
+#[derive(Drop)]
+pub(crate) struct Loaded {
+    pub(crate) program: Program,
+    pub(crate) answers: Answers,
+}
+
+pub(crate) fn load(alloc: Global, source: &[u8], script: &[u8]) -> Option<Loaded> {
+    let ast = parse(alloc, source).ok()?;
+    let answers = read_script(alloc, script).ok()?;
+    let names = answers.names(alloc).ok()?;
+    let program = check(alloc, &ast, names.as_slice()).ok()?;
+    drop(names);
+    Some(Loaded { program, answers })
+}
+
+/// Replays a journal's text: how many entries it has, and what the ledger says of the place to which they lead.
+pub(crate) fn replay_text(
+    alloc: Global,
+    source: &[u8],
+    script: &[u8],
+    text: &[u8],
+) -> Result<(usize, State), Stop> {
+    let unread = Stop {
+        at: 0,
+        why: Odd::Other,
+    };
+    let Some(loaded) = load(alloc, source, script) else {
+        return Err(unread);
+    };
+    let Ok(journal) = read_journal(alloc, text, &loaded.answers) else {
+        return Err(unread);
+    };
+    let state = replay_journal(alloc, &loaded.program, &loaded.answers, &journal)?;
+    Ok((journal.len(), state))
+}
+
+fn read<R: rt::Files + AllocGlobal>(rt: &R, path: &str) -> io::Result<Vec<u8>> {
+    let mut bytes = Vec::new(rt.alloc());
+    fs::open(rt, path)?.read_to_end(&mut bytes)?;
+    Ok(bytes)
+}
+
+fn main(rt: HostRuntime) -> io::Result<()> {
+    let alloc = rt.alloc();
+    let words = env::args(&rt)?.collect::<Vec<String>>(alloc)?;
+    let [_, source, script, journal] = words.as_slice() else {
+        println!(&rt; "the files of a program, a script and a journal are wanted")?;
+        return Ok(());
+    };
+    let source = read(&rt, source.as_str())?;
+    let script = read(&rt, script.as_str())?;
+    let journal = read(&rt, journal.as_str())?;
+    match replay_text(alloc, &source, &script, &journal) {
+        Ok((entries, state)) => println!(&rt; "same {entries} {state:?}"),
+        Err(stop) => println!(&rt; "entry {}: {:?}", stop.at, stop.why),
+    }
+}

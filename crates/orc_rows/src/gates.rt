@@ -1,0 +1,413 @@
+//! Gates and sites of one's own: they hold calls, answer otherwise than they should, and note what they are told.
+
+use futures::Future;
+use futures::task::{Context, Poll, Source, Waker};
+use orc_rules::answers::Answers;
+use orc_rules::value::{Answer, Args, Value};
+use orc_site::{Due, Gate, Request, Scripted, SiteCall, SiteFuture, Sites};
+use std::alloc::{AllocError, Global};
+use std::sync::atomic::{AtomicU64, Ordering};
+
+/// How often a gate looks before it gives up.
+pub(crate) const LOOKS: u64 = 2_000_000_000;
+
+/// Holds the numbers from the first to the last until so many were entered.
+#[derive(Drop)]
+pub(crate) struct Turnstile {
+    first: u64,
+    last: u64,
+    wanted: u64,
+    looks: u64,
+    entered: AtomicU64,
+    ran_out: AtomicU64,
+}
+
+impl Turnstile {
+    pub(crate) fn new(first: u64, last: u64, wanted: u64) -> Turnstile {
+        Turnstile::that_looks(first, last, wanted, LOOKS)
+    }
+
+    /// One that gives up after so many looks.
+    pub(crate) fn that_looks(first: u64, last: u64, wanted: u64, looks: u64) -> Turnstile {
+        Turnstile {
+            first,
+            last,
+            wanted,
+            looks,
+            entered: AtomicU64::new(0),
+            ran_out: AtomicU64::new(0),
+        }
+    }
+
+    pub(crate) fn held_all(&self) -> bool {
+        self.ran_out.load(Ordering::SeqCst) == 0
+    }
+}
+
+impl Gate for Turnstile {
+    fn pass(&self, number: u64) {
+        self.entered.fetch_add(1, Ordering::SeqCst);
+        if number < self.first || number > self.last {
+            return;
+        }
+        for _ in 0..self.looks {
+            if self.entered.load(Ordering::SeqCst) >= self.wanted {
+                return;
+            }
+        }
+        self.ran_out.fetch_add(1, Ordering::SeqCst);
+    }
+}
+
+/// Holds nobody, and doesn't say so.
+#[derive(Drop)]
+pub(crate) struct Slow;
+
+impl Gate for Slow {
+    fn pass(&self, _number: u64) {}
+}
+
+/// Sites whose calls are held at a gate.
+#[derive(Drop)]
+pub(crate) struct Held<'a> {
+    pub(crate) scripted: Scripted<'a>,
+    pub(crate) gate: &'a Turnstile,
+}
+
+impl<'a> Sites for Held<'a> {
+    type Call = SiteCall<'a>;
+
+    fn call(&self, request: &Request) -> Result<SiteCall<'a>, AllocError> {
+        self.gate.pass(request.number);
+        self.scripted.call(request)
+    }
+
+    fn cancel(&self, _number: u64) {}
+}
+
+/// How sites take a call for another one.
+#[derive(Clone, Copy)]
+pub(crate) enum Wrong {
+    /// They answer it without its arguments.
+    Value,
+    /// They think that it was made at another time.
+    Time,
+    /// They think that it was made too late for an answer.
+    Never,
+}
+
+/// Sites that take a call for another one.
+#[derive(Drop)]
+pub(crate) struct Liar<'a> {
+    pub(crate) scripted: Scripted<'a>,
+    pub(crate) wrong: Wrong,
+}
+
+impl<'a> Sites for Liar<'a> {
+    type Call = SiteCall<'a>;
+
+    fn call(&self, request: &Request) -> Result<SiteCall<'a>, AllocError> {
+        let mut other = request.copied();
+        match self.wrong {
+            Wrong::Value => other.args = Args::new(),
+            Wrong::Time => other.made_at = other.made_at.saturating_add(2),
+            Wrong::Never => other.made_at = u64::MAX,
+        }
+        self.scripted.call(&other)
+    }
+
+    fn cancel(&self, _number: u64) {}
+
+    fn may_wait(&self) -> bool {
+        false
+    }
+}
+
+/// What a call answers when it is due.
+#[derive(Clone, Copy)]
+pub(crate) enum Manner {
+    /// 0, whatever the table says.
+    Zero,
+    Nothing,
+}
+
+/// A call that is due when the table says so, and answers otherwise.
+#[derive(Drop)]
+pub(crate) struct OddCall<'a> {
+    call: SiteCall<'a>,
+    manner: Manner,
+    source: Source,
+    waker: Option<Waker>,
+}
+
+impl Future for OddCall<'_> {
+    ghost use Rattle.std.specs.Prelude.{◌≡◌, true};
+    ghost use Rattle.orc_site.specs.Call.{due_of};
+    ghost use Rattle.orc_site.specs.Time.{is_due};
+
+    type Output = Answer;
+
+    ghost gives = { λ odd _. is_due (due_of odd.call) odd.call.moment ≡ true };
+
+    fn poll(&mut self, cx: &mut Context<'_>) -> Poll<Answer> {
+        match self.manner {
+            Manner::Nothing => cx.register(&self.source, &mut self.waker),
+            Manner::Zero => match self.call.poll(cx) {
+                Poll::Ready(_) => Poll::Ready(Answer::Value(Value::Number(0))),
+                Poll::Pending => Poll::Pending,
+            },
+        }
+    }
+}
+
+impl SiteFuture for OddCall<'_> {
+    ghost use Rattle.orc_site.specs.Call.{due_of};
+
+    ghost moment = { λ odd. odd.call.moment };
+
+    ghost when = { λ odd. due_of odd.call };
+
+    ghost always = { λ _. tt };
+
+    ghost early = { λ odd answer is. is };
+
+    fn at(&mut self, now: u64) {
+        self.call.at(now);
+    }
+
+    fn due(&self) -> Due {
+        self.call.due()
+    }
+}
+
+/// Sites that answer all calls in this manner.
+#[derive(Drop)]
+pub(crate) struct Odd<'a> {
+    pub(crate) answers: &'a Answers,
+    pub(crate) manner: Manner,
+}
+
+impl<'a> Sites for Odd<'a> {
+    type Call = OddCall<'a>;
+
+    fn call(&self, request: &Request) -> Result<OddCall<'a>, AllocError> {
+        Ok(OddCall {
+            call: SiteCall::new(self.answers, request.copied()),
+            manner: self.manner,
+            source: Source::new(),
+            waker: None,
+        })
+    }
+
+    fn cancel(&self, _number: u64) {}
+}
+
+/// Sites that are refused memory for the call with this number.
+#[derive(Drop)]
+pub(crate) struct Refusing<'a> {
+    pub(crate) scripted: Scripted<'a>,
+    pub(crate) number: u64,
+}
+
+impl<'a> Sites for Refusing<'a> {
+    type Call = SiteCall<'a>;
+
+    fn call(&self, request: &Request) -> Result<SiteCall<'a>, AllocError> {
+        if request.number == self.number {
+            return Err(AllocError);
+        }
+        self.scripted.call(request)
+    }
+
+    fn cancel(&self, _number: u64) {}
+}
+
+// What is noted of a call.
+#[derive(Drop)]
+struct Note {
+    passed: AtomicU64,
+    made: AtomicU64,
+    cancelled: AtomicU64,
+}
+
+/// Notes how often each call passes the gate, is made and is cancelled, by its number; the last one stands for all greater numbers.
+#[derive(Drop)]
+pub(crate) struct Board {
+    notes: Vec<Note>,
+    ran_out: AtomicU64,
+}
+
+impl Board {
+    pub(crate) fn new(alloc: Global, calls: u64) -> Result<Board, AllocError> {
+        let mut notes = Vec::new(alloc);
+        for _ in 0..calls.saturating_add(1) {
+            notes.push(Note {
+                passed: AtomicU64::new(0),
+                made: AtomicU64::new(0),
+                cancelled: AtomicU64::new(0),
+            })?;
+        }
+        Ok(Board {
+            notes,
+            ran_out: AtomicU64::new(0),
+        })
+    }
+
+    fn note(&self, number: u64) -> Option<&Note> {
+        let last = self.notes.len().saturating_sub(1);
+        self.notes.get(last.min(number as usize))
+    }
+
+    /// How often the call passed, was made and was cancelled.
+    pub(crate) fn counts(&self, number: u64) -> [u64; 3] {
+        match self.note(number) {
+            Some(note) => [
+                note.passed.load(Ordering::SeqCst),
+                note.made.load(Ordering::SeqCst),
+                note.cancelled.load(Ordering::SeqCst),
+            ],
+            None => [0, 0, 0],
+        }
+    }
+
+    fn is_gone(&self, number: u64) -> bool {
+        self.counts(number)[2] > 0
+    }
+
+    // Waits until a call is cancelled.
+    fn hold(&self, number: u64) {
+        for _ in 0..LOOKS {
+            if self.is_gone(number) {
+                return;
+            }
+        }
+        self.ran_out.fetch_add(1, Ordering::SeqCst);
+    }
+
+    /// Whether each call that was held was cancelled then.
+    pub(crate) fn held_all(&self) -> bool {
+        self.ran_out.load(Ordering::SeqCst) == 0
+    }
+}
+
+/// When the first call is held until it is cancelled.
+#[derive(Clone, Copy, PartialEq, Eq)]
+pub(crate) enum Hold {
+    Nowhere,
+    Gate,
+    /// While it is made.
+    Call,
+    /// While it is polled, after it was made.
+    Poll,
+}
+
+/// Sites and a gate that note what they are told on a board.
+#[derive(Drop)]
+pub(crate) struct Noting<'a> {
+    pub(crate) answers: &'a Answers,
+    pub(crate) board: &'a Board,
+    pub(crate) hold: Hold,
+    /// Whether a call answers that was cancelled.
+    pub(crate) answers_late: bool,
+}
+
+impl Gate for Noting<'_> {
+    fn pass(&self, number: u64) {
+        if let Some(note) = self.board.note(number) {
+            note.passed.fetch_add(1, Ordering::SeqCst);
+        }
+        if self.hold == Hold::Gate && number == 1 {
+            self.board.hold(number);
+        }
+    }
+}
+
+impl<'a> Sites for Noting<'a> {
+    type Call = NotedCall<'a>;
+
+    fn call(&self, request: &Request) -> Result<NotedCall<'a>, AllocError> {
+        if let Some(note) = self.board.note(request.number) {
+            note.made.fetch_add(1, Ordering::SeqCst);
+        }
+        if self.hold == Hold::Call && request.number == 1 {
+            self.board.hold(request.number);
+        }
+        Ok(NotedCall {
+            call: SiteCall::new(self.answers, request.copied()),
+            number: request.number,
+            board: self.board,
+            holds: self.hold == Hold::Poll && request.number == 1,
+            answers_late: self.answers_late,
+            now: request.made_at,
+            source: Source::new(),
+            waker: None,
+        })
+    }
+
+    fn cancel(&self, number: u64) {
+        if let Some(note) = self.board.note(number) {
+            note.cancelled.fetch_add(1, Ordering::SeqCst);
+        }
+    }
+}
+
+/// A call that may be held when it is due, and may forget its answer when it is cancelled.
+#[derive(Drop)]
+pub(crate) struct NotedCall<'a> {
+    call: SiteCall<'a>,
+    number: u64,
+    board: &'a Board,
+    holds: bool,
+    answers_late: bool,
+    now: u64,
+    source: Source,
+    waker: Option<Waker>,
+}
+
+impl NotedCall<'_> {
+    fn is_due(&self) -> bool {
+        match self.call.due() {
+            Due::At(time) => time <= self.now,
+            Due::Never => false,
+        }
+    }
+}
+
+impl Future for NotedCall<'_> {
+    ghost use Rattle.orc_site.specs.Call.{IsReply};
+
+    type Output = Answer;
+
+    ghost gives = { λ noted. IsReply noted.call };
+
+    fn poll(&mut self, cx: &mut Context<'_>) -> Poll<Answer> {
+        if self.holds && self.is_due() {
+            self.board.hold(self.number);
+        }
+        if !self.answers_late && self.board.is_gone(self.number) {
+            return cx.register(&self.source, &mut self.waker);
+        }
+        self.call.poll(cx)
+    }
+}
+
+impl SiteFuture for NotedCall<'_> {
+    ghost use Rattle.orc_site.specs.Call.{due_of};
+
+    ghost moment = { λ noted. noted.call.moment };
+
+    ghost when = { λ noted. due_of noted.call };
+
+    ghost always = { λ _. tt };
+
+    ghost early = { λ noted answer is. is.0 };
+
+    fn at(&mut self, now: u64) {
+        self.now = self.now.max(now);
+        self.call.at(now);
+    }
+
+    fn due(&self) -> Due {
+        self.call.due()
+    }
+}

@@ -1,0 +1,209 @@
+//! A program's tree as numbered spots, in which each expression argument is a pruning round its call.
+
+use orc_lex::token::{Plain, Span};
+use orc_syntax::{Ast, Expr, Name, Node, Operator, Part};
+use std::alloc::{AllocError, Global};
+use std::collections::HashMap;
+
+/// What a pruning's value is for.
+#[derive(Clone, Copy)]
+pub enum Purpose<'a> {
+    /// The variable of this name.
+    Variable(Name<'a>),
+    /// This argument, counted from 1, of a call of this name.
+    Argument(usize, Name<'a>),
+    /// Nothing: the pruning has no name.
+    Nothing,
+}
+
+/// What stands at a spot, with the spots of its parts.
+#[derive(Clone, Copy)]
+pub enum Shape<'a> {
+    /// `stop`, a value or a variable.
+    Leaf,
+    /// A call, with the definition of its name where there is one.
+    Call(Option<usize>),
+    Par(usize, usize),
+    Seq(usize, usize),
+    Prune(usize, usize, Purpose<'a>),
+    /// An otherwise, with the place of its left side in the source.
+    Other(usize, usize, Span),
+}
+
+// A part that its whole is still to take.
+#[derive(Clone, Copy)]
+struct Pending {
+    spot: usize,
+    span: Span,
+    // A value or a name, which is no pruning where it is an argument.
+    is_simple: bool,
+}
+
+const NOWHERE: Span = Span { start: 0, end: 0 };
+
+const NO_PART: Pending = Pending {
+    spot: 0,
+    span: NOWHERE,
+    is_simple: true,
+};
+
+/// A program's spots, each behind those of its parts.
+pub struct Sketch<'a> {
+    shapes: Vec<Shape<'a>>,
+    // Where each of them stands in the source.
+    spans: Vec<Span>,
+    definitions: HashMap<&'a [u8], usize>,
+    bodies: Vec<usize>,
+    pending: Vec<Pending>,
+}
+
+impl Drop for Sketch<'_> {
+    fn drop(self) {
+        let Sketch {
+            shapes: _,
+            spans: _,
+            definitions: _,
+            bodies: _,
+            pending: _,
+        } = self;
+    }
+}
+
+impl<'a> Sketch<'a> {
+    /// The spots of a program. The error is refused memory.
+    pub fn new(alloc: Global, ast: &Ast<'a>) -> Result<Sketch<'a>, AllocError> {
+        let mut sketch = Sketch {
+            shapes: Vec::new(alloc),
+            spans: Vec::new(alloc),
+            definitions: HashMap::new(alloc),
+            bodies: Vec::new(alloc),
+            pending: Vec::new(alloc),
+        };
+        sketch.read(ast)?;
+        Ok(sketch)
+    }
+
+    /// What stands at a spot; a leaf where there is no such spot.
+    pub fn shape(&self, spot: usize) -> Shape<'a> {
+        self.shapes.get(spot).copied().unwrap_or(Shape::Leaf)
+    }
+
+    /// The bytes of the source in which what stands at a spot is written, brackets round the whole aside; of the pruning of an argument, those of its call.
+    /// None at all where there is no such spot.
+    pub fn span(&self, spot: usize) -> Span {
+        self.spans.get(spot).copied().unwrap_or(NOWHERE)
+    }
+
+    /// The spot of a definition's body; behind the last definition stands the main expression.
+    pub fn body(&self, definition: usize) -> usize {
+        self.bodies.get(definition).copied().unwrap_or(0)
+    }
+
+    /// The spot of the main expression.
+    pub fn main(&self) -> usize {
+        self.bodies.last().copied().unwrap_or(0)
+    }
+
+    fn read(&mut self, ast: &Ast<'a>) -> Result<(), AllocError> {
+        for (i, definition) in ast.definitions.iter().enumerate() {
+            self.definitions.insert(definition.name.text, i)?;
+        }
+        for definition in &ast.definitions {
+            self.read_expression(&definition.body)?;
+        }
+        self.read_expression(&ast.main)
+    }
+
+    fn read_expression(&mut self, expression: &Expr<'a>) -> Result<(), AllocError> {
+        for node in &expression.nodes {
+            self.read_node(*node)?;
+        }
+        let whole = self.take();
+        self.bodies.push(whole.spot)?;
+        Ok(())
+    }
+
+    fn read_node(&mut self, node: Node<'a>) -> Result<(), AllocError> {
+        match node.part {
+            Part::Plain(Plain::Stop) => self.put(Shape::Leaf, node.span, false),
+            Part::Plain(_) | Part::Variable(_) => self.put(Shape::Leaf, node.span, true),
+            Part::Call(name, count) => self.read_call(name, count, node.span),
+            Part::Operation(operator) => {
+                let right = self.take();
+                let left = self.take();
+                let shape = match operator {
+                    Operator::Par => Shape::Par(left.spot, right.spot),
+                    Operator::Seq(_) => Shape::Seq(left.spot, right.spot),
+                    Operator::Other => Shape::Other(left.spot, right.spot, left.span),
+                    Operator::Prune(None) => Shape::Prune(left.spot, right.spot, Purpose::Nothing),
+                    Operator::Prune(Some(name)) => {
+                        Shape::Prune(left.spot, right.spot, Purpose::Variable(name))
+                    }
+                };
+                self.put(shape, node.span, false)
+            }
+            Part::Val(name) => {
+                let body = self.take();
+                let value = self.take();
+                let shape = Shape::Prune(body.spot, value.spot, Purpose::Variable(name));
+                self.put(shape, node.span, false)
+            }
+        }
+    }
+
+    // A call; round it stands a pruning for each argument that is an expression, that of the first one innermost.
+    fn read_call(&mut self, name: Name<'a>, count: usize, span: Span) -> Result<(), AllocError> {
+        let first = self.pending.len().saturating_sub(count);
+        let definition = self.definitions.get(name.text).copied();
+        let mut spot = self.add(Shape::Call(definition), span)?;
+        for place in 0..count {
+            spot = self.wrap(spot, first, place, name, span)?;
+        }
+        self.pending.truncate(first);
+        self.pending.push(Pending {
+            spot,
+            span,
+            is_simple: false,
+        })?;
+        Ok(())
+    }
+
+    // The pruning of an argument, from 0, round a call whose arguments begin there among the parts; that very call where the argument is simple.
+    fn wrap(
+        &mut self,
+        call: usize,
+        first: usize,
+        place: usize,
+        name: Name<'a>,
+        span: Span,
+    ) -> Result<usize, AllocError> {
+        match self.pending.get(first.saturating_add(place)).copied() {
+            Some(argument) if !argument.is_simple => {
+                let purpose = Purpose::Argument(place.saturating_add(1), name);
+                self.add(Shape::Prune(call, argument.spot, purpose), span)
+            }
+            _ => Ok(call),
+        }
+    }
+
+    fn add(&mut self, shape: Shape<'a>, span: Span) -> Result<usize, AllocError> {
+        let spot = self.shapes.len();
+        self.spans.push(span)?;
+        self.shapes.push(shape)?;
+        Ok(spot)
+    }
+
+    fn put(&mut self, shape: Shape<'a>, span: Span, is_simple: bool) -> Result<(), AllocError> {
+        let spot = self.add(shape, span)?;
+        self.pending.push(Pending {
+            spot,
+            span,
+            is_simple,
+        })?;
+        Ok(())
+    }
+
+    fn take(&mut self) -> Pending {
+        self.pending.pop().unwrap_or(NO_PART)
+    }
+}

@@ -1,0 +1,88 @@
+//! Gates and sites round a run: they hold calls, sleep, or only say that they may.
+
+use orc_rules::answers::Answers;
+use orc_site::{Gate, Request, Scripted, SiteCall, Sites};
+use std::alloc::AllocError;
+use std::sync::atomic::{AtomicU64, Ordering};
+use std::thread;
+use std::time::{Clock, Duration};
+
+/// How often a gate looks before it gives up.
+const LOOKS: u64 = 2_000_000_000;
+
+/// How many microseconds a call of `Ask` sleeps.
+const SLEEP: u64 = 1000;
+
+/// Holds nobody, and doesn't say so: all workers are at work.
+#[derive(Drop)]
+pub struct Slow;
+
+impl Gate for Slow {
+    fn pass(&self, _number: u64) {}
+}
+
+/// Holds each call until so many were made.
+#[derive(Drop)]
+pub struct Turnstile {
+    wanted: u64,
+    entered: AtomicU64,
+    ran_out: AtomicU64,
+}
+
+impl Turnstile {
+    pub fn new(wanted: u64) -> Turnstile {
+        Turnstile {
+            wanted,
+            entered: AtomicU64::new(0),
+            ran_out: AtomicU64::new(0),
+        }
+    }
+
+    pub fn held_all(&self) -> bool {
+        self.ran_out.load(Ordering::SeqCst) == 0
+    }
+}
+
+impl Gate for Turnstile {
+    fn pass(&self, _number: u64) {
+        self.entered.fetch_add(1, Ordering::SeqCst);
+        for _ in 0..LOOKS {
+            if self.entered.load(Ordering::SeqCst) >= self.wanted {
+                return;
+            }
+        }
+        self.ran_out.fetch_add(1, Ordering::SeqCst);
+    }
+}
+
+/// Sites by the table, whose calls of one site sleep a while.
+#[derive(Drop)]
+pub struct Sleepy<'a, R: Clock> {
+    rt: &'a R,
+    scripted: Scripted<'a>,
+    site: Option<u32>,
+}
+
+impl<'a, R: Clock> Sleepy<'a, R> {
+    /// Sites of which the calls of `Ask` sleep.
+    pub fn new(rt: &'a R, answers: &'a Answers) -> Sleepy<'a, R> {
+        Sleepy {
+            rt,
+            scripted: Scripted::new(answers),
+            site: answers.site_named(b"Ask"),
+        }
+    }
+}
+
+impl<'a, R: Clock> Sites for Sleepy<'a, R> {
+    type Call = SiteCall<'a>;
+
+    fn call(&self, request: &Request) -> Result<SiteCall<'a>, AllocError> {
+        if self.site == Some(request.site) {
+            thread::sleep(self.rt, Duration::from_micros(SLEEP));
+        }
+        self.scripted.call(request)
+    }
+
+    fn cancel(&self, _number: u64) {}
+}

@@ -1,0 +1,180 @@
+//! Programs, and what their runs have to come to.
+
+use orc_engine::{EngineFault, run_pool};
+use orc_outcome::{End, Played};
+use orc_rules::answers::Answers;
+use orc_rules::program::Program;
+use orc_rules::value::Value;
+use orc_run::check_text;
+use orc_scope::check;
+use orc_site::{Gate, Sites, read_script};
+use orc_syntax::parse;
+use std::alloc::Global;
+use std::sync::Wait;
+use std::thread::Threads;
+
+const SCRIPT: &[u8] = b"Never() = never\nSlow() = 1 after 3\nAsk() = 1\n";
+
+/// A program, and how its runs have to end.
+#[derive(Clone, Copy)]
+pub struct Storm {
+    pub name: &'static str,
+    pub source: &'static [u8],
+    pub end: End,
+    pub published: u64,
+    /// What may be published; anything, where nothing is said.
+    pub values: &'static [i64],
+}
+
+/// Programs of each kind: loops, races, fallbacks, fan-outs, calls that answer later.
+pub const STORMS: [Storm; 8] = [
+    Storm {
+        name: "fan",
+        source: b"def tree(n) = Lt(0, n) >b> (Iff(b) >> Add(n, 1) | Ift(b) >> Add(n, -1) >m> (tree(m) | tree(m)))\ntree(6)",
+        end: End::Halted,
+        published: 64,
+        values: &[1],
+    },
+    Storm {
+        name: "late",
+        source: b"def tree(n) = Lt(0, n) >b> (Iff(b) >> Slow() | Ift(b) >> Add(n, -1) >m> (tree(m) | tree(m)))\ntree(6)",
+        end: End::Halted,
+        published: 64,
+        values: &[1],
+    },
+    Storm {
+        name: "race",
+        source: b"def loop(n) = Lt(n, 50) >b> (Iff(b) >> n | Ift(b) >> (x <x< (n | Never() | Slow())) >> Add(n, 1) >m> loop(m))\nloop(0) | loop(20)",
+        end: End::Halted,
+        published: 2,
+        values: &[50],
+    },
+    Storm {
+        name: "mixed",
+        source: b"def mix(n) = Lt(n, 30) >b> (Iff(b) >> n | Ift(b) >> ((Ift(false) ; (x <x< (Slow() | Slow()))) ; stop) >> Add(n, 1) >m> mix(m))\nmix(0) | mix(9) | Never()",
+        end: End::Quiet,
+        published: 2,
+        values: &[30],
+    },
+    Storm {
+        name: "deep",
+        source: b"def f() = Add(1, 1) >> (f() ; 1)\nf() | f()",
+        end: End::Full,
+        published: 0,
+        values: &[],
+    },
+    // The earlier of two answers wins.
+    Storm {
+        name: "first",
+        source: b"x <x< (Rwait(2) >> 20 | Rwait(1) >> 10)",
+        end: End::Halted,
+        published: 1,
+        values: &[10],
+    },
+    // Either wins.
+    Storm {
+        name: "either",
+        source: b"x <x< (Add(0, 1) | Add(0, 2))",
+        end: End::Halted,
+        published: 1,
+        values: &[1, 2],
+    },
+    // More races one after another than there may be groups.
+    Storm {
+        name: "kills",
+        source: b"def loop(n) = Lt(n, 1100) >b> (Iff(b) >> n | Ift(b) >> (x <x< (n | Never() | Rwait(5))) >> Add(n, 1) >m> loop(m))\nloop(0)",
+        end: End::Halted,
+        published: 1,
+        values: &[1100],
+    },
+];
+
+/// A thousand calls that are due at one time.
+pub const DUE: Storm = Storm {
+    name: "due",
+    source: b"def a() = Rwait(5) | Rwait(5) | (Rwait(5) | Rwait(5))\ndef b() = a() | a() | (a() | a())\ndef c() = b() | b() | (b() | b())\ndef d() = c() | c() | (c() | c())\nd() | d() | (d() | d())",
+    end: End::Halted,
+    published: 1024,
+    values: &[],
+};
+
+/// Calls whose sites sleep.
+pub const ASKS: Storm = Storm {
+    name: "asks",
+    source: b"def a() = Ask() | Ask() | (Ask() | Ask())\ndef b() = a() | a() | (a() | a())\ndef c() = b() | b() | (b() | b())\nc() | c() | (c() | c())",
+    end: End::Halted,
+    published: 256,
+    values: &[1],
+};
+
+impl Storm {
+    /// A program in which each of so many workers can make a call of its own.
+    pub fn held(source: &'static [u8], workers: usize) -> Storm {
+        Storm {
+            name: "held",
+            source,
+            end: End::Halted,
+            published: workers as u64,
+            values: &[],
+        }
+    }
+
+    // Whether a value may be published.
+    fn may_publish(&self, value: &Value) -> bool {
+        match value {
+            Value::Number(number) => self.values.is_empty() || self.values.contains(number),
+            Value::Truth(_) | Value::Signal => self.values.is_empty(),
+        }
+    }
+
+    /// Whether a run ended as it has to.
+    pub fn is_right(&self, played: &Played) -> bool {
+        played.summary.end == self.end
+            && played.summary.published == self.published
+            && played.published.iter().all(|value| self.may_publish(value))
+    }
+
+    /// Whether the check accepts a run's journal.
+    pub fn is_accepted(&self, alloc: Global, played: &Played) -> bool {
+        let mut verdict = Vec::new(alloc);
+        check_text(alloc, self.source, SCRIPT, &played.text, &mut verdict).is_ok()
+    }
+}
+
+/// A program that is ready to be run.
+#[derive(Drop)]
+pub struct Loaded {
+    pub program: Program,
+    pub answers: Answers,
+}
+
+/// Reads a program. None where memory was refused.
+pub fn load(alloc: Global, source: &[u8]) -> Option<Loaded> {
+    let ast = parse(alloc, source).ok()?;
+    let answers = read_script(alloc, SCRIPT).ok()?;
+    let names = answers.names(alloc).ok()?;
+    let program = check(alloc, &ast, names.as_slice()).ok()?;
+    drop(names);
+    Some(Loaded { program, answers })
+}
+
+/// A run of a program on so many workers.
+pub fn run<R, S, G>(
+    rt: &R,
+    alloc: Global,
+    loaded: &Loaded,
+    sites: &S,
+    gate: &G,
+    workers: usize,
+) -> Result<Played, EngineFault>
+where
+    R: Threads + Wait + Sync,
+    S: Sites + Sync,
+    S::Call: Send,
+    G: Gate + Sync,
+{
+    let (program, answers) = (&loaded.program, &loaded.answers);
+    run_pool(
+        rt, alloc, program, answers, sites, gate, workers, true, 100_000,
+    )
+}

@@ -1,0 +1,107 @@
+// The verdict on a journal's text, whose entries are taken as they are read.
+
+ghost use Rattle.std.specs.Prelude.{◌≡◌, ◌++◌, List, ℕ, length, IfOk, IfErr};
+ghost use Rattle.orc_rules.specs.declared.entry.Entry.{Entry as EntryOf};
+ghost use Rattle.orc_rules.specs.Nodes.{Listing, source};
+ghost use Rattle.orc_rules.specs.Verdict.{IsVerdict};
+ghost use Rattle.orc_checker.specs.Checker.{context};
+ghost use Rattle.orc_journal.specs.Lines.{HasRead};
+ghost use Rattle.orc_journal.specs.Texts.{Written, IsJournal};
+ghost use Rattle.orc_verdict.specs.Lines.{IsRefusedAt, IsTextFault};
+ghost use Rattle.orc_verdict.specs.declared.lines.TextFault.TheVariants.{Journal};
+ghost use Rattle.orc_verdict.specs.Verdicts.{records_cancels};
+
+use crate::heights::Heights;
+use crate::verdict::{CheckFault, Taken, Verdict, records_cancels, state_of, take};
+use orc_checker::Marked;
+use orc_journal::{JournalFault, Lines};
+use orc_rules::answers::Answers;
+use orc_rules::entry::{Entry, RuleFault};
+use orc_rules::program::Program;
+use std::alloc::Global;
+
+/// Why a text has no verdict: it is no journal's, or the journal is refused.
+#[derive(Clone, Copy, PartialEq, Eq, Debug)]
+pub enum TextFault {
+    Journal(JournalFault),
+    Check(CheckFault),
+}
+
+impl From<JournalFault> for TextFault {
+    ghost from_gives = { λ fault f. f ≡ Journal fault };
+
+    fn from(fault: JournalFault) -> TextFault {
+        TextFault::Journal(fault)
+    }
+}
+
+/// How many entries a text's journal has, and the verdict on it.
+#[derive(Clone, Copy, PartialEq, Eq, Debug)]
+pub struct Checked {
+    pub entries: usize,
+    pub verdict: Verdict,
+}
+
+// The fault of a text whose journal is refused: one of the lines that are left goes before.
+fn refused(lines: &mut Lines, answers: &Answers, fault: CheckFault) -> TextFault
+    ensures { (l : Listing) (text : List ℕ) (es : List EntryOf) → HasRead answers.now.names text lines.old es → ((more : List EntryOf) → IsRefusedAt l answers.now lines.old.version (es ++ more) fault) → IsTextFault l answers.now text result }
+{
+    match lines.finish(answers) {
+        Ok(()) => TextFault::Check(fault),
+        Err(fault) => TextFault::Journal(fault),
+    }
+}
+
+/// The verdict on a text's journal of a program, as `read_journal` and `check_journal` tell it together. Nothing is kept of the entries, so
+/// that a check needs memory for the marked term alone. The fault is that of the text, else that of the journal.
+pub fn check_lines(
+    alloc: Global,
+    program: &Program,
+    answers: &Answers,
+    text: &[u8],
+) -> Result<Checked, TextFault>
+    ensures verdict { IfOk result (λ c. (j : Written) × IsJournal answers.now.names text.now j × (c.entries ≡ length j.entries) × IsVerdict (context program.now answers.now (records_cancels j.version)) (source program.now) j.entries c.verdict.state c.verdict.now) }
+    ensures fault { IfErr result (IsTextFault program.now answers.now text.now) }
+{
+    let mut lines = match Lines::new(text) {
+        Ok(lines) => lines,
+        Err(fault) => return Err(TextFault::Journal(fault)),
+    };
+    let none = CheckFault {
+        at: 0,
+        why: RuleFault::Memory,
+    };
+    let Ok(heights) = Heights::new(alloc, program) else {
+        return Err(refused(&mut lines, answers, none));
+    };
+    let Ok(marked) = Marked::new(alloc, program, records_cancels(lines.version())) else {
+        return Err(refused(&mut lines, answers, none));
+    };
+    let most = heights.most();
+    let levels = heights.at(program.source());
+    let mut taken = Taken { marked, levels };
+    let mut entry = Entry::Tick(0);
+    while lines.next(answers, &mut entry)? {
+        match take(alloc, program, answers, &heights, most, &mut taken, &entry) {
+            Ok(()) => {}
+            Err(why) => {
+                let at = lines.read() as u64;
+                return Err(refused(&mut lines, answers, CheckFault { at, why }));
+            }
+        }
+    }
+    match taken.marked.next_cancel() {
+        Some(_) => Err(TextFault::Check(CheckFault {
+            at: lines.read() as u64 + 1,
+            why: RuleFault::Cancel,
+        })),
+        None => {
+            let state = state_of(program, &mut taken.marked);
+            let now = taken.marked.now();
+            Ok(Checked {
+                entries: lines.read(),
+                verdict: Verdict { state, now },
+            })
+        }
+    }
+}
