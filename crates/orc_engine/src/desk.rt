@@ -207,11 +207,13 @@ impl<P: Naming> Desk<P> {
     }
 
     // Whether the slot still holds the token.
+    #[inline(always)]
     fn is_there(&self, handle: Handle) -> bool {
         handle.serial > 0 && self.ledger.token(handle.slot, handle.serial).is_some()
     }
 
     // The turn of the token in a slot comes.
+    #[inline(always)]
     fn join_held(&mut self, slot: usize) -> Result<(), Stop> {
         match self.ledger.held(slot) {
             Some(token) => self.join(slot, token.serial),
@@ -220,6 +222,7 @@ impl<P: Naming> Desk<P> {
     }
 
     // One move of a token.
+    #[inline(always)]
     fn step(
         &mut self,
         graph: &Graph,
@@ -266,6 +269,7 @@ impl<P: Naming> Desk<P> {
 
     // Two tokens stand in these slots: one goes on, and the turn of the other one comes. The left side of `f | g` goes on; but the right side of a
     // pruning, so that its group may be gone before the left side opens more.
+    #[inline(always)]
     fn part(&mut self, left: usize, right: usize) -> Result<Step, Stop> {
         if self.is_beside(left, right) {
             self.join_held(right)?;
@@ -277,6 +281,7 @@ impl<P: Naming> Desk<P> {
     }
 
     // Whether the tokens in two slots are in one group.
+    #[inline(always)]
     fn is_beside(&self, left: usize, right: usize) -> bool {
         match (self.ledger.held(left), self.ledger.held(right)) {
             (Some(one), Some(other)) => {
@@ -287,6 +292,7 @@ impl<P: Naming> Desk<P> {
     }
 
     // A call of a site. Where the table answers it here and at once, the token on its answer goes on.
+    #[inline(always)]
     fn call(
         &mut self,
         graph: &Graph,
@@ -368,7 +374,17 @@ impl<P: Naming> Desk<P> {
     }
 
     // A group that has no members any more ends, and so do those round it.
+    #[inline(always)]
     fn close(&mut self, group: u32) -> Result<(), Stop> {
+        if group == 0 || !self.ledger.is_empty(group) {
+            return Ok(());
+        }
+        self.close_from(group)
+    }
+
+    // The group ends if it has no members, and then so do those round it.
+    #[inline(never)]
+    fn close_from(&mut self, group: u32) -> Result<(), Stop> {
         let mut group = group;
         // Groups are nested at most so deep.
         for _nested in 0..MOST_GROUPS {

@@ -34,11 +34,13 @@ impl Ready {
     }
 
     /// Makes room for one more. The error is refused memory.
+    #[inline(always)]
     pub(crate) fn reserve(&mut self) -> Result<(), AllocError> {
         self.handles.reserve(1)
     }
 
     /// Adds a token. The error is refused memory.
+    #[inline(always)]
     pub(crate) fn push(&mut self, handle: Handle) -> Result<(), AllocError> {
         match self.handles.push_back(handle) {
             Ok(()) => Ok(()),
@@ -62,6 +64,7 @@ impl Ready {
     }
 
     /// Takes the token whose turn it is.
+    #[inline(always)]
     pub(crate) fn take(&mut self) -> Option<Handle> {
         self.turns = self.turns.wrapping_add(1);
         if self.turns % ROUND == 0 {

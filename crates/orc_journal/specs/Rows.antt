@@ -137,6 +137,14 @@ HasValue _ = ⊥
 abbrev pub grown : Contents → List Value → List Called → List Parts → Contents
 grown t vs cs ps = record { values = t.values ++ vs; calls = t.calls ++ cs; wides = t.wides ++ ps }
 
+-- a value stands at a place
+abbrev pub StandsAt : List Value → ℕ → Value → Type 0
+StandsAt values at v = (at < length values) × (value_at values at ≡ v)
+
+-- values stand one behind another from a place on
+abbrev pub StandFrom : List Value → ℕ → List Value → Type 0
+StandFrom values start vs = (start + length vs ≤ length values) × (take (length vs) (drop start values) ≡ vs)
+
 -- a row of these parts
 abbrev pub Names : List Parts → Row → Parts → Type 0
 Names wides r p = IsThere wides r × (parts_in wides r ≡ p)

@@ -84,6 +84,8 @@ impl Journal {
     }
 
     /// Adds an entry at the end. The error is refused memory, and then nothing changes.
+    // Inlined, so that of an entry whose kind is known its own row alone is made.
+    #[inline(always)]
     pub fn push(&mut self, entry: &Entry) -> Result<(), AllocError>
         ensures added { OnOk result (self.new ≡ record { version = self.old.version; entries = self.old.entries ++ entry.now ∷ [] }) }
         ensures refused { OnErr result (self.new ≡ self.old) }
@@ -95,6 +97,7 @@ impl Journal {
     }
 
     // Adds an entry with a value at the end. Where memory is refused nothing changes.
+    #[inline(always)]
     fn push_given(
         &mut self,
         kind: Kind,

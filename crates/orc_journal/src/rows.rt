@@ -4,7 +4,7 @@ ghost use Rattle.std.specs.Prelude.{◌≡◌, ◌≤◌, ◌∷◌, List, [], l
 ghost use Rattle.orc_rules.specs.Trace.{published};
 ghost use Rattle.orc_rules.specs.declared.limits.TheConstants.{MOST_ARGUMENTS};
 ghost use Rattle.orc_rules.specs.declared.entry.Entry.TheVariants.{Call};
-ghost use Rattle.orc_journal.specs.Rows.{last_of, parts_in, no_call, value_at, call_by, entry_of, grown, plain, given, HasCall, HasValue, IsPlain, IsThere, IsWithin, Keeps, Names, StandsFor};
+ghost use Rattle.orc_journal.specs.Rows.{last_of, parts_in, no_call, value_at, call_by, entry_of, grown, plain, given, HasCall, HasValue, IsPlain, IsThere, IsWithin, Keeps, Names, StandsAt, StandFrom, StandsFor};
 ghost use Rattle.orc_journal.specs.declared.rows.Parts.{Parts as PartsOf};
 
 use crate::room::put;
@@ -35,15 +35,15 @@ pub enum Row {
 
 const _: () = prove!(size_of::<Row>() == 16);
 
-/// A call's site, how many arguments it has, and the place of the first among the values.
+/// A call's site, the place of its first argument among the values, and how many it has.
 #[derive(Clone, Copy)]
 pub struct Called {
     pub site: u32,
+    pub start: u32,
     pub count: u8,
-    pub start: usize,
 }
 
-const _: () = prove!(size_of::<Called>() == 16);
+const _: () = prove!(size_of::<Called>() == 12);
 
 /// What the rows of a journal point to.
 #[derive(Drop)]
@@ -61,6 +61,7 @@ impl Model for Tables {
     ghost view = { λ t. record { values = t.values.items; calls = t.calls.items; wides = t.wides.items } };
 }
 
+#[inline(always)]
 fn numbered(kind: Kind, first: u64, second: u64, third: u64, fourth: u64) -> Parts
     ensures { result ≡ record { kind = kind; first = first; second = second; third = third; fourth = fourth } }
 {
@@ -74,6 +75,7 @@ fn numbered(kind: Kind, first: u64, second: u64, third: u64, fourth: u64) -> Par
 }
 
 // The fourth number of a narrow row by its third: the two marks of an `open` follow one another.
+#[inline(always)]
 fn last_of(kind: Kind, third: u32) -> u64
     ensures { result ≡ last_of kind third }
 {
@@ -83,6 +85,7 @@ fn last_of(kind: Kind, third: u32) -> u64
     }
 }
 
+#[inline(always)]
 fn short(number: u64) -> Option<u32>
     ensures { IfSome result (λ n. n ≡ number) }
 {
@@ -94,6 +97,7 @@ fn short(number: u64) -> Option<u32>
 }
 
 // The narrow row of an entry's parts, where they have one.
+#[inline(always)]
 fn narrow(parts: Parts) -> Option<Row>
     ensures { IfSome result (λ r. (wides : List PartsOf) → Names wides r parts) }
 {
@@ -141,7 +145,20 @@ impl Tables {
         }
     }
 
+    // The row of parts that have no narrow one.
+    #[cold]
+    #[inline(never)]
+    fn add_wide(&mut self, parts: Parts) -> Result<Row, AllocError>
+        ensures names { IfOk result (λ r. Names self.new.wides r parts) }
+        ensures grown { (more : List PartsOf) × (self.new ≡ grown self.old [] [] more) }
+    {
+        let at = self.wides.len();
+        put(&mut self.wides, parts)?;
+        Ok(Row::Wide(at))
+    }
+
     // A row of these parts.
+    #[inline(always)]
     fn add_parts(&mut self, parts: Parts) -> Result<Row, AllocError>
         ensures names { IfOk result (λ r. Names self.new.wides r parts) }
         ensures grown { (more : List PartsOf) × (self.new ≡ grown self.old [] [] more) }
@@ -149,12 +166,11 @@ impl Tables {
         if let Some(row) = narrow(parts) {
             return Ok(row);
         }
-        let at = self.wides.len();
-        put(&mut self.wides, parts)?;
-        Ok(Row::Wide(at))
+        self.add_wide(parts)
     }
 
     // The row of an entry of numbers alone.
+    #[inline(always)]
     fn add_plain(
         &mut self,
         kind: Kind,
@@ -170,7 +186,39 @@ impl Tables {
         self.add_parts(numbered(kind, first, second, third, fourth))
     }
 
+    // The place of a value: the last one, where that is the same, since an answer is mostly sent on, and then asked about; else behind the others.
+    #[inline(always)]
+    fn place(&mut self, value: Value) -> Result<usize, AllocError>
+        ensures kept { Keeps self.old self.new }
+        ensures same { (self.new.calls ≡ self.old.calls) × (self.new.wides ≡ self.old.wides) }
+        ensures there { IfOk result (λ at. StandsAt self.new.values at value) }
+    {
+        let end = self.values.len();
+        if end > 0 && self.values[end - 1] == value {
+            return Ok(end - 1);
+        }
+        put(&mut self.values, value)?;
+        Ok(end)
+    }
+
+    // The place of the first of a call's arguments.
+    fn place_all(&mut self, values: &[Value]) -> Result<usize, AllocError>
+        ensures kept { Keeps self.old self.new }
+        ensures same { (self.new.calls ≡ self.old.calls) × (self.new.wides ≡ self.old.wides) }
+        ensures there { IfOk result (λ start. StandFrom self.new.values start values.now) }
+    {
+        match values {
+            [value] => self.place(*value),
+            _ => {
+                let start = self.values.len();
+                self.values.extend_from_slice(values)?;
+                Ok(start)
+            }
+        }
+    }
+
     /// The row of an entry with a value. The error is refused memory.
+    #[inline(always)]
     pub(crate) fn add_given(
         &mut self,
         kind: Kind,
@@ -182,13 +230,12 @@ impl Tables {
         ensures kept { Keeps self.old self.new }
         ensures row { IfOk result (λ r. StandsFor self.new r (given kind first second value)) }
     {
-        let at = self.values.len() as u64;
-        let row = self.add_parts(numbered(kind, first, second, at, 0))?;
-        put(&mut self.values, value)?;
-        Ok(row)
+        let at = self.place(value)?;
+        self.add_parts(numbered(kind, first, second, at as u64, 0))
     }
 
     /// The row of a call. The error is refused memory.
+    #[inline(always)]
     pub(crate) fn add_call(
         &mut self,
         token: u64,
@@ -201,15 +248,18 @@ impl Tables {
         ensures row { IfOk result (λ r. StandsFor self.new r (Call token call site args.now)) }
     {
         let at = self.calls.len() as u64;
-        let start = self.values.len();
+        // So many values take more memory than there is.
+        let Some(start) = short(self.place_all(args)? as u64) else {
+            return Err(AllocError);
+        };
         let count = args.len() as u8;
         let row = self.add_parts(numbered(Kind::Call, token, call, at, 0))?;
-        self.values.extend_from_slice(args)?;
-        put(&mut self.calls, Called { site, count, start })?;
+        put(&mut self.calls, Called { site, start, count })?;
         Ok(row)
     }
 
     /// The row of an entry, with what it points to behind the other rows'. The error is refused memory.
+    #[inline(always)]
     pub(crate) fn add(&mut self, entry: &Entry) -> Result<Row, AllocError>
         ensures kept { Keeps self.old self.new }
         ensures row { IfOk result (λ r. StandsFor self.new r entry.now) }
@@ -252,8 +302,9 @@ impl Tables {
         ensures { result ≡ call_by self.now.values s k (slice_index_or self.now.calls at no_call) }
     {
         let called = self.calls[at as usize];
-        let end = called.start + called.count as usize;
-        Entry::Call(s, k, called.site, args_of(&self.values[called.start..end]))
+        let start = called.start as usize;
+        let end = start + called.count as usize;
+        Entry::Call(s, k, called.site, args_of(&self.values[start..end]))
     }
 
     /// The entry of a row.

@@ -63,12 +63,14 @@ fn set_link(links: &mut Vec<Link>, place: usize, link: Link) {
     }
 }
 
+#[inline(always)]
 fn find_link(links: &Vec<Link>, place: usize) -> Option<Link>
     ensures { result ≡ slice_get links.now.items place }
 {
     links.get(place).copied()
 }
 
+#[inline(always)]
 fn link_at(links: &Vec<Link>, place: usize) -> Link {
     match find_link(links, place) {
         Some(link) => link,
@@ -102,12 +104,21 @@ impl Chains {
     }
 
     /// The member of a group stands at this place.
+    #[inline(always)]
     pub(crate) fn put(&mut self, place: usize, group: u32) {
+        if let Some(link) = self.links.get(place)
+            && link.group == group
+        {
+            return;
+        }
+        self.move_to(place, group);
+    }
+
+    // A place goes from one group's chain to another's.
+    #[inline(never)]
+    fn move_to(&mut self, place: usize, group: u32) {
         if place == self.links.len() && place < self.links.capacity() {
             self.links.push_reserved(ALONE);
-        }
-        if link_at(&self.links, place).group == group {
-            return;
         }
         self.take(place);
         let first = match self.firsts.get(group as usize) {

@@ -55,6 +55,7 @@ impl Model for Groups {
 }
 
 // How many members a number has.
+#[inline(always)]
 fn size_at(sizes: &Vec<u32>, number: u32) -> u32
     ensures { result ≡ size_of sizes.now.items number }
 {
@@ -64,6 +65,7 @@ fn size_at(sizes: &Vec<u32>, number: u32) -> u32
     }
 }
 
+#[inline(always)]
 fn set_size(sizes: &mut Vec<u32>, number: u32, size: u32)
     ensures { sizes.new.items ≡ slice_set sizes.old.items number size }
 {
@@ -235,6 +237,7 @@ impl Groups {
     }
 
     /// How many members a number has.
+    #[inline(always)]
     pub(crate) fn size(&self, number: u32) -> u32
         ensures { result ≡ size_of self.now.sizes number }
     {
@@ -296,6 +299,7 @@ impl Groups {
     }
 
     /// One more member.
+    #[inline(always)]
     pub(crate) fn join(&mut self, number: u32)
         requires open { IsOpen self.old.items number }
         requires fits { size_of self.old.sizes number + 1 < 2 ^ 32 }
@@ -308,6 +312,7 @@ impl Groups {
     }
 
     /// One member less, where there is one.
+    #[inline(always)]
     pub(crate) fn leave(&mut self, number: u32)
         ensures items { self.new.items ≡ self.old.items }
         ensures room { self.new.room ≡ self.old.room }

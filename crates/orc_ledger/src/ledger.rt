@@ -124,8 +124,10 @@ pub(crate) fn push_within<T: Drop>(items: &mut Vec<T>, item: T)
     items.push_reserved(item);
 }
 
-// Makes room for one more item.
-pub(crate) fn reserve<T: Drop>(items: &mut Vec<T>) -> Result<(), LedgerFault>
+// Kept apart, since a list seldom grows.
+#[cold]
+#[inline(never)]
+fn grow<T: Drop>(items: &mut Vec<T>) -> Result<(), LedgerFault>
     ensures items { items.new.items ≡ items.old.items }
     ensures room { OnOk result (vec_len items.new + 1 ≤ vec_capacity items.new) }
     ensures why { IfErr result (λ fault. fault ≡ LedgerFault.Memory) }
@@ -136,7 +138,21 @@ pub(crate) fn reserve<T: Drop>(items: &mut Vec<T>) -> Result<(), LedgerFault>
     }
 }
 
+// Makes room for one more item.
+#[inline(always)]
+pub(crate) fn reserve<T: Drop>(items: &mut Vec<T>) -> Result<(), LedgerFault>
+    ensures items { items.new.items ≡ items.old.items }
+    ensures room { OnOk result (vec_len items.new + 1 ≤ vec_capacity items.new) }
+    ensures why { IfErr result (λ fault. fault ≡ LedgerFault.Memory) }
+{
+    if items.len() >= items.capacity() {
+        return grow(items);
+    }
+    Ok(())
+}
+
 // Writes an entry. Where memory is refused nothing changes.
+#[inline(always)]
 pub(crate) fn write(journal: &mut Journal, entry: &Entry) -> Result<(), LedgerFault>
     ensures added { OnOk result (journal.new ≡ record { version = journal.old.version; entries = journal.old.entries ++ entry.now ∷ [] }) }
     ensures refused { OnErr result (journal.new ≡ journal.old) }
@@ -265,6 +281,7 @@ impl<P: Program> Ledger<P> {
     }
 
     /// The token with this serial, if it is in this slot.
+    #[inline(always)]
     pub fn token(&self, slot: usize, serial: u64) -> Option<Token>
         requires { 1 ≤ serial }
         ensures held { IfSome result (λ t. IsHeld self.now.slots slot t × (t.serial ≡ serial) × IsIn t self.now.tokens) }
@@ -277,6 +294,7 @@ impl<P: Program> Ledger<P> {
     }
 
     /// The token in this slot, if there is one.
+    #[inline(always)]
     pub fn held(&self, slot: usize) -> Option<Token>
         ensures held { IfSome result (λ t. IsHeld self.now.slots slot t × IsIn t self.now.tokens) }
         ensures none { IfNone result ((t : Its) → IsHeld self.now.slots slot t → ⊥) }
@@ -295,6 +313,7 @@ impl<P: Program> Ledger<P> {
     }
 
     /// Whether one more entry, so many more tokens and groups, and a token with so many left sides of a `>x>` round it, are within the limits.
+    #[inline(always)]
     pub(crate) fn within(&self, tokens: usize, groups: usize, depth: u32) -> Result<(), LedgerFault>
         requires { (tokens ≤ 1) × (groups ≤ 1) }
         ensures why { IfErr result (λ fault. IsRefused self.now tokens groups depth fault) }

@@ -16,6 +16,7 @@ use orc_rules::entry::Entry;
 use orc_rules::limits::MOST_FRAMES;
 
 // The group of a token that took this step last.
+#[inline(always)]
 pub(crate) fn group_at(steps: &Vec<Step>, step: usize) -> u32
     ensures { result ≡ group_at steps.now.items step }
 {
@@ -29,6 +30,7 @@ pub(crate) fn group_at(steps: &Vec<Step>, step: usize) -> u32
 }
 
 // How many left sides of a `>x>` are round such a token, out to the innermost right side of a cell.
+#[inline(always)]
 pub(crate) fn depth_at(steps: &Vec<Step>, step: usize) -> u32
     ensures { result ≡ depth_at steps.now.items step }
 {

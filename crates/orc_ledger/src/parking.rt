@@ -51,6 +51,7 @@ impl Model for Parking {
 }
 
 // Whether a flag is set.
+#[inline(always)]
 fn is_set(flags: &Vec<bool>, slot: usize) -> bool
     ensures { result ≡ is_set flags.now.items slot }
 {
@@ -60,6 +61,7 @@ fn is_set(flags: &Vec<bool>, slot: usize) -> bool
     }
 }
 
+#[inline(always)]
 fn write_flag(flags: &mut Vec<bool>, slot: usize, value: bool)
     ensures { flags.new.items ≡ slice_set flags.old.items slot value }
 {
@@ -151,6 +153,7 @@ impl Parking {
     }
 
     /// The token in this slot is not known to wait.
+    #[inline(always)]
     pub(crate) fn clear(&mut self, slot: usize)
         ensures flags { self.new.flags ≡ slice_set self.old.flags slot false }
         ensures notes { self.new.notes ≡ self.old.notes }

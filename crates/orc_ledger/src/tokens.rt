@@ -9,7 +9,7 @@ ghost use Rattle.orc_ledger.specs.Tokens.{live, IsHeld, StayParked, StayBut, Sta
 ghost use Rattle.orc_ledger.specs.declared.records.Token.{Token as Its};
 
 use crate::chains::Chains;
-use crate::ledger::LedgerFault;
+use crate::ledger::{LedgerFault, reserve};
 use crate::parking::{Note, Parking};
 use crate::records::{Standing, Token};
 use std::alloc::Global;
@@ -59,6 +59,7 @@ const NOBODY: Token = Token {
 };
 
 // Writes into a slot that is there.
+#[inline(always)]
 fn put(slots: &mut Vec<Token>, slot: usize, token: Token)
     ensures items { slots.new.items ≡ slice_set slots.old.items slot token }
     ensures len { vec_len slots.new ≡ vec_len slots.old }
@@ -70,6 +71,7 @@ fn put(slots: &mut Vec<Token>, slot: usize, token: Token)
 }
 
 // A slot that is free, where the stack knows one.
+#[inline(always)]
 fn free_slot(slots: &Vec<Token>, free: &mut Vec<usize>) -> Option<usize>
     ensures { IfSome result (λ slot. (free : Its) × (slice_get slots.now.items slot ≡ Some free) × (free.serial ≡ 0)) }
 {
@@ -162,6 +164,7 @@ impl Tokens {
     }
 
     /// How many tokens there are.
+    #[inline(always)]
     pub(crate) fn len(&self) -> usize
         ensures { result ≡ length (live self.now.items) }
     {
@@ -176,6 +179,7 @@ impl Tokens {
     }
 
     /// What stands in this slot.
+    #[inline(always)]
     pub(crate) fn at(&self, slot: usize) -> Token
         requires { slot < length self.now.items }
         ensures { slice_get self.now.items slot ≡ Some result }
@@ -184,6 +188,7 @@ impl Tokens {
     }
 
     /// The token with this serial, which isn't 0, if it is in this slot.
+    #[inline(always)]
     pub(crate) fn get(&self, slot: usize, serial: u64) -> Option<Token>
         requires { 1 ≤ serial }
         ensures held { IfSome result (λ t. IsHeld self.now.items slot t × (t.serial ≡ serial)) }
@@ -196,6 +201,7 @@ impl Tokens {
     }
 
     /// The token in this slot, if there is one.
+    #[inline(always)]
     pub(crate) fn held(&self, slot: usize) -> Option<Token>
         ensures held { IfSome result (λ t. IsHeld self.now.items slot t) }
         ensures none { IfNone result ((t : Its) → IsHeld self.now.items slot t → ⊥) }
@@ -213,9 +219,7 @@ impl Tokens {
         ensures room { OnOk result (1 ≤ self.new.room) }
         ensures why { IfErr result (λ fault. fault ≡ LedgerFault.Memory) }
     {
-        if self.slots.try_reserve(1).is_err() {
-            return Err(LedgerFault::Memory);
-        }
+        reserve(&mut self.slots)?;
         // With this much, a slot that becomes free is always noted.
         if self.free.len() == self.free.capacity() && self.free.try_reserve(1).is_err() {
             return Err(LedgerFault::Memory);
@@ -227,6 +231,7 @@ impl Tokens {
     }
 
     /// Puts a token of this group into a slot, and gives its number.
+    #[inline(always)]
     pub(crate) fn add(&mut self, token: Token, group: u32) -> usize
         requires room { 1 ≤ self.old.room }
         requires serial { 1 ≤ token.serial }
@@ -252,6 +257,7 @@ impl Tokens {
     }
 
     /// Another token, of this group, takes the slot of one that goes.
+    #[inline(always)]
     pub(crate) fn replace(&mut self, slot: usize, token: Token, group: u32)
         requires held { (t : Its) × IsHeld self.old.items slot t }
         requires serial { 1 ≤ token.serial }
@@ -272,6 +278,7 @@ impl Tokens {
     }
 
     /// A token goes, and its slot is free.
+    #[inline(always)]
     pub(crate) fn remove(&mut self, slot: usize)
         requires { (t : Its) × IsHeld self.old.items slot t }
         ensures items { (free : Its) × (free.serial ≡ 0) × (self.new.items ≡ slice_set self.old.items slot free) }
