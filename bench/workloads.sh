@@ -37,6 +37,11 @@ waiting='def fan(n, x) = Lt(0, n) >more> Ift(more) >> (Add(x, 1) | Sub(n, 1) >m>
 def clock(n) = Lt(0, n) >more> Ift(more) >> Rwait(1) >> Sub(n, 1) >m> clock(m)
 (fan(COUNT, x) | clock(20000)) <x< (Rwait(30000) >> 1)'
 
+pipes='def values(n) = Lt(0, n) >b> Ift(b) >> (n | Sub(n, 1) >m> values(m))
+def pipe() = values(100) >x> Add(x, 1) >y> Mul(y, 2) >z> Sub(z, 1)
+def pipes(n) = Lt(0, n) >b> (Iff(b) >> pipe() | Ift(b) >> Sub(n, 1) >m> (pipes(m) | pipes(m)))
+pipes(COUNT)'
+
 # A script of so many sites, and of `Last` behind them.
 many_sites() {
     seq -f 'S%.0f() = 1' "$1"
@@ -55,6 +60,8 @@ workloads() {
     for rounds in 5 20; do
         run doubling-again $rounds "$(doubled 16) def again(n) = d16() | Lt(1, n) >b> Ift(b) >> Rwait(1) >> Sub(n, 1) >m> again(m) (again($rounds))"
     done
+    for levels in 10 12 13; do run queue $levels "$(doubled $levels) (d$levels() >x> Rwait(1) >> Add(x, 1) >y> Add(y, 1))"; done
+    for levels in 5 7 9; do run pipelines $levels "${pipes/COUNT/$levels}"; done
     for leaves in 1000 4000; do run fan-out $leaves "$(repeated $leaves ' | 1')"; done
     for rounds in 500 2000 10000 40000; do run counting $rounds "${loop/COUNT/$rounds}"; done
     for rounds in 250 1000 5000 20000; do run races $rounds "${races/COUNT/$rounds}" 'Never() = never'; done

@@ -37,8 +37,8 @@ impl Model for Nodes {
     ghost invariant = { λ n. AreHints n.items.items n.hints.items × AreListed n.items.items n.restless.items × AreKept n.items.items n.ranks };
 }
 
-// The node of that number, one that is gone where there is none.
-fn item(items: &Vec<Node>, i: usize) -> Node
+/// The node of that number, one that is gone where there is none.
+pub(crate) fn item(items: &Vec<Node>, i: usize) -> Node
     ensures { result ≡ slice_index_or items.now.items i nowhere }
 {
     match items.get(i) {
@@ -262,13 +262,18 @@ impl Nodes {
     pub(crate) fn levels_below(&self) -> Option<usize>
         ensures { IfSome result (AreLevelsAtMost self.now.items) }
     {
-        if !self.ranks.are_kept {
-            return None;
+        if self.ranks.are_kept {
+            Some(self.ranks.most as usize)
+        } else {
+            None
         }
-        match item(&self.items, 0).kind {
-            Kind::One(_, part) if part != 0 => Some(self.ranks.most as usize + 1),
-            _ => None,
-        }
+    }
+
+    /// Ranks all nodes again, by as small numbers as there are.
+    pub(crate) fn renew_ranks(&mut self)
+        ensures { self.new ≡ self.old }
+    {
+        self.ranks.renew(&self.items);
     }
 
     /// Forgets those that can't any more.
@@ -297,10 +302,10 @@ impl Nodes {
     {
         let number = self.items.len();
         let hint = hint_below(&self.items, &self.hints, number, node.parent);
+        self.ranks.add(&self.items, node);
         push_within(&mut self.items, node);
         push_within(&mut self.hints, hint);
         push_within(&mut self.restless, number);
-        self.ranks.add(number, node);
     }
 
     /// Writes a node that is there, and can move only if it could before.
@@ -309,6 +314,7 @@ impl Nodes {
         ensures items { self.new.items ≡ slice_set self.old.items i node }
         ensures room { self.new.room ≡ self.old.room }
     {
+        self.ranks.write(&self.items, i, node);
         set_item(&mut self.items, i, node);
     }
 
@@ -318,6 +324,7 @@ impl Nodes {
         requires node { CanWake self.old.items i node }
         ensures { self.new.items ≡ slice_set self.old.items i node }
     {
+        self.ranks.write(&self.items, i, node);
         set_item(&mut self.items, i, node);
         push_within(&mut self.restless, i);
     }
@@ -346,6 +353,6 @@ impl Nodes {
                 parent: above.parent,
             },
         );
-        self.ranks.lift(i, both);
+        self.ranks.lift(&self.items, i, both, node.parent);
     }
 }

@@ -1,10 +1,17 @@
 -- How deep a marked term nests, by its nodes.
-use Rattle.std.specs.Prelude.{ℕ, List, map}
+use Rattle.std.specs.Prelude.{◌≤◌, ℕ, List, map}
+use Rattle.orc_rules.specs.declared.limits.TheConstants.{MOST_LEVELS}
+use Rattle.orc_rules.specs.Marked.{erase}
+use Rattle.orc_rules.specs.Nodes.{Listing, code}
+use Rattle.orc_rules.specs.Refusal.{depth}
+use Rattle.orc_rules.specs.Timed.{Context}
+use Rattle.orc_rules.specs.Journal.{Place}
+use Rattle.orc_checker.specs.Checker.{State, Spells}
 use Rattle.orc_checker.specs.declared.arena.Kind.{Kind}
 use Rattle.orc_checker.specs.declared.arena.Kind.TheVariants.{Leaf, One, Two}
 use Rattle.orc_checker.specs.declared.arena.Tip.TheVariants.{Token}
 use Rattle.orc_checker.specs.declared.arena.Single.TheVariants.{Feeds, Entered, Passed}
-use Rattle.orc_verdict.specs.Heights.{height}
+use Rattle.orc_verdict.specs.Heights.{height, AreHeights, AreAtMost}
 
 -- the levels of the program's term in a node, 0 where there is none
 abbrev pub own_levels : List ℕ → Kind → ℕ
@@ -25,3 +32,7 @@ step_down (Two d i j) = 1
 -- nodes to be looked at, each with the levels above it
 abbrev pub with_levels : ℕ → List ℕ → List (ℕ × ℕ)
 with_levels above is = map (λ i. (i, above)) is
+
+-- what a state spells has no more than d levels, where no term of the program has more than `most`, and a checked term may have as many
+abbrev pub IsAllowed : State → ℕ → ℕ → Type 0
+IsAllowed s most d = ((x : Context) (l : Listing) (p : Place) (heights : List ℕ) → AreHeights (code l) heights → AreAtMost heights most → Spells x (code l) s p → depth (erase p.marked) ≤ d) × (d ≤ MOST_LEVELS)

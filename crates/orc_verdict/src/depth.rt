@@ -9,12 +9,13 @@ ghost use Rattle.orc_rules.specs.Timed.{Context};
 ghost use Rattle.orc_checker.specs.Checker.{Spells};
 ghost use Rattle.orc_checker.specs.Dropping.{parts_of};
 ghost use Rattle.orc_checker.specs.Settling.{kind_at};
-ghost use Rattle.orc_verdict.specs.Depth.{own_levels, step_down, with_levels};
+ghost use Rattle.orc_verdict.specs.Depth.{own_levels, step_down, with_levels, IsAllowed};
 ghost use Rattle.orc_verdict.specs.Heights.{AreHeights, AreAtMost};
 
 use crate::heights::Heights;
 use orc_checker::Marked;
 use orc_checker::arena::{Kind, Node, Single, Tip};
+use orc_rules::limits::MOST_LEVELS;
 use std::alloc::{AllocError, Global};
 
 // A node's kind, gone where there is none.
@@ -109,4 +110,27 @@ pub(crate) fn most_depth(marked: &Marked, most: usize) -> Option<usize>
         Some(sum) => Some(sum),
         None => None,
     }
+}
+
+// The same, where a checked term may have as many.
+fn most_allowed(marked: &Marked, most: usize) -> Option<usize>
+    ensures { IfSome result (λ d. IsAllowed marked.now most d) }
+{
+    match most_depth(marked, most) {
+        Some(levels) if levels <= MOST_LEVELS => Some(levels),
+        _ => None,
+    }
+}
+
+/// As many levels as the marked term has at most, where a checked term may have as many. Where its nodes don't tell at first they are all
+/// looked at, so that they do for a while. None where they never tell.
+pub(crate) fn allowed_depth(marked: &mut Marked, most: usize) -> Option<usize>
+    ensures depth { IfSome result (λ d. IsAllowed marked.old most d) }
+    ensures same { marked.new ≡ marked.old }
+{
+    if let Some(levels) = most_allowed(marked, most) {
+        return Some(levels);
+    }
+    marked.renew_levels();
+    most_allowed(marked, most)
 }

@@ -13,7 +13,7 @@ ghost use Rattle.orc_verdict.specs.Faults.{check_line};
 ghost use Rattle.orc_verdict.specs.Heights.{AreHeights, AreAtMost};
 ghost use Rattle.orc_verdict.specs.Verdicts.{records_cancels, Takes, Stops, IsCutShort};
 
-use crate::depth::{depth_of, most_depth};
+use crate::depth::{allowed_depth, depth_of};
 use crate::heights::Heights;
 use crate::reasons::first_reason;
 use orc_checker::Marked;
@@ -109,12 +109,12 @@ pub(crate) fn take(
         }
         None => {}
     }
-    match most_depth(&taken.marked, most) {
-        Some(levels) if levels <= MOST_LEVELS => {
+    match allowed_depth(&mut taken.marked, most) {
+        Some(levels) => {
             taken.levels = levels;
             return Ok(());
         }
-        _ => {}
+        None => {}
     }
     match depth_of(alloc, heights, &taken.marked) {
         Ok(levels) => {
