@@ -1,17 +1,17 @@
 //! The names of the rows.
 
-use crate::page::Page;
 use crate::picture::Subject;
 use crate::story::{Called, Kind};
 use orc_lex::token::Span;
+use orc_page::Page;
 use orc_rules::entry::Entry;
 use orc_sketch::Purpose;
 use std::alloc::{AllocError, Global};
 
 /// How many columns of a left side are shown, where it is longer than `LONGEST`.
-const SHOWN: u64 = 18;
+const SHOWN: usize = 18;
 
-const LONGEST: u64 = 19;
+const LONGEST: usize = 19;
 
 /// What the labels are made of.
 #[derive(Clone, Copy)]
@@ -28,14 +28,14 @@ impl Texts<'_, '_> {
             Kind::Call(called) => self.call(&mut page, called),
             Kind::Pruning(Purpose::Nothing) => page.say("_ <-"),
             Kind::Pruning(Purpose::Variable(name)) => {
-                page.bytes(name.text);
+                page.word(name.text);
                 page.say(" <-");
             }
             Kind::Pruning(Purpose::Argument(place, name)) => {
                 page.say("argument ");
                 page.number(place as u64);
                 page.say(" of ");
-                page.bytes(name.text);
+                page.word(name.text);
             }
             Kind::Otherwise(place) => {
                 self.left_side(&mut page, place);
@@ -50,7 +50,7 @@ impl Texts<'_, '_> {
         let Some(Entry::Call(_, _, site, args)) = self.subject.journal.get(called.at) else {
             return;
         };
-        page.bytes(self.subject.answers.name(site).unwrap_or(b"?"));
+        page.word(self.subject.answers.name(site).unwrap_or(b"?"));
         page.say("(");
         let mut is_first = true;
         for value in args.as_slice() {
@@ -68,7 +68,7 @@ impl Texts<'_, '_> {
         let line = self.first_words(place);
         page.heed(&line);
         let shown = if line.len() > LONGEST { SHOWN } else { LONGEST };
-        for byte in line.as_str().as_bytes().iter().take(shown as usize) {
+        for byte in line.as_str().as_bytes().iter().take(shown) {
             page.byte(*byte);
         }
         if line.len() > LONGEST {

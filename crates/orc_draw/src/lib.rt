@@ -9,7 +9,7 @@
 mod fault;
 mod labels;
 mod legend;
-mod page;
+mod markup;
 mod picture;
 mod rows;
 mod scale;

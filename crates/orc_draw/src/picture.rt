@@ -2,12 +2,12 @@
 
 use crate::fault::DrawFault;
 use crate::labels::Texts;
-use crate::page::Page;
 use crate::rows::{Row, Rows};
 use crate::slots::Slots;
 use crate::story::{Event, Moment, Shown, Span, Story};
 use crate::{svg, text};
 use orc_journal::Journal;
+use orc_page::{Page, digits};
 use orc_rules::answers::Answers;
 use orc_rules::entry::State;
 use orc_rules::value::Value;
@@ -183,7 +183,7 @@ impl Publications {
         if self.count > FEW {
             digits(self.count).saturating_add(7)
         } else {
-            self.values.len()
+            self.values.len() as u64
         }
     }
 
@@ -217,12 +217,4 @@ fn publications_by_time(alloc: Global, events: &[Event]) -> Result<Vec<Publicati
         }
     }
     Ok(all)
-}
-
-/// How many digits a number has.
-pub(crate) fn digits(number: u64) -> u64 {
-    match number.checked_ilog10() {
-        Some(tens) => tens as u64 + 1,
-        None => 1,
-    }
 }

@@ -45,7 +45,7 @@ fn share(a: u64, b: u64, c: u64) -> u64 {
 }
 
 // How many binary digits a number has.
-fn digits(number: u64) -> u64 {
+fn bits(number: u64) -> u64 {
     64_u64.saturating_sub(number.leading_zeros() as u64)
 }
 
@@ -110,7 +110,7 @@ impl Scale {
         let is_true = are_alike(&gaps);
         if !is_true {
             for gap in gaps.iter_mut() {
-                *gap = digits(*gap).saturating_add(1);
+                *gap = bits(*gap).saturating_add(1);
             }
         }
         let slot = measure.slot(total);

@@ -8,7 +8,7 @@ use orc_rules::answers::Answers;
 use orc_rules::entry::Entry;
 use orc_rules::limits::MOST_ROWS;
 use orc_rules::value::{Args, Value};
-use orc_sketch::{Purpose, Shape, Sketch};
+use orc_sketch::{Purpose, Shape, Sketch, Trail, Way};
 use std::alloc::Global;
 use std::collections::HashMap;
 
@@ -88,54 +88,6 @@ pub(crate) struct Event {
     pub at: Moment,
 }
 
-// A token: the spot where it stands, the call that has answered its value, and its step.
-#[derive(Clone, Copy)]
-struct Token {
-    spot: Option<usize>,
-    answer: Option<usize>,
-    step: usize,
-}
-
-const NO_TOKEN: Token = Token {
-    spot: None,
-    answer: None,
-    step: 0,
-};
-
-// Where a step leads in: into the left side of a `>x>`, whose right side stands at a spot; into the right side of a pruning; into the left
-// or the right side of an otherwise.
-#[derive(Clone, Copy)]
-enum Way {
-    Feed(usize),
-    Aid(usize),
-    Try(usize),
-    Then(usize),
-}
-
-// A step inwards. Steps are counted from 1; 0 is the whole.
-#[derive(Clone, Copy)]
-struct Step {
-    way: Way,
-    outer: usize,
-    // The innermost step at or round it that is no `>x>`.
-    home: usize,
-}
-
-// A call that is out: its span where it is shown, and the step of its token.
-#[derive(Clone, Copy)]
-struct Out {
-    span: Option<usize>,
-    step: usize,
-}
-
-// An otherwise that was entered: its span, the spot of its right side, and the step round it.
-#[derive(Clone, Copy)]
-struct Entered {
-    span: usize,
-    right: usize,
-    outer: usize,
-}
-
 /// The story of a journal.
 pub(crate) struct Story<'a> {
     pub spans: Vec<Span<'a>>,
@@ -146,11 +98,11 @@ pub(crate) struct Story<'a> {
     calls: u64,
     is_whole: bool,
     counts: Counts,
-    steps: Vec<Step>,
-    tokens: HashMap<u64, Token>,
-    out: HashMap<u64, Out>,
+    trail: Trail,
+    // The spans of the calls that are shown, of the open prunings by their cells, and of the otherwises by their marks.
+    shown: HashMap<u64, usize>,
     cells: HashMap<u64, usize>,
-    others: HashMap<u64, Entered>,
+    others: HashMap<u64, usize>,
     // The spans that are still to be dropped.
     dropping: Vec<usize>,
     is_refused: bool,
@@ -166,9 +118,8 @@ impl Drop for Story<'_> {
             calls: _,
             is_whole: _,
             counts: _,
-            steps: _,
-            tokens: _,
-            out: _,
+            trail: _,
+            shown: _,
             cells: _,
             others: _,
             dropping: _,
@@ -195,9 +146,8 @@ impl<'a> Story<'a> {
             calls: 0,
             is_whole,
             counts: Counts::new(alloc),
-            steps: Vec::new(alloc),
-            tokens: HashMap::new(alloc),
-            out: HashMap::new(alloc),
+            trail: Trail::new(alloc, sketch)?,
+            shown: HashMap::new(alloc),
             cells: HashMap::new(alloc),
             others: HashMap::new(alloc),
             dropping: Vec::new(alloc),
@@ -213,7 +163,6 @@ impl<'a> Story<'a> {
         answers: &Answers,
         journal: &Journal,
     ) -> Result<(), DrawFault> {
-        self.put(1, Some(sketch.main()), 0);
         for at in 0..journal.len() {
             let Some(entry) = journal.get(at) else {
                 return Ok(());
@@ -229,6 +178,7 @@ impl<'a> Story<'a> {
             if self.is_refused {
                 return Err(DrawFault::Memory);
             }
+            self.trail.follow(sketch, &entry)?;
         }
         Ok(())
     }
@@ -240,104 +190,64 @@ impl<'a> Story<'a> {
         }
     }
 
-    // Any entry but a call.
+    // What is shown of an entry that is no call. Nothing is shown of the others.
     fn tell(&mut self, sketch: &Sketch<'a>, entry: &Entry, at: Moment) {
         match entry {
             Entry::Tick(time) => {
                 self.now = *time;
             }
-            Entry::Open(s, c, a, b) => self.open(sketch, *s, *c, *a, *b, at),
-            Entry::Other(s, a) => self.enter(sketch, *s, *a, at),
-            Entry::Return(k, a, value) => self.answer(*k, *a, *value, at),
-            Entry::ReturnHalt(k) => {
-                let call = self.out.remove(k);
-                self.close_call(call, End::Halted, at)
-            }
+            Entry::Open(s, c, _, _) => self.open(sketch, *s, *c, at),
+            Entry::Other(s, _) => self.enter(sketch, *s, at),
+            Entry::Send(s, _, _) => self.leave(self.step_of(*s), at),
+            Entry::Return(k, _, value) => self.close_call(*k, End::Answered(*value), at),
+            Entry::ReturnHalt(k) => self.close_call(*k, End::Halted, at),
             Entry::Bind(s, c, value) => self.bind(*s, *c, *value, at),
             Entry::Lost(c) => {
                 let span = self.cells.remove(c);
                 self.close(span, End::Lost, at)
             }
-            Entry::Right(s, a) => self.resume(*s, *a, at),
+            Entry::Right(s, _) => {
+                let span = self.others.get(s).copied();
+                self.close(span, End::Resumed, at)
+            }
             Entry::Publish(s, value) => {
-                let token = self.take(*s);
-                let _whole = self.leave(token.step, at);
+                self.leave(self.step_of(*s), at);
                 self.note(Shown::Publication(*value), at)
             }
             Entry::Cancel(k) => {
                 self.cancel(*k, at);
                 self.note(Shown::Cancel, at)
             }
-            _ => self.shift(sketch, entry, at),
-        }
-    }
-
-    // The moves of marks and what is like them: nothing of them is shown.
-    fn shift(&mut self, sketch: &Sketch<'a>, entry: &Entry, at: Moment) {
-        match entry {
-            Entry::Fork(s, a, b) => {
-                let token = self.take(*s);
-                if let Shape::Par(left, right) = shape_under(sketch, token) {
-                    self.put(*a, Some(left), token.step);
-                    self.put(*b, Some(right), token.step);
-                }
-            }
-            Entry::Seq(s, a) => {
-                let token = self.take(*s);
-                if let Shape::Seq(left, right) = shape_under(sketch, token) {
-                    let step = self.add_step(Way::Feed(right), token.step);
-                    self.put(*a, Some(left), step);
-                }
-            }
-            Entry::Def(s, a) => {
-                let token = self.take(*s);
-                if let Shape::Call(Some(definition)) = shape_under(sketch, token) {
-                    self.put(*a, Some(sketch.body(definition)), token.step);
-                }
-            }
-            Entry::Send(s, a, _) => {
-                let token = self.take(*s);
-                if let Some((right, outer)) = self.leave(token.step, at) {
-                    self.put(*a, Some(right), outer);
-                }
-            }
-            Entry::End(s) | Entry::Void(s) => {
-                let _gone = self.take(*s);
-            }
             _ => {}
         }
     }
 
-    fn call(&mut self, answers: &Answers, s: u64, k: u64, site: u32, args: &Args, at: usize) {
-        let step = self.take(s).step;
+    fn call(
+        &mut self,
+        answers: &Answers,
+        mark: u64,
+        number: u64,
+        site: u32,
+        args: &Args,
+        at: usize,
+    ) {
         let is_pause = answers
             .name(site)
             .is_some_and(|name| name == b"Rwait".as_slice());
         if !self.is_whole && !is_pause && !answers.is_scripted(site) {
             self.small = self.small.saturating_add(1);
-            let refused = self.out.insert(k, Out { span: None, step }).is_err();
-            self.heed(refused);
             return;
         }
         self.calls = self.calls.saturating_add(1);
         let moment = self.moment(at);
         let called = Called {
-            number: k,
+            number,
             at,
             due: self.due(answers, site, args),
             is_pause,
         };
-        let span = self.begin(Kind::Call(called), step, moment);
-        let refused = self
-            .out
-            .insert(
-                k,
-                Out {
-                    span: Some(span),
-                    step,
-                },
-            )
-            .is_err();
+        let span = self.begin(Kind::Call(called), self.step_of(mark), moment);
+        let refused = self.shown.insert(number, span).is_err();
         self.heed(refused);
         self.note(Shown::Span(span), moment)
     }
@@ -350,134 +260,76 @@ impl<'a> Story<'a> {
         due_time(found, self.now)
     }
 
-    fn answer(&mut self, k: u64, a: u64, value: Value, at: Moment) {
-        let call = self.out.remove(&k);
-        if let Some(out) = call {
-            let token = Token {
-                spot: None,
-                answer: out.span,
-                step: out.step,
-            };
-            let refused = self.tokens.insert(a, token).is_err();
+    fn open(&mut self, sketch: &Sketch<'a>, mark: u64, cell: u64, at: Moment) {
+        if let Shape::Prune(_, _, purpose) = self.trail.shape(sketch, mark) {
+            let span = self.begin(Kind::Pruning(purpose), self.step_of(mark), at);
+            let refused = self.cells.insert(cell, span).is_err();
             self.heed(refused);
         }
-        self.close_call(call, End::Answered(value), at)
     }
 
-    fn open(&mut self, sketch: &Sketch<'a>, s: u64, c: u64, a: u64, b: u64, at: Moment) {
-        let token = self.take(s);
-        if let Shape::Prune(left, right, purpose) = shape_under(sketch, token) {
-            let span = self.begin(Kind::Pruning(purpose), token.step, at);
-            let refused = self.cells.insert(c, span).is_err();
+    fn enter(&mut self, sketch: &Sketch<'a>, mark: u64, at: Moment) {
+        if let Shape::Other(_, _, place) = self.trail.shape(sketch, mark) {
+            let span = self.begin(Kind::Otherwise(place), self.step_of(mark), at);
+            let refused = self.others.insert(mark, span).is_err();
             self.heed(refused);
-            let step = self.add_step(Way::Aid(span), token.step);
-            self.put(a, Some(left), token.step);
-            self.put(b, Some(right), step);
         }
     }
 
-    fn enter(&mut self, sketch: &Sketch<'a>, s: u64, a: u64, at: Moment) {
-        let token = self.take(s);
-        if let Shape::Other(left, right, place) = shape_under(sketch, token) {
-            let span = self.begin(Kind::Otherwise(place), token.step, at);
-            let entered = Entered {
-                span,
-                right,
-                outer: token.step,
-            };
-            let refused = self.others.insert(s, entered).is_err();
-            self.heed(refused);
-            let step = self.add_step(Way::Try(span), token.step);
-            self.put(a, Some(left), step);
-        }
-    }
-
-    // The left side of an otherwise has halted: a token stands on the right one.
-    fn resume(&mut self, s: u64, a: u64, at: Moment) {
-        if let Some(entered) = self.others.remove(&s) {
-            self.close(Some(entered.span), End::Resumed, at);
-            let step = self.add_step(Way::Then(entered.span), entered.outer);
-            self.put(a, Some(entered.right), step);
-        }
-    }
-
-    fn bind(&mut self, s: u64, c: u64, value: Value, at: Moment) {
-        let token = self.take(s);
-        let _cell = self.leave(token.step, at);
-        let span = self.cells.remove(&c);
-        self.close(span, End::Bound(value, token.answer), at)
+    fn bind(&mut self, mark: u64, cell: u64, value: Value, at: Moment) {
+        self.leave(self.step_of(mark), at);
+        let answered = self.trail.token(mark).and_then(|token| token.call);
+        let answer = answered.and_then(|call| self.shown.get(&call).copied());
+        let span = self.cells.remove(&cell);
+        self.close(span, End::Bound(value, answer), at)
     }
 
     // A call that was dropped: where cancels are recorded, at the entry of its cancel.
-    fn cancel(&mut self, k: u64, at: Moment) {
-        if let Some(
-            Out {
-                span: Some(span),
-                ..
-            },
-        ) = self.out.remove(&k)
-        {
+    fn cancel(&mut self, call: u64, at: Moment) {
+        if let Some(span) = self.shown.get(&call).copied() {
             self.set_end(span, End::Cancelled, at);
         }
     }
 
-    // ---- tokens and steps
+    // ---- steps
 
-    fn put(&mut self, mark: u64, spot: Option<usize>, step: usize) {
-        let token = Token {
-            spot,
-            answer: None,
-            step,
-        };
-        let refused = self.tokens.insert(mark, token).is_err();
-        self.heed(refused);
+    fn step_of(&self, mark: u64) -> usize {
+        self.trail.token(mark).map_or(0, |token| token.step)
     }
 
-    fn take(&mut self, mark: u64) -> Token {
-        self.tokens.remove(&mark).unwrap_or(NO_TOKEN)
-    }
-
-    fn step(&self, number: usize) -> Option<Step> {
-        self.steps.get(number.checked_sub(1)?).copied()
-    }
-
-    fn add_step(&mut self, way: Way, outer: usize) -> usize {
-        let number = self.steps.len().saturating_add(1);
-        let home = match way {
-            Way::Feed(_) => self.step(outer).map_or(0, |step| step.home),
-            _ => number,
-        };
-        let refused = self.steps.push(Step { way, outer, home }).is_err();
-        self.heed(refused);
-        number
-    }
-
-    // What is published from a step goes outwards to the nearest `>x>` or pruning: the spot of the right side of the `>x>` and the step round
-    // it. A value comes out of each left side of an otherwise on the way.
-    fn leave(&mut self, from: usize, at: Moment) -> Option<(usize, usize)> {
+    // What is published from a step goes outwards to the nearest `>x>` or pruning. A value comes out of each left side of an otherwise on the way.
+    fn leave(&mut self, from: usize, at: Moment) {
         let mut number = from;
-        for _step in 0..self.steps.len() {
-            let step = self.step(number)?;
+        for _step in 0..self.trail.steps().len() {
+            let Some(step) = self.trail.step(number) else {
+                return;
+            };
             match step.way {
-                Way::Feed(right) => return Some((right, step.outer)),
-                Way::Aid(_) => return None,
+                Way::Feed(_) | Way::Aid(_) => return,
                 Way::Then(_) => {}
-                Way::Try(span) => self.set_first_end(span, End::Left, at),
+                Way::Try(mark) => {
+                    if let Some(span) = self.others.get(&mark).copied() {
+                        self.set_first_end(span, End::Left, at);
+                    }
+                }
             }
             number = step.outer;
         }
-        None
     }
 
     // The span in which a step stands: an otherwise that a value has left is none.
     fn span_round(&self, from: usize) -> Option<usize> {
         let mut number = from;
-        for _step in 0..self.steps.len() {
-            let home = self.step(self.step(number)?.home)?;
-            match home.way {
-                Way::Aid(span) | Way::Then(span) => return Some(span),
-                Way::Try(span) if !self.is_left(span) => return Some(span),
-                _ => number = home.outer,
+        for _step in 0..self.trail.steps().len() {
+            let home = self.trail.step(self.trail.step(number)?.home)?;
+            let span = match home.way {
+                Way::Aid(cell) => self.cells.get(&cell).copied(),
+                Way::Try(mark) | Way::Then(mark) => self.others.get(&mark).copied(),
+                Way::Feed(_) => None,
+            };
+            match (home.way, span) {
+                (Way::Try(_), Some(span)) if self.is_left(span) => number = home.outer,
+                _ => return span,
             }
         }
         None
@@ -550,14 +402,8 @@ impl<'a> Story<'a> {
         self.heed(refused);
     }
 
-    fn close_call(&mut self, call: Option<Out>, end: End, at: Moment) {
-        if let Some(
-            Out {
-                span: Some(span),
-                ..
-            },
-        ) = call
-        {
+    fn close_call(&mut self, call: u64, end: End, at: Moment) {
+        if let Some(span) = self.shown.get(&call).copied() {
             self.set_end(span, end, at);
             self.note(Shown::Span(span), at);
         }
@@ -612,12 +458,5 @@ impl<'a> Story<'a> {
         let before = dropped.before;
         dropped.before = None;
         before
-    }
-}
-
-fn shape_under<'a>(sketch: &Sketch<'a>, token: Token) -> Shape<'a> {
-    match token.spot {
-        Some(spot) => sketch.shape(spot),
-        None => Shape::Leaf,
     }
 }

@@ -1,13 +1,14 @@
 //! A picture as SVG.
 
 use crate::legend::Legend;
-use crate::page::Page;
+use crate::markup::Markup;
 use crate::picture::{Picture, Publications, Theme};
 use crate::rows::Row;
 use crate::scale::{Measure, PARTS, Scale};
 use crate::story::{Called, End, Kind, Moment, Shown, Span};
 use crate::style::{DARK, FAMILY, LIGHT};
 use crate::text::{say_end, say_fate};
+use orc_page::{Page, digits};
 use std::alloc::{AllocError, Global};
 
 // In pixels: the top of the plot and of the first row, and the line of the publications.
@@ -288,7 +289,7 @@ impl<'a> Sheet<'a> {
                 );
             }
             let middle = begin.saturating_add(width / 2);
-            let letters = crate::picture::digits(instant.time);
+            let letters = digits(instant.time);
             if last == 0
                 || middle
                     > last.saturating_add(pixels(letters.saturating_mul(7).saturating_add(12)))

@@ -1,10 +1,10 @@
 //! A picture as rows of text.
 
-use crate::page::Page;
-use crate::picture::{Picture, digits};
+use crate::picture::Picture;
 use crate::rows::Row;
 use crate::scale::{Measure, PARTS, Scale};
 use crate::story::{Called, End, Kind, Moment, Span};
+use orc_page::{Page, digits};
 use std::alloc::{AllocError, Global};
 
 // The widest label, and the columns that belong to no label, number or plot: blanks between them, and what stands behind a bar.
@@ -103,7 +103,7 @@ impl<'a> Columns<'a> {
     }
 
     fn title(&self, page: &mut Page) {
-        page.bytes(self.picture.name.as_bytes());
+        page.path(self.picture.name);
         page.say(": ");
         page.say(self.picture.summary.as_str());
         page.say("\n")
@@ -214,10 +214,10 @@ impl<'a> Columns<'a> {
         };
         page.fill(' ', begin);
         if end > begin {
-            page.fill(stroke.first, 1);
+            page.sign(stroke.first);
             page.fill(stroke.fill, end.saturating_sub(begin).saturating_sub(1));
         }
-        page.fill(stroke.last, 1);
+        page.sign(stroke.last);
         page.say(" ")
     }
 

@@ -1,5 +1,7 @@
 //! A line of a text, with carets under a part of it.
 
+ghost use Rattle.std.specs.Prelude.{◌≤◌, ◌<◌, ◌^◌, ◌-◌};
+
 use crate::document::Document;
 use crate::page::Page;
 use crate::place::{begins_character, characters, place_of};
@@ -31,18 +33,16 @@ pub fn left_out(column: u64) -> u64 {
     column.saturating_sub(BEFORE).saturating_sub(1)
 }
 
-// How many digits a number has.
-fn digits(number: u64) -> u64 {
-    let mut rest = number;
-    let mut digits: u64 = 1;
-    for _digit in 0..20 {
-        rest /= 10;
-        if rest == 0 {
-            return digits;
-        }
-        digits = digits.saturating_add(1);
+/// How many decimal digits a number has.
+pub fn digits(number: u64) -> u64
+    ensures some { 1 ≤ result }
+    ensures most { number < 10 ^ result }
+    ensures least { 1 < result → 10 ^ (result - 1) ≤ number }
+{
+    match number.checked_ilog10() {
+        Some(tens) => tens as u64 + 1,
+        None => 1,
     }
-    digits
 }
 
 impl Page {

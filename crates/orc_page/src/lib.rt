@@ -10,6 +10,6 @@ mod page;
 mod place;
 
 pub use document::Document;
-pub use frame::left_out;
+pub use frame::{digits, left_out};
 pub use page::Page;
 pub use place::{Place, begins_character, place_of};

@@ -1,5 +1,7 @@
 //! A text that is written piece by piece.
 
+ghost use Rattle.std.specs.Prelude.{◌≡◌, true, false};
+
 use orc_rules::value::Value;
 use std::alloc::{AllocError, Global};
 use std::fmt;
@@ -66,7 +68,18 @@ impl Page {
         }
     }
 
-    fn sign(&mut self, sign: char) {
+    /// Where memory for a part of another text was refused, this one isn't given out either.
+    pub fn heed(&mut self, other: &Page)
+        ensures refused { other.now.is_refused ≡ true → self.new.is_refused ≡ true }
+        ensures kept { other.now.is_refused ≡ false → self.new ≡ self.old }
+    {
+        if other.is_refused {
+            self.is_refused = true;
+        }
+    }
+
+    /// A sign as it stands.
+    pub fn sign(&mut self, sign: char) {
         if !self.is_refused {
             self.is_refused = self.text.push(sign).is_err();
         }
@@ -81,6 +94,19 @@ impl Page {
     /// A number in decimal.
     pub fn number(&mut self, number: u64) {
         self.print(number);
+    }
+
+    /// A number below a million, with a comma behind its thousands.
+    pub fn grouped(&mut self, number: u64) {
+        if number < 1_000 {
+            return self.number(number);
+        }
+        self.number(number / 1_000);
+        self.say(",");
+        let units = number % 1_000;
+        self.number(units / 100);
+        self.number(units / 10 % 10);
+        self.number(units % 10);
     }
 
     /// A value as programs write it.
