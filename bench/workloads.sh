@@ -38,7 +38,7 @@ def clock(n) = Lt(0, n) >more> Ift(more) >> Rwait(1) >> Sub(n, 1) >m> clock(m)
 (fan(COUNT, x) | clock(20000)) <x< (Rwait(30000) >> 1)'
 
 pipes='def values(n) = Lt(0, n) >b> Ift(b) >> (n | Sub(n, 1) >m> values(m))
-def pipe() = values(100) >x> Add(x, 1) >y> Mul(y, 2) >z> Sub(z, 1)
+def pipe() = values(100) >x> Add(x, 1) >y> Add(y, y) >z> Sub(z, 1)
 def pipes(n) = Lt(0, n) >b> (Iff(b) >> pipe() | Ift(b) >> Sub(n, 1) >m> (pipes(m) | pipes(m)))
 pipes(COUNT)'
 

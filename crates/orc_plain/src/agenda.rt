@@ -1,10 +1,10 @@
 //! What can come next in a run: the tokens that can move, in the order of their turns, and the calls by their due times.
 
-use orc_checker::{Marked, Next, Side};
+use orc_checker::{Marked, Side};
+use orc_moves::{numbers_of, return_entry, side_entry, token_entry};
 use orc_rules::entry::Entry;
 use orc_rules::limits::MOST_ARGUMENTS;
 use orc_rules::program::Program;
-use orc_rules::value::Answer;
 use std::alloc::{AllocError, Global};
 use std::cmp::Reverse;
 use std::collections::{BTreeMap, BinaryHeap, VecDeque};
@@ -59,14 +59,12 @@ impl Agenda {
             let Some(turn) = self.tokens.pop_front() else {
                 break;
             };
-            match marked.next(program, turn.token) {
-                None => {}
-                Some(Next::Wait) => {
-                    if !turn.listed {
-                        self.wait(program, marked, turn.token)?;
-                    }
+            if let Some(next) = marked.next(program, turn.token) {
+                match token_entry(marked, turn.token, next) {
+                    Some(entry) => return Ok(Choice::Entry(entry)),
+                    None if turn.listed => {}
+                    None => self.wait(program, marked, turn.token)?,
                 }
-                Some(next) => return Ok(Choice::Entry(token_entry(marked, turn.token, next))),
             }
         }
         match self.choose_side(marked) {
@@ -79,8 +77,8 @@ impl Agenda {
     fn choose_side(&mut self, marked: &Marked) -> Option<Entry> {
         for _ in 0..self.halted.len() {
             let side = self.halted.pop_front()?;
-            if has_halted(marked, side) {
-                return Some(side_entry(marked, side));
+            if let Some(entry) = side_entry(marked, side) {
+                return Some(entry);
             }
         }
         None
@@ -128,31 +126,22 @@ impl Agenda {
     /// Takes note of what an entry has made: sides that have halted, new tokens, a call, or tokens that wait no more.
     pub fn note(&mut self, entry: &Entry, marked: &Marked) -> Result<(), AllocError> {
         marked.add_halted(entry, &mut self.halted)?;
-        match entry {
-            Entry::Open(_, _, a, b) | Entry::Fork(_, a, b) => {
-                self.join(*a)?;
-                self.join(*b)?;
-            }
-            Entry::Other(_, a)
-            | Entry::Seq(_, a)
-            | Entry::Def(_, a)
-            | Entry::Send(_, a, _)
-            | Entry::Return(_, a, _)
-            | Entry::Right(_, a) => self.join(*a)?,
-            Entry::Call(_, call, _, _) => {
-                if let Some((_, at)) = marked.due(*call) {
-                    self.due.push(Reverse((at, *call)))?;
-                }
-            }
-            Entry::Bind(_, cell, _) | Entry::Lost(cell) => self.wake(*cell)?,
-            Entry::End(_)
-            | Entry::Void(_)
-            | Entry::ReturnHalt(_)
-            | Entry::Publish(_, _)
-            | Entry::Tick(_)
-            | Entry::Cancel(_) => {}
+        let new = numbers_of(entry);
+        if let Some(mark) = new.mark {
+            self.join(mark)?;
         }
-        Ok(())
+        if let Some(second) = new.second {
+            self.join(second)?;
+        }
+        if let Some(call) = new.call {
+            if let Some((_, at)) = marked.due(call) {
+                self.due.push(Reverse((at, call)))?;
+            }
+        }
+        match entry {
+            Entry::Bind(_, cell, _) | Entry::Lost(cell) => self.wake(*cell),
+            _ => Ok(()),
+        }
     }
 
     // The tokens that waited for a cell can move.
@@ -166,48 +155,5 @@ impl Agenda {
             }
         }
         Ok(())
-    }
-}
-
-// Whether a side stands and has halted.
-fn has_halted(marked: &Marked, side: Side) -> bool {
-    let halted = match side {
-        Side::Right(cell) => marked.right_has_halted(cell),
-        Side::Left(otherwise) => marked.left_has_halted(otherwise),
-    };
-    halted == Some(true)
-}
-
-// The entry that a halted side makes possible.
-fn side_entry(marked: &Marked, side: Side) -> Entry {
-    match side {
-        Side::Right(cell) => Entry::Lost(cell),
-        Side::Left(otherwise) => Entry::Right(otherwise, marked.new_mark()),
-    }
-}
-
-// The entry of a token's next move, with the next numbers.
-fn token_entry(marked: &Marked, token: u64, next: Next) -> Entry {
-    let mark = marked.new_mark();
-    match next {
-        Next::End => Entry::End(token),
-        Next::Fork => Entry::Fork(token, mark, mark.saturating_add(1)),
-        Next::Seq => Entry::Seq(token, mark),
-        Next::Other => Entry::Other(token, mark),
-        Next::Def => Entry::Def(token, mark),
-        Next::Void | Next::Wait => Entry::Void(token),
-        Next::Open => Entry::Open(token, marked.new_cell(), mark, mark.saturating_add(1)),
-        Next::Send(value) => Entry::Send(token, mark, value),
-        Next::Call(site, args) => Entry::Call(token, marked.new_call(), site, args),
-        Next::Bind(cell, value) => Entry::Bind(token, cell, value),
-        Next::Publish(value) => Entry::Publish(token, value),
-    }
-}
-
-// The entry of a call's return.
-fn return_entry(marked: &Marked, call: u64, answer: Answer) -> Entry {
-    match answer {
-        Answer::Value(value) => Entry::Return(call, marked.new_mark(), value),
-        Answer::Halt => Entry::ReturnHalt(call),
     }
 }
