@@ -5,9 +5,9 @@ use Rattle.orc_ledger.specs.Records.{Records}
 use Rattle.orc_ledger.specs.Moves.{Does, Moves}
 use Rattle.orc_ledger.specs.Doing.{what_of}
 use Rattle.orc_ledger.specs.declared.moves.Moved.TheVariants as moved
-use Rattle.orc_ledger.specs.declared.records.Token.{Token}
-use Rattle.orc_ledger.specs.declared.what.What.{What}
-use Rattle.orc_ledger.specs.declared.what.What.TheVariants.{Halt, Fork, Seq, Prune, Other, Def, Void, Publish, Send, Bind, Call, Wait}
+use Rattle.orc_tables.specs.declared.records.Token.{Token}
+use Rattle.orc_paths.specs.declared.what.What.{What}
+use Rattle.orc_paths.specs.declared.what.What.TheVariants.{Halt, Fork, Seq, Prune, Other, Def, Void, Publish, Send, Bind, Call, Wait}
 
 calls_by : (l : Listing) (s : Records) (slot : ℕ) (t : Token) (s' : Records) (ks : List ℕ) (w : What) → Does l s slot t s' ks w moved.Calls → (w ≡ Call) × (s' ≡ s)
 calls_by l s slot t s' ks Halt h = absurd h

@@ -5,7 +5,7 @@ ghost use Rattle.orc_outcome.specs.Outcome.{IsPlayed};
 ghost use Rattle.orc_engine.specs.Ends.{HasEnded};
 ghost use Rattle.orc_rules.specs.Nodes.{code, definitions};
 ghost use Rattle.orc_ledger.specs.Doing.{what_of};
-ghost use Rattle.orc_ledger.specs.Tokens.{IsHeld};
+ghost use Rattle.orc_tables.specs.Tokens.{IsHeld};
 
 use crate::fault::EngineFault;
 use crate::quiet::is_quiet_at;

@@ -14,27 +14,29 @@ use Rattle.orc_names.specs.declared.names.Scope.{Scope}
 use Rattle.orc_names.specs.Names.{AreOrdered, IsFree}
 use Rattle.orc_names.specs.Scopes.{env_of, close, close_param}
 use Rattle.orc_names.proofs.Scopes.{close-of-param, close-site}
-use Rattle.orc_ledger.specs.Spelling.{Path}
-use Rattle.orc_ledger.specs.Records.{Records, Sound, its_env, its_path, standing, token_out, step_out, is_out, entered_out}
-use Rattle.orc_ledger.specs.Taking.{taker, IsEntered}
-use Rattle.orc_ledger.specs.Doing.{taken, of_param, what_site, what_def, what_by, what_of, scan, closed, term_of, Allows}
-use Rattle.orc_ledger.specs.declared.taking.Taker.{Taker}
-use Rattle.orc_ledger.specs.declared.taking.Taker.TheVariants as by
+use Rattle.orc_paths.specs.Spelling.{Path}
+use Rattle.orc_ledger.specs.Records.{Records, Sound, its_env, its_path, token_out}
+use Rattle.orc_paths.specs.Paths.{standing, step_out, is_out, entered_out}
+use Rattle.orc_paths.specs.Taking.{taker, IsEntered}
+use Rattle.orc_paths.specs.Doing.{taken, of_param, what_site, what_def, what_by, scan, closed, Allows}
+use Rattle.orc_ledger.specs.Doing.{what_of, term_of}
+use Rattle.orc_paths.specs.declared.taking.Taker.{Taker}
+use Rattle.orc_paths.specs.declared.taking.Taker.TheVariants as by
 use Rattle.orc_ledger.specs.Moves.{StandsAt, IsThere, Does, Moves, Hinders, IsHindered}
-use Rattle.orc_ledger.specs.declared.what.What.{What}
-use Rattle.orc_ledger.specs.declared.what.What.TheVariants.{Halt, Fork, Seq, Prune, Other, Void, Call, Wait}
+use Rattle.orc_paths.specs.declared.what.What.{What}
+use Rattle.orc_paths.specs.declared.what.What.TheVariants.{Halt, Fork, Seq, Prune, Other, Void, Call, Wait}
 use Rattle.orc_ledger.specs.declared.ledger.LedgerFault.{LedgerFault}
 use Rattle.orc_ledger.specs.declared.moves.Moved.{Moved}
-use Rattle.orc_ledger.specs.declared.records.Standing.{Standing}
-use Rattle.orc_ledger.specs.declared.records.Standing.TheVariants.{At}
-use Rattle.orc_ledger.specs.declared.records.Token.{Token}
+use Rattle.orc_tables.specs.declared.records.Standing.{Standing}
+use Rattle.orc_tables.specs.declared.records.Standing.TheVariants.{At}
+use Rattle.orc_tables.specs.declared.records.Token.{Token}
 use Rattle.std.proofs.lemmas.Bool.{ltb-false}
-use Rattle.orc_ledger.proofs.Growth.{or_false}
-use Rattle.orc_ledger.proofs.Weight.{none-in}
+use Rattle.orc_paths.proofs.Growth.{or_false}
+use Rattle.orc_tables.proofs.Weight.{none-in}
 use Rattle.orc_ledger.proofs.Closed.{none-got}
 use Rattle.orc_rules.specs.Timed.{IsIn}
-use Rattle.orc_ledger.proofs.Forms.{scan-is, at-stop, at-site, at-call, at-par, at-seq, at-prune, at-other}
-use Rattle.orc_ledger.proofs.Meaning.{taken-taker, means, says}
+use Rattle.orc_paths.proofs.Forms.{scan-is, at-stop, at-site, at-call, at-par, at-seq, at-prune, at-other}
+use Rattle.orc_paths.proofs.Meaning.{taken-taker, means, says}
 
 module _ (l : Listing) (s : Records) (t : Token) where
   abbrev word : What

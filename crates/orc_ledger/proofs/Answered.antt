@@ -12,7 +12,7 @@ use Rattle.orc_calls.specs.Due.{DueNow, IsNotDue}
 use Rattle.orc_ledger.specs.Records.{Records, context}
 use Rattle.orc_ledger.specs.Kept.{Kept}
 use Rattle.orc_ledger.specs.Answers.{IsAt, IsDueNow, MayTick}
-use Rattle.orc_ledger.specs.declared.records.Call.{Call}
+use Rattle.orc_tables.specs.declared.records.Call.{Call}
 use Rattle.orc_ledger.proofs.Keeping.{journal_one, told-due}
 
 -- what isn't due isn't due

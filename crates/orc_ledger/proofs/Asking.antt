@@ -14,21 +14,22 @@ use Rattle.orc_rules.specs.Marked.{Marked, ended, token, in_call, Replaces, here
 use Rattle.orc_rules.specs.Timed.{IsIn, IsDue, CallMade, nth_of}
 use Rattle.orc_rules.specs.Journal.{Place, Leads, Journal, begin}
 use Rattle.orc_names.specs.Scopes.{close, env_of}
-use Rattle.orc_ledger.specs.Same.{weight, only, None}
-use Rattle.orc_ledger.specs.Spelling.{Path, whole, Row, stands, pends, Numbered, right_of, left_of, marks, sides, seen}
-use Rattle.orc_ledger.specs.Records.{Records, Lawful, context, its_env, its_path, path, rows_of, sides_of, token_row, call_row, side_at, group_side, is_over, has_left, standing, is_out, token_out, call_out, step_out, has_serial, counts, is_written}
+use Rattle.orc_tables.specs.Same.{weight, only, None}
+use Rattle.orc_paths.specs.Spelling.{Path, whole, Row, stands, pends, Numbered, right_of, left_of, marks, sides, seen}
+use Rattle.orc_ledger.specs.Records.{Records, Lawful, context, its_env, its_path, rows_of, sides_of, token_row, call_row, side_at, group_side, is_over, token_out, call_out, has_serial, counts, is_written}
+use Rattle.orc_paths.specs.Paths.{path, has_left, standing, is_out, step_out}
 use Rattle.orc_ledger.specs.Calls.{Exchanges}
-use Rattle.orc_ledger.specs.declared.records.Standing.TheVariants.{On}
-use Rattle.orc_ledger.specs.declared.records.Token.{Token}
-use Rattle.orc_ledger.specs.declared.records.Call.{Call}
-use Rattle.orc_ledger.specs.declared.records.Side.{Side}
-use Rattle.orc_ledger.specs.declared.records.Side.TheVariants.{Right, Left}
+use Rattle.orc_tables.specs.declared.records.Standing.TheVariants.{On}
+use Rattle.orc_tables.specs.declared.records.Token.{Token}
+use Rattle.orc_tables.specs.declared.records.Call.{Call}
+use Rattle.orc_tables.specs.declared.records.Side.{Side}
+use Rattle.orc_tables.specs.declared.records.Side.TheVariants.{Right, Left}
 use Rattle.orc_ledger.proofs.Written.{written-more, written-last}
-use Rattle.orc_ledger.proofs.Weight.{weight-append, weight-map, weight-filter, weight-same, none-weaker, none-in, either_one}
-use Rattle.orc_ledger.proofs.Around.{Found, plug, path_of, path_in, unit, cells_of, replaced, marks-plug, sides-plug}
+use Rattle.orc_tables.proofs.Weight.{weight-append, weight-map, weight-filter, weight-same, none-weaker, none-in, either_one}
+use Rattle.orc_paths.proofs.Around.{Found, plug, path_of, path_in, unit, cells_of, replaced, marks-plug, sides-plug}
 use Rattle.orc_ledger.proofs.Lists.{token_found, call_found}
 use Rattle.orc_ledger.proofs.Binding.{journal_more}
-use Rattle.orc_ledger.proofs.Growth.{or_false}
+use Rattle.orc_paths.proofs.Growth.{or_false}
 use Rattle.orc_ledger.proofs.Leaves.{later_one}
 use Rattle.orc_ledger.proofs.Sound.{none-tries, entered_less}
 

@@ -9,23 +9,23 @@ use Rattle.orc_rules.specs.Nodes.{Listing}
 use Rattle.orc_rules.specs.Sites.{Site}
 use Rattle.orc_rules.specs.Timed.{IsIn}
 use Rattle.orc_calls.specs.Due.{DueNow}
-use Rattle.orc_ledger.specs.Same.{weight}
-use Rattle.orc_ledger.specs.Records.{Records, group_at}
+use Rattle.orc_tables.specs.Same.{weight, is_this}
+use Rattle.orc_ledger.specs.Records.{Records}
+use Rattle.orc_tables.specs.Steps.{group_at}
 use Rattle.orc_ledger.specs.Calls.{Exchanges}
 use Rattle.orc_ledger.specs.Kept.{Kept}
-use Rattle.orc_ledger.specs.Next.{is_this}
-use Rattle.orc_ledger.specs.OpenGroups.{size_of}
-use Rattle.orc_ledger.specs.Tokens.{live, IsHeld}
-use Rattle.orc_ledger.specs.declared.records.Standing.TheVariants.{At, On}
-use Rattle.orc_ledger.specs.declared.records.Token.{Token}
-use Rattle.orc_ledger.specs.declared.records.Call.{Call}
+use Rattle.orc_tables.specs.OpenGroups.{size_of}
+use Rattle.orc_tables.specs.Tokens.{live, IsHeld}
+use Rattle.orc_tables.specs.declared.records.Standing.TheVariants.{At, On}
+use Rattle.orc_tables.specs.declared.records.Token.{Token}
+use Rattle.orc_tables.specs.declared.records.Call.{Call}
 use Rattle.orc_ledger.proofs.Answered.{due-there}
 use Rattle.orc_ledger.proofs.Asking.{return-lawful, return_halt-lawful}
 use Rattle.orc_ledger.proofs.Calling.{returns-told}
 use Rattle.orc_ledger.proofs.Grouped.{returned-grouped, halted-grouped}
 use Rattle.orc_ledger.proofs.Keeping.{counted-kept}
 use Rattle.orc_ledger.proofs.Sizes.{exchanged-members}
-use Rattle.orc_ledger.proofs.Slots.{removed, replaced}
+use Rattle.orc_tables.proofs.Slots.{removed, replaced}
 
 -- what stands in a slot that is free
 abbrev pub nobody : Token

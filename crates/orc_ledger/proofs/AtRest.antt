@@ -14,28 +14,30 @@ use Rattle.orc_names.specs.declared.names.Bound.{Bound}
 use Rattle.orc_names.specs.declared.names.Bound.TheVariants as bound
 use Rattle.orc_names.specs.declared.names.Scope.{Scope}
 use Rattle.orc_names.specs.Scopes.{current, env_of, given}
-use Rattle.orc_ledger.specs.Same.{weight}
-use Rattle.orc_ledger.specs.Spelling.{Path, whole, feeding, aiding, trying, Row, stands, pends}
-use Rattle.orc_ledger.specs.Records.{Records, Sound, Lawful, token_row, token_out, its_env, its_path, has_left, standing, is_settled}
+use Rattle.orc_tables.specs.Same.{weight}
+use Rattle.orc_paths.specs.Spelling.{Path, whole, feeding, aiding, trying, Row, stands, pends}
+use Rattle.orc_ledger.specs.Records.{Records, Sound, Lawful, token_row, token_out, its_env, its_path, is_settled}
+use Rattle.orc_paths.specs.Paths.{has_left, standing}
 use Rattle.orc_ledger.specs.Calls.{Turns, Crosses, Drops}
-use Rattle.orc_ledger.specs.Doing.{taken, what_by, term_of, is_wait}
-use Rattle.orc_ledger.specs.Awaiting.{cells_among, cells_of}
+use Rattle.orc_paths.specs.Doing.{taken, what_by, is_wait}
+use Rattle.orc_ledger.specs.Doing.{term_of}
+use Rattle.orc_paths.specs.Awaiting.{cells_among, cells_of}
 use Rattle.orc_ledger.specs.Next.{ready, ready_one}
-use Rattle.orc_ledger.specs.Parking.{Parked, is_set, IsNoted}
-use Rattle.orc_ledger.specs.Tokens.{Slots, live, is_live, IsHeld, IsParked, StayParked, StayBut, StayWith}
+use Rattle.orc_tables.specs.Parking.{Parked, is_set, IsNoted}
+use Rattle.orc_tables.specs.Tokens.{Slots, live, is_live, IsHeld, IsParked, StayParked, StayBut, StayWith}
 use Rattle.orc_ledger.specs.AtRest.{waits, IsAtRest, AreAtRest}
-use Rattle.orc_ledger.specs.declared.records.Token.{Token}
-use Rattle.orc_ledger.specs.declared.records.Step.{Step}
-use Rattle.orc_ledger.specs.declared.records.Side.TheVariants.{Right}
-use Rattle.orc_ledger.specs.declared.records.Group.{Group}
-use Rattle.orc_ledger.proofs.Weight.{none-in}
+use Rattle.orc_tables.specs.declared.records.Token.{Token}
+use Rattle.orc_tables.specs.declared.records.Step.{Step}
+use Rattle.orc_tables.specs.declared.records.Side.TheVariants.{Right}
+use Rattle.orc_tables.specs.declared.records.Group.{Group}
+use Rattle.orc_tables.proofs.Weight.{none-in}
 use Rattle.orc_ledger.proofs.Cells.{own_cell}
-use Rattle.orc_ledger.proofs.Crossing.{cross_row, cross_rows}
+use Rattle.orc_paths.proofs.Crossing.{cross_row, cross_rows}
 use Rattle.orc_ledger.proofs.Turning.{row_same}
 use Rattle.orc_ledger.proofs.Publishing.{row_crossed}
 use Rattle.orc_ledger.proofs.Dropping.{filled_so, stay}
 use Rattle.orc_ledger.proofs.Filled.{standing-fill}
-use Rattle.orc_ledger.proofs.Settling.{has_arg, names_cell, args_stay, any_stays}
+use Rattle.orc_paths.proofs.Settling.{has_arg, names_cell, args_stay, any_stays}
 
 -- ---- terms
 

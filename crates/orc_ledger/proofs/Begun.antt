@@ -7,17 +7,17 @@ use Rattle.orc_rules.specs.Sites.{Site}
 use Rattle.orc_rules.specs.Journal.{begin}
 use Rattle.orc_rules.specs.Timed.{IsIn}
 use Rattle.orc_names.specs.declared.names.Bound.TheVariants as bound
-use Rattle.orc_ledger.specs.Records.{Records, Lawful, group_at}
+use Rattle.orc_ledger.specs.Records.{Records, Lawful}
+use Rattle.orc_tables.specs.Steps.{group_at}
 use Rattle.orc_ledger.specs.Homes.{home, home_by, Nest, AreNests}
 use Rattle.orc_ledger.specs.Next.{AreGrouped, IsSide, opens, numbers_of}
 use Rattle.orc_ledger.specs.Begun.{begun}
-use Rattle.orc_ledger.specs.Told.{AreTold}
-use Rattle.orc_ledger.specs.declared.records.Standing.TheVariants.{At}
-use Rattle.orc_ledger.specs.declared.records.Token.{Token}
-use Rattle.orc_ledger.specs.declared.records.Entered.TheVariants.{Aid}
-use Rattle.orc_ledger.specs.declared.records.Step.{Step}
-use Rattle.orc_ledger.specs.declared.records.Side.TheVariants.{Right}
-use Rattle.orc_ledger.specs.declared.records.Group.{Group}
+use Rattle.orc_tables.specs.declared.records.Standing.TheVariants.{At}
+use Rattle.orc_tables.specs.declared.records.Token.{Token}
+use Rattle.orc_tables.specs.declared.records.Entered.TheVariants.{Aid}
+use Rattle.orc_tables.specs.declared.records.Step.{Step}
+use Rattle.orc_tables.specs.declared.records.Side.TheVariants.{Right}
+use Rattle.orc_tables.specs.declared.records.Group.{Group}
 
 -- the root's group alone
 abbrev pub the_root : ℕ → Option Nest
@@ -76,9 +76,6 @@ begun-grouped limit root =
     home_is : (t : Token) → IsIn t (Records.tokens (begun limit root)) → 0 ≡ home [] t.step
     home_is t (inl e) = ap (λ (z : Token). home [] z.step) (sym e)
     home_is t (inr i) = elim i [ ]
-
-pub begun-told : (l : Listing) (sites : List Site) (limit : ℕ) → AreTold sites [] (Records.calls (begun limit l.root))
-begun-told l sites limit = refl
 
 -- ---- and with a side open: one token in the root, one in the right side of cell 1, which is group 1
 abbrev aid_step : Step

@@ -17,21 +17,23 @@ use Rattle.orc_rules.proofs.Pending.{pending_by_names}
 use Rattle.orc_rules.proofs.Sources.{emits_source}
 use Rattle.orc_names.specs.declared.names.Bound.{Bound}
 use Rattle.orc_names.specs.declared.names.Bound.TheVariants as bound
-use Rattle.orc_ledger.specs.Same.{weight, only, but, None}
-use Rattle.orc_ledger.specs.Spelling.{Path, whole, feeding, aiding, trying, Row, stands, pends, Numbered, right_of, left_of, marks, sides, inside}
-use Rattle.orc_ledger.specs.Records.{Records, Lawful, context, its_env, raw_path, its_path, has_left, side_at, group_side, is_over, rows_of, sides_of, token_row, call_row, standing, counts}
-use Rattle.orc_ledger.specs.Calls.{Drops, AreCancelled, token_goes, call_goes, has_number}
-use Rattle.orc_ledger.specs.declared.records.Token.{Token}
-use Rattle.orc_ledger.specs.declared.records.Call.{Call}
-use Rattle.orc_ledger.specs.declared.records.Side.{Side}
-use Rattle.orc_ledger.specs.declared.records.Side.TheVariants.{Right, Left}
-use Rattle.orc_ledger.specs.declared.records.Group.{Group}
+use Rattle.orc_tables.specs.Same.{weight, only, but, None}
+use Rattle.orc_paths.specs.Spelling.{Path, whole, feeding, aiding, trying, Row, stands, pends, Numbered, right_of, left_of, marks, sides, inside}
+use Rattle.orc_ledger.specs.Records.{Records, Lawful, context, its_env, raw_path, its_path, side_at, group_side, is_over, rows_of, sides_of, token_row, call_row, counts}
+use Rattle.orc_paths.specs.Paths.{has_left, standing}
+use Rattle.orc_ledger.specs.Calls.{Drops, AreCancelled, token_goes, call_goes}
+use Rattle.orc_tables.specs.PendingCalls.{has_number}
+use Rattle.orc_tables.specs.declared.records.Token.{Token}
+use Rattle.orc_tables.specs.declared.records.Call.{Call}
+use Rattle.orc_tables.specs.declared.records.Side.{Side}
+use Rattle.orc_tables.specs.declared.records.Side.TheVariants.{Right, Left}
+use Rattle.orc_tables.specs.declared.records.Group.{Group}
 use Rattle.orc_ledger.proofs.Written.{written-kept}
-use Rattle.orc_ledger.proofs.Weight.{weight-append, weight-map, weight-parts, weight-none, none-alike, weight-but}
-use Rattle.orc_ledger.proofs.Around.{plug, path_of, cells_of, replaced, Opened, marks-plug, sides-plug}
-use Rattle.orc_ledger.proofs.Kept as kept
-use Rattle.orc_ledger.specs.Taking.{taker}
-use Rattle.orc_ledger.proofs.Kept.{goes, bound_by}
+use Rattle.orc_tables.proofs.Weight.{weight-append, weight-map, weight-parts, weight-none, none-alike, weight-but}
+use Rattle.orc_paths.proofs.Around.{plug, path_of, cells_of, replaced, Opened, marks-plug, sides-plug}
+use Rattle.orc_paths.proofs.Kept as kept
+use Rattle.orc_paths.specs.Taking.{taker}
+use Rattle.orc_paths.proofs.Kept.{goes, bound_by}
 use Rattle.orc_ledger.proofs.Lists.{is_call, times-calls, numbered, holds_source, confined, rows-weigh, sides-weigh, token_found, side_found, unbound, empty-halted}
 use Rattle.orc_names.proofs.Inside.{Confined}
 use Rattle.orc_ledger.proofs.Filled.{inside-seen}

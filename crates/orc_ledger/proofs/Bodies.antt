@@ -14,16 +14,17 @@ use Rattle.orc_names.specs.declared.names.Scope.{Scope}
 use Rattle.orc_names.specs.Scopes.{close, close_param, env_of}
 use Rattle.orc_names.proofs.Scopes.{close-call}
 use Rattle.orc_graph.specs.Ranges.{params_at, params_or_none}
-use Rattle.orc_ledger.specs.Spelling.{stands}
+use Rattle.orc_paths.specs.Spelling.{stands}
 use Rattle.orc_ledger.specs.Records.{Records, Lawful, context, its_env, its_path, token_row, token_out}
 use Rattle.orc_ledger.specs.Calls.{born}
 use Rattle.orc_ledger.specs.Next.{AreGrouped, numbers_of}
-use Rattle.orc_ledger.specs.Parameters.{Adds, IsDefined}
-use Rattle.orc_ledger.specs.declared.records.Standing.TheVariants.{At}
-use Rattle.orc_ledger.specs.declared.records.Token.{Token}
-use Rattle.orc_ledger.proofs.Around.{plug, cells_of}
+use Rattle.orc_paths.specs.Parameters.{Adds}
+use Rattle.orc_ledger.specs.Parameters.{IsDefined}
+use Rattle.orc_tables.specs.declared.records.Standing.TheVariants.{At}
+use Rattle.orc_tables.specs.declared.records.Token.{Token}
+use Rattle.orc_paths.proofs.Around.{plug, cells_of}
 use Rattle.orc_ledger.proofs.Lists.{token_found}
-use Rattle.orc_ledger.proofs.Growth.{both_false}
+use Rattle.orc_paths.proofs.Growth.{both_false}
 use Rattle.orc_ledger.proofs.Grouped.{turned-grouped}
 use Rattle.orc_ledger.proofs.Leaves.{out_of, none_one, later_one, becomes, path_there, step_in, plain_of, own_of, cells_of_place, settled_of}
 use Rattle.orc_ledger.proofs.Sound.{sound_turned}
@@ -40,13 +41,6 @@ routine_there rs e n h = go (slice_get rs e) refl h
         body_or d (Some m) = m
         body_or d None = Routine.body d
     go None f k = cc k
-
-pub routine_none : (rs : List Routine) (e : ℕ) → option_map (λ (r : Routine). r.body) (slice_get rs e) ≡ None → slice_get rs e ≡ None
-routine_none rs e h = go (slice_get rs e) refl h
-  where
-    go : (o : Option Routine) → slice_get rs e ≡ o → option_map (λ (r : Routine). r.body) o ≡ None → slice_get rs e ≡ None
-    go (Some r) f k = cc k
-    go None f k = f
 
 -- an item behind a list
 behind : {X : Type 0} (xs ys : List X) (k : ℕ) → slice_get (xs ++ ys) (length xs + k) ≡ slice_get ys k

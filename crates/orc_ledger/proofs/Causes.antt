@@ -15,22 +15,23 @@ use Rattle.orc_rules.specs.Journal.{Place, next, Leads}
 use Rattle.orc_rules.specs.Refusal.{Stands, HasToken, HasCell, Fits, IsThere, Meets}
 use Rattle.orc_rules.proofs.Refusal.{meets_and_leads}
 use Rattle.orc_names.specs.Scopes.{close}
-use Rattle.orc_ledger.specs.Same.{weight}
-use Rattle.orc_ledger.specs.Spelling.{Path, whole, feeding, aiding, trying, marks, sides, inside}
-use Rattle.orc_ledger.specs.Records.{Records, Lawful, context, its_env, its_path, has_left, side_at, is_over}
-use Rattle.orc_ledger.specs.Calls.{within}
-use Rattle.orc_ledger.specs.Taking.{taker}
-use Rattle.orc_ledger.specs.Doing.{taken, term_of, what_of, is_wait, names, Asks, Allows}
+use Rattle.orc_tables.specs.Same.{weight}
+use Rattle.orc_paths.specs.Spelling.{Path, whole, feeding, aiding, trying, marks, sides, inside, within}
+use Rattle.orc_ledger.specs.Records.{Records, Lawful, context, its_env, its_path, side_at, is_over}
+use Rattle.orc_paths.specs.Paths.{has_left}
+use Rattle.orc_paths.specs.Taking.{taker}
+use Rattle.orc_paths.specs.Doing.{taken, is_wait, names, Asks, Allows}
+use Rattle.orc_ledger.specs.Doing.{term_of, what_of}
 use Rattle.orc_ledger.specs.Next.{Numbers, AreGrouped, members}
-use Rattle.orc_ledger.specs.declared.what.What.{What}
-use Rattle.orc_ledger.specs.declared.what.What.TheVariants.{Halt, Fork, Seq, Prune, Other, Def, Void, Publish, Send, Bind, Call, Wait}
-use Rattle.orc_ledger.specs.declared.records.Token.{Token}
-use Rattle.orc_ledger.specs.declared.records.Side.TheVariants.{Right, Left}
-use Rattle.orc_ledger.specs.declared.records.Group.{Group}
-use Rattle.orc_ledger.proofs.Weight.{weight-append}
-use Rattle.orc_ledger.proofs.Around.{plug, path_of, cells_of, replaced, Opened, marks-plug, sides-plug}
+use Rattle.orc_paths.specs.declared.what.What.{What}
+use Rattle.orc_paths.specs.declared.what.What.TheVariants.{Halt, Fork, Seq, Prune, Other, Def, Void, Publish, Send, Bind, Call, Wait}
+use Rattle.orc_tables.specs.declared.records.Token.{Token}
+use Rattle.orc_tables.specs.declared.records.Side.TheVariants.{Right, Left}
+use Rattle.orc_tables.specs.declared.records.Group.{Group}
+use Rattle.orc_tables.proofs.Weight.{weight-append}
+use Rattle.orc_paths.proofs.Around.{plug, path_of, cells_of, replaced, Opened, marks-plug, sides-plug}
 use Rattle.orc_ledger.proofs.Lists.{token_found, side_found, empty-halted}
-use Rattle.orc_ledger.proofs.Kept as kept
+use Rattle.orc_paths.proofs.Kept as kept
 use Rattle.orc_ledger.proofs.Binding as aid
 use Rattle.orc_ledger.proofs.Resuming as try
 use Rattle.orc_ledger.specs.Laws.{Offer}

@@ -8,25 +8,27 @@ use Rattle.orc_rules.specs.Nodes.{Listing, code}
 use Rattle.orc_rules.specs.Sites.{Site}
 use Rattle.orc_rules.specs.Timed.{IsIn}
 use Rattle.orc_rules.specs.Numbered.{Name, mark, cell, once}
-use Rattle.orc_ledger.specs.Same.{weight, only, but, None}
-use Rattle.orc_ledger.specs.Spelling.{Path, whole, inside}
-use Rattle.orc_ledger.specs.Records.{Records, Sound, Lawful, its_env, raw_path, its_path, has_left, is_number, group_side, side_at, is_over}
-use Rattle.orc_ledger.specs.Calls.{within, is_inside, group_goes}
-use Rattle.orc_ledger.specs.Homes.{aids, Nest}
-use Rattle.orc_ledger.specs.Next.{Numbers, AreGrouped, members, is_this, IsSide}
-use Rattle.orc_ledger.specs.declared.records.Token.{Token}
-use Rattle.orc_ledger.specs.declared.records.Call.{Call}
-use Rattle.orc_ledger.specs.declared.records.Entered.{Entered}
-use Rattle.orc_ledger.specs.declared.records.Entered.TheVariants.{Feed, Aid, Try}
-use Rattle.orc_ledger.specs.declared.records.Step.{Step}
-use Rattle.orc_ledger.specs.declared.records.Side.{Side}
-use Rattle.orc_ledger.specs.declared.records.Side.TheVariants.{Right, Left}
-use Rattle.orc_ledger.specs.declared.records.Group.{Group}
-use Rattle.orc_ledger.proofs.Weight.{weight-in, weight-least, none-alike}
-use Rattle.orc_ledger.proofs.Growth.{path-none}
+use Rattle.orc_tables.specs.Same.{weight, only, but, None, is_this}
+use Rattle.orc_paths.specs.Spelling.{Path, whole, inside, within}
+use Rattle.orc_ledger.specs.Records.{Records, Sound, Lawful, its_env, raw_path, its_path, group_side, side_at, is_over}
+use Rattle.orc_paths.specs.Paths.{has_left, is_number}
+use Rattle.orc_ledger.specs.Calls.{is_inside, group_goes}
+use Rattle.orc_tables.specs.Inside.{aids}
+use Rattle.orc_ledger.specs.Homes.{Nest}
+use Rattle.orc_ledger.specs.Next.{Numbers, AreGrouped, members, IsSide}
+use Rattle.orc_tables.specs.declared.records.Token.{Token}
+use Rattle.orc_tables.specs.declared.records.Call.{Call}
+use Rattle.orc_tables.specs.declared.records.Entered.{Entered}
+use Rattle.orc_tables.specs.declared.records.Entered.TheVariants.{Feed, Aid, Try}
+use Rattle.orc_tables.specs.declared.records.Step.{Step}
+use Rattle.orc_tables.specs.declared.records.Side.{Side}
+use Rattle.orc_tables.specs.declared.records.Side.TheVariants.{Right, Left}
+use Rattle.orc_tables.specs.declared.records.Group.{Group}
+use Rattle.orc_tables.proofs.Weight.{weight-in, weight-least, none-alike, this_is}
+use Rattle.orc_paths.proofs.Growth.{path-none}
 use Rattle.orc_ledger.proofs.Homes.{home-least}
 use Rattle.orc_ledger.proofs.Lists.{sides-weigh}
-use Rattle.orc_ledger.proofs.Still.{is_side}
+use Rattle.orc_paths.proofs.Still.{is_side}
 use Rattle.orc_ledger.proofs.Someone.{IsTest, inn, inn-step, inn-home, some_same, token_within, call_within, get-within}
 use Rattle.orc_ledger.proofs.Resting.{aid_test, try_test, side_once}
 use Rattle.orc_ledger.proofs.Binding.{IsEmpty}
@@ -64,9 +66,6 @@ or_cases false b h = inr h
 not_true : (b : Bool) → (b ≡ true → ⊥) → b ≡ false
 not_true true h = absurd (h refl)
 not_true false h = refl
-
-pub this_is : (i j : ℕ) → i ≡ j → is_this i j ≡ 1
-this_is i j e = ap (λ b. cond {A = ℕ} b 1 0) (eq-eqb i j e)
 
 module _ (code : ℕ → Term) (s : Records) (S : Sound s) (n : Numbers) (G : AreGrouped n s) (test : Path → Bool) (at : Entered → Bool) (T : IsTest code s test at) (outside : test whole ≡ false) (g : Group) (i : IsIn g s.groups)
     (unique : (h : Group) (p : Step) → IsIn h s.groups → IsSide p.entered h.side → at p.entered ≡ true → n.number h ≡ n.number g) where

@@ -7,14 +7,14 @@ use Rattle.orc_rules.specs.Marked.{erase}
 use Rattle.orc_rules.specs.Timed.{IsIn}
 use Rattle.orc_ledger.specs.Records.{Records, Lawful, its_env}
 use Rattle.orc_ledger.specs.Homes.{Nest}
-use Rattle.orc_ledger.specs.Next.{Numbers, AreGrouped, members, is_this}
-use Rattle.orc_ledger.specs.declared.records.Token.{Token}
-use Rattle.orc_ledger.specs.declared.records.Call.{Call}
-use Rattle.orc_ledger.specs.declared.records.Group.{Group}
-use Rattle.orc_ledger.proofs.Weight.{weight-in}
+use Rattle.orc_ledger.specs.Next.{Numbers, AreGrouped, members}
+use Rattle.orc_tables.specs.Same.{is_this}
+use Rattle.orc_tables.specs.declared.records.Token.{Token}
+use Rattle.orc_tables.specs.declared.records.Call.{Call}
+use Rattle.orc_tables.specs.declared.records.Group.{Group}
+use Rattle.orc_tables.proofs.Weight.{weight-in, this_is}
 use Rattle.orc_ledger.proofs.Homes.{home-least}
 use Rattle.orc_ledger.proofs.Someone.{get-within, some_same}
-use Rattle.orc_ledger.proofs.Emptied.{this_is}
 use Rattle.orc_ledger.proofs.Binding.{ended-halted}
 
 nobody : {X : Type 0} (xs : List X) → ((x : X) → IsIn x xs → ⊥) → xs ≡ []

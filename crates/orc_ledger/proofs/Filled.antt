@@ -5,14 +5,14 @@ use Rattle.orc_rules.specs.Term.{Term, fill}
 use Rattle.orc_names.specs.declared.names.Bound.{Bound}
 use Rattle.orc_names.specs.Scopes.{Env, given}
 use Rattle.orc_names.proofs.Filling.{fill_env, closed-fill, rest-fill}
-use Rattle.orc_ledger.specs.Spelling.{Path, whole, feeding, aiding, trying, inside, seen}
-use Rattle.orc_ledger.specs.Records.{standing, inwards, paths_from, path}
-use Rattle.orc_ledger.specs.declared.records.Standing.{Standing}
-use Rattle.orc_ledger.specs.declared.records.Standing.TheVariants.{At, On}
-use Rattle.orc_ledger.specs.declared.records.Entered.{Entered}
-use Rattle.orc_ledger.specs.declared.records.Entered.TheVariants.{Feed, Aid, Try}
-use Rattle.orc_ledger.specs.declared.records.Step.{Step}
-use Rattle.orc_ledger.proofs.Kept.{fill_path}
+use Rattle.orc_paths.specs.Spelling.{Path, whole, feeding, aiding, trying, inside, seen}
+use Rattle.orc_paths.specs.Paths.{standing, inwards, paths_from, path}
+use Rattle.orc_tables.specs.declared.records.Standing.{Standing}
+use Rattle.orc_tables.specs.declared.records.Standing.TheVariants.{At, On}
+use Rattle.orc_tables.specs.declared.records.Entered.{Entered}
+use Rattle.orc_tables.specs.declared.records.Entered.TheVariants.{Feed, Aid, Try}
+use Rattle.orc_tables.specs.declared.records.Step.{Step}
+use Rattle.orc_paths.proofs.Kept.{fill_path}
 
 map-push : {X Y : Type 0} (f : X → Y) (xs : List X) (x : X) → map f (xs ++ x ∷ []) ≡ map f xs ++ f x ∷ []
 map-push f [] x = refl

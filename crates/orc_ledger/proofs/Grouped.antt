@@ -9,27 +9,28 @@ use Rattle.orc_rules.specs.Timed.{IsIn}
 use Rattle.orc_names.specs.declared.names.Bound.{Bound}
 use Rattle.orc_names.specs.declared.names.Bound.TheVariants.{Cell}
 use Rattle.orc_names.specs.declared.names.Scope.{Scope}
-use Rattle.orc_ledger.specs.Same.{weight, only, but, None}
-use Rattle.orc_ledger.specs.Spelling.{aiding, inside}
-use Rattle.orc_ledger.specs.Records.{Records, Lawful, its_env, raw_path, group_at, group_of, depth_at, group_out, side_out}
-use Rattle.orc_ledger.specs.Calls.{Turns, Crosses, Exchanges, Drops, Resumes, Closes, IsFree, born, IsEnded, IsForked, IsFed, IsTried, IsOpened, token_goes, call_goes, group_goes, is_inside, bare}
-use Rattle.orc_ledger.specs.Homes.{home, home_by, aids, Nest}
-use Rattle.orc_ledger.specs.Taking.{outer_of, outer_at, reach}
-use Rattle.orc_ledger.specs.declared.records.Standing.TheVariants.{At}
-use Rattle.orc_ledger.specs.Next.{AreGrouped, numbers_of, members, is_this, IsSide, opens}
-use Rattle.orc_ledger.specs.declared.records.Token.{Token}
-use Rattle.orc_ledger.specs.declared.records.Call.{Call}
-use Rattle.orc_ledger.specs.declared.records.Entered.{Entered}
-use Rattle.orc_ledger.specs.declared.records.Entered.TheVariants.{Feed, Aid, Try}
-use Rattle.orc_ledger.specs.declared.records.Step.{Step}
-use Rattle.orc_ledger.specs.declared.records.Side.{Side}
-use Rattle.orc_ledger.specs.declared.records.Side.TheVariants.{Right, Left}
-use Rattle.orc_ledger.specs.declared.records.Group.{Group}
-use Rattle.orc_ledger.proofs.Weight.{weight-in, weight-parts, weight-none, none-weaker, none-alike, none-in}
-use Rattle.orc_ledger.proofs.Growth.{or_false, path-none}
+use Rattle.orc_tables.specs.Same.{weight, only, but, None, is_this}
+use Rattle.orc_paths.specs.Spelling.{aiding, inside}
+use Rattle.orc_ledger.specs.Records.{Records, Lawful, its_env, raw_path, group_out, side_out}
+use Rattle.orc_tables.specs.Steps.{group_at, group_of, depth_at}
+use Rattle.orc_ledger.specs.Calls.{Turns, Crosses, Exchanges, Drops, Resumes, Closes, IsFree, born, IsEnded, IsForked, IsFed, IsTried, IsOpened, token_goes, call_goes, group_goes, is_inside}
+use Rattle.orc_paths.specs.Taking.{bare, outer_of, outer_at, reach}
+use Rattle.orc_ledger.specs.Homes.{home, home_by, Nest}
+use Rattle.orc_tables.specs.Inside.{aids}
+use Rattle.orc_tables.specs.declared.records.Standing.TheVariants.{At}
+use Rattle.orc_ledger.specs.Next.{AreGrouped, numbers_of, members, IsSide, opens}
+use Rattle.orc_tables.specs.declared.records.Token.{Token}
+use Rattle.orc_tables.specs.declared.records.Call.{Call}
+use Rattle.orc_tables.specs.declared.records.Entered.{Entered}
+use Rattle.orc_tables.specs.declared.records.Entered.TheVariants.{Feed, Aid, Try}
+use Rattle.orc_tables.specs.declared.records.Step.{Step}
+use Rattle.orc_tables.specs.declared.records.Side.{Side}
+use Rattle.orc_tables.specs.declared.records.Side.TheVariants.{Right, Left}
+use Rattle.orc_tables.specs.declared.records.Group.{Group}
+use Rattle.orc_tables.proofs.Weight.{weight-in, weight-parts, weight-none, none-weaker, none-alike, none-in, some-in, this_one, this_is}
+use Rattle.orc_paths.proofs.Growth.{or_false, path-none}
 use Rattle.orc_ledger.proofs.Homes.{inn-home, inn-step}
-use Rattle.orc_ledger.proofs.Someone.{some-in, this_one, some_same, token_within, call_within, get-within}
-use Rattle.orc_ledger.proofs.Emptied.{this_is}
+use Rattle.orc_ledger.proofs.Someone.{some_same, token_within, call_within, get-within}
 use Rattle.orc_ledger.proofs.Passing.{ticked}
 use Rattle.orc_ledger.proofs.Places.{IsPlaced, is_placed, test-placed, placed-test, IsSided, is_sided, test-sided, sided-test, all-of, all-in, not_false}
 use Rattle.orc_ledger.proofs.Nests.{AreNested, placed-alike, nested-alike, homes', placed-more, sided-more, nested-fed, placed-fed, opened_groups, grown, placed-own, nested-opened, open_groups, placed-still, nested-closed}

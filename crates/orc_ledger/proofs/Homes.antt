@@ -3,15 +3,16 @@ use Rattle.std.proofs.Common.{◌≡◌, ◌≤◌, ◌<◌, ℕ, zero, suc, Lis
 use Rattle.std.specs.Prelude.{slice_get, ◌||◌}
 use Rattle.orc_rules.specs.Term.{Term}
 use Rattle.orc_names.specs.Scopes.{Env}
-use Rattle.orc_ledger.specs.Spelling.{Path, inside}
-use Rattle.orc_ledger.specs.Records.{path, inwards}
-use Rattle.orc_ledger.specs.Taking.{AreOutwards}
-use Rattle.orc_ledger.specs.Homes.{home, home_by, AreHomes, aids, Nest, AreNests, IsSubtree}
-use Rattle.orc_ledger.specs.declared.records.Entered.{Entered}
-use Rattle.orc_ledger.specs.declared.records.Entered.TheVariants.{Feed, Aid, Try}
-use Rattle.orc_ledger.specs.declared.records.Step.{Step}
-use Rattle.orc_ledger.proofs.Outwards.{there}
-use Rattle.orc_ledger.proofs.Growth.{path-unfold, path-none}
+use Rattle.orc_paths.specs.Spelling.{Path, inside}
+use Rattle.orc_paths.specs.Paths.{path, inwards}
+use Rattle.orc_paths.specs.Taking.{AreOutwards}
+use Rattle.orc_ledger.specs.Homes.{home, home_by, AreHomes, Nest, AreNests, IsSubtree}
+use Rattle.orc_tables.specs.Inside.{aids}
+use Rattle.orc_tables.specs.declared.records.Entered.{Entered}
+use Rattle.orc_tables.specs.declared.records.Entered.TheVariants.{Feed, Aid, Try}
+use Rattle.orc_tables.specs.declared.records.Step.{Step}
+use Rattle.orc_tables.proofs.Placed.{there}
+use Rattle.orc_paths.proofs.Growth.{path-unfold, path-none}
 
 abbrev unread : Step
 unread = record { entered = Try 0; outer = 0; group = 0; depth = 0; published = false }

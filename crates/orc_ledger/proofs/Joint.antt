@@ -16,19 +16,21 @@ use Rattle.orc_rules.specs.Timed.{IsIn, IsDue, IsQuiet}
 use Rattle.orc_rules.specs.Journal.{Place, Leads, moment}
 use Rattle.orc_rules.specs.Refusal.{HasCall, IsCounted, IsOver}
 use Rattle.orc_rules.proofs.Refusal.{meets_and_leads}
-use Rattle.orc_ledger.specs.Spelling.{Path, whole, feeding, aiding, trying, pends, marks}
-use Rattle.orc_ledger.specs.Records.{Records, context, its_path, raw_path, has_left}
-use Rattle.orc_ledger.specs.Calls.{has_number}
-use Rattle.orc_ledger.specs.Doing.{term_of, what_of, what_by}
+use Rattle.orc_paths.specs.Spelling.{Path, whole, feeding, aiding, trying, pends, marks}
+use Rattle.orc_ledger.specs.Records.{Records, context, its_path, raw_path}
+use Rattle.orc_paths.specs.Paths.{has_left}
+use Rattle.orc_tables.specs.PendingCalls.{has_number}
+use Rattle.orc_ledger.specs.Doing.{term_of, what_of}
+use Rattle.orc_paths.specs.Doing.{what_by}
 use Rattle.orc_ledger.specs.Kept.{Kept}
 use Rattle.orc_ledger.specs.Next.{Next, ticks, quiet, next_of, numbers_of}
 use Rattle.orc_ledger.specs.Laws.{IsDelayed}
 use Rattle.orc_ledger.specs.Offered.{is_move, HasNext, IsAnswerable, IsLosing, IsStarting, IsWithheld, ComesNext, IsOffered, NothingIsLost}
-use Rattle.orc_ledger.specs.declared.records.Token.{Token}
-use Rattle.orc_ledger.specs.declared.records.Call.{Call}
-use Rattle.orc_ledger.specs.declared.what.What.TheVariants as what
-use Rattle.orc_ledger.proofs.Weight.{weight-in}
-use Rattle.orc_ledger.proofs.Finding.{in_front, in_back}
+use Rattle.orc_tables.specs.declared.records.Token.{Token}
+use Rattle.orc_tables.specs.declared.records.Call.{Call}
+use Rattle.orc_paths.specs.declared.what.What.TheVariants as what
+use Rattle.orc_tables.proofs.Weight.{weight-in}
+use Rattle.orc_paths.proofs.Finding.{in_front, in_back}
 use Rattle.orc_ledger.proofs.Filled.{inside-seen}
 use Rattle.orc_ledger.proofs.Offers.{its_source}
 use Rattle.orc_ledger.proofs.Resting.{row_of, within-seen}

@@ -19,22 +19,24 @@ use Rattle.orc_names.specs.declared.names.Scope.{Scope}
 use Rattle.orc_names.specs.Scopes.{Env, close, without, current, env_of}
 use Rattle.orc_names.proofs.Scopes.{env-new}
 use Rattle.orc_names.proofs.Closing.{close-stop, close-par, close-seq, close-prune, close-other, close-more}
-use Rattle.orc_ledger.specs.Same.{weight, only, None}
-use Rattle.orc_ledger.specs.Spelling.{feeding, aiding, trying, stands, right_of, left_of}
-use Rattle.orc_ledger.specs.Records.{Records, Lawful, group_at, depth_at, context, its_env, its_path, token_row, group_side, has_left, standing, is_out, token_out, step_out, group_out, is_own, is_settled, has_serial}
+use Rattle.orc_tables.specs.Same.{weight, only, None}
+use Rattle.orc_paths.specs.Spelling.{feeding, aiding, trying, stands, right_of, left_of}
+use Rattle.orc_ledger.specs.Records.{Records, Lawful, context, its_env, its_path, token_row, group_side, token_out, group_out, is_own, is_settled, has_serial}
+use Rattle.orc_paths.specs.Paths.{has_left, standing, is_out, step_out}
+use Rattle.orc_tables.specs.Steps.{group_at, depth_at}
 use Rattle.orc_ledger.specs.Calls.{Turns, born, IsEnded, IsForked, IsFed, IsTried, IsOpened}
-use Rattle.orc_ledger.specs.declared.records.Standing.TheVariants.{At}
-use Rattle.orc_ledger.specs.declared.records.Entered.TheVariants.{Feed, Aid, Try}
-use Rattle.orc_ledger.specs.declared.records.Token.{Token}
-use Rattle.orc_ledger.specs.declared.records.Step.{Step}
-use Rattle.orc_ledger.specs.declared.records.Side.{Side}
+use Rattle.orc_tables.specs.declared.records.Standing.TheVariants.{At}
+use Rattle.orc_tables.specs.declared.records.Entered.TheVariants.{Feed, Aid, Try}
+use Rattle.orc_tables.specs.declared.records.Token.{Token}
+use Rattle.orc_tables.specs.declared.records.Step.{Step}
+use Rattle.orc_tables.specs.declared.records.Side.{Side}
 use Rattle.orc_ledger.proofs.Cells.{own_cell}
-use Rattle.orc_ledger.specs.declared.records.Side.TheVariants.{Right, Left}
-use Rattle.orc_ledger.specs.declared.records.Group.{Group}
-use Rattle.orc_ledger.proofs.Weight.{weight-in, none-in, none-weaker, either_one}
-use Rattle.orc_ledger.proofs.Around.{plug, cells_of, replaced}
+use Rattle.orc_tables.specs.declared.records.Side.TheVariants.{Right, Left}
+use Rattle.orc_tables.specs.declared.records.Group.{Group}
+use Rattle.orc_tables.proofs.Weight.{weight-in, none-in, none-weaker, either_one}
+use Rattle.orc_paths.proofs.Around.{plug, cells_of, replaced}
 use Rattle.orc_ledger.proofs.Lists.{token_found}
-use Rattle.orc_ledger.proofs.Growth.{or_false, both_false, none-left}
+use Rattle.orc_paths.proofs.Growth.{or_false, both_false, none-left}
 use Rattle.orc_ledger.proofs.Turning.{turned, env_same, cells_env, new_path, path_same, left_same, more_scopes, more_steps}
 use Rattle.orc_ledger.proofs.Sound.{sound_turned, get_more, get_kept, get_end, given}
 

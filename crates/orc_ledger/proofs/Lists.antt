@@ -8,21 +8,21 @@ use Rattle.orc_rules.specs.Sites.{Site}
 use Rattle.orc_rules.specs.Marked.{Marked, ended, token, in_call, in_par, in_seq, in_opened, in_other, erase}
 use Rattle.orc_rules.specs.Timed.{IsIn}
 use Rattle.orc_rules.specs.Lost.{HoldsSource}
-use Rattle.orc_rules.specs.Numbered.{mark, call, cell, once, times, IsNumbered}
+use Rattle.orc_rules.specs.Numbered.{call, cell, once, times, IsNumbered}
 use Rattle.orc_names.specs.declared.names.Bound.TheVariants.{Cell}
 use Rattle.orc_names.proofs.Inside.{Confined}
 use Rattle.orc_names.proofs.Reached.{reached_numbered, reached_source, reached_confined}
-use Rattle.orc_ledger.specs.Same.{weight, only}
-use Rattle.orc_ledger.specs.Spelling.{Path, whole, feeding, aiding, trying, Row, stands, pends, Numbered, right_of, left_of, marks, sides}
+use Rattle.orc_tables.specs.Same.{weight, only}
+use Rattle.orc_paths.specs.Spelling.{Path, whole, feeding, aiding, trying, Row, stands, pends, Numbered, right_of, left_of, marks, sides}
 use Rattle.orc_ledger.specs.Records.{Records, Lawful, token_row, call_row, group_side, side_at, its_path, is_over, is_own, is_settled}
-use Rattle.orc_ledger.specs.declared.records.Token.{Token}
-use Rattle.orc_ledger.specs.declared.records.Call.{Call}
-use Rattle.orc_ledger.specs.declared.records.Side.{Side}
-use Rattle.orc_ledger.specs.declared.records.Side.TheVariants.{Right, Left}
-use Rattle.orc_ledger.specs.declared.records.Group.{Group}
-use Rattle.orc_ledger.proofs.Weight.{weight-append, weight-map, weight-filter, weight-in, weight-least}
-use Rattle.orc_ledger.proofs.Around.{Found, found, hole, is_row, by-self, Opened, opened, is_numbered}
-use Rattle.orc_ledger.proofs.Equal.{same_row, same_numbered}
+use Rattle.orc_tables.specs.declared.records.Token.{Token}
+use Rattle.orc_tables.specs.declared.records.Call.{Call}
+use Rattle.orc_tables.specs.declared.records.Side.{Side}
+use Rattle.orc_tables.specs.declared.records.Side.TheVariants.{Right, Left}
+use Rattle.orc_tables.specs.declared.records.Group.{Group}
+use Rattle.orc_tables.proofs.Weight.{weight-append, weight-map, weight-filter, weight-in, weight-least}
+use Rattle.orc_paths.proofs.Around.{Found, found, hole, is_row, by-self, Opened, opened, is_numbered}
+use Rattle.orc_paths.proofs.Equal.{same_row, same_numbered}
 use Rattle.orc_ledger.proofs.Cells.{own_cell}
 
 -- how often a call and a cell stand there, by the lists
@@ -51,24 +51,6 @@ times-cells c p (in_par f g) = omega (arith, times-cells c p f, times-cells c p 
 times-cells c p (in_seq f x g) = times-cells c (feeding x g p) f
 times-cells c p (in_opened f d g) = omega (arith, times-cells c p f, times-cells c (aiding d p) g, weight-append (is_right c) (sides p f) (sides (aiding d p) g))
 times-cells c p (in_other n f g) = omega (arith, times-cells c (trying n p) f)
-
--- a token's mark, and an otherwise's number
-abbrev pub is_mark : ℕ → Row → ℕ
-is_mark n (stands s t p) = once (mark n) (mark s)
-is_mark n (pends k p) = 0
-
-abbrev pub is_left : ℕ → Numbered → ℕ
-is_left n (right_of d p) = 0
-is_left n (left_of m g p) = once (mark n) (mark m)
-
-pub times-marks : (n : ℕ) (p : Path) (m : Marked) → times (mark n) m ≡ weight (is_mark n) (marks p m) + weight (is_left n) (sides p m)
-times-marks n p ended = refl
-times-marks n p (token s t) = omega arith
-times-marks n p (in_call j) = refl
-times-marks n p (in_par f g) = omega (arith, times-marks n p f, times-marks n p g, weight-append (is_mark n) (marks p f) (marks p g), weight-append (is_left n) (sides p f) (sides p g))
-times-marks n p (in_seq f x g) = times-marks n (feeding x g p) f
-times-marks n p (in_opened f d g) = omega (arith, times-marks n p f, times-marks n (aiding d p) g, weight-append (is_mark n) (marks p f) (marks (aiding d p) g), weight-append (is_left n) (sides p f) (sides (aiding d p) g))
-times-marks n p (in_other j f g) = omega (arith, times-marks n (trying j p) f)
 
 module _ (l : Listing) (sites : List Site) (s : Records) (L : Lawful l sites s) where
   pub numbered : IsNumbered L.place

@@ -4,18 +4,20 @@ use Rattle.orc_rules.specs.declared.entry.Entry.{Entry}
 use Rattle.orc_rules.specs.Timed.{IsIn}
 use Rattle.orc_names.specs.declared.names.Bound.{Bound}
 use Rattle.orc_names.specs.declared.names.Scope.{Scope}
-use Rattle.orc_ledger.specs.Same.{weight}
+use Rattle.orc_tables.specs.Same.{weight}
 use Rattle.std.specs.Prelude.{nat_lt}
 use Rattle.std.proofs.lemmas.Bool.{ltb-false}
 use Rattle.orc_rules.specs.Nodes.{Listing}
 use Rattle.orc_rules.specs.Sites.{Site}
-use Rattle.orc_ledger.specs.Records.{Records, Lawful, is_out, token_out}
-use Rattle.orc_ledger.specs.Calls.{Turns, Crosses, Publishes}
-use Rattle.orc_ledger.specs.declared.records.Token.{Token}
-use Rattle.orc_ledger.specs.declared.records.Step.{Step}
-use Rattle.orc_ledger.specs.declared.records.Group.{Group}
-use Rattle.orc_ledger.proofs.Weight.{weight-append, none-in}
-use Rattle.orc_ledger.proofs.Growth.{or_false}
+use Rattle.orc_ledger.specs.Records.{Records, Lawful, token_out}
+use Rattle.orc_paths.specs.Paths.{is_out}
+use Rattle.orc_ledger.specs.Calls.{Turns, Crosses}
+use Rattle.orc_paths.specs.Taking.{Publishes}
+use Rattle.orc_tables.specs.declared.records.Token.{Token}
+use Rattle.orc_tables.specs.declared.records.Step.{Step}
+use Rattle.orc_tables.specs.declared.records.Group.{Group}
+use Rattle.orc_tables.proofs.Weight.{weight-append, none-in}
+use Rattle.orc_paths.proofs.Growth.{or_false}
 use Rattle.orc_ledger.proofs.Sound.{given}
 
 -- the next mark is no free slot's

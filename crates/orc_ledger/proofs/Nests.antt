@@ -2,21 +2,20 @@
 use Rattle.std.proofs.Common.{◌≡◌, ◌≤◌, ◌<◌, ℕ, zero, suc, ◌+◌, List, [], ◌∷◌, ◌++◌, refl, sym, ap, ◌∙◌, subst, arith, inl, inr, ◌⊎◌, ⊎_elim, Bool, true, false, cond, nat_eq, eq-eqb, not, Option, Some, None as Nothing, length, length-append, map}
 use Rattle.std.proofs.lemmas.Bool.{eqb-true}
 use Rattle.std.specs.Prelude.{slice_get, slice_index_or}
-use Rattle.orc_ledger.specs.Same.{weight, only, but, None}
-use Rattle.orc_ledger.specs.Records.{group_at, group_of}
-use Rattle.orc_ledger.specs.Calls.{bare}
+use Rattle.orc_tables.specs.Same.{weight, only, but, None, is_this}
+use Rattle.orc_tables.specs.Steps.{group_at, group_of}
+use Rattle.orc_paths.specs.Taking.{bare}
 use Rattle.orc_ledger.specs.Homes.{home, home_by, AreHomes, Nest, AreNests}
-use Rattle.orc_ledger.specs.Next.{is_this, IsSide, opens}
-use Rattle.orc_ledger.specs.declared.records.Entered.{Entered}
-use Rattle.orc_ledger.specs.declared.records.Entered.TheVariants.{Feed, Aid, Try}
-use Rattle.orc_ledger.specs.declared.records.Step.{Step}
-use Rattle.orc_ledger.specs.declared.records.Group.{Group}
-use Rattle.orc_ledger.proofs.Weight.{none-weaker, none-alike, weight-none}
+use Rattle.orc_ledger.specs.Next.{IsSide, opens}
+use Rattle.orc_tables.specs.declared.records.Entered.{Entered}
+use Rattle.orc_tables.specs.declared.records.Entered.TheVariants.{Feed, Aid, Try}
+use Rattle.orc_tables.specs.declared.records.Step.{Step}
+use Rattle.orc_tables.specs.declared.records.Group.{Group}
+use Rattle.orc_tables.proofs.Weight.{none-weaker, none-alike, weight-none, this_is}
 use Rattle.orc_ledger.proofs.Sound.{get_more, get_kept, get_end}
 use Rattle.orc_ledger.proofs.Leaves.{got_one}
 use Rattle.orc_ledger.proofs.Someone.{some_same}
-use Rattle.orc_ledger.proofs.Emptied.{this_is}
-use Rattle.orc_ledger.proofs.Publishing.{bare-length}
+use Rattle.orc_paths.proofs.Marking.{bare-length}
 use Rattle.orc_ledger.proofs.Places.{IsPlaced, IsSided, is_sided, test-sided, sided-test, not_false}
 
 -- what the tables note of the steps and of the open groups

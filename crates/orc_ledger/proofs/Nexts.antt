@@ -13,21 +13,22 @@ use Rattle.orc_rules.specs.Numbered.{call as called, times}
 use Rattle.orc_rules.specs.Pending.{PendsDue, IsNextDue}
 use Rattle.orc_rules.proofs.Pending.{pending_by_names}
 use Rattle.orc_rules.proofs.Tests.{tick_by_test, quiet_by_test}
-use Rattle.orc_ledger.specs.Same.{weight}
-use Rattle.orc_ledger.specs.Spelling.{whole}
+use Rattle.orc_tables.specs.Same.{weight}
+use Rattle.orc_paths.specs.Spelling.{whole}
 use Rattle.orc_ledger.specs.Records.{Records, Lawful, context, token_row}
-use Rattle.orc_ledger.specs.Calls.{has_number}
-use Rattle.orc_ledger.specs.Doing.{what_of, is_wait}
+use Rattle.orc_tables.specs.PendingCalls.{has_number, due_of, next_due}
+use Rattle.orc_ledger.specs.Doing.{what_of}
+use Rattle.orc_paths.specs.Doing.{is_wait}
 use Rattle.orc_ledger.specs.Told.{AreTold}
-use Rattle.orc_ledger.specs.Next.{Numbers, AreGrouped, members, is_empty, ready, ready_one, open_empty, due_of, next_due, Next, work, ticks, quiet, next_at, next_by, next_of}
-use Rattle.orc_ledger.specs.declared.records.Token.{Token}
-use Rattle.orc_ledger.specs.declared.records.Call.{Call}
-use Rattle.orc_ledger.specs.declared.records.Group.{Group}
+use Rattle.orc_ledger.specs.Next.{Numbers, AreGrouped, members, is_empty, ready, ready_one, open_empty, Next, work, ticks, quiet, next_at, next_by, next_of}
+use Rattle.orc_tables.specs.declared.records.Token.{Token}
+use Rattle.orc_tables.specs.declared.records.Call.{Call}
+use Rattle.orc_tables.specs.declared.records.Group.{Group}
 use Rattle.orc_ledger.specs.Laws.{Cause}
-use Rattle.orc_ledger.proofs.Weight.{weight-in, weight-none, either_one}
+use Rattle.orc_tables.proofs.Weight.{weight-in, weight-none, either_one, some-in}
 use Rattle.orc_ledger.proofs.Lists.{numbered, holds_source, rows-weigh, is_call, times-calls}
-use Rattle.orc_ledger.proofs.Someone.{some-in}
-use Rattle.orc_ledger.proofs.Telling.{told_in, one_call, due_is, is_due, next_none, next_some, next_least}
+use Rattle.orc_ledger.proofs.Telling.{told_in, one_call, due_is, is_due}
+use Rattle.orc_tables.proofs.Ripe.{next_none, next_some, next_least}
 use Rattle.orc_ledger.proofs.Resting.{still_stands, still_going}
 
 module _ (l : Listing) (sites : List Site) (s : Records) (L : Lawful l sites s) where

@@ -16,18 +16,19 @@ use Rattle.orc_rules.specs.Journal.{IsVoid}
 use Rattle.orc_rules.specs.Lost.{IsSource, HoldsSource}
 use Rattle.orc_rules.specs.Numbered.{mark}
 use Rattle.orc_rules.specs.Refusal.{Stands, Fits}
-use Rattle.orc_ledger.specs.Spelling.{Path, whole, feeding, aiding, trying, Row, stands, marks}
+use Rattle.orc_paths.specs.Spelling.{Path, whole, feeding, aiding, trying, Row, stands, marks}
 use Rattle.orc_ledger.specs.Records.{Records, Lawful, context, its_path, token_row}
-use Rattle.orc_ledger.specs.Doing.{taken, term_of, what_of, is_wait, moves_marks, Allows, names, Asks}
-use Rattle.orc_ledger.specs.declared.records.Token.{Token}
-use Rattle.orc_ledger.specs.declared.what.What.{What}
-use Rattle.orc_ledger.specs.declared.what.What.TheVariants.{Halt, Fork, Seq, Prune, Other, Def, Void, Publish, Send, Bind, Call}
-use Rattle.orc_ledger.proofs.Around.{Around, hole, before, behind, feeds, main_of, side_of, enters, plug, path_of, cells_of, replaced}
+use Rattle.orc_paths.specs.Doing.{taken, is_wait, moves_marks, Allows, names, Asks}
+use Rattle.orc_ledger.specs.Doing.{term_of, what_of}
+use Rattle.orc_tables.specs.declared.records.Token.{Token}
+use Rattle.orc_paths.specs.declared.what.What.{What}
+use Rattle.orc_paths.specs.declared.what.What.TheVariants.{Halt, Fork, Seq, Prune, Other, Def, Void, Publish, Send, Bind, Call}
+use Rattle.orc_paths.proofs.Around.{Around, hole, before, behind, feeds, main_of, side_of, enters, plug, path_of, cells_of, replaced}
 use Rattle.orc_ledger.proofs.Lists.{numbered, holds_source, token_found}
-use Rattle.orc_ledger.proofs.Kept.{emits_in}
-use Rattle.orc_ledger.proofs.Crossing.{silent_in}
-use Rattle.orc_ledger.proofs.Finding.{in_front, in_back, stands_row, acted, emits_row, one_row}
-use Rattle.orc_ledger.proofs.Meaning.{means, says, waits}
+use Rattle.orc_paths.proofs.Kept.{emits_in}
+use Rattle.orc_paths.proofs.Crossing.{silent_in}
+use Rattle.orc_paths.proofs.Finding.{in_front, in_back, stands_row, acted, emits_row, one_row}
+use Rattle.orc_paths.proofs.Meaning.{means, says, waits}
 
 in_append : {X : Type 0} (x : X) (us vs : List X) → IsIn x (us ++ vs) → IsIn x us ⊎ IsIn x vs
 in_append x [] vs h = inr h

@@ -10,19 +10,19 @@ use Rattle.orc_rules.specs.Marked.{Marked, ended, token, in_call, in_par, in_seq
 use Rattle.orc_rules.specs.Timed.{IsIn}
 use Rattle.orc_rules.specs.Numbered.{Name, mark, call, cell}
 use Rattle.orc_rules.proofs.Idle.{halted_test}
-use Rattle.orc_ledger.specs.Same.{weight, only}
-use Rattle.orc_ledger.specs.Spelling.{Path, whole, feeding, aiding, trying, Row, stands, pends, marks, sides}
-use Rattle.orc_ledger.specs.Records.{Records, Lawful, its_path, token_row, call_row, group_side, side_at, is_over, has_left}
+use Rattle.orc_tables.specs.Same.{weight, only}
+use Rattle.orc_paths.specs.Spelling.{Path, whole, feeding, aiding, trying, Row, stands, pends, marks, sides}
+use Rattle.orc_ledger.specs.Records.{Records, Lawful, its_path, token_row, call_row, group_side, side_at, is_over}
+use Rattle.orc_paths.specs.Paths.{has_left}
 use Rattle.orc_ledger.specs.Doing.{term_of}
-use Rattle.orc_ledger.specs.declared.records.Token.{Token}
-use Rattle.orc_ledger.specs.declared.records.Call.{Call}
-use Rattle.orc_ledger.specs.declared.records.Side.{Side}
-use Rattle.orc_ledger.specs.declared.records.Side.TheVariants.{Right, Left}
-use Rattle.orc_ledger.specs.declared.records.Group.{Group}
-use Rattle.orc_ledger.proofs.Weight.{weight-append, weight-in, weight-least}
+use Rattle.orc_tables.specs.declared.records.Token.{Token}
+use Rattle.orc_tables.specs.declared.records.Call.{Call}
+use Rattle.orc_tables.specs.declared.records.Side.{Side}
+use Rattle.orc_tables.specs.declared.records.Side.TheVariants.{Right, Left}
+use Rattle.orc_tables.specs.declared.records.Group.{Group}
+use Rattle.orc_tables.proofs.Weight.{weight-append, weight-in, weight-least, some-in}
 use Rattle.orc_ledger.proofs.Lists.{rows-weigh, sides-weigh}
-use Rattle.orc_ledger.proofs.Someone.{some-in}
-use Rattle.orc_ledger.proofs.Still.{in_name, row_at, is_side, aiding_out, trying_out, feeding_same, none_in}
+use Rattle.orc_paths.proofs.Still.{in_name, row_at, is_side, aiding_out, trying_out, feeding_same, none_in}
 use Rattle.orc_ledger.proofs.Resting.{side_once}
 
 -- 1 for a call, and for a token whose term hasn't halted, in the side of this name

@@ -9,14 +9,15 @@ use Rattle.orc_rules.specs.Timed.{IsIn, IsTick}
 use Rattle.orc_rules.specs.Journal.{Place, moment, IsVoid, Leads, begin}
 use Rattle.orc_names.specs.declared.names.Bound.{Bound}
 use Rattle.orc_names.specs.Scopes.{current}
-use Rattle.orc_ledger.specs.Same.{weight, only}
-use Rattle.orc_ledger.specs.Records.{Records, Lawful, context, its_env, standing, is_settled, counts}
+use Rattle.orc_tables.specs.Same.{weight, only}
+use Rattle.orc_ledger.specs.Records.{Records, Lawful, context, its_env, is_settled, counts}
+use Rattle.orc_paths.specs.Paths.{standing}
 use Rattle.orc_ledger.specs.Calls.{Turns}
-use Rattle.orc_ledger.specs.declared.records.Token.{Token}
-use Rattle.orc_ledger.specs.declared.records.Group.{Group}
+use Rattle.orc_tables.specs.declared.records.Token.{Token}
+use Rattle.orc_tables.specs.declared.records.Group.{Group}
 use Rattle.orc_ledger.proofs.Written.{written-kept}
-use Rattle.orc_ledger.proofs.Weight.{weight-append}
-use Rattle.orc_ledger.proofs.Around.{plug, cells_of, replaced}
+use Rattle.orc_tables.proofs.Weight.{weight-append}
+use Rattle.orc_paths.proofs.Around.{plug, cells_of, replaced}
 use Rattle.orc_ledger.proofs.Lists.{token_found}
 use Rattle.orc_ledger.proofs.Binding.{journal_more}
 use Rattle.orc_ledger.proofs.Turning.{turned}

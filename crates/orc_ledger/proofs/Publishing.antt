@@ -10,20 +10,23 @@ use Rattle.orc_rules.specs.Timed.{IsIn}
 use Rattle.orc_names.specs.declared.names.Scope.{Scope}
 use Rattle.orc_names.specs.Scopes.{Env, close, env_of}
 use Rattle.orc_names.proofs.Scopes.{env-kept}
-use Rattle.orc_ledger.specs.Same.{weight, only, None}
-use Rattle.orc_ledger.specs.Spelling.{Path, whole, feeding, aiding, trying, Row, stands, pends, Numbered, right_of, left_of, seen}
-use Rattle.orc_ledger.specs.Records.{Records, Sound, Lawful, its_env, raw_path, its_path, paths_from, inwards, rows_of, sides_of, token_row, call_row, side_at, group_side, is_over, has_left, standing, is_out, token_out, call_out, step_out, side_out, group_out, entered_out, is_number, tries, has_serial}
-use Rattle.orc_ledger.specs.Calls.{Crosses, left_all, bare}
-use Rattle.orc_ledger.specs.declared.records.Entered.{Entered}
-use Rattle.orc_ledger.specs.declared.records.Token.{Token}
-use Rattle.orc_ledger.specs.declared.records.Step.{Step}
-use Rattle.orc_ledger.specs.declared.records.Side.{Side}
-use Rattle.orc_ledger.specs.declared.records.Side.TheVariants.{Right, Left}
-use Rattle.orc_ledger.proofs.Weight.{weight-append, weight-map, weight-filter, weight-same, none-alike, none-weaker, none-in, either_one}
-use Rattle.orc_ledger.proofs.Growth.{or_false, both_false, standing-same, paths-same}
+use Rattle.orc_tables.specs.Same.{weight, only, None}
+use Rattle.orc_paths.specs.Spelling.{Path, whole, feeding, aiding, trying, Row, stands, pends, Numbered, right_of, left_of, seen}
+use Rattle.orc_ledger.specs.Records.{Records, Sound, Lawful, its_env, raw_path, its_path, rows_of, sides_of, token_row, call_row, side_at, group_side, is_over, token_out, call_out, side_out, group_out, has_serial}
+use Rattle.orc_paths.specs.Paths.{paths_from, inwards, has_left, standing, is_out, step_out, entered_out, is_number, tries}
+use Rattle.orc_ledger.specs.Calls.{Crosses}
+use Rattle.orc_paths.specs.Taking.{left_all, bare}
+use Rattle.orc_tables.specs.declared.records.Entered.{Entered}
+use Rattle.orc_tables.specs.declared.records.Token.{Token}
+use Rattle.orc_tables.specs.declared.records.Step.{Step}
+use Rattle.orc_tables.specs.declared.records.Side.{Side}
+use Rattle.orc_tables.specs.declared.records.Side.TheVariants.{Right, Left}
+use Rattle.orc_tables.proofs.Weight.{weight-append, weight-map, weight-filter, weight-same, none-alike, none-weaker, none-in, either_one}
+use Rattle.orc_paths.proofs.Growth.{or_false, both_false, standing-same, paths-same}
 use Rattle.orc_ledger.proofs.Turning.{lt_less, out_less}
 use Rattle.orc_ledger.proofs.Sound.{get_more, none-tries, entered_less}
-use Rattle.orc_ledger.proofs.Crossing.{cross, cross_rows, cross_all, leave_all}
+use Rattle.orc_paths.proofs.Crossing.{cross, cross_rows, cross_all, leave_all}
+use Rattle.orc_paths.proofs.Marking.{same_rest, bare-length}
 
 seen-cross : (left left' : ℕ → Bool) (n : ℕ) → ((m : ℕ) → left' m ≡ cond (nat_eq n m) true (left m)) → (p : Path) → seen left' p ≡ cross n (seen left p)
 seen-cross left left' n h whole = refl
@@ -75,23 +78,9 @@ head_or : {X : Type 0} → X → List X → X
 head_or d [] = d
 head_or d (x ∷ xs) = x
 
-rest_of : {X : Type 0} → List X → List X
-rest_of [] = []
-rest_of (x ∷ xs) = xs
-
 same_head : {X : Type 0} (x y : X) (xs ys : List X) → (x ∷ xs) ≡ (y ∷ ys) → x ≡ y
 unfolding head_or
 same_head x y xs ys e = ap (head_or x) e
-
-same_rest : {X : Type 0} (x y : X) (xs ys : List X) → (x ∷ xs) ≡ (y ∷ ys) → xs ≡ ys
-unfolding rest_of
-same_rest x y xs ys e = ap rest_of e
-
-pub bare-length : (ss ss' : List Step) → map bare ss' ≡ map bare ss → length ss' ≡ length ss
-bare-length [] [] e = refl
-bare-length [] (p ∷ ss') e = cc e
-bare-length (q ∷ ss) [] e = cc e
-bare-length (q ∷ ss) (p ∷ ss') e = ap suc (bare-length ss ss' (same_rest (bare p) (bare q) (map bare ss') (map bare ss) e))
 
 bare-outwards : (ss ss' : List Step) → map bare ss' ≡ map bare ss → (bound : ℕ → ℕ) → ((k : ℕ) (p : Step) → slice_get ss k ≡ Some p → p.outer ≤ bound k) → (k : ℕ) (p : Step) → slice_get ss' k ≡ Some p → p.outer ≤ bound k
 bare-outwards ss [] e bound h k p g = cc g

@@ -12,11 +12,11 @@ use Rattle.orc_rules.specs.Journal.{Place, Enters, Journal, begin}
 use Rattle.orc_ledger.specs.Kept.{Kept}
 use Rattle.orc_ledger.specs.Records.{Records, context, is_call, is_written}
 use Rattle.orc_ledger.specs.Requests.{IsAsked}
-use Rattle.orc_ledger.specs.declared.records.Call.{Call}
+use Rattle.orc_tables.specs.declared.records.Call.{Call}
 use Rattle.orc_ledger.proofs.Keeping.{CallsAfter, calls_entered}
 use Rattle.orc_ledger.proofs.Lists.{numbered}
 use Rattle.orc_ledger.proofs.Telling.{told_in, one_call}
-use Rattle.orc_ledger.proofs.Weight.{none-in}
+use Rattle.orc_tables.proofs.Weight.{none-in}
 
 -- what was made stays made
 after-in : (p q : Place) (e : Entry) → CallsAfter p e q → (c : CallMade) → IsIn c p.calls → IsIn c q.calls

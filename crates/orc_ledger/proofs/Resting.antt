@@ -11,28 +11,30 @@ use Rattle.orc_rules.specs.Lost.{IsSource}
 use Rattle.orc_rules.specs.Timed.{IsIn}
 use Rattle.orc_rules.specs.Numbered.{Name, mark, call as called, cell, once}
 use Rattle.orc_rules.proofs.Counts.{moves_by_count}
-use Rattle.orc_ledger.specs.Same.{weight, only}
-use Rattle.orc_ledger.specs.Spelling.{Path, whole, feeding, aiding, trying, Row, Numbered, right_of, left_of, marks, sides, inside, seen}
-use Rattle.orc_ledger.specs.Records.{Records, Lawful, raw_path, its_path, its_env, has_left, is_number, inwards, token_row, call_row, group_side, side_at, is_over}
-use Rattle.orc_ledger.specs.Calls.{within}
-use Rattle.orc_ledger.specs.Homes.{aids}
-use Rattle.orc_ledger.specs.Doing.{what_of, is_wait, moves_marks, term_of}
+use Rattle.orc_tables.specs.Same.{weight, only}
+use Rattle.orc_paths.specs.Spelling.{Path, whole, feeding, aiding, trying, Row, Numbered, right_of, left_of, marks, sides, inside, seen, within}
+use Rattle.orc_ledger.specs.Records.{Records, Lawful, raw_path, its_path, its_env, token_row, call_row, group_side, side_at, is_over}
+use Rattle.orc_paths.specs.Paths.{has_left, is_number, inwards}
+use Rattle.orc_tables.specs.Inside.{aids}
+use Rattle.orc_ledger.specs.Doing.{what_of, term_of}
+use Rattle.orc_paths.specs.Doing.{is_wait, moves_marks}
 use Rattle.orc_ledger.specs.Next.{Numbers, AreGrouped, ready, ready_one, open_empty, IsSide}
-use Rattle.orc_ledger.specs.declared.records.Token.{Token}
-use Rattle.orc_ledger.specs.declared.records.Call.{Call}
-use Rattle.orc_ledger.specs.declared.records.Entered.{Entered}
-use Rattle.orc_ledger.specs.declared.records.Entered.TheVariants.{Feed, Aid, Try}
-use Rattle.orc_ledger.specs.declared.records.Side.{Side}
-use Rattle.orc_ledger.specs.declared.records.Side.TheVariants.{Right, Left}
-use Rattle.orc_ledger.specs.declared.records.Group.{Group}
-use Rattle.orc_ledger.proofs.Weight.{weight-in, weight-same, weight-none, either_one}
-use Rattle.orc_ledger.proofs.Around.{is_row, by, by-self}
-use Rattle.orc_ledger.proofs.Equal.{same_row}
+use Rattle.orc_tables.specs.declared.records.Token.{Token}
+use Rattle.orc_tables.specs.declared.records.Call.{Call}
+use Rattle.orc_tables.specs.declared.records.Entered.{Entered}
+use Rattle.orc_tables.specs.declared.records.Entered.TheVariants.{Feed, Aid, Try}
+use Rattle.orc_tables.specs.declared.records.Side.{Side}
+use Rattle.orc_tables.specs.declared.records.Side.TheVariants.{Right, Left}
+use Rattle.orc_tables.specs.declared.records.Group.{Group}
+use Rattle.orc_tables.proofs.Weight.{weight-in, weight-same, weight-none, either_one, some-in}
+use Rattle.orc_paths.proofs.Around.{is_row, by, by-self}
+use Rattle.orc_paths.proofs.Equal.{same_row}
 use Rattle.orc_ledger.proofs.Filled.{inside-seen}
-use Rattle.orc_ledger.proofs.Lists.{numbered, rows-weigh, sides-weigh, times-cells, times-marks, is_right, is_left}
+use Rattle.orc_ledger.proofs.Lists.{numbered, rows-weigh, sides-weigh, times-cells, is_right}
+use Rattle.orc_paths.proofs.Finding.{times-marks, is_left}
 use Rattle.orc_ledger.proofs.Offers.{its_source, it_waits}
-use Rattle.orc_ledger.proofs.Still.{in_name, row_at, is_side, IsStill, AreStill, AreFull, not_halted, none_moves}
-use Rattle.orc_ledger.proofs.Someone.{some-in, someone, all_full, IsTest, inn, inn-step, Somebody}
+use Rattle.orc_paths.proofs.Still.{in_name, row_at, is_side, IsStill, AreStill, AreFull, not_halted, none_moves}
+use Rattle.orc_ledger.proofs.Someone.{someone, all_full, IsTest, inn, inn-step, Somebody}
 
 by-one : {A : Type 0} (d : Dec A) → 1 ≤ by d → A
 by-one (yes e) h = e

@@ -9,22 +9,23 @@ use Rattle.orc_rules.specs.Marked.{Marked, ended, token, in_call, in_par, in_seq
 use Rattle.orc_rules.specs.Timed.{IsIn}
 use Rattle.orc_rules.specs.Journal.{Place, Enters, Journal, begin}
 use Rattle.orc_names.specs.Scopes.{close, env_of}
-use Rattle.orc_ledger.specs.Same.{weight, only, None}
-use Rattle.orc_ledger.specs.Spelling.{Path, whole, feeding, aiding, trying, Row, stands, pends, Numbered, right_of, left_of, marks, sides, seen}
-use Rattle.orc_ledger.specs.Records.{Records, Lawful, context, its_env, raw_path, its_path, path, rows_of, sides_of, token_row, call_row, side_at, group_side, is_over, has_left, standing, token_out, step_out, side_out, group_out, is_settled, has_serial, counts}
-use Rattle.orc_ledger.specs.Calls.{Resumes, within}
-use Rattle.orc_ledger.specs.declared.records.Standing.TheVariants.{At}
-use Rattle.orc_ledger.specs.declared.records.Token.{Token}
-use Rattle.orc_ledger.specs.declared.records.Call.{Call}
-use Rattle.orc_ledger.specs.declared.records.Side.{Side}
-use Rattle.orc_ledger.specs.declared.records.Side.TheVariants.{Right, Left}
-use Rattle.orc_ledger.specs.declared.records.Group.{Group}
+use Rattle.orc_tables.specs.Same.{weight, only, None}
+use Rattle.orc_paths.specs.Spelling.{Path, whole, feeding, aiding, trying, Row, stands, pends, Numbered, right_of, left_of, marks, sides, seen, within}
+use Rattle.orc_ledger.specs.Records.{Records, Lawful, context, its_env, raw_path, its_path, rows_of, sides_of, token_row, call_row, side_at, group_side, is_over, token_out, side_out, group_out, is_settled, has_serial, counts}
+use Rattle.orc_paths.specs.Paths.{path, has_left, standing, step_out}
+use Rattle.orc_ledger.specs.Calls.{Resumes}
+use Rattle.orc_tables.specs.declared.records.Standing.TheVariants.{At}
+use Rattle.orc_tables.specs.declared.records.Token.{Token}
+use Rattle.orc_tables.specs.declared.records.Call.{Call}
+use Rattle.orc_tables.specs.declared.records.Side.{Side}
+use Rattle.orc_tables.specs.declared.records.Side.TheVariants.{Right, Left}
+use Rattle.orc_tables.specs.declared.records.Group.{Group}
 use Rattle.orc_ledger.proofs.Written.{written-kept}
-use Rattle.orc_ledger.proofs.Weight.{weight-append, weight-map, weight-filter, weight-same, weight-none, none-alike, none-weaker, none-in, either_one}
-use Rattle.orc_ledger.proofs.Around.{plug, path_of, cells_of, replaced, Opened, marks-plug, sides-plug}
+use Rattle.orc_tables.proofs.Weight.{weight-append, weight-map, weight-filter, weight-same, weight-none, none-alike, none-weaker, none-in, either_one}
+use Rattle.orc_paths.proofs.Around.{plug, path_of, cells_of, replaced, Opened, marks-plug, sides-plug}
 use Rattle.orc_ledger.proofs.Lists.{rows-weigh, sides-weigh, side_found, empty-halted}
 use Rattle.orc_ledger.proofs.Binding.{journal_more}
-use Rattle.orc_ledger.proofs.Growth.{or_false, both_false}
+use Rattle.orc_paths.proofs.Growth.{or_false, both_false}
 use Rattle.orc_ledger.proofs.Sound.{none-tries, entered_less}
 use Rattle.orc_ledger.proofs.Leaves.{later_one}
 

@@ -17,21 +17,22 @@ use Rattle.orc_names.specs.declared.names.Scope.{Scope}
 use Rattle.orc_names.specs.Scopes.{close, without, env_of}
 use Rattle.orc_names.proofs.Scopes.{env-new}
 use Rattle.orc_names.proofs.Closing.{close-more}
-use Rattle.orc_ledger.specs.Same.{weight}
-use Rattle.orc_ledger.specs.Spelling.{Path, whole, feeding, Row, stands, Numbered, marks, sides}
-use Rattle.orc_ledger.specs.Records.{Records, Lawful, context, its_env, its_path, rows_of, sides_of, token_row, standing, token_out, counts}
+use Rattle.orc_tables.specs.Same.{weight}
+use Rattle.orc_paths.specs.Spelling.{Path, whole, feeding, Row, stands, Numbered, marks, sides}
+use Rattle.orc_ledger.specs.Records.{Records, Lawful, context, its_env, its_path, rows_of, sides_of, token_row, token_out, counts}
+use Rattle.orc_paths.specs.Paths.{standing}
 use Rattle.orc_ledger.specs.Calls.{Crosses}
-use Rattle.orc_ledger.specs.declared.records.Standing.TheVariants.{At}
-use Rattle.orc_ledger.specs.declared.records.Token.{Token}
+use Rattle.orc_tables.specs.declared.records.Standing.TheVariants.{At}
+use Rattle.orc_tables.specs.declared.records.Token.{Token}
 use Rattle.orc_ledger.proofs.Written.{written-kept}
-use Rattle.orc_ledger.proofs.Weight.{weight-append}
-use Rattle.orc_ledger.proofs.Around.{Around, plug, marks-plug, sides-plug}
-use Rattle.orc_ledger.specs.Taking.{taker, crossed}
+use Rattle.orc_tables.proofs.Weight.{weight-append}
+use Rattle.orc_paths.proofs.Around.{Around, plug, marks-plug, sides-plug}
+use Rattle.orc_paths.specs.Taking.{taker, crossed}
 use Rattle.orc_ledger.proofs.Lists.{token_found, numbered}
 use Rattle.orc_ledger.proofs.Binding.{journal_more}
-use Rattle.orc_ledger.proofs.Growth.{both_false}
+use Rattle.orc_paths.proofs.Growth.{both_false}
 use Rattle.orc_ledger.proofs.Leaves.{none_one, later_one, got_one, out_of}
-use Rattle.orc_ledger.proofs.Crossing.{tried, tried-least, tried-plug, Distinct, cross_rows, cross_all, leave_all, published_by, sent_by}
+use Rattle.orc_paths.proofs.Crossing.{tried, tried-least, tried-plug, Distinct, cross_rows, cross_all, leave_all, published_by, sent_by}
 use Rattle.orc_ledger.proofs.Publishing.{more_scopes, same_steps, path_crossed, rows_crossed, sides_crossed, sound_crossed}
 
 module _ (l : Listing) (sites : List Site) (s : Records) (L : Lawful l sites s) (t : Token) (i : IsIn t s.tokens) (v : Value) (form : standing (code l) (its_env (code l) s) t.standing ≡ param (is.Is v)) where

@@ -1,5 +1,5 @@
 -- How many members each group has after each kind of change.
-use Rattle.std.proofs.Common.{◌≡◌, ◌≤◌, ℕ, zero, suc, ◌+◌, List, [], ◌∷◌, ◌++◌, refl, sym, ap, ◌∙◌, subst, arith, inl, inr, Bool, true, false, cond, nat_eq, length}
+use Rattle.std.proofs.Common.{◌≡◌, ◌≤◌, ℕ, zero, suc, ◌+◌, List, [], ◌∷◌, ◌++◌, refl, sym, ap, ◌∙◌, subst, arith, inl, inr, length}
 use Rattle.std.specs.Prelude.{nat_lt}
 use Rattle.std.proofs.lemmas.Bool.{ltb-false}
 use Rattle.orc_rules.specs.declared.entry.Entry.{Entry}
@@ -8,24 +8,25 @@ use Rattle.orc_rules.specs.Sites.{Site}
 use Rattle.orc_rules.specs.Timed.{IsIn}
 use Rattle.orc_names.specs.declared.names.Bound.{Bound}
 use Rattle.orc_names.specs.declared.names.Scope.{Scope}
-use Rattle.orc_ledger.specs.Same.{weight}
-use Rattle.orc_ledger.specs.Records.{Records, Sound, Lawful, group_at, token_out, call_out, group_out, side_out, is_out}
+use Rattle.orc_tables.specs.Same.{weight, is_this}
+use Rattle.orc_ledger.specs.Records.{Records, Sound, Lawful, token_out, call_out, group_out, side_out}
+use Rattle.orc_paths.specs.Paths.{is_out}
+use Rattle.orc_tables.specs.Steps.{group_at}
 use Rattle.orc_ledger.specs.Calls.{Turns, Crosses, Exchanges, Resumes, Closes, HasRoom}
 use Rattle.orc_ledger.specs.Kept.{Kept}
-use Rattle.orc_ledger.specs.Next.{AreGrouped, numbers_of, members, is_this}
-use Rattle.orc_ledger.specs.OpenGroups.{is_named, IsOpen, AreSizes, size_of, tokens_in, calls_in, groups_in}
-use Rattle.orc_ledger.specs.declared.records.Token.{Token}
-use Rattle.orc_ledger.specs.declared.records.Call.{Call}
-use Rattle.orc_ledger.specs.declared.records.Step.{Step}
-use Rattle.orc_ledger.specs.declared.records.Group.{Group}
-use Rattle.orc_ledger.proofs.Weight.{weight-in, weight-append, weight-same, none-alike}
-use Rattle.orc_ledger.proofs.Growth.{or_false}
+use Rattle.orc_ledger.specs.Next.{AreGrouped, numbers_of, members, AreSizes}
+use Rattle.orc_tables.specs.OpenGroups.{is_named, IsOpen, size_of, tokens_in, calls_in, groups_in}
+use Rattle.orc_tables.specs.declared.records.Token.{Token}
+use Rattle.orc_tables.specs.declared.records.Call.{Call}
+use Rattle.orc_tables.specs.declared.records.Step.{Step}
+use Rattle.orc_tables.specs.declared.records.Group.{Group}
+use Rattle.orc_tables.proofs.Weight.{weight-in, weight-append, weight-same, none-alike, this_is, one-most}
+use Rattle.orc_paths.proofs.Growth.{or_false}
 use Rattle.orc_ledger.proofs.Someone.{token_within}
-use Rattle.orc_ledger.proofs.Emptied.{this_is}
 use Rattle.orc_ledger.proofs.Places.{IsPlaced}
 use Rattle.orc_ledger.proofs.Nests.{alike-group, group-kept}
 use Rattle.orc_ledger.proofs.Grouped.{placed-token, placed-reach}
-use Rattle.orc_ledger.specs.Taking.{reach}
+use Rattle.orc_paths.specs.Taking.{reach}
 
 -- ---- the same records, with more steps
 
@@ -90,13 +91,6 @@ closed-members s s' g T i =
 few_of : {X : Type 0} (w : X → ℕ) (xs : List X) → ((x : X) → w x ≤ 1) → weight w xs ≤ length xs
 few_of w [] h = omega arith
 few_of w (x ∷ xs) h = omega (arith, h x, few_of w xs h)
-
-pub one-most : (i j : ℕ) → is_this i j ≤ 1
-one-most i j = go (nat_eq i j)
-  where
-    go : (b : Bool) → cond {A = ℕ} b 1 0 ≤ 1
-    go true = omega arith
-    go false = omega arith
 
 pub size-few : (s : Records) (sizes : List ℕ) (tokens groups depth : ℕ) → AreSizes sizes s → HasRoom s tokens groups depth → (i : ℕ) → size_of sizes i ≤ 66559
 size-few s sizes tokens groups depth sized room i =

@@ -1,36 +1,25 @@
 -- Where each group has somebody in it, each side has: a token or a call, by the groups from the outside in.
-use Rattle.std.proofs.Common.{◌≡◌, ◌≤◌, ◌<◌, ℕ, zero, suc, ◌+◌, List, [], ◌∷◌, refl, sym, ap, ◌∙◌, subst, arith, inl, inr, ◌⊎◌, ⊎_elim, Bool, true, false, cond, nat_eq, Some, length, get_or}
-use Rattle.std.proofs.lemmas.Bool.{eqb-true, ltb-false}
+use Rattle.std.proofs.Common.{◌≡◌, ◌≤◌, ◌<◌, ℕ, zero, suc, ◌+◌, List, [], ◌∷◌, refl, sym, ap, ◌∙◌, subst, arith, inl, inr, ◌⊎◌, ⊎_elim, Bool, true, false, Some, length, get_or}
+use Rattle.std.proofs.lemmas.Bool.{ltb-false}
 use Rattle.std.specs.Prelude.{slice_get, ◌||◌, nat_lt}
 use Rattle.orc_rules.specs.Term.{Term}
 use Rattle.orc_rules.specs.Timed.{IsIn}
-use Rattle.orc_ledger.specs.Same.{weight}
-use Rattle.orc_ledger.specs.Spelling.{Path}
-use Rattle.orc_ledger.specs.Records.{Records, Sound, its_env, raw_path, inwards, token_out, call_out, is_out}
+use Rattle.orc_tables.specs.Same.{weight, is_this}
+use Rattle.orc_paths.specs.Spelling.{Path}
+use Rattle.orc_ledger.specs.Records.{Records, Sound, its_env, raw_path, token_out, call_out}
+use Rattle.orc_paths.specs.Paths.{inwards, is_out}
 use Rattle.orc_ledger.specs.Homes.{home, home_by, Nest}
-use Rattle.orc_ledger.specs.Next.{Numbers, members, open_empty, is_this, is_empty, AreGrouped}
-use Rattle.orc_ledger.specs.declared.records.Token.{Token}
-use Rattle.orc_ledger.specs.declared.records.Call.{Call}
-use Rattle.orc_ledger.specs.declared.records.Entered.{Entered}
-use Rattle.orc_ledger.specs.declared.records.Entered.TheVariants.{Feed, Aid, Try}
-use Rattle.orc_ledger.specs.declared.records.Step.{Step}
-use Rattle.orc_ledger.specs.declared.records.Group.{Group}
-use Rattle.orc_ledger.proofs.Weight.{weight-in, none-in, either_one}
-use Rattle.orc_ledger.proofs.Outwards.{there}
-use Rattle.orc_ledger.proofs.Growth.{path-unfold}
+use Rattle.orc_ledger.specs.Next.{Numbers, members, open_empty, is_empty, AreGrouped}
+use Rattle.orc_tables.specs.declared.records.Token.{Token}
+use Rattle.orc_tables.specs.declared.records.Call.{Call}
+use Rattle.orc_tables.specs.declared.records.Entered.{Entered}
+use Rattle.orc_tables.specs.declared.records.Entered.TheVariants.{Feed, Aid, Try}
+use Rattle.orc_tables.specs.declared.records.Step.{Step}
+use Rattle.orc_tables.specs.declared.records.Group.{Group}
+use Rattle.orc_tables.proofs.Weight.{weight-in, none-in, either_one, some-in, this_one}
+use Rattle.orc_tables.proofs.Placed.{there}
+use Rattle.orc_paths.proofs.Growth.{path-unfold}
 use Rattle.orc_ledger.proofs.Homes.{home-least}
-
--- where a list weighs something, something in it does
-pub some-in : {X : Type 0} (w : X → ℕ) (xs : List X) → 1 ≤ weight w xs → (x : X) × IsIn x xs × (1 ≤ w x)
-some-in w [] h = absurd (omega (arith, h))
-some-in w (x ∷ xs) h = ⊎_elim (λ a. (x, inl refl, a)) (λ b. let d = some-in w xs b in (d.0, inr d.1, d.2)) (either_one (w x) (weight w xs) h)
-
-pub this_one : (i j : ℕ) → 1 ≤ is_this i j → i ≡ j
-this_one i j h = go (nat_eq i j) refl h
-  where
-    go : (b : Bool) → nat_eq i j ≡ b → 1 ≤ cond {A = ℕ} b 1 0 → i ≡ j
-    go true e h = eqb-true i j e
-    go false e h = absurd (omega (arith, h))
 
 pub some_same : (v w : Nest) → Some v ≡ Some w → v ≡ w
 some_same v w e = cc e

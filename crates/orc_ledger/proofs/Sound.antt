@@ -12,17 +12,19 @@ use Rattle.orc_names.specs.declared.names.Bound.{Bound}
 use Rattle.orc_names.specs.declared.names.Bound.TheVariants.{Cell}
 use Rattle.orc_names.specs.declared.names.Scope.{Scope}
 use Rattle.orc_names.specs.Scopes.{current}
-use Rattle.orc_ledger.specs.Same.{weight, only, None}
-use Rattle.orc_ledger.specs.Spelling.{whole}
-use Rattle.orc_ledger.specs.Records.{Records, Sound, Lawful, token_row, has_left, token_out, step_out, group_out, entered_out, is_settled, tries, is_number, has_serial}
+use Rattle.orc_tables.specs.Same.{weight, only, None}
+use Rattle.orc_paths.specs.Spelling.{whole}
+use Rattle.orc_ledger.specs.Records.{Records, Sound, Lawful, token_row, token_out, group_out, is_settled, has_serial}
+use Rattle.orc_paths.specs.Paths.{has_left, step_out, entered_out, tries, is_number}
 use Rattle.orc_ledger.specs.Calls.{Turns}
-use Rattle.orc_ledger.specs.declared.records.Entered.{Entered}
-use Rattle.orc_ledger.specs.declared.records.Entered.TheVariants.{Feed, Aid, Try}
-use Rattle.orc_ledger.specs.declared.records.Token.{Token}
-use Rattle.orc_ledger.specs.declared.records.Step.{Step}
-use Rattle.orc_ledger.specs.declared.records.Group.{Group}
-use Rattle.orc_ledger.proofs.Weight.{weight-append, weight-in, weight-none, weight-same, none-alike, none-weaker, either_one}
-use Rattle.orc_ledger.proofs.Lists.{numbered, rows-weigh, times-marks, is_mark}
+use Rattle.orc_tables.specs.declared.records.Entered.{Entered}
+use Rattle.orc_tables.specs.declared.records.Entered.TheVariants.{Feed, Aid, Try}
+use Rattle.orc_tables.specs.declared.records.Token.{Token}
+use Rattle.orc_tables.specs.declared.records.Step.{Step}
+use Rattle.orc_tables.specs.declared.records.Group.{Group}
+use Rattle.orc_tables.proofs.Weight.{weight-append, weight-in, weight-none, weight-same, none-alike, none-weaker, either_one}
+use Rattle.orc_ledger.proofs.Lists.{numbered, rows-weigh}
+use Rattle.orc_paths.proofs.Finding.{times-marks, is_mark}
 use Rattle.orc_ledger.proofs.Turning.{lt_less, more_scopes, tokens_in, calls_in, groups_in}
 
 -- an element of a longer list

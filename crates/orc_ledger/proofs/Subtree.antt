@@ -8,30 +8,32 @@ use Rattle.std.specs.Prelude.{slice_get, ◌||◌}
 use Rattle.orc_rules.specs.Nodes.{Listing, code}
 use Rattle.orc_rules.specs.Sites.{Site}
 use Rattle.orc_rules.specs.Timed.{IsIn, IsRising}
-use Rattle.orc_ledger.specs.Same.{only}
-use Rattle.orc_ledger.specs.Spelling.{inside}
-use Rattle.orc_ledger.specs.Records.{Records, Lawful, its_env, raw_path, group_at}
-use Rattle.orc_ledger.specs.Calls.{AreCancelled, call_goes, has_number}
-use Rattle.orc_ledger.specs.Crowd.{is_listed, IsCrowd, HasAll}
-use Rattle.orc_ledger.specs.Homes.{home, aids, Nest, IsSubtree}
-use Rattle.orc_ledger.specs.Inside.{stands_inside, side_inside, numbers_inside}
+use Rattle.orc_tables.specs.Same.{only}
+use Rattle.orc_paths.specs.Spelling.{inside}
+use Rattle.orc_ledger.specs.Records.{Records, Lawful, its_env, raw_path}
+use Rattle.orc_tables.specs.Steps.{group_at}
+use Rattle.orc_ledger.specs.Calls.{AreCancelled, call_goes}
+use Rattle.orc_tables.specs.PendingCalls.{has_number}
+use Rattle.orc_tables.specs.Crowd.{is_listed, IsCrowd, HasAll}
+use Rattle.orc_ledger.specs.Homes.{home, Nest, IsSubtree}
+use Rattle.orc_tables.specs.Inside.{aids, stands_inside, side_inside, numbers_inside}
 use Rattle.orc_ledger.specs.Next.{AreGrouped, numbers_of, IsSide}
-use Rattle.orc_ledger.specs.Tokens.{live, IsHeld}
-use Rattle.orc_ledger.specs.declared.records.Token.{Token}
-use Rattle.orc_ledger.specs.declared.records.Call.{Call}
-use Rattle.orc_ledger.specs.declared.records.Entered.{Entered}
-use Rattle.orc_ledger.specs.declared.records.Entered.TheVariants.{Feed, Aid, Try}
-use Rattle.orc_ledger.specs.declared.records.Step.{Step}
-use Rattle.orc_ledger.specs.declared.records.Side.{Side}
-use Rattle.orc_ledger.specs.declared.records.Side.TheVariants.{Right, Left}
-use Rattle.orc_ledger.specs.declared.records.Group.{Group}
-use Rattle.orc_ledger.proofs.Weight.{weight-in}
-use Rattle.orc_ledger.proofs.Slots.{live-in}
+use Rattle.orc_tables.specs.Tokens.{live, IsHeld}
+use Rattle.orc_tables.specs.declared.records.Token.{Token}
+use Rattle.orc_tables.specs.declared.records.Call.{Call}
+use Rattle.orc_tables.specs.declared.records.Entered.{Entered}
+use Rattle.orc_tables.specs.declared.records.Entered.TheVariants.{Feed, Aid, Try}
+use Rattle.orc_tables.specs.declared.records.Step.{Step}
+use Rattle.orc_tables.specs.declared.records.Side.{Side}
+use Rattle.orc_tables.specs.declared.records.Side.TheVariants.{Right, Left}
+use Rattle.orc_tables.specs.declared.records.Group.{Group}
+use Rattle.orc_tables.proofs.Weight.{weight-in, some-in}
+use Rattle.orc_tables.proofs.Slots.{live-in}
 use Rattle.orc_ledger.proofs.Homes.{record-inside, set-inside, inn-step}
-use Rattle.orc_ledger.proofs.Someone.{some-in, some_same, token_within, call_within, get-within}
+use Rattle.orc_ledger.proofs.Someone.{some_same, token_within, call_within, get-within}
 use Rattle.orc_ledger.proofs.Emptied.{right-one, two-in}
 use Rattle.orc_ledger.proofs.Dropped.{among-inside, one_number, cancelled}
-use Rattle.orc_ledger.proofs.Crowded.{in-place, place-in, listed-in, in-listed}
+use Rattle.orc_tables.proofs.Crowded.{in-place, place-in, listed-in, in-listed}
 
 or_second : (a b : Bool) → b ≡ true → (a || b) ≡ true
 or_second true b h = refl

@@ -1,5 +1,5 @@
 -- The test that a call's record has the table's word decides it; and the due times of the records are those of the place.
-use Rattle.std.proofs.Common.{◌≡◌, ◌≤◌, ◌<◌, ℕ, ◌+◌, ◌^◌, List, [], ◌∷◌, refl, sym, ap, ◌∙◌, subst, arith, inl, inr, Bool, true, false, cond, nat_eq, not, map, Option, Some, None}
+use Rattle.std.proofs.Common.{◌≡◌, ◌<◌, ℕ, ◌+◌, ◌^◌, List, [], ◌∷◌, refl, sym, ap, ◌∙◌, subst, arith, inl, inr, Bool, true, false, cond, nat_eq, not, map, Some, None}
 use Rattle.std.proofs.lemmas.Bool.{eqb-true, ltb-true, ltb-false}
 use Rattle.std.proofs.lemmas.Bool.Decides.{Decides-int_eq}
 use Rattle.std.specs.Prelude.{◌&&◌, ◌||◌, nat_lt}
@@ -15,9 +15,8 @@ use Rattle.orc_rules.specs.Numbered.{AreCounted}
 use Rattle.orc_rules.proofs.Numbered.{next_not}
 use Rattle.orc_ledger.specs.Told.{found_eq, is_nth, is_told, IsTold, AreTold}
 use Rattle.orc_calls.specs.Due.{due_by}
-use Rattle.orc_ledger.specs.Next.{due_of, earlier, next_due}
-use Rattle.orc_ledger.specs.declared.records.Call.{Call}
-use Rattle.orc_ledger.proofs.Weight.{none-in}
+use Rattle.orc_tables.specs.declared.records.Call.{Call}
+use Rattle.orc_tables.proofs.Weight.{none-in}
 
 both_true : (a b : Bool) → (a && b) ≡ true → (a ≡ true) × (b ≡ true)
 both_true true b h = (refl, h)
@@ -106,50 +105,3 @@ is_due at f t d = ap (due_by at) d.says ∙ go (nat_lt (at + d.delay) (2 ^ 64)) 
     go : (b : Bool) → nat_lt (at + d.delay) (2 ^ 64) ≡ b → cond b (Some (at + d.delay)) None ≡ Some t
     go true e = ap Some (sym d.sum)
     go false e = absurd (omega (arith, ltb-false (at + d.delay) (2 ^ 64) e, d.sum, d.fits))
-
--- what the least is
-pub next_none : (cs : List Call) → next_due cs ≡ None → (c : Call) → IsIn c cs → due_of c ≡ None
-next_none [] h c i = elim i [ ]
-next_none (d ∷ cs) h c i = go (due_of d) refl (next_due cs) refl h i (λ k j. next_none cs k c j)
-  where
-    go : (o : Option ℕ) → due_of d ≡ o → (r : Option ℕ) → next_due cs ≡ r → earlier o r ≡ None → IsIn c (d ∷ cs) → (next_due cs ≡ None → IsIn c cs → due_of c ≡ None) → due_of c ≡ None
-    go None e r f h (inl s) ih = ap due_of s ∙ e
-    go None e r f h (inr j) ih = ih (f ∙ h) j
-    go (Some t) e None f h i ih = cc h
-    go (Some t) e (Some u) f h i ih = cc h
-
-pub next_some : (cs : List Call) (t : ℕ) → next_due cs ≡ Some t → (c : Call) × IsIn c cs × (due_of c ≡ Some t)
-next_some [] t h = cc h
-next_some (d ∷ cs) t h = go (due_of d) refl (next_due cs) refl h (λ u k. next_some cs u k)
-  where
-    go : (o : Option ℕ) → due_of d ≡ o → (r : Option ℕ) → next_due cs ≡ r → earlier o r ≡ Some t → ((u : ℕ) → next_due cs ≡ Some u → (c : Call) × IsIn c cs × (due_of c ≡ Some u)) → (c : Call) × IsIn c (d ∷ cs) × (due_of c ≡ Some t)
-    go None e r f h ih = let k = ih t (f ∙ h) in (k.0, inr k.1, k.2)
-    go (Some w) e None f h ih = (d, inl refl, e ∙ h)
-    go (Some w) e (Some u) f h ih = least (nat_lt u w) h
-      where
-        least : (b : Bool) → Some (cond b u w) ≡ Some t → (c : Call) × IsIn c (d ∷ cs) × (due_of c ≡ Some t)
-        least true h = let k = ih u f in (k.0, inr k.1, k.2 ∙ h)
-        least false h = (d, inl refl, e ∙ h)
-
-pub next_least : (cs : List Call) (t : ℕ) → next_due cs ≡ Some t → (c : Call) (u : ℕ) → IsIn c cs → due_of c ≡ Some u → t ≤ u
-next_least [] t h c u i e = elim i [ ]
-next_least (d ∷ cs) t h c u i e = go (due_of d) refl (next_due cs) refl h i (λ k j. next_none cs k c j) (λ w k j. next_least cs w k c u j e)
-  where
-    some_nat : (a b : ℕ) → Some a ≡ Some b → a ≡ b
-    some_nat a b h = cc h
-
-    go : (o : Option ℕ) → due_of d ≡ o → (r : Option ℕ) → next_due cs ≡ r → earlier o r ≡ Some t → IsIn c (d ∷ cs) → (next_due cs ≡ None → IsIn c cs → due_of c ≡ None) → ((w : ℕ) → next_due cs ≡ Some w → IsIn c cs → w ≤ u) → t ≤ u
-    go None f r g h (inl s) none ih = cc (e, ap due_of s, f)
-    go None f r g h (inr j) none ih = ih t (g ∙ h) j
-    go (Some w) f None g h (inl s) none ih = omega (arith, some_nat u w (sym e ∙ ap due_of s ∙ f), some_nat w t h)
-    go (Some w) f None g h (inr j) none ih = cc (e, none g j)
-    go (Some w) f (Some v) g h (inl s) none ih = least (nat_lt v w) refl h
-      where
-        least : (b : Bool) → nat_lt v w ≡ b → Some (cond b v w) ≡ Some t → t ≤ u
-        least true lt h = omega (arith, ltb-true v w lt, some_nat v t h, some_nat u w (sym e ∙ ap due_of s ∙ f))
-        least false lt h = omega (arith, some_nat w t h, some_nat u w (sym e ∙ ap due_of s ∙ f))
-    go (Some w) f (Some v) g h (inr j) none ih = least (nat_lt v w) refl h
-      where
-        least : (b : Bool) → nat_lt v w ≡ b → Some (cond b v w) ≡ Some t → t ≤ u
-        least true lt h = omega (arith, some_nat v t h, ih v g j)
-        least false lt h = omega (arith, ltb-false v w lt, some_nat w t h, ih v g j)

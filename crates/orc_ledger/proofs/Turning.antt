@@ -13,23 +13,24 @@ use Rattle.orc_names.specs.declared.names.Bound.{Bound}
 use Rattle.orc_names.specs.declared.names.Scope.{Scope}
 use Rattle.orc_names.specs.Scopes.{Env, close, current, envs_from, env_of}
 use Rattle.orc_names.proofs.Scopes.{env-kept}
-use Rattle.orc_ledger.specs.Same.{weight, only, None}
-use Rattle.orc_ledger.specs.Spelling.{whole, Row, stands, pends, Numbered, right_of, left_of, marks, sides, seen}
-use Rattle.orc_ledger.specs.Records.{Records, Sound, Lawful, context, its_env, raw_path, its_path, path, inwards, rows_of, sides_of, token_row, call_row, side_at, group_side, is_over, has_left, standing, is_out, token_out, call_out, side_out, group_out, counts}
+use Rattle.orc_tables.specs.Same.{weight, only, None}
+use Rattle.orc_paths.specs.Spelling.{whole, Row, stands, pends, Numbered, right_of, left_of, marks, sides, seen}
+use Rattle.orc_ledger.specs.Records.{Records, Sound, Lawful, context, its_env, raw_path, its_path, rows_of, sides_of, token_row, call_row, side_at, group_side, is_over, token_out, call_out, side_out, group_out, counts}
+use Rattle.orc_paths.specs.Paths.{path, inwards, has_left, standing, is_out}
 use Rattle.orc_ledger.specs.Calls.{Turns}
-use Rattle.orc_ledger.specs.declared.records.Standing.{Standing}
-use Rattle.orc_ledger.specs.declared.records.Standing.TheVariants.{At, On}
-use Rattle.orc_ledger.specs.declared.records.Token.{Token}
-use Rattle.orc_ledger.specs.declared.records.Step.{Step}
-use Rattle.orc_ledger.specs.declared.records.Side.{Side}
-use Rattle.orc_ledger.specs.declared.records.Side.TheVariants.{Right, Left}
-use Rattle.orc_ledger.specs.declared.records.Group.{Group}
+use Rattle.orc_tables.specs.declared.records.Standing.{Standing}
+use Rattle.orc_tables.specs.declared.records.Standing.TheVariants.{At, On}
+use Rattle.orc_tables.specs.declared.records.Token.{Token}
+use Rattle.orc_tables.specs.declared.records.Step.{Step}
+use Rattle.orc_tables.specs.declared.records.Side.{Side}
+use Rattle.orc_tables.specs.declared.records.Side.TheVariants.{Right, Left}
+use Rattle.orc_tables.specs.declared.records.Group.{Group}
 use Rattle.orc_ledger.proofs.Written.{written-kept}
-use Rattle.orc_ledger.proofs.Weight.{weight-append, weight-map, weight-filter, none-alike, none-weaker, none-in}
-use Rattle.orc_ledger.proofs.Around.{plug, unit, marks-plug, sides-plug}
+use Rattle.orc_tables.proofs.Weight.{weight-append, weight-map, weight-filter, none-alike, none-weaker, none-in}
+use Rattle.orc_paths.proofs.Around.{plug, unit, marks-plug, sides-plug}
 use Rattle.orc_ledger.proofs.Lists.{token_found}
 use Rattle.orc_ledger.proofs.Binding.{journal_more}
-use Rattle.orc_ledger.proofs.Growth.{or_false, both_false, left-more, standing-same, paths-same, path-kept, path-new, seen-same}
+use Rattle.orc_paths.proofs.Growth.{or_false, both_false, left-more, standing-same, paths-same, path-kept, path-new, seen-same}
 
 envs-current : (cells cells' : List Bound) → ((b : Bound) → current cells' b ≡ current cells b) → (es : List Env) (ss : List Scope) → envs_from cells' es ss ≡ envs_from cells es ss
 envs-current cells cells' same es [] = refl

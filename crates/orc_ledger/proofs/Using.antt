@@ -11,13 +11,14 @@ use Rattle.orc_rules.specs.Journal.{moment}
 use Rattle.orc_rules.proofs.Refusal.{meets_and_leads}
 use Rattle.orc_journal.specs.Texts.{count}
 use Rattle.orc_journal.proofs.Codes.{same_some}
-use Rattle.orc_ledger.specs.Same.{weight}
+use Rattle.orc_tables.specs.Same.{weight}
 use Rattle.orc_ledger.specs.Records.{Records, Lawful, context, counts}
-use Rattle.orc_ledger.specs.Doing.{what_of, is_wait, names}
+use Rattle.orc_ledger.specs.Doing.{what_of}
+use Rattle.orc_paths.specs.Doing.{is_wait, names}
 use Rattle.orc_ledger.specs.Whole.{is_rule}
-use Rattle.orc_ledger.specs.declared.records.Token.{Token}
-use Rattle.orc_ledger.specs.declared.what.What.{What}
-use Rattle.orc_ledger.specs.declared.what.What.TheVariants.{Halt, Fork, Seq, Prune, Other, Def, Void, Publish, Send, Bind, Call, Wait}
+use Rattle.orc_tables.specs.declared.records.Token.{Token}
+use Rattle.orc_paths.specs.declared.what.What.{What}
+use Rattle.orc_paths.specs.declared.what.What.TheVariants.{Halt, Fork, Seq, Prune, Other, Def, Void, Publish, Send, Bind, Call, Wait}
 use Rattle.orc_ledger.proofs.Offers.{names_fits}
 use Rattle.orc_ledger.proofs.Causes.{offer}
 use Rattle.orc_ledger.proofs.Withheld.{idle_moves}

@@ -9,13 +9,14 @@ use Rattle.orc_rules.specs.Timed.{IsIn}
 use Rattle.orc_rules.specs.Journal.{Place, Leads}
 use Rattle.orc_rules.specs.Refusal.{HasToken, IsThere}
 use Rattle.orc_rules.proofs.Refusal.{meets_and_leads}
-use Rattle.orc_ledger.specs.Spelling.{whole, stands}
+use Rattle.orc_paths.specs.Spelling.{whole, stands}
 use Rattle.orc_ledger.specs.Records.{Records, Lawful, context}
-use Rattle.orc_ledger.specs.Doing.{term_of, what_of, names, Asks}
-use Rattle.orc_ledger.specs.declared.records.Token.{Token}
-use Rattle.orc_ledger.specs.declared.what.What.{What}
-use Rattle.orc_ledger.specs.declared.what.What.TheVariants.{Halt, Fork, Seq, Prune, Other, Def, Void, Publish, Send, Bind, Call as Calls}
-use Rattle.orc_ledger.proofs.Finding.{stands_row}
+use Rattle.orc_ledger.specs.Doing.{term_of, what_of}
+use Rattle.orc_paths.specs.Doing.{names, Asks}
+use Rattle.orc_tables.specs.declared.records.Token.{Token}
+use Rattle.orc_paths.specs.declared.what.What.{What}
+use Rattle.orc_paths.specs.declared.what.What.TheVariants.{Halt, Fork, Seq, Prune, Other, Def, Void, Publish, Send, Bind, Call as Calls}
+use Rattle.orc_paths.proofs.Finding.{stands_row}
 use Rattle.orc_ledger.proofs.Offers.{some_0, names_fits}
 use Rattle.orc_ledger.proofs.Resting.{row_of}
 

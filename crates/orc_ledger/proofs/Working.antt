@@ -12,15 +12,16 @@ use Rattle.orc_rules.specs.Timed.{IsIn, IsDue}
 use Rattle.orc_rules.specs.Refusal.{HasCall}
 use Rattle.orc_ledger.specs.Records.{Records, Lawful, is_over}
 use Rattle.orc_ledger.specs.Told.{AreTold}
-use Rattle.orc_ledger.specs.Doing.{names}
-use Rattle.orc_ledger.specs.declared.what.What.{What}
-use Rattle.orc_ledger.specs.Next.{Numbers, AreGrouped, members, due_of, work, next_of}
-use Rattle.orc_ledger.specs.declared.records.Call.{Call}
-use Rattle.orc_ledger.specs.declared.records.Side.{Side}
-use Rattle.orc_ledger.specs.declared.records.Side.TheVariants.{Right, Left}
-use Rattle.orc_ledger.specs.declared.records.Group.{Group}
+use Rattle.orc_paths.specs.Doing.{names}
+use Rattle.orc_paths.specs.declared.what.What.{What}
+use Rattle.orc_ledger.specs.Next.{Numbers, AreGrouped, members, work, next_of}
+use Rattle.orc_tables.specs.PendingCalls.{due_of}
+use Rattle.orc_tables.specs.declared.records.Call.{Call}
+use Rattle.orc_tables.specs.declared.records.Side.{Side}
+use Rattle.orc_tables.specs.declared.records.Side.TheVariants.{Right, Left}
+use Rattle.orc_tables.specs.declared.records.Group.{Group}
 use Rattle.orc_ledger.specs.Laws.{Allowed, IsLeft}
-use Rattle.orc_ledger.proofs.Around.{cells_of, replaced}
+use Rattle.orc_paths.proofs.Around.{cells_of, replaced}
 use Rattle.orc_ledger.proofs.Lists.{call_found}
 use Rattle.orc_ledger.proofs.Causes.{leads_by, lost-leads, right-leads, offer}
 use Rattle.orc_ledger.proofs.Ended.{root-halted}

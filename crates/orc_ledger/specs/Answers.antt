@@ -8,13 +8,14 @@ use Rattle.orc_rules.specs.Nodes.{Listing, source}
 use Rattle.orc_rules.specs.Sites.{Site}
 use Rattle.orc_rules.specs.Timed.{IsIn, IsDue, IsTick}
 use Rattle.orc_rules.specs.Journal.{Place, Journal, begin, moment}
-use Rattle.orc_ledger.specs.Same.{weight}
+use Rattle.orc_tables.specs.Same.{weight}
 use Rattle.orc_ledger.specs.Records.{Records, context}
-use Rattle.orc_ledger.specs.Calls.{Exchanges, has_number}
-use Rattle.orc_ledger.specs.Tokens.{IsHeld}
-use Rattle.orc_ledger.specs.declared.records.Standing.TheVariants.{On}
-use Rattle.orc_ledger.specs.declared.records.Token.{Token}
-use Rattle.orc_ledger.specs.declared.records.Call.{Call}
+use Rattle.orc_ledger.specs.Calls.{Exchanges}
+use Rattle.orc_tables.specs.PendingCalls.{has_number}
+use Rattle.orc_tables.specs.Tokens.{IsHeld}
+use Rattle.orc_tables.specs.declared.records.Standing.TheVariants.{On}
+use Rattle.orc_tables.specs.declared.records.Token.{Token}
+use Rattle.orc_tables.specs.declared.records.Call.{Call}
 use Rattle.orc_ledger.specs.declared.calls.ReturnFault.{ReturnFault}
 use Rattle.orc_ledger.specs.declared.calls.ReturnFault.TheVariants as return_
 use Rattle.orc_ledger.specs.declared.ledger.LedgerFault.{LedgerFault}

@@ -5,11 +5,12 @@ use Rattle.orc_rules.specs.declared.value.Answer.TheVariants.{Value as Gives, Ha
 use Rattle.orc_rules.specs.declared.value.Found.TheVariants.{After}
 use Rattle.orc_rules.specs.Nodes.{Listing}
 use Rattle.orc_rules.specs.Sites.{Site}
-use Rattle.orc_ledger.specs.Records.{Records, group_at}
+use Rattle.orc_ledger.specs.Records.{Records}
+use Rattle.orc_tables.specs.Steps.{group_at}
 use Rattle.orc_ledger.specs.Requests.{IsMade}
 use Rattle.orc_ledger.specs.Answers.{IsReturned}
-use Rattle.orc_ledger.specs.declared.records.Token.{Token}
-use Rattle.orc_ledger.specs.declared.records.Call.{Call}
+use Rattle.orc_tables.specs.declared.records.Token.{Token}
+use Rattle.orc_tables.specs.declared.records.Call.{Call}
 use Rattle.orc_ledger.specs.declared.at_once.Called.{Called}
 use Rattle.orc_ledger.specs.declared.at_once.Called.TheVariants as called
 

@@ -2,13 +2,14 @@
 use Rattle.std.specs.Prelude.{◌≡◌, ℕ, List, Bool, true}
 use Rattle.orc_rules.specs.Term.{Term, Definition}
 use Rattle.orc_rules.specs.Timed.{IsIn}
-use Rattle.orc_ledger.specs.Spelling.{whole}
+use Rattle.orc_paths.specs.Spelling.{whole}
 use Rattle.orc_ledger.specs.Records.{Records}
-use Rattle.orc_ledger.specs.Doing.{is_wait, what_by, term_of}
-use Rattle.orc_ledger.specs.Awaiting.{cells_of}
-use Rattle.orc_ledger.specs.Parking.{Parked, IsNoted}
-use Rattle.orc_ledger.specs.Tokens.{IsParked}
-use Rattle.orc_ledger.specs.declared.records.Token.{Token}
+use Rattle.orc_paths.specs.Doing.{is_wait, what_by}
+use Rattle.orc_ledger.specs.Doing.{term_of}
+use Rattle.orc_paths.specs.Awaiting.{cells_of}
+use Rattle.orc_tables.specs.Parking.{Parked, IsNoted}
+use Rattle.orc_tables.specs.Tokens.{IsParked}
+use Rattle.orc_tables.specs.declared.records.Token.{Token}
 
 -- a token on this term waits, whatever stands round it
 abbrev pub waits : List Definition → Term → Bool

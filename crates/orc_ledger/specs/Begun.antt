@@ -2,7 +2,7 @@
 use Rattle.std.specs.Prelude.{ℕ, [], ◌∷◌}
 use Rattle.orc_names.specs.declared.names.Bound.TheVariants as bound
 use Rattle.orc_ledger.specs.Records.{Records}
-use Rattle.orc_ledger.specs.declared.records.Standing.TheVariants.{At}
+use Rattle.orc_tables.specs.declared.records.Standing.TheVariants.{At}
 
 -- token 1 stands at the root, and nothing has been done
 abbrev pub begun : ℕ → ℕ → Records

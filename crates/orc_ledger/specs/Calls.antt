@@ -1,28 +1,29 @@
 -- What the calls of a book do to its records.
-use Rattle.std.specs.Prelude.{ℕ, ◌+◌, ◌≡◌, ◌≤◌, ◌<◌, ◌⊎◌, ◌↔◌, List, [], ◌∷◌, ◌++◌, Bool, true, false, cond, nat_eq, map, length, slice_set}
+use Rattle.std.specs.Prelude.{ℕ, ◌+◌, ◌≡◌, ◌≤◌, ◌<◌, ◌⊎◌, ◌↔◌, List, [], ◌∷◌, ◌++◌, Bool, false, nat_eq, length, slice_set}
 use Rattle.orc_rules.specs.declared.entry.Entry.{Entry}
 use Rattle.orc_rules.specs.declared.limits.TheConstants.{MOST_TOKENS, MOST_GROUPS, MOST_FRAMES}
 use Rattle.orc_rules.specs.declared.entry.Entry.TheVariants.{End, Fork, Seq, Other, Open, Void as Void_, Right as Right_}
 use Rattle.orc_rules.specs.Term.{Term}
 use Rattle.orc_rules.specs.Timed.{IsIn, IsRising}
-use Rattle.orc_rules.specs.Numbered.{once}
-use Rattle.orc_rules.specs.Numbered.Name.{call}
 use Rattle.orc_names.specs.declared.names.Bound.{Bound}
 use Rattle.orc_names.specs.declared.names.Bound.TheVariants.{Cell}
 use Rattle.orc_names.specs.declared.names.Scope.{Scope}
-use Rattle.orc_ledger.specs.Same.{weight, only, but, None}
-use Rattle.orc_ledger.specs.Spelling.{Path, whole, feeding, aiding, trying, inside}
-use Rattle.orc_ledger.specs.Records.{Records, raw_path, has_left, group_at, depth_at}
-use Rattle.orc_ledger.specs.declared.records.Standing.TheVariants.{At}
-use Rattle.orc_ledger.specs.declared.records.Entered.TheVariants.{Feed, Aid, Try}
-use Rattle.orc_ledger.specs.declared.records.Step.{Step}
-use Rattle.orc_ledger.specs.declared.records.Token.{Token}
-use Rattle.orc_ledger.specs.declared.records.Call.{Call}
-use Rattle.orc_ledger.specs.declared.records.Side.{Side}
-use Rattle.orc_ledger.specs.declared.records.Side.TheVariants.{Right, Left}
-use Rattle.orc_ledger.specs.declared.records.Group.{Group}
+use Rattle.orc_tables.specs.Same.{weight, only, but, None}
+use Rattle.orc_paths.specs.Spelling.{Path, aiding, inside}
+use Rattle.orc_ledger.specs.Records.{Records, raw_path}
+use Rattle.orc_tables.specs.Steps.{group_at, depth_at}
+use Rattle.orc_tables.specs.declared.records.Standing.TheVariants.{At}
+use Rattle.orc_tables.specs.declared.records.Entered.TheVariants.{Feed, Aid, Try}
+use Rattle.orc_tables.specs.declared.records.Step.{Step}
+use Rattle.orc_tables.specs.declared.records.Token.{Token}
+use Rattle.orc_tables.specs.declared.records.Call.{Call}
+use Rattle.orc_tables.specs.declared.records.Side.{Side}
+use Rattle.orc_tables.specs.declared.records.Side.TheVariants.{Right, Left}
+use Rattle.orc_tables.specs.declared.records.Group.{Group}
 use Rattle.orc_ledger.specs.declared.ledger.LedgerFault.{LedgerFault}
 use Rattle.orc_ledger.specs.declared.ledger.LedgerFault.TheVariants as fault
+use Rattle.orc_tables.specs.PendingCalls.{has_number}
+use Rattle.orc_paths.specs.Taking.{Publishes}
 
 -- inside the right side of cell c; that side's own group too
 abbrev pub is_inside : ℕ → Path → Side → Bool
@@ -38,10 +39,6 @@ module _ (code : ℕ → Term) (c : ℕ) (s : Records) where
 
   abbrev pub group_goes : Group → Bool
   group_goes g = is_inside c (raw_path code s g.outer) g.side
-
--- 1 for call k
-abbrev pub has_number : ℕ → Call → ℕ
-has_number k c = once (call k) (call c.number)
 
 -- the right side of cell c is dropped: what is inside goes, all else stays, and the cell has become u
 pub record Drops (code : ℕ → Term) (c : ℕ) (u : Bound) (s s' : Records) : Type 0 where
@@ -121,20 +118,6 @@ IsRefused s tokens groups depth fault.Full = IsFull s tokens groups depth
 IsRefused s tokens groups depth fault.Limit = HasRoom s tokens groups depth × (s.limit ≤ s.entries)
 IsRefused s tokens groups depth fault.Memory = HasRoom s tokens groups depth × (s.entries < s.limit)
 
--- what has been left once these otherwises are left too
-abbrev pub left_all : List ℕ → (ℕ → Bool) → ℕ → Bool
-left_all [] left = left
-left_all (n ∷ ns) left = left_all ns (λ m. cond (nat_eq n m) true (left m))
-
--- a step without its mark
-abbrev pub bare : Step → Step
-bare p = record { entered = p.entered; outer = p.outer; group = p.group; depth = p.depth; published = false }
-
--- the steps once a publication has left these otherwises
-pub record Publishes (ns : List ℕ) (ss ss' : List Step) : Type 0 where
-  pub left : (n : ℕ) → has_left ss' n ≡ left_all ns (has_left ss) n
-  pub alike : map bare ss' ≡ map bare ss
-
 -- the token t publishes past these otherwises, and others come
 pub record Crosses (s s' : Records) (t : Token) (births : List Token) (ss : List Scope) (ns : List ℕ) (e : Entry) : Type 0 where
   pub limit : s'.limit ≡ s.limit
@@ -179,13 +162,6 @@ pub record Closes (s s' : Records) (g : Group) : Type 0 where
   pub scopes : s'.scopes ≡ s.scopes
   pub steps : s'.steps ≡ s.steps
   pub cells : s'.cells ≡ s.cells
-
--- the path is inside the left side of otherwise n
-abbrev pub within : ℕ → Path → Bool
-within n whole = false
-within n (feeding x g p) = within n p
-within n (aiding c p) = within n p
-within n (trying m p) = cond (nat_eq n m) true (within n p)
 
 -- some tokens and calls go and others come; `made` calls are new
 pub record Exchanges (s s' : Records) (ts ts' : List Token) (cs cs' : List Call) (made : ℕ) (e : Entry) : Type 0 where

@@ -4,8 +4,10 @@ use Rattle.orc_rules.specs.declared.entry.Entry.TheVariants as entry
 use Rattle.orc_rules.specs.Term.{Term}
 use Rattle.orc_rules.specs.Timed.{IsIn}
 use Rattle.orc_names.specs.declared.names.Bound.TheVariants as bound
-use Rattle.orc_ledger.specs.Records.{Records, has_left, is_over, group_at}
-use Rattle.orc_ledger.specs.Tokens.{IsHeld}
+use Rattle.orc_ledger.specs.Records.{Records, is_over}
+use Rattle.orc_paths.specs.Paths.{has_left}
+use Rattle.orc_tables.specs.Steps.{group_at}
+use Rattle.orc_tables.specs.Tokens.{IsHeld}
 use Rattle.orc_ledger.specs.Calls.{Drops, Resumes, Closes, IsRefused}
 use Rattle.orc_ledger.specs.Next.{members, numbers_of}
 use Rattle.orc_ledger.specs.declared.ledger.LedgerFault.{LedgerFault}
@@ -13,10 +15,10 @@ use Rattle.orc_ledger.specs.declared.halting.Halted.{Halted}
 use Rattle.orc_ledger.specs.declared.halting.Halted.TheVariants.{Lost, Resumed, Closed}
 use Rattle.orc_ledger.specs.declared.halting.HaltFault.{HaltFault}
 use Rattle.orc_ledger.specs.declared.halting.HaltFault.TheVariants.{Gone, Live, Refused}
-use Rattle.orc_ledger.specs.declared.records.Standing.TheVariants.{At}
-use Rattle.orc_ledger.specs.declared.records.Side.{Side}
-use Rattle.orc_ledger.specs.declared.records.Side.TheVariants.{Right, Left}
-use Rattle.orc_ledger.specs.declared.records.Group.{Group}
+use Rattle.orc_tables.specs.declared.records.Standing.TheVariants.{At}
+use Rattle.orc_tables.specs.declared.records.Side.{Side}
+use Rattle.orc_tables.specs.declared.records.Side.TheVariants.{Right, Left}
+use Rattle.orc_tables.specs.declared.records.Group.{Group}
 
 -- an open group has this number
 abbrev pub IsGroup : Records → ℕ → Group → Type 0

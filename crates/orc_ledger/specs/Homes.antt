@@ -1,8 +1,9 @@
 -- Which groups stand inside the right side of a cell, by the groups' parents.
-use Rattle.std.specs.Prelude.{◌≡◌, ℕ, zero, suc, List, Bool, false, nat_eq, ◌||◌, Option, Some, slice_get, slice_index_or}
-use Rattle.orc_ledger.specs.declared.records.Entered.{Entered}
-use Rattle.orc_ledger.specs.declared.records.Entered.TheVariants.{Feed, Aid, Try}
-use Rattle.orc_ledger.specs.declared.records.Step.{Step}
+use Rattle.std.specs.Prelude.{◌≡◌, ℕ, zero, suc, List, Bool, false, ◌||◌, Option, Some, slice_get, slice_index_or}
+use Rattle.orc_tables.specs.declared.records.Entered.{Entered}
+use Rattle.orc_tables.specs.declared.records.Entered.TheVariants.{Feed, Aid, Try}
+use Rattle.orc_tables.specs.declared.records.Step.{Step}
+use Rattle.orc_tables.specs.Inside.{aids}
 
 -- the home of each step, from step 1 on: the innermost side that it is in; 0 where it is in none
 abbrev pub home : List ℕ → ℕ → ℕ
@@ -16,11 +17,6 @@ home_by hs i p (Try n) = i
 
 abbrev pub AreHomes : List ℕ → List Step → Type 0
 AreHomes hs ss = (k : ℕ) (p : Step) → slice_get ss k ≡ Some p → home hs (suc k) ≡ home_by hs (suc k) p p.entered
-
-abbrev pub aids : ℕ → Entered → Bool
-aids c (Feed x g scope) = false
-aids c (Aid d) = nat_eq c d
-aids c (Try n) = false
 
 -- a group: the step of its side, and its parent's number
 pub record Nest : Type 0 where

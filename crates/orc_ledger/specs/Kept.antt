@@ -4,10 +4,9 @@ use Rattle.orc_rules.specs.Nodes.{Listing, code, definitions}
 use Rattle.orc_rules.specs.Sites.{Site}
 use Rattle.orc_calls.specs.Counting.{AreCounted}
 use Rattle.orc_ledger.specs.Records.{Records, Lawful}
-use Rattle.orc_ledger.specs.Next.{AreGrouped, numbers_of}
-use Rattle.orc_ledger.specs.OpenGroups.{AreSizes}
+use Rattle.orc_ledger.specs.Next.{AreGrouped, numbers_of, AreSizes}
 use Rattle.orc_ledger.specs.Told.{AreTold}
-use Rattle.orc_ledger.specs.Parking.{Parked}
+use Rattle.orc_tables.specs.Parking.{Parked}
 use Rattle.orc_ledger.specs.AtRest.{AreAtRest}
 
 pub record Kept (l : Listing) (sites : List Site) (counts : List (List ℕ × ℕ)) (sizes : List ℕ) (s : Records) : Type 0 where

@@ -12,13 +12,15 @@ use Rattle.orc_rules.specs.Timed.{IsIn, IsTick, IsQuiet}
 use Rattle.orc_rules.specs.Journal.{Place, Leads, moment}
 use Rattle.orc_rules.specs.Refusal.{Fits}
 use Rattle.orc_ledger.specs.Records.{Records, Lawful, context, is_over}
-use Rattle.orc_ledger.specs.Doing.{term_of, what_of, is_wait, moves_marks, names, Asks}
+use Rattle.orc_ledger.specs.Doing.{term_of, what_of}
+use Rattle.orc_paths.specs.Doing.{is_wait, moves_marks, names, Asks}
 use Rattle.orc_ledger.specs.Told.{AreTold}
-use Rattle.orc_ledger.specs.Next.{Numbers, AreGrouped, members, due_of, work, ticks, quiet, next_of}
-use Rattle.orc_ledger.specs.declared.records.Token.{Token}
-use Rattle.orc_ledger.specs.declared.records.Call.{Call}
-use Rattle.orc_ledger.specs.declared.records.Group.{Group}
-use Rattle.orc_ledger.specs.declared.what.What.{What}
+use Rattle.orc_ledger.specs.Next.{Numbers, AreGrouped, members, work, ticks, quiet, next_of}
+use Rattle.orc_tables.specs.PendingCalls.{due_of}
+use Rattle.orc_tables.specs.declared.records.Token.{Token}
+use Rattle.orc_tables.specs.declared.records.Call.{Call}
+use Rattle.orc_tables.specs.declared.records.Group.{Group}
+use Rattle.orc_paths.specs.declared.what.What.{What}
 
 -- ---- what a place allows
 module _ (l : Listing) (sites : List Site) (p : Place) where

@@ -6,23 +6,24 @@ use Rattle.orc_rules.specs.Term.{Term, call, par, seq, prune, other}
 use Rattle.orc_rules.specs.Nodes.{Listing, code, definitions, param_of}
 use Rattle.orc_names.specs.declared.names.Bound.TheVariants as bound
 use Rattle.orc_names.specs.Scopes.{close, without}
-use Rattle.orc_ledger.specs.Spelling.{feeding}
-use Rattle.orc_ledger.specs.Records.{Records, its_env, its_path, group_at, depth_at}
-use Rattle.orc_ledger.specs.Tokens.{IsHeld}
-use Rattle.orc_ledger.specs.Taking.{taker, crossed, HasStep}
+use Rattle.orc_paths.specs.Spelling.{feeding}
+use Rattle.orc_ledger.specs.Records.{Records, its_env, its_path}
+use Rattle.orc_tables.specs.Steps.{group_at, depth_at}
+use Rattle.orc_tables.specs.Tokens.{IsHeld}
+use Rattle.orc_paths.specs.Taking.{taker, crossed, HasStep}
 use Rattle.orc_ledger.specs.Calls.{Crosses, Drops, AreCancelled, IsEnded, IsVoided, IsForked, IsFed, IsTried, IsOpened, IsFree, IsRefused, born}
 use Rattle.orc_ledger.specs.Parameters.{IsCalled, IsUndone}
 use Rattle.orc_ledger.specs.Doing.{what_of}
-use Rattle.orc_ledger.specs.declared.what.What.{What}
-use Rattle.orc_ledger.specs.declared.what.What.TheVariants.{Halt, Fork, Seq, Prune, Other, Def, Void, Publish, Send, Bind, Call, Wait}
+use Rattle.orc_paths.specs.declared.what.What.{What}
+use Rattle.orc_paths.specs.declared.what.What.TheVariants.{Halt, Fork, Seq, Prune, Other, Def, Void, Publish, Send, Bind, Call, Wait}
 use Rattle.orc_ledger.specs.declared.ledger.LedgerFault.{LedgerFault}
 use Rattle.orc_ledger.specs.declared.moves.Moved.{Moved}
 use Rattle.orc_ledger.specs.declared.moves.Moved.TheVariants as moved
-use Rattle.orc_ledger.specs.declared.taking.Taker.{Taker}
-use Rattle.orc_ledger.specs.declared.taking.Taker.TheVariants as by
-use Rattle.orc_ledger.specs.declared.records.Entered.TheVariants.{Aid}
-use Rattle.orc_ledger.specs.declared.records.Standing.TheVariants.{At}
-use Rattle.orc_ledger.specs.declared.records.Token.{Token}
+use Rattle.orc_paths.specs.declared.taking.Taker.{Taker}
+use Rattle.orc_paths.specs.declared.taking.Taker.TheVariants as by
+use Rattle.orc_tables.specs.declared.records.Entered.TheVariants.{Aid}
+use Rattle.orc_tables.specs.declared.records.Standing.TheVariants.{At}
+use Rattle.orc_tables.specs.declared.records.Token.{Token}
 
 -- the token stands at a node of this term, in this scope
 abbrev pub StandsAt : Listing → Token → ℕ → Term → Type 0

@@ -1,35 +1,23 @@
 -- What a book does next, as a function of its records and of the groups that the tables note.
-use Rattle.std.specs.Prelude.{◌≡◌, ℕ, zero, suc, ◌+◌, List, [], ◌∷◌, Bool, true, false, cond, nat_eq, nat_lt, ◌≤◌, Option, Some, None, slice_get}
+use Rattle.std.specs.Prelude.{◌≡◌, ℕ, zero, suc, ◌+◌, List, Bool, true, false, cond, nat_lt, ◌≤◌, Option, Some, None, slice_get}
 use Rattle.orc_rules.specs.Term.{Term, Definition}
 use Rattle.orc_rules.specs.Timed.{IsIn}
-use Rattle.orc_calls.specs.Due.{due_by}
-use Rattle.orc_ledger.specs.Same.{weight}
-use Rattle.orc_ledger.specs.Records.{Records, group_at}
-use Rattle.orc_ledger.specs.Doing.{what_of, is_wait}
+use Rattle.orc_tables.specs.Same.{weight, is_this}
+use Rattle.orc_ledger.specs.Records.{Records}
+use Rattle.orc_tables.specs.Steps.{group_at}
+use Rattle.orc_ledger.specs.Doing.{what_of}
+use Rattle.orc_paths.specs.Doing.{is_wait}
 use Rattle.orc_ledger.specs.Homes.{home, AreHomes, Nest, AreNests}
-use Rattle.orc_ledger.specs.declared.records.Token.{Token}
-use Rattle.orc_ledger.specs.declared.records.Call.{Call}
-use Rattle.orc_ledger.specs.declared.records.Entered.{Entered}
-use Rattle.orc_ledger.specs.declared.records.Entered.TheVariants.{Feed, Aid, Try}
-use Rattle.orc_ledger.specs.declared.records.Step.{Step}
-use Rattle.orc_ledger.specs.declared.records.Side.{Side}
-use Rattle.orc_ledger.specs.declared.records.Side.TheVariants.{Right, Left}
-use Rattle.orc_ledger.specs.declared.records.Group.{Group}
-
--- ---- due times
-
-abbrev pub due_of : Call → Option ℕ
-due_of c = due_by c.made_at c.found
-
-abbrev pub earlier : Option ℕ → Option ℕ → Option ℕ
-earlier None o = o
-earlier (Some t) None = Some t
-earlier (Some t) (Some u) = Some (cond (nat_lt u t) u t)
-
--- the least due time of the pending calls
-abbrev pub next_due : List Call → Option ℕ
-next_due [] = None
-next_due (c ∷ cs) = earlier (due_of c) (next_due cs)
+use Rattle.orc_tables.specs.declared.records.Token.{Token}
+use Rattle.orc_tables.specs.declared.records.Call.{Call}
+use Rattle.orc_tables.specs.declared.records.Entered.{Entered}
+use Rattle.orc_tables.specs.declared.records.Entered.TheVariants.{Feed, Aid, Try}
+use Rattle.orc_tables.specs.declared.records.Step.{Step}
+use Rattle.orc_tables.specs.declared.records.Side.{Side}
+use Rattle.orc_tables.specs.declared.records.Side.TheVariants.{Right, Left}
+use Rattle.orc_tables.specs.declared.records.Group.{Group}
+use Rattle.orc_tables.specs.PendingCalls.{next_due}
+use Rattle.orc_tables.specs.OpenGroups.{size_of}
 
 -- ---- groups
 
@@ -40,9 +28,6 @@ pub record Numbers : Type 0 where
   pub number : Group → ℕ
   pub parent : Group → ℕ
 
-abbrev pub is_this : ℕ → ℕ → ℕ
-is_this i j = cond (nat_eq i j) 1 0
-
 -- a token and a call are in the group of their step, a group has its number, and its parent is the group of the step round it
 abbrev pub numbers_of : Records → Numbers
 numbers_of s = record { token = λ t. group_at s.steps t.step; call = λ c. group_at s.steps c.step; number = λ g. g.number; parent = λ g. group_at s.steps g.outer }
@@ -50,6 +35,10 @@ numbers_of s = record { token = λ t. group_at s.steps t.step; call = λ c. grou
 -- how many tokens, calls and groups a group has
 abbrev pub members : Numbers → Records → ℕ → ℕ
 members n s i = weight (λ (t : Token). is_this i (n.token t)) s.tokens + (weight (λ (c : Call). is_this i (n.call c)) s.calls + weight (λ (g : Group). is_this i (n.parent g)) s.groups)
+
+-- the table says of each number how many members it has
+abbrev pub AreSizes : List ℕ → Records → Type 0
+AreSizes sizes s = (i : ℕ) → size_of sizes i ≡ members (numbers_of s) s i
 
 abbrev pub is_empty : ℕ → ℕ
 is_empty zero = 1

@@ -8,20 +8,21 @@ use Rattle.orc_rules.specs.Nodes.{Listing, code, definitions}
 use Rattle.orc_rules.specs.Sites.{Site}
 use Rattle.orc_rules.specs.Timed.{IsIn, IsQuiet}
 use Rattle.orc_rules.specs.Journal.{Place, Leads, moment}
-use Rattle.orc_ledger.specs.Spelling.{Path, inside}
-use Rattle.orc_ledger.specs.Records.{Records, context, raw_path, has_left}
-use Rattle.orc_ledger.specs.Calls.{within}
-use Rattle.orc_ledger.specs.Doing.{term_of, what_of, names, Asks}
+use Rattle.orc_paths.specs.Spelling.{Path, inside, within}
+use Rattle.orc_ledger.specs.Records.{Records, context, raw_path}
+use Rattle.orc_paths.specs.Paths.{has_left}
+use Rattle.orc_ledger.specs.Doing.{term_of, what_of}
+use Rattle.orc_paths.specs.Doing.{names, Asks}
 use Rattle.orc_ledger.specs.Next.{Next, ticks, quiet, next_of, numbers_of}
 use Rattle.orc_ledger.specs.Answers.{IsAt, MayTick, Pends, IsUnanswered}
 use Rattle.orc_ledger.specs.Laws.{IsLeft}
 use Rattle.orc_ledger.specs.declared.calls.ReturnFault.TheVariants as return_
-use Rattle.orc_ledger.specs.declared.what.What.{What}
-use Rattle.orc_ledger.specs.declared.what.What.TheVariants.{Halt, Fork, Seq, Other}
-use Rattle.orc_ledger.specs.declared.records.Token.{Token}
-use Rattle.orc_ledger.specs.declared.records.Call.{Call}
-use Rattle.orc_ledger.specs.declared.records.Side.TheVariants as side
-use Rattle.orc_ledger.specs.declared.records.Group.{Group}
+use Rattle.orc_paths.specs.declared.what.What.{What}
+use Rattle.orc_paths.specs.declared.what.What.TheVariants.{Halt, Fork, Seq, Other}
+use Rattle.orc_tables.specs.declared.records.Token.{Token}
+use Rattle.orc_tables.specs.declared.records.Call.{Call}
+use Rattle.orc_tables.specs.declared.records.Side.TheVariants as side
+use Rattle.orc_tables.specs.declared.records.Group.{Group}
 
 -- the word is a move of marks
 abbrev pub is_move : What → Bool

@@ -1,11 +1,10 @@
 -- What the records of a book spell.
-use Rattle.std.specs.Prelude.{ℕ, zero, suc, ◌+◌, ◌*◌, ◌≤◌, ◌≡◌, List, [], ◌∷◌, ◌++◌, length, map, filter, Bool, true, false, cond, nat_eq, nat_lt, not, ◌&&◌, ◌||◌, slice_index_or, slice_get, Option, Some, None as Nothing}
+use Rattle.std.specs.Prelude.{ℕ, suc, ◌+◌, ◌*◌, ◌≤◌, ◌≡◌, List, [], ◌++◌, length, map, filter, Bool, true, false, cond, nat_eq, nat_lt, not, ◌||◌, slice_get, Option, Some}
 use Rattle.orc_rules.specs.declared.entry.Entry.{Entry}
 use Rattle.orc_rules.specs.declared.entry.Entry.TheVariants.{Cancel}
 use Rattle.orc_rules.specs.declared.entry.Entry.TheVariants as entry
 use Rattle.orc_rules.specs.declared.limits.TheConstants.{MOST_ENTRIES}
-use Rattle.orc_rules.specs.declared.param.Param.TheVariants.{Is}
-use Rattle.orc_rules.specs.Term.{Term, param}
+use Rattle.orc_rules.specs.Term.{Term}
 use Rattle.orc_rules.specs.Nodes.{Listing, code, source, definitions}
 use Rattle.orc_rules.specs.Sites.{Site}
 use Rattle.orc_rules.specs.Timed.{Context}
@@ -13,37 +12,17 @@ use Rattle.orc_rules.specs.Journal.{Place, Journal, begin}
 use Rattle.orc_names.specs.declared.names.Bound.{Bound}
 use Rattle.orc_names.specs.declared.names.Bound.TheVariants.{Cell}
 use Rattle.orc_names.specs.declared.names.Scope.{Scope}
-use Rattle.orc_names.specs.Scopes.{Env, env_of, close, without}
+use Rattle.orc_names.specs.Scopes.{Env, env_of, close}
 use Rattle.orc_names.specs.Names.{AreOrdered}
-use Rattle.orc_ledger.specs.Same.{weight, Same, None as Nobody}
-use Rattle.orc_ledger.specs.Spelling.{Path, whole, feeding, aiding, trying, Row, stands, pends, Numbered, right_of, left_of, marks, sides, seen}
-use Rattle.orc_ledger.specs.declared.records.Standing.{Standing}
-use Rattle.orc_ledger.specs.declared.records.Standing.TheVariants.{At, On}
-use Rattle.orc_ledger.specs.declared.records.Token.{Token}
-use Rattle.orc_ledger.specs.declared.records.Call.{Call}
-use Rattle.orc_ledger.specs.declared.records.Entered.{Entered}
-use Rattle.orc_ledger.specs.declared.records.Entered.TheVariants.{Feed, Aid, Try}
-use Rattle.orc_ledger.specs.declared.records.Step.{Step}
-use Rattle.orc_ledger.specs.declared.records.Side.{Side}
-use Rattle.orc_ledger.specs.declared.records.Side.TheVariants.{Right, Left}
-use Rattle.orc_ledger.specs.declared.records.Group.{Group}
-
--- the group of a token that took this step last, and how many left sides of a `>x>` are round it; step 0 is the program
-abbrev pub group_of : Option Step → ℕ
-group_of (Some p) = p.group
-group_of Nothing = 0
-
-abbrev pub depth_of : Option Step → ℕ
-depth_of (Some p) = p.depth
-depth_of Nothing = 0
-
-abbrev pub group_at : List Step → ℕ → ℕ
-group_at ss zero = 0
-group_at ss (suc k) = group_of (slice_get ss k)
-
-abbrev pub depth_at : List Step → ℕ → ℕ
-depth_at ss zero = 0
-depth_at ss (suc k) = depth_of (slice_get ss k)
+use Rattle.orc_tables.specs.Same.{weight, Same, None as Nobody}
+use Rattle.orc_paths.specs.Spelling.{Path, whole, Row, stands, pends, Numbered, right_of, left_of, marks, sides, seen}
+use Rattle.orc_tables.specs.declared.records.Token.{Token}
+use Rattle.orc_tables.specs.declared.records.Call.{Call}
+use Rattle.orc_tables.specs.declared.records.Step.{Step}
+use Rattle.orc_tables.specs.declared.records.Side.{Side}
+use Rattle.orc_tables.specs.declared.records.Side.TheVariants.{Right, Left}
+use Rattle.orc_tables.specs.declared.records.Group.{Group}
+use Rattle.orc_paths.specs.Paths.{standing, path, has_left, is_out, step_out, tries}
 
 -- what callers of a book see
 pub record Records : Type 0 where
@@ -60,38 +39,6 @@ pub record Records : Type 0 where
   pub steps : List Step
   pub groups : List Group  -- the open ones, the root left out
   pub cells : List Bound  -- by number, an unbound one itself; there is no cell 0
-
--- ---- what the records mean, over the program's terms and the scopes' environments
-module _ (code : ℕ → Term) (env : ℕ → Env) where
-  -- the term under a token
-  abbrev pub standing : Standing → Term
-  standing (At node scope) = close (env scope) (code node)
-  standing (On v) = param (Is v)
-
-  -- one step inwards
-  abbrev pub inwards : Entered → Path → Path
-  inwards (Feed x g scope) p = feeding x (close (without x (env scope)) (code g)) p
-  inwards (Aid c) p = aiding c p
-  inwards (Try n) p = trying n p
-
-  -- the path that each step leads to, after those that are there
-  abbrev pub paths_from : List Path → List Step → List Path
-  paths_from ps [] = ps
-  paths_from ps (s ∷ ss) = paths_from (ps ++ inwards s.entered (slice_index_or ps s.outer whole) ∷ []) ss
-
-  -- the path of step i; there is no step 0
-  abbrev pub path : List Step → ℕ → Path
-  path ss i = slice_index_or (paths_from (whole ∷ []) ss) i whole
-
-abbrev pub is_number : ℕ → Entered → Bool
-is_number n (Feed x g scope) = false
-is_number n (Aid c) = false
-is_number n (Try m) = nat_eq n m
-
--- a publication has left otherwise n
-abbrev pub has_left : List Step → ℕ → Bool
-has_left [] n = false
-has_left (s ∷ ss) n = (s.published && is_number n s.entered) || has_left ss n
 
 module _ (code : ℕ → Term) (s : Records) where
   abbrev pub its_env : ℕ → Env
@@ -140,24 +87,11 @@ pub record Spells (code : ℕ → Term) (s : Records) (p : Place) : Type 0 where
   pub made : length p.calls ≡ s.made
   pub none_due : p.to_cancel ≡ []
 
--- ---- the records name what is there
-abbrev pub is_out : ℕ → Standing → Bool
-is_out n (At node scope) = nat_lt n scope
-is_out n (On v) = false
-
 abbrev pub token_out : ℕ → ℕ → Token → Bool
 token_out n m t = is_out n t.standing || nat_lt m t.step
 
 abbrev pub call_out : ℕ → Call → Bool
 call_out m c = nat_lt m c.step
-
-abbrev pub entered_out : ℕ → ℕ → Entered → Bool
-entered_out n next (Feed x g scope) = nat_lt n scope
-entered_out n next (Aid c) = false
-entered_out n next (Try m) = not (nat_lt m next)
-
-abbrev pub step_out : ℕ → ℕ → Step → Bool
-step_out n next p = entered_out n next p.entered
 
 abbrev pub side_out : ℕ → Side → Bool
 side_out n (Right c) = false
@@ -165,10 +99,6 @@ side_out n (Left m g scope) = nat_lt n scope
 
 abbrev pub group_out : ℕ → ℕ → Group → Bool
 group_out n m g = side_out n g.side || nat_lt m g.outer
-
--- how often a number is a step's otherwise's
-abbrev pub tries : ℕ → Step → ℕ
-tries m p = cond (is_number m p.entered) 1 0
 
 abbrev pub has_serial : ℕ → Token → ℕ
 has_serial m t = cond (nat_eq m t.serial) 1 0

@@ -9,10 +9,11 @@ use Rattle.orc_rules.specs.Journal.{Place}
 use Rattle.orc_ledger.specs.Records.{Records}
 use Rattle.orc_ledger.specs.Calls.{Exchanges}
 use Rattle.orc_ledger.specs.Answers.{IsAt, Pends}
-use Rattle.orc_ledger.specs.Doing.{IsCall, term_of}
-use Rattle.orc_ledger.specs.declared.records.Token.{Token}
-use Rattle.orc_ledger.specs.declared.records.Call.{Call}
-use Rattle.orc_ledger.specs.declared.records.Request.{Request}
+use Rattle.orc_paths.specs.Doing.{IsCall}
+use Rattle.orc_ledger.specs.Doing.{term_of}
+use Rattle.orc_tables.specs.declared.records.Token.{Token}
+use Rattle.orc_tables.specs.declared.records.Call.{Call}
+use Rattle.orc_ledger.specs.declared.requests.Request.{Request}
 
 -- token t makes call c, which pends in its place
 pub record IsMade (l : Listing) (sites : List Site) (s : Records) (t : Token) (c : Call) (s' : Records) : Type 0 where

@@ -5,8 +5,8 @@ use Rattle.orc_rules.specs.declared.value.Found.{Found}
 use Rattle.orc_rules.specs.declared.value.Found.TheVariants.{After, Never}
 use Rattle.orc_rules.specs.Sites.{Site, value_eq, is_scripted}
 use Rattle.orc_rules.specs.Timed.{CallMade, IsIn, says_of}
-use Rattle.orc_ledger.specs.Same.{None}
-use Rattle.orc_ledger.specs.declared.records.Call.{Call}
+use Rattle.orc_tables.specs.Same.{None}
+use Rattle.orc_tables.specs.declared.records.Call.{Call}
 
 abbrev pub found_eq : Found → Found → Bool
 found_eq (After (Gives v) d) (After (Gives w) e) = value_eq v w && nat_eq d e

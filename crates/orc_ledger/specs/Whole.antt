@@ -5,8 +5,8 @@ use Rattle.orc_rules.specs.Sites.{Site}
 use Rattle.orc_rules.specs.Journal.{Place, Journal, begin}
 use Rattle.orc_journal.specs.Texts.{count}
 use Rattle.orc_ledger.specs.Records.{Records, context}
-use Rattle.orc_ledger.specs.declared.what.What.{What}
-use Rattle.orc_ledger.specs.declared.what.What.TheVariants.{Halt, Fork, Seq, Other, Wait}
+use Rattle.orc_paths.specs.declared.what.What.{What}
+use Rattle.orc_paths.specs.declared.what.What.TheVariants.{Halt, Fork, Seq, Other, Wait}
 
 -- the journal leads from the program's term to a place where no cancel is due, at the ledger's time; it has as many entries, cancels not counted, as the ledger says, and those are within its limit
 pub record IsWhole (l : Listing) (sites : List Site) (s : Records) : Type 0 where

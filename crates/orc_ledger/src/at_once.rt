@@ -1,6 +1,6 @@
 //! Calls that the table of sites answers at once: the call and its answer in one go.
 
-ghost use Rattle.std.specs.Prelude.{◌≡◌, ◌++◌, ◌∷◌, [], ◌≤◌, length, IfOk, IfErr, IfSome, OnOk, OnErr};
+ghost use Rattle.std.specs.Prelude.{◌≡◌, ◌++◌, ◌∷◌, [], IfOk, IfErr, IfSome, OnOk, OnErr};
 ghost use Rattle.orc_rules.specs.Nodes.{code, definitions};
 ghost use Rattle.orc_rules.specs.declared.entry.Entry.TheVariants.{Call as Calls};
 ghost use Rattle.orc_rules.specs.declared.value.Found.TheVariants.{After};
@@ -8,18 +8,17 @@ ghost use Rattle.orc_calls.specs.Counting.{CountsCall};
 ghost use Rattle.orc_ledger.specs.AtOnce.{IsCalled};
 ghost use Rattle.orc_ledger.specs.Calls.{IsRefused};
 ghost use Rattle.orc_ledger.specs.Doing.{what_of};
-ghost use Rattle.orc_ledger.specs.Tokens.{IsHeld};
+ghost use Rattle.orc_tables.specs.Tokens.{IsHeld};
 
 use crate::ledger::{Ledger, LedgerFault, Program};
-use crate::marks::group_at;
-use crate::records::{Call, Standing, Token};
-use crate::what::What;
 use orc_calls::Counts;
 use orc_graph::Graph;
 use orc_journal::Journal;
+use orc_paths::What;
 use orc_rules::answers::Answers;
 use orc_rules::entry::Entry;
 use orc_rules::value::{Answer, Args, Found};
+use orc_tables::{Call, Standing, Token, group_at};
 
 /// What became of a call of a site.
 #[derive(Clone, Copy)]

@@ -2,46 +2,17 @@
 
 ghost use Rattle.std.specs.Prelude.{◌≡◌, OnOk, IfErr};
 ghost use Rattle.orc_rules.specs.Nodes.{code};
-ghost use Rattle.orc_names.specs.Names.{AreOrdered};
-ghost use Rattle.orc_names.specs.Scopes.{env_of};
-ghost use Rattle.orc_ledger.specs.Awaiting.{cells_among, cells_of};
-ghost use Rattle.orc_ledger.specs.Doing.{closed, term_of};
+ghost use Rattle.orc_paths.specs.Awaiting.{cells_among, cells_of};
+ghost use Rattle.orc_paths.specs.Doing.{closed};
+ghost use Rattle.orc_ledger.specs.Doing.{term_of};
 ghost use Rattle.orc_ledger.specs.Records.{its_env};
-ghost use Rattle.orc_ledger.specs.Tokens.{IsHeld};
+ghost use Rattle.orc_tables.specs.Tokens.{IsHeld};
 
-use crate::ledger::{Ledger, LedgerFault, Program, push_within, reserve};
-use crate::records::{Standing, Token};
-use crate::what::What;
+use crate::ledger::{Ledger, LedgerFault, Program};
 use orc_graph::{Graph, Node};
-use orc_names::{Bound, Scope, meaning};
+use orc_paths::{What, list_cells};
 use orc_rules::param::Operand;
-
-// Writes the unbound cells among these operands over `listed`, in their order.
-fn list_cells(
-    scopes: &[Scope],
-    cells: &[Bound],
-    operands: &[Operand],
-    scope: usize,
-    listed: &mut Vec<u64>,
-) -> Result<(), LedgerFault>
-    requires { AreOrdered scopes.now }
-    ensures listed { OnOk result (listed.new.items ≡ cells_among (closed (env_of cells.now scopes.now scope) operands.now)) }
-    ensures why { IfErr result (λ fault. fault ≡ LedgerFault.Memory) }
-{
-    listed.clear();
-    for operand in operands {
-        match meaning(scopes, cells, *operand, scope) {
-            Some(Bound::Cell(cell)) => {
-                reserve(listed)?;
-                push_within(listed, cell);
-            }
-            Some(Bound::Is(_)) => {}
-            Some(Bound::Void) => {}
-            None => {}
-        }
-    }
-    Ok(())
-}
+use orc_tables::{Standing, Token};
 
 impl<P: Program> Ledger<P> {
     // The same in a scope of the ledger.
@@ -54,7 +25,7 @@ impl<P: Program> Ledger<P> {
         ensures listed { OnOk result (listed.new.items ≡ cells_among (closed (its_env (code P.listing) self.now scope) operands.now)) }
         ensures why { IfErr result (λ fault. fault ≡ LedgerFault.Memory) }
     {
-        list_cells(&self.scopes, &self.cells, operands, scope, listed)
+        Ok(list_cells(&self.scopes, &self.cells, operands, scope, listed)?)
     }
 
     /// Writes the cells for which a token waits over `listed`: that of its variable, or each one among the arguments of its call of a site, in their
@@ -101,7 +72,7 @@ impl<P: Program> Ledger<P> {
     {
         self.awaited(graph, &token, listed)?;
         match self.what(graph, &token) {
-            What::Wait(_) => self.tokens.park(slot, token.serial, listed),
+            What::Wait(_) => Ok(self.tokens.park(slot, token.serial, listed)?),
             _ => Ok(()),
         }
     }

@@ -5,14 +5,13 @@ ghost use Rattle.orc_rules.specs.Timed.{IsIn};
 ghost use Rattle.orc_rules.specs.declared.value.Answer.TheVariants.{Value as Gives, Halt};
 ghost use Rattle.orc_calls.specs.Due.{DueNow};
 ghost use Rattle.orc_ledger.specs.Answers.{IsReturned, IsUnanswered, Pends};
-ghost use Rattle.orc_ledger.specs.declared.records.Call.{Call as Its};
+ghost use Rattle.orc_tables.specs.declared.records.Call.{Call as Its};
 
 use crate::ledger::{Ledger, LedgerFault, Program, write};
-use crate::marks::group_at;
-use crate::records::{Call, Standing, Token};
 use orc_calls::check_due;
 use orc_rules::entry::Entry;
 use orc_rules::value::{Answer, Value};
+use orc_tables::{Call, Standing, Token, group_at};
 
 /// Why an answer of a call is refused; nothing has changed then. The first of these that is a cause: no call with this number pends; the table of
 /// sites has another answer for it, or another due time, or none; the journal has as many entries as the limit; memory.

@@ -1,21 +1,20 @@
 //! Calls of definitions.
 
-ghost use Rattle.std.specs.Prelude.{◌≡◌, ◌+◌, ◌≤◌, ◌++◌, [], ℕ, true, false, length, map, vec_len, vec_capacity, slice_index_or, IfOk, IfErr, IfSome, IfNone, OnErr, OnOk};
+ghost use Rattle.std.specs.Prelude.{◌≡◌, ◌+◌, ◌≤◌, ◌++◌, [], ℕ, true, false, length, map, vec_len, vec_capacity, slice_index_or, IfOk, IfErr, OnErr, OnOk};
 ghost use Rattle.orc_rules.specs.Nodes.{code, param_of};
 ghost use Rattle.orc_rules.specs.Term.{call};
 ghost use Rattle.orc_ledger.specs.Calls.{IsRefused};
-ghost use Rattle.orc_ledger.specs.Tokens.{IsHeld};
-ghost use Rattle.orc_ledger.specs.Parameters.{Adds, Misfit, IsCalled, IsUndone};
-ghost use Rattle.orc_ledger.specs.declared.records.Standing.TheVariants.{At};
-ghost use Rattle.orc_ledger.specs.declared.records.Token.{Token as Its};
+ghost use Rattle.orc_tables.specs.Tokens.{IsHeld};
+ghost use Rattle.orc_ledger.specs.Parameters.{IsCalled, IsUndone};
+ghost use Rattle.orc_tables.specs.declared.records.Standing.TheVariants.{At};
+ghost use Rattle.orc_tables.specs.declared.records.Token.{Token as Its};
 
-use crate::ledger::{Ledger, LedgerFault, Program, push_within, reserve, write};
-use crate::marks::group_at;
-use crate::records::{Standing, Token};
+use crate::ledger::{Ledger, LedgerFault, Program, write};
 use orc_graph::Graph;
-use orc_names::{Bound, Scope, meaning};
+use orc_names::Scope;
+use orc_paths::parameter_scopes;
 use orc_rules::entry::Entry;
-use orc_rules::param::Operand;
+use orc_tables::{Standing, Token, group_at};
 
 // Makes room for so many more scopes.
 fn reserve_scopes(scopes: &mut Vec<Scope>, count: usize) -> Result<(), LedgerFault>
@@ -36,45 +35,6 @@ fn extend_within(scopes: &mut Vec<Scope>, more: &[Scope])
 {
     let added = scopes.extend_from_slice(more);
     prove!(added.is_ok());
-}
-
-// The scopes of a definition's parameters, written over `added`: the last parameter first, each the outer of the next. Gives the number of the
-// last scope; None where the operands are not as many, or one of them isn't bound.
-fn parameter_scopes(
-    scopes: &[Scope],
-    cells: &[Bound],
-    params: &[u32],
-    operands: &[Operand],
-    scope: usize,
-    added: &mut Vec<Scope>,
-) -> Result<Option<usize>, LedgerFault>
-    ensures adds { IfOk result (λ last. IfSome last (λ n. Adds cells.now scopes.now scope params.now operands.now added.new.items n)) }
-    ensures misfit { IfOk result (λ last. IfNone last (Misfit cells.now scopes.now scope params.now operands.now)) }
-    ensures why { IfErr result (λ fault. fault ≡ LedgerFault.Memory) }
-{
-    added.clear();
-    if params.len() != operands.len() {
-        return Ok(None);
-    }
-    let mut outer = 0;
-    let mut left = params.len();
-    while left > 0 {
-        left -= 1;
-        let Some(bound) = meaning(scopes, cells, operands[left], scope) else {
-            return Ok(None);
-        };
-        reserve(added)?;
-        push_within(
-            added,
-            Scope {
-                name: params[left],
-                bound,
-                outer,
-            },
-        );
-        outer = scopes.len() + added.len();
-    }
-    Ok(Some(outer))
 }
 
 impl<P: Program> Ledger<P> {

@@ -1,19 +1,16 @@
 //! Groups that halt: nobody is in them any more.
 
-ghost use Rattle.std.specs.Prelude.{◌≡◌, ◌≤◌, false, Some, IfOk, OnErr, IfErr, IfSome, IfNone, MatchOption};
+ghost use Rattle.std.specs.Prelude.{◌≡◌, Some, IfOk, OnErr, IfErr, MatchOption};
 ghost use Rattle.orc_rules.specs.Nodes.{code};
 ghost use Rattle.orc_rules.specs.Timed.{IsIn};
-ghost use Rattle.orc_ledger.specs.Same.{weight};
-ghost use Rattle.orc_ledger.specs.Records.{group_at, is_number, has_left, tries};
-ghost use Rattle.orc_ledger.specs.Inside.{step_at};
+ghost use Rattle.orc_tables.specs.Steps.{group_at};
+ghost use Rattle.orc_paths.specs.Paths.{has_left};
 ghost use Rattle.orc_ledger.specs.Halting.{HasHalted, IsHinderedAt};
-ghost use Rattle.orc_ledger.specs.declared.records.Group.{Group as Its};
-ghost use Rattle.orc_ledger.specs.declared.records.Step.{Step as Entering};
+ghost use Rattle.orc_tables.specs.declared.records.Group.{Group as Its};
 
 use crate::ledger::{Ledger, LedgerFault, Program};
-use crate::marks::group_at;
-use crate::records::{Call, Entered, Group, Side, Step, Token};
-use crate::sides::step_at;
+use orc_paths::{has_left, left_at};
+use orc_tables::{Call, Group, Side, Token, group_at};
 
 /// What has become of a group that halted.
 #[derive(Clone, Copy, Debug, PartialEq, Eq)]
@@ -33,44 +30,6 @@ pub enum HaltFault {
     Gone,
     Live,
     Refused(LedgerFault),
-}
-
-fn is_number(entered: Entered, number: u64) -> bool
-    ensures { result ≡ is_number number entered }
-{
-    match entered {
-        Entered::Try(other) => number == other,
-        _ => false,
-    }
-}
-
-// Whether a publication has left an otherwise, if this is the step that enters it.
-fn left_at(steps: &Vec<Step>, step: usize, number: u64) -> Option<bool>
-    requires { weight (tries number) steps.now.items ≤ 1 }
-    ensures left { IfSome result (λ left. left ≡ has_left steps.now.items number) }
-    ensures other { IfNone result ((p : Entering) → step_at steps.now.items step ≡ Some p → is_number number p.entered ≡ false) }
-{
-    let step = step_at(steps, step)?;
-    if is_number(step.entered, number) {
-        Some(step.published)
-    } else {
-        None
-    }
-}
-
-// Whether a publication has left an otherwise.
-fn has_left(steps: &Vec<Step>, number: u64) -> bool
-    ensures { result ≡ has_left steps.now.items number }
-{
-    let mut at = 0;
-    while at < steps.len() {
-        let step = steps[at];
-        if step.published && is_number(step.entered, number) {
-            return true;
-        }
-        at += 1;
-    }
-    false
 }
 
 impl<P: Program> Ledger<P> {

@@ -1,24 +1,20 @@
 //! The records under their invariant: the journal leads from the program's term to a place that they spell.
 
-ghost use Rattle.std.specs.Prelude.{◌≡◌, ◌+◌, ◌<◌, ◌≤◌, ◌++◌, ◌∷◌, [], ℕ, length, vec_len, vec_capacity, IfOk, IfErr, IfSome, IfNone, OnOk, OnErr};
+ghost use Rattle.std.specs.Prelude.{◌≡◌, ◌+◌, ◌<◌, ◌≤◌, ◌++◌, ◌∷◌, [], length, IfOk, IfErr, IfSome, IfNone, OnOk, OnErr};
 ghost use Rattle.orc_rules.specs.Timed.{IsIn};
 ghost use Rattle.orc_rules.specs.declared.limits.TheConstants.{MOST_ENTRIES};
-ghost use Rattle.orc_ledger.specs.Tokens.{IsHeld};
+ghost use Rattle.orc_tables.specs.Tokens.{IsHeld};
 ghost use Rattle.orc_ledger.specs.Begun.{begun};
 ghost use Rattle.orc_ledger.specs.Calls.{HasRoom, IsRefused};
 ghost use Rattle.orc_ledger.specs.Whole.{IsWhole};
-ghost use Rattle.orc_ledger.specs.declared.records.Token.{Token as Its};
+ghost use Rattle.orc_tables.specs.declared.records.Token.{Token as Its};
 
-use crate::crowd::Crowd;
-use crate::groups::Groups;
-use crate::pending::Pending;
-use crate::records::{Standing, Step, Token};
-use crate::tokens::Tokens;
 use orc_calls::Counts;
 use orc_journal::{Journal, Version};
 use orc_names::{Bound, Scope};
 use orc_rules::entry::Entry;
 use orc_rules::limits::{MOST_FRAMES, MOST_GROUPS, MOST_TOKENS};
+use orc_tables::{Crowd, Groups, Pending, Standing, Step, Token, Tokens, push_within, reserve};
 use std::alloc::{AllocError, Global};
 use std::marker::{Brand, Model, PhantomData};
 
@@ -51,6 +47,16 @@ pub enum LedgerFault {
     Memory,
 }
 
+impl From<AllocError> for LedgerFault {
+    ghost use Rattle.orc_ledger.specs.declared.ledger.LedgerFault.TheVariants.{Memory};
+
+    ghost from_gives = { λ _ fault. fault ≡ Memory };
+
+    fn from(_error: AllocError) -> LedgerFault {
+        LedgerFault::Memory
+    }
+}
+
 /// The records of a run, with its journal.
 pub struct Ledger<P: Program> {
     pub(crate) limit: usize,
@@ -73,7 +79,7 @@ pub struct Ledger<P: Program> {
 impl<P: Program> Model for Ledger<P> {
     ghost use Rattle.orc_ledger.specs.Records.{Records};
     ghost use Rattle.orc_ledger.specs.Kept.{IsKept};
-    ghost use Rattle.orc_ledger.specs.Tokens.{live};
+    ghost use Rattle.orc_tables.specs.Tokens.{live};
 
     ghost Value = { Records };
 
@@ -111,44 +117,6 @@ impl<P: Program> Drop for Ledger<P> {
         drop(cells);
         drop(crowd);
     }
-}
-
-/// Adds an item where there is room.
-// In place: a call of `push` would put the item together on the stack first.
-#[inline(always)]
-pub(crate) fn push_within<T: Drop>(items: &mut Vec<T>, item: T)
-    requires { vec_len items.old < vec_capacity items.old }
-    ensures items { items.new.items ≡ items.old.items ++ item ∷ [] }
-    ensures capacity { vec_capacity items.old ≤ vec_capacity items.new }
-{
-    items.push_reserved(item);
-}
-
-// Kept apart, since a list seldom grows.
-#[cold]
-#[inline(never)]
-fn grow<T: Drop>(items: &mut Vec<T>) -> Result<(), LedgerFault>
-    ensures items { items.new.items ≡ items.old.items }
-    ensures room { OnOk result (vec_len items.new + 1 ≤ vec_capacity items.new) }
-    ensures why { IfErr result (λ fault. fault ≡ LedgerFault.Memory) }
-{
-    match items.reserve(1) {
-        Ok(()) => Ok(()),
-        Err(_) => Err(LedgerFault::Memory),
-    }
-}
-
-// Makes room for one more item.
-#[inline(always)]
-pub(crate) fn reserve<T: Drop>(items: &mut Vec<T>) -> Result<(), LedgerFault>
-    ensures items { items.new.items ≡ items.old.items }
-    ensures room { OnOk result (vec_len items.new + 1 ≤ vec_capacity items.new) }
-    ensures why { IfErr result (λ fault. fault ≡ LedgerFault.Memory) }
-{
-    if items.len() >= items.capacity() {
-        return grow(items);
-    }
-    Ok(())
 }
 
 // Writes an entry. Where memory is refused nothing changes.

@@ -4,44 +4,18 @@ ghost use Rattle.std.specs.Prelude.{◌≡◌, ◌+◌, ℕ, length, IfOk, IfErr
 ghost use Rattle.orc_rules.specs.Nodes.{code};
 ghost use Rattle.orc_rules.specs.Term.{stop, par, seq, prune, other};
 ghost use Rattle.orc_rules.specs.Journal.{IsVoid};
-ghost use Rattle.orc_ledger.specs.Records.{its_env, standing, group_at, depth_at};
-ghost use Rattle.orc_ledger.specs.Tokens.{IsHeld};
+ghost use Rattle.orc_ledger.specs.Records.{its_env};
+ghost use Rattle.orc_paths.specs.Paths.{standing};
+ghost use Rattle.orc_tables.specs.Steps.{group_at, depth_at};
+ghost use Rattle.orc_tables.specs.Tokens.{IsHeld};
 ghost use Rattle.orc_ledger.specs.Calls.{IsRefused, IsFree, IsEnded, IsVoided, IsForked, IsFed, IsTried, IsOpened, born};
-ghost use Rattle.orc_ledger.specs.declared.records.Standing.TheVariants.{At};
+ghost use Rattle.orc_tables.specs.declared.records.Standing.TheVariants.{At};
 
-use crate::ledger::{Ledger, LedgerFault, Program, push_within, reserve, write};
-use crate::records::{Entered, Side, Standing, Step, Token};
+use crate::ledger::{Ledger, LedgerFault, Program, write};
 use orc_names::{Bound, Scope};
 use orc_rules::entry::Entry;
 use orc_rules::limits::MOST_FRAMES;
-
-// The group of a token that took this step last.
-#[inline(always)]
-pub(crate) fn group_at(steps: &Vec<Step>, step: usize) -> u32
-    ensures { result ≡ group_at steps.now.items step }
-{
-    if step == 0 {
-        return 0;
-    }
-    match steps.get(step - 1) {
-        Some(last) => last.group,
-        None => 0,
-    }
-}
-
-// How many left sides of a `>x>` are round such a token, out to the innermost right side of a cell.
-#[inline(always)]
-pub(crate) fn depth_at(steps: &Vec<Step>, step: usize) -> u32
-    ensures { result ≡ depth_at steps.now.items step }
-{
-    if step == 0 {
-        return 0;
-    }
-    match steps.get(step - 1) {
-        Some(last) => last.depth,
-        None => 0,
-    }
-}
+use orc_tables::{Entered, Side, Standing, Step, Token, depth_at, group_at, push_within, reserve};
 
 impl<P: Program> Ledger<P> {
     /// `stop`: the token goes.

@@ -1,29 +1,28 @@
 //! Moves of tokens: a token does what it does next.
 
-ghost use Rattle.std.specs.Prelude.{◌≡◌, ◌≤◌, ℕ, List, [], map, length, true, false, None as Nothing, slice_index_or, IfOk, IfErr, IfSome, IfNone, OnErr};
+ghost use Rattle.std.specs.Prelude.{◌≡◌, ◌≤◌, ℕ, List, [], map, length, false, None as Nothing, slice_index_or, IfOk, IfErr, IfSome, IfNone, OnErr};
 ghost use Rattle.orc_rules.specs.declared.param.Param.TheVariants.{Name, Is};
 ghost use Rattle.orc_rules.specs.Term.{stop, param, site, call, par, seq, prune, other};
 ghost use Rattle.orc_rules.specs.Nodes.{code, param_of};
 ghost use Rattle.orc_rules.specs.Journal.{IsVoid};
 ghost use Rattle.orc_names.specs.Scopes.{close, close_param, given, without};
-ghost use Rattle.orc_ledger.specs.Spelling.{Path, whole, feeding, aiding};
-ghost use Rattle.orc_ledger.specs.Tokens.{IsHeld};
-ghost use Rattle.orc_ledger.specs.Taking.{Takes, IsOnWay, HasStep, taker, reach};
-ghost use Rattle.orc_ledger.specs.Records.{its_env, its_path, standing, group_at, has_left};
-ghost use Rattle.orc_ledger.specs.Doing.{scan, closed};
-ghost use Rattle.orc_ledger.specs.declared.records.Entered.TheVariants.{Aid};
+ghost use Rattle.orc_paths.specs.Spelling.{whole, feeding, aiding};
+ghost use Rattle.orc_tables.specs.Tokens.{IsHeld};
+ghost use Rattle.orc_paths.specs.Taking.{Takes, IsOnWay, HasStep, taker, reach};
+ghost use Rattle.orc_ledger.specs.Records.{its_env, its_path};
+ghost use Rattle.orc_paths.specs.Paths.{standing, has_left};
+ghost use Rattle.orc_tables.specs.Steps.{group_at};
+ghost use Rattle.orc_paths.specs.Doing.{scan, closed};
+ghost use Rattle.orc_tables.specs.declared.records.Entered.TheVariants.{Aid};
 ghost use Rattle.orc_ledger.specs.Moves.{StandsAt, IsThere, Moves, IsHindered};
 
 use crate::ledger::{Ledger, LedgerFault, Program};
-use crate::marks::group_at;
-use crate::records::{Standing, Token};
-use crate::taking::{Taker, find_taker};
-use crate::view::call_with;
-use crate::what::What;
 use orc_graph::{Graph, Node};
 use orc_names::{Bound, Scope, meaning};
+use orc_paths::{Taker, What, call_with, find_taker};
 use orc_rules::param::Operand;
 use orc_rules::value::Value;
+use orc_tables::{Standing, Token, group_at};
 
 /// What a move of a token has done.
 #[derive(Clone, Copy, Debug, PartialEq, Eq)]

@@ -2,15 +2,15 @@
 
 ghost use Rattle.std.specs.Prelude.{◌≡◌, ◌≤◌, ◌↔◌, true, false};
 ghost use Rattle.orc_rules.specs.Nodes.{code, definitions};
-ghost use Rattle.orc_ledger.specs.Same.{only};
-ghost use Rattle.orc_ledger.specs.Tokens.{is_live};
+ghost use Rattle.orc_tables.specs.Same.{only};
+ghost use Rattle.orc_tables.specs.Tokens.{is_live};
 ghost use Rattle.orc_ledger.specs.Next.{numbers_of, ready, ready_one, open_empty, members, next_of};
 ghost use Rattle.orc_ledger.specs.Spoken.{spoken, IsRight};
 
 use crate::ledger::{Ledger, Program};
-use crate::records::Token;
-use crate::what::What;
 use orc_graph::Graph;
+use orc_paths::What;
+use orc_tables::Token;
 
 /// What comes next: an entry or a group that goes, a tick to that time, or nothing any more.
 #[derive(Clone, Copy, Debug, PartialEq, Eq)]

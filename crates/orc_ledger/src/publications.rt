@@ -1,25 +1,25 @@
 //! What a token publishes: a publication of the program, or what a `>x>` takes.
 
-ghost use Rattle.std.specs.Prelude.{◌≡◌, ◌+◌, ◌<◌, ◌≤◌, ◌∷◌, [], ℕ, length, slice_index_or, IfOk, IfErr, OnErr};
+ghost use Rattle.std.specs.Prelude.{◌≡◌, ◌+◌, ◌<◌, ◌≤◌, ◌∷◌, [], ℕ, length, IfOk, IfErr, OnErr};
 ghost use Rattle.orc_rules.specs.Nodes.{code};
 ghost use Rattle.orc_rules.specs.Term.{param};
 ghost use Rattle.orc_rules.specs.declared.param.Param.TheVariants.{Is};
 ghost use Rattle.orc_rules.specs.declared.entry.Entry.TheVariants.{Send, Publish};
 ghost use Rattle.orc_names.specs.Scopes.{close, without};
-ghost use Rattle.orc_ledger.specs.Spelling.{whole, feeding};
-ghost use Rattle.orc_ledger.specs.Tokens.{IsHeld};
-ghost use Rattle.orc_ledger.specs.Taking.{taker, crossed, reach};
-ghost use Rattle.orc_ledger.specs.Records.{its_env, its_path, standing};
+ghost use Rattle.orc_paths.specs.Spelling.{whole, feeding};
+ghost use Rattle.orc_tables.specs.Tokens.{IsHeld};
+ghost use Rattle.orc_paths.specs.Taking.{taker, crossed, reach};
+ghost use Rattle.orc_ledger.specs.Records.{its_env, its_path};
+ghost use Rattle.orc_paths.specs.Paths.{standing};
 ghost use Rattle.orc_ledger.specs.Calls.{Crosses, IsRefused};
-ghost use Rattle.orc_ledger.specs.declared.records.Standing.TheVariants.{At};
+ghost use Rattle.orc_tables.specs.declared.records.Standing.TheVariants.{At};
 
-use crate::ledger::{Ledger, LedgerFault, Program, push_within, reserve, write};
-use crate::marks::group_at;
-use crate::records::{Standing, Token};
-use crate::taking::leave_others;
+use crate::ledger::{Ledger, LedgerFault, Program, write};
 use orc_names::{Bound, Scope};
+use orc_paths::leave_others;
 use orc_rules::entry::Entry;
 use orc_rules::value::Value;
+use orc_tables::{Standing, Token, group_at, push_within, reserve};
 
 impl<P: Program> Ledger<P> {
     /// A publication of the program: nothing round the token takes it.

@@ -1,56 +1,36 @@
 //! Calls of sites: a token makes one, and it pends; what it asks.
 
-ghost use Rattle.std.specs.Prelude.{◌≡◌, ◌≤◌, ◌++◌, ◌∷◌, [], ℕ, List, Some, length, IfOk, IfErr, MatchOption, OnOk, OnErr};
+ghost use Rattle.std.specs.Prelude.{◌≡◌, ◌++◌, ◌∷◌, [], ℕ, Some, IfOk, IfErr, MatchOption, OnOk, OnErr};
 ghost use Rattle.orc_rules.specs.Nodes.{code, definitions};
-ghost use Rattle.orc_rules.specs.Term.{values_of};
 ghost use Rattle.orc_rules.specs.declared.entry.Entry.TheVariants.{Call as Calls};
-ghost use Rattle.orc_rules.specs.declared.limits.TheConstants.{MOST_ARGUMENTS};
-ghost use Rattle.orc_rules.specs.declared.value.Value.{Value};
-ghost use Rattle.orc_names.specs.Names.{AreOrdered};
-ghost use Rattle.orc_names.specs.Scopes.{env_of};
 ghost use Rattle.orc_calls.specs.Counting.{CountsCall};
 ghost use Rattle.orc_ledger.specs.Answers.{Pends};
-ghost use Rattle.orc_ledger.specs.Calls.{IsRefused, has_number};
-ghost use Rattle.orc_ledger.specs.Doing.{IsCall, closed, term_of, what_of};
+ghost use Rattle.orc_ledger.specs.Calls.{IsRefused};
+ghost use Rattle.orc_tables.specs.PendingCalls.{has_number};
+ghost use Rattle.orc_paths.specs.Doing.{IsCall};
+ghost use Rattle.orc_ledger.specs.Doing.{term_of, what_of};
 ghost use Rattle.orc_ledger.specs.Requests.{IsAsked, IsMade};
-ghost use Rattle.orc_ledger.specs.Same.{weight};
-ghost use Rattle.orc_ledger.specs.Tokens.{IsHeld};
+ghost use Rattle.orc_tables.specs.Same.{weight};
+ghost use Rattle.orc_tables.specs.Tokens.{IsHeld};
 
 use crate::ledger::{Ledger, LedgerFault, Program};
-use crate::marks::group_at;
-use crate::records::{Call, Request, Standing, Token};
-use crate::what::What;
 use orc_calls::Counts;
 use orc_graph::{Graph, Node};
 use orc_journal::Journal;
-use orc_names::{Bound, Scope, meaning};
+use orc_paths::{What, put_values};
 use orc_rules::answers::Answers;
 use orc_rules::entry::Entry;
-use orc_rules::param::Operand;
 use orc_rules::value::Args;
+use orc_tables::{Call, Standing, Token, group_at};
 
-// Puts the values of operands into `args`. Each operand has one.
-fn put_values(
-    scopes: &[Scope],
-    cells: &[Bound],
-    operands: &[Operand],
-    scope: usize,
-    args: &mut Args,
-)
-    requires ordered { AreOrdered scopes.now }
-    requires few { length operands.now ≤ MOST_ARGUMENTS }
-    requires values { (vs : List Value) × (values_of (closed (env_of cells.now scopes.now scope) operands.now) ≡ Some vs) }
-    ensures { values_of (closed (env_of cells.now scopes.now scope) operands.now) ≡ Some args.new }
-{
-    args.clear();
-    for operand in operands {
-        match meaning(scopes, cells, *operand, scope) {
-            Some(Bound::Is(value)) => args.push(value),
-            Some(Bound::Cell(_)) => unreachable!(),
-            Some(Bound::Void) => unreachable!(),
-            None => unreachable!(),
-        }
-    }
+/// What a call asks: its site, its arguments, when it was made, and which call it is of this site with these arguments, from 1; 1 where no script
+/// answers the site.
+#[derive(Drop)]
+pub struct Request {
+    pub site: u32,
+    pub args: Args,
+    pub made_at: u64,
+    pub nth: u64,
 }
 
 // Writes a call and counts it. Where memory is refused nothing changes.

@@ -12,9 +12,9 @@ ghost use Rattle.orc_ledger.specs.Doing.{what_of};
 ghost use Rattle.orc_ledger.specs.Whole.{is_rule};
 
 use crate::ledger::{Ledger, Program};
-use crate::records::Token;
-use crate::what::What;
 use orc_graph::Graph;
+use orc_paths::What;
+use orc_tables::Token;
 
 impl<P: Program> Ledger<P> {
     // Whether a token, if the slot holds one, can use a rule now: it neither waits nor makes a move of marks alone.

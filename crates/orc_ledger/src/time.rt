@@ -2,8 +2,8 @@
 
 ghost use Rattle.std.specs.Prelude.{◌≡◌, ◌+◌, ◌++◌, ◌∷◌, [], ℕ, MatchOption, IfErr, OnOk, OnErr};
 ghost use Rattle.orc_rules.specs.declared.entry.Entry.TheVariants.{Tick};
-ghost use Rattle.orc_ledger.specs.Next.{next_due};
-ghost use Rattle.orc_ledger.specs.PendingCalls.{IsDueBeyond, IsLeastBeyond};
+ghost use Rattle.orc_tables.specs.PendingCalls.{next_due};
+ghost use Rattle.orc_tables.specs.PendingCalls.{IsDueBeyond, IsLeastBeyond};
 ghost use Rattle.orc_ledger.specs.Answers.{MayTick, IsStopped};
 
 use crate::ledger::{Ledger, LedgerFault, Program, write};

@@ -1,8 +1,8 @@
 use Rattle.std.proofs.Common.{◌≡◌, ◌<◌, ◌≤◌, ℕ, zero, suc, List, length, arith, ap, sym, refl, ◌∙◌, Bool, true, false}
-use Rattle.orc_ledger.specs.Same.{weight}
+use Rattle.orc_tables.specs.Same.{weight}
 use Rattle.orc_ledger.specs.Records.{Records}
 use Rattle.orc_ledger.specs.Next.{numbers_of, members, is_empty}
-use Rattle.orc_ledger.specs.declared.records.Group.{Group}
+use Rattle.orc_tables.specs.declared.records.Group.{Group}
 use Rattle.orc_ledger.proofs.Scans.{one-there, none-so-far, none-at-all}
 use Rattle.orc_ledger.proofs.ledger.Ledger.any_empty.Goals as goal
 

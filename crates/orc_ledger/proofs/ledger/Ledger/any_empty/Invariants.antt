@@ -1,7 +1,7 @@
 use Rattle.std.proofs.Common.{◌≡◌, take}
-use Rattle.orc_ledger.specs.Same.{weight}
+use Rattle.orc_tables.specs.Same.{weight}
 use Rattle.orc_ledger.specs.Next.{numbers_of, members, is_empty}
-use Rattle.orc_ledger.specs.declared.records.Group.{Group}
+use Rattle.orc_tables.specs.declared.records.Group.{Group}
 use Rattle.orc_ledger.proofs.ledger.Ledger.any_empty.Given as goal
 
 abbrev pub invariant-loop-group : goal.invariant-loop-group

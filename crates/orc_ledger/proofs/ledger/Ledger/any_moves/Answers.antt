@@ -1,12 +1,12 @@
 use Rattle.std.proofs.Common.{◌≡◌, ◌<◌, ◌≤◌, ℕ, length, arith, ap, refl, sym, ◌∙◌}
 use Rattle.orc_rules.specs.Nodes.{code, definitions}
-use Rattle.orc_ledger.specs.Same.{weight, only}
-use Rattle.orc_ledger.specs.Tokens.{is_live, live}
+use Rattle.orc_tables.specs.Same.{weight, only}
+use Rattle.orc_tables.specs.Tokens.{is_live, live}
 use Rattle.orc_ledger.specs.Records.{Records}
 use Rattle.orc_ledger.specs.Next.{ready_one}
-use Rattle.orc_ledger.specs.declared.records.Token.{Token}
+use Rattle.orc_tables.specs.declared.records.Token.{Token}
 use Rattle.orc_ledger.proofs.AtRest.{none-ready}
-use Rattle.orc_ledger.proofs.Slots.{weight-live}
+use Rattle.orc_tables.proofs.Slots.{weight-live}
 use Rattle.orc_ledger.proofs.Scans.{one-there, none-so-far, none-at-all}
 use Rattle.orc_ledger.proofs.ledger.Ledger.any_moves.Goals as goal
 

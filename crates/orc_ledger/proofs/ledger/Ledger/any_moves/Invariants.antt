@@ -1,7 +1,7 @@
 use Rattle.std.proofs.Common.{◌≡◌, take}
 use Rattle.orc_rules.specs.Nodes.{code, definitions}
-use Rattle.orc_ledger.specs.Same.{weight, only}
-use Rattle.orc_ledger.specs.Tokens.{is_live}
+use Rattle.orc_tables.specs.Same.{weight, only}
+use Rattle.orc_tables.specs.Tokens.{is_live}
 use Rattle.orc_ledger.specs.Next.{ready_one}
 use Rattle.orc_ledger.proofs.ledger.Ledger.any_moves.Given as goal
 

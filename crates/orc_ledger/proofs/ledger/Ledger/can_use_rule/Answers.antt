@@ -4,11 +4,11 @@ use Rattle.orc_rules.specs.Timed.{IsIn, IsIdle}
 use Rattle.orc_rules.specs.Journal.{begin, moment}
 use Rattle.orc_ledger.specs.Records.{Records, context}
 use Rattle.orc_ledger.specs.Kept.{Kept}
-use Rattle.orc_ledger.specs.Tokens.{live}
-use Rattle.orc_ledger.specs.declared.records.Token.{Token}
+use Rattle.orc_tables.specs.Tokens.{live}
+use Rattle.orc_tables.specs.declared.records.Token.{Token}
 use Rattle.orc_ledger.proofs.Keeping.{journal_one}
-use Rattle.orc_ledger.proofs.Outwards.{there}
-use Rattle.orc_ledger.proofs.Slots.{live-in}
+use Rattle.orc_tables.proofs.Placed.{there}
+use Rattle.orc_tables.proofs.Slots.{live-in}
 use Rattle.orc_ledger.proofs.Using.{not_idle}
 use Rattle.orc_ledger.proofs.ledger.Ledger.can_use_rule.Goals as goal
 

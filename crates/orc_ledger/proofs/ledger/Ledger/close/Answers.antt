@@ -1,7 +1,7 @@
 use Rattle.std.proofs.Common.{◌≡◌, refl, sym, arith, true, [], append-nil}
 use Rattle.orc_rules.specs.Nodes.{code}
 use Rattle.orc_rules.specs.Timed.{IsIn}
-use Rattle.orc_ledger.specs.Tokens.{live}
+use Rattle.orc_tables.specs.Tokens.{live}
 use Rattle.orc_ledger.specs.Records.{Records, is_over}
 use Rattle.orc_ledger.specs.Calls.{Closes}
 use Rattle.orc_ledger.specs.Next.{members, numbers_of}

@@ -3,13 +3,15 @@ use Rattle.orc_rules.specs.declared.entry.Entry.TheVariants.{Lost}
 use Rattle.orc_rules.specs.Nodes.{code}
 use Rattle.orc_rules.specs.Timed.{IsIn}
 use Rattle.orc_names.specs.declared.names.Bound.TheVariants.{Void}
-use Rattle.orc_ledger.specs.Tokens.{live}
-use Rattle.orc_ledger.specs.Same.{weight, but}
-use Rattle.orc_ledger.specs.Records.{Records, group_at}
+use Rattle.orc_tables.specs.Tokens.{live}
+use Rattle.orc_tables.specs.Same.{weight, but}
+use Rattle.orc_ledger.specs.Records.{Records}
+use Rattle.orc_tables.specs.Steps.{group_at}
 use Rattle.orc_ledger.specs.Calls.{Drops, group_goes}
-use Rattle.orc_ledger.specs.Next.{members, numbers_of, is_this}
-use Rattle.orc_ledger.specs.declared.records.Group.{Group}
-use Rattle.orc_ledger.specs.declared.records.Token.{Token}
+use Rattle.orc_ledger.specs.Next.{members, numbers_of}
+use Rattle.orc_tables.specs.Same.{is_this}
+use Rattle.orc_tables.specs.declared.records.Group.{Group}
+use Rattle.orc_tables.specs.declared.records.Token.{Token}
 use Rattle.orc_ledger.proofs.AtRest.{rest-dropped, side-unbound}
 use Rattle.orc_ledger.proofs.Binding.{lost-lawful}
 use Rattle.orc_ledger.proofs.Emptied.{right-empty, right-alone}

@@ -1,6 +1,6 @@
 use Rattle.std.proofs.Common.{refl}
 use Rattle.orc_rules.specs.declared.param.Param.TheVariants as is
-use Rattle.orc_ledger.specs.declared.what.What.TheVariants.{Wait}
+use Rattle.orc_paths.specs.declared.what.What.TheVariants.{Wait}
 use Rattle.orc_ledger.proofs.Advancing.{stands-param, word-param, void-param, moves-by}
 use Rattle.orc_ledger.proofs.ledger.Ledger.move_name.Goals as goal
 

@@ -4,21 +4,23 @@ use Rattle.orc_rules.specs.Timed.{IsIn}
 use Rattle.orc_rules.specs.Nodes.{code, definitions}
 use Rattle.orc_rules.specs.Term.{param}
 use Rattle.orc_rules.specs.declared.param.Param.TheVariants as is_
-use Rattle.orc_ledger.specs.Same.{weight}
-use Rattle.orc_ledger.specs.Spelling.{whole}
-use Rattle.orc_ledger.specs.Taking.{taker, crossed}
-use Rattle.orc_ledger.specs.Records.{Records, its_env, its_path, standing}
-use Rattle.orc_ledger.specs.Tokens.{live, IsHeld}
-use Rattle.orc_ledger.specs.Calls.{Crosses, Publishes}
-use Rattle.orc_ledger.specs.declared.records.Token.{Token}
+use Rattle.orc_tables.specs.Same.{weight}
+use Rattle.orc_paths.specs.Spelling.{whole}
+use Rattle.orc_paths.specs.Taking.{taker, crossed}
+use Rattle.orc_ledger.specs.Records.{Records, its_env, its_path}
+use Rattle.orc_paths.specs.Paths.{standing}
+use Rattle.orc_tables.specs.Tokens.{live, IsHeld}
+use Rattle.orc_ledger.specs.Calls.{Crosses}
+use Rattle.orc_paths.specs.Taking.{Publishes}
+use Rattle.orc_tables.specs.declared.records.Token.{Token}
 use Rattle.orc_ledger.proofs.AtRest.{rest-kept, same-terms}
-use Rattle.orc_ledger.proofs.Slots.{live-in, removed}
+use Rattle.orc_tables.proofs.Slots.{live-in, removed}
 use Rattle.orc_ledger.proofs.Calling.{crosses-told}
 use Rattle.orc_ledger.proofs.Keeping.{counted-kept}
 use Rattle.orc_ledger.proofs.Made.{crosses, step_in}
 use Rattle.orc_ledger.proofs.Sending.{publish-lawful}
 use Rattle.orc_ledger.proofs.Grouped.{published-grouped}
-use Rattle.orc_ledger.specs.Next.{is_this}
+use Rattle.orc_tables.specs.Same.{is_this}
 use Rattle.orc_ledger.proofs.Sizes.{crossed-members}
 use Rattle.orc_ledger.proofs.ledger.Ledger.publish.Goals as goal
 

@@ -8,23 +8,25 @@ use Rattle.orc_rules.specs.declared.param.Param.TheVariants as is_
 use Rattle.orc_names.specs.Scopes.{close, without}
 use Rattle.orc_names.specs.declared.names.Bound.TheVariants.{Is}
 use Rattle.orc_names.specs.declared.names.Scope.{Scope}
-use Rattle.orc_ledger.specs.Same.{weight}
-use Rattle.orc_ledger.specs.Spelling.{feeding}
-use Rattle.orc_ledger.specs.Taking.{taker, crossed, reach}
-use Rattle.orc_ledger.specs.Records.{Records, its_env, its_path, standing}
-use Rattle.orc_ledger.specs.Tokens.{live, IsHeld}
-use Rattle.orc_ledger.specs.Calls.{Crosses, Publishes, HasRoom}
-use Rattle.orc_ledger.specs.declared.records.Standing.TheVariants.{At}
-use Rattle.orc_ledger.specs.declared.records.Token.{Token}
+use Rattle.orc_tables.specs.Same.{weight}
+use Rattle.orc_paths.specs.Spelling.{feeding}
+use Rattle.orc_paths.specs.Taking.{taker, crossed, reach}
+use Rattle.orc_ledger.specs.Records.{Records, its_env, its_path}
+use Rattle.orc_paths.specs.Paths.{standing}
+use Rattle.orc_tables.specs.Tokens.{live, IsHeld}
+use Rattle.orc_ledger.specs.Calls.{Crosses, HasRoom}
+use Rattle.orc_paths.specs.Taking.{Publishes}
+use Rattle.orc_tables.specs.declared.records.Standing.TheVariants.{At}
+use Rattle.orc_tables.specs.declared.records.Token.{Token}
 use Rattle.orc_ledger.proofs.AtRest.{rest-kept, crosses-terms}
-use Rattle.orc_ledger.proofs.Slots.{live-in, replaced, set-there}
+use Rattle.orc_tables.proofs.Slots.{live-in, replaced, set-there}
 use Rattle.orc_ledger.proofs.Calling.{crosses-told}
 use Rattle.orc_ledger.proofs.Keeping.{counted-kept}
 use Rattle.orc_ledger.proofs.Made.{crosses, step_in, later_mark}
 use Rattle.orc_ledger.proofs.Sending.{send-lawful}
 use Rattle.orc_ledger.proofs.Grouped.{sent-grouped}
-use Rattle.orc_ledger.specs.Next.{is_this}
-use Rattle.orc_ledger.specs.OpenGroups.{IsOpen}
+use Rattle.orc_tables.specs.Same.{is_this}
+use Rattle.orc_tables.specs.OpenGroups.{IsOpen}
 use Rattle.orc_ledger.proofs.Sizes.{crossed-members, open-reach, size-few}
 use Rattle.orc_ledger.proofs.ledger.Ledger.send.Goals as goal
 

@@ -2,7 +2,7 @@ use Rattle.std.proofs.Common.{◌≡◌, ◌+◌, ◌<◌, [], ◌∷◌, ◌++�
 use Rattle.orc_rules.specs.declared.entry.Entry.TheVariants.{Tick}
 use Rattle.orc_ledger.specs.Kept.{Kept}
 use Rattle.orc_ledger.specs.Records.{Records}
-use Rattle.orc_ledger.specs.Tokens.{live}
+use Rattle.orc_tables.specs.Tokens.{live}
 use Rattle.orc_ledger.specs.Answers.{MayTick}
 use Rattle.orc_ledger.proofs.Answered.{ticks-there}
 use Rattle.orc_ledger.proofs.Calling.{tick-told}

@@ -1,4 +1,4 @@
-use Rattle.orc_ledger.proofs.Slots.{live-in}
+use Rattle.orc_tables.proofs.Slots.{live-in}
 use Rattle.orc_ledger.proofs.ledger.Ledger.token.Goals as goal
 
 pub returns-in-Some-clause-held : goal.returns-in-Some-clause-held

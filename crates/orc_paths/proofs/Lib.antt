@@ -1,0 +1,15 @@
+pub mod Around
+pub mod Crossing
+pub mod Equal
+pub mod Finding
+pub mod Fitted
+pub mod Forms
+pub mod Growth
+pub mod Kept
+pub mod Marking
+pub mod Meaning
+pub mod Outwards
+pub mod Settling
+pub mod Still
+pub mod Values
+pub mod Waiting

@@ -1,0 +1,47 @@
+//! The scopes of a definition's parameters.
+
+ghost use Rattle.std.specs.Prelude.{◌+◌, IfOk, IfSome, IfNone};
+ghost use Rattle.orc_paths.specs.Parameters.{Adds, Misfit};
+
+use orc_names::{Bound, Scope, meaning};
+use orc_rules::param::Operand;
+use orc_tables::{push_within, reserve};
+use std::alloc::AllocError;
+
+/// The scopes of a definition's parameters, written over `added`: the last parameter first, each the outer of the next. Gives the number of the
+/// last scope; None where the operands are not as many, or one of them isn't bound.
+pub fn parameter_scopes(
+    scopes: &[Scope],
+    cells: &[Bound],
+    params: &[u32],
+    operands: &[Operand],
+    scope: usize,
+    added: &mut Vec<Scope>,
+) -> Result<Option<usize>, AllocError>
+    ensures adds { IfOk result (λ last. IfSome last (λ n. Adds cells.now scopes.now scope params.now operands.now added.new.items n)) }
+    ensures misfit { IfOk result (λ last. IfNone last (Misfit cells.now scopes.now scope params.now operands.now)) }
+{
+    added.clear();
+    if params.len() != operands.len() {
+        return Ok(None);
+    }
+    let mut outer = 0;
+    let mut left = params.len();
+    while left > 0 {
+        left -= 1;
+        let Some(bound) = meaning(scopes, cells, operands[left], scope) else {
+            return Ok(None);
+        };
+        reserve(added)?;
+        push_within(
+            added,
+            Scope {
+                name: params[left],
+                bound,
+                outer,
+            },
+        );
+        outer = scopes.len() + added.len();
+    }
+    Ok(Some(outer))
+}

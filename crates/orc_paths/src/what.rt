@@ -1,0 +1,139 @@
+//! What a token does next.
+
+ghost use Rattle.std.specs.Prelude.{◌≡◌, ℕ, Bool};
+ghost use Rattle.orc_rules.specs.Term.{Term};
+ghost use Rattle.orc_rules.specs.Nodes.{param_of, code, definitions};
+ghost use Rattle.orc_names.specs.Scopes.{Env, env_of, close, close_param};
+ghost use Rattle.orc_names.specs.Names.{AreOrdered};
+ghost use Rattle.orc_paths.specs.Spelling.{seen};
+ghost use Rattle.orc_paths.specs.Paths.{path, has_left};
+ghost use Rattle.orc_paths.specs.Taking.{AreOutwards};
+ghost use Rattle.orc_paths.specs.Doing.{taken, of_param, what_by, scan, closed};
+
+use crate::taking::{Taker, find_taker};
+use orc_graph::{Graph, Node};
+use orc_names::{Bound, Scope, meaning};
+use orc_rules::param::Operand;
+use orc_rules::value::Value;
+use orc_tables::Step;
+
+/// What a token can do next: a move of marks, an entry of its own, or to wait for a cell (0: for nothing that ever comes).
+#[derive(Clone, Copy)]
+pub enum What {
+    Halt,
+    Fork,
+    Seq,
+    Prune,
+    Other,
+    Def,
+    Void,
+    Publish(Value),
+    Send(Value),
+    Bind(u64, Value),
+    Call,
+    Wait(u64),
+}
+
+/// What a token does that publishes this value from a step, by what takes it; past the last step nothing does.
+pub fn taken_from(steps: &[Step], from: usize, value: Value) -> What
+    requires { AreOutwards steps.now }
+    ensures { (code : ℕ → Term) (env : ℕ → Env) (left : ℕ → Bool) → result ≡ taken value (seen left (path code env steps.now from)) }
+{
+    if from > steps.len() {
+        return What::Publish(value);
+    }
+    match find_taker(steps, from) {
+        Taker::Whole => What::Publish(value),
+        Taker::Feed(_, _, _, _) => What::Send(value),
+        Taker::Aid(cell, _) => What::Bind(cell, value),
+    }
+}
+
+/// What a call of a site does, with these operands still to look at: `waits` where one before them isn't a value, `first` the first cell before them.
+pub fn call_with(
+    scopes: &[Scope],
+    cells: &[Bound],
+    operands: &[Operand],
+    scope: usize,
+    waits: bool,
+    first: Option<u64>,
+) -> What
+    requires { AreOrdered scopes.now }
+    ensures { result ≡ scan waits first (closed (env_of cells.now scopes.now scope) operands.now) }
+{
+    match operands {
+        [] => {
+            if waits {
+                What::Wait(first.unwrap_or(0))
+            } else {
+                What::Call
+            }
+        }
+        [operand, operands @ ..] => match meaning(scopes, cells, *operand, scope) {
+            Some(Bound::Is(_)) => call_with(scopes, cells, operands, scope, waits, first),
+            Some(Bound::Void) => What::Void,
+            Some(Bound::Cell(cell)) => {
+                call_with(scopes, cells, operands, scope, true, first.or(Some(cell)))
+            }
+            None => call_with(scopes, cells, operands, scope, true, first),
+        },
+    }
+}
+
+// What a token does whose term is an operand.
+fn stand_on(
+    scopes: &[Scope],
+    cells: &[Bound],
+    steps: &[Step],
+    operand: Operand,
+    scope: usize,
+    from: usize,
+) -> What
+    requires ordered { AreOrdered scopes.now }
+    requires outwards { AreOutwards steps.now }
+    ensures { (code : ℕ → Term) (env : ℕ → Env) (left : ℕ → Bool) → result ≡ of_param (seen left (path code env steps.now from)) (close_param (env_of cells.now scopes.now scope) (param_of operand)) }
+{
+    match meaning(scopes, cells, operand, scope) {
+        Some(Bound::Is(value)) => taken_from(steps, from, value),
+        Some(Bound::Cell(cell)) => What::Wait(cell),
+        Some(Bound::Void) => What::Void,
+        None => What::Wait(0),
+    }
+}
+
+/// What a token does at a node.
+pub fn stand_at(
+    graph: &Graph,
+    scopes: &[Scope],
+    cells: &[Bound],
+    steps: &[Step],
+    node: usize,
+    scope: usize,
+    from: usize,
+) -> What
+    requires ordered { AreOrdered scopes.now }
+    requires outwards { AreOutwards steps.now }
+    ensures { result ≡ what_by (definitions graph.now) (seen (has_left steps.now) (path (code graph.now) (env_of cells.now scopes.now) steps.now from)) (close (env_of cells.now scopes.now scope) (code graph.now node)) }
+{
+    match graph.node(node) {
+        Node::Stop => What::Halt,
+        Node::Name(name) => stand_on(scopes, cells, steps, Operand::Name(name), scope, from),
+        Node::Is(value) => taken_from(steps, from, value),
+        Node::Site(_, list) => call_with(
+            scopes,
+            cells,
+            graph.operands(list as usize),
+            scope,
+            false,
+            None,
+        ),
+        Node::Call(definition, _) => match graph.body(definition as usize) {
+            Some(_) => What::Def,
+            None => What::Wait(0),
+        },
+        Node::Par(_, _) => What::Fork,
+        Node::Seq(_, _, _) => What::Seq,
+        Node::Prune(_, _, _) => What::Prune,
+        Node::Other(_, _) => What::Other,
+    }
+}

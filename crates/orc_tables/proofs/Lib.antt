@@ -1,0 +1,11 @@
+pub mod Chained
+pub mod Crowded
+pub mod Drained
+pub mod Flags
+pub mod Leading
+pub mod Listed
+pub mod Notes
+pub mod Placed
+pub mod Ripe
+pub mod Slots
+pub mod Weight

@@ -1,0 +1,353 @@
+//! The open groups, each found by its number, and how many members each group has.
+
+ghost use Rattle.std.specs.Prelude.{◌≡◌, [], ◌∷◌, ◌++◌, ◌+◌, ◌-◌, ◌^◌, ◌≤◌, ◌<◌, ℕ, Some, length, nat_eq, IfNone, IfOk, OnOk, OnErr, MatchOption, slice_get, slice_set, vec_len, vec_capacity};
+ghost use Rattle.orc_rules.specs.Timed.{IsIn};
+ghost use Rattle.orc_rules.specs.declared.limits.TheConstants.{MOST_GROUPS};
+ghost use Rattle.orc_tables.specs.Same.{weight, None};
+ghost use Rattle.orc_tables.specs.Same.{is_this};
+ghost use Rattle.orc_tables.specs.OpenGroups.{IsOpen, LeadTo, size_of};
+ghost use Rattle.orc_tables.specs.declared.records.Group.{Group as Its};
+
+use crate::chains::Chains;
+use crate::memory::{push_within, reserve};
+use crate::records::{Group, Side};
+use std::alloc::{AllocError, Global};
+use std::marker::Model;
+
+/// The open groups in a table by number. Number 0 is the program's own group, which is no item. A number is used again once its group is gone,
+/// so that there are never more than `MOST_GROUPS`.
+pub struct Groups {
+    items: Vec<Group>,
+    // By number: where its group is among the items, if it is open, and how many members it has.
+    places: Vec<usize>,
+    sizes: Vec<u32>,
+    // By number: which step entered its group's side. Nothing is promised of it: who uses it tests it.
+    hints: Vec<usize>,
+    // The numbers that no group has.
+    free: Vec<u32>,
+    // The places in `items` by parent.
+    chains: Chains,
+}
+
+// Written out, so that a caller's proof sees one call and not the drop of each field.
+impl Drop for Groups {
+    fn drop(self) {
+        let Groups {
+            items: _,
+            places: _,
+            sizes: _,
+            hints: _,
+            free: _,
+            chains: _,
+        } = self;
+    }
+}
+
+impl Model for Groups {
+    ghost use Rattle.std.specs.Prelude.{◌≡◌, ◌-◌, ◌+◌, ◌≤◌, min, length, vec_len, vec_capacity};
+    ghost use Rattle.orc_tables.specs.OpenGroups.{GroupTable, AreNumbered};
+
+    ghost Value = { GroupTable };
+
+    ghost view = { λ g. record { items = g.items.items; sizes = g.sizes.items; room = min (vec_capacity g.items - vec_len g.items) (vec_len g.free) } };
+
+    ghost invariant = { λ g. AreNumbered g.items.items g.places.items g.free.items × (length g.sizes.items ≡ length g.places.items) × (length g.places.items ≤ vec_capacity g.free + 1) };
+}
+
+// How many members a number has.
+#[inline(always)]
+fn size_at(sizes: &Vec<u32>, number: u32) -> u32
+    ensures { result ≡ size_of sizes.now.items number }
+{
+    match sizes.get(number as usize) {
+        Some(size) => *size,
+        None => 0,
+    }
+}
+
+#[inline(always)]
+fn set_size(sizes: &mut Vec<u32>, number: u32, size: u32)
+    ensures { sizes.new.items ≡ slice_set sizes.old.items number size }
+{
+    if let Some(slot) = sizes.get_mut(number as usize) {
+        *slot = size;
+    }
+}
+
+fn set_place(places: &mut Vec<usize>, number: u32, place: usize)
+    ensures { places.new.items ≡ slice_set places.old.items number place }
+{
+    if let Some(slot) = places.get_mut(number as usize) {
+        *slot = place;
+    }
+}
+
+fn place_at(places: &Vec<usize>, number: u32) -> Option<usize>
+    ensures { result ≡ slice_get places.now.items number }
+{
+    places.get(number as usize).copied()
+}
+
+fn group_in(items: &Vec<Group>, place: usize) -> Option<Group>
+    ensures { result ≡ slice_get items.now.items place }
+{
+    items.get(place).copied()
+}
+
+// Where the group with this number is.
+fn place_of(items: &Vec<Group>, places: &Vec<usize>, number: u32) -> Option<usize>
+    requires lead { LeadTo items.now.items places.now.items }
+    ensures found { MatchOption result ((k : ℕ) (g : Its) → slice_get items.now.items k ≡ Some g → g.number ≡ number → ⊥) (λ k. (g : Its) × (slice_get items.now.items k ≡ Some g) × (g.number ≡ number)) }
+{
+    let place = place_at(places, number)?;
+    let group = group_in(items, place)?;
+    if group.number == number {
+        Some(place)
+    } else {
+        None
+    }
+}
+
+// One more number, with its place in each list. Where memory is refused the lists stay.
+fn add_number(
+    places: &mut Vec<usize>,
+    sizes: &mut Vec<u32>,
+    hints: &mut Vec<usize>,
+    free: &mut Vec<u32>,
+) -> Result<(), AllocError>
+    requires some { 1 ≤ vec_len places.old }
+    requires few { vec_len places.old < MOST_GROUPS }
+    requires none { vec_len free.old ≡ 0 }
+    ensures places { OnOk result (places.new.items ≡ places.old.items ++ 0 ∷ []) }
+    ensures sizes { OnOk result (sizes.new.items ≡ sizes.old.items ++ 0 ∷ []) }
+    ensures free { OnOk result (free.new.items ≡ vec_len places.old ∷ []) }
+    ensures room { OnOk result (vec_len places.new ≤ vec_capacity free.new + 1) }
+    ensures capacity { vec_capacity free.old ≤ vec_capacity free.new }
+    ensures same { OnErr result ((places.new.items ≡ places.old.items) × (sizes.new.items ≡ sizes.old.items) × (free.new.items ≡ free.old.items)) }
+{
+    reserve(places)?;
+    reserve(sizes)?;
+    reserve(hints)?;
+    let number = places.len();
+    // The stack has room for all numbers.
+    if free.try_reserve(number).is_err() {
+        return Err(AllocError);
+    }
+    push_within(free, number as u32);
+    push_within(places, 0);
+    push_within(sizes, 0);
+    push_within(hints, 0);
+    Ok(())
+}
+
+// A number that no group has.
+fn take_free(free: &mut Vec<u32>) -> u32
+    requires { 1 ≤ vec_len free.old }
+    ensures taken { free.old.items ≡ free.new.items ++ result ∷ [] }
+    ensures capacity { vec_capacity free.new ≡ vec_capacity free.old }
+{
+    match free.pop() {
+        Some(number) => number,
+        None => 0,
+    }
+}
+
+// The group at a place goes, and the last one takes its place.
+fn remove_at(
+    items: &mut Vec<Group>,
+    places: &mut Vec<usize>,
+    chains: &mut Chains,
+    place: usize,
+) -> Group
+    requires lead { LeadTo items.old.items places.old.items }
+    requires there { place < vec_len items.old }
+    ensures group { slice_get items.old.items place ≡ Some result }
+    ensures len { vec_len items.new + 1 ≡ vec_len items.old }
+    ensures before { (k : ℕ) (g : Its) → k < place → slice_get items.new.items k ≡ Some g → slice_get items.old.items k ≡ Some g }
+    ensures lead { LeadTo items.new.items places.new.items }
+    ensures size { length places.new.items ≡ length places.old.items }
+    ensures rest { (w : Its → ℕ) → weight w items.new.items + w result ≡ weight w items.old.items }
+{
+    let group = items.swap_remove(place);
+    chains.swap_take(place, items.len());
+    match group_in(items, place) {
+        None => group,
+        Some(moved) => {
+            set_place(places, moved.number, place);
+            group
+        }
+    }
+}
+
+impl Groups {
+    /// No groups, and no members of the program's own.
+    pub fn begin(alloc: Global) -> Result<Groups, AllocError>
+        ensures items { IfOk result (λ t. t.items ≡ []) }
+        ensures sizes { IfOk result (λ t. (i : ℕ) → size_of t.sizes i ≡ 0) }
+    {
+        let chains = Chains::begin(alloc)?;
+        let mut places = Vec::new(alloc);
+        let mut sizes = Vec::new(alloc);
+        let mut hints = Vec::new(alloc);
+        reserve(&mut places)?;
+        reserve(&mut sizes)?;
+        reserve(&mut hints)?;
+        push_within(&mut places, 0);
+        push_within(&mut sizes, 0);
+        push_within(&mut hints, 0);
+        Ok(Groups {
+            items: Vec::new(alloc),
+            places,
+            sizes,
+            hints,
+            free: Vec::new(alloc),
+            chains,
+        })
+    }
+
+    /// How many groups are open, the program's own left out.
+    pub fn len(&self) -> usize
+        ensures { result ≡ length self.now.items }
+    {
+        self.items.len()
+    }
+
+    /// The open groups, in no order.
+    pub fn items(&self) -> &Vec<Group>
+        ensures { result.now.items ≡ self.now.items }
+    {
+        &self.items
+    }
+
+    /// The group at this place.
+    pub(crate) fn at(&self, place: usize) -> Group
+        requires { place < length self.now.items }
+        ensures { slice_get self.now.items place ≡ Some result }
+    {
+        self.items[place]
+    }
+
+    /// The places of the groups in a group, each once. They are a hint.
+    pub(crate) fn list(&self, parent: u32, places: &mut Vec<usize>)
+        ensures once { (k : ℕ) → weight (is_this k) places.new.items ≤ 1 }
+    {
+        self.chains.list(parent, places);
+    }
+
+    /// How many members a number has.
+    #[inline(always)]
+    pub fn size(&self, number: u32) -> u32
+        ensures { result ≡ size_of self.now.sizes number }
+    {
+        size_at(&self.sizes, number)
+    }
+
+    /// Makes room for one more group. Whether memory is refused or not, the groups and their sizes stay.
+    pub fn reserve(&mut self) -> Result<(), AllocError>
+        requires few { length self.old.items ≤ 1022 }
+        ensures items { self.new.items ≡ self.old.items }
+        ensures sizes { (i : ℕ) → size_of self.new.sizes i ≡ size_of self.old.sizes i }
+        ensures room { OnOk result (1 ≤ self.new.room) }
+    {
+        reserve(&mut self.items)?;
+        if self.chains.reserve().is_err() {
+            return Err(AllocError);
+        }
+        if self.free.len() == 0 {
+            add_number(
+                &mut self.places,
+                &mut self.sizes,
+                &mut self.hints,
+                &mut self.free,
+            )?;
+        }
+        Ok(())
+    }
+
+    /// Which step enters the side of the group with this number, as `open` was told it. Any number where no group has this one.
+    pub fn hint(&self, number: u32) -> usize {
+        match self.hints.get(number as usize) {
+            Some(step) => *step,
+            None => 0,
+        }
+    }
+
+    /// Opens a group in the one with the number `parent`, and gives its number, which was free. Which step enters its side is told as a hint.
+    pub fn open(&mut self, side: Side, outer: usize, hint: usize, parent: u32) -> u32
+        requires room { 1 ≤ self.old.room }
+        ensures items { self.new.items ≡ self.old.items ++ record { side = side; outer = outer; number = result } ∷ [] }
+        ensures free { (1 ≤ result) × None (λ (g : Its). nat_eq result g.number) self.old.items }
+        ensures sizes { self.new.sizes ≡ self.old.sizes }
+    {
+        let number = take_free(&mut self.free);
+        let place = self.items.len();
+        set_place(&mut self.places, number, place);
+        set_place(&mut self.hints, number, hint);
+        push_within(
+            &mut self.items,
+            Group {
+                side,
+                outer,
+                number,
+            },
+        );
+        self.chains.put(place, parent);
+        number
+    }
+
+    /// One more member.
+    #[inline(always)]
+    pub fn join(&mut self, number: u32)
+        requires open { IsOpen self.old.items number }
+        requires fits { size_of self.old.sizes number + 1 < 2 ^ 32 }
+        ensures items { self.new.items ≡ self.old.items }
+        ensures room { self.new.room ≡ self.old.room }
+        ensures sizes { (i : ℕ) → size_of self.new.sizes i ≡ size_of self.old.sizes i + is_this i number }
+    {
+        let size = size_at(&self.sizes, number);
+        set_size(&mut self.sizes, number, size + 1);
+    }
+
+    /// One member less, where there is one.
+    #[inline(always)]
+    pub fn leave(&mut self, number: u32)
+        ensures items { self.new.items ≡ self.old.items }
+        ensures room { self.new.room ≡ self.old.room }
+        ensures sizes { (i : ℕ) → size_of self.new.sizes i ≡ size_of self.old.sizes i - is_this i number }
+    {
+        let size = size_at(&self.sizes, number);
+        set_size(&mut self.sizes, number, size.saturating_sub(1));
+    }
+
+    /// The group at this place goes, and the last one takes its place.
+    pub(crate) fn remove(&mut self, place: usize) -> Group
+        requires there { place < length self.old.items }
+        ensures is { slice_get self.old.items place ≡ Some result }
+        ensures before { (k : ℕ) (g : Its) → k < place → slice_get self.new.items k ≡ Some g → slice_get self.old.items k ≡ Some g }
+        ensures rest { (w : Its → ℕ) → weight w self.new.items + w result ≡ weight w self.old.items }
+        ensures sizes { self.new.sizes ≡ self.old.sizes }
+    {
+        let group = remove_at(&mut self.items, &mut self.places, &mut self.chains, place);
+        push_within(&mut self.free, group.number);
+        group
+    }
+
+    /// The group with this number.
+    pub fn get(&self, number: u32) -> Option<Group>
+        ensures { MatchOption result ((g : Its) → IsIn g self.now.items → g.number ≡ number → ⊥) (λ g. IsIn g self.now.items × (g.number ≡ number)) }
+    {
+        let place = place_of(&self.items, &self.places, number)?;
+        group_in(&self.items, place)
+    }
+
+    /// Takes the group with this number out, where there is one.
+    pub fn take(&mut self, number: u32) -> Option<Group>
+        ensures group { MatchOption result ((g : Its) → IsIn g self.old.items → g.number ≡ number → ⊥) (λ g. IsIn g self.old.items × (g.number ≡ number)) }
+        ensures one { (g : Its) → IsIn g self.old.items → g.number ≡ number → (w : Its → ℕ) → weight w self.new.items + w g ≡ weight w self.old.items }
+        ensures none { IfNone result (self.new.items ≡ self.old.items) }
+        ensures sizes { self.new.sizes ≡ self.old.sizes }
+    {
+        let place = place_of(&self.items, &self.places, number)?;
+        Some(self.remove(place))
+    }
+}

@@ -1,0 +1,24 @@
+//! The records of a run in tables, each with an invariant of its own: tokens in slots, open groups with their members, calls that pend; and how
+//! what stands inside a side is found in them and leaves them.
+#![tactic(auto)]
+
+mod chains;
+mod crowd;
+mod dues;
+mod groups;
+mod leaving;
+mod memory;
+mod parking;
+mod pending;
+mod records;
+mod steps;
+mod tokens;
+
+pub use crowd::Crowd;
+pub use groups::Groups;
+pub use leaving::{leave_calls, leave_groups, leave_tokens, list_side, side_group, take_out};
+pub use memory::{push_within, reserve};
+pub use pending::Pending;
+pub use records::{Call, Entered, Group, Side, Standing, Step, Token};
+pub use steps::{depth_at, group_at, step_at};
+pub use tokens::Tokens;

@@ -1,0 +1,38 @@
+//! Room in a list, and items that are added where there is room.
+
+ghost use Rattle.std.specs.Prelude.{◌≡◌, ◌+◌, ◌<◌, ◌≤◌, ◌++◌, ◌∷◌, [], vec_len, vec_capacity, OnOk};
+
+use std::alloc::AllocError;
+
+/// Adds an item where there is room.
+// In place: a call of `push` would put the item together on the stack first.
+#[inline(always)]
+pub fn push_within<T: Drop>(items: &mut Vec<T>, item: T)
+    requires { vec_len items.old < vec_capacity items.old }
+    ensures items { items.new.items ≡ items.old.items ++ item ∷ [] }
+    ensures capacity { vec_capacity items.old ≤ vec_capacity items.new }
+{
+    items.push_reserved(item);
+}
+
+// Kept apart, since a list seldom grows.
+#[cold]
+#[inline(never)]
+fn grow<T: Drop>(items: &mut Vec<T>) -> Result<(), AllocError>
+    ensures items { items.new.items ≡ items.old.items }
+    ensures room { OnOk result (vec_len items.new + 1 ≤ vec_capacity items.new) }
+{
+    items.reserve(1)
+}
+
+/// Makes room for one more item.
+#[inline(always)]
+pub fn reserve<T: Drop>(items: &mut Vec<T>) -> Result<(), AllocError>
+    ensures items { items.new.items ≡ items.old.items }
+    ensures room { OnOk result (vec_len items.new + 1 ≤ vec_capacity items.new) }
+{
+    if items.len() >= items.capacity() {
+        return grow(items);
+    }
+    Ok(())
+}

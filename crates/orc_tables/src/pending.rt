@@ -1,0 +1,435 @@
+//! The calls that pend, by their numbers.
+
+ghost use Rattle.std.specs.Prelude.{◌≡◌, ◌+◌, ◌≤◌, ◌<◌, ◌-◌, ◌⊎◌, ◌^◌, [], ℕ, Some, None, true, false, IfSome, IfNone, MatchOption, IfOk, OnOk, length, vec_len, slice_get, slice_set};
+ghost use Rattle.orc_rules.specs.Timed.{IsIn};
+ghost use Rattle.orc_tables.specs.Same.{weight, but};
+ghost use Rattle.orc_tables.specs.PendingCalls.{has_number};
+ghost use Rattle.orc_tables.specs.Crowd.{is_listed};
+ghost use Rattle.orc_tables.specs.Inside.{stands_inside};
+ghost use Rattle.orc_tables.specs.PendingCalls.{due_of, next_due};
+ghost use Rattle.orc_tables.specs.Same.{is_this};
+ghost use Rattle.orc_tables.specs.Dues.{IsNoted};
+ghost use Rattle.orc_tables.specs.OpenGroups.{HaveLeft, calls_in};
+ghost use Rattle.orc_tables.specs.PendingCalls.{ArePlaced, HasNote, HaveNotes, is_numbered, IsDueBeyond, IsLeastBeyond};
+ghost use Rattle.orc_tables.specs.declared.records.Call.{Call as Its};
+
+use crate::chains::Chains;
+use crate::dues::Dues;
+use crate::groups::Groups;
+use crate::memory::push_within;
+use crate::records::{Call, Step};
+use crate::steps::{group_at, is_inside};
+use orc_calls::due_time;
+use std::alloc::{AllocError, Global};
+use std::marker::Model;
+
+/// The calls that pend, in no order, with the place of each number that was given out and the due times.
+pub struct Pending {
+    items: Vec<Call>,
+    places: Vec<usize>,
+    dues: Dues,
+    // The places in `items` by group.
+    chains: Chains,
+}
+
+// Written out, so that a caller's proof sees one call and not the drop of each field.
+impl Drop for Pending {
+    fn drop(self) {
+        let Pending {
+            items: _,
+            places: _,
+            dues: _,
+            chains: _,
+        } = self;
+    }
+}
+
+impl Model for Pending {
+    ghost use Rattle.std.specs.Prelude.{◌-◌, ◌^◌, min, length, vec_len, vec_capacity};
+    ghost use Rattle.orc_tables.specs.PendingCalls.{Pendings, ArePlaced, HaveNotes};
+
+    ghost Value = { Pendings };
+
+    ghost view = { λ p. record { items = p.items.items; made = length p.places.items; room = min (vec_capacity p.items - vec_len p.items) (vec_capacity p.places - vec_len p.places); notes = p.dues } };
+
+    ghost invariant = { λ p. ArePlaced p.items.items p.places.items × HaveNotes p.dues p.items.items };
+}
+
+// A call and its place.
+#[derive(Clone, Copy)]
+struct Spot {
+    place: usize,
+    call: Call,
+}
+
+// When a call is due.
+fn due_of(call: Call) -> Option<u64>
+    ensures { result ≡ due_of call }
+{
+    due_time(call.found, call.made_at)
+}
+
+// The place of a number.
+fn place_at(places: &Vec<usize>, number: u64) -> Option<usize>
+    ensures there { IfSome result (λ k. (1 ≤ number) × (slice_get places.now.items (number - 1) ≡ Some k)) }
+    ensures none { IfNone result (1 ≤ number → slice_get places.now.items (number - 1) ≡ None) }
+{
+    if number == 0 {
+        return None;
+    }
+    match places.get((number - 1) as usize) {
+        Some(place) => Some(*place),
+        None => None,
+    }
+}
+
+// Writes the place of a number that was given out.
+fn set_place(places: &mut Vec<usize>, number: u64, place: usize)
+    requires { 1 ≤ number }
+    ensures { places.new.items ≡ slice_set places.old.items (number - 1) place }
+{
+    if let Some(slot) = places.get_mut((number - 1) as usize) {
+        *slot = place;
+    }
+}
+
+fn call_at(items: &Vec<Call>, place: usize) -> Option<Call>
+    ensures there { IfSome result (λ c. slice_get items.now.items place ≡ Some c) }
+    ensures none { IfNone result (slice_get items.now.items place ≡ None) }
+{
+    match items.get(place) {
+        Some(call) => Some(*call),
+        None => None,
+    }
+}
+
+// The call with this number, and its place.
+fn find(items: &Vec<Call>, places: &Vec<usize>, number: u64) -> Option<Spot>
+    ensures found { IfSome result (λ s. (slice_get items.now.items s.place ≡ Some s.call) × (s.call.number ≡ number)) }
+    ensures none { IfNone result (ArePlaced items.now.items places.now.items → (k : ℕ) (c : Its) → slice_get items.now.items k ≡ Some c → c.number ≡ number → ⊥) }
+{
+    let place = match place_at(places, number) {
+        Some(place) => place,
+        None => return None,
+    };
+    let call = match call_at(items, place) {
+        Some(call) => call,
+        None => return None,
+    };
+    if call.number == number {
+        Some(Spot { place, call })
+    } else {
+        None
+    }
+}
+
+// The call at a place goes, and the last one takes its place.
+fn remove_at(
+    items: &mut Vec<Call>,
+    places: &mut Vec<usize>,
+    chains: &mut Chains,
+    place: usize,
+) -> Call
+    requires placed { ArePlaced items.old.items places.old.items }
+    requires there { place < vec_len items.old }
+    ensures call { slice_get items.old.items place ≡ Some result }
+    ensures len { vec_len items.new + 1 ≡ vec_len items.old }
+    ensures before { (k : ℕ) (c : Its) → k < place → slice_get items.new.items k ≡ Some c → slice_get items.old.items k ≡ Some c }
+    ensures placed { ArePlaced items.new.items places.new.items }
+    ensures made { length places.new.items ≡ length places.old.items }
+    ensures rest { (w : Its → ℕ) → weight w items.new.items + w result ≡ weight w items.old.items }
+    ensures others { (c : Its) → IsIn c items.new.items → IsIn c items.old.items × (c.number ≡ result.number → ⊥) }
+{
+    let call = items.swap_remove(place);
+    chains.swap_take(place, items.len());
+    match call_at(items, place) {
+        None => call,
+        Some(moved) => {
+            set_place(places, moved.number, place);
+            call
+        }
+    }
+}
+
+// Takes the note of a call out.
+fn forget(dues: &mut Dues, call: Call)
+    ensures { (t k : ℕ) → IsNoted dues.old t k → IsNoted dues.new t k ⊎ (k ≡ call.number) }
+{
+    if let Some(time) = due_of(call) {
+        dues.forget(time, call.number);
+    }
+}
+
+// The calls inside the right side of a cell go, and leave their groups.
+fn drop_inside(
+    items: &mut Vec<Call>,
+    places: &mut Vec<usize>,
+    dues: &mut Dues,
+    chains: &mut Chains,
+    groups: &mut Groups,
+    steps: &Vec<Step>,
+    cell: u64,
+)
+    requires placed { ArePlaced items.old.items places.old.items }
+    requires noted { HaveNotes dues.old items.old.items }
+    ensures placed { ArePlaced items.new.items places.new.items }
+    ensures noted { HaveNotes dues.new items.new.items }
+    ensures made { length places.new.items ≡ length places.old.items }
+    ensures rest { (w : Its → ℕ) → weight w items.new.items ≡ weight (but (λ (k : Its). stands_inside cell steps.now.items k.step) w) items.old.items }
+    ensures groups { groups.new.items ≡ groups.old.items }
+    ensures sizes { HaveLeft groups.old.sizes groups.new.sizes (calls_in steps.now.items items.old.items) (calls_in steps.now.items items.new.items) }
+{
+    let mut i = 0;
+    while i < items.len() {
+        let step = items[i].step;
+        if is_inside(steps, step, cell) {
+            let gone = remove_at(items, places, chains, i);
+            forget(dues, gone);
+            groups.leave(group_at(steps, gone.step));
+        } else {
+            i += 1;
+        }
+    }
+}
+
+// Whether the call with this number pends and is due at this time.
+fn is_due(items: &Vec<Call>, places: &Vec<usize>, time: u64, number: u64) -> bool
+    requires { ArePlaced items.now.items places.now.items }
+    ensures due { result ≡ true → (c : Its) × IsIn c items.now.items × (c.number ≡ number) × (due_of c ≡ Some time) }
+    ensures other { result ≡ false → (c : Its) → IsIn c items.now.items → c.number ≡ number → due_of c ≡ Some time → ⊥ }
+{
+    match find(items, places, number) {
+        None => false,
+        Some(spot) => match due_of(spot.call) {
+            None => false,
+            Some(due) => due == time,
+        },
+    }
+}
+
+// The least due time. Notes before it whose calls pend no more go.
+fn next_due(items: &Vec<Call>, places: &Vec<usize>, dues: &mut Dues) -> Option<u64>
+    requires placed { ArePlaced items.now.items places.now.items }
+    requires noted { HaveNotes dues.old items.now.items }
+    ensures due { result ≡ next_due items.now.items }
+    ensures noted { HaveNotes dues.new items.now.items }
+{
+    while let Some((time, number)) = dues.first() {
+        if is_due(items, places, time, number) {
+            return Some(time);
+        }
+        dues.forget(time, number);
+    }
+    None
+}
+
+// The least number over `beyond` whose call is due at this time. Notes before it whose calls pend no more go.
+fn due_beyond(
+    items: &Vec<Call>,
+    places: &Vec<usize>,
+    dues: &mut Dues,
+    time: u64,
+    beyond: u64,
+) -> Option<u64>
+    requires placed { ArePlaced items.now.items places.now.items }
+    requires noted { HaveNotes dues.old items.now.items }
+    requires fits { beyond + 1 < 2 ^ 64 }
+    ensures due { MatchOption result ((k : ℕ) → IsDueBeyond items.now.items beyond time k → ⊥) (IsLeastBeyond items.now.items beyond time) }
+    ensures noted { HaveNotes dues.new items.now.items }
+{
+    while let Some(number) = dues.first_at(time, beyond + 1) {
+        if is_due(items, places, time, number) {
+            return Some(number);
+        }
+        dues.forget(time, number);
+    }
+    None
+}
+
+impl Pending {
+    /// No calls.
+    pub fn begin(alloc: Global) -> Result<Pending, AllocError>
+        ensures items { IfOk result (λ p. p.items ≡ []) }
+        ensures made { IfOk result (λ p. p.made ≡ 0) }
+    {
+        let chains = Chains::begin(alloc)?;
+        Ok(Pending {
+            items: Vec::new(alloc),
+            places: Vec::new(alloc),
+            dues: Dues::new(alloc),
+            chains,
+        })
+    }
+
+    /// How many calls pend.
+    pub fn len(&self) -> usize
+        ensures { result ≡ length self.now.items }
+    {
+        self.items.len()
+    }
+
+    /// The number of the call that comes next, from 1.
+    pub fn next_number(&self) -> u64
+        ensures { result ≡ self.now.made + 1 }
+    {
+        let places = self.places.as_slice();
+        places.len() as u64 + 1
+    }
+
+    /// The call with this number.
+    pub fn get(&self, number: u64) -> Option<Call>
+        ensures { MatchOption result (weight (has_number number) self.now.items ≡ 0) (λ c. IsIn c self.now.items × (c.number ≡ number)) }
+    {
+        match find(&self.items, &self.places, number) {
+            None => None,
+            Some(spot) => Some(spot.call),
+        }
+    }
+
+    /// Makes room for a call, and notes when it is due. Whether memory is refused or not, the calls stay.
+    pub fn reserve(&mut self, call: Call) -> Result<(), AllocError>
+        ensures items { self.new.items ≡ self.old.items }
+        ensures made { self.new.made ≡ self.old.made }
+        ensures room { OnOk result (1 ≤ self.new.room) }
+        ensures noted { OnOk result (HasNote self.new.notes call) }
+    {
+        self.items.try_reserve(1)?;
+        self.places.try_reserve(1)?;
+        self.chains.reserve()?;
+        if let Some(time) = due_of(call) {
+            self.dues.note(time, call.number)?;
+        }
+        Ok(())
+    }
+
+    /// Adds a call of this group with the next number, where there is room and its due time is noted.
+    pub fn add(&mut self, call: Call, group: u32)
+        requires number { call.number ≡ self.old.made + 1 }
+        requires room { 1 ≤ self.old.room }
+        requires noted { HasNote self.old.notes call }
+        ensures made { self.new.made ≡ self.old.made + 1 }
+        ensures added { (w : Its → ℕ) → weight w self.new.items ≡ weight w self.old.items + w call }
+    {
+        let place = self.items.len();
+        push_within(&mut self.items, call);
+        push_within(&mut self.places, place);
+        self.chains.put(place, group);
+    }
+
+    /// Makes room for the number of a call that won't pend. Whether memory is refused or not, the calls stay.
+    pub fn reserve_number(&mut self) -> Result<(), AllocError>
+        ensures items { self.new.items ≡ self.old.items }
+        ensures made { self.new.made ≡ self.old.made }
+        ensures room { OnOk result (1 ≤ self.new.room) }
+    {
+        self.items.try_reserve(1)?;
+        self.places.try_reserve(1)?;
+        Ok(())
+    }
+
+    /// The next number is that of a call that doesn't pend.
+    pub fn pass_number(&mut self)
+        requires room { 1 ≤ self.old.room }
+        ensures items { self.new.items ≡ self.old.items }
+        ensures made { self.new.made ≡ self.old.made + 1 }
+    {
+        push_within(&mut self.places, 0);
+    }
+
+    /// Takes the call with this number out, where there is one.
+    pub fn take(&mut self, number: u64) -> Option<Call>
+        ensures made { self.new.made ≡ self.old.made }
+        ensures taken { (w : Its → ℕ) → weight w self.new.items ≡ weight (but (is_numbered number) w) self.old.items }
+        ensures call { MatchOption result (weight (has_number number) self.old.items ≡ 0) (λ c. IsIn c self.old.items × (c.number ≡ number)) }
+        ensures one { (c : Its) → IsIn c self.old.items → c.number ≡ number → (w : Its → ℕ) → weight w self.new.items + w c ≡ weight w self.old.items }
+    {
+        match find(&self.items, &self.places, number) {
+            None => None,
+            Some(spot) => {
+                let call = remove_at(
+                    &mut self.items,
+                    &mut self.places,
+                    &mut self.chains,
+                    spot.place,
+                );
+                forget(&mut self.dues, call);
+                Some(call)
+            }
+        }
+    }
+
+    /// The places of a group's calls, each once. They are a hint.
+    pub(crate) fn list(&self, group: u32, places: &mut Vec<usize>)
+        ensures once { (k : ℕ) → weight (is_this k) places.new.items ≤ 1 }
+    {
+        self.chains.list(group, places);
+    }
+
+    /// The calls, in no order.
+    pub(crate) fn items(&self) -> &Vec<Call>
+        ensures { result.now.items ≡ self.now.items }
+    {
+        &self.items
+    }
+
+    /// The calls inside the right side of a cell go, and leave their groups.
+    pub(crate) fn drop_inside(&mut self, groups: &mut Groups, steps: &Vec<Step>, cell: u64)
+        ensures made { self.new.made ≡ self.old.made }
+        ensures rest { (w : Its → ℕ) → weight w self.new.items ≡ weight (but (λ (k : Its). stands_inside cell steps.now.items k.step) w) self.old.items }
+        ensures groups { groups.new.items ≡ groups.old.items }
+        ensures sizes { HaveLeft groups.old.sizes groups.new.sizes (calls_in steps.now.items self.old.items) (calls_in steps.now.items self.new.items) }
+    {
+        drop_inside(
+            &mut self.items,
+            &mut self.places,
+            &mut self.dues,
+            &mut self.chains,
+            groups,
+            steps,
+            cell,
+        );
+    }
+
+    /// The calls with these numbers, which are those inside the right side of a cell, go, and leave their groups.
+    pub(crate) fn drop_listed(
+        &mut self,
+        groups: &mut Groups,
+        steps: &Vec<Step>,
+        cell: u64,
+        numbers: &Vec<u64>,
+    )
+        requires listed { (c : Its) → IsIn c self.old.items → is_listed numbers.now.items c.number ≡ stands_inside cell steps.now.items c.step }
+        ensures made { self.new.made ≡ self.old.made }
+        ensures rest { (w : Its → ℕ) → weight w self.new.items ≡ weight (but (λ (k : Its). stands_inside cell steps.now.items k.step) w) self.old.items }
+        ensures groups { groups.new.items ≡ groups.old.items }
+        ensures sizes { HaveLeft groups.old.sizes groups.new.sizes (calls_in steps.now.items self.old.items) (calls_in steps.now.items self.new.items) }
+    {
+        for number in numbers {
+            if let Some(gone) = self.take(*number) {
+                groups.leave(group_at(steps, gone.step));
+            }
+        }
+    }
+
+    /// The least due time. Notes before it whose calls pend no more go.
+    pub fn next_due(&mut self) -> Option<u64>
+        ensures items { self.new.items ≡ self.old.items }
+        ensures made { self.new.made ≡ self.old.made }
+        ensures due { result ≡ next_due self.old.items }
+    {
+        next_due(&self.items, &self.places, &mut self.dues)
+    }
+
+    /// The least number over `beyond` whose call is due at this time. Notes in between whose calls pend no more go.
+    pub fn due_beyond(&mut self, time: u64, beyond: u64) -> Option<u64>
+        ensures items { self.new.items ≡ self.old.items }
+        ensures made { self.new.made ≡ self.old.made }
+        ensures due { MatchOption result ((k : ℕ) → IsDueBeyond self.old.items beyond time k → ⊥) (IsLeastBeyond self.old.items beyond time) }
+    {
+        if beyond >= self.places.len() as u64 {
+            // No number over it was given out.
+            return None;
+        }
+        due_beyond(&self.items, &self.places, &mut self.dues, time, beyond)
+    }
+}

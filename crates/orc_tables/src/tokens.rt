@@ -1,0 +1,317 @@
+//! The tokens, each in a slot.
+
+ghost use Rattle.std.specs.Prelude.{◌≡◌, [], ◌∷◌, ◌+◌, ◌≤◌, ◌<◌, ℕ, true, false, Some, None, length, IfSome, IfNone, IfOk, OnOk, slice_get, slice_set, vec_len, vec_capacity};
+ghost use Rattle.orc_rules.specs.Timed.{IsIn};
+ghost use Rattle.orc_tables.specs.Same.{weight};
+ghost use Rattle.orc_tables.specs.Same.{is_this};
+ghost use Rattle.orc_tables.specs.Parking.{is_set, notes_at, IsNoted};
+ghost use Rattle.orc_tables.specs.Tokens.{live, IsHeld, StayParked, StayBut, StayWith};
+ghost use Rattle.orc_tables.specs.declared.records.Token.{Token as Its};
+
+use crate::chains::Chains;
+use crate::memory::reserve;
+use crate::parking::{Note, Parking};
+use crate::records::{Standing, Token};
+use std::alloc::{AllocError, Global};
+use std::marker::Model;
+
+/// The tokens in slots. A slot whose token has serial 0 is free, and is used again: a token is found by its slot, and its serial tells whether
+/// it is still the one that was put there.
+pub struct Tokens {
+    slots: Vec<Token>,
+    // Slots that became free. A slot may stand here that is in use again, so each is tested when it is taken.
+    free: Vec<usize>,
+    count: usize,
+    parking: Parking,
+    // The slots by group.
+    chains: Chains,
+}
+
+// Written out, so that a caller's proof sees one call and not the drop of each field.
+impl Drop for Tokens {
+    fn drop(self) {
+        let Tokens {
+            slots: _,
+            free: _,
+            count: _,
+            parking: _,
+            chains: _,
+        } = self;
+    }
+}
+
+impl Model for Tokens {
+    ghost use Rattle.std.specs.Prelude.{◌≡◌, ◌-◌, length, vec_len, vec_capacity};
+    ghost use Rattle.orc_tables.specs.Tokens.{Slots, AreHeld, live};
+
+    ghost Value = { Slots };
+
+    ghost view = { λ t. record { items = t.slots.items; room = vec_capacity t.slots - vec_len t.slots; parked = t.parking } };
+
+    ghost invariant = { λ t. (t.count ≡ length (live t.slots.items)) × AreHeld t.slots.items t.parking.flags };
+}
+
+// What stands in a free slot.
+const NOBODY: Token = Token {
+    serial: 0,
+    standing: Standing::At(0, 0),
+    step: 0,
+};
+
+// Writes into a slot that is there.
+#[inline(always)]
+fn put(slots: &mut Vec<Token>, slot: usize, token: Token)
+    ensures items { slots.new.items ≡ slice_set slots.old.items slot token }
+    ensures len { vec_len slots.new ≡ vec_len slots.old }
+    ensures capacity { vec_capacity slots.new ≡ vec_capacity slots.old }
+{
+    if let Some(place) = slots.get_mut(slot) {
+        *place = token;
+    }
+}
+
+// A slot that is free, where the stack knows one.
+#[inline(always)]
+fn free_slot(slots: &Vec<Token>, free: &mut Vec<usize>) -> Option<usize>
+    ensures { IfSome result (λ slot. (free : Its) × (slice_get slots.now.items slot ≡ Some free) × (free.serial ≡ 0)) }
+{
+    let slot = free.pop()?;
+    match slots.get(slot) {
+        Some(token) if token.serial == 0 => Some(slot),
+        _ => None,
+    }
+}
+
+// Whether the token of a note is still there.
+fn is_there(slots: &Vec<Token>, note: Note) -> bool
+    ensures { result ≡ false → (t : Its) → slice_get slots.now.items note.slot ≡ Some t → t.serial ≡ note.serial → ⊥ }
+{
+    match slots.get(note.slot) {
+        Some(token) => token.serial == note.serial,
+        None => false,
+    }
+}
+
+// The token of a note is not known to wait any more.
+fn rouse(slots: &Vec<Token>, parking: &mut Parking, note: Note)
+    ensures flags { (k : ℕ) → is_set parking.new.flags k ≡ true → is_set parking.old.flags k ≡ true }
+    ensures gone { (t : Its) → slice_get slots.now.items note.slot ≡ Some t → t.serial ≡ note.serial → is_set parking.new.flags note.slot ≡ true → ⊥ }
+    ensures notes { parking.new.notes ≡ parking.old.notes }
+{
+    if !is_there(slots, note) {
+        return;
+    }
+    parking.clear(note.slot);
+}
+
+// No token that is noted with this cell is known to wait any more. Its notes go.
+fn wake(slots: &Vec<Token>, parking: &mut Parking, cell: u64)
+    ensures flags { (k : ℕ) → is_set parking.new.flags k ≡ true → is_set parking.old.flags k ≡ true }
+    ensures gone { (k : ℕ) (t : Its) → IsHeld slots.now.items k t → is_set parking.new.flags k ≡ true → IsNoted parking.old cell k t.serial → ⊥ }
+    ensures others { (c : ℕ) → (c ≡ cell → ⊥) → notes_at parking.new.notes c ≡ notes_at parking.old.notes c }
+{
+    while let Some(note) = parking.take(cell) {
+        rouse(slots, parking, note);
+    }
+}
+
+// Notes a token with each of these cells.
+fn note_all(
+    parking: &mut Parking,
+    slot: usize,
+    serial: u64,
+    cells: &Vec<u64>,
+) -> Result<(), AllocError>
+    ensures flags { parking.new.flags ≡ parking.old.flags }
+    ensures kept { (c k n : ℕ) → IsNoted parking.old c k n → IsNoted parking.new c k n }
+    ensures noted { OnOk result ((c : ℕ) → IsIn c cells.now.items → IsNoted parking.new c slot serial) }
+{
+    for cell in cells {
+        parking.note(*cell, Note { slot, serial })?;
+    }
+    Ok(())
+}
+
+impl Tokens {
+    /// One token, in slot 0.
+    pub fn begin(alloc: Global, token: Token) -> Result<Tokens, AllocError>
+        requires { 1 ≤ token.serial }
+        ensures items { IfOk result (λ t. t.items ≡ token ∷ []) }
+        ensures parked { IfOk result (λ t. t.parked ≡ record { flags = []; notes = [] }) }
+    {
+        let mut chains = Chains::begin(alloc)?;
+        chains.put(0, 0);
+        let mut slots = Vec::new(alloc);
+        if slots.push(token).is_err() {
+            return Err(AllocError);
+        }
+        Ok(Tokens {
+            slots,
+            free: Vec::new(alloc),
+            count: 1,
+            parking: Parking::new(alloc),
+            chains,
+        })
+    }
+
+    /// The slots; one with serial 0 is free.
+    pub fn slots(&self) -> &[Token]
+        ensures { result.now ≡ self.now.items }
+    {
+        &self.slots
+    }
+
+    /// How many tokens there are.
+    #[inline(always)]
+    pub fn len(&self) -> usize
+        ensures { result ≡ length (live self.now.items) }
+    {
+        self.count
+    }
+
+    /// How many slots there are.
+    pub(crate) fn slot_count(&self) -> usize
+        ensures { result ≡ length self.now.items }
+    {
+        self.slots.len()
+    }
+
+    /// What stands in this slot.
+    #[inline(always)]
+    pub(crate) fn at(&self, slot: usize) -> Token
+        requires { slot < length self.now.items }
+        ensures { slice_get self.now.items slot ≡ Some result }
+    {
+        self.slots[slot]
+    }
+
+    /// The token with this serial, which isn't 0, if it is in this slot.
+    #[inline(always)]
+    pub fn get(&self, slot: usize, serial: u64) -> Option<Token>
+        requires { 1 ≤ serial }
+        ensures held { IfSome result (λ t. IsHeld self.now.items slot t × (t.serial ≡ serial)) }
+        ensures none { IfNone result ((t : Its) → IsHeld self.now.items slot t → t.serial ≡ serial → ⊥) }
+    {
+        match self.slots.get(slot) {
+            Some(token) if token.serial == serial => Some(*token),
+            _ => None,
+        }
+    }
+
+    /// The token in this slot, if there is one.
+    #[inline(always)]
+    pub fn held(&self, slot: usize) -> Option<Token>
+        ensures held { IfSome result (λ t. IsHeld self.now.items slot t) }
+        ensures none { IfNone result ((t : Its) → IsHeld self.now.items slot t → ⊥) }
+    {
+        match self.slots.get(slot) {
+            Some(token) if token.serial > 0 => Some(*token),
+            _ => None,
+        }
+    }
+
+    /// Makes room for one more token.
+    pub fn reserve(&mut self) -> Result<(), AllocError>
+        ensures items { self.new.items ≡ self.old.items }
+        ensures parked { self.new.parked ≡ self.old.parked }
+        ensures room { OnOk result (1 ≤ self.new.room) }
+    {
+        reserve(&mut self.slots)?;
+        // With this much, a slot that becomes free is always noted.
+        if self.free.len() == self.free.capacity() {
+            self.free.try_reserve(1)?;
+        }
+        self.chains.reserve()
+    }
+
+    /// Puts a token of this group into a slot, and gives its number.
+    #[inline(always)]
+    pub fn add(&mut self, token: Token, group: u32) -> usize
+        requires room { 1 ≤ self.old.room }
+        requires serial { 1 ≤ token.serial }
+        ensures held { IsHeld self.new.items result token }
+        ensures others { (k : ℕ) (t : Its) → IsHeld self.old.items k t → IsHeld self.new.items k t }
+        ensures added { (w : Its → ℕ) → weight w (live self.new.items) ≡ weight w (live self.old.items) + w token }
+        ensures parked { StayParked self.old self.new }
+    {
+        let end = self.slots.len();
+        self.count += 1;
+        match free_slot(&self.slots, &mut self.free) {
+            Some(slot) => {
+                put(&mut self.slots, slot, token);
+                self.chains.put(slot, group);
+                slot
+            }
+            None => {
+                self.slots.push_reserved(token);
+                self.chains.put(end, group);
+                end
+            }
+        }
+    }
+
+    /// Another token, of this group, takes the slot of one that goes.
+    #[inline(always)]
+    pub fn replace(&mut self, slot: usize, token: Token, group: u32)
+        requires held { (t : Its) × IsHeld self.old.items slot t }
+        requires serial { 1 ≤ token.serial }
+        ensures items { self.new.items ≡ slice_set self.old.items slot token }
+        ensures room { self.new.room ≡ self.old.room }
+        ensures parked { StayParked self.old self.new }
+    {
+        self.parking.clear(slot);
+        put(&mut self.slots, slot, token);
+        self.chains.put(slot, group);
+    }
+
+    /// The slots of a group's tokens, each once. They are a hint.
+    pub(crate) fn list(&self, group: u32, slots: &mut Vec<usize>)
+        ensures once { (k : ℕ) → weight (is_this k) slots.new.items ≤ 1 }
+    {
+        self.chains.list(group, slots);
+    }
+
+    /// A token goes, and its slot is free.
+    #[inline(always)]
+    pub fn remove(&mut self, slot: usize)
+        requires { (t : Its) × IsHeld self.old.items slot t }
+        ensures items { (free : Its) × (free.serial ≡ 0) × (self.new.items ≡ slice_set self.old.items slot free) }
+        ensures room { self.new.room ≡ self.old.room }
+        ensures parked { StayParked self.old self.new }
+    {
+        self.parking.clear(slot);
+        put(&mut self.slots, slot, NOBODY);
+        self.chains.take(slot);
+        self.count -= 1;
+        if self.free.len() < self.free.capacity() {
+            self.free.push_reserved(slot);
+        }
+    }
+
+    /// Whether each token is known to wait.
+    pub fn all_wait(&self) -> bool
+        ensures { result ≡ true → (k : ℕ) (t : Its) → IsHeld self.now.items k t → is_set self.now.parked.flags k ≡ true }
+    {
+        self.parking.len() == self.count
+    }
+
+    /// The token with this serial, in this slot, is known to wait for these cells. Where memory is refused it isn't.
+    pub fn park(&mut self, slot: usize, serial: u64, cells: &Vec<u64>) -> Result<(), AllocError>
+        requires { (t : Its) × IsHeld self.old.items slot t × (t.serial ≡ serial) }
+        ensures items { self.new.items ≡ self.old.items }
+        ensures parked { StayWith slot serial cells.now.items self.old self.new }
+    {
+        self.parking.reach(slot)?;
+        note_all(&mut self.parking, slot, serial, cells)?;
+        self.parking.set(slot);
+        Ok(())
+    }
+
+    /// No token that waits for this cell is known to wait any more.
+    pub fn wake(&mut self, cell: u64)
+        ensures items { self.new.items ≡ self.old.items }
+        ensures parked { StayBut cell self.old self.new }
+    {
+        wake(&self.slots, &mut self.parking, cell);
+    }
+}
