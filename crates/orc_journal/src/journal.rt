@@ -24,8 +24,9 @@ pub enum Version {
     Two,
 }
 
-/// A journal: its version and its entries. An entry takes 16 bytes, and as many more for each value in it and for a call. One that names a
-/// number of over 32 bits, or opens a pruning with marks that don't follow one another, takes 40 bytes more.
+/// A journal: its version and its entries. An entry takes 16 bytes, a call 12 more, and a value or an argument 16 more; but a value, or a call's one
+/// argument, that was kept last is not kept again. One that names a number of over 32 bits, or opens a pruning with marks that don't follow one
+/// another, takes 40 bytes more.
 #[derive(Drop)]
 pub struct Journal {
     version: Version,

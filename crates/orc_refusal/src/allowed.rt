@@ -5,13 +5,13 @@ ghost use Rattle.orc_refusal.specs.Allowed.{AreTaken};
 
 use crate::line::say_entry;
 use orc_checker::arena::{Kind, Tip};
-use orc_checker::{Marked, Next};
+use orc_checker::{Marked, Side};
+use orc_moves::{return_entry, side_entry, token_entry};
 use orc_page::Page;
 use orc_rules::answers::Answers;
 use orc_rules::entry::Entry;
 use orc_rules::param::{Operand, Param};
 use orc_rules::program::{Program, TermNode};
-use orc_rules::value::Answer;
 use orc_verdict::first_reason;
 use std::alloc::{AllocError, Global};
 use std::marker::Model;
@@ -56,36 +56,9 @@ fn taken(
     Ok(taken)
 }
 
-// The entry of a token's next move, with the next numbers; none for one that waits.
-fn token_entry(marked: &Marked, token: u64, next: Next) -> Option<Entry> {
-    let mark = marked.new_mark();
-    Some(match next {
-        Next::End => Entry::End(token),
-        Next::Fork => Entry::Fork(token, mark, mark.saturating_add(1)),
-        Next::Seq => Entry::Seq(token, mark),
-        Next::Other => Entry::Other(token, mark),
-        Next::Def => Entry::Def(token, mark),
-        Next::Void => Entry::Void(token),
-        Next::Open => Entry::Open(token, marked.new_cell(), mark, mark.saturating_add(1)),
-        Next::Send(value) => Entry::Send(token, mark, value),
-        Next::Call(site, args) => Entry::Call(token, marked.new_call(), site, args),
-        Next::Bind(cell, value) => Entry::Bind(token, cell, value),
-        Next::Publish(value) => Entry::Publish(token, value),
-        Next::Wait => return None,
-    })
-}
-
 /// The entry by which a token can go on. None where there is no such token, a cancel is due, or it waits.
 pub(crate) fn entry_of(marked: &Marked, program: &Program, token: u64) -> Option<Entry> {
     token_entry(marked, token, marked.next(program, token)?)
-}
-
-// The entry of a call's return.
-fn return_entry(marked: &Marked, call: u64, answer: Answer) -> Entry {
-    match answer {
-        Answer::Value(value) => Entry::Return(call, marked.new_mark(), value),
-        Answer::Halt => Entry::ReturnHalt(call),
-    }
 }
 
 // Whether a call of a site with these operands can go on in a scope: all are values, or one is void.
@@ -175,13 +148,13 @@ impl Allowed {
 
     fn add_sides(&mut self, marked: &Marked) -> Result<(), AllocError> {
         for cell in 1..marked.new_cell() {
-            if marked.right_has_halted(cell) == Some(true) {
-                self.add(Entry::Lost(cell))?;
+            if let Some(entry) = side_entry(marked, Side::Right(cell)) {
+                self.add(entry)?;
             }
         }
         for mark in 1..marked.new_mark() {
-            if marked.left_has_halted(mark) == Some(true) {
-                self.add(Entry::Right(mark, marked.new_mark()))?;
+            if let Some(entry) = side_entry(marked, Side::Left(mark)) {
+                self.add(entry)?;
             }
         }
         Ok(())

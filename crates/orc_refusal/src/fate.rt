@@ -3,6 +3,7 @@
 use crate::named::{Named, named_by, place_of, stands_at};
 use orc_checker::Marked;
 use orc_checker::arena::{Kind, Single};
+use orc_moves::numbers_of;
 use orc_page::Page;
 use orc_rules::entry::Entry;
 
@@ -22,6 +23,21 @@ pub(crate) enum Fate {
     Left(u64),
 }
 
+impl Fate {
+    // The words round the number of the entry that did it.
+    fn words(self) -> Option<(&'static str, u64, &'static str)> {
+        match self {
+            Fate::Nothing => None,
+            Fate::UsedUp(entry) => Some((": entry ", entry, " used it up")),
+            Fate::Returned(entry) => Some((": it has returned at entry ", entry, "")),
+            Fate::Cancelled(entry) => Some((": it was cancelled at entry ", entry, "")),
+            Fate::Bound(entry) => Some((": the bind at entry ", entry, " dropped it")),
+            Fate::Ended(entry) => Some((": the end of its side at entry ", entry, " dropped it")),
+            Fate::Left(entry) => Some((": the publication at entry ", entry, " left it")),
+        }
+    }
+}
+
 /// One that is watched while entries are applied.
 #[derive(Clone, Copy)]
 pub(crate) struct Watch {
@@ -32,19 +48,11 @@ pub(crate) struct Watch {
 
 // Whether an entry brings it.
 fn is_brought(named: Named, entry: &Entry) -> bool {
+    let new = numbers_of(entry);
     match named {
-        Named::Token(mark) => match entry {
-            Entry::Fork(_, a, b) | Entry::Open(_, _, a, b) => *a == mark || *b == mark,
-            Entry::Seq(_, a)
-            | Entry::Other(_, a)
-            | Entry::Def(_, a)
-            | Entry::Send(_, a, _)
-            | Entry::Return(_, a, _)
-            | Entry::Right(_, a) => *a == mark,
-            _ => false,
-        },
-        Named::Call(call) => matches!(entry, Entry::Call(_, number, _, _) if *number == call),
-        Named::Cell(cell) => matches!(entry, Entry::Open(_, number, _, _) if *number == cell),
+        Named::Token(mark) => new.mark == Some(mark) || new.second == Some(mark),
+        Named::Call(call) => new.call == Some(call),
+        Named::Cell(cell) => new.cell == Some(cell),
         Named::Otherwise(mark) => matches!(entry, Entry::Other(number, _) if *number == mark),
         Named::Nothing => false,
     }
@@ -151,36 +159,13 @@ impl Watch {
         });
         page.number(self.number());
         page.say(" now");
-        match self.fate {
-            Fate::Nothing => self.say_numbers(marked, page),
-            Fate::UsedUp(entry) => {
-                page.say(": entry ");
+        match self.fate.words() {
+            Some((before, entry, behind)) => {
+                page.say(before);
                 page.number(entry);
-                page.say(" used it up");
+                page.say(behind);
             }
-            Fate::Returned(entry) => {
-                page.say(": it has returned at entry ");
-                page.number(entry);
-            }
-            Fate::Cancelled(entry) => {
-                page.say(": it was cancelled at entry ");
-                page.number(entry);
-            }
-            Fate::Bound(entry) => {
-                page.say(": the bind at entry ");
-                page.number(entry);
-                page.say(" dropped it");
-            }
-            Fate::Ended(entry) => {
-                page.say(": the end of its side at entry ");
-                page.number(entry);
-                page.say(" dropped it");
-            }
-            Fate::Left(entry) => {
-                page.say(": the publication at entry ");
-                page.number(entry);
-                page.say(" left it");
-            }
+            None => self.say_numbers(marked, page),
         }
         page.say("\n");
     }

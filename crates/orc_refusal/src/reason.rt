@@ -4,11 +4,13 @@ use crate::allowed::{Allowed, entry_of};
 use crate::line::{field, say_entry, whole};
 use crate::replay::Replay;
 use orc_calls::due_time;
+use orc_checker::Marked;
 use orc_lex::token::Span;
+use orc_moves::numbers_of;
 use orc_page::{Page, left_out};
 use orc_rules::answers::Answers;
 use orc_rules::entry::{Entry, RuleFault};
-use orc_rules::limits::MOST_ARGUMENTS;
+use orc_rules::limits::{MOST_ARGUMENTS, MOST_LEVELS};
 use orc_rules::program::Program;
 use orc_rules::value::{Answer, Found};
 use orc_verdict::mark_named;
@@ -28,26 +30,16 @@ pub(crate) struct Refused<'r> {
     pub number: u64,
 }
 
-// The new numbers of an entry and what they have to be, in their order in its line.
-fn numbers_of(replay: &Replay, entry: &Entry) -> [Option<(u64, u64)>; 3] {
-    let mark = replay.marked.new_mark();
-    let second = mark.saturating_add(1);
-    match entry {
-        Entry::Fork(_, a, b) => [Some((*a, mark)), Some((*b, second)), None],
-        Entry::Open(_, c, a, b) => [
-            Some((*c, replay.marked.new_cell())),
-            Some((*a, mark)),
-            Some((*b, second)),
-        ],
-        Entry::Call(_, k, _, _) => [Some((*k, replay.marked.new_call())), None, None],
-        Entry::Seq(_, a)
-        | Entry::Other(_, a)
-        | Entry::Def(_, a)
-        | Entry::Send(_, a, _)
-        | Entry::Return(_, a, _)
-        | Entry::Right(_, a) => [Some((*a, mark)), None, None],
-        _ => [None, None, None],
-    }
+// The numbers that an entry may give to what it makes and what they have to be, in their order in its line.
+fn numbers_at(marked: &Marked, entry: &Entry) -> [(Option<u64>, u64); 4] {
+    let new = numbers_of(entry);
+    let mark = marked.new_mark();
+    [
+        (new.cell, marked.new_cell()),
+        (new.call, marked.new_call()),
+        (new.mark, mark),
+        (new.second, mark.saturating_add(1)),
+    ]
 }
 
 impl Refused<'_> {
@@ -90,7 +82,9 @@ impl Refused<'_> {
             }
             RuleFault::Deep => {
                 self.show_whole(page);
-                page.say("the term would nest over 10,000 levels\n");
+                page.say("the term would nest over ");
+                page.grouped(MOST_LEVELS as u64);
+                page.say(" levels\n");
             }
             RuleFault::Memory => {}
         }
@@ -185,15 +179,18 @@ impl Refused<'_> {
     }
 
     fn say_number(&self, page: &mut Page, entry: &Entry) {
-        for (place, number) in numbers_of(self.replay, entry).iter().enumerate() {
-            if let Some((number, next)) = number {
+        // New numbers stand behind the entry's word and what it names.
+        let mut place: usize = 2;
+        for (number, next) in numbers_at(&self.replay.marked, entry) {
+            if let Some(number) = number {
                 if number != next {
-                    self.show_word(page, place.saturating_add(2));
+                    self.show_word(page, place);
                     page.say("the next number is ");
-                    page.number(*next);
+                    page.number(next);
                     page.say("\n");
                     return;
                 }
+                place = place.saturating_add(1);
             }
         }
     }
