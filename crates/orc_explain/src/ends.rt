@@ -10,10 +10,11 @@ use crate::subject::Subject;
 use orc_journal::read_journal;
 use orc_outcome::{End, Summary};
 use orc_rules::entry::Entry;
-use orc_rules::limits::{MOST_FRAMES, MOST_GROUPS, MOST_TOKENS};
+use orc_rules::limits::{MOST_ENTRIES, MOST_FRAMES, MOST_GROUPS, MOST_TOKENS};
 use orc_rules::value::Found;
 use orc_sketch::Sketch;
 use orc_syntax::parse;
+use orc_verdict::mark_named;
 use std::alloc::{AllocError, Global};
 
 /// How many calls or cells are told, each in a line.
@@ -147,8 +148,8 @@ impl Scene<'_, '_> {
     // The first token that waits inside these steps.
     fn waiting_inside(&self, page: &mut Page, moves: &Moves, inside: &[bool]) {
         for token in &moves.waiting {
-            let mark = self.replay.mark(*token);
-            if inside.get(mark.step).copied().unwrap_or(false) {
+            let step = self.replay.token(*token).step;
+            if inside.get(step).copied().unwrap_or(false) {
                 page.say("what waits itself in ");
                 self.place(page, self.replay.spot(*token, self.sketch));
                 return;
@@ -187,14 +188,10 @@ impl Scene<'_, '_> {
 
     // What the token of an entry stands on.
     fn on(&self, page: &mut Page, entry: &Entry) -> Result<(), AllocError> {
-        let token = match entry {
-            Entry::End(s) | Entry::Void(s) | Entry::Bind(s, _, _) | Entry::Publish(s, _) => *s,
-            Entry::Fork(s, _, _) | Entry::Open(s, _, _, _) | Entry::Send(s, _, _) => *s,
-            Entry::Seq(s, _) | Entry::Other(s, _) | Entry::Def(s, _) => *s,
-            Entry::Call(s, _, _, _) => *s,
-            _ => return Ok(()),
+        let Some(token) = mark_named(entry) else {
+            return Ok(());
         };
-        if let Some(spot) = self.replay.mark(token).spot {
+        if let Some(spot) = self.replay.token(token).spot {
             page.say(" (");
             self.term(page, token, spot)?;
             page.say(", ");
@@ -280,7 +277,9 @@ impl Scene<'_, '_> {
             End::Quiet => self.quiet(page, moves),
             End::Limit => {
                 self.cut(page, moves)?;
-                page.help("--limit sets the greatest number of entries, up to 10000000");
+                page.note("help: --limit sets the greatest number of entries, up to ");
+                page.number(MOST_ENTRIES);
+                page.say("\n");
                 Ok(())
             }
             End::Full => {

@@ -1,11 +1,10 @@
 //! What can come next in a run, and what waits.
 
-use crate::replay::{Replay, Role};
-use orc_checker::Next;
+use crate::replay::Replay;
+use orc_moves::{return_entry, token_entry};
 use orc_rules::entry::Entry;
 use orc_rules::limits::MOST_ARGUMENTS;
 use orc_rules::program::Program;
-use orc_rules::value::Answer;
 use std::alloc::{AllocError, Global};
 
 /// How many entries are kept.
@@ -47,26 +46,6 @@ impl Drop for Moves {
             waits: _,
             sides: _,
         } = self;
-    }
-}
-
-// The entry in which a token does what it can do. None where it waits.
-fn entry_of(s: u64, next: Next, replay: &Replay) -> Option<Entry> {
-    let a = replay.marked.new_mark();
-    let b = a.saturating_add(1);
-    match next {
-        Next::End => Some(Entry::End(s)),
-        Next::Fork => Some(Entry::Fork(s, a, b)),
-        Next::Seq => Some(Entry::Seq(s, a)),
-        Next::Other => Some(Entry::Other(s, a)),
-        Next::Def => Some(Entry::Def(s, a)),
-        Next::Void => Some(Entry::Void(s)),
-        Next::Open => Some(Entry::Open(s, replay.marked.new_cell(), a, b)),
-        Next::Send(value) => Some(Entry::Send(s, a, value)),
-        Next::Bind(cell, value) => Some(Entry::Bind(s, cell, value)),
-        Next::Publish(value) => Some(Entry::Publish(s, value)),
-        Next::Call(site, args) => Some(Entry::Call(s, replay.marked.new_call(), site, args)),
-        Next::Wait => None,
     }
 }
 
@@ -114,16 +93,14 @@ impl Moves {
     }
 
     fn add_tokens(&mut self, program: &Program, replay: &Replay) -> Result<(), AllocError> {
-        let mut number: u64 = 0;
-        for mark in &replay.marks {
-            number = number.saturating_add(1);
-            if mark.role == Role::Token {
+        for mark in 1..replay.marked.new_mark() {
+            if replay.trail.token(mark).is_some() {
                 // One that was dropped with a side can do nothing.
-                if let Some(next) = replay.marked.next(program, number) {
+                if let Some(next) = replay.marked.next(program, mark) {
                     self.tokens = self.tokens.saturating_add(1);
-                    match entry_of(number, next, replay) {
+                    match token_entry(&replay.marked, mark, next) {
                         Some(entry) => self.add(entry)?,
-                        None => self.wait(program, replay, number)?,
+                        None => self.wait(program, replay, mark)?,
                     }
                 }
             }
@@ -163,12 +140,10 @@ impl Moves {
                 self.add_side(has_halted, Entry::Lost(cell))?;
             }
         }
-        let mut number: u64 = 0;
-        for mark in &replay.marks {
-            number = number.saturating_add(1);
-            if mark.role == Role::Otherwise {
-                if let Some(has_halted) = replay.marked.left_has_halted(number) {
-                    let entry = Entry::Right(number, replay.marked.new_mark());
+        for mark in 1..replay.marked.new_mark() {
+            if replay.trail.is_entered(mark) {
+                if let Some(has_halted) = replay.marked.left_has_halted(mark) {
+                    let entry = Entry::Right(mark, replay.marked.new_mark());
                     self.add_side(has_halted, entry)?;
                 }
             }
@@ -193,11 +168,7 @@ impl Moves {
             if made.is_out {
                 match replay.marked.due(call) {
                     Some((answer, time)) if time == replay.marked.now() => {
-                        let mark = replay.marked.new_mark();
-                        self.add(match answer {
-                            Answer::Value(value) => Entry::Return(call, mark, value),
-                            Answer::Halt => Entry::ReturnHalt(call),
-                        })?;
+                        self.add(return_entry(&replay.marked, call, answer))?;
                     }
                     _ => {}
                 }

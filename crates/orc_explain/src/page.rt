@@ -21,19 +21,6 @@ impl Page {
         let Page { page } = self;
         page.finish()
     }
-
-    /// A number below a million, with a comma behind its thousands.
-    pub(crate) fn grouped(&mut self, number: u64) {
-        if number < 1_000 {
-            return self.number(number);
-        }
-        self.number(number / 1_000);
-        self.say(",");
-        let units = number % 1_000;
-        self.number(units / 100);
-        self.number(units / 10 % 10);
-        self.number(units % 10);
-    }
 }
 
 impl Deref for Page {
