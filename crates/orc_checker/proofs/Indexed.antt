@@ -1,5 +1,5 @@
 -- What a change of the nodes leaves of the tables, which say where each node with a name is.
-use Rattle.std.proofs.Common.{◌≡◌, ◌<◌, ◌≤◌, ℕ, zero, suc, List, [], ◌∷◌, ◌++◌, length, get_or, Option, Some, None, refl, sym, ap, ◌∙◌, subst, ⊎_elim, inl, inr, ◌⊎◌, ◌+◌, arith, Bool, true, false, cond, nat_eq, length-append, length-set}
+use Rattle.std.proofs.Common.{◌≡◌, ◌≤◌, ℕ, zero, suc, List, [], ◌∷◌, ◌++◌, length, get_or, Option, Some, None, refl, sym, ap, ◌∙◌, subst, ⊎_elim, inl, inr, ◌⊎◌, ◌+◌, arith, Bool, true, false, cond, nat_eq, length-append, length-set}
 use Rattle.std.specs.Prelude.{slice_get, slice_set, option_map}
 use Rattle.orc_rules.specs.Numbered.{Name, mark, call, cell}
 use Rattle.orc_names.specs.declared.names.Bound.{Bound}

@@ -1,15 +1,15 @@
 -- What the tables find is all that there is.
-use Rattle.std.proofs.Common.{◌≡◌, ℕ, zero, suc, List, Option, Some, None, refl, sym, ap, ◌∙◌, subst, arith, true, false, cond, eq-eqb, IfNone}
+use Rattle.std.proofs.Common.{◌≡◌, ℕ, zero, suc, List, Option, Some, None, refl, sym, ap, ◌∙◌, subst, arith, false, cond, eq-eqb, IfNone}
 use Rattle.std.specs.Prelude.{slice_get, option_map}
 use Rattle.orc_rules.specs.declared.value.Value.{Value}
-use Rattle.orc_rules.specs.Numbered.{Name, mark, call, cell}
+use Rattle.orc_rules.specs.Numbered.{mark, call, cell}
 use Rattle.orc_checker.specs.declared.arena.Node.{Node}
 use Rattle.orc_checker.specs.declared.arena.Kind.{Kind}
 use Rattle.orc_checker.specs.declared.arena.Kind.TheVariants.{Leaf, One, Two}
 use Rattle.orc_checker.specs.declared.arena.Tip.{Tip}
 use Rattle.orc_checker.specs.declared.arena.Tip.TheVariants.{Gone, Ended, Token, Bears, Waits}
-use Rattle.orc_checker.specs.declared.arena.Single.TheVariants.{Feeds, Entered, Passed}
-use Rattle.orc_checker.specs.declared.arena.Double.TheVariants.{Both, Side}
+use Rattle.orc_checker.specs.declared.arena.Single.TheVariants.{Entered}
+use Rattle.orc_checker.specs.declared.arena.Double.TheVariants.{Side}
 use Rattle.orc_checker.specs.declared.rest.Called.{Called}
 use Rattle.orc_checker.specs.Arena.{at}
 use Rattle.orc_checker.specs.Bearers.{Carries}

@@ -1,5 +1,5 @@
 -- The node that a part of the marked term is.
-use Rattle.std.proofs.Common.{◌≡◌, ℕ, List, length, refl, sym, ap, ◌∙◌, subst, inl, inr, ◌⊎◌, ⊎_elim}
+use Rattle.std.proofs.Common.{◌≡◌, ℕ, List, length, refl, sym, subst, inl, inr, ◌⊎◌, ⊎_elim}
 use Rattle.orc_rules.specs.Term.{Term}
 use Rattle.orc_rules.specs.Marked.{Marked, ended, token, in_call, in_par, in_seq, in_opened, in_other, Replaces, here, in_left, in_right, in_feeding, in_main, in_side, in_entered}
 use Rattle.orc_rules.specs.Journal.{Place}

@@ -1,5 +1,5 @@
 -- Why what is refused is refused rightly.
-use Rattle.std.proofs.Common.{◌≡◌, ◌≢◌, ℕ, zero, suc, List, [], ◌∷◌, length, Some, refl, sym, ap, ◌∙◌, subst, Bool, false, arith, ◌<◌, Option, Result, Ok, Err, IfErr}
+use Rattle.std.proofs.Common.{◌≡◌, ℕ, zero, suc, List, [], length, Some, refl, sym, ap, ◌∙◌, subst, Bool, false, arith, ◌<◌, Option, Result, Ok, Err, IfErr}
 use Rattle.std.specs.Prelude.{slice_get}
 use Rattle.orc_rules.specs.declared.value.Value.{Value}
 use Rattle.orc_rules.specs.declared.value.Answer.{Answer}
@@ -187,11 +187,11 @@ module _ (l : Listing) (t : Table) (e : Entry) (s : State) where
   -- its call has another answer, or is due at another time
   pub answer_refused : (k : ℕ) (c : Called) (a : Answer) (now : ℕ) (why : RuleFault) → IsCall s.rest k c → now ≡ s.rest.time → IsNotDue c.at c.found a now why → ((x : Context) (p : Place) → Meets x p e reason.Answer → IsAnswer x p k a) → ((x : Context) (p : Place) → Meets x p e reason.Time → IsDue x.sites p.calls k a p.now)
       → IsRightlyRefused l t e s why
-  answer_refused k c a now reason.Answer call is off asks times not_memory cancels p r sp h =
-      cc ((answer_found (context l t cancels) (code l) s p sp k a c call false (λ z. cc z, λ z. absurd (off z.0 z.1))).1 (asks (context l t cancels) p h))
-  answer_refused k c a now reason.Time call is off asks times not_memory cancels p r sp h =
-      cc ((due_found (context l t cancels) (code l) s p sp k a c call false p.now refl (λ z. cc z, λ z. absurd (off.2 (subst (IsDueNow c a) (sp.rest.time ∙ sym is) z)))).1 (times (context l t cancels) p h))
-  answer_refused k c a now _ call is off asks times not_memory cancels p r sp h = absurd off
+  answer_refused k c a now reason.Answer made is off asks times not_memory cancels p r sp h =
+      cc ((answer_found (context l t cancels) (code l) s p sp k a c made false (λ z. cc z, λ z. absurd (off z.0 z.1))).1 (asks (context l t cancels) p h))
+  answer_refused k c a now reason.Time made is off asks times not_memory cancels p r sp h =
+      cc ((due_found (context l t cancels) (code l) s p sp k a c made false p.now refl (λ z. cc z, λ z. absurd (off.2 (subst (IsDueNow c a) (sp.rest.time ∙ sym is) z)))).1 (times (context l t cancels) p h))
+  answer_refused k c a now _ made is off asks times not_memory cancels p r sp h = absurd off
 
 -- the right side of a pruning hasn't halted
 pub lost_refused : (l : Listing) (t : Table) (s : State) (c q i left right : ℕ) → at s.nodes q i (Two (Side c) left right) → flag s.flags right ≡ false → IsRightlyRefused l t (entry.Lost c) s reason.Halted

@@ -1,5 +1,5 @@
 use Rattle.orc_checker.specs.Settling.{Settles}
-use Rattle.std.proofs.Common.{refl, ◌∙◌, ap, length, subst, true, length-set, sym}
+use Rattle.std.proofs.Common.{refl, ◌∙◌, ap, length, subst, true, length-set}
 use Rattle.std.specs.Prelude.{slice_set}
 use Rattle.orc_checker.specs.declared.arena.Kind.TheVariants.{Leaf}
 use Rattle.orc_checker.specs.declared.arena.Tip.TheVariants.{Ended}

@@ -1,4 +1,4 @@
-use Rattle.std.proofs.Common.{refl, sym, ◌≡◌, ◌∷◌, ◌++◌, [], ap, ◌∙◌, length, suc, subst, arith, length-append}
+use Rattle.std.proofs.Common.{refl, sym, ◌≡◌, ◌∷◌, ◌++◌, [], ap, ◌∙◌, length, suc, ◌+◌, subst, arith, length-append}
 use Rattle.std.specs.Prelude.{◌&&◌}
 use Rattle.std.proofs.lemmas.Bool.{ne_eqb}
 use Rattle.orc_rules.specs.Nodes.{code, unfold_node}
@@ -68,7 +68,7 @@ invariant_of-self-2 c =
           (wait_on _ _ _ (wait_more _ _ _ c.push_within-3.ensures.items (ap (λ (z : Node). waits z.kind) c.token_node.ensures)) (wait_more _ _ _ c.push_within-4.ensures.items (ap (λ (z : Node). waits z.kind) c.token_node-2.ensures))))
           refl c.self.invariant.0,
       known_two _ _ _ _ _ _ _ c.self.invariant.1 (sides_two c.self.inside.nodes.items c.reserve.new.nodes.items c.in_ok-spot.spot.at _ c.reserve.ensures.nodes (can_turn c.args.self.now.nodes _ _ _ _ _ (c.reserve.ensures.nodes ∙ ap State.nodes c.self.view_is) c.in_ok-spot.ensures.there (λ v. refl) refl) (λ p lt. ne_eqb _ p (λ e. omega (arith, lt, e, c.len-n.ensures.count, ap length c.reserve.ensures.nodes))) _ _ _ _ (c.push_within-3.ensures.items ∙ ap (λ z. z ++ c.token_node.result ∷ []) c.write_node.ensures.items) c.push_within-4.ensures.items (λ p lt. ap (λ (z : Node). is_side z.kind p) c.token_node.ensures) (λ p lt. ap (λ (z : Node). is_side z.kind p) c.token_node-2.ensures)) c.settle.ensures.known (λ p m. c.settle.ensures.kept p (c.push_flag-2.ensures.kept p (c.push_flag.ensures.kept p m))) _ _ _ (c.push_flag-2.ensures.items ∙ ap (λ z. z ++ c.at-right.result ∷ []) (c.push_flag.ensures.items ∙ ap (λ z. z ++ c.at-left.result ∷ []) c.reserve.ensures.flags)) c.settle.ensures.len (length_two c.self.inside.nodes.items c.reserve.new.nodes.items c.in_ok-spot.spot.at _ c.reserve.ensures.nodes (can_turn c.args.self.now.nodes _ _ _ _ _ (c.reserve.ensures.nodes ∙ ap State.nodes c.self.view_is) c.in_ok-spot.ensures.there (λ v. refl) refl) (λ p lt. ne_eqb _ p (λ e. omega (arith, lt, e, c.len-n.ensures.count, ap length c.reserve.ensures.nodes))) _ _ _ _ (c.push_within-3.ensures.items ∙ ap (λ z. z ++ c.token_node.result ∷ []) c.write_node.ensures.items) c.push_within-4.ensures.items) (c.len-n.ensures.count ∙ ap length c.reserve.ensures.nodes) (λ e. c.settle.ensures.kept _ (c.push_flag-2.ensures.kept _ (c.push_flag.ensures.known e))) (λ e. c.settle.ensures.kept _ (c.push_flag-2.ensures.known e)),
-      indexed_two _ _ _ _ _ _ _ _ _ _ _ _ _ _ _ _ _ _ _ _ _ c.self.invariant.2 c.reserve.ensures.nodes c.write_node.ensures.items c.push_within-3.ensures.items c.push_within-4.ensures.items (opened_put _ c.args.c _ _ _ (get_last _ _ _ c.args.c prunings (c.in_ok-expect_cell.ensures.next ∙ ap (λ (z : State). length z.cells) (sym c.self.view_is) ∙ sym c.self.invariant.3)) (get_last _ _ _ c.args.c cells (c.in_ok-expect_cell.ensures.next ∙ ap (λ (z : State). length z.cells) (sym c.self.view_is)))) (ap (λ (z : Node). name_of z.kind) c.token_node.ensures) (ap (λ (z : Node). name_of z.kind) c.token_node-2.ensures) c.len-n.ensures.count (c.in_ok-expect_mark.ensures.next ∙ ap (λ (z : State). length z.marks) (sym c.self.view_is)) c.in_ok-expect_after.ensures.next c.reserve.ensures.marks c.push_within-5.ensures.items c.push_within-6.ensures.items (get_grown _ _ _ prunings) (λ d e. get_grown _ _ _ cells d (Cell d) e),
+      indexed_two _ _ _ _ _ _ _ _ _ _ _ _ _ _ _ _ _ _ _ _ _ c.self.invariant.2 c.reserve.ensures.nodes c.write_node.ensures.items c.push_within-3.ensures.items c.push_within-4.ensures.items (opened_put _ c.args.c c.len-n.result (c.len-n.result + 1) _ (get_last _ _ _ c.args.c prunings (c.in_ok-expect_cell.ensures.next ∙ ap (λ (z : State). length z.cells) (sym c.self.view_is) ∙ sym c.self.invariant.3)) (get_last _ _ _ c.args.c cells (c.in_ok-expect_cell.ensures.next ∙ ap (λ (z : State). length z.cells) (sym c.self.view_is)))) (ap (λ (z : Node). name_of z.kind) c.token_node.ensures) (ap (λ (z : Node). name_of z.kind) c.token_node-2.ensures) c.len-n.ensures.count (c.in_ok-expect_mark.ensures.next ∙ ap (λ (z : State). length z.marks) (sym c.self.view_is)) c.in_ok-expect_after.ensures.next c.reserve.ensures.marks c.push_within-5.ensures.items c.push_within-6.ensures.items (get_grown _ _ _ prunings) (λ d e. get_grown _ _ _ cells d (Cell d) e),
       omega (arith, ap length prunings, ap length cells, length-append c.self.inside.prunings.items (c.in_ok-spot.spot.at ∷ []), length-append c.self.inside.cells.items (Cell c.args.c ∷ []), c.self.invariant.3),
     )
 

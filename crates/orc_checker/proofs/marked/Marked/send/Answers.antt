@@ -18,7 +18,6 @@ use Rattle.orc_checker.proofs.Hints.{can_publish, one_in}
 use Rattle.orc_checker.proofs.Noting.{still_noted, same_wait, wait_on, wait_written, wait_passed}
 use Rattle.orc_checker.specs.Sides.{NoNewSides}
 use Rattle.orc_checker.proofs.KeptSides.{known_two, sides_same, sides_on, sides_written, sides_passed}
-use Rattle.orc_checker.specs.Index.{name_of}
 use Rattle.orc_rules.specs.Numbered.{mark}
 use Rattle.orc_checker.specs.Index.{Tables, IsPut}
 use Rattle.orc_checker.proofs.Indexed.{get_grown, get_last, indexed_on, its, names_map, names_on, names_passed, names_same, names_written, put_more}
