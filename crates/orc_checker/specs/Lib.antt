@@ -8,12 +8,14 @@ pub mod DueTimes
 pub mod Grafting
 pub mod Halting
 pub mod Hints
+pub mod Index
 pub mod Labelling
 pub mod NextDue
 pub mod Offers
 pub mod Over
 pub mod Parameters
 pub mod Ranks
+pub mod Refusing
 pub mod Rising
 pub mod Settling
 pub mod Sides

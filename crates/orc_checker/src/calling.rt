@@ -1,17 +1,20 @@
 // Calls of sites, and their answers.
 
-ghost use Rattle.std.specs.Prelude.{◌≡◌, ℕ, [], length, suc, IfOk, IfSome, OnErr};
+ghost use Rattle.std.specs.Prelude.{◌≡◌, ℕ, [], length, suc, IfOk, IfErr, IfSome, IfNone, OnErr};
 ghost use Rattle.orc_rules.specs.Term.{Term};
 ghost use Rattle.orc_rules.specs.Nodes.{code};
 ghost use Rattle.orc_rules.specs.declared.entry.Entry.TheVariants as entry;
 ghost use Rattle.orc_checker.specs.Arena.{at};
 ghost use Rattle.orc_checker.specs.Calls.{IsCall};
 ghost use Rattle.orc_checker.specs.Checker.{EntersBy};
+ghost use Rattle.orc_checker.specs.Refusing.{IsRightlyRefused, Lacks, NoCall};
 ghost use Rattle.orc_checker.specs.declared.arena.Kind.TheVariants.{Leaf as AtLeaf};
 ghost use Rattle.orc_checker.specs.declared.arena.Tip.TheVariants.{Waits};
+ghost use Rattle.orc_rules.specs.Nodes.{Listing};
 
 use crate::arena::{Kind, Node, Tip};
 use crate::flags::settle;
+use crate::lookup::waits_with;
 use crate::marked::Marked;
 use crate::rest::{Called, is_due_now};
 use crate::room::{push_within, reserve};
@@ -93,17 +96,18 @@ impl Marked {
     pub(crate) fn find_call(&self, k: u64) -> Option<Pending>
         ensures there { IfSome result (λ w. at self.now.nodes w.parent w.at (AtLeaf (Waits k))) }
         ensures call { IfSome result (λ w. IsCall self.now.rest k w.called) }
+        ensures missing { IfNone result (NoCall self.now.nodes k) }
     {
         let called = self.rest.call(k)?;
         let node = self.nodes.get(called.node)?;
-        match node.kind {
-            Kind::Leaf(Tip::Waits(call)) if call == k => Some(Pending {
-                at: called.node,
-                parent: node.parent,
-                called,
-            }),
-            _ => None,
+        if !waits_with(node.kind, k) {
+            return None;
         }
+        Some(Pending {
+            at: called.node,
+            parent: node.parent,
+            called,
+        })
     }
 
     /// The same, while no cancel is due.
@@ -111,6 +115,7 @@ impl Marked {
         ensures free { IfOk result (λ _. self.now.rest.to_cancel ≡ []) }
         ensures there { IfOk result (λ w. at self.now.nodes w.parent w.at (AtLeaf (Waits k))) }
         ensures call { IfOk result (λ w. IsCall self.now.rest k w.called) }
+        ensures refused { IfErr result (Lacks self.now (NoCall self.now.nodes k)) }
     {
         if self.rest.has_cancels() {
             return Err(RuleFault::Cancel);
@@ -130,6 +135,7 @@ impl Marked {
     ) -> Result<(), RuleFault>
         ensures done { IfOk result (λ _. (c : ℕ → Term) → EntersBy answers.now.sites c (entry.Return k a v) self.old self.new) }
         ensures refused { OnErr result (self.new ≡ self.old) }
+        ensures reason { IfErr result (λ r. (l : Listing) → IsRightlyRefused l answers.now (entry.Return k a v) self.old r) }
     {
         let pending = self.pending(k)?;
         self.expect_mark(a)?;
@@ -151,6 +157,7 @@ impl Marked {
     pub(crate) fn given_up(&mut self, answers: &Answers, k: u64) -> Result<(), RuleFault>
         ensures done { IfOk result (λ _. (c : ℕ → Term) → EntersBy answers.now.sites c (entry.ReturnHalt k) self.old self.new) }
         ensures refused { OnErr result (self.new ≡ self.old) }
+        ensures reason { IfErr result (λ r. (l : Listing) → IsRightlyRefused l answers.now (entry.ReturnHalt k) self.old r) }
     {
         let pending = self.pending(k)?;
         is_due_now(pending.called, Answer::Halt, self.rest.time())?;

@@ -1,10 +1,11 @@
 // Publications that a `>x>` takes.
 
-ghost use Rattle.std.specs.Prelude.{◌≡◌, ◌+◌, ◌<◌, ◌≤◌, false, length, IfOk, OnErr};
+ghost use Rattle.std.specs.Prelude.{◌≡◌, ◌+◌, ◌<◌, ◌≤◌, false, length, Some, IfOk, OnErr};
 ghost use Rattle.orc_rules.specs.Nodes.{code};
 ghost use Rattle.orc_rules.specs.declared.entry.Entry.TheVariants as entry;
 ghost use Rattle.orc_checker.specs.Checker.{Enters};
 ghost use Rattle.orc_checker.specs.Grafting.{Grafts};
+ghost use Rattle.orc_checker.specs.Index.{name_of, Renames};
 ghost use Rattle.orc_checker.specs.NextDue.{waits, NoMoreWait};
 ghost use Rattle.orc_checker.specs.Sides.{NoNewSides};
 ghost use Rattle.orc_checker.specs.declared.arena.Kind.TheVariants.{Leaf as AtLeaf};
@@ -29,6 +30,7 @@ fn graft(nodes: &mut Nodes, at: usize, tip: Tip)
     ensures len { length nodes.new.items ≡ length nodes.old.items + 2 }
     ensures calls { waits (AtLeaf tip) ≡ false → NoMoreWait nodes.old.items nodes.new.items }
     ensures sides { NoNewSides (length nodes.old.items) nodes.old.items nodes.new.items }
+    ensures names { Renames (λ n i. (name_of (AtLeaf tip) ≡ Some n) × (i ≡ length nodes.old.items + 1)) nodes.old.items nodes.new.items }
 {
     let parent = nodes.node_at(at).parent;
     let both = nodes.len();

@@ -10,6 +10,7 @@ mod feed;
 mod flags;
 pub mod halts;
 mod label;
+mod lookup;
 pub mod marked;
 mod marks;
 pub mod next;

@@ -1,11 +1,13 @@
 // The checker: a marked term that takes a journal's entries.
 
-ghost use Rattle.std.specs.Prelude.{◌≡◌, ℕ, [], length, IfOk, IfSome, OnErr};
+ghost use Rattle.std.specs.Prelude.{◌≡◌, ℕ, suc, [], length, IfOk, IfErr, IfSome, IfNone, OnErr};
 ghost use Rattle.orc_rules.specs.Journal.{begin};
 ghost use Rattle.orc_rules.specs.Nodes.{code, source};
 ghost use Rattle.orc_checker.specs.Arena.{at, living_kind};
 ghost use Rattle.orc_checker.specs.Checker.{Applies, Begins};
 ghost use Rattle.orc_checker.specs.Bearers.{BearsValue, Carries};
+ghost use Rattle.orc_checker.specs.Refusing.{IsExact, IsRightlyRefused, Lacks, LacksSpot, NoToken};
+ghost use Rattle.orc_rules.specs.declared.entry.RuleFault.TheVariants as reason;
 ghost use Rattle.orc_checker.specs.declared.arena.Kind.TheVariants.{Leaf as AtLeaf};
 ghost use Rattle.orc_checker.specs.declared.arena.Tip.TheVariants.{Token as IsToken};
 
@@ -13,6 +15,7 @@ use crate::arena::{Kind, Node, Single, Tip};
 use crate::candidates::Candidates;
 use crate::due::Due;
 use crate::halts::Halts;
+use crate::lookup::{node_by, tip_with};
 use crate::nodes::Nodes;
 use crate::rest::Rest;
 use crate::room::push_within;
@@ -60,7 +63,9 @@ impl Drop for Marked {
 }
 
 impl Model for Marked {
+    ghost use Rattle.std.specs.Prelude.{◌≡◌, length};
     ghost use Rattle.orc_checker.specs.Checker.{State};
+    ghost use Rattle.orc_checker.specs.Index.{AreIndexed};
     ghost use Rattle.orc_checker.specs.NextDue.{AreNoted};
     ghost use Rattle.orc_checker.specs.Sides.{AreKnown};
 
@@ -68,7 +73,7 @@ impl Model for Marked {
 
     ghost view = { λ m. record { nodes = m.nodes.items; scopes = m.scopes.items; cells = m.cells.items; marks = m.marks.items; halts = m.halts; flags = m.flags.items; rest = m.rest } };
 
-    ghost invariant = { λ m. AreNoted m.nodes.items m.rest.calls m.due × AreKnown m.nodes.items m.flags.items m.candidates };
+    ghost invariant = { λ m. AreNoted m.nodes.items m.rest.calls m.due × AreKnown m.nodes.items m.flags.items m.candidates × AreIndexed m.nodes.items (record { marks = m.marks.items; prunings = m.prunings.items; calls = m.rest.calls; cells = m.cells.items }) × (length m.prunings.items ≡ length m.cells.items) };
 }
 
 /// Where a token stands: its node in the marked term with the one above it, the program's node under it, and its scope.
@@ -95,6 +100,18 @@ pub(crate) fn token_node(mark: u64, node: usize, spot: Spot) -> Node
     Node {
         kind: Kind::Leaf(Tip::Token(mark, node, spot.scope)),
         parent: spot.at,
+    }
+}
+
+/// The error is Number: `b` isn't the mark after `a`.
+pub(crate) fn expect_after(a: u64, b: u64) -> Result<(), RuleFault>
+    ensures next { IfOk result (λ _. b ≡ suc a) }
+    ensures refused { IfErr result (λ r. (r ≡ reason.Number) × (b ≡ suc a → ⊥)) }
+{
+    if b != 0 && b - 1 == a {
+        Ok(())
+    } else {
+        Err(RuleFault::Number)
     }
 }
 
@@ -176,6 +193,7 @@ impl Marked {
     ) -> Result<(), RuleFault>
         ensures done { IfOk result (λ _. Applies program.now answers.now entry.now self.old self.new) }
         ensures refused { OnErr result (self.new ≡ self.old) }
+        ensures reason { IfErr result (λ r. IsExact entry.now → IsRightlyRefused program.now answers.now entry.now self.old r) }
     {
         match entry {
             Entry::End(s) => self.end(program, *s),
@@ -202,19 +220,12 @@ impl Marked {
     fn token(&self, s: u64) -> Option<Holder>
         ensures there { IfSome result (λ t. at self.now.nodes t.parent t.at (AtLeaf t.tip)) }
         ensures carries { IfSome result (λ t. Carries s t.tip) }
+        ensures missing { IfNone result (NoToken self.now.nodes s) }
     {
-        let place = *self.marks.get(s as usize)?;
-        let node = self.nodes.get(place)?;
-        let Kind::Leaf(tip) = node.kind else {
-            return None;
-        };
-        match tip {
-            Tip::Token(mark, _, _) if mark == s => {}
-            Tip::Bears(mark, _) if mark == s => {}
-            _ => return None,
-        }
+        let (at, node) = node_by(&self.nodes, &self.marks, s)?;
+        let tip = tip_with(node.kind, s)?;
         Some(Holder {
-            at: place,
+            at,
             parent: node.parent,
             tip,
         })
@@ -225,6 +236,7 @@ impl Marked {
         ensures free { IfOk result (λ _. self.now.rest.to_cancel ≡ []) }
         ensures there { IfOk result (λ t. at self.now.nodes t.parent t.at (AtLeaf t.tip)) }
         ensures carries { IfOk result (λ t. Carries s t.tip) }
+        ensures refused { IfErr result (Lacks self.now (NoToken self.now.nodes s)) }
     {
         if self.rest.has_cancels() {
             return Err(RuleFault::Cancel);
@@ -236,6 +248,7 @@ impl Marked {
     pub(crate) fn spot(&self, s: u64) -> Result<Spot, RuleFault>
         ensures free { IfOk result (λ _. self.now.rest.to_cancel ≡ []) }
         ensures there { IfOk result (λ t. at self.now.nodes t.parent t.at (AtLeaf (IsToken s t.node t.scope))) }
+        ensures refused { IfErr result (LacksSpot self.now s) }
     {
         let holder = self.holder(s)?;
         match holder.tip {
@@ -286,7 +299,8 @@ impl Marked {
 
     /// The error is Number: `a` isn't the next mark.
     pub(crate) fn expect_mark(&self, a: u64) -> Result<(), RuleFault>
-        ensures { IfOk result (λ _. a ≡ length self.now.marks) }
+        ensures next { IfOk result (λ _. a ≡ length self.now.marks) }
+        ensures refused { IfErr result (λ r. (r ≡ reason.Number) × (a ≡ length self.now.marks → ⊥)) }
     {
         if a == self.marks.len() as u64 {
             Ok(())

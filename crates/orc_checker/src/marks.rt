@@ -1,13 +1,15 @@
 // The moves of marks.
 
-ghost use Rattle.std.specs.Prelude.{◌≡◌, IfOk, OnErr};
+ghost use Rattle.std.specs.Prelude.{◌≡◌, IfOk, IfErr, OnErr};
 ghost use Rattle.orc_rules.specs.Nodes.{code};
+ghost use Rattle.orc_rules.specs.Sites.{Table};
 ghost use Rattle.orc_checker.specs.Checker.{Enters};
+ghost use Rattle.orc_checker.specs.Refusing.{IsRightlyRefused};
 ghost use Rattle.orc_rules.specs.declared.entry.Entry.TheVariants as entry;
 
 use crate::arena::{Double, Kind, Node, Single, Tip};
 use crate::flags::push_flag;
-use crate::marked::{Marked, token_node};
+use crate::marked::{Marked, expect_after, token_node};
 use crate::room::{push_within, reserve};
 use orc_rules::entry::RuleFault;
 use orc_rules::program::{Program, TermNode};
@@ -17,6 +19,7 @@ impl Marked {
     pub(crate) fn end(&mut self, program: &Program, s: u64) -> Result<(), RuleFault>
         ensures done { IfOk result (λ _. Enters (code program.now) (entry.End s) self.old self.new) }
         ensures refused { OnErr result (self.new ≡ self.old) }
+        ensures reason { IfErr result (λ r. (t : Table) → IsRightlyRefused program.now t (entry.End s) self.old r) }
     {
         let spot = self.spot(s)?;
         let TermNode::Stop = program.node(spot.node) else {
@@ -42,15 +45,14 @@ impl Marked {
     ) -> Result<(), RuleFault>
         ensures done { IfOk result (λ _. Enters (code program.now) (entry.Fork s a b) self.old self.new) }
         ensures refused { OnErr result (self.new ≡ self.old) }
+        ensures reason { IfErr result (λ r. (t : Table) → IsRightlyRefused program.now t (entry.Fork s a b) self.old r) }
     {
         let spot = self.spot(s)?;
         let TermNode::Par(f, g) = program.node(spot.node) else {
             return Err(RuleFault::Form);
         };
         self.expect_mark(a)?;
-        if b == 0 || b - 1 != a {
-            return Err(RuleFault::Number);
-        }
+        expect_after(a, b)?;
         reserve(&mut self.nodes, &mut self.flags, &mut self.marks).map_err(|_| RuleFault::Memory)?;
         let n = self.nodes.len();
         self.nodes.write_node(
@@ -75,6 +77,7 @@ impl Marked {
     pub(crate) fn seq(&mut self, program: &Program, s: u64, a: u64) -> Result<(), RuleFault>
         ensures done { IfOk result (λ _. Enters (code program.now) (entry.Seq s a) self.old self.new) }
         ensures refused { OnErr result (self.new ≡ self.old) }
+        ensures reason { IfErr result (λ r. (t : Table) → IsRightlyRefused program.now t (entry.Seq s a) self.old r) }
     {
         let spot = self.spot(s)?;
         let TermNode::Seq(f, x, g) = program.node(spot.node) else {
@@ -101,6 +104,7 @@ impl Marked {
     pub(crate) fn other(&mut self, program: &Program, s: u64, a: u64) -> Result<(), RuleFault>
         ensures done { IfOk result (λ _. Enters (code program.now) (entry.Other s a) self.old self.new) }
         ensures refused { OnErr result (self.new ≡ self.old) }
+        ensures reason { IfErr result (λ r. (t : Table) → IsRightlyRefused program.now t (entry.Other s a) self.old r) }
     {
         let spot = self.spot(s)?;
         let TermNode::Other(f, g) = program.node(spot.node) else {

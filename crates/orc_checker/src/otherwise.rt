@@ -1,16 +1,21 @@
 // The right side of an otherwise starts.
 
-ghost use Rattle.std.specs.Prelude.{◌≡◌, ℕ, [], IfOk, IfSome, OnErr};
+ghost use Rattle.std.specs.Prelude.{◌≡◌, ℕ, [], IfOk, IfErr, IfSome, IfNone, OnErr};
 ghost use Rattle.orc_rules.specs.Term.{Term};
 ghost use Rattle.orc_checker.specs.Arena.{at};
 ghost use Rattle.orc_checker.specs.Checker.{Enters};
 ghost use Rattle.orc_checker.specs.Dropping.{AreNodesOf};
+ghost use Rattle.orc_checker.specs.Refusing.{IsRightlyRefused, Lacks, NoOtherwise};
 ghost use Rattle.orc_checker.specs.declared.arena.Kind.TheVariants.{One as AtOne};
 ghost use Rattle.orc_checker.specs.declared.arena.Single.TheVariants.{Entered as IsEntered};
 ghost use Rattle.orc_rules.specs.declared.entry.Entry.TheVariants as entry;
+ghost use Rattle.orc_rules.specs.declared.entry.RuleFault.TheVariants as reason;
+ghost use Rattle.orc_rules.specs.Sites.{Table};
+ghost use Rattle.orc_rules.specs.Nodes.{Listing};
 
-use crate::arena::{Kind, Node, Single, Tip};
+use crate::arena::{Kind, Node, Tip};
 use crate::flags::settle;
+use crate::lookup::{node_by, otherwise_with};
 use crate::marked::Marked;
 use crate::room::{push_within, reserve};
 use crate::side::{drop_nodes, nodes_of};
@@ -29,7 +34,8 @@ pub(crate) struct Otherwise {
 impl Marked {
     /// The nodes of a side that goes.
     pub(crate) fn side_at(&self, root: usize) -> Result<Vec<usize>, RuleFault>
-        ensures { IfOk result (λ side. AreNodesOf self.now.nodes root side.items) }
+        ensures nodes { IfOk result (λ side. AreNodesOf self.now.nodes root side.items) }
+        ensures refused { IfErr result (λ r. r ≡ reason.Memory) }
     {
         let alloc = self.nodes.allocator();
         match nodes_of(alloc, &self.nodes, root) {
@@ -40,26 +46,25 @@ impl Marked {
 
     /// Where otherwise `s` stands.
     pub(crate) fn find_otherwise(&self, s: u64) -> Option<Otherwise>
-        ensures { IfSome result (λ o. at self.now.nodes o.parent o.at (AtOne (IsEntered s o.node o.scope) o.left)) }
+        ensures there { IfSome result (λ o. at self.now.nodes o.parent o.at (AtOne (IsEntered s o.node o.scope) o.left)) }
+        ensures missing { IfNone result (NoOtherwise self.now.nodes s) }
     {
-        let place = *self.marks.get(s as usize)?;
-        let node = self.nodes.get(place)?;
-        match node.kind {
-            Kind::One(Single::Entered(mark, right, scope), left) if mark == s => Some(Otherwise {
-                at: place,
-                parent: node.parent,
-                left,
-                node: right,
-                scope,
-            }),
-            _ => None,
-        }
+        let (at, entered) = node_by(&self.nodes, &self.marks, s)?;
+        let (left, node, scope) = otherwise_with(entered.kind, s)?;
+        Some(Otherwise {
+            at,
+            parent: entered.parent,
+            left,
+            node,
+            scope,
+        })
     }
 
     /// The same, while no cancel is due.
     fn otherwise(&self, s: u64) -> Result<Otherwise, RuleFault>
         ensures free { IfOk result (λ _. self.now.rest.to_cancel ≡ []) }
         ensures there { IfOk result (λ o. at self.now.nodes o.parent o.at (AtOne (IsEntered s o.node o.scope) o.left)) }
+        ensures refused { IfErr result (Lacks self.now (NoOtherwise self.now.nodes s)) }
     {
         if self.rest.has_cancels() {
             return Err(RuleFault::Cancel);
@@ -71,6 +76,7 @@ impl Marked {
     pub(crate) fn right(&mut self, s: u64, a: u64) -> Result<(), RuleFault>
         ensures done { IfOk result (λ _. (code : ℕ → Term) → Enters code (entry.Right s a) self.old self.new) }
         ensures refused { OnErr result (self.new ≡ self.old) }
+        ensures reason { IfErr result (λ r. (l : Listing) (t : Table) → IsRightlyRefused l t (entry.Right s a) self.old r) }
     {
         let otherwise = self.otherwise(s)?;
         self.expect_mark(a)?;

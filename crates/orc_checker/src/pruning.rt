@@ -1,19 +1,22 @@
 // Prunings: they are opened, and their cells get a value or never will.
 
-ghost use Rattle.std.specs.Prelude.{◌≡◌, ◌+◌, ◌<◌, ◌≤◌, [], length, reverse, slice_get, slice_set, true, false, vec_len, vec_capacity, IfOk, IfSome, OnErr};
+ghost use Rattle.std.specs.Prelude.{◌≡◌, ◌+◌, ◌<◌, ◌≤◌, [], length, reverse, slice_get, slice_set, true, false, vec_len, vec_capacity, IfOk, IfErr, IfSome, IfNone, OnErr};
 ghost use Rattle.orc_rules.specs.Nodes.{code};
 ghost use Rattle.orc_rules.specs.Sites.{Table};
 ghost use Rattle.orc_checker.specs.Checker.{Applies, Enters};
 ghost use Rattle.orc_checker.specs.Dropping.{calls_at, AreNodesOf, AreRising};
 ghost use Rattle.orc_checker.specs.Arena.{at};
+ghost use Rattle.orc_checker.specs.Refusing.{IsRightlyRefused, Lacks, NoPruning};
 ghost use Rattle.orc_names.specs.declared.names.Bound.TheVariants.{Cell as IsCell};
 ghost use Rattle.orc_checker.specs.declared.arena.Double.TheVariants.{Side as IsSide};
 ghost use Rattle.orc_checker.specs.declared.arena.Kind.TheVariants.{Two as AtTwo};
 ghost use Rattle.orc_rules.specs.declared.entry.Entry.TheVariants as entry;
+ghost use Rattle.orc_rules.specs.declared.entry.RuleFault.TheVariants as reason;
 
 use crate::arena::{Double, Kind, Node, Single};
 use crate::flags::{both, flag_at, push_flag, settle};
-use crate::marked::{Marked, Spot, token_node};
+use crate::lookup::{node_by, pruning_with};
+use crate::marked::{Marked, Spot, expect_after, token_node};
 use crate::room::{push_within, reserve};
 use crate::side::{drop_nodes, falling_calls, nodes_of};
 use crate::walk::{Taker, way_up};
@@ -40,6 +43,7 @@ fn reserve_cell(
 ) -> Result<(), AllocError>
     ensures scopes { scopes.new.items ≡ scopes.old.items }
     ensures cells { cells.new.items ≡ cells.old.items }
+    ensures prunings { prunings.new.items ≡ prunings.old.items }
     ensures room { IfOk result (λ _. (vec_len scopes.new < vec_capacity scopes.new) × (vec_len cells.new < vec_capacity cells.new) × (vec_len prunings.new < vec_capacity prunings.new)) }
 {
     scopes.try_reserve(1)?;
@@ -67,7 +71,8 @@ fn bind_cell(cells: &mut Vec<Bound>, c: u64, bound: Bound)
 impl Marked {
     /// The error is Number: `c` isn't the next cell.
     fn expect_cell(&self, c: u64) -> Result<(), RuleFault>
-        ensures { IfOk result (λ _. c ≡ length self.now.cells) }
+        ensures next { IfOk result (λ _. c ≡ length self.now.cells) }
+        ensures refused { IfErr result (λ r. (r ≡ reason.Number) × (c ≡ length self.now.cells → ⊥)) }
     {
         if c == self.cells.len() as u64 {
             Ok(())
@@ -87,6 +92,7 @@ impl Marked {
     ) -> Result<(), RuleFault>
         ensures done { IfOk result (λ _. Enters (code program.now) (entry.Open s c a b) self.old self.new) }
         ensures refused { OnErr result (self.new ≡ self.old) }
+        ensures reason { IfErr result (λ r. (t : Table) → IsRightlyRefused program.now t (entry.Open s c a b) self.old r) }
     {
         let spot = self.spot(s)?;
         let TermNode::Prune(f, x, g) = program.node(spot.node) else {
@@ -94,9 +100,7 @@ impl Marked {
         };
         self.expect_cell(c)?;
         self.expect_mark(a)?;
-        if b == 0 || b - 1 != a {
-            return Err(RuleFault::Number);
-        }
+        expect_after(a, b)?;
         reserve_cell(&mut self.scopes, &mut self.cells, &mut self.prunings).map_err(
             |_| RuleFault::Memory,
         )?;
@@ -143,7 +147,8 @@ impl Marked {
 
     /// Whether `c` is a cell that isn't bound.
     fn unbound(&self, c: u64) -> Result<(), RuleFault>
-        ensures { IfOk result (λ _. slice_get self.now.cells c ≡ Some (IsCell c)) }
+        ensures open { IfOk result (λ _. slice_get self.now.cells c ≡ Some (IsCell c)) }
+        ensures refused { IfErr result (λ r. (r ≡ reason.Mark) × (slice_get self.now.cells c ≡ Some (IsCell c) → ⊥)) }
     {
         match self.cells.get(c as usize) {
             Some(Bound::Cell(d)) if *d == c => Ok(()),
@@ -156,6 +161,7 @@ impl Marked {
         ensures nodes { IfOk result (λ r. AreNodesOf self.now.nodes right r.0.items) }
         ensures recorded { IfOk result (λ r. self.now.rest.cancels ≡ true → AreRising (calls_at self.now.nodes r.0.items) (reverse r.1.items)) }
         ensures not_recorded { IfOk result (λ r. self.now.rest.cancels ≡ false → r.1.items ≡ []) }
+        ensures refused { IfErr result (λ r. r ≡ reason.Memory) }
     {
         let alloc = self.nodes.allocator();
         let side = nodes_of(alloc, &self.nodes, right).map_err(|_| RuleFault::Memory)?;
@@ -217,25 +223,24 @@ impl Marked {
 
     /// Where the pruning of a cell stands.
     pub(crate) fn find_pruning(&self, c: u64) -> Option<Pruning>
-        ensures { IfSome result (λ o. at self.now.nodes o.parent o.at (AtTwo (IsSide c) o.left o.right)) }
+        ensures there { IfSome result (λ o. at self.now.nodes o.parent o.at (AtTwo (IsSide c) o.left o.right)) }
+        ensures missing { IfNone result (NoPruning self.now.nodes c) }
     {
-        let place = *self.prunings.get(c as usize)?;
-        let node = self.nodes.get(place)?;
-        match node.kind {
-            Kind::Two(Double::Side(cell), left, right) if cell == c => Some(Pruning {
-                at: place,
-                parent: node.parent,
-                left,
-                right,
-            }),
-            _ => None,
-        }
+        let (at, node) = node_by(&self.nodes, &self.prunings, c)?;
+        let (left, right) = pruning_with(node.kind, c)?;
+        Some(Pruning {
+            at,
+            parent: node.parent,
+            left,
+            right,
+        })
     }
 
     /// The same, while no cancel is due.
     fn pruning(&self, c: u64) -> Result<Pruning, RuleFault>
         ensures free { IfOk result (λ _. self.now.rest.to_cancel ≡ []) }
         ensures there { IfOk result (λ o. at self.now.nodes o.parent o.at (AtTwo (IsSide c) o.left o.right)) }
+        ensures refused { IfErr result (Lacks self.now (NoPruning self.now.nodes c)) }
     {
         if self.rest.has_cancels() {
             return Err(RuleFault::Cancel);
@@ -247,6 +252,7 @@ impl Marked {
     pub(crate) fn lost(&mut self, program: &Program, c: u64) -> Result<(), RuleFault>
         ensures done { IfOk result (λ _. (t : Table) → Applies program.now t (entry.Lost c) self.old self.new) }
         ensures refused { OnErr result (self.new ≡ self.old) }
+        ensures reason { IfErr result (λ r. (t : Table) → IsRightlyRefused program.now t (entry.Lost c) self.old r) }
     {
         let pruning = self.pruning(c)?;
         self.unbound(c)?;

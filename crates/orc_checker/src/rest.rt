@@ -1,8 +1,11 @@
 // What of a journal isn't in its term: the time, the calls made, and the cancels due.
 
-ghost use Rattle.std.specs.Prelude.{◌≡◌, ◌∷◌, List, [], false, reverse, length, slice_get, IfOk, IfSome, OnOk, OnErr};
+ghost use Rattle.std.specs.Prelude.{◌≡◌, ◌∷◌, List, [], true, false, reverse, length, slice_get, ℕ, Some, IfOk, IfErr, IfSome, IfNone, OnOk, OnErr};
 ghost use Rattle.orc_calls.specs.Counting.{CountsCall, NextFound};
+ghost use Rattle.orc_calls.specs.Due.{IsNotDue};
 ghost use Rattle.orc_checker.specs.Calls.{Rest as Aside, AddsCall, IsCall, IsDueNow};
+ghost use Rattle.orc_checker.specs.Index.{call_place};
+ghost use Rattle.orc_rules.specs.declared.entry.RuleFault.TheVariants as reason;
 
 use crate::room::push_within;
 use orc_calls::{Counts, check_due};
@@ -104,7 +107,8 @@ impl Rest {
 
     /// The call of that number.
     pub(crate) fn call(&self, k: u64) -> Option<Called>
-        ensures { IfSome result (λ c. IsCall self.now k c) }
+        ensures made { IfSome result (λ c. IsCall self.now k c) }
+        ensures missing { IfNone result ((i : ℕ) → call_place self.now.calls k ≡ Some i → ⊥) }
     {
         if k == 0 {
             return None;
@@ -128,7 +132,8 @@ impl Rest {
 
     /// Whether a cancel is due.
     pub(crate) fn has_cancels(&self) -> bool
-        ensures { result ≡ false → self.now.to_cancel ≡ [] }
+        ensures free { result ≡ false → self.now.to_cancel ≡ [] }
+        ensures due { result ≡ true → self.now.to_cancel ≡ [] → ⊥ }
     {
         !self.to_cancel.is_empty()
     }
@@ -151,6 +156,7 @@ impl Rest {
     pub(crate) fn cancel(&mut self, k: u64) -> Result<(), RuleFault>
         ensures done { OnOk result (self.old ≡ record self.new { to_cancel = k ∷ self.new.to_cancel }) }
         ensures refused { OnErr result (self.new ≡ self.old) }
+        ensures why { IfErr result (λ r. (r ≡ reason.Cancel) × (slice_get self.old.to_cancel 0 ≡ Some k → ⊥)) }
     {
         match self.to_cancel.last() {
             Some(next) if *next == k => {}
@@ -163,7 +169,8 @@ impl Rest {
 
 /// Whether a call's answer is this one and is due at this time.
 pub(crate) fn is_due_now(called: Called, answer: Answer, time: u64) -> Result<(), RuleFault>
-    ensures { IfOk result (λ _. IsDueNow called answer time) }
+    ensures due { IfOk result (λ _. IsDueNow called answer time) }
+    ensures not_due { IfErr result (λ r. IsNotDue called.at called.found answer time r) }
 {
     check_due(called.found, called.at, answer, time)
 }

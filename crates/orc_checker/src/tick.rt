@@ -1,9 +1,10 @@
 // Ticks: the time goes on.
 
-ghost use Rattle.std.specs.Prelude.{◌≡◌, IfOk, OnErr};
+ghost use Rattle.std.specs.Prelude.{◌≡◌, IfOk, IfErr, OnErr};
 ghost use Rattle.orc_rules.specs.Sites.{Table};
 ghost use Rattle.orc_rules.specs.declared.entry.Entry.TheVariants as entry;
 ghost use Rattle.orc_checker.specs.Checker.{Applies};
+ghost use Rattle.orc_checker.specs.Refusing.{IsRightlyRefused};
 
 use crate::marked::Marked;
 use orc_rules::entry::RuleFault;
@@ -15,7 +16,10 @@ impl Marked {
     pub(crate) fn tick(&mut self, program: &Program, t: u64) -> Result<(), RuleFault>
         ensures done { IfOk result (λ _. (sites : Table) → Applies program.now sites (entry.Tick t) self.old self.new) }
         ensures refused { OnErr result (self.new ≡ self.old) }
+        ensures reason { IfErr result (λ r. (sites : Table) → IsRightlyRefused program.now sites (entry.Tick t) self.old r) }
     {
+        program_is_source();
+        tests_are_right();
         if self.rest.has_cancels() {
             return Err(RuleFault::Cancel);
         }
@@ -28,8 +32,6 @@ impl Marked {
         if self.can_move(program) {
             return Err(RuleFault::Time);
         }
-        program_is_source();
-        tests_are_right();
         self.rest.set_time(t);
         Ok(())
     }

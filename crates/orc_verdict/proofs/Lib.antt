@@ -1,4 +1,3 @@
-pub mod Calls
 pub mod Conditions
 pub mod Counting
 pub mod Deepening

@@ -11,6 +11,7 @@ use Rattle.orc_checker.proofs.KeptSides.{sides_on, sides_more, sides_lifted}
 use Rattle.orc_checker.proofs.Moving.{kind_of}
 use Rattle.orc_checker.proofs.Noting.{wait_on, wait_more, wait_lifted}
 use Rattle.orc_checker.proofs.Feeding.{beside_there, grafts}
+use Rattle.orc_checker.proofs.Indexed.{names_lifted, names_more, names_on}
 use Rattle.orc_checker.proofs.feed.graft.Goals as goal
 
 pub lift-requires : goal.lift-requires
@@ -59,3 +60,8 @@ returns-clause-sides c =
     sides_on (length nodes) nodes first c.lift.new.self.items (sides_more (length nodes) nodes first _ c.push_within.ensures.items (omega arith) (λ p lt. refl))
     (sides_on (length nodes) first second c.lift.new.self.items (sides_more (length nodes) first second _ c.push_within-2.ensures.items (omega (arith, one)) (λ p lt. refl))
     (sides_lifted (length nodes) second c.lift.new.self.items c.args.at c.len-both.result c.lift.ensures.items (omega (arith, c.len-both.ensures.count)) (λ p. ap (λ z. is_side z p) kind)))
+
+pub returns-clause-names : goal.returns-clause-names
+returns-clause-names c =
+    let one = ap length c.push_within.ensures.items ∙ length-append c.args.nodes.now.items (node (Two Both c.args.at (c.len-both.result + 1)) c.node_at-parent.result.parent ∷ []) in
+    names_on _ _ _ _ (names_more _ _ _ _ c.push_within.ensures.items (λ m e. cc e)) (names_on _ _ _ _ (names_more _ _ _ _ c.push_within-2.ensures.items (λ m e. (e, one))) (names_lifted _ _ _ _ _ c.lift.ensures.items))

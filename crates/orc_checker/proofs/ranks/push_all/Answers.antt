@@ -1,4 +1,4 @@
-use Rattle.std.proofs.Common.{◌≡◌, ◌<◌, ◌+◌, ◌++◌, ◌∷◌, [], ◌∙◌, arith, ap, sym, subst, length, length-append, ⊎_elim}
+use Rattle.std.proofs.Common.{◌≡◌, ◌<◌, ◌++◌, ◌∷◌, [], ◌∙◌, arith, ap, sym, subst, length, length-append, ⊎_elim}
 use Rattle.orc_checker.specs.Ranks.{rank, IsIn}
 use Rattle.orc_checker.proofs.Hints.{next_or}
 use Rattle.orc_checker.proofs.Ranking.{in_first, in_last, zeros_more}

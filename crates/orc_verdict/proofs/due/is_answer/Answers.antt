@@ -1,5 +1,5 @@
 use Rattle.orc_rules.specs.Nodes.{code}
-use Rattle.orc_verdict.proofs.Calls.{answer_found, answer_none}
+use Rattle.orc_checker.proofs.KeptCalls.{answer_found, answer_none}
 use Rattle.orc_verdict.proofs.due.is_answer.Goals as goal
 
 pub returns-in-Some : goal.returns-in-Some

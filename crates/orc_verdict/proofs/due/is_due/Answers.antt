@@ -1,5 +1,5 @@
 use Rattle.orc_rules.specs.Nodes.{code}
-use Rattle.orc_verdict.proofs.Calls.{due_found, due_none}
+use Rattle.orc_checker.proofs.KeptCalls.{due_found, due_none}
 use Rattle.orc_verdict.proofs.due.is_due.Goals as goal
 
 pub returns-in-Some : goal.returns-in-Some

@@ -4,7 +4,7 @@ use Rattle.orc_checker.specs.declared.arena.Node.{Node}
 use Rattle.orc_names.specs.declared.names.Bound.TheVariants.{Is}
 use Rattle.orc_checker.specs.declared.walk.Taker.TheVariants.{Bound}
 use Rattle.orc_checker.specs.Settling.{flag, Settles}
-use Rattle.orc_checker.specs.Rising.{nowhere, IsTaker}
+use Rattle.orc_checker.specs.Rising.{nowhere, BindsThere, IsTaker}
 use Rattle.orc_checker.specs.declared.arena.Single.TheVariants.{Passed}
 use Rattle.orc_checker.specs.declared.arena.Kind.TheVariants.{One}
 use Rattle.orc_checker.specs.Checker.{State}
@@ -14,6 +14,8 @@ use Rattle.orc_checker.proofs.Hints.{can_end}
 use Rattle.orc_checker.specs.Calls.{Rest}
 use Rattle.orc_checker.proofs.Noting.{still_noted, wait_on, wait_written, wait_dropped}
 use Rattle.orc_checker.proofs.KeptSides.{known_kept, sides_on, sides_written}
+use Rattle.orc_checker.specs.Index.{name_of}
+use Rattle.orc_checker.proofs.Indexed.{indexed_bound, indexed_calls}
 use Rattle.orc_checker.proofs.marked.Marked.bind.Goals as goal
 
 pub returns-clause-done : goal.returns-clause-done
@@ -33,7 +35,7 @@ returns-clause-done c t =
     (sym (ap (λ (z : State). get_or z.nodes place nowhere) v) ∙ sym c.node_at-pruning.ensures ∙ ap (λ z. node z pruning.parent) k.is)
     (record {
       free = w.ensures.free;
-      unbound = c.in_ok-unbound.ensures;
+      unbound = c.in_ok-unbound.ensures.open;
       all = r.ensures.nodes;
       nodes = c.write_node.ensures.items ∙ ap (λ (z : State). slice_set z.nodes place (node (One Passed k.left) pruning.parent)) v;
       dropped = c.drop_nodes.ensures.dropped;
@@ -57,4 +59,6 @@ pub invariant_of-self : goal.invariant_of-self
 invariant_of-self c = (
   still_noted _ _ _ _ _ (wait_on _ _ _ (wait_written _ _ _ _ c.write_node.ensures.items refl) (wait_dropped _ _ _ c.drop_nodes.ensures.dropped)) (ap Rest.calls c.set_cancels.ensures) c.self.invariant.0,
   known_kept _ _ _ _ _ _ _ c.self.invariant.1 (sides_on (length c.self.inside.nodes.items) _ _ _ (sides_written (length c.self.inside.nodes.items) _ _ _ _ c.write_node.ensures.items (can_end c.self.inside.nodes.items c.in-Bound.at c.in-Two.left _ (ap Node.parent c.node_at-pruning.ensures)) (λ p lt. refl)) (c.drop_nodes.ensures.sides (length c.self.inside.nodes.items))) c.settle.ensures.known c.settle.ensures.kept refl c.settle.ensures.len (c.drop_nodes.ensures.len ∙ ap length c.write_node.ensures.items ∙ length-set c.self.inside.nodes.items _ _),
+  indexed_calls _ _ _ _ _ _ (ap Rest.calls c.set_cancels.ensures) (indexed_bound _ _ _ _ _ _ _ _ _ _ _ _ _ c.self.invariant.2 (ap name_of (subst (BindsThere c.self.inside.nodes.items) (c.in-Bound.is ∙ ap (λ z. Bound z c.in-Bound.at) c.if-cell-c.false) c.in-Some.ensures.bound).2) c.write_node.ensures.items refl c.drop_nodes.ensures.dropped c.bind_cell.ensures),
+  c.self.invariant.3 ∙ sym (ap length c.bind_cell.ensures ∙ length-set _ _ _),
 )

@@ -1,4 +1,4 @@
-use Rattle.std.proofs.Common.{◌≡◌, refl, ap, ◌∙◌, length, subst, [], ◌++◌, length-set}
+use Rattle.std.proofs.Common.{◌≡◌, sym, refl, ap, ◌∙◌, length, subst, [], ◌++◌, length-set}
 use Rattle.std.specs.Prelude.{slice_set, slice_index_or}
 use Rattle.orc_rules.specs.Nodes.{code, unfold_node, definition_of}
 use Rattle.orc_rules.specs.Programs.{routine_of}
@@ -14,6 +14,7 @@ use Rattle.orc_checker.proofs.Defining.{def-enters}
 use Rattle.orc_checker.proofs.Hints.{can_turn}
 use Rattle.orc_checker.proofs.Noting.{still_noted, wait_written}
 use Rattle.orc_checker.proofs.KeptSides.{known_kept, sides_written}
+use Rattle.orc_checker.proofs.Indexed.{indexed_token}
 use Rattle.orc_checker.proofs.marked.Marked.def.Goals as goal
 
 pub returns-clause-done : goal.returns-clause-done
@@ -31,7 +32,7 @@ returns-clause-done c = λ table cancels p reached.
     (c.node.ensures.term ∙ ap (unfold_node (code l) l.lists) c.in-Call.is)
     c.in-Some.ensures.there
     refl
-    c.in_ok-expect_mark.ensures
+    c.in_ok-expect_mark.ensures.next
     (subst (λ z. Adds s.cells s.scopes t.scope d.params.items z more n) c.operands-operands.ensures.value
     (subst (λ (z : State). Adds z.cells z.scopes t.scope d.params.items c.operands-operands.result.now more n) v
     (subst (λ ss. Adds c.self.inside.cells.items ss t.scope d.params.items c.operands-operands.result.now more n) c.deref.ensures.value
@@ -43,7 +44,7 @@ returns-clause-done c = λ table cancels p reached.
     (c.in_ok-extend_scopes.ensures.items ∙ ap (λ z. z ++ more) (ap State.scopes v))
     (ap State.cells v)
     (ap State.halts v)
-    (one_more s.marks _ _ _ c.args.a (c.try_reserve.ensures.items ∙ ap State.marks v) c.push_within.ensures.items c.in_ok-expect_mark.ensures)
+    (one_more s.marks _ _ _ c.args.a (c.try_reserve.ensures.items ∙ ap State.marks v) c.push_within.ensures.items c.in_ok-expect_mark.ensures.next)
     (ap State.rest v)
     c.in_ok-spot.ensures.free
     p
@@ -55,4 +56,6 @@ pub invariant_of-self-2 : goal.invariant_of-self-2
 invariant_of-self-2 c = (
   still_noted _ _ _ _ _ (wait_written _ _ _ _ c.write_node.ensures.items refl) refl c.self.invariant.0,
   known_kept _ _ _ _ _ _ _ c.self.invariant.1 (sides_written (length c.self.inside.nodes.items) _ _ _ _ c.write_node.ensures.items (can_turn c.args.self.now.nodes _ _ _ _ _ (ap State.nodes c.self.view_is) c.in_ok-spot.ensures.there (λ v. refl) refl) (λ p lt. refl)) c.settle.ensures.known c.settle.ensures.kept refl c.settle.ensures.len (ap length c.write_node.ensures.items ∙ length-set c.self.inside.nodes.items _ _),
+  indexed_token _ _ _ _ _ _ _ _ _ _ _ _ c.self.invariant.2 refl c.write_node.ensures.items refl (c.in_ok-expect_mark.ensures.next ∙ ap (λ (z : State). length z.marks) (sym c.self.view_is)) c.try_reserve.ensures.items c.push_within.ensures.items,
+  c.self.invariant.3,
 )

@@ -1,4 +1,4 @@
-use Rattle.std.proofs.Common.{refl, ap, ◌∙◌, length, length-set}
+use Rattle.std.proofs.Common.{refl, arith, ap, ◌∙◌, length, length-set}
 use Rattle.std.specs.Prelude.{slice_set}
 use Rattle.orc_rules.specs.Nodes.{code, unfold_node}
 use Rattle.orc_checker.specs.declared.arena.Kind.TheVariants.{Leaf}
@@ -8,6 +8,10 @@ use Rattle.orc_checker.proofs.Moves.{end-enters, node}
 use Rattle.orc_checker.proofs.Hints.{can_turn}
 use Rattle.orc_checker.proofs.Noting.{still_noted, wait_written}
 use Rattle.orc_checker.proofs.KeptSides.{known_kept, flags_same, sides_written}
+use Rattle.orc_checker.proofs.Indexed.{indexed_kept, names_written}
+use Rattle.std.proofs.lemmas.Result.{err_from_is_err_and}
+use Rattle.orc_rules.specs.declared.entry.Entry.TheVariants as entry
+use Rattle.orc_checker.proofs.Refusing.{HasSort, asks_end, sort_refused, spot_refused, stop_node}
 use Rattle.orc_checker.proofs.marked.Marked.end.Goals as goal
 
 pub returns-clause-done : goal.returns-clause-done
@@ -28,4 +32,18 @@ pub invariant_of-self : goal.invariant_of-self
 invariant_of-self c = (
   still_noted _ _ _ _ _ (wait_written _ _ _ _ c.write_node.ensures.items refl) refl c.self.invariant.0,
   known_kept _ _ _ _ _ _ _ c.self.invariant.1 (sides_written (length c.self.inside.nodes.items) _ _ _ _ c.write_node.ensures.items (can_turn c.args.self.now.nodes _ _ _ _ _ (ap State.nodes c.self.view_is) c.in_ok-spot.ensures.there (λ v. refl) refl) (λ p lt. refl)) (flags_same _ _ _ _ refl) (λ p m. m) refl refl (ap length c.write_node.ensures.items ∙ length-set c.self.inside.nodes.items _ _),
+  indexed_kept _ _ _ c.self.invariant.2 (names_written _ _ _ _ _ c.write_node.ensures.items refl),
+  c.self.invariant.3,
 )
+
+pub returns-in_err-spot-clause-reason : goal.returns-in_err-spot-clause-reason
+returns-in_err-spot-clause-reason c =
+    let p = err_from_is_err_and c.from_residual.result c.from_residual.ensures.1 in
+    let a = c.args in
+    rw (p.1, p.2) (λ t. spot_refused a.program.now t (entry.End a.s) a.self.now a.s (HasSort 0) _ (asks_end a.s) (λ v e. absurd (omega (arith, e))) c.in_err-spot.ensures.refused)
+
+pub returns-in_default : goal.returns-in_default
+returns-in_default c =
+    let a = c.args in
+    let t = c.in_ok-spot.spot in
+    record { done = tt; refused = refl; reason = λ sites. sort_refused a.program.now sites (entry.End a.s) a.self.now a.s t.at t.parent t.node t.scope 0 c.node.result (asks_end a.s) c.in_ok-spot.ensures.there c.node.ensures.term (λ e. c.in_default.not-Stop (stop_node _ e)) }

@@ -1,4 +1,4 @@
-use Rattle.std.proofs.Common.{refl, ◌≡◌, ap, ◌∙◌, ◌++◌, ◌∷◌, [], length, suc, arith}
+use Rattle.std.proofs.Common.{refl, sym, ◌≡◌, ap, ◌∙◌, ◌++◌, ◌∷◌, [], length, suc, arith}
 use Rattle.orc_rules.specs.Nodes.{code, unfold_node}
 use Rattle.orc_checker.specs.Checker.{State}
 use Rattle.orc_checker.specs.Halting.{halt_flag}
@@ -10,6 +10,11 @@ use Rattle.orc_checker.specs.NextDue.{waits}
 use Rattle.orc_checker.specs.Sides.{is_side}
 use Rattle.orc_checker.proofs.Noting.{still_noted, same_wait, wait_on, wait_written, wait_more}
 use Rattle.orc_checker.proofs.KeptSides.{known_two, flags_same, sides_two, length_two}
+use Rattle.orc_checker.specs.Index.{name_of}
+use Rattle.orc_checker.proofs.Indexed.{indexed_two}
+use Rattle.std.proofs.lemmas.Result.{err_from_is_err_and}
+use Rattle.orc_rules.specs.declared.entry.Entry.TheVariants as entry
+use Rattle.orc_checker.proofs.Refusing.{HasSort, after_refused, asks_fork, mark_refused, par_node, refused_for, sort_refused, spot_refused}
 use Rattle.orc_checker.proofs.marked.Marked.fork.Goals as goal
 
 pub returns-clause-done : goal.returns-clause-done
@@ -18,8 +23,8 @@ returns-clause-done c =
     let t = c.in_ok-spot.spot in
     let v = c.self.view_is in
     let k = c.in-Par in
-    let next = c.in_ok-expect_mark.ensures in
-    let b_is : c.args.b ≡ suc c.args.a = omega (arith, c.if-b-eq0.false, c.if-b-a.false) in
+    let next = c.in_ok-expect_mark.ensures.next in
+    let b_is : c.args.b ≡ suc c.args.a = c.in_ok-expect_after.ensures.next in
     fork-enters terms c.args.self.now _ t.at t.parent c.args.s t.node t.scope c.in_ok-spot.ensures.there c.len-n.result c.args.a c.args.b k.f k.g
     (c.node.ensures.term ∙ ap (unfold_node terms c.args.program.now.lists) k.is)
     (c.len-n.ensures.count ∙ ap length (c.reserve.ensures.nodes ∙ ap State.nodes v))
@@ -39,4 +44,30 @@ invariant_of-self-2 c = (
       (wait_on _ _ _ (wait_more _ _ _ c.push_within.ensures.items (ap (λ (z : Node). waits z.kind) c.token_node.ensures)) (wait_more _ _ _ c.push_within-2.ensures.items (ap (λ (z : Node). waits z.kind) c.token_node-2.ensures))))
       refl c.self.invariant.0,
   known_two _ _ _ _ _ _ _ c.self.invariant.1 (sides_two c.self.inside.nodes.items c.reserve.new.nodes.items c.in_ok-spot.spot.at _ c.reserve.ensures.nodes (can_turn c.args.self.now.nodes _ _ _ _ _ (c.reserve.ensures.nodes ∙ ap State.nodes c.self.view_is) c.in_ok-spot.ensures.there (λ v. refl) refl) (λ p lt. refl) _ _ _ _ (c.push_within.ensures.items ∙ ap (λ z. z ++ c.token_node.result ∷ []) c.write_node.ensures.items) c.push_within-2.ensures.items (λ p lt. ap (λ (z : Node). is_side z.kind p) c.token_node.ensures) (λ p lt. ap (λ (z : Node). is_side z.kind p) c.token_node-2.ensures)) (flags_same _ _ _ _ refl) (λ p m. c.push_flag-2.ensures.kept p (c.push_flag.ensures.kept p m)) _ _ _ (c.push_flag-2.ensures.items ∙ ap (λ z. z ++ c.at-right.result ∷ []) (c.push_flag.ensures.items ∙ ap (λ z. z ++ c.at-left.result ∷ []) c.reserve.ensures.flags)) refl (length_two c.self.inside.nodes.items c.reserve.new.nodes.items c.in_ok-spot.spot.at _ c.reserve.ensures.nodes (can_turn c.args.self.now.nodes _ _ _ _ _ (c.reserve.ensures.nodes ∙ ap State.nodes c.self.view_is) c.in_ok-spot.ensures.there (λ v. refl) refl) (λ p lt. refl) _ _ _ _ (c.push_within.ensures.items ∙ ap (λ z. z ++ c.token_node.result ∷ []) c.write_node.ensures.items) c.push_within-2.ensures.items) (c.len-n.ensures.count ∙ ap length c.reserve.ensures.nodes) (λ e. c.push_flag-2.ensures.kept _ (c.push_flag.ensures.known e)) c.push_flag-2.ensures.known,
+  indexed_two _ _ _ _ _ _ _ _ _ _ _ _ _ _ _ _ _ _ _ _ _ c.self.invariant.2 c.reserve.ensures.nodes c.write_node.ensures.items c.push_within.ensures.items c.push_within-2.ensures.items (λ m e. cc e) (ap (λ (z : Node). name_of z.kind) c.token_node.ensures) (ap (λ (z : Node). name_of z.kind) c.token_node-2.ensures) c.len-n.ensures.count (c.in_ok-expect_mark.ensures.next ∙ ap (λ (z : State). length z.marks) (sym c.self.view_is)) c.in_ok-expect_after.ensures.next c.reserve.ensures.marks c.push_within-3.ensures.items c.push_within-4.ensures.items (λ d k e. e) (λ d e. e),
+  c.self.invariant.3,
 )
+
+pub returns-in_err-spot-clause-reason : goal.returns-in_err-spot-clause-reason
+returns-in_err-spot-clause-reason c =
+    let p = err_from_is_err_and c.from_residual.result c.from_residual.ensures.1 in
+    let a = c.args in
+    rw (p.1, p.2) (λ t. spot_refused a.program.now t (entry.Fork a.s a.a a.b) a.self.now a.s (HasSort 4) _ (asks_fork a.s a.a a.b) (λ v e. absurd (omega (arith, e))) c.in_err-spot.ensures.refused)
+
+pub returns-in_default : goal.returns-in_default
+returns-in_default c =
+    let a = c.args in
+    let t = c.in_ok-spot.spot in
+    record { done = tt; refused = refl; reason = λ sites. sort_refused a.program.now sites (entry.Fork a.s a.a a.b) a.self.now a.s t.at t.parent t.node t.scope 4 c.node.result (asks_fork a.s a.a a.b) c.in_ok-spot.ensures.there c.node.ensures.term (λ e. let w = par_node _ e in c.in_default.not-Par w.0 w.1 w.2) }
+
+pub returns-in_err-expect_mark-clause-reason : goal.returns-in_err-expect_mark-clause-reason
+returns-in_err-expect_mark-clause-reason c =
+    let p = err_from_is_err_and c.from_residual-in_err-expect_mark.result c.from_residual-in_err-expect_mark.ensures.1 in
+    let a = c.args in
+    rw (p.1, p.2) (λ t. let w = c.in_err-expect_mark.ensures.refused in refused_for a.program.now t (entry.Fork a.s a.a a.b) a.self.now _ _ w.0 (mark_refused a.program.now t (entry.Fork a.s a.a a.b) a.self.now a.a (λ x q h. h.0) w.1))
+
+pub returns-in_err-expect_after-clause-reason : goal.returns-in_err-expect_after-clause-reason
+returns-in_err-expect_after-clause-reason c =
+    let p = err_from_is_err_and c.from_residual-in_err-expect_after.result c.from_residual-in_err-expect_after.ensures.1 in
+    let a = c.args in
+    rw (p.1, p.2) (λ t. let w = c.in_err-expect_after.ensures.refused in refused_for a.program.now t (entry.Fork a.s a.a a.b) a.self.now _ _ w.0 (after_refused a.program.now t (entry.Fork a.s a.a a.b) a.self.now a.a a.b (λ x q h. h.1) w.1))

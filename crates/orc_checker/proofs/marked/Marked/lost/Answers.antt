@@ -1,14 +1,24 @@
 use Rattle.std.proofs.Common.{refl, ap, sym, ◌∙◌, length, length-set}
-use Rattle.std.specs.Prelude.{slice_set}
+use Rattle.std.specs.Prelude.{slice_get, slice_set}
 use Rattle.orc_names.specs.declared.names.Bound.TheVariants.{Void}
 use Rattle.orc_checker.specs.declared.arena.Single.TheVariants.{Passed}
-use Rattle.orc_checker.specs.declared.arena.Kind.TheVariants.{One}
+use Rattle.orc_checker.specs.declared.arena.Double.TheVariants.{Side}
+use Rattle.orc_checker.specs.declared.arena.Kind.TheVariants.{One, Two}
 use Rattle.orc_checker.specs.Checker.{State}
 use Rattle.orc_checker.proofs.Moves.{node}
 use Rattle.orc_checker.proofs.Losing.{lose-applies}
 use Rattle.orc_checker.proofs.Hints.{can_end, parent_there}
 use Rattle.orc_checker.proofs.Noting.{still_noted, wait_on, wait_written, wait_dropped}
 use Rattle.orc_checker.proofs.KeptSides.{known_kept, flags_same, sides_on, sides_written}
+use Rattle.orc_checker.specs.Index.{name_of}
+use Rattle.orc_checker.proofs.Indexed.{indexed_bound, kind_there}
+use Rattle.std.proofs.lemmas.Result.{err_from_is_err_and}
+use Rattle.orc_rules.specs.declared.entry.Entry.TheVariants as entry
+use Rattle.orc_rules.specs.Nodes.{code}
+use Rattle.orc_checker.specs.Refusing.{NoPruning}
+use Rattle.orc_checker.proofs.Lookups.{pruning_put}
+use Rattle.orc_checker.proofs.Parts.{no_pruning}
+use Rattle.orc_checker.proofs.Refusing.{lacks_refused, lost_refused}
 use Rattle.orc_checker.proofs.marked.Marked.lost.Goals as goal
 
 pub returns-clause-done : goal.returns-clause-done
@@ -20,8 +30,8 @@ returns-clause-done c t =
     lose-applies c.args.program.now t c.args.self.now _ o.at o.parent c.args.c o.left o.right side c.write_node.new.self.items w.ensures.there (sym c.part_has_halted.ensures ∙ c.if-not-part_has_halted.false)
     (record {
       free = w.ensures.free;
-      unbound = c.in_ok-unbound.ensures;
-      all = c.in_ok-side.ensures;
+      unbound = c.in_ok-unbound.ensures.open;
+      all = c.in_ok-side.ensures.nodes;
       nodes = c.write_node.ensures.items ∙ ap (λ (z : State). slice_set z.nodes o.at (node (One Passed o.left) o.parent)) v;
       dropped = c.drop_nodes.ensures.dropped;
       len = c.drop_nodes.ensures.len ∙ ap length c.write_node.ensures.items ∙ length-set c.self.inside.nodes.items o.at _ ∙ ap (λ (z : State). length z.nodes) v;
@@ -42,4 +52,23 @@ pub invariant_of-self : goal.invariant_of-self
 invariant_of-self c = (
   still_noted _ _ _ _ _ (wait_on _ _ _ (wait_written _ _ _ _ c.write_node.ensures.items refl) (wait_dropped _ _ _ c.drop_nodes.ensures.dropped)) refl c.self.invariant.0,
   known_kept _ _ _ _ _ _ _ c.self.invariant.1 (sides_on (length c.self.inside.nodes.items) _ _ _ (sides_written (length c.self.inside.nodes.items) _ _ _ _ c.write_node.ensures.items (can_end c.self.inside.nodes.items c.in_ok-pruning.pruning.at c.in_ok-pruning.pruning.left c.in_ok-pruning.pruning.parent (parent_there c.args.self.now.nodes _ c.in_ok-pruning.pruning.parent c.in_ok-pruning.pruning.at _ (ap State.nodes c.self.view_is) c.in_ok-pruning.ensures.there)) (λ p lt. refl)) (c.drop_nodes.ensures.sides (length c.self.inside.nodes.items))) (flags_same _ _ _ _ refl) (λ p m. m) refl refl (c.drop_nodes.ensures.len ∙ ap length c.write_node.ensures.items ∙ length-set c.self.inside.nodes.items _ _),
+  indexed_bound _ _ _ _ _ _ _ _ _ _ _ _ _ c.self.invariant.2 (ap name_of (kind_there c.self.inside.nodes.items c.in_ok-pruning.pruning.parent c.in_ok-pruning.pruning.at (Two (Side c.args.c) c.in_ok-pruning.pruning.left c.in_ok-pruning.pruning.right) (ap (λ (z : State). slice_get z.nodes c.in_ok-pruning.pruning.at) c.self.view_is ∙ c.in_ok-pruning.ensures.there))) c.write_node.ensures.items refl c.drop_nodes.ensures.dropped c.bind_cell.ensures,
+  c.self.invariant.3 ∙ sym (ap length c.bind_cell.ensures ∙ length-set _ _ _),
 )
+
+pub returns-in_err-pruning-clause-reason : goal.returns-in_err-pruning-clause-reason
+returns-in_err-pruning-clause-reason c =
+    let p = err_from_is_err_and c.from_residual.result c.from_residual.ensures.1 in
+    let a = c.args in
+    rw (p.1, p.2) (λ t. lacks_refused a.program.now t (entry.Lost a.c) a.self.now (NoPruning a.self.now.nodes a.c) _ c.in_err-pruning.ensures.refused (λ x q h. h) (λ x q sp h none. no_pruning x (code a.program.now) a.self.now q sp a.c none h))
+
+pub returns-in_err-unbound-clause-reason : goal.returns-in_err-unbound-clause-reason
+returns-in_err-unbound-clause-reason c =
+    let p = err_from_is_err_and c.from_residual-in_err-unbound.result c.from_residual-in_err-unbound.ensures.1 in
+    let a = c.args in
+    rw (p.1, p.2) (λ t. absurd (c.in_err-unbound.ensures.refused.1 (sym (ap (λ (z : State). slice_get z.cells a.c) c.self.view_is) ∙ (pruning_put c.self.inside.nodes.items _ c.self.invariant.2 a.c c.in_ok-pruning.pruning.parent c.in_ok-pruning.pruning.at c.in_ok-pruning.pruning.left c.in_ok-pruning.pruning.right (ap (λ (z : State). slice_get z.nodes c.in_ok-pruning.pruning.at) c.self.view_is ∙ c.in_ok-pruning.ensures.there)).1)))
+
+pub returns-then-not-part_has_halted-clause-reason : goal.returns-then-not-part_has_halted-clause-reason
+returns-then-not-part_has_halted-clause-reason c t =
+    let o = c.in_ok-pruning.pruning in
+    lost_refused c.args.program.now t c.args.self.now c.args.c o.parent o.at o.left o.right c.in_ok-pruning.ensures.there (sym c.part_has_halted.ensures ∙ c.if-not-part_has_halted.true)

@@ -11,6 +11,7 @@ use Rattle.orc_checker.proofs.Publishing.{publish-enters}
 use Rattle.orc_checker.proofs.Hints.{can_publish}
 use Rattle.orc_checker.proofs.Noting.{still_noted, wait_on, wait_written, wait_passed}
 use Rattle.orc_checker.proofs.KeptSides.{known_kept, sides_on, sides_written, sides_passed}
+use Rattle.orc_checker.proofs.Indexed.{indexed_kept, names_on, names_passed, names_written}
 use Rattle.orc_checker.proofs.marked.Marked.publish.Goals as goal
 
 pub returns-clause-done : goal.returns-clause-done
@@ -34,4 +35,6 @@ pub invariant_of-self : goal.invariant_of-self
 invariant_of-self c = (
   still_noted _ _ _ _ _ (wait_on _ _ _ (wait_written _ _ _ _ c.write_node.ensures.items refl) (wait_passed _ _ c.rise.ensures.passes)) refl c.self.invariant.0,
   known_kept _ _ _ _ _ _ _ c.self.invariant.1 (sides_on (length c.self.inside.nodes.items) _ _ _ (sides_written (length c.self.inside.nodes.items) _ _ _ _ c.write_node.ensures.items (can_publish c.args.self.now.nodes _ _ _ c.args.s _ _ (ap State.nodes c.self.view_is) c.in_ok-bearer.ensures.there c.in_ok-bearer.ensures.carries) (λ p lt. refl)) (sides_passed (length c.self.inside.nodes.items) _ _ c.rise.ensures.passes)) c.settle.ensures.known c.settle.ensures.kept refl c.settle.ensures.len (c.rise.ensures.len ∙ ap length c.write_node.ensures.items ∙ length-set c.self.inside.nodes.items _ _),
+  indexed_kept _ _ _ c.self.invariant.2 (names_on _ _ _ _ (names_written _ _ _ _ _ c.write_node.ensures.items refl) (names_passed _ _ _ c.rise.ensures.passes)),
+  c.self.invariant.3,
 )

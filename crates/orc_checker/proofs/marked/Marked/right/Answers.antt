@@ -10,6 +10,13 @@ use Rattle.orc_checker.proofs.Resuming.{resume-enters}
 use Rattle.orc_checker.proofs.KeptSides.{known_kept, sides_same, sides_on, sides_woken}
 use Rattle.orc_checker.proofs.Hints.{can_wake}
 use Rattle.orc_checker.proofs.Noting.{still_noted, same_wait, wait_on, wait_written, wait_dropped}
+use Rattle.orc_checker.proofs.Indexed.{indexed_kept, indexed_token, names_dropped}
+use Rattle.std.proofs.lemmas.Result.{err_from_is_err_and}
+use Rattle.orc_rules.specs.declared.entry.Entry.TheVariants as entry
+use Rattle.orc_rules.specs.Nodes.{code}
+use Rattle.orc_checker.specs.Refusing.{NoOtherwise}
+use Rattle.orc_checker.proofs.Parts.{no_otherwise}
+use Rattle.orc_checker.proofs.Refusing.{lacks_refused, mark_refused, refused_for, right_refused}
 use Rattle.orc_checker.proofs.marked.Marked.right.Goals as goal
 
 pub returns-clause-done : goal.returns-clause-done
@@ -21,8 +28,8 @@ returns-clause-done c code =
     resume-enters code s _ o.at o.parent c.args.s o.left o.node o.scope c.args.a c.in_ok-side.side.items c.wake.new.self.items w.ensures.there (sym c.part_has_halted.ensures ∙ c.if-not-part_has_halted.false)
     (record {
       free = w.ensures.free;
-      next = c.in_ok-expect_mark.ensures;
-      all = c.in_ok-side.ensures;
+      next = c.in_ok-expect_mark.ensures.next;
+      all = c.in_ok-side.ensures.nodes;
       nodes = c.wake.ensures ∙ ap (λ z. slice_set z o.at (node (Leaf (Token c.args.a o.node o.scope)) o.parent)) (c.reserve.ensures.nodes ∙ ap State.nodes v);
       dropped = c.drop_nodes.ensures.dropped;
       len = c.drop_nodes.ensures.len ∙ ap length c.wake.ensures ∙ length-set c.reserve.new.nodes.items o.at _ ∙ ap length (c.reserve.ensures.nodes ∙ ap State.nodes v);
@@ -46,4 +53,23 @@ invariant_of-self-2 c =
       still_noted _ _ _ _ _ (wait_on _ _ _ (same_wait _ _ c.reserve.ensures.nodes) (wait_on _ _ _ (wait_written _ _ _ _ c.wake.ensures refl) (wait_dropped _ _ _ c.drop_nodes.ensures.dropped))) refl c.self.invariant.0,
       known_kept _ _ _ _ _ _ _ c.self.invariant.1 (sides_on n _ _ _ (sides_same n _ _ c.reserve.ensures.nodes) (sides_on n _ _ _ (sides_woken n _ _ _ _ c.wake.ensures can (λ p lt. refl)) (c.drop_nodes.ensures.sides n))) c.settle.ensures.known c.settle.ensures.kept c.reserve.ensures.flags c.settle.ensures.len
           (c.drop_nodes.ensures.len ∙ ap length c.wake.ensures ∙ length-set c.reserve.new.nodes.items _ _ ∙ ap length c.reserve.ensures.nodes),
+      indexed_kept _ _ _ (indexed_token _ _ _ _ _ _ _ _ _ _ _ _ c.self.invariant.2 c.reserve.ensures.nodes c.wake.ensures refl (c.in_ok-expect_mark.ensures.next ∙ ap (λ (z : State). length z.marks) (sym c.self.view_is)) c.reserve.ensures.marks c.push_within.ensures.items) (names_dropped _ _ _ _ c.drop_nodes.ensures.dropped),
+      c.self.invariant.3,
     )
+
+pub returns-in_err-otherwise-clause-reason : goal.returns-in_err-otherwise-clause-reason
+returns-in_err-otherwise-clause-reason c =
+    let p = err_from_is_err_and c.from_residual.result c.from_residual.ensures.1 in
+    let a = c.args in
+    rw (p.1, p.2) (λ l t. lacks_refused l t (entry.Right a.s a.a) a.self.now (NoOtherwise a.self.now.nodes a.s) _ c.in_err-otherwise.ensures.refused (λ x q h. h) (λ x q sp h none. no_otherwise x (code l) a.self.now q sp a.s none h))
+
+pub returns-in_err-expect_mark-clause-reason : goal.returns-in_err-expect_mark-clause-reason
+returns-in_err-expect_mark-clause-reason c =
+    let p = err_from_is_err_and c.from_residual-in_err-expect_mark.result c.from_residual-in_err-expect_mark.ensures.1 in
+    let a = c.args in
+    rw (p.1, p.2) (λ l t. let w = c.in_err-expect_mark.ensures.refused in refused_for l t (entry.Right a.s a.a) a.self.now _ _ w.0 (mark_refused l t (entry.Right a.s a.a) a.self.now a.a (λ x q h. h) w.1))
+
+pub returns-then-not-part_has_halted-clause-reason : goal.returns-then-not-part_has_halted-clause-reason
+returns-then-not-part_has_halted-clause-reason c l t =
+    let o = c.in_ok-otherwise.otherwise in
+    right_refused l t c.args.self.now c.args.s c.args.a o.parent o.at o.left o.node o.scope c.in_ok-otherwise.ensures.there (sym c.part_has_halted.ensures ∙ c.if-not-part_has_halted.true)

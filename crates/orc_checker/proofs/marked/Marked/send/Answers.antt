@@ -1,4 +1,4 @@
-use Rattle.std.proofs.Common.{refl, ◌≡◌, ◌+◌, ◌∷◌, ◌++◌, [], ap, sym, ◌∙◌, subst, length, get_or, length-append, length-set, true, false, arith, rules}
+use Rattle.std.proofs.Common.{refl, ◌≡◌, ◌+◌, ◌∷◌, ◌++◌, [], Some, ap, sym, ◌∙◌, subst, length, get_or, length-append, length-set, true, false, arith, rules}
 use Rattle.std.specs.Prelude.{slice_set}
 use Rattle.orc_checker.specs.declared.arena.Node.{Node}
 use Rattle.orc_names.specs.declared.names.Scope.{Scope}
@@ -18,6 +18,9 @@ use Rattle.orc_checker.proofs.Hints.{can_publish, one_in}
 use Rattle.orc_checker.proofs.Noting.{still_noted, same_wait, wait_on, wait_written, wait_passed}
 use Rattle.orc_checker.specs.Sides.{NoNewSides}
 use Rattle.orc_checker.proofs.KeptSides.{known_two, sides_same, sides_on, sides_written, sides_passed}
+use Rattle.orc_rules.specs.Numbered.{mark}
+use Rattle.orc_checker.specs.Index.{Tables, IsPut}
+use Rattle.orc_checker.proofs.Indexed.{get_grown, get_last, indexed_on, its, names_map, names_on, names_passed, names_same, names_written, put_more}
 use Rattle.orc_checker.proofs.marked.Marked.send.Goals as goal
 
 pub returns-clause-done : goal.returns-clause-done
@@ -42,8 +45,8 @@ returns-clause-done c =
       grafts = subst (λ z. Grafts c.rise.new.nodes.items c.in-Fed.at (Token c.args.a f.g z) c.graft.new.nodes.items) count c.graft.ensures.grafts;
       scopes = scopes;
       cells = ap State.cells v;
-      marks = one_more s.marks _ _ _ c.args.a (c.reserve.ensures.marks ∙ ap State.marks v) c.push_within-2.ensures.items c.in_ok-expect_mark.ensures;
-      next = c.in_ok-expect_mark.ensures;
+      marks = one_more s.marks _ _ _ c.args.a (c.reserve.ensures.marks ∙ ap State.marks v) c.push_within-2.ensures.items c.in_ok-expect_mark.ensures.next;
+      next = c.in_ok-expect_mark.ensures.next;
       rest = ap State.rest v;
       halts = ap State.halts v;
       same_len = c.rise.ensures.len ∙ ap length c.write_node.ensures.items ∙ length-set c.reserve.new.nodes.items t.at (node (Leaf Ended) t.parent) ∙ ap length (c.reserve.ensures.nodes ∙ ap State.nodes v);
@@ -66,7 +69,17 @@ invariant_of-self-2 c =
     let n = length c.self.inside.nodes.items in
     let t = c.in_ok-bearer.bearer in
     let can = can_publish c.args.self.now.nodes _ _ _ c.args.s _ _ (c.reserve.ensures.nodes ∙ ap State.nodes c.self.view_is) c.in_ok-bearer.ensures.there c.in_ok-bearer.ensures.carries in
-    let len : length c.rise.new.nodes.items ≡ n = c.rise.ensures.len ∙ ap length c.write_node.ensures.items ∙ length-set c.reserve.new.nodes.items t.at (node (Leaf Ended) t.parent) ∙ ap length c.reserve.ensures.nodes in (
+    let len : length c.rise.new.nodes.items ≡ n = c.rise.ensures.len ∙ ap length c.write_node.ensures.items ∙ length-set c.reserve.new.nodes.items t.at (node (Leaf Ended) t.parent) ∙ ap length c.reserve.ensures.nodes in
+    let f = c.in-Feeds in
+    let marks_are = c.push_within-2.ensures.items ∙ ap (λ z. z ++ (c.len-both.result + 1) ∷ []) c.reserve.ensures.marks in
+    let old : Tables = record { marks = c.self.inside.marks.items; prunings = c.self.inside.prunings.items; calls = c.self.inside.rest.calls; cells = c.self.inside.cells.items } in
+    let new : Tables = record old { marks = c.push_within-2.new.items.items } in
+    let put = get_last _ _ _ c.args.a marks_are (c.in_ok-expect_mark.ensures.next ∙ ap (λ (z : State). length z.marks) (sym c.self.view_is)) in
+    let renamed =
+    names_on (IsPut new) _ _ _ (names_same (IsPut new) _ _ c.reserve.ensures.nodes)
+    (names_on (IsPut new) _ _ _ (names_written (IsPut new) _ _ _ _ c.write_node.ensures.items refl)
+    (names_on (IsPut new) _ _ _ (names_passed (IsPut new) _ _ c.rise.ensures.passes)
+    (names_map _ (IsPut new) _ _ (λ m i h. its (λ w. IsPut new w i) (Leaf (Token c.args.a f.g c.scope_count.result)) (mark c.args.a) m refl (put ∙ ap Some (ap (λ z. z + 1) c.len-both.ensures.count ∙ sym h.1)) h.0) c.graft.ensures.names))) in (
       still_noted _ _ _ _ _
           (wait_on _ _ _ (wait_on _ _ _ (same_wait _ _ c.reserve.ensures.nodes) (wait_written _ _ _ _ c.write_node.ensures.items refl)) (wait_on _ _ _ (wait_passed _ _ c.rise.ensures.passes) (c.graft.ensures.calls refl)))
           refl c.self.invariant.0,
@@ -75,4 +88,6 @@ invariant_of-self-2 c =
           (sides_on n _ _ _ (sides_written n _ _ _ _ c.write_node.ensures.items can (λ p lt. refl)) (sides_on n _ _ _ (sides_passed n _ _ c.rise.ensures.passes) (subst (λ z. NoNewSides z c.rise.new.nodes.items c.graft.new.nodes.items) len c.graft.ensures.sides))))
           c.settle.ensures.known (λ p m. c.settle.ensures.kept p (c.push_flag-2.ensures.kept p (c.push_flag.ensures.kept p m))) _ _ _ (c.push_flag-2.ensures.items ∙ ap (λ z. z ++ c.at-halted.result ∷ []) (c.push_flag.ensures.items ∙ ap (λ z. z ++ false ∷ []) c.reserve.ensures.flags)) c.settle.ensures.len
           (c.graft.ensures.len ∙ ap (λ z. z + 2) len) (c.len-both.ensures.count ∙ len) (λ e. c.settle.ensures.kept _ (c.push_flag-2.ensures.kept _ (c.push_flag.ensures.known e))) (λ e. c.settle.ensures.kept _ (c.push_flag-2.ensures.known e)),
+      indexed_on old new _ _ c.self.invariant.2 renamed (λ i m e. put_more old new (get_grown _ _ _ marks_are) (λ d k f. f) (λ d k f. f) (λ d f. f) i m),
+      c.self.invariant.3,
     )

@@ -1,4 +1,4 @@
-use Rattle.std.proofs.Common.{◌≡◌, ◌<◌, ◌⊎◌, length, arith, ap, subst, ⊎_elim, ◌∙◌}
+use Rattle.std.proofs.Common.{◌≡◌, ◌<◌, length, arith, ap, subst, ⊎_elim, ◌∙◌}
 use Rattle.orc_checker.specs.Ranks.{rank, IsPart}
 use Rattle.orc_checker.proofs.Ranking.{late_settled}
 use Rattle.orc_checker.proofs.ranks.Ranks.settle_parts.Goals as goal

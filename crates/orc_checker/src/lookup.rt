@@ -1,0 +1,65 @@
+// The nodes that entries name, by the tables.
+
+ghost use Rattle.std.specs.Prelude.{◌≡◌, slice_get};
+ghost use Rattle.orc_checker.specs.Index.{node_by, pruning_with, otherwise_with, tip_with, waits_with};
+
+use crate::arena::{Double, Kind, Node, Single, Tip};
+use crate::nodes::Nodes;
+
+/// The node that a table of places gives for a number, with its place.
+pub(crate) fn node_by(nodes: &Nodes, places: &Vec<usize>, number: u64) -> Option<(usize, Node)>
+    ensures { result ≡ node_by nodes.now.items (slice_get places.now.items number) }
+{
+    match places.get(number as usize) {
+        Some(place) => match nodes.get(*place) {
+            Some(node) => Some((*place, node)),
+            None => None,
+        },
+        None => None,
+    }
+}
+
+/// What token `s` stands on, where the node has it.
+pub(crate) fn tip_with(kind: Kind, s: u64) -> Option<Tip>
+    ensures { result ≡ tip_with kind s }
+{
+    match kind {
+        Kind::Leaf(Tip::Token(mark, node, scope)) if mark == s => {
+            Some(Tip::Token(mark, node, scope))
+        }
+        Kind::Leaf(Tip::Bears(mark, value)) if mark == s => Some(Tip::Bears(mark, value)),
+        _ => None,
+    }
+}
+
+/// Whether the node waits for call `k`.
+pub(crate) fn waits_with(kind: Kind, k: u64) -> bool
+    ensures { result ≡ waits_with kind k }
+{
+    match kind {
+        Kind::Leaf(Tip::Waits(call)) => call == k,
+        _ => false,
+    }
+}
+
+/// The sides of the pruning of cell `c`, where the node is it.
+pub(crate) fn pruning_with(kind: Kind, c: u64) -> Option<(usize, usize)>
+    ensures { result ≡ pruning_with kind c }
+{
+    match kind {
+        Kind::Two(Double::Side(cell), left, right) if cell == c => Some((left, right)),
+        _ => None,
+    }
+}
+
+/// The left side of otherwise `s`, and its right one with its scope, where the node is it.
+pub(crate) fn otherwise_with(kind: Kind, s: u64) -> Option<(usize, usize, usize)>
+    ensures { result ≡ otherwise_with kind s }
+{
+    match kind {
+        Kind::One(Single::Entered(mark, right, scope), left) if mark == s => {
+            Some((left, right, scope))
+        }
+        _ => None,
+    }
+}
