@@ -54,6 +54,8 @@ impl Counts {
     }
 
     /// Which call of a site with these arguments the next one is, from 1; 1 for a site whose calls aren't counted.
+    // Not inlined: the key's room would be cleared at each call of a site, counted or not.
+    #[inline(never)]
     pub fn nth(&self, site: u32, args: &Args) -> u64
         ensures nth { result ≡ nth_in self.now site args.now }
         ensures from_1 { 1 ≤ result }
@@ -101,6 +103,7 @@ impl Counts {
     }
 
     // One more call of a site with these arguments. Where memory is refused nothing changes.
+    #[inline(never)]
     fn add_one(&mut self, site: u32, args: &Args) -> Result<(), AllocError>
         ensures added { OnOk result (CountsOne site args.now self.old self.new) }
         ensures refused { OnErr result (self.new ≡ self.old) }

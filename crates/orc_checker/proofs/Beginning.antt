@@ -7,7 +7,8 @@ use Rattle.orc_names.specs.declared.names.Bound.TheVariants.{Void}
 use Rattle.orc_rules.specs.Nodes.{Listing, code, source}
 use Rattle.orc_checker.specs.Halting.{halt_flag, AreHalts}
 use Rattle.orc_checker.specs.Arena.{leaf, one}
-use Rattle.orc_checker.specs.Checker.{State, Begins, AreOwn}
+use Rattle.orc_checker.specs.Checker.{State, Begins}
+use Rattle.orc_names.specs.Parameters.{AreOwn}
 use Rattle.orc_rules.specs.Journal.{begin}
 use Rattle.orc_checker.proofs.Lists.{living-push}
 use Rattle.orc_checker.proofs.Moves.{node}

@@ -13,7 +13,7 @@ length-told : (sites : List Site) (calls : List CallMade) → length (told_of si
 length-told sites [] = refl
 length-told sites (c ∷ cs) = omega (arith, length-append (told_of sites cs) ((says_of sites c, c.at) ∷ []), length-told sites cs)
 
-length-map : {X Y : Type 0} (f : X → Y) (xs : List X) → length (map f xs) ≡ length xs
+pub length-map : {X Y : Type 0} (f : X → Y) (xs : List X) → length (map f xs) ≡ length xs
 length-map f [] = refl
 length-map f (x ∷ xs) = ap suc (length-map f xs)
 

@@ -34,7 +34,8 @@ use Rattle.orc_names.specs.Names.{AreOrdered}
 use Rattle.orc_checker.specs.Settling.{flag, HasFlags, Settles}
 use Rattle.orc_checker.specs.Calls.{Rest, Keeps}
 use Rattle.orc_checker.specs.Dropping.{calls_at, AreNodesOf, AreRising, IsDropped}
-use Rattle.orc_checker.specs.Checker.{State, Applies, context, AreOwn}
+use Rattle.orc_checker.specs.Checker.{State, Applies, context}
+use Rattle.orc_names.specs.Parameters.{AreOwn}
 use Rattle.orc_checker.proofs.Trees.{hit, count-plug, holds-out, living-most}
 use Rattle.orc_checker.proofs.Rising.{itself, plug-under, get_or-some}
 use Rattle.orc_checker.proofs.Change.{says_of, place-plug}

@@ -21,7 +21,7 @@ use Rattle.orc_checker.specs.Checker.{State, Follows, AreCells}
 use Rattle.orc_names.specs.Names.{AreOrdered}
 use Rattle.orc_checker.specs.Halting.{halt_flag}
 use Rattle.orc_checker.specs.Settling.{Settles}
-use Rattle.orc_checker.specs.Parameters.{Adds}
+use Rattle.orc_names.specs.Parameters.{Adds}
 use Rattle.orc_checker.proofs.Flagging.{reflag_leaf_settled}
 use Rattle.orc_names.proofs.Scopes.{close-call, env-kept}
 use Rattle.orc_checker.proofs.Opening.{keeps_free}

@@ -21,7 +21,8 @@ use Rattle.orc_checker.specs.Around.{above}
 use Rattle.orc_checker.specs.Settling.{HasFlags}
 use Rattle.orc_checker.specs.Rising.{under}
 use Rattle.orc_checker.specs.Dropping.{occurs, DoRise}
-use Rattle.orc_checker.specs.Checker.{State, Draws, AreOwn}
+use Rattle.orc_checker.specs.Checker.{State, Draws}
+use Rattle.orc_names.specs.Parameters.{AreOwn}
 use Rattle.orc_checker.proofs.Trees.{hit, hits-both, topped-plug}
 use Rattle.orc_checker.proofs.Lists.{get-set_same, get-set_other}
 use Rattle.orc_checker.proofs.Change.{place-plug}

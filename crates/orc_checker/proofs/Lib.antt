@@ -1,4 +1,5 @@
 pub mod Answering
+pub mod Arguments
 pub mod Beginning
 pub mod Bearers
 pub mod Binding
@@ -17,6 +18,7 @@ pub mod Feeding
 pub mod Filled
 pub mod Flagging
 pub mod Growth
+pub mod Halted
 pub mod Halting
 pub mod Hints
 pub mod Indexed
@@ -32,7 +34,6 @@ pub mod Moves
 pub mod Noting
 pub mod Offered
 pub mod Opening
-pub mod Parameters
 pub mod Parts
 pub mod Paths
 pub mod Pends
@@ -50,5 +51,6 @@ pub mod Moving
 pub mod Takers
 pub mod Ticking
 pub mod Trees
+pub mod Values
 pub mod Voiding
 pub mod Waking

@@ -25,7 +25,8 @@ use Rattle.orc_checker.specs.Rising.{Stands}
 use Rattle.orc_names.specs.Names.{AreOrdered}
 use Rattle.orc_checker.specs.Settling.{flag, HasFlags}
 use Rattle.orc_checker.specs.Dropping.{AreNodesOf, IsDropped}
-use Rattle.orc_checker.specs.Checker.{State, Applies, context, AreOwn}
+use Rattle.orc_checker.specs.Checker.{State, Applies, context}
+use Rattle.orc_names.specs.Parameters.{AreOwn}
 use Rattle.orc_checker.proofs.Trees.{hit, count-plug, holds-out, living-most}
 use Rattle.orc_checker.proofs.Change.{place-plug}
 use Rattle.orc_checker.proofs.Feeding.{own_kind}

@@ -28,7 +28,7 @@ use Rattle.orc_checker.specs.declared.next.Next.TheVariants as next
 use Rattle.orc_checker.specs.declared.walk.Taker.{Taker}
 use Rattle.orc_checker.specs.declared.walk.Taker.TheVariants.{Whole, Fed, Bound as To}
 use Rattle.orc_checker.specs.Arena.{at, living_kind, of_tip, spelled, plug}
-use Rattle.orc_checker.specs.Rising.{act_of}
+use Rattle.orc_checker.specs.Rising.{act_of, IsTaker}
 use Rattle.orc_checker.specs.Settling.{flag}
 use Rattle.orc_checker.specs.Stillness.{params_in}
 use Rattle.orc_checker.specs.Checker.{State, Spells}
@@ -82,16 +82,17 @@ module _ (x : Context) (l : Listing) (s : State) (p : Place) (sp : Spells x (cod
   offers_taken r v (Fed i) e = e
   offers_taken r v (To c i) e = e p.mark
 
+  -- a token's value goes up to its taker
+  pub published_up : (q i : ℕ) (k : Tip) → at s.nodes q i (Leaf k) → living_kind (Leaf k) ≡ 1 → (r : ℕ) (v : Value) → of_tip (code l) env k ≡ token r (param (is.Is v)) → (w : Taker) → IsTaker s.nodes i w → (b : ℕ) → (m : Marked) × Emits r b v p.marked (act_of w v) m
+  published_up q i k a lives r v of w taker b =
+      let sh = shown (code l) s p.marked sp.drawn q i (Leaf k) a lives in
+      let first : Emits r b v (spelled (code l) env sh.tree) (publishes v) ended = subst (λ z. Emits r b v z (publishes v) ended) (sym (sh.is ∙ sh.shows ∙ of)) emits in
+      let u = emits_up (code l) env sh.context sh.tree first in
+      (u.0, subst (λ z. Emits r b v z (act_of w v) u.0) sh.whole (subst (λ z. Emits r b v (spelled (code l) env (plug sh.context sh.tree)) (act_of z v) u.0) (sym (taker _ sh.context sh.tree sh.there)) u.1))
+
   -- what takes a token's value
   pub offers_published : (q i : ℕ) (k : Tip) → at s.nodes q i (Leaf k) → living_kind (Leaf k) ≡ 1 → (r : ℕ) (v : Value) → of_tip (code l) env k ≡ token r (param (is.Is v)) → (n : Next) → IsPublished s.nodes i v n → Offers x p r n
-  offers_published q i k a lives r v of n (w, taker, is) = subst (Offers x p r) (sym is) (offers_taken r v w up)
-    where
-      up : (b : ℕ) → (m : Marked) × Emits r b v p.marked (act_of w v) m
-      up b =
-          let sh = shown (code l) s p.marked sp.drawn q i (Leaf k) a lives in
-          let first : Emits r b v (spelled (code l) env sh.tree) (publishes v) ended = subst (λ z. Emits r b v z (publishes v) ended) (sym (sh.is ∙ sh.shows ∙ of)) emits in
-          let u = emits_up (code l) env sh.context sh.tree first in
-          (u.0, subst (λ z. Emits r b v z (act_of w v) u.0) sh.whole (subst (λ z. Emits r b v (spelled (code l) env (plug sh.context sh.tree)) (act_of z v) u.0) (sym (taker _ sh.context sh.tree sh.there)) u.1))
+  offers_published q i k a lives r v of n (w, taker, is) = subst (Offers x p r) (sym is) (offers_taken r v w (published_up q i k a lives r v of w taker))
 
   pub right_is : (q i c a b : ℕ) → at s.nodes q i (Two (Side c) a b) → RightIs p c (flag s.flags b)
   right_is q i c a b h = let w = shown (code l) s p.marked sp.drawn q i (Two (Side c) a b) h refl in (w.shows.0, w.shows.1, subst (λ z. Stands z p.marked) w.shows.2 w.stands, w.shows.3)

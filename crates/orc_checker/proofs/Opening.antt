@@ -15,7 +15,9 @@ use Rattle.orc_rules.specs.Timed.{Context}
 use Rattle.orc_rules.specs.Journal.{Place, next}
 use Rattle.orc_checker.specs.Arena.{leaf, two, at, spelled}
 use Rattle.orc_names.specs.Scopes.{Env, current, env_of, close, without}
-use Rattle.orc_checker.specs.Checker.{State, Enters, AreOwn, AreCells, numbers}
+use Rattle.orc_checker.specs.Checker.{State, Enters, AreCells, numbers}
+use Rattle.orc_names.specs.Parameters.{AreOwn}
+use Rattle.orc_names.proofs.Parameters.{ordered_push}
 use Rattle.orc_names.specs.Names.{AreOrdered}
 use Rattle.orc_checker.specs.Calls.{Rest, Keeps}
 use Rattle.orc_checker.specs.Halting.{halt_flag}
@@ -29,19 +31,6 @@ use Rattle.orc_checker.proofs.Moves.{node, over_two, turn, scope_there}
 -- what is kept besides the term stays where no cancel comes due
 pub keeps_free : (x : Context) (p : Place) (r r' : Rest) → Keeps x p.now p.calls p.to_cancel r → r.to_cancel ≡ [] → r' ≡ r → Keeps x p.now p.calls [] r'
 keeps_free x p r r' k free is = subst (λ z. Keeps x p.now p.calls [] z) (sym is) (subst (λ z. Keeps x p.now p.calls z r) (k.due ∙ free) k)
-
-pub ordered_push : (ss : List Scope) (s : Scope) → AreOrdered ss → s.outer ≤ length ss → AreOrdered (ss ++ s ∷ [])
-ordered_push ss s ordered le i r h = go ss i h (ordered i r) (λ e. e)
-  where
-    or_else : Scope → Option Scope → Scope
-    or_else d (Some z) = z
-    or_else d _ = d
-
-    go : (xs : List Scope) (j : ℕ) → slice_get (xs ++ s ∷ []) j ≡ Some r → (slice_get xs j ≡ Some r → r.outer ≤ i) → (j ≡ length xs → i ≡ length ss) → r.outer ≤ i
-    go [] zero h k l = let same : s ≡ r = ap (or_else s) h in omega (arith, le, l refl, ap Scope.outer same)
-    go [] (suc j) h k l = cc h
-    go (x ∷ xs) zero h k l = k h
-    go (x ∷ xs) (suc j) h k l = go xs j h k (λ e. l (ap suc e))
 
 get_or-end : {X : Type 0} (xs : List X) (d : X) → get_or xs (length xs) d ≡ d
 get_or-end [] d = refl

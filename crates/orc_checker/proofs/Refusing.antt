@@ -4,6 +4,7 @@ use Rattle.std.specs.Prelude.{slice_get}
 use Rattle.orc_rules.specs.declared.value.Value.{Value}
 use Rattle.orc_rules.specs.declared.value.Answer.{Answer}
 use Rattle.orc_rules.specs.declared.param.Operand.{Operand}
+use Rattle.orc_rules.specs.declared.param.Param.{Param}
 use Rattle.orc_rules.specs.declared.param.Param.TheVariants.{Is}
 use Rattle.orc_rules.specs.declared.entry.Entry.{Entry}
 use Rattle.orc_rules.specs.declared.entry.Entry.TheVariants as entry
@@ -11,7 +12,7 @@ use Rattle.orc_rules.specs.declared.entry.RuleFault.{RuleFault}
 use Rattle.orc_rules.specs.declared.entry.RuleFault.TheVariants as reason
 use Rattle.orc_rules.specs.declared.program.TermNode.{TermNode}
 use Rattle.orc_rules.specs.declared.program.TermNode.TheVariants as node
-use Rattle.orc_rules.specs.Term.{Term, stop, param, site, call, par, seq, prune, other, pending, opened}
+use Rattle.orc_rules.specs.Term.{Term, values_of, stop, param, site, call, par, seq, prune, other, pending, opened}
 use Rattle.orc_rules.specs.Idle.{can_move, has_halted}
 use Rattle.orc_rules.specs.Lost.{ProgramIsSource}
 use Rattle.orc_rules.specs.Marked.{token, erase}
@@ -19,12 +20,13 @@ use Rattle.orc_rules.specs.Nodes.{Listing, code, definitions, source, param_of, 
 use Rattle.orc_rules.specs.Numbered.{IsNumbered, mark, cell}
 use Rattle.orc_rules.specs.Sites.{Table}
 use Rattle.orc_rules.specs.Timed.{Context, IsDue}
-use Rattle.orc_rules.specs.Journal.{Place, moment}
+use Rattle.orc_rules.specs.Journal.{Place, moment, IsVoid}
 use Rattle.orc_rules.specs.Refusal.{Stands, HasToken, IsAnswer, Meets}
 use Rattle.orc_rules.specs.Tests.{TickByTest}
 use Rattle.orc_rules.proofs.Idle.{halted_test}
 use Rattle.orc_rules.proofs.Standing.{cell_one, other_one, token_one}
 use Rattle.orc_calls.specs.Due.{IsNotDue}
+use Rattle.orc_names.specs.Names.{AreOrdered}
 use Rattle.orc_names.specs.Scopes.{Env, close, env_of}
 use Rattle.orc_names.proofs.Closing.{close-stop, close-par, close-other, close-seq, close-prune}
 use Rattle.orc_names.proofs.Scopes.{close-of-param, close-site, close-call}
@@ -38,8 +40,9 @@ use Rattle.orc_checker.specs.Arena.{at}
 use Rattle.orc_checker.specs.Calls.{IsCall, IsDueNow}
 use Rattle.orc_checker.specs.Checker.{State, Spells, context, numbers, IsReached}
 use Rattle.orc_checker.specs.NextDue.{IsNext}
-use Rattle.orc_checker.specs.Refusing.{IsExact, IsRightlyRefused, Lacks, LacksSpot, NoToken}
+use Rattle.orc_checker.specs.Refusing.{IsRightlyRefused, Lacks, LacksSpot, NoToken, Presumes}
 use Rattle.orc_checker.specs.Settling.{flag}
+use Rattle.orc_checker.proofs.CallsMade.{kept_length}
 use Rattle.orc_checker.proofs.KeptCalls.{answer_found, due_found}
 use Rattle.orc_checker.proofs.Offered.{token_stands}
 use Rattle.orc_checker.proofs.Parts.{no_token}
@@ -74,7 +77,7 @@ node_sort (node.Seq f x g) = 5
 node_sort (node.Prune f x g) = 6
 node_sort (node.Other f g) = 7
 
-pub sort_is : (e : Env) (terms : ℕ → Term) (lists : List (List Operand)) (n : TermNode) → sort (close e (unfold_node terms lists n)) ≡ node_sort n
+sort_is : (e : Env) (terms : ℕ → Term) (lists : List (List Operand)) (n : TermNode) → sort (close e (unfold_node terms lists n)) ≡ node_sort n
 sort_is e terms lists node.Stop = ap sort (close-stop e)
 sort_is e terms lists (node.Operand p) = ap sort (close-of-param e (param_of p))
 sort_is e terms lists (node.Site m l) = ap sort (close-site e m _)
@@ -83,6 +86,10 @@ sort_is e terms lists (node.Par f g) = ap sort (close-par e (terms f) (terms g))
 sort_is e terms lists (node.Seq f x g) = ap sort (close-seq e (terms f) x (terms g))
 sort_is e terms lists (node.Prune f x g) = ap sort (close-prune e (terms f) x (terms g))
 sort_is e terms lists (node.Other f g) = ap sort (close-other e (terms f) (terms g))
+
+-- what kind of term a token on a program's node stands on
+pub sort_under : (e : Env) (terms : ℕ → Term) (lists : List (List Operand)) (n : TermNode) (t : Term) → t ≡ unfold_node terms lists n → sort (close e t) ≡ node_sort n
+sort_under e terms lists n t is = ap (λ z. sort (close e z)) is ∙ sort_is e terms lists n
 
 module _ (l : Listing) (t : Table) (cancels : Bool) (s : State) (p : Place) (r : IsReached (context l t cancels) (source l) p) (sp : Spells (context l t cancels) (code l) s p) where
   abbrev x : Context
@@ -97,7 +104,7 @@ module _ (l : Listing) (t : Table) (cancels : Bool) (s : State) (p : Place) (r :
 
   -- it isn't of another kind
   pub other_sort : (m i q f e : ℕ) (n : TermNode) → at s.nodes q i (Leaf (Token m f e)) → code l f ≡ unfold_node (code l) l.lists n → (u : Term) → (node_sort n ≡ sort u → ⊥) → Stands (token m u) p.marked → ⊥
-  other_sort m i q f e n a is u off st = off (sym (sort_is (env_of s.cells s.scopes e) (code l) l.lists n) ∙ ap (λ z. sort (close (env_of s.cells s.scopes e) z)) (sym is) ∙ ap sort (stands_on m i q f e a u st))
+  other_sort m i q f e n a is u off st = off (sym (sort_under (env_of s.cells s.scopes e) (code l) l.lists n (code l f) is) ∙ ap sort (stands_on m i q f e a u st))
 
   -- a token that isn't found, where an entry asks for it
   pub lacks_token : (m : ℕ) (why : RuleFault) → Lacks s (NoToken s.nodes m) why → (e : Entry) → (Meets x p e reason.Cancel → p.to_cancel ≡ []) → (Meets x p e reason.Mark → HasToken p m) → Meets x p e why → ⊥
@@ -140,6 +147,19 @@ asks_seq m a = record { free = λ x p h. h; there = λ x p h. h; form = λ x p h
 pub asks_other : (m a : ℕ) → Asks (entry.Other m a) m (HasSort 7)
 asks_other m a = record { free = λ x p h. h; there = λ x p h. h; form = λ x p h. (other h.0 h.1, h.2, refl) }
 
+pub asks_void : (m : ℕ) → Asks (entry.Void m) m IsVoid
+asks_void m = record { free = λ x p h. h; there = λ x p h. h; form = λ x p h. (h.0, h.2, h.1) }
+
+-- a call of this site with these values
+abbrev pub IsCallOf : ℕ → List Value → Term → Type 0
+IsCallOf n args u = (ps : List Param) × (values_of ps ≡ Some args) × (u ≡ site n ps)
+
+pub asks_call : (m k n : ℕ) (args : List Value) → Asks (entry.Call m k n args) m (IsCallOf n args)
+asks_call m k n args = record { free = λ x p h. h; there = λ x p h. h; form = λ x p h. (site n h.0, h.2, (h.0, h.1, refl)) }
+
+pub asks_def : (m a : ℕ) → Asks (entry.Def m a) m (HasSort 3)
+asks_def m a = record { free = λ x p h. h; there = λ x p h. h; form = λ x p h. (call h.0 h.1, h.4, refl) }
+
 pub asks_open : (m c a b : ℕ) → Asks (entry.Open m c a b) m (HasSort 6)
 asks_open m c a b = record { free = λ x p h. h; there = λ x p h. h; form = λ x p h. (prune h.0 h.2 h.1, h.3, refl) }
 
@@ -151,15 +171,15 @@ module _ (l : Listing) (t : Table) (e : Entry) (s : State) where
       (λ f. let u = asks.form (context l t cancels) p f in (u.0, u.1, λ v is. off v (subst Form is u.2))) h
 
   -- its token stands on another term
-  pub form_refused : (m i q f o : ℕ) (Form : Term → Type 0) → Asks e m Form → at s.nodes q i (Leaf (Token m f o)) → (Form (close (env_of s.cells s.scopes o) (code l f)) → ⊥) → IsRightlyRefused l t e s reason.Form
+  pub form_refused : (m i q f o : ℕ) (Form : Term → Type 0) → Asks e m Form → at s.nodes q i (Leaf (Token m f o)) → (AreOrdered s.scopes → Form (close (env_of s.cells s.scopes o) (code l f)) → ⊥) → IsRightlyRefused l t e s reason.Form
   form_refused m i q f o Form asks a off not_memory cancels p r sp h =
       let u = asks.form (context l t cancels) p h in
-      off (subst Form (sym (stands_on l t cancels s p r sp m i q f o a u.0 u.1)) u.2)
+      off sp.scopes (subst Form (sym (stands_on l t cancels s p r sp m i q f o a u.0 u.1)) u.2)
 
   -- its token stands on another kind of node
   pub sort_refused : (m i q f o k : ℕ) (n : TermNode) → Asks e m (HasSort k) → at s.nodes q i (Leaf (Token m f o)) → code l f ≡ unfold_node (code l) l.lists n → (node_sort n ≡ k → ⊥) → IsRightlyRefused l t e s reason.Form
   sort_refused m i q f o k n asks a is off =
-      form_refused m i q f o (HasSort k) asks a (λ h. off (sym (sort_is (env_of s.cells s.scopes o) (code l) l.lists n) ∙ ap (λ z. sort (close (env_of s.cells s.scopes o) z)) (sym is) ∙ h))
+      form_refused m i q f o (HasSort k) asks a (λ ordered h. off (sym (sort_under (env_of s.cells s.scopes o) (code l) l.lists n (code l f) is) ∙ h))
 
   -- its number isn't the next mark
   pub mark_refused : (a : ℕ) → ((x : Context) (p : Place) → Meets x p e reason.Number → a ≡ p.mark) → (a ≡ length s.marks → ⊥) → IsRightlyRefused l t e s reason.Number
@@ -168,6 +188,12 @@ module _ (l : Listing) (t : Table) (e : Entry) (s : State) where
   -- its number isn't the next cell
   pub cell_refused : (c : ℕ) → ((x : Context) (p : Place) → Meets x p e reason.Number → c ≡ suc (length p.cells)) → (c ≡ length s.cells → ⊥) → IsRightlyRefused l t e s reason.Number
   cell_refused c next off not_memory cancels p r sp h = off (next (context l t cancels) p h ∙ ap suc (ap length sp.cells.2 ∙ length-numbers sp.cells.0) ∙ sym sp.cells.1)
+
+  -- its number isn't the next call
+  pub call_refused : (k : ℕ) → ((x : Context) (p : Place) → Meets x p e reason.Number → k ≡ suc (length p.calls)) → (k ≡ suc (length s.rest.calls) → ⊥) → IsRightlyRefused l t e s reason.Number
+  call_refused k next off not_memory cancels p r sp h =
+      let x = context l t cancels in
+      off (next x p h ∙ ap suc (sym (kept_length x p.now p.calls p.to_cancel s.rest sp.rest)))
 
   -- its other number isn't the one after that
   pub after_refused : (a b : ℕ) → ((x : Context) (p : Place) → Meets x p e reason.Number → b ≡ suc a) → (b ≡ suc a → ⊥) → IsRightlyRefused l t e s reason.Number
@@ -229,14 +255,9 @@ pub err_map : {X : Type 0} {P Q : RuleFault → Type 0} (o : Result X RuleFault)
 err_map (Ok x) f h = tt
 err_map (Err why) f h = f why h
 
--- a refusal of an entry, whose kind is told exactly, and of one whose kind isn't
-pub refused_so : {X : Type 0} (l : Listing) (t : Table) (e e' : Entry) (s : State) (o : Result X RuleFault) → e ≡ e' → IfErr o (IsRightlyRefused l t e' s) → IfErr o (λ why. IsExact e → IsRightlyRefused l t e s why)
-refused_so l t e e' s (Ok x) is h = tt
-refused_so l t e e' s (Err why) is h = λ exact. subst (λ z. IsRightlyRefused l t z s why) (sym is) h
-
-pub refused_anyhow : {X : Type 0} (l : Listing) (t : Table) (e e' : Entry) (s : State) (o : Result X RuleFault) → e ≡ e' → (IsExact e' → ⊥) → IfErr o (λ why. IsExact e → IsRightlyRefused l t e s why)
-refused_anyhow l t e e' s (Ok x) is off = tt
-refused_anyhow l t e e' s (Err why) is off = λ exact. absurd (off (subst IsExact is exact))
+-- a refusal of an entry is that of its kind
+pub refused_so : {X : Type 0} (l : Listing) (t : Table) (e e' : Entry) (s : State) (o : Result X RuleFault) → e ≡ e' → IfErr o (λ why. Presumes l e' → IsRightlyRefused l t e' s why) → IfErr o (λ why. Presumes l e → IsRightlyRefused l t e s why)
+refused_so l t e e' s o is h = subst (λ z. IfErr o (λ why. Presumes l z → IsRightlyRefused l t z s why)) (sym is) h
 
 -- the nodes of these sorts
 pub stop_node : (n : TermNode) → node_sort n ≡ 0 → n ≡ node.Stop
@@ -248,6 +269,36 @@ stop_node (node.Par f g) h = absurd (omega (arith, h))
 stop_node (node.Seq f x g) h = absurd (omega (arith, h))
 stop_node (node.Prune f x g) h = absurd (omega (arith, h))
 stop_node (node.Other f g) h = absurd (omega (arith, h))
+
+pub operand_node : (n : TermNode) → node_sort n ≡ 1 → (p : Operand) × (n ≡ node.Operand p)
+operand_node node.Stop h = absurd (omega (arith, h))
+operand_node (node.Operand p) h = (p, refl)
+operand_node (node.Site m l) h = absurd (omega (arith, h))
+operand_node (node.Call e l) h = absurd (omega (arith, h))
+operand_node (node.Par f g) h = absurd (omega (arith, h))
+operand_node (node.Seq f x g) h = absurd (omega (arith, h))
+operand_node (node.Prune f x g) h = absurd (omega (arith, h))
+operand_node (node.Other f g) h = absurd (omega (arith, h))
+
+pub site_node : (n : TermNode) → node_sort n ≡ 2 → (m l : ℕ) × (n ≡ node.Site m l)
+site_node node.Stop h = absurd (omega (arith, h))
+site_node (node.Operand p) h = absurd (omega (arith, h))
+site_node (node.Site m l) h = (m, l, refl)
+site_node (node.Call e l) h = absurd (omega (arith, h))
+site_node (node.Par f g) h = absurd (omega (arith, h))
+site_node (node.Seq f x g) h = absurd (omega (arith, h))
+site_node (node.Prune f x g) h = absurd (omega (arith, h))
+site_node (node.Other f g) h = absurd (omega (arith, h))
+
+pub call_node : (n : TermNode) → node_sort n ≡ 3 → (e l : ℕ) × (n ≡ node.Call e l)
+call_node node.Stop h = absurd (omega (arith, h))
+call_node (node.Operand p) h = absurd (omega (arith, h))
+call_node (node.Site m l) h = absurd (omega (arith, h))
+call_node (node.Call e l) h = (e, l, refl)
+call_node (node.Par f g) h = absurd (omega (arith, h))
+call_node (node.Seq f x g) h = absurd (omega (arith, h))
+call_node (node.Prune f x g) h = absurd (omega (arith, h))
+call_node (node.Other f g) h = absurd (omega (arith, h))
 
 pub par_node : (n : TermNode) → node_sort n ≡ 4 → (f g : ℕ) × (n ≡ node.Par f g)
 par_node node.Stop h = absurd (omega (arith, h))

@@ -21,3 +21,7 @@ Carries s _ = ⊥
 -- the tip is token s on the value
 abbrev pub BearsValue : (ℕ → Term) → List Bound → List Scope → ℕ → Tip → Value → Type 0
 BearsValue code cells scopes s k v = AreOrdered scopes → of_tip code (env_of cells scopes) k ≡ token s (param (is.Is v))
+
+-- the tip isn't token s on the value
+abbrev pub BearsOther : (ℕ → Term) → List Bound → List Scope → ℕ → Tip → Value → Type 0
+BearsOther code cells scopes s k v = AreOrdered scopes → of_tip code (env_of cells scopes) k ≡ token s (param (is.Is v)) → ⊥

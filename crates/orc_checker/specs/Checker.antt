@@ -1,8 +1,7 @@
 -- The state of the checker, and the places that it spells.
-use Rattle.std.specs.Prelude.{◌≡◌, ℕ, zero, suc, Bool, List, [], ◌∷◌, length, Some, slice_get}
+use Rattle.std.specs.Prelude.{◌≡◌, ℕ, zero, suc, Bool, List, [], ◌∷◌, length}
 use Rattle.orc_checker.specs.declared.arena.Node.{Node}
 use Rattle.orc_names.specs.declared.names.Bound.{Bound}
-use Rattle.orc_names.specs.declared.names.Bound.TheVariants.{Cell}
 use Rattle.orc_names.specs.declared.names.Scope.{Scope}
 use Rattle.orc_rules.specs.declared.entry.Entry.{Entry}
 use Rattle.orc_rules.specs.Term.{Term}
@@ -14,6 +13,7 @@ use Rattle.orc_rules.specs.Journal.{Place, Leads, Journal, begin}
 use Rattle.orc_checker.specs.Arena.{Tree, Holds, StandOnce, IsTopped, spelled, place}
 use Rattle.orc_names.specs.Scopes.{env_of}
 use Rattle.orc_names.specs.Names.{AreOrdered}
+use Rattle.orc_names.specs.Parameters.{AreOwn}
 use Rattle.orc_checker.specs.Calls.{Rest, Keeps}
 use Rattle.orc_checker.specs.Settling.{HasFlags}
 
@@ -31,10 +31,6 @@ pub record State : Type 0 where
 abbrev pub numbers : ℕ → List ℕ
 numbers zero = []
 numbers (suc n) = suc n ∷ numbers n
-
--- a cell that isn't bound stands for itself
-abbrev pub AreOwn : List Bound → Type 0
-AreOwn cells = (c d : ℕ) → slice_get cells c ≡ Some (Cell d) → c ≡ d
 
 -- the cells opened are those that the table has
 abbrev pub AreCells : List ℕ → List Bound → Type 0

@@ -1,15 +1,14 @@
--- The scopes that a call of a definition adds for its parameters.
-use Rattle.std.specs.Prelude.{◌≡◌, ◌≤◌, ℕ, List, ◌++◌, length, map}
+-- When a call of a definition has no scopes for its parameters.
+use Rattle.std.specs.Prelude.{◌≡◌, ◌⊎◌, ℕ, List, length, Some, slice_get}
+use Rattle.orc_rules.specs.declared.entry.RuleFault.{RuleFault}
+use Rattle.orc_rules.specs.declared.entry.RuleFault.TheVariants as reason
 use Rattle.orc_rules.specs.declared.param.Operand.{Operand}
-use Rattle.orc_rules.specs.Term.{Term, put_all}
-use Rattle.orc_rules.specs.Nodes.{param_of}
 use Rattle.orc_names.specs.declared.names.Bound.{Bound}
 use Rattle.orc_names.specs.declared.names.Scope.{Scope}
-use Rattle.orc_names.specs.Scopes.{close, close_param, env_of}
-use Rattle.orc_names.specs.Names.{AreOrdered}
-use Rattle.orc_checker.specs.Checker.{AreOwn}
+use Rattle.orc_names.specs.Names.{IsFree}
 
--- with `more` behind the scopes ss, the names of scope n are xs, and what stands for them are the operands as they are in scope e
-abbrev pub Adds : List Bound → List Scope → ℕ → List ℕ → List Operand → List Scope → ℕ → Type 0
-Adds cells ss e xs ps more n = (n ≤ length (ss ++ more)) × (AreOrdered ss → AreOrdered (ss ++ more))
-    × (AreOrdered ss → AreOwn cells → (f : Term) → close (env_of cells (ss ++ more) n) f ≡ put_all xs (map (close_param (env_of cells ss e)) (map param_of ps)) f)
+-- why no scopes are added: the operands aren't as many as the names, or nothing stands for one of them; memory may be refused too
+abbrev pub LacksArguments : List Bound → List Scope → ℕ → List ℕ → List Operand → RuleFault → Type 0
+LacksArguments cells ss e xs ps reason.Form = (length xs ≡ length ps → ⊥) ⊎ ((i : ℕ) × (p : Operand) × (slice_get ps i ≡ Some p) × IsFree cells ss e p)
+LacksArguments cells ss e xs ps reason.Memory = Unit {0}
+LacksArguments cells ss e xs ps _ = ⊥

@@ -2,11 +2,12 @@
 use Rattle.std.specs.Prelude.{◌≡◌, ◌≢◌, ℕ, List, [], Bool}
 use Rattle.orc_rules.specs.declared.value.Value.{Value}
 use Rattle.orc_rules.specs.declared.entry.Entry.{Entry}
-use Rattle.orc_rules.specs.declared.entry.Entry.TheVariants.{Def, Send, Call, Bind, Publish}
-use Rattle.orc_rules.specs.declared.entry.Entry.TheVariants as entry
+use Rattle.orc_rules.specs.declared.entry.Entry.TheVariants.{Def}
 use Rattle.orc_rules.specs.declared.entry.RuleFault.{RuleFault}
 use Rattle.orc_rules.specs.declared.entry.RuleFault.TheVariants as reason
-use Rattle.orc_rules.specs.Nodes.{Listing, code, source}
+use Rattle.orc_rules.specs.Nodes.{Listing, code, definitions, source}
+use Rattle.orc_rules.specs.Program.{IsProgram}
+use Rattle.orc_rules.specs.Term.{Term}
 use Rattle.orc_rules.specs.Sites.{Table}
 use Rattle.orc_rules.specs.Journal.{Place}
 use Rattle.orc_rules.specs.Refusal.{Meets}
@@ -17,7 +18,7 @@ use Rattle.orc_checker.specs.declared.arena.Tip.TheVariants.{Bears, Waits}
 use Rattle.orc_checker.specs.declared.arena.Single.TheVariants.{Entered}
 use Rattle.orc_checker.specs.declared.arena.Double.TheVariants.{Side}
 use Rattle.orc_checker.specs.Arena.{at}
-use Rattle.orc_checker.specs.Bearers.{Carries}
+use Rattle.orc_checker.specs.Bearers.{BearsOther, Carries}
 use Rattle.orc_checker.specs.Checker.{State, Spells, context, IsReached}
 
 -- the entry breaks the condition of that reason at each place that s spells and that a journal of the program and its sites leads to
@@ -28,15 +29,10 @@ Breaks l t e s r = (cancels : Bool) (p : Place) → IsReached (context l t cance
 abbrev pub IsRightlyRefused : Listing → Table → Entry → State → RuleFault → Type 0
 IsRightlyRefused l t e s r = r ≢ reason.Memory → Breaks l t e s r
 
--- of this kind of entry each refusal but Memory is told to be right
-abbrev pub IsExact : Entry → Type 0
-IsExact (Def s a) = ⊥
-IsExact (entry.Void s) = ⊥
-IsExact (Send s a v) = ⊥
-IsExact (Call s k m args) = ⊥
-IsExact (Bind s c v) = ⊥
-IsExact (Publish s v) = ⊥
-IsExact _ = Unit {0}
+-- a call of a definition is rightly refused where the program is closed, as each program of a source is; every other entry anyhow
+abbrev pub Presumes : Listing → Entry → Type 0
+Presumes l (Def s a) = IsProgram (definitions l) (source l)
+Presumes l _ = Unit {0}
 
 -- no node has the token
 abbrev pub NoToken : List Node → ℕ → Type 0
@@ -64,3 +60,8 @@ Lacks s none _ = ⊥
 abbrev pub LacksSpot : State → ℕ → RuleFault → Type 0
 LacksSpot s m reason.Form = (p i : ℕ) × (v : Value) × at s.nodes p i (Leaf (Bears m v))
 LacksSpot s m r = Lacks s (NoToken s.nodes m) r
+
+-- why no token is found that stands on the value: no token is found, or it stands on something else
+abbrev pub LacksBearer : (ℕ → Term) → State → ℕ → Value → RuleFault → Type 0
+LacksBearer code s m v reason.Form = (p i : ℕ) × (k : Tip) × at s.nodes p i (Leaf k) × Carries m k × BearsOther code s.cells s.scopes m k v
+LacksBearer code s m v r = Lacks s (NoToken s.nodes m) r

@@ -4,6 +4,7 @@ ghost use Rattle.std.specs.Prelude.{◌≡◌, ℕ, [], length, suc, IfOk, IfErr
 ghost use Rattle.orc_rules.specs.Term.{Term};
 ghost use Rattle.orc_rules.specs.Nodes.{code};
 ghost use Rattle.orc_rules.specs.declared.entry.Entry.TheVariants as entry;
+ghost use Rattle.orc_rules.specs.declared.entry.RuleFault.TheVariants as reason;
 ghost use Rattle.orc_checker.specs.Arena.{at};
 ghost use Rattle.orc_checker.specs.Calls.{IsCall};
 ghost use Rattle.orc_checker.specs.Checker.{EntersBy};
@@ -46,6 +47,7 @@ impl Marked {
     ) -> Result<(), RuleFault>
         ensures done { IfOk result (λ _. EntersBy answers.now.sites (code program.now) (entry.Call s k site args.now) self.old self.new) }
         ensures refused { OnErr result (self.new ≡ self.old) }
+        ensures reason { IfErr result (λ r. IsRightlyRefused program.now answers.now (entry.Call s k site args.now) self.old r) }
     {
         let spot = self.spot(s)?;
         let TermNode::Site(named, list) = program.node(spot.node) else {
@@ -83,7 +85,8 @@ impl Marked {
 
     /// The error is Number: `k` isn't the next call.
     fn expect_call(&self, k: u64) -> Result<(), RuleFault>
-        ensures { IfOk result (λ _. k ≡ suc (length self.now.rest.calls)) }
+        ensures next { IfOk result (λ _. k ≡ suc (length self.now.rest.calls)) }
+        ensures refused { IfErr result (λ r. (r ≡ reason.Number) × (k ≡ suc (length self.now.rest.calls) → ⊥)) }
     {
         if k != 0 && k - 1 == self.rest.calls_made() as u64 {
             Ok(())

@@ -1,19 +1,19 @@
 // The sides that may have halted.
 
-ghost use Rattle.std.specs.Prelude.{◌≡◌, ◌++◌, ◌∷◌, ℕ, false, [], IfOk, IfSome, IfNone};
-ghost use Rattle.orc_checker.specs.Sides.{MayBe, AreKnown, is_side, is_side_at, has_ended, is_set, DoesEnd};
+ghost use Rattle.std.specs.Prelude.{◌≡◌, ◌∷◌, ℕ, false, [], IfOk, Some, slice_get};
+ghost use Rattle.orc_checker.specs.Sides.{MayBe, AreKnown, is_side, is_side_at, has_ended, is_set, HasEnded};
 
 use crate::arena::{Double, Kind, Single};
 use crate::nodes::Nodes;
-use crate::room::push_within;
 use std::alloc::{AllocError, Global};
+use std::collections::VecDeque;
 use std::marker::Model;
 
 /// The places of the sides that may have halted: of all that have, and of some that haven't, or that stand no more. Where memory for a
 /// place was refused, all places are meant from then on.
 #[derive(Drop)]
 pub(crate) struct Candidates {
-    places: Vec<usize>,
+    places: VecDeque<usize>,
     all: bool,
 }
 
@@ -61,16 +61,16 @@ fn has_ended(nodes: &Nodes, flags: &Vec<bool>, place: usize) -> bool
     is_set(flags, place) && is_side_at(nodes, place)
 }
 
-/// Whether a side has halted, looked for at all places.
-fn does_any_end(nodes: &Nodes, flags: &Vec<bool>) -> bool
-    ensures { DoesEnd nodes.now.items flags.now.items result }
+/// A side that has halted, looked for at all places.
+fn any_ended(nodes: &Nodes, flags: &Vec<bool>) -> Option<usize>
+    ensures { HasEnded nodes.now.items flags.now.items result }
 {
     for place in 0..flags.len() {
         if has_ended(nodes, flags, place) {
-            return true;
+            return Some(place);
         }
     }
-    false
+    None
 }
 
 impl Candidates {
@@ -79,7 +79,7 @@ impl Candidates {
         ensures { result ≡ record { all = false; listed = [] } }
     {
         Candidates {
-            places: Vec::new(alloc),
+            places: VecDeque::new(alloc),
             all: false,
         }
     }
@@ -88,7 +88,7 @@ impl Candidates {
     pub(crate) fn copy(&self, alloc: Global) -> Result<Candidates, AllocError>
         ensures { IfOk result (λ c. c ≡ self.now) }
     {
-        let places = Vec::from_slice(alloc, &self.places)?;
+        let places = self.places.clone()?;
         Ok(Candidates {
             places,
             all: self.all,
@@ -104,7 +104,7 @@ impl Candidates {
             self.all = true;
             return;
         }
-        push_within(&mut self.places, place);
+        self.places.push_back_reserved(place);
     }
 
     /// Whether all places are meant.
@@ -114,30 +114,40 @@ impl Candidates {
         self.all
     }
 
-    /// Takes out the place added last.
-    fn pop(&mut self) -> Option<usize>
-        ensures all { self.new.all ≡ self.old.all }
-        ensures last { IfSome result (λ p. self.old.listed ≡ self.new.listed ++ p ∷ []) }
-        ensures none { IfNone result (self.old.listed ≡ []) }
+    /// The place added first.
+    fn first(&self) -> Option<usize>
+        ensures { result ≡ slice_get self.now.listed 0 }
     {
-        self.places.pop()
+        self.places.front().copied()
+    }
+
+    /// Takes out the place added first.
+    fn drop_first(&mut self)
+        ensures all { self.new.all ≡ self.old.all }
+        ensures rest { (p : ℕ) → slice_get self.old.listed 0 ≡ Some p → self.old.listed ≡ p ∷ self.new.listed }
+    {
+        let _first = self.places.pop_front();
     }
 }
 
-/// Whether a side has halted. The candidates looked at that haven't go.
-pub(crate) fn does_side_end(nodes: &Nodes, flags: &Vec<bool>, candidates: &mut Candidates) -> bool
+/// A side that has halted, the first that became a candidate. The candidates before it, which haven't, go.
+pub(crate) fn ended_side(
+    nodes: &Nodes,
+    flags: &Vec<bool>,
+    candidates: &mut Candidates,
+) -> Option<usize>
     requires { AreKnown nodes.now.items flags.now.items candidates.old }
-    ensures ends { DoesEnd nodes.now.items flags.now.items result }
+    ensures ends { HasEnded nodes.now.items flags.now.items result }
     ensures known { AreKnown nodes.now.items flags.now.items candidates.new }
 {
     if candidates.are_all() {
-        return does_any_end(nodes, flags);
+        return any_ended(nodes, flags);
     }
-    while let Some(place) = candidates.pop() {
+    while let Some(place) = candidates.first() {
         if has_ended(nodes, flags, place) {
-            candidates.add(place);
-            return true;
+            return Some(place);
         }
+        candidates.drop_first();
     }
-    false
+    None
 }

@@ -1,7 +1,8 @@
 // The nodes that wait, by the due times of their calls.
 
-ghost use Rattle.std.specs.Prelude.{◌≡◌, ℕ, [], List, IfOk, IfSome, OnOk, MatchOption};
+ghost use Rattle.std.specs.Prelude.{◌≡◌, ℕ, [], List, IfErr, IfOk, IfSome, OnOk, MatchOption};
 ghost use Rattle.orc_checker.specs.DueTimes.{IsFirst, IsNoted, Drops};
+ghost use Rattle.orc_rules.specs.declared.entry.RuleFault.TheVariants as reason;
 
 use orc_rules::entry::RuleFault;
 use std::alloc::{AllocError, Global};
@@ -53,6 +54,7 @@ impl Due {
     pub(crate) fn note(&mut self, time: Option<u64>, node: usize) -> Result<(), RuleFault>
         ensures noted { OnOk result (IfSome time (λ t. IsNoted self.new t node)) }
         ensures kept { (t i : ℕ) → IsNoted self.old t i → IsNoted self.new t i }
+        ensures why { IfErr result (λ r. r ≡ reason.Memory) }
     {
         self.put(time, node).map_err(|_| RuleFault::Memory)
     }

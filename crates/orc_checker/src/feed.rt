@@ -1,9 +1,11 @@
 // Publications that a `>x>` takes.
 
-ghost use Rattle.std.specs.Prelude.{◌≡◌, ◌+◌, ◌<◌, ◌≤◌, false, length, Some, IfOk, OnErr};
+ghost use Rattle.std.specs.Prelude.{◌≡◌, ◌+◌, ◌<◌, ◌≤◌, false, length, Some, IfErr, IfOk, OnErr};
 ghost use Rattle.orc_rules.specs.Nodes.{code};
 ghost use Rattle.orc_rules.specs.declared.entry.Entry.TheVariants as entry;
+ghost use Rattle.orc_rules.specs.Sites.{Table};
 ghost use Rattle.orc_checker.specs.Checker.{Enters};
+ghost use Rattle.orc_checker.specs.Refusing.{IsRightlyRefused};
 ghost use Rattle.orc_checker.specs.Grafting.{Grafts};
 ghost use Rattle.orc_checker.specs.Index.{name_of, Renames};
 ghost use Rattle.orc_checker.specs.NextDue.{waits, NoMoreWait};
@@ -56,6 +58,7 @@ impl Marked {
     ) -> Result<(), RuleFault>
         ensures done { IfOk result (λ _. Enters (code program.now) (entry.Send s a v) self.old self.new) }
         ensures refused { OnErr result (self.new ≡ self.old) }
+        ensures reason { IfErr result (λ r. (t : Table) → IsRightlyRefused program.now t (entry.Send s a v) self.old r) }
     {
         let bearer = self.bearer(program, s, v)?;
         let Some(taker) = way_up(&self.nodes, bearer.at) else {

@@ -1,12 +1,15 @@
 // The checker: a marked term that takes a journal's entries.
 
-ghost use Rattle.std.specs.Prelude.{◌≡◌, ℕ, suc, [], length, IfOk, IfErr, IfSome, IfNone, OnErr};
+ghost use Rattle.std.specs.Prelude.{◌≡◌, ℕ, suc, [], length, Some, IfOk, IfErr, IfSome, IfNone, OnErr};
 ghost use Rattle.orc_rules.specs.Journal.{begin};
 ghost use Rattle.orc_rules.specs.Nodes.{code, source};
+ghost use Rattle.orc_names.specs.Names.{AreOrdered, Means};
+ghost use Rattle.orc_names.specs.declared.names.Bound.TheVariants.{Is as IsValue};
 ghost use Rattle.orc_checker.specs.Arena.{at, living_kind};
 ghost use Rattle.orc_checker.specs.Checker.{Applies, Begins};
-ghost use Rattle.orc_checker.specs.Bearers.{BearsValue, Carries};
-ghost use Rattle.orc_checker.specs.Refusing.{IsExact, IsRightlyRefused, Lacks, LacksSpot, NoToken};
+ghost use Rattle.orc_checker.specs.Bearers.{BearsOther, BearsValue, Carries};
+ghost use Rattle.orc_checker.specs.Refusing.{IsRightlyRefused, Lacks, LacksBearer, LacksSpot, NoToken, Presumes};
+ghost use Rattle.orc_rules.specs.declared.value.Value.{Value as TheValue};
 ghost use Rattle.orc_rules.specs.declared.entry.RuleFault.TheVariants as reason;
 ghost use Rattle.orc_checker.specs.declared.arena.Kind.TheVariants.{Leaf as AtLeaf};
 ghost use Rattle.orc_checker.specs.declared.arena.Tip.TheVariants.{Token as IsToken};
@@ -22,6 +25,7 @@ use crate::room::push_within;
 use orc_names::{Bound, Scope, meaning};
 use orc_rules::answers::Answers;
 use orc_rules::entry::{Entry, RuleFault};
+use orc_rules::param::Operand;
 use orc_rules::program::{Program, TermNode};
 use orc_rules::value::Value;
 use std::alloc::{AllocError, Global};
@@ -115,6 +119,17 @@ pub(crate) fn expect_after(a: u64, b: u64) -> Result<(), RuleFault>
     }
 }
 
+/// The value that an operand is in a scope.
+fn value_of(scopes: &[Scope], cells: &[Bound], operand: Operand, scope: usize) -> Option<Value>
+    ensures value { IfSome result (λ v. Means cells.now scopes.now scope operand (IsValue v)) }
+    ensures other { (v : TheValue) → (result ≡ Some v → ⊥) → Means cells.now scopes.now scope operand (IsValue v) → AreOrdered scopes.now → ⊥ }
+{
+    match meaning(scopes, cells, operand, scope) {
+        Some(Bound::Is(v)) => Some(v),
+        _ => None,
+    }
+}
+
 impl Marked {
     /// Mark 1 on the whole of a program's term, at time 0; `cancels` says whether the cancels of a bind are recorded. The error is refused memory.
     pub fn new(alloc: Global, program: &Program, cancels: bool) -> Result<Self, AllocError>
@@ -184,7 +199,8 @@ impl Marked {
         })
     }
 
-    /// Applies one entry; after a RuleFault nothing has changed.
+    /// Applies one entry. After a RuleFault nothing has changed; each but Memory names a condition that the entry breaks, not always the first
+    /// such one.
     pub fn step(
         &mut self,
         program: &Program,
@@ -193,7 +209,7 @@ impl Marked {
     ) -> Result<(), RuleFault>
         ensures done { IfOk result (λ _. Applies program.now answers.now entry.now self.old self.new) }
         ensures refused { OnErr result (self.new ≡ self.old) }
-        ensures reason { IfErr result (λ r. IsExact entry.now → IsRightlyRefused program.now answers.now entry.now self.old r) }
+        ensures reason { IfErr result (λ r. Presumes program.now entry.now → IsRightlyRefused program.now answers.now entry.now self.old r) }
     {
         match entry {
             Entry::End(s) => self.end(program, *s),
@@ -269,6 +285,7 @@ impl Marked {
         ensures lives { IfOk result (λ t. living_kind (AtLeaf t.tip) ≡ 1) }
         ensures carries { IfOk result (λ t. Carries s t.tip) }
         ensures bears { IfOk result (λ t. BearsValue (code program.now) self.now.cells self.now.scopes s t.tip v) }
+        ensures refused { IfErr result (LacksBearer (code program.now) self.now s v) }
     {
         let holder = self.holder(s)?;
         match self.value_under(program, holder.tip) {
@@ -281,18 +298,16 @@ impl Marked {
     pub(crate) fn value_under(&self, program: &Program, tip: Tip) -> Option<Value>
         ensures lives { IfSome result (λ v. living_kind (AtLeaf tip) ≡ 1) }
         ensures bears { IfSome result (λ v. (s : ℕ) → Carries s tip → BearsValue (code program.now) self.now.cells self.now.scopes s tip v) }
+        ensures other { (s : ℕ) (v : TheValue) → (result ≡ Some v → ⊥) → BearsOther (code program.now) self.now.cells self.now.scopes s tip v }
     {
         match tip {
             Tip::Bears(_, v) => Some(v),
-            Tip::Token(_, node, scope) => {
-                let TermNode::Operand(operand) = program.node(node) else {
-                    return None;
-                };
-                match meaning(&self.scopes, &self.cells, operand, scope)? {
-                    Bound::Is(v) => Some(v),
-                    _ => None,
+            Tip::Token(_, node, scope) => match program.node(node) {
+                TermNode::Operand(operand) => {
+                    value_of(&self.scopes, &self.cells, operand, scope)
                 }
-            }
+                _ => None,
+            },
             _ => None,
         }
     }

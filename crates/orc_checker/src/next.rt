@@ -43,7 +43,7 @@ pub enum Next {
     Wait,
 }
 
-// Adds the values of operands, which are at most 16; false where one of them is none.
+// Adds the values of operands, which are `MOST_ARGUMENTS` at most; false where one of them is none.
 fn push_values(
     scopes: &[Scope],
     cells: &[Bound],

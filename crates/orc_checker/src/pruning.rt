@@ -183,6 +183,7 @@ impl Marked {
     ) -> Result<(), RuleFault>
         ensures done { IfOk result (λ _. (t : Table) → Applies program.now t (entry.Bind s c v) self.old self.new) }
         ensures refused { OnErr result (self.new ≡ self.old) }
+        ensures reason { IfErr result (λ r. (t : Table) → IsRightlyRefused program.now t (entry.Bind s c v) self.old r) }
     {
         let bearer = self.bearer(program, s, v)?;
         self.unbound(c)?;

@@ -1,8 +1,10 @@
 // Publications of the whole.
 
-ghost use Rattle.std.specs.Prelude.{◌≡◌, IfOk, OnErr};
+ghost use Rattle.std.specs.Prelude.{◌≡◌, IfErr, IfOk, OnErr};
 ghost use Rattle.orc_rules.specs.Nodes.{code};
+ghost use Rattle.orc_rules.specs.Sites.{Table};
 ghost use Rattle.orc_checker.specs.Checker.{Enters};
+ghost use Rattle.orc_checker.specs.Refusing.{IsRightlyRefused};
 ghost use Rattle.orc_rules.specs.declared.entry.Entry.TheVariants as entry;
 
 use crate::arena::{Kind, Node, Tip};
@@ -18,6 +20,7 @@ impl Marked {
     pub(crate) fn publish(&mut self, program: &Program, s: u64, v: Value) -> Result<(), RuleFault>
         ensures done { IfOk result (λ _. Enters (code program.now) (entry.Publish s v) self.old self.new) }
         ensures refused { OnErr result (self.new ≡ self.old) }
+        ensures reason { IfErr result (λ r. (t : Table) → IsRightlyRefused program.now t (entry.Publish s v) self.old r) }
     {
         let bearer = self.bearer(program, s, v)?;
         let Some(taker) = way_up(&self.nodes, bearer.at) else {

@@ -9,7 +9,7 @@ ghost use Rattle.orc_rules.specs.Pending.{IsNextDue};
 ghost use Rattle.orc_rules.specs.Timed.{Context, IsQuiet};
 ghost use Rattle.orc_checker.specs.Checker.{Spells};
 
-use crate::candidates::does_side_end;
+use crate::candidates::ended_side;
 use crate::marked::Marked;
 use crate::stillness::can_some_move;
 use orc_rules::laws::{program_is_source, tests_are_right};
@@ -30,7 +30,7 @@ impl Marked {
         ensures moves { (x : Context) (p : Place) → x.definitions ≡ definitions program.now → Spells x (code program.now) self.old p → result ≡ can_move x.definitions (erase p.marked) }
         ensures same { self.new ≡ self.old }
     {
-        if does_side_end(&self.nodes, &self.flags, &mut self.candidates) {
+        if let Some(_) = ended_side(&self.nodes, &self.flags, &mut self.candidates) {
             return true;
         }
         self.nodes.tidy();

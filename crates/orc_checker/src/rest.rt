@@ -44,6 +44,7 @@ impl Model for Rest {
 fn count(counts: &mut Counts, answers: &Answers, site: u32, args: &Args) -> Result<(), RuleFault>
     ensures added { OnOk result (CountsCall answers.now.sites site args.now counts.old counts.new) }
     ensures refused { OnErr result (counts.new ≡ counts.old) }
+    ensures why { IfErr result (λ r. r ≡ reason.Memory) }
 {
     match counts.add(answers, site, args) {
         Ok(()) => Ok(()),
@@ -98,6 +99,7 @@ impl Rest {
     ) -> Result<(), RuleFault>
         ensures added { OnOk result (AddsCall answers.now.sites called site args.now self.old self.new) }
         ensures refused { OnErr result (self.new ≡ self.old) }
+        ensures why { IfErr result (λ r. r ≡ reason.Memory) }
     {
         self.calls.try_reserve(1).map_err(|_| RuleFault::Memory)?;
         count(&mut self.counts, answers, site, args)?;

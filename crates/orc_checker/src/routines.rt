@@ -1,12 +1,16 @@
 // Calls of definitions.
 
-ghost use Rattle.std.specs.Prelude.{◌≡◌, ◌++◌, ◌∷◌, [], Some, None, slice_get, IfOk, IfSome, IfNone, OnErr, OnOk};
-ghost use Rattle.orc_rules.specs.Nodes.{definitions, definition_of};
+ghost use Rattle.std.specs.Prelude.{◌≡◌, ◌++◌, ◌∷◌, [], Some, None, slice_get, IfErr, IfOk, IfSome, IfNone, OnErr, OnOk};
+ghost use Rattle.orc_rules.specs.Nodes.{definitions, definition_of, source};
+ghost use Rattle.orc_rules.specs.Program.{IsProgram};
 ghost use Rattle.orc_rules.specs.Programs.{routine_of};
 ghost use Rattle.orc_rules.specs.Sites.{Table};
 ghost use Rattle.orc_checker.specs.Checker.{Applies};
-ghost use Rattle.orc_checker.specs.Parameters.{Adds};
+ghost use Rattle.orc_names.specs.Parameters.{Adds};
+ghost use Rattle.orc_checker.specs.Parameters.{LacksArguments};
+ghost use Rattle.orc_checker.specs.Refusing.{IsRightlyRefused};
 ghost use Rattle.orc_rules.specs.declared.entry.Entry.TheVariants as entry;
+ghost use Rattle.orc_rules.specs.declared.entry.RuleFault.TheVariants as reason;
 
 use crate::arena::{Kind, Node, Tip};
 use crate::flags::settle;
@@ -32,6 +36,7 @@ pub(crate) fn definition(program: &Program, number: u32) -> Option<&Definition>
 /// One scope more, or refused memory.
 fn push_scope(scopes: &mut Vec<Scope>, scope: Scope) -> Result<(), RuleFault>
     ensures items { OnOk result (scopes.new.items ≡ scopes.old.items ++ scope ∷ []) }
+    ensures why { IfErr result (λ r. r ≡ reason.Memory) }
 {
     scopes.push(scope).map_err(|_| RuleFault::Memory)
 }
@@ -40,6 +45,7 @@ fn push_scope(scopes: &mut Vec<Scope>, scope: Scope) -> Result<(), RuleFault>
 fn extend_scopes(scopes: &mut Vec<Scope>, added: &Vec<Scope>) -> Result<(), RuleFault>
     ensures items { OnOk result (scopes.new.items ≡ scopes.old.items ++ added.now.items) }
     ensures refused { OnErr result (scopes.new.items ≡ scopes.old.items) }
+    ensures why { IfErr result (λ r. r ≡ reason.Memory) }
 {
     scopes
         .extend_from_slice(added)
@@ -56,7 +62,8 @@ fn parameter_scopes(
     operands: &[Operand],
     scope: usize,
 ) -> Result<(Vec<Scope>, usize), RuleFault>
-    ensures { IfOk result (λ r. Adds cells.now scopes.now scope params.now operands.now r.0.items r.1) }
+    ensures added { IfOk result (λ r. Adds cells.now scopes.now scope params.now operands.now r.0.items r.1) }
+    ensures refused { IfErr result (LacksArguments cells.now scopes.now scope params.now operands.now) }
 {
     if params.len() != operands.len() {
         return Err(RuleFault::Form);
@@ -85,6 +92,7 @@ impl Marked {
     pub(crate) fn def(&mut self, program: &Program, s: u64, a: u64) -> Result<(), RuleFault>
         ensures done { IfOk result (λ _. (t : Table) → Applies program.now t (entry.Def s a) self.old self.new) }
         ensures refused { OnErr result (self.new ≡ self.old) }
+        ensures reason { IfErr result (λ r. (t : Table) → IsProgram (definitions program.now) (source program.now) → IsRightlyRefused program.now t (entry.Def s a) self.old r) }
     {
         let spot = self.spot(s)?;
         let TermNode::Call(number, list) = program.node(spot.node) else {

@@ -1,12 +1,14 @@
 // What stands on void ends.
 
-ghost use Rattle.std.specs.Prelude.{◌≡◌, true, false, IfOk, OnErr};
+ghost use Rattle.std.specs.Prelude.{◌≡◌, true, false, IfErr, IfOk, OnErr};
 ghost use Rattle.orc_rules.specs.Idle.{has_halted, has_void};
 ghost use Rattle.orc_rules.specs.Journal.{IsVoid};
 ghost use Rattle.orc_rules.specs.Nodes.{code, param_of};
 ghost use Rattle.orc_rules.specs.Term.{param};
 ghost use Rattle.orc_names.specs.Scopes.{close, close_param, env_of};
+ghost use Rattle.orc_rules.specs.Sites.{Table};
 ghost use Rattle.orc_checker.specs.Checker.{Enters};
+ghost use Rattle.orc_checker.specs.Refusing.{IsRightlyRefused};
 ghost use Rattle.orc_names.specs.Names.{AreOrdered};
 ghost use Rattle.orc_checker.specs.Stillness.{params_in};
 ghost use Rattle.orc_rules.specs.declared.entry.Entry.TheVariants as entry;
@@ -21,7 +23,8 @@ use orc_rules::program::{Program, TermNode};
 
 /// Whether an operand is void in a scope.
 fn is_void(scopes: &[Scope], cells: &[Bound], operand: Operand, scope: usize) -> bool
-    ensures { result ≡ true → AreOrdered scopes.now → IsVoid (param (close_param (env_of cells.now scopes.now scope) (param_of operand))) }
+    ensures void { result ≡ true → AreOrdered scopes.now → IsVoid (param (close_param (env_of cells.now scopes.now scope) (param_of operand))) }
+    ensures other { result ≡ false → AreOrdered scopes.now → IsVoid (param (close_param (env_of cells.now scopes.now scope) (param_of operand))) → ⊥ }
 {
     match meaning(scopes, cells, operand, scope) {
         Some(Bound::Void) => true,
@@ -51,6 +54,7 @@ impl Marked {
     /// Whether a token stands on void, or on a call of a site with a void argument.
     fn on_void(&self, program: &Program, spot: Spot) -> bool
         ensures void { result ≡ true → AreOrdered self.now.scopes → IsVoid (close (env_of self.now.cells self.now.scopes spot.scope) (code program.now spot.node)) }
+        ensures other { result ≡ false → AreOrdered self.now.scopes → IsVoid (close (env_of self.now.cells self.now.scopes spot.scope) (code program.now spot.node)) → ⊥ }
         ensures running { result ≡ true → has_halted (code program.now spot.node) ≡ false }
     {
         match program.node(spot.node) {
@@ -71,6 +75,7 @@ impl Marked {
     pub(crate) fn void(&mut self, program: &Program, s: u64) -> Result<(), RuleFault>
         ensures done { IfOk result (λ _. Enters (code program.now) (entry.Void s) self.old self.new) }
         ensures refused { OnErr result (self.new ≡ self.old) }
+        ensures reason { IfErr result (λ r. (t : Table) → IsRightlyRefused program.now t (entry.Void s) self.old r) }
     {
         let spot = self.spot(s)?;
         if !self.on_void(program, spot) {

@@ -91,7 +91,7 @@ impl Drop for Picture<'_> {
 /// The picture of a journal: each call from its entry to its answer, its halt or its cancel, each pruning with its winner, each otherwise
 /// whose right side began, and the publications, over logical time.
 ///
-/// The journal is one that was checked. A fault is a picture of over 2,000 rows, or refused memory.
+/// The journal is one that was checked. A fault is a picture of over `MOST_ROWS` rows, or refused memory.
 pub fn draw(alloc: Global, subject: &Subject, options: Options) -> Result<String, DrawFault> {
     let picture = Picture::new(alloc, subject, options.all)?;
     let written = match options.form {

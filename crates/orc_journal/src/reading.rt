@@ -6,7 +6,7 @@ ghost use Rattle.orc_journal.specs.Reading.{after, is_plain, number_at, value_at
 ghost use Rattle.orc_rules.specs.Text.{line, Fits};
 ghost use Rattle.orc_rules.specs.declared.limits.TheConstants.{MOST_ARGUMENTS};
 ghost use Rattle.orc_rules.specs.declared.entry.Entry.{Entry as EntryOf};
-ghost use Rattle.orc_rules.specs.declared.kind.Kind.TheVariants.{Call};
+ghost use Rattle.orc_rules.specs.declared.kind.Kind.TheVariants.{End, Fork, Seq, Other, Def, Void, Open, Send, Call, Return, ReturnHalt, Bind, Lost, Right, Publish, Tick, Cancel};
 
 use orc_rules::answers::Answers;
 use orc_rules::digits::digits_at;
@@ -241,7 +241,9 @@ fn kind_at(bytes: &[u8]) -> Option<(Kind, &[u8])>
     }
 }
 
-// The fields of a call. They have a function of their own, since no other entry has room for arguments.
+// The fields of an entry are put into `entry`, which is overwritten in its place: it has room for the arguments of a call, and to copy it takes longer
+// than to read a line. Each kind has a function of its own, since one for all would clear the room of all their fields at each line.
+
 #[inline(never)]
 #[tactic(auto, unfolding(crate::specs::Reading::fields_at))]
 fn call_at<'a>(bytes: &'a [u8], answers: &Answers, entry: &mut Entry) -> Option<&'a [u8]>
@@ -255,9 +257,171 @@ fn call_at<'a>(bytes: &'a [u8], answers: &Answers, entry: &mut Entry) -> Option<
     Some(rest)
 }
 
-// The fields of an entry of this kind are put into `entry`, which is overwritten in its place: it has room for the arguments of a call, and
-// to copy it takes longer than to read a line.
+#[inline(never)]
 #[tactic(auto, unfolding(crate::specs::Reading::fields_at))]
+fn end_at<'a>(bytes: &'a [u8], entry: &mut Entry) -> Option<&'a [u8]>
+    ensures { (names : List (List ℕ)) → Gives (λ r. (entry.new, r.now)) result (fields_at names End bytes.now) }
+{
+    let (s, rest) = number_field(bytes)?;
+    *entry = Entry::End(s);
+    Some(rest)
+}
+
+#[inline(never)]
+#[tactic(auto, unfolding(crate::specs::Reading::fields_at))]
+fn fork_at<'a>(bytes: &'a [u8], entry: &mut Entry) -> Option<&'a [u8]>
+    ensures { (names : List (List ℕ)) → Gives (λ r. (entry.new, r.now)) result (fields_at names Fork bytes.now) }
+{
+    let (s, rest) = number_field(bytes)?;
+    let ((a, b), rest) = pair_field(rest)?;
+    *entry = Entry::Fork(s, a, b);
+    Some(rest)
+}
+
+#[inline(never)]
+#[tactic(auto, unfolding(crate::specs::Reading::fields_at))]
+fn seq_at<'a>(bytes: &'a [u8], entry: &mut Entry) -> Option<&'a [u8]>
+    ensures { (names : List (List ℕ)) → Gives (λ r. (entry.new, r.now)) result (fields_at names Seq bytes.now) }
+{
+    let ((s, a), rest) = pair_field(bytes)?;
+    *entry = Entry::Seq(s, a);
+    Some(rest)
+}
+
+#[inline(never)]
+#[tactic(auto, unfolding(crate::specs::Reading::fields_at))]
+fn other_at<'a>(bytes: &'a [u8], entry: &mut Entry) -> Option<&'a [u8]>
+    ensures { (names : List (List ℕ)) → Gives (λ r. (entry.new, r.now)) result (fields_at names Other bytes.now) }
+{
+    let ((s, a), rest) = pair_field(bytes)?;
+    *entry = Entry::Other(s, a);
+    Some(rest)
+}
+
+#[inline(never)]
+#[tactic(auto, unfolding(crate::specs::Reading::fields_at))]
+fn def_at<'a>(bytes: &'a [u8], entry: &mut Entry) -> Option<&'a [u8]>
+    ensures { (names : List (List ℕ)) → Gives (λ r. (entry.new, r.now)) result (fields_at names Def bytes.now) }
+{
+    let ((s, a), rest) = pair_field(bytes)?;
+    *entry = Entry::Def(s, a);
+    Some(rest)
+}
+
+#[inline(never)]
+#[tactic(auto, unfolding(crate::specs::Reading::fields_at))]
+fn void_at<'a>(bytes: &'a [u8], entry: &mut Entry) -> Option<&'a [u8]>
+    ensures { (names : List (List ℕ)) → Gives (λ r. (entry.new, r.now)) result (fields_at names Void bytes.now) }
+{
+    let (s, rest) = number_field(bytes)?;
+    *entry = Entry::Void(s);
+    Some(rest)
+}
+
+#[inline(never)]
+#[tactic(auto, unfolding(crate::specs::Reading::fields_at))]
+fn open_at<'a>(bytes: &'a [u8], entry: &mut Entry) -> Option<&'a [u8]>
+    ensures { (names : List (List ℕ)) → Gives (λ r. (entry.new, r.now)) result (fields_at names Open bytes.now) }
+{
+    let (s, rest) = number_field(bytes)?;
+    let (c, rest) = number_field(rest)?;
+    let ((a, b), rest) = pair_field(rest)?;
+    *entry = Entry::Open(s, c, a, b);
+    Some(rest)
+}
+
+#[inline(never)]
+#[tactic(auto, unfolding(crate::specs::Reading::fields_at))]
+fn send_at<'a>(bytes: &'a [u8], entry: &mut Entry) -> Option<&'a [u8]>
+    ensures { (names : List (List ℕ)) → Gives (λ r. (entry.new, r.now)) result (fields_at names Send bytes.now) }
+{
+    let (s, rest) = number_field(bytes)?;
+    let ((a, v), rest) = sent_field(rest)?;
+    *entry = Entry::Send(s, a, v);
+    Some(rest)
+}
+
+#[inline(never)]
+#[tactic(auto, unfolding(crate::specs::Reading::fields_at))]
+fn return_at<'a>(bytes: &'a [u8], entry: &mut Entry) -> Option<&'a [u8]>
+    ensures value { (names : List (List ℕ)) → Gives (λ r. (entry.new, r.now)) result (fields_at names Return bytes.now) }
+    ensures halt { (names : List (List ℕ)) → Gives (λ r. (entry.new, r.now)) result (fields_at names ReturnHalt bytes.now) }
+{
+    let (k, rest) = number_field(bytes)?;
+    let (outcome, rest) = outcome_field(rest)?;
+    match outcome {
+        None => {
+            *entry = Entry::ReturnHalt(k);
+        }
+        Some((a, v)) => {
+            *entry = Entry::Return(k, a, v);
+        }
+    }
+    Some(rest)
+}
+
+#[inline(never)]
+#[tactic(auto, unfolding(crate::specs::Reading::fields_at))]
+fn bind_at<'a>(bytes: &'a [u8], entry: &mut Entry) -> Option<&'a [u8]>
+    ensures { (names : List (List ℕ)) → Gives (λ r. (entry.new, r.now)) result (fields_at names Bind bytes.now) }
+{
+    let (s, rest) = number_field(bytes)?;
+    let ((c, v), rest) = sent_field(rest)?;
+    *entry = Entry::Bind(s, c, v);
+    Some(rest)
+}
+
+#[inline(never)]
+#[tactic(auto, unfolding(crate::specs::Reading::fields_at))]
+fn lost_at<'a>(bytes: &'a [u8], entry: &mut Entry) -> Option<&'a [u8]>
+    ensures { (names : List (List ℕ)) → Gives (λ r. (entry.new, r.now)) result (fields_at names Lost bytes.now) }
+{
+    let (c, rest) = number_field(bytes)?;
+    *entry = Entry::Lost(c);
+    Some(rest)
+}
+
+#[inline(never)]
+#[tactic(auto, unfolding(crate::specs::Reading::fields_at))]
+fn right_at<'a>(bytes: &'a [u8], entry: &mut Entry) -> Option<&'a [u8]>
+    ensures { (names : List (List ℕ)) → Gives (λ r. (entry.new, r.now)) result (fields_at names Right bytes.now) }
+{
+    let ((s, a), rest) = pair_field(bytes)?;
+    *entry = Entry::Right(s, a);
+    Some(rest)
+}
+
+#[inline(never)]
+#[tactic(auto, unfolding(crate::specs::Reading::fields_at))]
+fn publish_at<'a>(bytes: &'a [u8], entry: &mut Entry) -> Option<&'a [u8]>
+    ensures { (names : List (List ℕ)) → Gives (λ r. (entry.new, r.now)) result (fields_at names Publish bytes.now) }
+{
+    let ((s, v), rest) = sent_field(bytes)?;
+    *entry = Entry::Publish(s, v);
+    Some(rest)
+}
+
+#[inline(never)]
+#[tactic(auto, unfolding(crate::specs::Reading::fields_at))]
+fn tick_at<'a>(bytes: &'a [u8], entry: &mut Entry) -> Option<&'a [u8]>
+    ensures { (names : List (List ℕ)) → Gives (λ r. (entry.new, r.now)) result (fields_at names Tick bytes.now) }
+{
+    let (t, rest) = number_field(bytes)?;
+    *entry = Entry::Tick(t);
+    Some(rest)
+}
+
+#[inline(never)]
+#[tactic(auto, unfolding(crate::specs::Reading::fields_at))]
+fn cancel_at<'a>(bytes: &'a [u8], entry: &mut Entry) -> Option<&'a [u8]>
+    ensures { (names : List (List ℕ)) → Gives (λ r. (entry.new, r.now)) result (fields_at names Cancel bytes.now) }
+{
+    let (k, rest) = number_field(bytes)?;
+    *entry = Entry::Cancel(k);
+    Some(rest)
+}
+
+// The fields of an entry of this kind.
 fn fields_at<'a>(
     kind: Kind,
     bytes: &'a [u8],
@@ -267,95 +431,23 @@ fn fields_at<'a>(
     ensures { Gives (λ r. (entry.new, r.now)) result (fields_at answers.now.names kind bytes.now) }
 {
     match kind {
-        Kind::End => {
-            let (s, rest) = number_field(bytes)?;
-            *entry = Entry::End(s);
-            Some(rest)
-        }
-        Kind::Fork => {
-            let (s, rest) = number_field(bytes)?;
-            let ((a, b), rest) = pair_field(rest)?;
-            *entry = Entry::Fork(s, a, b);
-            Some(rest)
-        }
-        Kind::Seq => {
-            let ((s, a), rest) = pair_field(bytes)?;
-            *entry = Entry::Seq(s, a);
-            Some(rest)
-        }
-        Kind::Other => {
-            let ((s, a), rest) = pair_field(bytes)?;
-            *entry = Entry::Other(s, a);
-            Some(rest)
-        }
-        Kind::Def => {
-            let ((s, a), rest) = pair_field(bytes)?;
-            *entry = Entry::Def(s, a);
-            Some(rest)
-        }
-        Kind::Void => {
-            let (s, rest) = number_field(bytes)?;
-            *entry = Entry::Void(s);
-            Some(rest)
-        }
-        Kind::Open => {
-            let (s, rest) = number_field(bytes)?;
-            let (c, rest) = number_field(rest)?;
-            let ((a, b), rest) = pair_field(rest)?;
-            *entry = Entry::Open(s, c, a, b);
-            Some(rest)
-        }
-        Kind::Send => {
-            let (s, rest) = number_field(bytes)?;
-            let ((a, v), rest) = sent_field(rest)?;
-            *entry = Entry::Send(s, a, v);
-            Some(rest)
-        }
+        Kind::End => end_at(bytes, entry),
+        Kind::Fork => fork_at(bytes, entry),
+        Kind::Seq => seq_at(bytes, entry),
+        Kind::Other => other_at(bytes, entry),
+        Kind::Def => def_at(bytes, entry),
+        Kind::Void => void_at(bytes, entry),
+        Kind::Open => open_at(bytes, entry),
+        Kind::Send => send_at(bytes, entry),
         Kind::Call => call_at(bytes, answers, entry),
-        Kind::Return | Kind::ReturnHalt => {
-            let (k, rest) = number_field(bytes)?;
-            let (outcome, rest) = outcome_field(rest)?;
-            match outcome {
-                None => {
-                    *entry = Entry::ReturnHalt(k);
-                }
-                Some((a, v)) => {
-                    *entry = Entry::Return(k, a, v);
-                }
-            }
-            Some(rest)
-        }
-        Kind::Bind => {
-            let (s, rest) = number_field(bytes)?;
-            let ((c, v), rest) = sent_field(rest)?;
-            *entry = Entry::Bind(s, c, v);
-            Some(rest)
-        }
-        Kind::Lost => {
-            let (c, rest) = number_field(bytes)?;
-            *entry = Entry::Lost(c);
-            Some(rest)
-        }
-        Kind::Right => {
-            let ((s, a), rest) = pair_field(bytes)?;
-            *entry = Entry::Right(s, a);
-            Some(rest)
-        }
-        Kind::Publish => {
-            let ((s, v), rest) = sent_field(bytes)?;
-            *entry = Entry::Publish(s, v);
-            Some(rest)
-        }
-        Kind::Tick => {
-            let (t, rest) = number_field(bytes)?;
-            *entry = Entry::Tick(t);
-            Some(rest)
-        }
-        Kind::Cancel => {
-            let (k, rest) = number_field(bytes)?;
-            *entry = Entry::Cancel(k);
-            Some(rest)
-        }
+        Kind::Return => return_at(bytes, entry),
+        Kind::ReturnHalt => return_at(bytes, entry),
+        Kind::Bind => bind_at(bytes, entry),
+        Kind::Lost => lost_at(bytes, entry),
+        Kind::Right => right_at(bytes, entry),
+        Kind::Publish => publish_at(bytes, entry),
+        Kind::Tick => tick_at(bytes, entry),
+        Kind::Cancel => cancel_at(bytes, entry),
     }
 }
 

@@ -169,8 +169,9 @@ impl Tables {
         self.add_wide(parts)
     }
 
-    // The row of an entry of numbers alone.
-    #[inline(always)]
+    // The row of an entry of numbers alone. Neither it nor that of an entry with a value is inlined: so `add` is small, and is inlined itself where an
+    // entry's kind is known.
+    #[inline(never)]
     fn add_plain(
         &mut self,
         kind: Kind,
@@ -218,7 +219,7 @@ impl Tables {
     }
 
     /// The row of an entry with a value. The error is refused memory.
-    #[inline(always)]
+    #[inline(never)]
     pub(crate) fn add_given(
         &mut self,
         kind: Kind,

@@ -18,7 +18,7 @@ use Rattle.orc_paths.specs.Spelling.{stands}
 use Rattle.orc_ledger.specs.Records.{Records, Lawful, context, its_env, its_path, token_row, token_out}
 use Rattle.orc_ledger.specs.Calls.{born}
 use Rattle.orc_ledger.specs.Next.{AreGrouped, numbers_of}
-use Rattle.orc_paths.specs.Parameters.{Adds}
+use Rattle.orc_names.specs.Parameters.{Adds}
 use Rattle.orc_ledger.specs.Parameters.{IsDefined}
 use Rattle.orc_tables.specs.declared.records.Standing.TheVariants.{At}
 use Rattle.orc_tables.specs.declared.records.Token.{Token}

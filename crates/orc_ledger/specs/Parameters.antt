@@ -6,7 +6,8 @@ use Rattle.orc_names.specs.declared.names.Scope.{Scope}
 use Rattle.orc_ledger.specs.Records.{Records}
 use Rattle.orc_ledger.specs.Calls.{Turns, born}
 use Rattle.orc_tables.specs.declared.records.Token.{Token}
-use Rattle.orc_paths.specs.Parameters.{Adds, Misfit}
+use Rattle.orc_names.specs.Parameters.{Adds}
+use Rattle.orc_paths.specs.Parameters.{Misfit}
 
 -- a call of a definition becomes a token on its body, in a scope for its parameters
 abbrev pub IsDefined : Records → Token → ℕ → ℕ → List Scope → Records → Type 0

@@ -42,6 +42,7 @@ fn answer_at_once(found: Found) -> Option<Answer>
 }
 
 // Writes a call, which is counted, and its answer. Where memory is refused nothing changes.
+#[inline(always)]
 fn write_answered(
     journal: &mut Journal,
     counts: &mut Counts,

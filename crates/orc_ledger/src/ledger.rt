@@ -38,8 +38,9 @@ impl Program for Brand {
     ghost sites = { [] };
 }
 
-/// Why a call is refused; nothing has changed then. The first of these that is a cause: the most tokens and calls (65,536), groups (1,024, with
-/// the program's own) or left sides of a `>x>` round one token (4,096) are reached; the journal has as many entries as the limit; memory.
+/// Why a call is refused; nothing has changed then. The first of these that is a cause: the most tokens and calls (`MOST_TOKENS`), groups
+/// (`MOST_GROUPS`, with the program's own) or left sides of a `>x>` round one token (`MOST_FRAMES`) are reached; the journal has as many entries as
+/// the limit; memory.
 #[derive(Clone, Copy, Debug, PartialEq, Eq)]
 pub enum LedgerFault {
     Full,

@@ -25,3 +25,7 @@ IsFree cells scopes e p = (x : ℕ) × (p ≡ Name x) × (AreOrdered scopes → 
 -- the operands are these values in a scope
 abbrev pub AreArguments : List Bound → List Scope → ℕ → List Operand → List Value → Type 0
 AreArguments cells scopes e ps args = AreOrdered scopes → values_of (map (close_param (env_of cells scopes e)) (map param_of ps)) ≡ Some args
+
+-- the operands aren't these values in a scope
+abbrev pub AreOthers : List Bound → List Scope → ℕ → List Operand → List Value → Type 0
+AreOthers cells scopes e ps args = AreOrdered scopes → values_of (map (close_param (env_of cells scopes e)) (map param_of ps)) ≡ Some args → ⊥

@@ -1,9 +1,9 @@
 // Scopes and cells, and what stands for an operand in them.
 
-ghost use Rattle.std.specs.Prelude.{◌≡◌, true, IfSome, IfNone, Some, None, slice_get};
+ghost use Rattle.std.specs.Prelude.{◌≡◌, true, false, IfSome, IfNone, Some, None, slice_get};
 ghost use Rattle.orc_rules.specs.declared.param.Operand.TheVariants.{Name};
 ghost use Rattle.orc_names.specs.Scopes.{current};
-ghost use Rattle.orc_names.specs.Names.{Means, IsFree, AreArguments};
+ghost use Rattle.orc_names.specs.Names.{Means, IsFree, AreArguments, AreOthers};
 
 use orc_rules::param::Operand;
 use orc_rules::value::Value;
@@ -89,19 +89,20 @@ pub fn are_arguments(
     args: &[Value],
     scope: usize,
 ) -> bool
-    ensures { result ≡ true → AreArguments cells.now scopes.now scope operands.now args.now }
+    ensures are { result ≡ true → AreArguments cells.now scopes.now scope operands.now args.now }
+    ensures others { result ≡ false → AreOthers cells.now scopes.now scope operands.now args.now }
 {
     // It recurses over the arguments of one call, which are `MOST_ARGUMENTS` at most.
-    match (operands, args) {
-        ([], []) => true,
-        ([operand, operands @ ..], [arg, args @ ..]) => {
-            match meaning(scopes, cells, *operand, scope) {
+    match operands {
+        [] => args.is_empty(),
+        [operand, operands @ ..] => match args {
+            [] => false,
+            [arg, args @ ..] => match meaning(scopes, cells, *operand, scope) {
                 Some(Bound::Is(v)) if v == *arg => {
                     are_arguments(scopes, cells, operands, args, scope)
                 }
                 _ => false,
-            }
-        }
-        _ => false,
+            },
+        },
     }
 }

@@ -2,7 +2,6 @@ pub mod Around
 pub mod Crossing
 pub mod Equal
 pub mod Finding
-pub mod Fitted
 pub mod Forms
 pub mod Growth
 pub mod Kept

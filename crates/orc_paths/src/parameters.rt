@@ -1,7 +1,8 @@
 //! The scopes of a definition's parameters.
 
 ghost use Rattle.std.specs.Prelude.{◌+◌, IfOk, IfSome, IfNone};
-ghost use Rattle.orc_paths.specs.Parameters.{Adds, Misfit};
+ghost use Rattle.orc_names.specs.Parameters.{Adds};
+ghost use Rattle.orc_paths.specs.Parameters.{Misfit};
 
 use orc_names::{Bound, Scope, meaning};
 use orc_rules::param::Operand;

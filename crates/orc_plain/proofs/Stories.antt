@@ -78,5 +78,8 @@ turn l t keeps n old mid new e grown settled reached =
     }
 
 -- a question changes nothing
+pub same_story : {l : Listing} {t : Table} {keeps : Bool} {n : ℕ} {old new : Story} → new ≡ old → IsReached l t keeps n old → IsReached l t keeps n new
+same_story {l} {t} {keeps} {n} same reached = subst (λ (s : Story). IsReached l t keeps n s) (sym same) reached
+
 pub same_end : (l : Listing) (t : Table) (keeps : Bool) (limit : ℕ) (old new : Story) (end : End) → new ≡ old → HasEnded l t keeps limit old end → HasEnded l t keeps limit new end
 same_end l t keeps limit old new end same ended = subst (λ (s : Story). HasEnded l t keeps limit s end) (sym same) ended

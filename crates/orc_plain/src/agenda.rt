@@ -22,8 +22,6 @@ struct Turn {
 pub struct Agenda {
     tokens: VecDeque<Turn>,
     waiting: BTreeMap<u64, Vec<u64>>,
-    /// The sides that have halted and were not ended yet. Some of them may be gone.
-    halted: VecDeque<Side>,
     /// The due time and the number of each call that has one, the least first.
     due: BinaryHeap<Reverse<(u64, u64)>>,
 }
@@ -47,14 +45,18 @@ impl Agenda {
         Ok(Agenda {
             tokens,
             waiting: BTreeMap::new(alloc),
-            halted: VecDeque::new(alloc),
             due: BinaryHeap::new(alloc),
         })
     }
 
-    /// An entry that can come next, while no cancel is due: a move of a token, else the end of a side that has halted, else a return that is
+    /// An entry that can come next, while no cancel is due: a move of a token, else the end of `side`, which has halted, else a return that is
     /// due now, else a tick.
-    pub fn choose(&mut self, program: &Program, marked: &Marked) -> Result<Choice, AllocError> {
+    pub fn choose(
+        &mut self,
+        program: &Program,
+        marked: &Marked,
+        side: Option<Side>,
+    ) -> Result<Choice, AllocError> {
         for _ in 0..self.tokens.len() {
             let Some(turn) = self.tokens.pop_front() else {
                 break;
@@ -67,21 +69,12 @@ impl Agenda {
                 }
             }
         }
-        match self.choose_side(marked) {
-            Some(entry) => Ok(Choice::Entry(entry)),
-            None => Ok(self.choose_call(marked)),
-        }
-    }
-
-    // The end of a pruning or of an otherwise whose side has halted. Those that stand no more are forgotten.
-    fn choose_side(&mut self, marked: &Marked) -> Option<Entry> {
-        for _ in 0..self.halted.len() {
-            let side = self.halted.pop_front()?;
+        if let Some(side) = side {
             if let Some(entry) = side_entry(marked, side) {
-                return Some(entry);
+                return Ok(Choice::Entry(entry));
             }
         }
-        None
+        Ok(self.choose_call(marked))
     }
 
     // Puts a token that waits into the lists of its cells.
@@ -123,9 +116,8 @@ impl Agenda {
         Choice::Nothing
     }
 
-    /// Takes note of what an entry has made: sides that have halted, new tokens, a call, or tokens that wait no more.
+    /// Takes note of what an entry has made: new tokens, a call, or tokens that wait no more.
     pub fn note(&mut self, entry: &Entry, marked: &Marked) -> Result<(), AllocError> {
-        marked.add_halted(entry, &mut self.halted)?;
         let new = numbers_of(entry);
         if let Some(mark) = new.mark {
             self.join(mark)?;

@@ -11,7 +11,7 @@ ghost use Rattle.orc_checker.specs.Checker.{Spells};
 ghost use Rattle.orc_plain.specs.Stories.{IsReached, Grows, HasEnded};
 
 use crate::lines::Lines;
-use orc_checker::Marked;
+use orc_checker::{Marked, Side};
 use orc_outcome::{End, Played, Summary};
 use orc_rules::answers::Answers;
 use orc_rules::entry::{Entry, RuleFault};
@@ -99,6 +99,13 @@ impl History {
         ensures { result.now ≡ self.now.marked }
     {
         &self.marked
+    }
+
+    /// A side that has halted, of those that stand the first that may have. None where none has.
+    pub fn halted_side(&mut self) -> Option<Side>
+        ensures { self.new ≡ self.old }
+    {
+        self.marked.halted_side()
     }
 
     /// Whether the run is quiet: it hasn't halted, no rule can be used, and no tick is possible.

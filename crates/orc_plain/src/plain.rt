@@ -66,7 +66,8 @@ fn proceed(
     ensures { (keeps : Bool) → IsReached program.now answers.now keeps 0 history.old → IfOk result (HasEnded program.now answers.now keeps limit history.new) }
 {
     for _turn in 0..limit {
-        let entry = match agenda.choose(program, history.marked()) {
+        let side = history.halted_side();
+        let entry = match agenda.choose(program, history.marked(), side) {
             Ok(Choice::Entry(entry)) => entry,
             Ok(Choice::Nothing) => return rest(history, program),
             Err(_) => return Ok(End::Memory),
@@ -81,7 +82,8 @@ fn proceed(
             return Ok(End::Memory);
         }
     }
-    match agenda.choose(program, history.marked()) {
+    let side = history.halted_side();
+    match agenda.choose(program, history.marked(), side) {
         Ok(Choice::Entry(_)) => Ok(cut(history, program, limit)),
         Ok(Choice::Nothing) => rest(history, program),
         Err(_) => Ok(End::Memory),

@@ -10,31 +10,11 @@ mod rows;
 
 use crate::replaying::{Odd, Stop, replay_journal};
 use orc_journal::read_journal;
-use orc_rules::answers::Answers;
+use orc_load::load;
 use orc_rules::entry::State;
-use orc_rules::program::Program;
-use orc_scope::check;
-use orc_site::read_script;
-use orc_syntax::parse;
 use std::alloc::Global;
 use std::io::Read;
 use std::{env, fs, io, rt};
-
-/// A program with its sites.
-#[derive(Drop)]
-pub(crate) struct Loaded {
-    pub(crate) program: Program,
-    pub(crate) answers: Answers,
-}
-
-pub(crate) fn load(alloc: Global, source: &[u8], script: &[u8]) -> Option<Loaded> {
-    let ast = parse(alloc, source).ok()?;
-    let answers = read_script(alloc, script).ok()?;
-    let names = answers.names(alloc).ok()?;
-    let program = check(alloc, &ast, names.as_slice()).ok()?;
-    drop(names);
-    Some(Loaded { program, answers })
-}
 
 /// Replays a journal's text: how many entries it has, and what the ledger says of the place to which they lead.
 pub(crate) fn replay_text(
@@ -47,7 +27,7 @@ pub(crate) fn replay_text(
         at: 0,
         why: Odd::Other,
     };
-    let Some(loaded) = load(alloc, source, script) else {
+    let Ok(loaded) = load(alloc, source, script) else {
         return Err(unread);
     };
     let Ok(journal) = read_journal(alloc, text, &loaded.answers) else {

@@ -2,8 +2,9 @@
 
 ghost use Rattle.std.specs.Prelude.{◌<◌, ◌≤◌};
 
-use crate::{load, replay_text};
+use crate::replay_text;
 use orc_engine::run_alone;
+use orc_load::load;
 use orc_outcome::{End, Played};
 use orc_rules::entry::State;
 use std::alloc::{AllocError, Global};
@@ -175,7 +176,7 @@ fn program(alloc: Global, seed: u64) -> Result<String, AllocError> {
 }
 
 fn run(alloc: Global, source: &[u8]) -> Option<Played> {
-    let loaded = load(alloc, source, SCRIPT)?;
+    let loaded = load(alloc, source, SCRIPT).ok()?;
     run_alone(alloc, &loaded.program, &loaded.answers, true, ENTRIES).ok()
 }
 

@@ -2,11 +2,12 @@
 
 ghost use Rattle.std.specs.Prelude.{◌≡◌};
 
+use crate::replay_text;
 use crate::replaying::{Odd, Replay, Stop};
-use crate::{load, replay_text};
 use orc_graph::Graph;
 use orc_journal::{read_entry, write_journal};
 use orc_ledger::{Ledger, LedgerFault, Next, Program as Naming, ReturnFault, What};
+use orc_load::load;
 use orc_rules::answers::Answers;
 use orc_rules::entry::{Entry, State};
 use orc_rules::value::{Answer, Value};
@@ -145,7 +146,7 @@ fn wrong_step<P: Naming>(
 }
 
 fn fault_of(alloc: Global, row: &Row) -> Option<usize> {
-    let Some(loaded) = load(alloc, row.source.as_bytes(), row.script.as_bytes()) else {
+    let Ok(loaded) = load(alloc, row.source.as_bytes(), row.script.as_bytes()) else {
         return Some(0);
     };
     let Ok(graph) = Graph::build(alloc, &loaded.program) else {
@@ -317,7 +318,7 @@ fn refused_at<P: Naming>(alloc: Global, graph: &Graph, limit: usize) -> Option<(
 }
 
 fn refused(alloc: Global, source: &[u8], limit: usize) -> Option<(usize, LedgerFault)> {
-    let loaded = load(alloc, source, b"")?;
+    let loaded = load(alloc, source, b"").ok()?;
     let graph = Graph::build(alloc, &loaded.program).ok()?;
     refused_at::<Brand>(alloc, &graph, limit)
 }

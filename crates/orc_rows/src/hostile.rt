@@ -4,8 +4,8 @@ use crate::gates::{
     Board, Hold, LOOKS, Liar, Manner, Noting, Odd, Refusing, Slow, Turnstile, Wrong,
 };
 use crate::pools::{is_accepted, play};
-use crate::runs::load;
 use orc_engine::{EngineFault, run_pool};
+use orc_load::load;
 use orc_outcome::{End, Played};
 use orc_rules::value::Value;
 use orc_site::{Open, Scripted};
@@ -22,7 +22,7 @@ fn fault_by_liar<R: Threads + Wait + Sync>(
     wrong: Wrong,
     workers: usize,
 ) -> Option<EngineFault> {
-    let loaded = load(alloc, source, b"")?;
+    let loaded = load(alloc, source, b"").ok()?;
     let sites = Liar {
         scripted: Scripted::new(&loaded.answers),
         wrong,
@@ -58,7 +58,7 @@ fn by_odd<R: Threads + Wait + Sync>(
     manner: Manner,
     workers: usize,
 ) -> Option<Result<Played, EngineFault>> {
-    let loaded = load(alloc, source, b"Never() = never\n")?;
+    let loaded = load(alloc, source, b"Never() = never\n").ok()?;
     let sites = Odd {
         answers: &loaded.answers,
         manner,
@@ -131,7 +131,7 @@ fn noted<R: Threads + Wait + Sync>(
     answers_late: bool,
     workers: usize,
 ) -> Option<Result<Played, EngineFault>> {
-    let loaded = load(alloc, source, b"Never() = never\n")?;
+    let loaded = load(alloc, source, b"Never() = never\n").ok()?;
     let sites = Noting {
         answers: &loaded.answers,
         board,
@@ -222,8 +222,8 @@ fn a_held_call_takes_no_group(rt: HostRuntime) -> Result<(), Fail> {
 (y <y< (Add(1, 1) | Rwait(0) >> 7)) >> loop(0)";
     for workers in [2, 4, 16] {
         let loaded = load(alloc, source, b"Never() = never\n");
-        assert!(rt; loaded.is_some());
-        if let Some(loaded) = loaded {
+        assert!(rt; loaded.is_ok());
+        if let Ok(loaded) = loaded {
             let gate = Turnstile::new(1, 1, 4_000);
             let run = play(&rt, alloc, &loaded, &gate, workers, 100_000);
             assert!(rt; gate.held_all());
@@ -247,8 +247,8 @@ fn sites_may_be_refused_memory(rt: HostRuntime) -> Result<(), Fail> {
     for workers in [1, 2, 4, 16] {
         for number in 1..6u64 {
             let loaded = load(alloc, source, b"");
-            assert!(rt; loaded.is_some());
-            if let Some(loaded) = loaded {
+            assert!(rt; loaded.is_ok());
+            if let Ok(loaded) = loaded {
                 let sites = Refusing {
                     scripted: Scripted::new(&loaded.answers),
                     number,

@@ -3,8 +3,8 @@
 
 use crate::gates::Slow;
 use crate::pools::play;
-use crate::runs::load;
 use orc_journal::write_publication;
+use orc_load::load;
 use orc_outcome::{End, Played};
 use orc_run::check_text;
 use orc_site::{Gate, Open};
@@ -107,7 +107,7 @@ fn fault_of<R: Threads + Wait + Sync + AllocGlobal, G: Gate + Sync>(
     workers: usize,
 ) -> Result<String, Fail> {
     let alloc = rt.alloc();
-    let Some(loaded) = load(alloc, row.source.as_bytes(), row.script.as_bytes()) else {
+    let Ok(loaded) = load(alloc, row.source.as_bytes(), row.script.as_bytes()) else {
         return Ok(format!(in alloc; "{} is no program\n", row.source)?);
     };
     match play(rt, alloc, &loaded, gate, workers, row.limit) {
@@ -287,8 +287,8 @@ fn works_a_metronome(rt: HostRuntime) -> Result<(), Fail> {
     let source = "def m() = signal | Rwait(1) >> m()\nm()";
     for workers in [1, 2, 4, 16] {
         let loaded = load(alloc, source.as_bytes(), b"");
-        assert!(rt; loaded.is_some());
-        if let Some(loaded) = loaded {
+        assert!(rt; loaded.is_ok());
+        if let Ok(loaded) = loaded {
             let played = play(&rt, alloc, &loaded, &Slow, workers, 50);
             assert!(rt; played.is_ok());
             if let Ok(played) = played {

@@ -1,8 +1,9 @@
 //! Runs on several workers: what they publish and how they end, whatever gate and sites stand round them.
 
 use crate::gates::{Held, Slow, Turnstile};
-use crate::runs::{Loaded, ORDERED, load};
+use crate::runs::ORDERED;
 use orc_engine::{EngineFault, run_pool};
+use orc_load::{Loaded, load};
 use orc_outcome::{End, Played};
 use orc_plain::play as play_plainly;
 use orc_rules::value::Value;
@@ -73,7 +74,7 @@ fn end_of<R: Threads + Wait + Sync, G: Gate + Sync>(
     limit: u64,
 ) -> Option<End> {
     let (source, script, values) = row;
-    let loaded = load(alloc, source, script)?;
+    let loaded = load(alloc, source, script).ok()?;
     let played = play(rt, alloc, &loaded, gate, workers, limit).ok()?;
     if is_accepted(alloc, source, script, &played)
         && are_same(played.published.as_slice(), values)
@@ -154,8 +155,8 @@ fn publishes_what_the_reference_does_on_any_number_of_workers(rt: HostRuntime) -
     let alloc = rt.alloc();
     for (source, script) in ORDERED {
         let loaded = load(alloc, source, script);
-        assert!(rt; loaded.is_some(), "at {source:?}");
-        let Some(loaded) = loaded else {
+        assert!(rt; loaded.is_ok(), "at {source:?}");
+        let Ok(loaded) = loaded else {
             continue;
         };
         let reference = play_plainly(alloc, &loaded.program, &loaded.answers, false, 10_000);
@@ -318,7 +319,7 @@ fn published_when_held<R: Threads + Wait + Sync>(
     source: &[u8],
     workers: usize,
 ) -> Option<u64> {
-    let loaded = load(alloc, source, b"")?;
+    let loaded = load(alloc, source, b"").ok()?;
     let calls = workers as u64;
     let gate = Turnstile::new(1, calls, calls);
     let sites = Held {
@@ -371,8 +372,8 @@ fn one_worker_holds_one_call(rt: HostRuntime) -> Result<(), Fail> {
 fn refuses_workers_and_limits_out_of_range(rt: HostRuntime) -> Result<(), Fail> {
     let alloc = rt.alloc();
     let loaded = load(alloc, b"1", b"");
-    assert!(rt; loaded.is_some());
-    if let Some(loaded) = loaded {
+    assert!(rt; loaded.is_ok());
+    if let Ok(loaded) = loaded {
         for (workers, limit) in [(0, 10), (17, 10), (1, 0), (16, 10_000_001)] {
             let played = play(&rt, alloc, &loaded, &Open, workers, limit);
             assert_eq!(rt; played.err(), Some(EngineFault::Range));

@@ -2,43 +2,16 @@
 
 use crate::pools::are_same;
 use orc_engine::{EngineFault, run_alone};
+use orc_load::load;
 use orc_outcome::{End, Played, Summary};
 use orc_plain::play;
-use orc_rules::answers::Answers;
-use orc_rules::program::Program;
 use orc_rules::value::Value;
 use orc_run::check_text;
-use orc_scope::check;
-use orc_site::read_script;
-use orc_syntax::parse;
 use std::alloc::Global;
 use std::test::Fail;
 
-pub(crate) struct Loaded {
-    pub(crate) program: Program,
-    pub(crate) answers: Answers,
-}
-
-impl Drop for Loaded {
-    fn drop(self) {
-        let Loaded {
-            program: _,
-            answers: _,
-        } = self;
-    }
-}
-
-pub(crate) fn load(alloc: Global, source: &[u8], script: &[u8]) -> Option<Loaded> {
-    let ast = parse(alloc, source).ok()?;
-    let answers = read_script(alloc, script).ok()?;
-    let names = answers.names(alloc).ok()?;
-    let program = check(alloc, &ast, names.as_slice()).ok()?;
-    drop(names);
-    Some(Loaded { program, answers })
-}
-
 fn run(alloc: Global, source: &[u8], script: &[u8], limit: u64) -> Option<Played> {
-    let loaded = load(alloc, source, script)?;
+    let loaded = load(alloc, source, script).ok()?;
     run_alone(alloc, &loaded.program, &loaded.answers, true, limit).ok()
 }
 
@@ -128,8 +101,8 @@ fn publishes_what_the_reference_does(rt: HostRuntime) -> Result<(), Fail> {
     let alloc = rt.alloc();
     for (source, script) in ORDERED {
         let loaded = load(alloc, source, script);
-        assert!(rt; loaded.is_some(), "at {source:?}");
-        let Some(loaded) = loaded else {
+        assert!(rt; loaded.is_ok(), "at {source:?}");
+        let Ok(loaded) = loaded else {
             continue;
         };
         let reference = play(alloc, &loaded.program, &loaded.answers, false, 10_000);
@@ -216,8 +189,8 @@ fn refuses_limits_out_of_range(rt: HostRuntime) -> Result<(), Fail> {
     let alloc = rt.alloc();
     for limit in [0, 10_000_001] {
         let loaded = load(alloc, b"1", b"");
-        assert!(rt; loaded.is_some());
-        if let Some(loaded) = loaded {
+        assert!(rt; loaded.is_ok());
+        if let Ok(loaded) = loaded {
             let played = run_alone(alloc, &loaded.program, &loaded.answers, false, limit);
             assert_eq!(rt; played.err(), Some(EngineFault::Range));
         }

@@ -39,14 +39,14 @@ use Rattle.orc_journal.specs.Texts.{Written, header, entry_lines, AreOf, NoLine,
 use Rattle.orc_journal.proofs.Stripping.{strip, whole_same}
 use Rattle.orc_checker.specs.Checker.{context as context_of}
 use Rattle.orc_verdict.specs.Verdicts.{records_cancels}
-use Rattle.orc_run.specs.Running.{IsProgramOf, IsTold, written}
+use Rattle.orc_load.specs.Loading.{IsProgramOf, SpellsTree}
+use Rattle.orc_run.specs.Running.{IsTold, written}
 use Rattle.orc_outcome.specs.Outcome.{context, EndsAt, IsRun, Outcome}
-use Rattle.orc_run.specs.Checked.{verdict_line, StandsSo, IsBeyond, IsOfRun}
+use Rattle.orc_run.specs.Checked.{verdict_line, StandsSo, IsOfRun}
 use Rattle.orc_outcome.specs.declared.end.End.{End}
 use Rattle.orc_outcome.specs.declared.end.End.TheVariants as ends
 use Rattle.orc_outcome.specs.declared.end.Summary.{Summary}
 use Rattle.orc_run.specs.declared.running.Options.{Options}
-use Rattle.orc_run.specs.declared.faults.RunFault.TheVariants as fault
 
 -- ---- a source and a script are read in one way
 
@@ -83,7 +83,7 @@ told_of text script journal s m u of says (r, spells, checks) =
     let (options, kept, run) = of in
     let (l, t, said, (z, spelt, checked), told) = run in
     let table : t ≡ u = same_table script t u said says in
-    let same = same_source text u.names l m z r spelt spells (subst (λ (v : Table). Checks v.names z (Ok l)) table checked) checks in
+    let same = same_source text u.names l m z r spelt.0 spells.0 (subst (λ (v : Table). Checks v.names z (Ok l)) table checked) checks in
     let there : IsTold l u options s journal = subst (λ (v : Table). IsTold l v options s journal) table told in
     (options, kept, record { outcome = there.outcome; is_run = run_of l m u options.limit there.outcome same.0 same.1 there.is_run; tells = there.tells; shows = there.shows; fits = there.fits })
 
@@ -194,15 +194,15 @@ pub same_line : (old new : Option (List ℕ)) (line : List ℕ) (n m : ℕ) (s :
 same_line old new line n m s is same written = subst (λ (text : List ℕ). Appends old new text) (is ∙ ap (λ (k : ℕ). verdict_line k s) same) written
 
 -- a fault of the source's text
-pub syntax_beyond : (text : List ℕ) (s : Source) (f : SyntaxFault) → SpellsText text s → IfFault (Err f) (IsSyntaxFault text) → IsBeyond (fault.Syntax f)
-syntax_beyond text s syntax.Memory spells h = inl refl
-syntax_beyond text s syntax.Long spells h = inr tt
-syntax_beyond text s (syntax.Deep at) spells h = inr tt
-syntax_beyond text s (syntax.Encoding at) spells h = inr (only_limits text s (syntax.Encoding at) spells.1 spells.2 h)
-syntax_beyond text s (syntax.Character at) spells h = inr (only_limits text s (syntax.Character at) spells.1 spells.2 h)
-syntax_beyond text s (syntax.Number span) spells h = inr (only_limits text s (syntax.Number span) spells.1 spells.2 h)
-syntax_beyond text s (syntax.Expected at what) spells h = inr (only_limits text s (syntax.Expected at what) spells.1 spells.2 h)
-syntax_beyond text s (syntax.Comment at) spells h = inr (only_limits text s (syntax.Comment at) spells.1 spells.2 h)
+pub syntax_beyond : (text : List ℕ) (s : Source) (f : SyntaxFault) → SpellsTree text s → IfFault (Err f) (IsSyntaxFault text) → f ≡ syntax.Memory
+syntax_beyond text s syntax.Memory spells h = refl
+syntax_beyond text s syntax.Long spells h = absurd (omega (arith, h, spells.0.0))
+syntax_beyond text s (syntax.Deep at) spells h = absurd (spells.1 at h)
+syntax_beyond text s (syntax.Encoding at) spells h = absurd (only_limits text s (syntax.Encoding at) spells.0.1 spells.0.2 h)
+syntax_beyond text s (syntax.Character at) spells h = absurd (only_limits text s (syntax.Character at) spells.0.1 spells.0.2 h)
+syntax_beyond text s (syntax.Number span) spells h = absurd (only_limits text s (syntax.Number span) spells.0.1 spells.0.2 h)
+syntax_beyond text s (syntax.Expected at what) spells h = absurd (only_limits text s (syntax.Expected at what) spells.0.1 spells.0.2 h)
+syntax_beyond text s (syntax.Comment at) spells h = absurd (only_limits text s (syntax.Comment at) spells.0.1 spells.0.2 h)
 
 -- a fault of the source's names
 pub scope_beyond : (text : List ℕ) (names : List (List ℕ)) (l : Listing) (s r : Source) (f : ScopeFault) → SpellsText text s → SpellsText text r → Checks names s (Ok l) → Checks names r (Err f) → f.kind ≡ scope.Memory
@@ -216,11 +216,11 @@ scope_beyond text names l s r f a b sound blamed = go (subst (λ (z : Source). C
   go (inr (inl least)) = absurd (none _ sound.0.faults least)
   go (inr (inr large)) = absurd (omega (arith, large.nodes, sound.0.nodes))
 
-pub names_beyond : (text script journal : List ℕ) (s : Summary) (u : Table) (r : Source) (f : ScopeFault) → IsOfRun text script journal s → Says script u → SpellsText text r → Checks u.names r (Err f) → f.kind ≡ scope.Memory
+pub names_beyond : (text script journal : List ℕ) (s : Summary) (u : Table) (r : Source) (f : ScopeFault) → IsOfRun text script journal s → Says script u → SpellsTree text r → Checks u.names r (Err f) → f.kind ≡ scope.Memory
 names_beyond text script journal s u r f of says spells blamed =
     let (options, kept, run) = of in
     let (l, t, said, (z, spelt, checked), told) = run in
-    scope_beyond text u.names l z r f spelt spells (subst (λ (v : Table). Checks v.names z (Ok l)) (same_table script t u said says) checked) blamed
+    scope_beyond text u.names l z r f spelt.0 spells.0 (subst (λ (v : Table). Checks v.names z (Ok l)) (same_table script t u said says) checked) blamed
 
 -- a fault of the script
 good_line : (front : List (List ℕ)) (bad : List ℕ) (behind : List (List ℕ)) (rules : List Rule) → AreRules (front ++ bad ∷ behind) rules → IsGood bad

@@ -5,7 +5,10 @@ use Rattle.std.specs.Io.KnownBytes.{Keeps}
 use Rattle.std.proofs.KnownBytes.{Appends-nil, Keeps-refl}
 use Rattle.orc_rules.specs.declared.entry.State.{State}
 use Rattle.orc_journal.specs.Texts.{Written}
-use Rattle.orc_run.specs.Running.{IsFaultOf, IsLoadFault, IsOther, LeavesAtFault, Loads}
+use Rattle.orc_load.specs.Loading.{IsLoadFault, Loads}
+use Rattle.orc_load.specs.declared.fault.LoadFault.{LoadFault}
+use Rattle.orc_load.specs.declared.fault.LoadFault.TheVariants as load
+use Rattle.orc_run.specs.Running.{IsFaultOf, IsOther, LeavesAtFault, of_load}
 use Rattle.orc_run.specs.Checked.{IsBeyond, IsCheckFault, IsJudged, IsOfRun, IsRefusal, LeavesUnjudged}
 use Rattle.orc_run.specs.Drawn.{IsUndrawable, LeavesUndrawn}
 use Rattle.orc_run.specs.declared.drawing.Undrawn.{Undrawn}
@@ -16,14 +19,10 @@ use Rattle.orc_run.specs.declared.faults.RunFault.TheVariants as fault
 use Rattle.orc_run.specs.declared.running.Options.{Options}
 use Rattle.orc_run.proofs.Accepting.{names_beyond, script_beyond, syntax_beyond}
 
-pub of_run : (source script : List ℕ) (f : RunFault) → IsLoadFault source script f → IsFaultOf source script f
-of_run source script (fault.Syntax f) h = h
-of_run source script (fault.Scope f) h = h
-of_run source script (fault.Script f) h = h
-of_run source script (fault.Journal f) h = h
-of_run source script (fault.Check f) h = h
-of_run source script (fault.Engine f) h = absurd h
-of_run source script (fault.Write w) h = tt
+pub of_run : (source script : List ℕ) (f : LoadFault) → IsLoadFault source script f → IsFaultOf source script (of_load f)
+of_run source script (load.Syntax f) h = h
+of_run source script (load.Script f) h = h
+of_run source script (load.Scope f) h = h
 
 pub of_other : (source script : List ℕ) (f : RunFault) → Loads source script → IsOther f → IsFaultOf source script f
 of_other source script (fault.Syntax f) loads h = absurd h
@@ -34,23 +33,15 @@ of_other source script (fault.Check f) loads h = absurd h
 of_other source script (fault.Engine f) loads h = loads
 of_other source script (fault.Write w) loads h = absurd h
 
-pub run_left : (source script : List ℕ) (options : Options) (old new : Option (List ℕ)) (f : RunFault) → IsLoadFault source script f → Keeps old new → LeavesAtFault source script options old new f
-run_left source script options old new (fault.Syntax f) h keeps = keeps
-run_left source script options old new (fault.Scope f) h keeps = keeps
-run_left source script options old new (fault.Script f) h keeps = keeps
-run_left source script options old new (fault.Journal f) h keeps = keeps
-run_left source script options old new (fault.Check f) h keeps = keeps
-run_left source script options old new (fault.Engine f) h keeps = keeps
-run_left source script options old new (fault.Write w) h keeps = absurd h
+pub run_left : (source script : List ℕ) (options : Options) (old new : Option (List ℕ)) (f : LoadFault) → Keeps old new → LeavesAtFault source script options old new (of_load f)
+run_left source script options old new (load.Syntax f) keeps = keeps
+run_left source script options old new (load.Script f) keeps = keeps
+run_left source script options old new (load.Scope f) keeps = keeps
 
-pub of_check : (source script journal : List ℕ) (f : RunFault) → IsLoadFault source script f → IsRefusal source script journal f
-of_check source script journal (fault.Syntax f) h = h
-of_check source script journal (fault.Scope f) h = h
-of_check source script journal (fault.Script f) h = h
-of_check source script journal (fault.Journal f) h = absurd h
-of_check source script journal (fault.Check f) h = absurd h
-of_check source script journal (fault.Engine f) h = h
-of_check source script journal (fault.Write w) h = h
+pub of_check : (source script journal : List ℕ) (f : LoadFault) → IsLoadFault source script f → IsRefusal source script journal (of_load f)
+of_check source script journal (load.Syntax f) h = h
+of_check source script journal (load.Script f) h = h
+of_check source script journal (load.Scope f) h = h
 
 pub refused : (source script journal : List ℕ) (f : RunFault) → IsRefusal source script journal f → IsCheckFault source script journal f
 refused source script journal (fault.Syntax f) h = h
@@ -90,17 +81,13 @@ undrawable_left source script journal out j state is (undrawn.Fault (fault.Journ
 undrawable_left source script journal out j state is (undrawn.Fault (fault.Check f)) h = absurd h
 undrawable_left source script journal out j state is (undrawn.Fault (fault.Engine f)) h = absurd h
 
-pub beyond : (source script journal : List ℕ) (s : Summary) (f : RunFault) → IsOfRun source script journal s → IsLoadFault source script f → IsBeyond f
-beyond source script journal s (fault.Syntax f) of h =
+pub beyond : (source script journal : List ℕ) (s : Summary) (f : LoadFault) → IsOfRun source script journal s → IsLoadFault source script f → IsBeyond (of_load f)
+beyond source script journal s (load.Syntax f) of h =
     let (options, kept, run) = of in
     let (l, t, said, (z, spelt, checked), told) = run in
     syntax_beyond source z f spelt h
-beyond source script journal s (fault.Scope f) of (r, u, spells, says, blamed) = names_beyond source script journal s u r f of says spells blamed
-beyond source script journal s (fault.Script f) of h =
+beyond source script journal s (load.Script f) of h =
     let (options, kept, run) = of in
     let (l, t, said, program, told) = run in
     script_beyond script t f said h.1
-beyond source script journal s (fault.Journal f) of h = absurd h
-beyond source script journal s (fault.Check f) of h = absurd h
-beyond source script journal s (fault.Engine f) of h = h
-beyond source script journal s (fault.Write w) of h = absurd h
+beyond source script journal s (load.Scope f) of (r, u, spells, says, blamed) = names_beyond source script journal s u r f of says spells blamed

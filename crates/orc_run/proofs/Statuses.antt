@@ -15,7 +15,6 @@ use Rattle.orc_journal.specs.declared.text.JournalFault.TheVariants as journal
 use Rattle.orc_outcome.specs.Status.{end_status_of}
 use Rattle.orc_outcome.specs.declared.end.End.{End}
 use Rattle.orc_outcome.specs.declared.end.End.TheVariants as ends
-use Rattle.orc_outcome.specs.declared.end.Summary.{Summary}
 use Rattle.orc_run.specs.Commands.{HasEnded, IsDone, IsUnread, LeavesUndone, WasCut}
 use Rattle.orc_run.specs.Failures.{failure_status}
 use Rattle.orc_engine.specs.declared.fault.EngineFault.{EngineFault}
@@ -26,7 +25,7 @@ use Rattle.orc_scope.specs.Faults.{scope_status}
 use Rattle.orc_site.specs.Faults.{script_status}
 use Rattle.orc_journal.specs.Faults.{journal_status}
 use Rattle.orc_engine.specs.Faults.{engine_status}
-use Rattle.orc_run.specs.Running.{LeavesAtFault, Runs}
+use Rattle.orc_run.specs.Running.{LeavesAtFault}
 use Rattle.orc_run.specs.Status.{read_status_of}
 use Rattle.orc_run.specs.Checked.{LeavesUnjudged}
 use Rattle.orc_run.specs.Drawn.{LeavesUndrawn}

@@ -10,7 +10,6 @@ use Rattle.orc_rules.specs.Sites.{Table}
 use Rattle.orc_rules.specs.Nodes.{Listing, source}
 use Rattle.orc_rules.specs.Verdict.{IsVerdict, IsFault as Faults}
 use Rattle.orc_syntax.specs.declared.fault.SyntaxFault.TheVariants as syntax
-use Rattle.orc_syntax.specs.Text.{IsLimit}
 use Rattle.orc_scope.specs.declared.fault.FaultKind.TheVariants as scope
 use Rattle.orc_site.specs.declared.script.ScriptFault.TheVariants as script
 use Rattle.orc_site.specs.Script.{Says}
@@ -18,8 +17,9 @@ use Rattle.orc_journal.specs.declared.text.JournalFault.TheVariants as journal
 use Rattle.orc_journal.specs.Texts.{Written, IsJournal, IsFault as IsBadText}
 use Rattle.orc_checker.specs.Checker.{context}
 use Rattle.orc_verdict.specs.Verdicts.{records_cancels, IsCutShort}
+use Rattle.orc_load.specs.Loading.{IsProgramOf}
 use Rattle.orc_run.specs.Output.{AppendsPrefix}
-use Rattle.orc_run.specs.Running.{IsLoadFault, IsProgramOf, Runs}
+use Rattle.orc_run.specs.Running.{IsUnloaded, Runs}
 use Rattle.orc_outcome.specs.declared.end.End.{End}
 use Rattle.orc_outcome.specs.declared.end.End.TheVariants as ends
 use Rattle.orc_outcome.specs.declared.end.Summary.{Summary}
@@ -51,7 +51,7 @@ IsRefusal text script journal (fault.Journal f) = (l : Listing) × (t : Table) �
 IsRefusal text script journal (fault.Check f) = (l : Listing) × (t : Table) × (j : Written) × Says script t × IsProgramOf text t l × IsJournal t.names journal j
     × (f.why ≢ reason.Memory → Faults (context l t (records_cancels j.version)) (source l) j.entries f.at f.why)
     × (f.why ≡ reason.Memory → IsCutShort (context l t (records_cancels j.version)) (source l) j.entries f.at)
-IsRefusal text script journal f = IsLoadFault text script f
+IsRefusal text script journal f = IsUnloaded text script f
 
 -- the fault of a check: such a one, or one of the output
 abbrev pub IsCheckFault : List ℕ → List ℕ → List ℕ → RunFault → Type 0
@@ -74,9 +74,9 @@ StandsSo _ s = Unit {0}
 abbrev pub Accepts : Summary → Option (List ℕ) → Option (List ℕ) → Type 0
 Accepts s old new = (stands : State) × StandsSo s.end stands × Appends old new (verdict_line s.entries stands)
 
--- what else may be said of it: the source or the journal is beyond a limit, memory was refused, or the output failed
+-- what else may be said of it: the journal is beyond a limit, memory was refused, or the output failed
 abbrev pub IsBeyond : RunFault → Type 0
-IsBeyond (fault.Syntax f) = (f ≡ syntax.Memory) ⊎ IsLimit f
+IsBeyond (fault.Syntax f) = f ≡ syntax.Memory
 IsBeyond (fault.Scope f) = f.kind ≡ scope.Memory
 IsBeyond (fault.Script f) = f ≡ script.Memory
 IsBeyond (fault.Journal f) = (f ≡ journal.Long) ⊎ (f ≡ journal.Memory)

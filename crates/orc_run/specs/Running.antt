@@ -1,5 +1,5 @@
 -- What the run of a source does.
-use Rattle.std.specs.Prelude.{◌≡◌, ℕ, List, Bool, true, false, Ok, Err}
+use Rattle.std.specs.Prelude.{◌≡◌, ℕ, List, Bool, true, false}
 use Rattle.std.specs.declared.option.Option.{Option}
 use Rattle.std.specs.Io.KnownBytes.{Keeps, Appends}
 use Rattle.orc_rules.specs.Sites.{Table}
@@ -10,20 +10,16 @@ use Rattle.orc_rules.specs.declared.entry.Entry.{Entry}
 use Rattle.orc_rules.specs.declared.value.Value.{Value}
 use Rattle.orc_journal.specs.declared.journal.Version.TheVariants.{Two}
 use Rattle.orc_journal.specs.Texts.{AreOf}
-use Rattle.orc_syntax.specs.Tree.{Source}
-use Rattle.orc_syntax.specs.Text.{SpellsText, IsFault, IfFault}
-use Rattle.orc_scope.specs.Checking.{Checks}
-use Rattle.orc_site.specs.Script.{Says, IsFault as IsBad}
+use Rattle.orc_site.specs.Script.{Says}
+use Rattle.orc_load.specs.Loading.{IsProgramOf, Loads, IsLoadFault}
+use Rattle.orc_load.specs.declared.fault.LoadFault.{LoadFault}
+use Rattle.orc_load.specs.declared.fault.LoadFault.TheVariants as load
 use Rattle.orc_outcome.specs.Outcome.{Outcome, IsRun, Tells, text_of}
 use Rattle.orc_outcome.specs.declared.end.Summary.{Summary}
 use Rattle.orc_run.specs.Output.{AppendsPrefix}
 use Rattle.orc_run.specs.declared.running.Options.{Options}
 use Rattle.orc_run.specs.declared.faults.RunFault.{RunFault}
 use Rattle.orc_run.specs.declared.faults.RunFault.TheVariants as fault
-
--- the program of a source with these sites: the source spells a tree without a fault, and the numbered nodes are those of its written-out terms
-abbrev pub IsProgramOf : List ℕ → Table → Listing → Type 0
-IsProgramOf source t l = (s : Source) × SpellsText source s × Checks t.names s (Ok l)
 
 -- what is written of a journal: its text where that is wanted, else a line for each value that it publishes
 abbrev pub written : Bool → List (List ℕ) → List Entry → List ℕ
@@ -56,16 +52,18 @@ abbrev pub LeavesAtFault : List ℕ → List ℕ → Options → Option (List �
 LeavesAtFault source script options old new (fault.Write w) = (s : Summary) × (text : List ℕ) × Runs source script options s text × AppendsPrefix old new text
 LeavesAtFault source script options old new _ = Keeps old new
 
--- why no program is loaded: this fault is one of the source's text, unless memory ran out; of the script, where the text is a program's; or of its names, where the script is one too
-abbrev pub IsLoadFault : List ℕ → List ℕ → RunFault → Type 0
-IsLoadFault source script (fault.Syntax f) = IfFault (Err f) (IsFault source)
-IsLoadFault source script (fault.Scope f) = (s : Source) × (t : Table) × SpellsText source s × Says script t × Checks t.names s (Err f)
-IsLoadFault source script (fault.Script f) = ((s : Source) × SpellsText source s) × IsBad script f
-IsLoadFault source script _ = ⊥
+-- a fault of the source or of its script, as a run's
+abbrev pub of_load : LoadFault → RunFault
+of_load (load.Syntax f) = fault.Syntax f
+of_load (load.Script f) = fault.Script f
+of_load (load.Scope f) = fault.Scope f
 
--- the source spells a program, with the sites that the script says
-abbrev pub Loads : List ℕ → List ℕ → Type 0
-Loads source script = (l : Listing) × (t : Table) × Says script t × IsProgramOf source t l
+-- no program is loaded for this fault
+abbrev pub IsUnloaded : List ℕ → List ℕ → RunFault → Type 0
+IsUnloaded source script (fault.Syntax f) = IsLoadFault source script (load.Syntax f)
+IsUnloaded source script (fault.Script f) = IsLoadFault source script (load.Script f)
+IsUnloaded source script (fault.Scope f) = IsLoadFault source script (load.Scope f)
+IsUnloaded source script _ = ⊥
 
 -- the fault of a run: why no program is loaded; or one of memory or the engine, where one is; or one of the output
 abbrev pub IsFaultOf : List ℕ → List ℕ → RunFault → Type 0
@@ -73,7 +71,7 @@ IsFaultOf source script (fault.Journal f) = ⊥
 IsFaultOf source script (fault.Check f) = ⊥
 IsFaultOf source script (fault.Engine f) = Loads source script
 IsFaultOf source script (fault.Write w) = Unit {0}
-IsFaultOf source script f = IsLoadFault source script f
+IsFaultOf source script f = IsUnloaded source script f
 
 -- a fault that is neither of the source, nor of the script, nor of the output
 abbrev pub IsOther : RunFault → Type 0

@@ -1,8 +1,8 @@
 //! How a run ended, explained by a second run of the same program.
 
-use crate::loading::load;
 use crate::running::{Options, play};
 use orc_explain::{Ended, Subject, explain_end, explain_refusal};
+use orc_load::load;
 use orc_outcome::{End, Summary};
 use std::alloc::{AllocError, Global};
 use std::sync::Wait;

@@ -2,10 +2,12 @@
 
 ghost use Rattle.std.specs.Prelude.{◌≡◌, Some};
 ghost use Rattle.orc_run.specs.Faults.{line, status};
+ghost use Rattle.orc_run.specs.Running.{of_load};
 
 use crate::output::WriteFault;
 use orc_engine::EngineFault;
 use orc_journal::JournalFault;
+use orc_load::LoadFault;
 use orc_scope::ScopeFault;
 use orc_site::ScriptFault;
 use orc_syntax::SyntaxFault;
@@ -30,6 +32,18 @@ pub enum RunFault {
     Engine(EngineFault),
     /// The output was not taken whole, or memory for its text was refused.
     Write(WriteFault),
+}
+
+impl From<LoadFault> for RunFault {
+    ghost from_gives = { λ fault f. f ≡ of_load fault };
+
+    fn from(fault: LoadFault) -> RunFault {
+        match fault {
+            LoadFault::Syntax(fault) => RunFault::Syntax(fault),
+            LoadFault::Script(fault) => RunFault::Script(fault),
+            LoadFault::Scope(fault) => RunFault::Scope(fault),
+        }
+    }
 }
 
 impl fmt::Display for RunFault {

@@ -6,9 +6,9 @@ ghost use Rattle.orc_journal.specs.Texts.{Written};
 ghost use Rattle.orc_outcome.specs.declared.end.Summary.{Summary as RunSummary};
 
 use crate::faults::RunFault;
-use crate::loading::load;
 use crate::output::{WriteFault, write_text};
 use orc_journal::{Journal, read_journal};
+use orc_load::load;
 use orc_rules::answers::Answers;
 use orc_rules::entry::State;
 use orc_verdict::{TextFault, check_journal, check_lines};
@@ -42,7 +42,7 @@ pub fn judge(
 ) -> Result<Judged, RunFault>
     ensures judged { IfOk result (λ j. IsJudged source.now script.now journal.now j.journal j.state) }
     ensures cause { IfErr result (IsRefusal source.now script.now journal.now) }
-    // What a run of this source and script wrote as its journal has this verdict, unless a limit stands against it.
+    // What a run of this source and script wrote as its journal has this verdict, unless that journal is beyond a limit.
     ensures accepted { (s : RunSummary) → IsOfRun source.now script.now journal.now s → IfOk result (λ j. StandsSo s.end j.state × (length j.journal.entries ≡ s.entries)) }
     ensures beyond { (s : RunSummary) → IsOfRun source.now script.now journal.now s → IfErr result IsBeyond }
 {
@@ -108,7 +108,7 @@ pub fn check_text<W: Write>(
     ensures judged { OnOk result (Judges source.now script.now journal.now (W.contents out.old) (W.contents out.new)) }
     ensures fault { IfErr result (LeavesUnjudged source.now script.now journal.now (W.contents out.old) (W.contents out.new)) }
     ensures cause { IfErr result (IsCheckFault source.now script.now journal.now) }
-    // What a run of this source and script wrote as its journal is accepted, unless a limit stands against it.
+    // What a run of this source and script wrote as its journal is accepted, unless that journal is beyond a limit.
     ensures accepted { (s : RunSummary) → IsOfRun source.now script.now journal.now s → OnOk result (Accepts s (W.contents out.old) (W.contents out.new)) }
     ensures beyond { (s : RunSummary) → IsOfRun source.now script.now journal.now s → IfErr result IsBeyond }
 {

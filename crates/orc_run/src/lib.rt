@@ -10,7 +10,6 @@ mod failures;
 mod faults;
 mod inputs;
 mod judging;
-mod loading;
 mod output;
 mod printing;
 mod publications;

@@ -8,11 +8,11 @@ ghost use Rattle.orc_run.specs.Output.{AppendsPrefix};
 ghost use Rattle.orc_run.specs.Running.{Ran, LeavesAtFault, IsFaultOf, IsOther, kept};
 
 use crate::faults::RunFault;
-use crate::loading::{Loaded, load};
 use crate::output::{WriteFault, write_text};
 use crate::publications::write_values;
 // The engine. Another one with the same contract takes its place here.
 use orc_engine::{EngineFault, run_alone, run_pool};
+use orc_load::{Loaded, load};
 use orc_outcome::{Played, Summary};
 use orc_site::{Open, Scripted};
 use std::alloc::Global;

@@ -1,11 +1,12 @@
 -- How deep a written-out term is.
 use Rattle.std.proofs.Common.{◌≡◌, sym, subst, ℕ, suc, ◌+◌, ◌*◌, ◌≤◌, max, List, [], ◌∷◌, ◌++◌, map, length, Option, Some, None, refl, arith}
 use Rattle.orc_lex.specs.declared.token.Plain.TheVariants as plains
+use Rattle.orc_rules.specs.declared.limits.TheConstants.{MOST_ARGUMENTS}
 use Rattle.orc_rules.specs.declared.param.Param.{Param}
 use Rattle.orc_rules.specs.Refusal.{depth}
 use Rattle.orc_rules.specs.Term.{Term, Definition}
 use Rattle.orc_syntax.specs.Tree.{Link, Seq, Par, Prune, Other, Tree, Leaf, Variable, Call, Operation, Val, Trees, Nil, Cons, Define, Source, count, span_of}
-use Rattle.orc_scope.specs.Deep.{operators, operators_of_all, nesting, nesting_of_all, IsShallow, AreShallow, AreWithin, StaysShallow}
+use Rattle.orc_scope.specs.Deep.{operators, operators_of_all, nesting, nesting_of_all, IsShallow, AreShallow, AreWithin, StaysShallow, written_levels}
 use Rattle.orc_scope.specs.Scope.{Known, Meaning, IsVariable, IsDefinition, IsSite, IsNothing, outer_meaning, position, faults, faults_of_all, number_faults, meaning, call_faults, bound, text_if}
 use Rattle.orc_scope.specs.Written.{written, written_all, called, params, pruned, prunings, as_param, operated}
 use Rattle.orc_rules.specs.Nodes.{Listing}
@@ -46,7 +47,7 @@ count_all known names Nil = refl
 count_all known names (Cons t es) = let e = count_all known names es in omega (arith, e)
 
 mutual
-  pub deep : (known : Known) (names : List (List ℕ)) (t : Tree) (scope : List (List ℕ)) → faults known scope t ≡ [] → depth (written known names t) ≤ 1 + (operators t + 17 * nesting t)
+  pub deep : (known : Known) (names : List (List ℕ)) (t : Tree) (scope : List (List ℕ)) → faults known scope t ≡ [] → depth (written known names t) ≤ 1 + (operators t + (1 + MOST_ARGUMENTS) * nesting t)
   deep known names (Leaf plains.Stop span) scope e = omega arith
   deep known names (Leaf (plains.Number n) span) scope e = omega arith
   deep known names (Leaf (plains.Truth b) span) scope e = omega arith
@@ -84,7 +85,7 @@ mutual
       let b = deep known names g scope (back_empty (faults known (bound (Some x.text) scope) f) (faults known scope g) e) in
       omega (arith, a, b)
 
-  pub deep_all : (known : Known) (names : List (List ℕ)) (es : Trees) (n : ℕ) (scope : List (List ℕ)) → faults_of_all known scope n es ≡ [] → deepest (written_all known names es) ≤ 1 + (operators_of_all es + 17 * nesting_of_all es)
+  pub deep_all : (known : Known) (names : List (List ℕ)) (es : Trees) (n : ℕ) (scope : List (List ℕ)) → faults_of_all known scope n es ≡ [] → deepest (written_all known names es) ≤ 1 + (operators_of_all es + (1 + MOST_ARGUMENTS) * nesting_of_all es)
   deep_all known names Nil n scope e = omega arith
   deep_all known names (Cons t es) n scope e =
       let later = faults_of_all known scope (suc n) es in
@@ -93,14 +94,14 @@ mutual
       let b = deep_all known names es (suc n) scope (front_empty later here e) in
       omega (arith, a, b)
 
-tree_shallow : (known : Known) (names : List (List ℕ)) (t : Tree) (scope : List (List ℕ)) → faults known scope t ≡ [] → IsShallow t → depth (written known names t) ≤ 7401
+tree_shallow : (known : Known) (names : List (List ℕ)) (t : Tree) (scope : List (List ℕ)) → faults known scope t ≡ [] → IsShallow t → depth (written known names t) ≤ written_levels
 tree_shallow known names t scope e s =
     let a = deep known names t scope e in
     let o = s.0 in
     let n = s.1 in
     omega (arith, a, o, n)
 
-bodies_shallow : (known : Known) (names seen : List (List ℕ)) (ds : List Define) → definitions_faults known seen ds ≡ [] → AreShallow ds → AreWithin 7401 (map (written_define known names) ds)
+bodies_shallow : (known : Known) (names seen : List (List ℕ)) (ds : List Define) → definitions_faults known seen ds ≡ [] → AreShallow ds → AreWithin written_levels (map (written_define known names) ds)
 bodies_shallow known names seen [] e s = tt
 bodies_shallow known names seen (d ∷ ds) e s =
     let later = definitions_faults known (seen ++ d.name.text ∷ []) ds in
@@ -112,6 +113,6 @@ shallow sites s l e out are main =
     let names = variables s in
     let fd = definitions_faults known [] s.definitions in
     let fm = faults known [] s.main in (
-      subst (λ (ds : List Definition). AreWithin 7401 ds) (sym out.definitions) (bodies_shallow known names [] s.definitions (front_empty fd fm e) are),
-      subst (λ (f : Term). depth f ≤ 7401) (sym out.source) (tree_shallow known names s.main [] (back_empty fd fm e) main),
+      subst (λ (ds : List Definition). AreWithin written_levels ds) (sym out.definitions) (bodies_shallow known names [] s.definitions (front_empty fd fm e) are),
+      subst (λ (f : Term). depth f ≤ written_levels) (sym out.source) (tree_shallow known names s.main [] (back_empty fd fm e) main),
     )

@@ -1,14 +1,14 @@
 -- No bracket, `val` or operator of a tree is one too many where none of its text is.
-use Rattle.std.proofs.Common.{◌≡◌, ℕ, suc, ◌+◌, ◌<◌, ◌≤◌, Bool, false, max, List, [], ◌∷◌, ◌++◌, length, refl, sym, ap, subst, ◌∙◌, append_assoc, append-nil, arith, inl, inr}
+use Rattle.std.proofs.Common.{◌≡◌, ℕ, suc, ◌+◌, ◌<◌, ◌≤◌, false, List, [], ◌∷◌, ◌++◌, length, refl, sym, ap, subst, ◌∙◌, append_assoc, append-nil, arith, inl, inr}
 use Rattle.std.proofs.lemmas.Bool.Decides.{leb_tells}
-use Rattle.orc_lex.specs.Tokens.{Word, Join, Arrow, Open, Close, Comma, Assign, Def, Val, Lexeme, token}
+use Rattle.orc_lex.specs.Tokens.{Close, Comma, Assign, Lexeme, token}
 use Rattle.orc_lex.specs.Lexing.{Piece, Gap, Item, Bad, Pieces, lexemes, Cut}
 use Rattle.orc_rules.specs.declared.limits.TheConstants.{MOST_BRACKETS, MOST_OPERATORS}
-use Rattle.orc_syntax.specs.Deep.{Count, none, counted, counted_on, counts, IsTooDeep}
-use Rattle.orc_syntax.specs.Grammar.{Sign, Single, Double, Writing, plain, name, call, brackets, operation, binding, Writings, nothing, last, more, Parameter, Parameters, without, given, Head, Program, main, define, word, sign_tokens, tokens, tokens_of_all, other_tokens, parameter_tokens, head_tokens, program_tokens, tree, trees_of, definitions, main_of, source, IsProgram, Made, made_tokens, behind_all, first_part}
+use Rattle.orc_syntax.specs.Deep.{Count, none, counted, counted_on, IsTooDeep}
+use Rattle.orc_syntax.specs.Grammar.{Sign, Single, Double, Writing, plain, name, call, brackets, operation, binding, Writings, nothing, last, more, Parameter, Parameters, without, given, Head, Program, main, define, sign_tokens, tokens, tokens_of_all, other_tokens, parameter_tokens, head_tokens, program_tokens, tree, trees_of, definitions, main_of, IsProgram, Made, made_tokens, behind_all, first_part}
 use Rattle.orc_syntax.specs.Tree.{Source}
-use Rattle.orc_syntax.specs.Text.{SpellsText, IsDeepAt, IsShallow as IsShallowText}
-use Rattle.orc_syntax.proofs.Laws.{later, first_later, behind_tokens}
+use Rattle.orc_syntax.specs.Text.{IsShallow as IsShallowText}
+use Rattle.orc_syntax.proofs.Laws.{later, first_later}
 use Rattle.orc_scope.specs.Deep.{operators, operators_of_all, nesting, nesting_of_all, IsShallow, AreShallow}
 use Rattle.orc_scope.specs.Shallow.{ShallowTrees}
 

@@ -1,6 +1,6 @@
 -- How deep expressions are.
-use Rattle.std.specs.Prelude.{◌+◌, ◌≤◌, ℕ, suc, max, List, [], ◌∷◌}
-use Rattle.orc_rules.specs.declared.limits.TheConstants.{MOST_OPERATORS, MOST_BRACKETS}
+use Rattle.std.specs.Prelude.{◌+◌, ◌*◌, ◌≤◌, ℕ, suc, max, List, [], ◌∷◌}
+use Rattle.orc_rules.specs.declared.limits.TheConstants.{MOST_ARGUMENTS, MOST_OPERATORS, MOST_BRACKETS}
 use Rattle.orc_rules.specs.Nodes.{Listing, source, definitions}
 use Rattle.orc_rules.specs.Refusal.{depth}
 use Rattle.orc_rules.specs.Term.{Definition}
@@ -45,6 +45,10 @@ abbrev pub AreWithin : ℕ → List Definition → Type 0
 AreWithin n [] = Unit {0}
 AreWithin n (d ∷ ds) = (depth d.body ≤ n) × AreWithin n ds
 
--- each term of a shallow program nests at most 7,401 levels
+-- how many levels a written-out term nests at most: one for itself, one for each operator, and for each call or `val` one and one for each argument
+abbrev pub written_levels : ℕ
+written_levels = 1 + (MOST_OPERATORS + (1 + MOST_ARGUMENTS) * MOST_BRACKETS)
+
+-- each term of a shallow program nests no more levels than that
 abbrev pub StaysShallow : Source → Listing → Type 0
-StaysShallow s l = AreShallow s.definitions → IsShallow s.main → AreWithin 7401 (definitions l) × (depth (source l) ≤ 7401)
+StaysShallow s l = AreShallow s.definitions → IsShallow s.main → AreWithin written_levels (definitions l) × (depth (source l) ≤ written_levels)

@@ -1,5 +1,5 @@
 -- The code and the place of each fault of a name, and its status.
-use Rattle.std.specs.Prelude.{ℕ, List, ◌++◌, codes, decimal}
+use Rattle.std.specs.Prelude.{ℕ, List, codes}
 use Rattle.orc_syntax.specs.Faults.{at_place}
 use Rattle.orc_scope.specs.declared.fault.ScopeFault.{ScopeFault}
 use Rattle.orc_scope.specs.declared.fault.FaultKind.{FaultKind}

@@ -10,6 +10,7 @@ mod storm;
 
 use gates::{Sleepy, Slow, Turnstile};
 use orc_engine::EngineFault;
+use orc_load::Loaded;
 use orc_outcome::Played;
 use orc_site::{Gate, Scripted};
 use std::alloc::Global;
@@ -17,7 +18,7 @@ use std::sync::Wait;
 use std::thread::Threads;
 use std::time::Clock;
 use std::{env, io};
-use storm::{ASKS, DUE, Loaded, STORMS, Storm, load, run};
+use storm::{ASKS, DUE, STORMS, Storm, run};
 
 /// How often each program is run where no argument says so.
 const ROUNDS: u32 = 3;
@@ -50,7 +51,7 @@ fn count_odd<R: Threads + Wait + Sync>(
     workers: usize,
     rounds: u32,
 ) -> u32 {
-    let Some(loaded) = load(alloc, storm.source) else {
+    let Ok(loaded) = storm.load(alloc) else {
         return rounds;
     };
     let mut odd = 0u32;
@@ -71,7 +72,7 @@ fn count_held<R: Threads + Wait + Sync>(
     workers: usize,
     rounds: u32,
 ) -> u32 {
-    let Some(loaded) = load(alloc, storm.source) else {
+    let Ok(loaded) = storm.load(alloc) else {
         return rounds;
     };
     let mut odd = 0u32;
@@ -148,7 +149,7 @@ fn run_one<R: Threads + Wait + Sync + Print + Clock>(
     rounds: u32,
 ) -> io::Result<()> {
     for _ in 0..rounds {
-        let Some(loaded) = load(alloc, storm.source) else {
+        let Ok(loaded) = storm.load(alloc) else {
             println!(rt; "fault Memory")?;
             continue;
         };

@@ -1,14 +1,11 @@
 //! Programs, and what their runs have to come to.
 
 use orc_engine::{EngineFault, run_pool};
+use orc_load::{LoadFault, Loaded};
 use orc_outcome::{End, Played};
-use orc_rules::answers::Answers;
-use orc_rules::program::Program;
 use orc_rules::value::Value;
 use orc_run::check_text;
-use orc_scope::check;
-use orc_site::{Gate, Sites, read_script};
-use orc_syntax::parse;
+use orc_site::{Gate, Sites};
 use std::alloc::Global;
 use std::sync::Wait;
 use std::thread::Threads;
@@ -119,6 +116,11 @@ impl Storm {
         }
     }
 
+    /// The program, ready to be run.
+    pub fn load(&self, alloc: Global) -> Result<Loaded, LoadFault> {
+        orc_load::load(alloc, self.source, SCRIPT)
+    }
+
     // Whether a value may be published.
     fn may_publish(&self, value: &Value) -> bool {
         match value {
@@ -139,23 +141,6 @@ impl Storm {
         let mut verdict = Vec::new(alloc);
         check_text(alloc, self.source, SCRIPT, &played.text, &mut verdict).is_ok()
     }
-}
-
-/// A program that is ready to be run.
-#[derive(Drop)]
-pub struct Loaded {
-    pub program: Program,
-    pub answers: Answers,
-}
-
-/// Reads a program. None where memory was refused.
-pub fn load(alloc: Global, source: &[u8]) -> Option<Loaded> {
-    let ast = parse(alloc, source).ok()?;
-    let answers = read_script(alloc, SCRIPT).ok()?;
-    let names = answers.names(alloc).ok()?;
-    let program = check(alloc, &ast, names.as_slice()).ok()?;
-    drop(names);
-    Some(Loaded { program, answers })
 }
 
 /// A run of a program on so many workers.

@@ -3,8 +3,8 @@ use Rattle.std.specs.Prelude.{drop}
 use Rattle.std.proofs.Math.Seq.{drop-length}
 use Rattle.orc_rules.specs.declared.param.Operand.TheVariants.{Name}
 use Rattle.orc_names.specs.declared.names.Scope.{Scope}
-use Rattle.orc_checker.specs.Parameters.{Adds}
-use Rattle.orc_checker.proofs.Parameters.{adds-none, adds-drop}
+use Rattle.orc_names.specs.Parameters.{Adds}
+use Rattle.orc_names.proofs.Parameters.{adds-none, adds-drop}
 use Rattle.orc_checker.proofs.routines.parameter_scopes.Goals as goal
 
 pub loop-left-init : goal.loop-left-init
@@ -44,7 +44,7 @@ loop-left-preserved c =
           is_k);
     }
 
-pub returns : goal.returns
-returns c =
+pub returns-clause-added : goal.returns-clause-added
+returns-clause-added c =
     let none : c.loop-left.left ≡ 0 = omega (arith, c.loop-left-test.false) in
     subst (λ z. Adds c.args.cells.now c.args.scopes.now c.args.scope (drop z c.args.params.now) (drop z c.args.operands.now) c.loop-left.added.items c.loop-left.outer) none c.loop-left.invariant.adds

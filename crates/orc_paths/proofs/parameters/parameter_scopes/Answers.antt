@@ -3,8 +3,8 @@ use Rattle.std.specs.Prelude.{drop}
 use Rattle.std.proofs.Math.Seq.{drop-length}
 use Rattle.orc_rules.specs.declared.param.Operand.TheVariants.{Name}
 use Rattle.orc_names.specs.declared.names.Scope.{Scope}
-use Rattle.orc_paths.specs.Parameters.{Adds}
-use Rattle.orc_paths.proofs.Fitted.{adds-none, adds-drop}
+use Rattle.orc_names.specs.Parameters.{Adds}
+use Rattle.orc_names.proofs.Parameters.{adds-none, adds-drop}
 use Rattle.orc_tables.proofs.Weight.{in-got}
 use Rattle.orc_paths.proofs.parameters.parameter_scopes.Goals as goal
 

@@ -8,7 +8,7 @@ use Rattle.orc_run.proofs.judging.judge.Goals as goal
 pub returns-in_err-loaded-clause-beyond : goal.returns-in_err-loaded-clause-beyond
 returns-in_err-loaded-clause-beyond c = λ s of.
     let (y, is, from) = err_from_is_err_and c.from_residual.result c.from_residual.ensures.1 in
-    rw is (beyond c.args.source.now c.args.script.now c.args.journal.now s y of (rw from c.in_err-loaded.ensures.fault))
+    rw (is, from) (beyond c.args.source.now c.args.script.now c.args.journal.now s _ of c.in_err-loaded.ensures.fault)
 
 pub returns-in-Err-clause-beyond : goal.returns-in-Err-clause-beyond
 returns-in-Err-clause-beyond c = λ s of.

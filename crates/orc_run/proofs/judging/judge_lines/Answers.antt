@@ -1,6 +1,6 @@
 use Rattle.std.proofs.Common.{subst, ◌∙◌}
 use Rattle.std.proofs.lemmas.Result.{err_from_is_err_and}
-use Rattle.orc_verdict.specs.Lines.{IsRefusedAt, IsTextFault}
+use Rattle.orc_verdict.specs.Lines.{IsTextFault}
 use Rattle.orc_verdict.specs.declared.lines.TextFault.TheVariants.{Check}
 use Rattle.orc_run.proofs.LoadFaults.{beyond}
 use Rattle.orc_run.proofs.Accepting.{told_of, text_beyond, check_beyond, verdict_so}
@@ -11,7 +11,7 @@ use Rattle.orc_run.proofs.judging.judge_lines.Goals as goal
 pub returns-in_err-loaded-clause-beyond : goal.returns-in_err-loaded-clause-beyond
 returns-in_err-loaded-clause-beyond c = λ s of.
     let (y, is, from) = err_from_is_err_and c.from_residual.result c.from_residual.ensures.1 in
-    rw is (beyond c.args.source.now c.args.script.now c.args.journal.now s y of (rw from c.in_err-loaded.ensures.fault))
+    rw (is, from) (beyond c.args.source.now c.args.script.now c.args.journal.now s _ of c.in_err-loaded.ensures.fault)
 
 pub returns-in-Err-Journal-clause-beyond : goal.returns-in-Err-Journal-clause-beyond
 returns-in-Err-Journal-clause-beyond c = λ s of.

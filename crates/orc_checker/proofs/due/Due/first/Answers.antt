@@ -1,6 +1,7 @@
 use Rattle.std.proofs.Common.{subst}
 use Rattle.orc_checker.specs.DueTimes.{IsFirst}
-use Rattle.orc_checker.proofs.DueCalls.{none_earlier, head_of}
+use Rattle.orc_calls.proofs.Notes.{none_earlier}
+use Rattle.orc_checker.proofs.DueCalls.{head_of}
 use Rattle.orc_checker.proofs.due.Due.first.Goals as goal
 
 pub returns-in-Some : goal.returns-in-Some

@@ -1,10 +1,10 @@
-use Rattle.std.proofs.Common.{refl, ap, sym, subst, ◌∙◌, length, get_or, reverse, length-set}
-use Rattle.std.specs.Prelude.{slice_set}
+use Rattle.std.proofs.Common.{◌≡◌, ℕ, List, refl, ap, sym, subst, ◌∙◌, length, get_or, reverse, length-set}
+use Rattle.std.specs.Prelude.{IfNone, slice_get, slice_set}
 use Rattle.orc_checker.specs.declared.arena.Node.{Node}
 use Rattle.orc_names.specs.declared.names.Bound.TheVariants.{Is}
 use Rattle.orc_checker.specs.declared.walk.Taker.TheVariants.{Bound}
 use Rattle.orc_checker.specs.Settling.{flag, Settles}
-use Rattle.orc_checker.specs.Rising.{nowhere, BindsThere, IsTaker}
+use Rattle.orc_checker.specs.Rising.{nowhere, TakesThere, IsTaker, Stands}
 use Rattle.orc_checker.specs.declared.arena.Single.TheVariants.{Passed}
 use Rattle.orc_checker.specs.declared.arena.Kind.TheVariants.{One}
 use Rattle.orc_checker.specs.Checker.{State}
@@ -16,6 +16,17 @@ use Rattle.orc_checker.proofs.Noting.{still_noted, wait_on, wait_written, wait_d
 use Rattle.orc_checker.proofs.KeptSides.{known_kept, sides_on, sides_written}
 use Rattle.orc_checker.specs.Index.{name_of}
 use Rattle.orc_checker.proofs.Indexed.{indexed_bound, indexed_calls}
+use Rattle.std.proofs.lemmas.Result.{err_from_is_err_and}
+use Rattle.orc_rules.specs.Step.{binds}
+use Rattle.orc_rules.specs.declared.entry.Entry.TheVariants as entry
+use Rattle.orc_checker.specs.Arena.{Frame, Tree}
+use Rattle.orc_checker.proofs.Values.{asks_bind, bearer_refused, bound_takes, standing_refused, taker_refused}
+use Rattle.orc_rules.specs.declared.entry.RuleFault.TheVariants as reason
+use Rattle.orc_rules.specs.Nodes.{code}
+use Rattle.orc_checker.specs.Refusing.{NoPruning}
+use Rattle.orc_checker.proofs.Lookups.{pruning_put}
+use Rattle.orc_checker.proofs.Parts.{no_pruning}
+use Rattle.orc_checker.proofs.Refusing.{lacks_refused, refused_for}
 use Rattle.orc_checker.proofs.marked.Marked.bind.Goals as goal
 
 pub returns-clause-done : goal.returns-clause-done
@@ -59,6 +70,48 @@ pub invariant_of-self : goal.invariant_of-self
 invariant_of-self c = (
   still_noted _ _ _ _ _ (wait_on _ _ _ (wait_written _ _ _ _ c.write_node.ensures.items refl) (wait_dropped _ _ _ c.drop_nodes.ensures.dropped)) (ap Rest.calls c.set_cancels.ensures) c.self.invariant.0,
   known_kept _ _ _ _ _ _ _ c.self.invariant.1 (sides_on (length c.self.inside.nodes.items) _ _ _ (sides_written (length c.self.inside.nodes.items) _ _ _ _ c.write_node.ensures.items (can_end c.self.inside.nodes.items c.in-Bound.at c.in-Two.left _ (ap Node.parent c.node_at-pruning.ensures)) (λ p lt. refl)) (c.drop_nodes.ensures.sides (length c.self.inside.nodes.items))) c.settle.ensures.known c.settle.ensures.kept refl c.settle.ensures.len (c.drop_nodes.ensures.len ∙ ap length c.write_node.ensures.items ∙ length-set c.self.inside.nodes.items _ _),
-  indexed_calls _ _ _ _ _ _ (ap Rest.calls c.set_cancels.ensures) (indexed_bound _ _ _ _ _ _ _ _ _ _ _ _ _ c.self.invariant.2 (ap name_of (subst (BindsThere c.self.inside.nodes.items) (c.in-Bound.is ∙ ap (λ z. Bound z c.in-Bound.at) c.if-cell-c.false) c.in-Some.ensures.bound).2) c.write_node.ensures.items refl c.drop_nodes.ensures.dropped c.bind_cell.ensures),
+  indexed_calls _ _ _ _ _ _ (ap Rest.calls c.set_cancels.ensures) (indexed_bound _ _ _ _ _ _ _ _ _ _ _ _ _ c.self.invariant.2 (ap name_of (subst (TakesThere c.self.inside.nodes.items) (c.in-Bound.is ∙ ap (λ z. Bound z c.in-Bound.at) c.if-cell-c.false) c.in-Some.ensures.there).2) c.write_node.ensures.items refl c.drop_nodes.ensures.dropped c.bind_cell.ensures),
   c.self.invariant.3 ∙ sym (ap length c.bind_cell.ensures ∙ length-set _ _ _),
 )
+
+pub returns-in_err-bearer-clause-reason : goal.returns-in_err-bearer-clause-reason
+returns-in_err-bearer-clause-reason c =
+    let p = err_from_is_err_and c.from_residual.result c.from_residual.ensures.1 in
+    let a = c.args in
+    rw (p.1, p.2) (λ t. bearer_refused a.program.now t (entry.Bind a.s a.c a.v) a.self.now a.s a.v (binds a.c a.v) _ (asks_bind a.s a.c a.v) c.in_err-bearer.ensures.refused)
+
+pub returns-in_default-clause-reason : goal.returns-in_default-clause-reason
+returns-in_default-clause-reason c t =
+    let a = c.args in
+    let b = c.in_ok-bearer.bearer in
+    standing_refused a.program.now t (entry.Bind a.s a.c a.v) a.self.now b.parent b.at b.tip _ c.in_ok-bearer.ensures.there c.in_ok-bearer.ensures.lives
+    (subst (λ (z : State). (n : ℕ) (k : List Frame) (u : Tree) → Stands z.nodes n b.at k u → ⊥) c.self.view_is (subst (λ o. IfNone o ((n : ℕ) (k : List Frame) (u : Tree) → Stands c.self.inside.nodes.items n b.at k u → ⊥)) c.in_default.is c.way_up.ensures.none))
+
+pub returns-in_default-taker : goal.returns-in_default-taker
+returns-in_default-taker c =
+    let a = c.args in
+    let b = c.in_ok-bearer.bearer in
+    record {
+      done = tt;
+      refused = refl;
+      reason = λ t. taker_refused a.program.now t (entry.Bind a.s a.c a.v) a.self.now a.s a.v (binds a.c a.v) b.parent b.at b.tip c.in-Some.taker (asks_bind a.s a.c a.v) c.in_ok-bearer.ensures.there c.in_ok-bearer.ensures.lives c.in_ok-bearer.ensures.bears
+          (subst (λ (z : State). IsTaker z.nodes b.at c.in-Some.taker) c.self.view_is c.in-Some.ensures.taker)
+          (λ e. let w = bound_takes _ _ _ e in c.in_default-taker.not-Bound _ _ w.1);
+    }
+
+pub returns-in_err-unbound-clause-reason : goal.returns-in_err-unbound-clause-reason
+returns-in_err-unbound-clause-reason c =
+    let p = err_from_is_err_and c.from_residual-in_err-unbound.result c.from_residual-in_err-unbound.ensures.1 in
+    let a = c.args in
+    let w = c.in_err-unbound.ensures.refused in
+    let none : NoPruning a.self.now.nodes a.c =
+    λ q i left right there. w.1 (sym (ap (λ (z : State). slice_get z.cells a.c) c.self.view_is) ∙ (pruning_put c.self.inside.nodes.items _ c.self.invariant.2 a.c q i left right (ap (λ (z : State). slice_get z.nodes i) c.self.view_is ∙ there)).1) in
+    rw (p.1, p.2) (λ t. refused_for a.program.now t (entry.Bind a.s a.c a.v) a.self.now _ _ w.0 (lacks_refused a.program.now t (entry.Bind a.s a.c a.v) a.self.now (NoPruning a.self.now.nodes a.c) reason.Mark none (λ x q h. h) (λ x q sp h none. no_pruning x (code a.program.now) a.self.now q sp a.c none h.1)))
+
+pub returns-then-cell-c-clause-reason : goal.returns-then-cell-c-clause-reason
+returns-then-cell-c-clause-reason c t =
+    let a = c.args in
+    let b = c.in_ok-bearer.bearer in
+    taker_refused a.program.now t (entry.Bind a.s a.c a.v) a.self.now a.s a.v (binds a.c a.v) b.parent b.at b.tip c.in-Some.taker (asks_bind a.s a.c a.v) c.in_ok-bearer.ensures.there c.in_ok-bearer.ensures.lives c.in_ok-bearer.ensures.bears
+    (subst (λ (z : State). IsTaker z.nodes b.at c.in-Some.taker) c.self.view_is c.in-Some.ensures.taker)
+    (λ e. let w = bound_takes c.in-Some.taker a.v a.c e in let same : Bound c.in-Bound.cell c.in-Bound.at ≡ Bound a.c w.0 = sym c.in-Bound.is ∙ w.1 in c.if-cell-c.true (cc same))

@@ -1,4 +1,4 @@
-use Rattle.std.proofs.Common.{◌∙◌, Bool, true, false, List, ap, sym, subst}
+use Rattle.std.proofs.Common.{◌∙◌, None, Bool, true, false, List, ap, sym, subst}
 use Rattle.orc_rules.specs.Idle.{can_move}
 use Rattle.orc_rules.specs.Marked.{erase}
 use Rattle.orc_rules.specs.Term.{Definition}
@@ -9,22 +9,22 @@ use Rattle.orc_names.specs.declared.names.Scope.{Scope}
 use Rattle.orc_checker.specs.Checker.{State}
 use Rattle.orc_checker.specs.Halting.{AreHalts}
 use Rattle.orc_names.specs.Names.{AreOrdered}
-use Rattle.orc_checker.specs.Sides.{DoesEnd}
+use Rattle.orc_checker.specs.Sides.{HasEnded}
 use Rattle.orc_checker.specs.Stillness.{token_moves, DoMove, DoStir}
 use Rattle.orc_checker.proofs.Moving.{tokens_stir, sides_stir}
 use Rattle.orc_checker.proofs.Ticking.{movement}
 use Rattle.orc_checker.proofs.marked.Marked.can_move.Goals as goal
 
-pub returns-then-does_side_end-clause-moves : goal.returns-then-does_side_end-clause-moves
-returns-then-does_side_end-clause-moves c x p own sp =
+pub returns-in-Some-clause-moves : goal.returns-in-Some-clause-moves
+returns-in-Some-clause-moves c x p own sp =
     let l = c.args.program.now in
     let n = c.self.inside in
-    let ends = subst (DoesEnd n.nodes.items n.flags.items) c.if-does_side_end.true c.does_side_end.ensures.ends in
-    let m = subst (λ (z : State). DoStir (definitions l) (code l) z.cells z.scopes z.flags z.nodes true) c.self.view_is (sides_stir (definitions l) (code l) n.cells.items n.scopes.items n.flags.items n.nodes.items ends) in
+    let ends = subst (HasEnded n.nodes.items n.flags.items) c.in-Some.is c.ended_side.ensures.ends in
+    let m = subst (λ (z : State). DoStir (definitions l) (code l) z.cells z.scopes z.flags z.nodes true) c.self.view_is (sides_stir (definitions l) (code l) n.cells.items n.scopes.items n.flags.items n.nodes.items _ ends) in
     movement x (code l) c.args.self.now p (definitions l) true sp m ∙ ap (λ z. can_move z (erase p.marked)) (sym own)
 
 -- no side has halted, and a token can move or none can
-stirs : (defs : List Definition) (code : _) (cells : List Bound) (scopes : List Scope) (flags : List Bool) (nodes : List Node) (b : Bool) → DoesEnd nodes flags false → DoMove (token_moves defs code cells scopes) nodes b → DoStir defs code cells scopes flags nodes b
+stirs : (defs : List Definition) (code : _) (cells : List Bound) (scopes : List Scope) (flags : List Bool) (nodes : List Node) (b : Bool) → HasEnded nodes flags None → DoMove (token_moves defs code cells scopes) nodes b → DoStir defs code cells scopes flags nodes b
 stirs defs code cells scopes flags nodes true none m = tokens_stir defs code cells scopes flags nodes m
 stirs defs code cells scopes flags nodes false none m = (m, none)
 
@@ -33,10 +33,10 @@ returns-clause-moves c x p own sp =
     let l = c.args.program.now in
     let b = c.can_some_move.result in
     let n = c.self.inside in
-    let none = subst (DoesEnd n.nodes.items n.flags.items) c.if-does_side_end.false c.does_side_end.ensures.ends in
+    let none = subst (HasEnded n.nodes.items n.flags.items) c.in_default.is c.ended_side.ensures.ends in
     let its = subst (λ z. AreHalts (code l) n.halts → AreOrdered n.scopes.items → DoMove (token_moves (definitions l) (code l) n.cells.items n.scopes.items) z b) c.tidy.ensures
     (subst (λ ss. AreHalts (code l) n.halts → AreOrdered ss → DoMove (token_moves (definitions l) (code l) n.cells.items ss) c.tidy.new.self.items b) c.deref.ensures.value
     (subst (λ cs. AreHalts (code l) n.halts → AreOrdered c.deref.result.now → DoMove (token_moves (definitions l) (code l) cs c.deref.result.now) c.tidy.new.self.items b) c.deref-2.ensures.value c.can_some_move.ensures.moves)) in
     let m = subst (λ (z : State). AreHalts (code l) z.halts → AreOrdered z.scopes → DoMove (token_moves (definitions l) (code l) z.cells z.scopes) z.nodes b) c.self.view_is its in
-    let ends = subst (λ (z : State). DoesEnd z.nodes z.flags false) c.self.view_is none in
+    let ends = subst (λ (z : State). HasEnded z.nodes z.flags None) c.self.view_is none in
     movement x (code l) c.args.self.now p (definitions l) b sp (stirs (definitions l) (code l) c.args.self.now.cells c.args.self.now.scopes c.args.self.now.flags c.args.self.now.nodes b ends (m sp.drawn.flags.are_halts sp.scopes)) ∙ ap (λ z. can_move z (erase p.marked)) (sym own)

@@ -12,6 +12,14 @@ use Rattle.orc_checker.proofs.Hints.{can_publish}
 use Rattle.orc_checker.proofs.Noting.{still_noted, wait_on, wait_written, wait_passed}
 use Rattle.orc_checker.proofs.KeptSides.{known_kept, sides_on, sides_written, sides_passed}
 use Rattle.orc_checker.proofs.Indexed.{indexed_kept, names_on, names_passed, names_written}
+use Rattle.std.proofs.lemmas.Result.{err_from_is_err_and}
+use Rattle.orc_rules.specs.Step.{publishes}
+use Rattle.orc_rules.specs.declared.entry.Entry.TheVariants as entry
+use Rattle.std.proofs.Common.{ℕ, List}
+use Rattle.std.specs.Prelude.{IfNone}
+use Rattle.orc_checker.specs.Arena.{Frame, Tree}
+use Rattle.orc_checker.specs.Rising.{Stands}
+use Rattle.orc_checker.proofs.Values.{asks_publish, bearer_refused, standing_refused, taker_refused, whole_takes}
 use Rattle.orc_checker.proofs.marked.Marked.publish.Goals as goal
 
 pub returns-clause-done : goal.returns-clause-done
@@ -38,3 +46,28 @@ invariant_of-self c = (
   indexed_kept _ _ _ c.self.invariant.2 (names_on _ _ _ _ (names_written _ _ _ _ _ c.write_node.ensures.items refl) (names_passed _ _ _ c.rise.ensures.passes)),
   c.self.invariant.3,
 )
+
+pub returns-in_err-bearer-clause-reason : goal.returns-in_err-bearer-clause-reason
+returns-in_err-bearer-clause-reason c =
+    let p = err_from_is_err_and c.from_residual.result c.from_residual.ensures.1 in
+    let a = c.args in
+    rw (p.1, p.2) (λ t. bearer_refused a.program.now t (entry.Publish a.s a.v) a.self.now a.s a.v (publishes a.v) _ (asks_publish a.s a.v) c.in_err-bearer.ensures.refused)
+
+pub returns-in_default-clause-reason : goal.returns-in_default-clause-reason
+returns-in_default-clause-reason c t =
+    let a = c.args in
+    let b = c.in_ok-bearer.bearer in
+    standing_refused a.program.now t (entry.Publish a.s a.v) a.self.now b.parent b.at b.tip _ c.in_ok-bearer.ensures.there c.in_ok-bearer.ensures.lives
+    (subst (λ (z : State). (n : ℕ) (k : List Frame) (u : Tree) → Stands z.nodes n b.at k u → ⊥) c.self.view_is (subst (λ o. IfNone o ((n : ℕ) (k : List Frame) (u : Tree) → Stands c.self.inside.nodes.items n b.at k u → ⊥)) c.in_default.is c.way_up.ensures.none))
+
+pub returns-in_default-taker : goal.returns-in_default-taker
+returns-in_default-taker c =
+    let a = c.args in
+    let b = c.in_ok-bearer.bearer in
+    record {
+      done = tt;
+      refused = refl;
+      reason = λ t. taker_refused a.program.now t (entry.Publish a.s a.v) a.self.now a.s a.v (publishes a.v) b.parent b.at b.tip c.in-Some.taker (asks_publish a.s a.v) c.in_ok-bearer.ensures.there c.in_ok-bearer.ensures.lives c.in_ok-bearer.ensures.bears
+          (subst (λ (z : State). IsTaker z.nodes b.at c.in-Some.taker) c.self.view_is c.in-Some.ensures.taker)
+          (λ e. c.in_default-taker.not-Whole (whole_takes _ _ e));
+    }

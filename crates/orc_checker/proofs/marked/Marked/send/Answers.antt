@@ -21,6 +21,15 @@ use Rattle.orc_checker.proofs.KeptSides.{known_two, sides_same, sides_on, sides_
 use Rattle.orc_rules.specs.Numbered.{mark}
 use Rattle.orc_checker.specs.Index.{Tables, IsPut}
 use Rattle.orc_checker.proofs.Indexed.{get_grown, get_last, indexed_on, its, names_map, names_on, names_passed, names_same, names_written, put_more}
+use Rattle.std.proofs.lemmas.Result.{err_from_is_err_and}
+use Rattle.orc_rules.specs.Step.{silent}
+use Rattle.orc_rules.specs.declared.entry.Entry.TheVariants as entry
+use Rattle.std.proofs.Common.{ℕ, List}
+use Rattle.std.specs.Prelude.{IfNone}
+use Rattle.orc_checker.specs.Arena.{Frame, Tree}
+use Rattle.orc_checker.specs.Rising.{Stands}
+use Rattle.orc_checker.proofs.Values.{asks_send, bearer_refused, fed_takes, standing_refused, taker_refused}
+use Rattle.orc_checker.proofs.Refusing.{mark_refused, refused_for}
 use Rattle.orc_checker.proofs.marked.Marked.send.Goals as goal
 
 pub returns-clause-done : goal.returns-clause-done
@@ -91,3 +100,34 @@ invariant_of-self-2 c =
       indexed_on old new _ _ c.self.invariant.2 renamed (λ i m e. put_more old new (get_grown _ _ _ marks_are) (λ d k f. f) (λ d k f. f) (λ d f. f) i m),
       c.self.invariant.3,
     )
+
+pub returns-in_err-bearer-clause-reason : goal.returns-in_err-bearer-clause-reason
+returns-in_err-bearer-clause-reason c =
+    let p = err_from_is_err_and c.from_residual.result c.from_residual.ensures.1 in
+    let a = c.args in
+    rw (p.1, p.2) (λ t. bearer_refused a.program.now t (entry.Send a.s a.a a.v) a.self.now a.s a.v (silent) _ (asks_send a.s a.a a.v) c.in_err-bearer.ensures.refused)
+
+pub returns-in_default-clause-reason : goal.returns-in_default-clause-reason
+returns-in_default-clause-reason c t =
+    let a = c.args in
+    let b = c.in_ok-bearer.bearer in
+    standing_refused a.program.now t (entry.Send a.s a.a a.v) a.self.now b.parent b.at b.tip _ c.in_ok-bearer.ensures.there c.in_ok-bearer.ensures.lives
+    (subst (λ (z : State). (n : ℕ) (k : List Frame) (u : Tree) → Stands z.nodes n b.at k u → ⊥) c.self.view_is (subst (λ o. IfNone o ((n : ℕ) (k : List Frame) (u : Tree) → Stands c.self.inside.nodes.items n b.at k u → ⊥)) c.in_default.is c.way_up.ensures.none))
+
+pub returns-in_default-taker : goal.returns-in_default-taker
+returns-in_default-taker c =
+    let a = c.args in
+    let b = c.in_ok-bearer.bearer in
+    record {
+      done = tt;
+      refused = refl;
+      reason = λ t. taker_refused a.program.now t (entry.Send a.s a.a a.v) a.self.now a.s a.v (silent) b.parent b.at b.tip c.in-Some.taker (asks_send a.s a.a a.v) c.in_ok-bearer.ensures.there c.in_ok-bearer.ensures.lives c.in_ok-bearer.ensures.bears
+          (subst (λ (z : State). IsTaker z.nodes b.at c.in-Some.taker) c.self.view_is c.in-Some.ensures.taker)
+          (λ e. let w = fed_takes _ _ e in c.in_default-taker.not-Fed w.0 w.1);
+    }
+
+pub returns-in_err-expect_mark-clause-reason : goal.returns-in_err-expect_mark-clause-reason
+returns-in_err-expect_mark-clause-reason c =
+    let p = err_from_is_err_and c.from_residual-in_err-expect_mark.result c.from_residual-in_err-expect_mark.ensures.1 in
+    let a = c.args in
+    rw (p.1, p.2) (λ t. let w = c.in_err-expect_mark.ensures.refused in refused_for a.program.now t (entry.Send a.s a.a a.v) a.self.now _ _ w.0 (mark_refused a.program.now t (entry.Send a.s a.a a.v) a.self.now a.a (λ x q h. h) w.1))

@@ -1,5 +1,5 @@
 use Rattle.orc_checker.proofs.Answering.{for_all, for_sites, for_code, for_tables, for_terms}
-use Rattle.orc_checker.proofs.Refusing.{err_map, refused_anyhow, refused_so}
+use Rattle.orc_checker.proofs.Refusing.{err_map, refused_so}
 use Rattle.orc_checker.proofs.marked.Marked.step.Goals as goal
 
 pub returns-in-End-clause-done : goal.returns-in-End-clause-done
@@ -54,52 +54,52 @@ pub returns-in-Def-clause-done : goal.returns-in-Def-clause-done
 returns-in-Def-clause-done c = for_tables c.args.program.now c.args.answers.now _ _ c.args.self.now c.def.new.self c.def.result c.in-Def.is c.def.ensures.done
 
 pub returns-in-End-clause-reason : goal.returns-in-End-clause-reason
-returns-in-End-clause-reason c = let a = c.args in refused_so a.program.now a.answers.now _ _ a.self.now c.end.result c.in-End.is (err_map c.end.result (λ why h. h a.answers.now) c.end.ensures.reason)
+returns-in-End-clause-reason c = let a = c.args in refused_so a.program.now a.answers.now _ _ a.self.now c.end.result c.in-End.is (err_map c.end.result (λ why h presumed. h a.answers.now) c.end.ensures.reason)
 
 pub returns-in-Fork-clause-reason : goal.returns-in-Fork-clause-reason
-returns-in-Fork-clause-reason c = let a = c.args in refused_so a.program.now a.answers.now _ _ a.self.now c.fork.result c.in-Fork.is (err_map c.fork.result (λ why h. h a.answers.now) c.fork.ensures.reason)
+returns-in-Fork-clause-reason c = let a = c.args in refused_so a.program.now a.answers.now _ _ a.self.now c.fork.result c.in-Fork.is (err_map c.fork.result (λ why h presumed. h a.answers.now) c.fork.ensures.reason)
 
 pub returns-in-Seq-clause-reason : goal.returns-in-Seq-clause-reason
-returns-in-Seq-clause-reason c = let a = c.args in refused_so a.program.now a.answers.now _ _ a.self.now c.seq.result c.in-Seq.is (err_map c.seq.result (λ why h. h a.answers.now) c.seq.ensures.reason)
+returns-in-Seq-clause-reason c = let a = c.args in refused_so a.program.now a.answers.now _ _ a.self.now c.seq.result c.in-Seq.is (err_map c.seq.result (λ why h presumed. h a.answers.now) c.seq.ensures.reason)
 
 pub returns-in-Other-clause-reason : goal.returns-in-Other-clause-reason
-returns-in-Other-clause-reason c = let a = c.args in refused_so a.program.now a.answers.now _ _ a.self.now c.other.result c.in-Other.is (err_map c.other.result (λ why h. h a.answers.now) c.other.ensures.reason)
+returns-in-Other-clause-reason c = let a = c.args in refused_so a.program.now a.answers.now _ _ a.self.now c.other.result c.in-Other.is (err_map c.other.result (λ why h presumed. h a.answers.now) c.other.ensures.reason)
 
 pub returns-in-Open-clause-reason : goal.returns-in-Open-clause-reason
-returns-in-Open-clause-reason c = let a = c.args in refused_so a.program.now a.answers.now _ _ a.self.now c.open.result c.in-Open.is (err_map c.open.result (λ why h. h a.answers.now) c.open.ensures.reason)
+returns-in-Open-clause-reason c = let a = c.args in refused_so a.program.now a.answers.now _ _ a.self.now c.open.result c.in-Open.is (err_map c.open.result (λ why h presumed. h a.answers.now) c.open.ensures.reason)
 
 pub returns-in-Cancel-clause-reason : goal.returns-in-Cancel-clause-reason
-returns-in-Cancel-clause-reason c = let a = c.args in refused_so a.program.now a.answers.now _ _ a.self.now c.cancel.result c.in-Cancel.is (err_map c.cancel.result (λ why h. h a.answers.now) c.cancel.ensures.reason)
+returns-in-Cancel-clause-reason c = let a = c.args in refused_so a.program.now a.answers.now _ _ a.self.now c.cancel.result c.in-Cancel.is (err_map c.cancel.result (λ why h presumed. h a.answers.now) c.cancel.ensures.reason)
 
 pub returns-in-Return-clause-reason : goal.returns-in-Return-clause-reason
-returns-in-Return-clause-reason c = let a = c.args in refused_so a.program.now a.answers.now _ _ a.self.now c.answered.result c.in-Return.is (err_map c.answered.result (λ why h. h a.program.now) c.answered.ensures.reason)
+returns-in-Return-clause-reason c = let a = c.args in refused_so a.program.now a.answers.now _ _ a.self.now c.answered.result c.in-Return.is (err_map c.answered.result (λ why h presumed. h a.program.now) c.answered.ensures.reason)
 
 pub returns-in-ReturnHalt-clause-reason : goal.returns-in-ReturnHalt-clause-reason
-returns-in-ReturnHalt-clause-reason c = let a = c.args in refused_so a.program.now a.answers.now _ _ a.self.now c.given_up.result c.in-ReturnHalt.is (err_map c.given_up.result (λ why h. h a.program.now) c.given_up.ensures.reason)
+returns-in-ReturnHalt-clause-reason c = let a = c.args in refused_so a.program.now a.answers.now _ _ a.self.now c.given_up.result c.in-ReturnHalt.is (err_map c.given_up.result (λ why h presumed. h a.program.now) c.given_up.ensures.reason)
 
 pub returns-in-Tick-clause-reason : goal.returns-in-Tick-clause-reason
-returns-in-Tick-clause-reason c = let a = c.args in refused_so a.program.now a.answers.now _ _ a.self.now c.tick.result c.in-Tick.is (err_map c.tick.result (λ why h. h a.answers.now) c.tick.ensures.reason)
+returns-in-Tick-clause-reason c = let a = c.args in refused_so a.program.now a.answers.now _ _ a.self.now c.tick.result c.in-Tick.is (err_map c.tick.result (λ why h presumed. h a.answers.now) c.tick.ensures.reason)
 
 pub returns-in-Right-clause-reason : goal.returns-in-Right-clause-reason
-returns-in-Right-clause-reason c = let a = c.args in refused_so a.program.now a.answers.now _ _ a.self.now c.right.result c.in-Right.is (err_map c.right.result (λ why h. h a.program.now a.answers.now) c.right.ensures.reason)
+returns-in-Right-clause-reason c = let a = c.args in refused_so a.program.now a.answers.now _ _ a.self.now c.right.result c.in-Right.is (err_map c.right.result (λ why h presumed. h a.program.now a.answers.now) c.right.ensures.reason)
 
 pub returns-in-Lost-clause-reason : goal.returns-in-Lost-clause-reason
-returns-in-Lost-clause-reason c = let a = c.args in refused_so a.program.now a.answers.now _ _ a.self.now c.lost.result c.in-Lost.is (err_map c.lost.result (λ why h. h a.answers.now) c.lost.ensures.reason)
+returns-in-Lost-clause-reason c = let a = c.args in refused_so a.program.now a.answers.now _ _ a.self.now c.lost.result c.in-Lost.is (err_map c.lost.result (λ why h presumed. h a.answers.now) c.lost.ensures.reason)
 
 pub returns-in-Def-clause-reason : goal.returns-in-Def-clause-reason
-returns-in-Def-clause-reason c = let a = c.args in refused_anyhow a.program.now a.answers.now _ _ a.self.now c.def.result c.in-Def.is (λ h. h)
+returns-in-Def-clause-reason c = let a = c.args in refused_so a.program.now a.answers.now _ _ a.self.now c.def.result c.in-Def.is (err_map c.def.result (λ why h. h a.answers.now) c.def.ensures.reason)
 
 pub returns-in-Void-clause-reason : goal.returns-in-Void-clause-reason
-returns-in-Void-clause-reason c = let a = c.args in refused_anyhow a.program.now a.answers.now _ _ a.self.now c.void.result c.in-Void.is (λ h. h)
+returns-in-Void-clause-reason c = let a = c.args in refused_so a.program.now a.answers.now _ _ a.self.now c.void.result c.in-Void.is (err_map c.void.result (λ why h presumed. h a.answers.now) c.void.ensures.reason)
 
 pub returns-in-Send-clause-reason : goal.returns-in-Send-clause-reason
-returns-in-Send-clause-reason c = let a = c.args in refused_anyhow a.program.now a.answers.now _ _ a.self.now c.send.result c.in-Send.is (λ h. h)
+returns-in-Send-clause-reason c = let a = c.args in refused_so a.program.now a.answers.now _ _ a.self.now c.send.result c.in-Send.is (err_map c.send.result (λ why h presumed. h a.answers.now) c.send.ensures.reason)
 
 pub returns-in-Call-clause-reason : goal.returns-in-Call-clause-reason
-returns-in-Call-clause-reason c = let a = c.args in refused_anyhow a.program.now a.answers.now _ _ a.self.now c.call.result c.in-Call.is (λ h. h)
+returns-in-Call-clause-reason c = let a = c.args in refused_so a.program.now a.answers.now _ _ a.self.now c.call.result c.in-Call.is (err_map c.call.result (λ why h presumed. h) c.call.ensures.reason)
 
 pub returns-in-Bind-clause-reason : goal.returns-in-Bind-clause-reason
-returns-in-Bind-clause-reason c = let a = c.args in refused_anyhow a.program.now a.answers.now _ _ a.self.now c.bind.result c.in-Bind.is (λ h. h)
+returns-in-Bind-clause-reason c = let a = c.args in refused_so a.program.now a.answers.now _ _ a.self.now c.bind.result c.in-Bind.is (err_map c.bind.result (λ why h presumed. h a.answers.now) c.bind.ensures.reason)
 
 pub returns-in-Publish-clause-reason : goal.returns-in-Publish-clause-reason
-returns-in-Publish-clause-reason c = let a = c.args in refused_anyhow a.program.now a.answers.now _ _ a.self.now c.publish.result c.in-Publish.is (λ h. h)
+returns-in-Publish-clause-reason c = let a = c.args in refused_so a.program.now a.answers.now _ _ a.self.now c.publish.result c.in-Publish.is (err_map c.publish.result (λ why h presumed. h a.answers.now) c.publish.ensures.reason)

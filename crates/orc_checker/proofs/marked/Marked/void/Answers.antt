@@ -11,6 +11,10 @@ use Rattle.orc_checker.proofs.Hints.{can_turn}
 use Rattle.orc_checker.proofs.Noting.{still_noted, wait_written}
 use Rattle.orc_checker.proofs.KeptSides.{known_kept, sides_written}
 use Rattle.orc_checker.proofs.Indexed.{indexed_kept, names_written}
+use Rattle.std.proofs.lemmas.Result.{err_from_is_err_and}
+use Rattle.orc_rules.specs.Journal.{IsVoid}
+use Rattle.orc_rules.specs.declared.entry.Entry.TheVariants as entry
+use Rattle.orc_checker.proofs.Refusing.{asks_void, form_refused, spot_refused}
 use Rattle.orc_checker.proofs.marked.Marked.void.Goals as goal
 
 pub returns-clause-done : goal.returns-clause-done
@@ -36,3 +40,15 @@ invariant_of-self c = (
   indexed_kept _ _ _ c.self.invariant.2 (names_written _ _ _ _ _ c.write_node.ensures.items refl),
   c.self.invariant.3,
 )
+
+pub returns-in_err-spot-clause-reason : goal.returns-in_err-spot-clause-reason
+returns-in_err-spot-clause-reason c =
+    let p = err_from_is_err_and c.from_residual.result c.from_residual.ensures.1 in
+    let a = c.args in
+    rw (p.1, p.2) (λ t. spot_refused a.program.now t (entry.Void a.s) a.self.now a.s IsVoid _ (asks_void a.s) (λ v e. cc e) c.in_err-spot.ensures.refused)
+
+pub returns-then-not-on_void-clause-reason : goal.returns-then-not-on_void-clause-reason
+returns-then-not-on_void-clause-reason c t =
+    let a = c.args in
+    let o = c.in_ok-spot.spot in
+    form_refused a.program.now t (entry.Void a.s) a.self.now a.s o.at o.parent o.node o.scope IsVoid (asks_void a.s) c.in_ok-spot.ensures.there (c.on_void.ensures.other c.if-not-on_void.true)

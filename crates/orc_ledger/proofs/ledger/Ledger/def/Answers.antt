@@ -12,7 +12,7 @@ use Rattle.orc_tables.specs.Same.{weight}
 use Rattle.orc_ledger.specs.Records.{Records}
 use Rattle.orc_tables.specs.Tokens.{live, IsHeld}
 use Rattle.orc_ledger.specs.Calls.{born}
-use Rattle.orc_paths.specs.Parameters.{Adds}
+use Rattle.orc_names.specs.Parameters.{Adds}
 use Rattle.orc_ledger.specs.Parameters.{IsDefined}
 use Rattle.orc_tables.specs.declared.records.Token.{Token}
 use Rattle.orc_ledger.proofs.AtRest.{rest-kept, turns-terms}

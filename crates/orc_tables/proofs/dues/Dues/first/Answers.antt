@@ -1,6 +1,7 @@
 use Rattle.std.proofs.Common.{subst}
 use Rattle.orc_tables.specs.Dues.{IsEarliest}
-use Rattle.orc_tables.proofs.Notes.{none_earlier, first_in}
+use Rattle.orc_calls.proofs.Notes.{none_earlier}
+use Rattle.orc_tables.proofs.Notes.{first_in}
 use Rattle.orc_tables.proofs.dues.Dues.first.Goals as goal
 
 pub returns-in-Some : goal.returns-in-Some

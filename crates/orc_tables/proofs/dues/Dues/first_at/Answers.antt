@@ -2,7 +2,8 @@ use Rattle.std.proofs.Common.{◌≡◌, ◌<◌, ℕ, subst, false, List, ◌�
 use Rattle.std.specs.Prelude.{slice_get, IfSome, IsTrue, ⊤}
 use Rattle.std.specs.Ordering.{is_gt}
 use Rattle.orc_tables.specs.Dues.{IsNoted, IsLeastFrom}
-use Rattle.orc_tables.proofs.Notes.{Timed, compared, is_found, stands, least_at, none_at, nothing_at}
+use Rattle.orc_calls.proofs.Notes.{Timed, compared, is_found, stands}
+use Rattle.orc_tables.proofs.Notes.{least_at, none_at, nothing_at}
 use Rattle.orc_tables.proofs.dues.Dues.first_at.Goals as goal
 
 -- what is so of the first of a list

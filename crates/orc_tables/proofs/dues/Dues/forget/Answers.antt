@@ -1,6 +1,7 @@
 use Rattle.std.proofs.Common.{◌≡◌, ◌∙◌, ℕ, subst, sym, ap, true, false, cond, length, arith}
 use Rattle.orc_tables.specs.Dues.{IsNoted}
-use Rattle.orc_tables.proofs.Notes.{Sets, found, keeps_but}
+use Rattle.orc_calls.proofs.Notes.{Sets, found}
+use Rattle.orc_tables.proofs.Notes.{keeps_but}
 use Rattle.orc_tables.proofs.dues.Dues.forget.Goals as goal
 
 pub returns-clause-kept : goal.returns-clause-kept

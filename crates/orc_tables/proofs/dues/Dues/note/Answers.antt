@@ -1,5 +1,5 @@
 use Rattle.std.proofs.Common.{subst, true}
-use Rattle.orc_tables.proofs.Notes.{Sets, puts, keeps}
+use Rattle.orc_calls.proofs.Notes.{Sets, puts, keeps}
 use Rattle.orc_tables.proofs.dues.Dues.note.Goals as goal
 
 pub returns-clause-noted : goal.returns-clause-noted

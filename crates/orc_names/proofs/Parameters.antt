@@ -14,10 +14,21 @@ use Rattle.orc_names.specs.declared.names.Bound.TheVariants.{Is, Cell, Void}
 use Rattle.orc_names.specs.declared.names.Scope.{Scope}
 use Rattle.orc_names.specs.Scopes.{Env, given, close, close_param, current, envs_from, env_of}
 use Rattle.orc_names.specs.Names.{AreOrdered, Means}
-use Rattle.orc_checker.specs.Checker.{AreOwn}
-use Rattle.orc_checker.specs.Parameters.{Adds}
+use Rattle.orc_names.specs.Parameters.{AreOwn, Adds}
 use Rattle.orc_names.proofs.Scopes.{close-given, env-new, envs-before, one_env}
-use Rattle.orc_checker.proofs.Opening.{ordered_push}
+
+abbrev pub scope_or : Scope → Option Scope → Scope
+scope_or d (Some z) = z
+scope_or d None = d
+
+pub ordered_push : (ss : List Scope) (s : Scope) → AreOrdered ss → s.outer ≤ length ss → AreOrdered (ss ++ s ∷ [])
+ordered_push ss s ordered le i r h = go ss i h (ordered i r) (λ e. e)
+  where
+    go : (xs : List Scope) (j : ℕ) → slice_get (xs ++ s ∷ []) j ≡ Some r → (slice_get xs j ≡ Some r → r.outer ≤ i) → (j ≡ length xs → i ≡ length ss) → r.outer ≤ i
+    go [] zero h k l = let same : s ≡ r = ap (scope_or s) h in omega (arith, le, l refl, ap Scope.outer same)
+    go [] (suc j) h k l = cc h
+    go (x ∷ xs) zero h k l = k h
+    go (x ∷ xs) (suc j) h k l = go xs j h k (λ e. l (ap suc e))
 
 abbrev back : Param → Bound
 back (is.Is v) = Is v

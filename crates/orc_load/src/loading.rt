@@ -1,13 +1,13 @@
-//! From a source and a script to the program that is run or checked.
+//! The program of a source with a script's sites.
 
 ghost use Rattle.std.specs.Prelude.{◌≡◌, IfOk, IfErr};
 ghost use Rattle.orc_syntax.specs.Tree.{Source};
 ghost use Rattle.orc_syntax.specs.Ast.{IsAst};
 ghost use Rattle.orc_scope.specs.Checking.{Checks};
 ghost use Rattle.orc_site.specs.Script.{Says};
-ghost use Rattle.orc_run.specs.Running.{IsProgramOf, IsLoadFault};
+ghost use Rattle.orc_load.specs.Loading.{IsProgramOf, IsLoadFault};
 
-use crate::faults::RunFault;
+use crate::fault::LoadFault;
 use orc_rules::answers::Answers;
 use orc_rules::program::Program;
 use orc_scope::{FaultKind, ScopeFault};
@@ -61,21 +61,21 @@ fn checked(alloc: Global, ast: &Ast, answers: &Answers) -> Result<Program, Scope
 
 /// The program that a source spells, with the built-in sites and those of a script. The fault is the first of one of the source's text, one of the
 /// script and one of the source's names.
-pub fn load(alloc: Global, source: &[u8], script: &[u8]) -> Result<Loaded, RunFault>
+pub fn load(alloc: Global, source: &[u8], script: &[u8]) -> Result<Loaded, LoadFault>
     ensures says { IfOk result (λ p. Says script.now p.answers) }
     ensures spells { IfOk result (λ p. IsProgramOf source.now p.answers p.program) }
     ensures fault { IfErr result (IsLoadFault source.now script.now) }
 {
     let ast = match parse(alloc, source) {
         Ok(ast) => ast,
-        Err(fault) => return Err(RunFault::Syntax(fault)),
+        Err(fault) => return Err(LoadFault::Syntax(fault)),
     };
     let answers = match read_script(alloc, script) {
         Ok(answers) => answers,
-        Err(fault) => return Err(RunFault::Script(fault)),
+        Err(fault) => return Err(LoadFault::Script(fault)),
     };
     match checked(alloc, &ast, &answers) {
         Ok(program) => Ok(Loaded { program, answers }),
-        Err(fault) => Err(RunFault::Scope(fault)),
+        Err(fault) => Err(LoadFault::Scope(fault)),
     }
 }

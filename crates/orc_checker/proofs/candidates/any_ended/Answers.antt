@@ -2,7 +2,7 @@ use Rattle.std.proofs.Common.{◌≤◌, ◌∙◌, ap, sym, arith, ⊎_elim}
 use Rattle.orc_checker.specs.Sides.{has_ended}
 use Rattle.orc_checker.proofs.Hints.{next_or}
 use Rattle.orc_checker.proofs.KeptSides.{beyond, less_or}
-use Rattle.orc_checker.proofs.candidates.does_any_end.Goals as goal
+use Rattle.orc_checker.proofs.candidates.any_ended.Goals as goal
 
 pub loop-place-preserved : goal.loop-place-preserved
 loop-place-preserved c p lt =
