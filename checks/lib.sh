@@ -27,6 +27,13 @@ is_so() {
     if [ "$2" = "$3" ]; then pass; else fail "$1: wanted is" "$2" "but it gives" "$3"; fi
 }
 
+# text_of NAME FILE: the variable of this name becomes the text of a file. No program is started for it, here or below: where many checks run side
+# by side one may fail for want of memory, and a right text would be told as a wrong one.
+text_of() { IFS= read -r -d '' "$1" <"$2"; }
+
+# Whether a line of a text ends with a blank.
+has_blank_ends() { [[ $1$'\n' == *' '$'\n'* ]]; }
+
 # Builds the program of storms where it isn't built yet; its path is in `storms`.
 need_storms() {
     storms=$top/crates/orc_storms/out/orc_storms
