@@ -1,25 +1,9 @@
 //! Where each entry stands across a picture: its time, and its slot among the entries of that time.
 
-ghost use Rattle.std.specs.Prelude.{◌≤◌};
-
 use crate::rows::Rows;
 use crate::story::{Event, Moment, Shown};
+use orc_scale::{Instant, Slot};
 use std::alloc::{AllocError, Global};
-
-/// A time that a picture shows, and how many slots it has.
-#[derive(Clone, Copy)]
-pub(crate) struct Instant {
-    pub time: u64,
-    pub slots: u64,
-}
-
-/// The slot of an entry: the number of its instant, and which of its slots.
-#[derive(Clone, Copy)]
-pub(crate) struct Slot {
-    pub entry: u64,
-    pub instant: usize,
-    pub place: u64,
-}
 
 /// The instants in order, and the slots in the order of their entries.
 #[derive(Drop)]
@@ -119,14 +103,5 @@ impl Slots {
             total = total.saturating_add(instant.width());
         }
         total
-    }
-}
-
-impl Instant {
-    /// How many slots wide its band is.
-    pub(crate) fn width(&self) -> u64
-        ensures { 1 ≤ result }
-    {
-        self.slots.max(1)
     }
 }

@@ -5,15 +5,15 @@
 
 ghost use Rattle.std.specs.Prelude.{◌≤◌};
 
-use crate::slots::{Instant, Slot};
+use crate::slot::{Instant, Slot};
 use std::alloc::{AllocError, Global};
 
 /// How many parts a column or a pixel has: places are counted in parts.
-pub(crate) const PARTS: u64 = 1_000_000;
+pub const PARTS: u64 = 1_000_000;
 
 /// How wide a picture is, and how it is shared, all in parts.
 #[derive(Clone, Copy)]
-pub(crate) struct Measure {
+pub struct Measure {
     /// The width of the plot.
     pub width: u64,
     /// The widest slot.
@@ -26,7 +26,7 @@ pub(crate) struct Measure {
 
 /// Where each instant's band begins, how wide a slot is, and where the last band ends, all in parts.
 #[derive(Drop)]
-pub(crate) struct Scale {
+pub struct Scale {
     pub begins: Vec<u64>,
     pub slot: u64,
     pub end: u64,
@@ -100,7 +100,7 @@ impl Measure {
 
 impl Scale {
     /// Shares a width among the instants of a picture.
-    pub(crate) fn new(
+    pub fn new(
         alloc: Global,
         instants: &[Instant],
         total: u64,
@@ -138,17 +138,17 @@ impl Scale {
     }
 
     /// Where an instant's band begins.
-    pub(crate) fn begin(&self, instant: usize) -> u64 {
+    pub fn begin(&self, instant: usize) -> u64 {
         self.begins.get(instant).copied().unwrap_or(0)
     }
 
     /// How far in its band a slot begins.
-    pub(crate) fn within(&self, slot: Slot) -> u64 {
+    pub fn within(&self, slot: Slot) -> u64 {
         self.slot.saturating_mul(slot.place)
     }
 
     /// Makes the whole as narrow as this, where it is wider.
-    pub(crate) fn squeeze(&mut self, width: u64) {
+    pub fn squeeze(&mut self, width: u64) {
         let whole = self.end;
         if whole > width {
             for begin in self.begins.iter_mut() {
