@@ -1,8 +1,8 @@
 //! What is explained of each fault.
 
 use crate::page::Page;
-use crate::subject::Subject;
 use orc_journal::JournalFault;
+use orc_page::Subject;
 use orc_rules::limits::MOST_ENTRIES;
 use orc_scope::ScopeFault;
 use orc_site::ScriptFault;

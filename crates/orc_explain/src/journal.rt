@@ -2,9 +2,8 @@
 
 use crate::near::Near;
 use crate::page::Page;
-use crate::subject::Subject;
 use orc_journal::JournalFault;
-use orc_page::Document;
+use orc_page::{Document, Subject};
 use orc_rules::limits::{LONGEST_JOURNAL, MOST_ENTRIES};
 use orc_site::read_script;
 use std::alloc::{AllocError, Global};

@@ -3,12 +3,11 @@
 use crate::ended::Ended;
 use crate::page::Page;
 use crate::replay::Replay;
-use crate::subject::Subject;
 use crate::tokens::span_at;
 use orc_checker::arena::{Kind, Tip};
 use orc_journal::{Journal, has_line, write_entry, write_value};
 use orc_outcome::{End, Summary};
-use orc_page::place_of;
+use orc_page::{Subject, place_of};
 use orc_rules::answers::Answers;
 use orc_rules::entry::Entry;
 use orc_rules::param::Param;

@@ -1,9 +1,8 @@
 //! Faults of a script (L).
 
 use crate::page::Page;
-use crate::subject::Subject;
 use orc_lex::token::Span;
-use orc_page::Document;
+use orc_page::{Document, Subject};
 use orc_rules::builtin::Builtin;
 use orc_rules::digits::digits_at;
 use orc_rules::limits::{LONGEST_SOURCE, MOST_ANSWERS, MOST_ARGUMENTS};

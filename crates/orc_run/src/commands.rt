@@ -17,7 +17,7 @@ use crate::output::WriteFault;
 use crate::printing::print_text;
 use crate::running::{Options, run_text};
 use clap::error::ErrorKind;
-use orc_explain::{Document, Subject};
+use orc_page::{Document, Subject};
 use std::alloc::Global;
 use std::convert::AsStr;
 use std::io::Write;

@@ -1,9 +1,10 @@
 //! How a run ended, explained by a second run of the same program.
 
 use crate::running::{Options, play};
-use orc_explain::{Ended, Subject, explain_end, explain_refusal};
+use orc_explain::{Ended, explain_end, explain_refusal};
 use orc_load::load;
 use orc_outcome::{End, Summary};
+use orc_page::Subject;
 use std::alloc::{AllocError, Global};
 use std::sync::Wait;
 use std::thread::Threads;

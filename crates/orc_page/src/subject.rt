@@ -1,8 +1,8 @@
-//! What is explained.
+//! What a command line names.
 
 ghost use Rattle.std.specs.Prelude.{◌≡◌};
 
-use orc_page::Document;
+use crate::document::Document;
 
 /// The files of a command line.
 #[derive(Clone, Copy)]
