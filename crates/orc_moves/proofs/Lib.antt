@@ -1,1 +1,2 @@
 pub mod Sides
+mod Taken

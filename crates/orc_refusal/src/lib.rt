@@ -22,5 +22,4 @@ mod task;
 mod term;
 mod way;
 
-pub use allowed::Allowed;
 pub use refusal::explain_refusal;

@@ -1,12 +1,12 @@
 //! Why an entry is refused, said under its place.
 
-use crate::allowed::{Allowed, entry_of};
+use crate::allowed::{cancel_in, things_in, tick_in};
 use crate::line::{field, say_entry, whole};
 use crate::replay::Replay;
 use orc_calls::due_time;
 use orc_checker::Marked;
 use orc_lex::token::Span;
-use orc_moves::numbers_of;
+use orc_moves::{Allowed, entry_of, numbers_of};
 use orc_page::{Page, left_out};
 use orc_rules::answers::Answers;
 use orc_rules::entry::{Entry, RuleFault};
@@ -95,13 +95,13 @@ impl Refused<'_> {
     fn say_end(&self, page: &mut Page) {
         self.show_whole(page);
         page.say("the journal ends here, and cancel ");
-        page.number(self.allowed.cancel().unwrap_or(0));
+        page.number(cancel_in(self.allowed).unwrap_or(0));
         page.say(" is due\n");
     }
 
     fn say_cancel(&self, page: &mut Page) {
         self.show_whole(page);
-        match self.allowed.cancel() {
+        match cancel_in(self.allowed) {
             Some(call) => {
                 page.say("cancel ");
                 page.number(call);
@@ -252,14 +252,14 @@ impl Refused<'_> {
     }
 
     fn say_tick(&self, page: &mut Page) {
-        let things = self.allowed.things();
+        let things = things_in(self.allowed);
         if things > 0 {
             page.say("a tick comes only where nothing can be done now: ");
             page.count(things, "thing");
             page.say(" can");
             return;
         }
-        match self.allowed.tick() {
+        match tick_in(self.allowed) {
             Some(time) => {
                 page.say("the next due time is ");
                 page.number(time);

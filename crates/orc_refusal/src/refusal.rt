@@ -1,6 +1,6 @@
 //! What is explained of an entry that is refused.
 
-use crate::allowed::Allowed;
+use crate::allowed::say_allowed;
 use crate::line::line_of;
 use crate::names::Names;
 use crate::reason::Refused;
@@ -9,6 +9,7 @@ use crate::spent::Spent;
 use crate::strip::Strip;
 use crate::way::Way;
 use orc_journal::{Journal, read_journal};
+use orc_moves::Allowed;
 use orc_page::{Document, Page};
 use orc_rules::answers::Answers;
 use orc_rules::entry::{Entry, RuleFault};
@@ -102,7 +103,8 @@ impl<'s> Case<'s> {
             return Ok(());
         }
         self.say_term(page, alloc, &replay, entry.as_ref(), why)?;
-        allowed.say(page, alloc, &self.answers, replay.marked.has_halted())
+        let has_halted = replay.marked.has_halted();
+        say_allowed(page, alloc, &self.answers, &allowed, has_halted)
     }
 
     // Where the entry stands, and the one before it.

@@ -1,6 +1,6 @@
 use Rattle.std.proofs.Common.{◌≡◌, ◌∙◌}
-use Rattle.orc_refusal.proofs.Taken.{one_more}
-use Rattle.orc_refusal.proofs.allowed.taken.Goals as goal
+use Rattle.orc_moves.proofs.Taken.{one_more}
+use Rattle.orc_moves.proofs.allowed.taken.Goals as goal
 
 pub loop-entry-preserved-in-Continue-1 : goal.loop-entry-preserved-in-Continue-1
 loop-entry-preserved-in-Continue-1 c =

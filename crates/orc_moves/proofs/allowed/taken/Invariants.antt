@@ -1,6 +1,6 @@
 use Rattle.std.proofs.Common.{◌≡◌}
-use Rattle.orc_refusal.specs.Allowed.{AreTaken}
-use Rattle.orc_refusal.proofs.allowed.taken.Given as goal
+use Rattle.orc_moves.specs.Allowed.{AreTaken}
+use Rattle.orc_moves.proofs.allowed.taken.Given as goal
 
 -- what was taken so far meets all conditions, and the tests have changed nothing
 abbrev pub invariant-loop-entry : goal.invariant-loop-entry

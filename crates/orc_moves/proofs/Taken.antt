@@ -6,7 +6,7 @@ use Rattle.orc_rules.specs.Nodes.{Listing}
 use Rattle.orc_rules.specs.Sites.{Table}
 use Rattle.orc_checker.specs.Checker.{State}
 use Rattle.orc_verdict.specs.Reasons.{MeetsAll}
-use Rattle.orc_refusal.specs.Allowed.{AreTaken}
+use Rattle.orc_moves.specs.Allowed.{AreTaken}
 
 -- one more, tested in a state that is still the first one
 pub one_more : (l : Listing) (t : Table) (s s' : State) (es es' : List Entry) (e : Entry) → s' ≡ s → es' ≡ es ++ e ∷ [] → AreTaken l t s es → MeetsAll l t e s' → AreTaken l t s es'
