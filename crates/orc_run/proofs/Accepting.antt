@@ -46,7 +46,7 @@ use Rattle.orc_run.specs.Checked.{verdict_line, StandsSo, IsOfRun}
 use Rattle.orc_outcome.specs.declared.end.End.{End}
 use Rattle.orc_outcome.specs.declared.end.End.TheVariants as ends
 use Rattle.orc_outcome.specs.declared.end.Summary.{Summary}
-use Rattle.orc_run.specs.declared.running.Options.{Options}
+use Rattle.orc_words.specs.declared.job.Options.{Options}
 
 -- ---- a source and a script are read in one way
 

@@ -16,7 +16,7 @@ use Rattle.orc_run.specs.declared.drawing.Undrawn.TheVariants as undrawn
 use Rattle.orc_outcome.specs.declared.end.Summary.{Summary}
 use Rattle.orc_run.specs.declared.faults.RunFault.{RunFault}
 use Rattle.orc_run.specs.declared.faults.RunFault.TheVariants as fault
-use Rattle.orc_run.specs.declared.running.Options.{Options}
+use Rattle.orc_words.specs.declared.job.Options.{Options}
 use Rattle.orc_run.proofs.Accepting.{names_beyond, script_beyond, syntax_beyond}
 
 pub of_run : (source script : List ℕ) (f : LoadFault) → IsLoadFault source script f → IsFaultOf source script (of_load f)

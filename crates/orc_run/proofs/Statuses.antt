@@ -30,9 +30,9 @@ use Rattle.orc_run.specs.Status.{read_status_of}
 use Rattle.orc_run.specs.Checked.{LeavesUnjudged}
 use Rattle.orc_run.specs.Drawn.{LeavesUndrawn}
 use Rattle.orc_run.specs.Printed.{LeavesUnprinted}
-use Rattle.orc_run.specs.declared.running.Options.{Options}
-use Rattle.orc_run.specs.declared.arguments.Job.{Job}
-use Rattle.orc_run.specs.declared.arguments.Job.TheVariants as job
+use Rattle.orc_words.specs.declared.job.Options.{Options}
+use Rattle.orc_words.specs.declared.job.Job.{Job}
+use Rattle.orc_words.specs.declared.job.Job.TheVariants as job
 use Rattle.orc_run.specs.declared.inputs.ReadFault.{ReadFault}
 use Rattle.orc_run.specs.declared.inputs.ReadFault.TheVariants as read
 use Rattle.orc_run.specs.declared.failures.Failure.{Failure}

@@ -9,7 +9,7 @@ use Rattle.orc_rules.specs.Trace.{published}
 use Rattle.orc_outcome.specs.Outcome.{IsPlayed, text_of}
 use Rattle.orc_outcome.specs.declared.end.Summary.{Summary}
 use Rattle.orc_run.specs.Running.{IsTold, kept, written}
-use Rattle.orc_run.specs.declared.running.Options.{Options}
+use Rattle.orc_words.specs.declared.job.Options.{Options}
 
 -- what is kept of a journal shows it
 shows : (names : List (List ℕ)) (keeps : Bool) (values : List Value) (text : List ℕ) (es : List Entry) → values ≡ published es → (keeps ≡ true → text ≡ text_of names es) → kept keeps values text ≡ written keeps names es

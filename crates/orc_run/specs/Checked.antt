@@ -23,7 +23,7 @@ use Rattle.orc_run.specs.Running.{IsUnloaded, Runs}
 use Rattle.orc_outcome.specs.declared.end.End.{End}
 use Rattle.orc_outcome.specs.declared.end.End.TheVariants as ends
 use Rattle.orc_outcome.specs.declared.end.Summary.{Summary}
-use Rattle.orc_run.specs.declared.running.Options.{Options}
+use Rattle.orc_words.specs.declared.job.Options.{Options}
 use Rattle.orc_run.specs.declared.faults.RunFault.{RunFault}
 use Rattle.orc_run.specs.declared.faults.RunFault.TheVariants as fault
 

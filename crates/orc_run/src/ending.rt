@@ -1,10 +1,11 @@
 //! How a run ended, explained by a second run of the same program.
 
-use crate::running::{Options, play};
+use crate::running::play;
 use orc_explain::{Ended, explain_end, explain_refusal};
 use orc_load::load;
 use orc_outcome::{End, Summary};
 use orc_page::Subject;
+use orc_words::Options;
 use std::alloc::{AllocError, Global};
 use std::sync::Wait;
 use std::thread::Threads;

@@ -1,7 +1,6 @@
-//! The program `orc` as a library: its command line, its statuses and its texts.
+//! The program `orc` as a library: its commands, its statuses and its texts.
 #![tactic(auto)]
 
-mod arguments;
 mod commands;
 mod drawing;
 mod ending;
@@ -23,6 +22,7 @@ pub use faults::RunFault;
 pub use inputs::{Files, ReadFault};
 pub use judging::check_text;
 pub use orc_outcome::{End, Summary};
+pub use orc_words::Options;
 pub use output::{WriteFault, write_text};
 pub use printing::print_text;
-pub use running::{Options, run_text};
+pub use running::run_text;

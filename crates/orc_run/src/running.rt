@@ -15,21 +15,11 @@ use orc_engine::{EngineFault, run_alone, run_pool};
 use orc_load::{Loaded, load};
 use orc_outcome::{Played, Summary};
 use orc_site::{Open, Scripted};
+use orc_words::Options;
 use std::alloc::Global;
 use std::io::Write;
 use std::sync::Wait;
 use std::thread::Threads;
-
-/// How a program is run.
-#[derive(Clone, Copy, Debug, PartialEq, Eq)]
-pub struct Options {
-    /// How many workers run it, 1 to `MOST_WORKERS`.
-    pub workers: u64,
-    /// The most entries that the run's journal may have, cancels not counted.
-    pub limit: u64,
-    /// Whether the journal is written, in place of what was published.
-    pub journal: bool,
-}
 
 /// Runs a program.
 pub fn play<R: Threads + Wait + Sync>(

@@ -1,6 +1,6 @@
-//! The command line: what it may say, and what it asks for.
+//! What a command line may say.
 
-use crate::running::Options;
+use crate::job::{Asked, Job, Options};
 use clap::error::ErrorKind;
 use clap::{Arg, ArgAction, ArgMatches, Command, Error, value_parser};
 use orc_draw::{Form, Theme};
@@ -55,37 +55,6 @@ impl Ranges {
             default_limit: format!(in alloc; "{DEFAULT_ENTRIES}")?,
         })
     }
-}
-
-/// A job, and whether what went wrong is to be explained.
-#[derive(Clone, Copy, Debug)]
-pub struct Asked<'a> {
-    pub job: Job<'a>,
-    pub explain: bool,
-}
-
-/// What a command line asks for.
-#[derive(Clone, Copy, Debug)]
-pub enum Job<'a> {
-    Run {
-        file: &'a str,
-        script: Option<&'a str>,
-        options: Options,
-    },
-    Check {
-        file: &'a str,
-        journal: &'a str,
-        script: Option<&'a str>,
-    },
-    Draw {
-        file: &'a str,
-        journal: &'a str,
-        script: Option<&'a str>,
-        options: orc_draw::Options,
-    },
-    Print {
-        file: &'a str,
-    },
 }
 
 fn file_argument<'a>(alloc: Global) -> Arg<'a> {
