@@ -2,40 +2,32 @@
 
 use crate::near::Near;
 use crate::page::Page;
+use crate::words::said_of;
 use orc_journal::JournalFault;
 use orc_page::{Document, Subject};
 use orc_rules::limits::{LONGEST_JOURNAL, MOST_ENTRIES};
 use orc_site::read_script;
 use std::alloc::{AllocError, Global};
 
-/// The words with which entries begin.
-const WORDS: [&[u8]; 16] = [
-    b"end", b"fork", b"seq", b"other", b"def", b"void", b"open", b"send", b"call", b"return",
-    b"bind", b"lost", b"right", b"publish", b"tick", b"cancel",
+/// The words with which entries begin, each with the form of its entries.
+const FORMS: [(&[u8], &str); 16] = [
+    (b"end", "end S"),
+    (b"fork", "fork S A B"),
+    (b"seq", "seq S A"),
+    (b"other", "other S A"),
+    (b"def", "def S A"),
+    (b"void", "void S"),
+    (b"open", "open S C A B"),
+    (b"send", "send S A V"),
+    (b"call", "call S K NAME(a, b)"),
+    (b"return", "return K A V` or `return K halt"),
+    (b"bind", "bind S C V"),
+    (b"lost", "lost C"),
+    (b"right", "right S A"),
+    (b"publish", "publish S V"),
+    (b"tick", "tick T"),
+    (b"cancel", "cancel K"),
 ];
-
-// The form of the entries that begin with a word.
-fn form_of(word: &[u8]) -> Option<&'static str> {
-    match word {
-        b"end" => Some("end S"),
-        b"fork" => Some("fork S A B"),
-        b"seq" => Some("seq S A"),
-        b"other" => Some("other S A"),
-        b"def" => Some("def S A"),
-        b"void" => Some("void S"),
-        b"open" => Some("open S C A B"),
-        b"send" => Some("send S A V"),
-        b"call" => Some("call S K NAME(a, b)"),
-        b"return" => Some("return K A V` or `return K halt"),
-        b"bind" => Some("bind S C V"),
-        b"lost" => Some("lost C"),
-        b"right" => Some("right S A"),
-        b"publish" => Some("publish S V"),
-        b"tick" => Some("tick T"),
-        b"cancel" => Some("cancel K"),
-        _ => None,
-    }
-}
 
 // What stands before the first byte of this kind, and what behind it.
 fn split_at_byte(text: &[u8], byte: u8) -> (&[u8], &[u8]) {
@@ -113,7 +105,7 @@ impl Page {
         let line = document.part(span);
         self.point(document, span);
         let (word, _fields) = split_at_byte(line, b' ');
-        match form_of(word) {
+        match said_of(word, FORMS.as_slice()) {
             _ if line.is_empty() => {
                 self.say("an entry has to stand here: a journal has no blank lines\n");
             }
@@ -136,7 +128,7 @@ impl Page {
         self.say("`");
         let mut near = Near::new(alloc, word);
         let mut meant: &[u8] = b"";
-        for other in WORDS {
+        for (other, _form) in FORMS {
             if near.takes(other)? {
                 meant = other;
             }

@@ -29,6 +29,7 @@ mod signs;
 mod syntax;
 mod tokens;
 mod wanted;
+mod words;
 
 pub use ended::Ended;
 pub use ends::{explain_end, explain_refusal};

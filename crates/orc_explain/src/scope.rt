@@ -6,6 +6,7 @@ use crate::near::Near;
 use crate::page::Page;
 use crate::tokens::span_at;
 use crate::wanted::NO_IF;
+use crate::words::{RESERVED, said_of};
 use orc_page::{Document, Subject};
 use orc_rules::answers::Answers;
 use orc_rules::limits::{MOST_ARGUMENTS, MOST_NODES};
@@ -14,22 +15,16 @@ use orc_site::read_script;
 use orc_syntax::{Ast, Definition, Expr, Name, Part, parse};
 use std::alloc::{AllocError, Global};
 
-/// The words that no name can be.
-const RESERVED: [&[u8]; 6] = [b"def", b"val", b"stop", b"true", b"false", b"signal"];
-
-// What a built-in site answers, in words.
-fn purpose(name: &[u8]) -> Option<&'static str> {
-    match name {
-        b"Add" => Some("the sum of two numbers"),
-        b"Sub" => Some("the difference of two numbers"),
-        b"Eq" => Some("whether two values are the same"),
-        b"Lt" => Some("whether a number is less than another"),
-        b"Ift" => Some("`signal` for `true`, else nothing"),
-        b"Iff" => Some("`signal` for `false`, else nothing"),
-        b"Rwait" => Some("`signal` after a time"),
-        _ => None,
-    }
-}
+/// What the built-in sites answer, in words.
+const PURPOSES: [(&[u8], &str); 7] = [
+    (b"Add", "the sum of two numbers"),
+    (b"Sub", "the difference of two numbers"),
+    (b"Eq", "whether two values are the same"),
+    (b"Lt", "whether a number is less than another"),
+    (b"Ift", "`signal` for `true`, else nothing"),
+    (b"Iff", "`signal` for `false`, else nothing"),
+    (b"Rwait", "`signal` after a time"),
+];
 
 // The first definition of this name.
 fn definition_of<'d, 'a>(ast: &'d Ast<'a>, name: &[u8]) -> Option<&'d Definition<'a>> {
@@ -255,7 +250,7 @@ impl Page {
         self.note("help: did you mean `");
         self.word(name);
         self.say("`?");
-        if let Some(purpose) = purpose(name) {
+        if let Some(purpose) = said_of(name, PURPOSES.as_slice()) {
             self.say(" It is ");
             self.say(purpose);
             self.say(".");

@@ -1,6 +1,7 @@
 //! Faults of a script (L).
 
 use crate::page::Page;
+use crate::words::{RESERVED, is_one_of};
 use orc_lex::token::Span;
 use orc_page::{Document, Subject};
 use orc_rules::builtin::Builtin;
@@ -188,13 +189,11 @@ impl<'a> Line<'a> {
                 return Err(Wrong::BuiltIn);
             }
         }
-        match here.text {
-            b"def" | b"val" | b"stop" | b"true" | b"false" | b"signal" => Err(Wrong::Reserved),
-            _ => {
-                self.go();
-                Ok(())
-            }
+        if is_one_of(here.text, RESERVED.as_slice()) {
+            return Err(Wrong::Reserved);
         }
+        self.go();
+        Ok(())
     }
 
     fn patterns(&mut self) -> Result<(), Wrong> {

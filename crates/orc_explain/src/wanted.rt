@@ -2,6 +2,7 @@
 
 use crate::hint::Hint;
 use crate::tokens::Tokens;
+use crate::words::{RESERVED, is_one_of, said_of};
 use orc_lex::token::{Kind, Plain, Token, What};
 
 pub(crate) const NO_IF: &str =
@@ -12,6 +13,68 @@ const VAL: &str = "a value is named with `val x = g f`";
 const WHOLE: &str = "`val` begins a whole expression: put `( .. )` around it";
 
 const NO_TUPLES: &str = "there are no tuples: a `,` stands only between arguments and parameters";
+
+/// Signs behind which something has to follow.
+const SIGNS: [&[u8]; 9] = [b"|", b";", b">", b"<", b">>", b"<<", b"=", b"(", b","];
+
+/// What stands behind the value of a `val` where it was taken for a statement; nothing at the end of the text.
+const RESTARTS: [&[u8]; 3] = [b"", b";", b"val"];
+
+/// Words of other languages that stand before the name of a value.
+const NAMING: [&[u8]; 3] = [b"let", b"var", b"const"];
+
+/// Words of other languages that stand before the name of a function.
+const DEFINING: [&[u8]; 4] = [b"fn", b"fun", b"func", b"function"];
+
+/// Words of other languages that stand behind a condition.
+const CHOOSING: [&[u8]; 2] = [b"then", b"else"];
+
+/// What a word says that stands in place of an expression.
+const MISPLACED: [(&[u8], &str); 2] = [
+    (b"val", WHOLE),
+    (
+        b"def",
+        "definitions stand before the main expression, not inside one",
+    ),
+];
+
+/// What two tokens say, the second in place of an expression; nothing at either end of the text.
+const PAIRS: [(&[u8], &[u8], &str); 3] = [
+    (
+        b"",
+        b"",
+        "a program is an expression, with definitions before it",
+    ),
+    (
+        b"(",
+        b")",
+        "empty brackets stand only behind the name of a call",
+    ),
+    (
+        b"|",
+        b"|",
+        "parallel is one `|`; there is no sign for \"or\" of truth values",
+    ),
+];
+
+/// The signs of an operator with a name between, where they point two ways.
+const CROSSED: [(&[u8], &[u8]); 4] = [(b">", b"<"), (b">", b"<<"), (b"<", b">"), (b"<", b">>")];
+
+fn are_crossed(first: &[u8], second: &[u8]) -> bool {
+    CROSSED
+        .iter()
+        .any(|(one, other)| *one == first && *other == second)
+}
+
+// What two tokens say, or the second alone, where it stands in place of an expression.
+fn said_of_pair(last: &[u8], here: &[u8]) -> Option<&'static str> {
+    for (first, second, said) in PAIRS {
+        if first == last && second == here {
+            return Some(said);
+        }
+    }
+    said_of(here, MISPLACED.as_slice())
+}
 
 fn name_of<'a>(token: Option<Token<'a>>) -> Option<&'a [u8]> {
     match token {
@@ -38,18 +101,7 @@ fn is_number(token: Option<Token>) -> bool {
 }
 
 fn is_reserved(word: &[u8]) -> bool {
-    match word {
-        b"def" | b"val" | b"stop" | b"true" | b"false" | b"signal" => true,
-        _ => false,
-    }
-}
-
-// A sign behind which something has to follow.
-fn is_sign(word: &[u8]) -> bool {
-    match word {
-        b"|" | b";" | b">" | b"<" | b">>" | b"<<" | b"=" | b"(" | b"," => true,
-        _ => false,
-    }
+    is_one_of(word, RESERVED.as_slice())
 }
 
 /// A source's text and its tokens round the place.
@@ -153,56 +205,62 @@ impl<'a> Around<'_, 'a> {
         over_lines.or(found)
     }
 
-    // A word or a sign of another language.
-    fn foreign(&self, what: What) -> Option<Hint<'a>> {
-        let name = name_of(self.tokens.here);
-        match (self.back(1), self.here(), name) {
-            (b"if", _, _) | (_, b"then" | b"else", _) => Some(Hint::plain(NO_IF)),
-            (b"let" | b"var" | b"const", _, Some(name)) => Some(Hint::of_name(
+    // A word of another language, before the place or at it.
+    fn foreign_word(&self) -> Option<Hint<'a>> {
+        let last = self.back(1);
+        if last == b"if".as_slice() || is_one_of(self.here(), CHOOSING.as_slice()) {
+            return Some(Hint::plain(NO_IF));
+        }
+        let name = name_of(self.tokens.here)?;
+        if is_one_of(last, NAMING.as_slice()) {
+            return Some(Hint::of_name(
                 "a value is named with `val`: `val % = g f`, with no sign between g and f",
                 name,
-            )),
-            (b"fn" | b"fun" | b"func" | b"function", _, Some(name)) => {
-                Some(Hint::of_name("a definition is `def %(a, b) = ..`", name))
-            }
-            (last, b"=", _) if last == b"=".as_slice() || is_behind_expression(what) => {
-                Some(Hint::plain(
-                    "`Eq(a, b)` says whether two values are the same; `=` stands only in `def` and `val`",
-                ))
-            }
-            _ => None,
+            ));
         }
+        if is_one_of(last, DEFINING.as_slice()) {
+            return Some(Hint::of_name("a definition is `def %(a, b) = ..`", name));
+        }
+        None
+    }
+
+    // Whether the token at the place is a `=` that compares.
+    fn is_equality(&self, what: What) -> bool {
+        let equals = b"=".as_slice();
+        self.here() == equals && (self.back(1) == equals || is_behind_expression(what))
+    }
+
+    // A word or a sign of another language.
+    fn foreign(&self, what: What) -> Option<Hint<'a>> {
+        if let Some(hint) = self.foreign_word() {
+            return Some(hint);
+        }
+        if self.is_equality(what) {
+            return Some(Hint::plain(
+                "`Eq(a, b)` says whether two values are the same; `=` stands only in `def` and `val`",
+            ));
+        }
+        None
     }
 
     fn expression(&self) -> Option<Hint<'a>> {
+        let last = self.back(1);
         let here = self.here();
-        let is_restart = match here {
-            b"" | b";" | b"val" => true,
-            _ => false,
-        };
-        if is_restart && self.is_val_ended() {
+        if is_one_of(here, RESTARTS.as_slice()) && self.is_val_ended() {
             return Some(Hint::plain(
                 "nothing stands between the two parts of a `val`: `val x = g f`, without the `;`",
             ));
         }
-        match (self.back(1), here) {
-            (b"", b"") => {
-                Some(Hint::plain("a program is an expression, with definitions before it"))
-            }
-            (_, b"val") => Some(Hint::plain(WHOLE)),
-            (b"(", b")") => {
-                Some(Hint::plain("empty brackets stand only behind the name of a call"))
-            }
-            (b"|", b"|") => Some(Hint::plain(
-                "parallel is one `|`; there is no sign for \"or\" of truth values",
-            )),
-            (_, b"def") => Some(Hint::plain(
-                "definitions stand before the main expression, not inside one",
-            )),
-            (sign, _) if is_sign(sign) => Some(Hint::of_name("something has to follow `%`", sign)),
-            (_, b"") if self.has_begun() => Some(self.main_expression()),
-            _ => None,
+        if let Some(words) = said_of_pair(last, here) {
+            return Some(Hint::plain(words));
         }
+        if is_one_of(last, SIGNS.as_slice()) {
+            return Some(Hint::of_name("something has to follow `%`", last));
+        }
+        if here.is_empty() && self.has_begun() {
+            return Some(self.main_expression());
+        }
+        None
     }
 
     // Where definitions or `val`s stand, and no expression behind them.
@@ -261,22 +319,24 @@ impl<'a> Around<'_, 'a> {
     }
 
     fn arrow(&self) -> Hint<'a> {
-        match (self.back(2), self.here()) {
-            (b">", b"<" | b"<<") | (b"<", b">" | b">>") => Hint::plain(
+        if are_crossed(self.back(2), self.here()) {
+            return Hint::plain(
                 "both signs point the same way: `f >x> g` hands on, `f <x< g` waits for the first",
-            ),
-            _ => Hint::plain(
-                "`f >x> g` and `f <x< g` have a sign on both sides of the name; `Lt(a, b)` compares",
-            ),
+            );
         }
+        Hint::plain(
+            "`f >x> g` and `f <x< g` have a sign on both sides of the name; `Lt(a, b)` compares",
+        )
     }
 
     fn assign(&self) -> Hint<'a> {
-        match (self.back(1), self.here()) {
-            (_, b"(") => Hint::plain("parameters belong to `def`: `def f(a) = ..`"),
-            (b")", _) => Hint::plain("a definition is `def f(a) = ..`"),
-            _ => Hint::plain(VAL),
+        if self.here() == b"(".as_slice() {
+            return Hint::plain("parameters belong to `def`: `def f(a) = ..`");
         }
+        if self.back(1) == b")".as_slice() {
+            return Hint::plain("a definition is `def f(a) = ..`");
+        }
+        Hint::plain(VAL)
     }
 
     fn paren(&self) -> Hint<'a> {
