@@ -18,6 +18,9 @@ const ANSWER: &str = "an answer is a number, `true`, `false`, `signal`, `halt` o
 
 const TIME: &str = "digits alone, at most 9223372036854775807";
 
+/// The values that are no numbers.
+const CONSTANTS: [&[u8]; 3] = [b"true", b"false", b"signal"];
+
 /// What a piece of a line is.
 #[derive(Clone, Copy, PartialEq, Eq)]
 pub(crate) enum Kind {
@@ -169,11 +172,13 @@ impl<'a> Line<'a> {
     // A number, `true`, `false` or `signal`.
     fn literal(&mut self, wrong: Wrong) -> Result<(), Wrong> {
         let here = self.here();
-        match here.text {
-            b"true" | b"false" | b"signal" => {}
-            _ if here.kind != Kind::Number => return Err(wrong),
-            text if !is_in_range(text) => return Err(Wrong::Range),
-            _ => {}
+        if !is_one_of(here.text, CONSTANTS.as_slice()) {
+            if here.kind != Kind::Number {
+                return Err(wrong);
+            }
+            if !is_in_range(here.text) {
+                return Err(Wrong::Range);
+            }
         }
         self.go();
         Ok(())

@@ -3,7 +3,7 @@
 use crate::hint::Hint;
 use crate::tokens::Tokens;
 use crate::words::{RESERVED, is_one_of, said_of};
-use orc_lex::token::{Kind, Plain, Token, What};
+use orc_lex::token::{Joint, Kind, Plain, Token, What};
 
 pub(crate) const NO_IF: &str =
     "there is no `if`: `(Ift(b) >> f) | (Iff(b) >> g)` runs f where b is true and g where it is false";
@@ -138,10 +138,10 @@ impl<'a> Around<'_, 'a> {
     fn open_bracket(&self) -> Option<Token<'a>> {
         let mut closed: usize = 0;
         for token in self.tokens.before.iter().rev() {
-            match self.text_of(*token) {
-                b")" => closed = closed.saturating_add(1),
-                b"(" if closed == 0 => return Some(*token),
-                b"(" => closed = closed.saturating_sub(1),
+            match token.kind {
+                Kind::Close => closed = closed.saturating_add(1),
+                Kind::Open if closed == 0 => return Some(*token),
+                Kind::Open => closed = closed.saturating_sub(1),
                 _ => {}
             }
         }
@@ -153,12 +153,12 @@ impl<'a> Around<'_, 'a> {
         let mut is_ended = self.here() == b";".as_slice();
         let mut closed: usize = 0;
         for token in self.tokens.before.iter().rev() {
-            match self.text_of(*token) {
-                b")" => closed = closed.saturating_add(1),
-                b"(" if closed == 0 => return false,
-                b"(" => closed = closed.saturating_sub(1),
-                b"val" if closed == 0 => return is_ended,
-                b";" if closed == 0 => is_ended = true,
+            match token.kind {
+                Kind::Close => closed = closed.saturating_add(1),
+                Kind::Open if closed == 0 => return false,
+                Kind::Open => closed = closed.saturating_sub(1),
+                Kind::Val if closed == 0 => return is_ended,
+                Kind::Joint(Joint::Other) if closed == 0 => is_ended = true,
                 _ => {}
             }
         }
@@ -167,13 +167,10 @@ impl<'a> Around<'_, 'a> {
 
     // Whether a `def` or a `val` stands before the place.
     fn has_begun(&self) -> bool {
-        for token in self.tokens.before.iter() {
-            match self.text_of(*token) {
-                b"def" | b"val" => return true,
-                _ => {}
-            }
-        }
-        false
+        self.tokens
+            .before
+            .iter()
+            .any(|token| matches!(token.kind, Kind::Def | Kind::Val))
     }
 
     // Whether a line ends between two tokens.
