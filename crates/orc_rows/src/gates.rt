@@ -57,6 +57,10 @@ impl Gate for Turnstile {
         }
         self.ran_out.fetch_add(1, Ordering::SeqCst);
     }
+
+    fn is_open(&self) -> bool {
+        false
+    }
 }
 
 /// Holds nobody, and doesn't say so.
@@ -65,6 +69,10 @@ pub(crate) struct Slow;
 
 impl Gate for Slow {
     fn pass(&self, _number: u64) {}
+
+    fn is_open(&self) -> bool {
+        false
+    }
 }
 
 /// Sites whose calls are held at a gate.
@@ -83,6 +91,10 @@ impl<'a> Sites for Held<'a> {
     }
 
     fn cancel(&self, _number: u64) {}
+
+    fn goes_by_table(&self) -> bool {
+        false
+    }
 }
 
 /// How sites take a call for another one.
@@ -119,6 +131,10 @@ impl<'a> Sites for Liar<'a> {
     fn cancel(&self, _number: u64) {}
 
     fn may_wait(&self) -> bool {
+        false
+    }
+
+    fn goes_by_table(&self) -> bool {
         false
     }
 }
@@ -200,6 +216,10 @@ impl<'a> Sites for Odd<'a> {
     }
 
     fn cancel(&self, _number: u64) {}
+
+    fn goes_by_table(&self) -> bool {
+        false
+    }
 }
 
 /// Sites that are refused memory for the call with this number.
@@ -220,6 +240,10 @@ impl<'a> Sites for Refusing<'a> {
     }
 
     fn cancel(&self, _number: u64) {}
+
+    fn goes_by_table(&self) -> bool {
+        false
+    }
 }
 
 // What is noted of a call.
@@ -320,6 +344,10 @@ impl Gate for Noting<'_> {
             self.board.hold(number);
         }
     }
+
+    fn is_open(&self) -> bool {
+        false
+    }
 }
 
 impl<'a> Sites for Noting<'a> {
@@ -348,6 +376,10 @@ impl<'a> Sites for Noting<'a> {
         if let Some(note) = self.board.note(number) {
             note.cancelled.fetch_add(1, Ordering::SeqCst);
         }
+    }
+
+    fn goes_by_table(&self) -> bool {
+        false
     }
 }
 

@@ -9,6 +9,8 @@ use crate::gate::Gate;
 pub struct Open;
 
 impl Gate for Open {
+    ghost holds_nobody = { λ _. Unit {0} };
+
     fn pass(&self, _number: u64) {}
 
     fn may_wait(&self) -> bool

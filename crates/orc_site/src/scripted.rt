@@ -26,6 +26,8 @@ impl<'a> Scripted<'a> {
 impl<'a> Sites for Scripted<'a> {
     type Call = SiteCall<'a>;
 
+    ghost by_table = { λ _. Unit {0} };
+
     fn call(&self, request: &Request) -> Result<SiteCall<'a>, AllocError>
         ensures { IfOk result (λ call. (call.answers.now ≡ self.now.answers.now) × (call.request ≡ request.now) × (call.moment ≡ request.now.made_at)) }
     {

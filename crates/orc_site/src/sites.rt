@@ -38,6 +38,9 @@ pub trait SiteFuture: Future<Output = Answer> {
 pub trait Sites {
     type Call: SiteFuture;
 
+    // Where they are known to go by the table.
+    ghost by_table: { Self → Type 0 } = { λ _. ⊥ };
+
     /// Begins a call. Its first moment is the time of the request. Its error is refused memory.
     fn call(&self, request: &Request) -> Result<Self::Call, AllocError>;
 
@@ -50,7 +53,6 @@ pub trait Sites {
     }
 
     /// Whether each call is answered just as the table of sites says, and nobody notices whether it is made. Then it need not be made.
-    fn goes_by_table(&self) -> bool {
-        false
-    }
+    fn goes_by_table(&self) -> bool
+        ensures { by_table self.now → result ≡ true };
 }

@@ -19,6 +19,10 @@ pub struct Slow;
 
 impl Gate for Slow {
     fn pass(&self, _number: u64) {}
+
+    fn is_open(&self) -> bool {
+        false
+    }
 }
 
 /// Holds each call until so many were made.
@@ -53,6 +57,10 @@ impl Gate for Turnstile {
         }
         self.ran_out.fetch_add(1, Ordering::SeqCst);
     }
+
+    fn is_open(&self) -> bool {
+        false
+    }
 }
 
 /// Sites by the table, whose calls of one site sleep a while.
@@ -85,4 +93,8 @@ impl<'a, R: Clock> Sites for Sleepy<'a, R> {
     }
 
     fn cancel(&self, _number: u64) {}
+
+    fn goes_by_table(&self) -> bool {
+        false
+    }
 }
