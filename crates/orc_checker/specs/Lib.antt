@@ -19,4 +19,5 @@ pub mod Refusing
 pub mod Rising
 pub mod Settling
 pub mod Sides
+pub mod Slots
 pub mod Stillness

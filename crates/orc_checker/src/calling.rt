@@ -29,8 +29,8 @@ use orc_rules::value::{Answer, Args, Value};
 /// A call that pends: its node, the one above it, and what is known of it.
 #[derive(Clone, Copy)]
 pub(crate) struct Pending {
-    pub at: usize,
-    pub parent: usize,
+    pub at: u32,
+    pub parent: u32,
     pub called: Called,
 }
 
@@ -50,7 +50,7 @@ impl Marked {
         ensures reason { IfErr result (λ r. IsRightlyRefused program.now answers.now (entry.Call s k site args.now) self.old r) }
     {
         let spot = self.spot(s)?;
-        let TermNode::Site(named, list) = program.node(spot.node) else {
+        let TermNode::Site(named, list) = program.node(spot.node as usize) else {
             return Err(RuleFault::Form);
         };
         let operands = program.operands(list);
@@ -60,7 +60,7 @@ impl Marked {
                 &self.cells,
                 operands,
                 args.as_slice(),
-                spot.scope,
+                spot.scope as usize,
             )
         {
             return Err(RuleFault::Form);
@@ -74,7 +74,7 @@ impl Marked {
         self.due.note(due_time(called.found, called.at), spot.at)?;
         self.rest.add(called, answers, site, args)?;
         self.nodes.write_node(
-            spot.at,
+            spot.at as usize,
             Node {
                 kind: Kind::Leaf(Tip::Waits(k)),
                 parent: spot.parent,
@@ -102,7 +102,7 @@ impl Marked {
         ensures missing { IfNone result (NoCall self.now.nodes k) }
     {
         let called = self.rest.call(k)?;
-        let node = self.nodes.get(called.node)?;
+        let node = self.nodes.get(called.node as usize)?;
         if !waits_with(node.kind, k) {
             return None;
         }
@@ -165,7 +165,7 @@ impl Marked {
         let pending = self.pending(k)?;
         is_due_now(pending.called, Answer::Halt, self.rest.time())?;
         self.nodes.write_node(
-            pending.at,
+            pending.at as usize,
             Node {
                 kind: Kind::Leaf(Tip::Ended),
                 parent: pending.parent,

@@ -13,7 +13,7 @@ use std::marker::Model;
 /// place was refused, all places are meant from then on.
 #[derive(Drop)]
 pub(crate) struct Candidates {
-    places: VecDeque<usize>,
+    places: VecDeque<u32>,
     all: bool,
 }
 
@@ -30,8 +30,8 @@ pub(crate) fn is_side(kind: Kind, part: usize) -> bool
     ensures { result ≡ is_side kind part }
 {
     match kind {
-        Kind::One(Single::Entered(_, _, _), side) => side == part,
-        Kind::Two(Double::Side(_), _, side) => side == part,
+        Kind::One(Single::Entered(_, _, _), side) => side as usize == part,
+        Kind::Two(Double::Side(_), _, side) => side as usize == part,
         _ => false,
     }
 }
@@ -41,7 +41,7 @@ pub(crate) fn is_side_at(nodes: &Nodes, place: usize) -> bool
     ensures { result ≡ is_side_at nodes.now.items place }
 {
     let parent = nodes.node_at(place).parent;
-    is_side(nodes.node_at(parent).kind, place)
+    is_side(nodes.node_at(parent as usize).kind, place)
 }
 
 /// Whether a place has a flag that is set.
@@ -96,7 +96,7 @@ impl Candidates {
     }
 
     /// A place may be that of a side which has halted.
-    pub(crate) fn add(&mut self, place: usize)
+    pub(crate) fn add(&mut self, place: u32)
         ensures added { MayBe self.new place }
         ensures kept { (p : ℕ) → MayBe self.old p → MayBe self.new p }
     {
@@ -118,7 +118,10 @@ impl Candidates {
     fn first(&self) -> Option<usize>
         ensures { result ≡ slice_get self.now.listed 0 }
     {
-        self.places.front().copied()
+        match self.places.front() {
+            Some(place) => Some(*place as usize),
+            None => None,
+        }
     }
 
     /// Takes out the place added first.

@@ -12,7 +12,7 @@ use std::marker::Model;
 /// Nodes with due times, the earliest first. A node may stay that waits no more.
 #[derive(Drop)]
 pub(crate) struct Due {
-    nodes: BTreeSet<(u64, usize)>,
+    nodes: BTreeSet<(u64, u32)>,
 }
 
 impl Model for Due {
@@ -40,7 +40,7 @@ impl Due {
     }
 
     /// Puts a node in, where there is a time.
-    fn put(&mut self, time: Option<u64>, node: usize) -> Result<(), AllocError>
+    fn put(&mut self, time: Option<u64>, node: u32) -> Result<(), AllocError>
         ensures noted { OnOk result (IfSome time (λ t. IsNoted self.new t node)) }
         ensures kept { (t i : ℕ) → IsNoted self.old t i → IsNoted self.new t i }
     {
@@ -51,7 +51,7 @@ impl Due {
     }
 
     /// Notes when what a node will wait for is due, where it ever is. The error is refused memory; what was noted stays.
-    pub(crate) fn note(&mut self, time: Option<u64>, node: usize) -> Result<(), RuleFault>
+    pub(crate) fn note(&mut self, time: Option<u64>, node: u32) -> Result<(), RuleFault>
         ensures noted { OnOk result (IfSome time (λ t. IsNoted self.new t node)) }
         ensures kept { (t i : ℕ) → IsNoted self.old t i → IsNoted self.new t i }
         ensures why { IfErr result (λ r. r ≡ reason.Memory) }
@@ -60,7 +60,7 @@ impl Due {
     }
 
     /// The earliest time with its node.
-    pub(crate) fn first(&self) -> Option<(u64, usize)>
+    pub(crate) fn first(&self) -> Option<(u64, u32)>
         ensures { MatchOption result (self.now ≡ []) (IsFirst self.now) }
     {
         match self.nodes.first() {

@@ -16,7 +16,7 @@ use crate::arena::{Double, Kind, Node, Single, Tip};
 use crate::flags::{push_flag, settle};
 use crate::marked::Marked;
 use crate::nodes::Nodes;
-use crate::pruning::scope_count;
+use crate::pruning::{reserve_scope, scope_count};
 use crate::room::{push_within, reserve};
 use crate::walk::{Taker, rise, way_up};
 use orc_names::{Bound, Scope};
@@ -25,7 +25,7 @@ use orc_rules::program::Program;
 use orc_rules::value::Value;
 
 /// Puts a new `|` above the node `at`, which is on its left, and a new node on its right. The node keeps its number.
-fn graft(nodes: &mut Nodes, at: usize, tip: Tip)
+fn graft(nodes: &mut Nodes, at: u32, tip: Tip)
     requires there { at < length nodes.old.items }
     requires room { 2 ≤ nodes.old.room }
     ensures grafts { Grafts nodes.old.items at tip nodes.new.items }
@@ -34,8 +34,8 @@ fn graft(nodes: &mut Nodes, at: usize, tip: Tip)
     ensures sides { NoNewSides (length nodes.old.items) nodes.old.items nodes.new.items }
     ensures names { Renames (λ n i. (name_of (AtLeaf tip) ≡ Some n) × (i ≡ length nodes.old.items + 1)) nodes.old.items nodes.new.items }
 {
-    let parent = nodes.node_at(at).parent;
-    let both = nodes.len();
+    let parent = nodes.node_at(at as usize).parent;
+    let both = nodes.next_number();
     nodes.push_within(Node {
         kind: Kind::Two(Double::Both, at, both + 1),
         parent,
@@ -61,13 +61,13 @@ impl Marked {
         ensures reason { IfErr result (λ r. (t : Table) → IsRightlyRefused program.now t (entry.Send s a v) self.old r) }
     {
         let bearer = self.bearer(program, s, v)?;
-        let Some(taker) = way_up(&self.nodes, bearer.at) else {
+        let Some(taker) = way_up(&self.nodes, bearer.at as usize) else {
             return Err(RuleFault::Form);
         };
         let Taker::Fed(at) = taker else {
             return Err(RuleFault::Form);
         };
-        let Kind::One(single, _) = self.nodes.node_at(at).kind else {
+        let Kind::One(single, _) = self.nodes.node_at(at as usize).kind else {
             return Err(RuleFault::Form);
         };
         let Single::Feeds(x, g, outer) = single else {
@@ -75,9 +75,9 @@ impl Marked {
         };
         self.expect_mark(a)?;
         reserve(&mut self.nodes, &mut self.flags, &mut self.marks).map_err(|_| RuleFault::Memory)?;
-        self.scopes.try_reserve(1).map_err(|_| RuleFault::Memory)?;
+        reserve_scope(&mut self.scopes).map_err(|_| RuleFault::Memory)?;
         self.nodes.write_node(
-            bearer.at,
+            bearer.at as usize,
             Node {
                 kind: Kind::Leaf(Tip::Ended),
                 parent: bearer.parent,
@@ -87,10 +87,10 @@ impl Marked {
         let scope = Scope {
             name: x,
             bound: Bound::Is(v),
-            outer,
+            outer: outer as usize,
         };
         push_within(&mut self.scopes, scope);
-        let both = self.nodes.len();
+        let both = self.nodes.next_number();
         graft(
             &mut self.nodes,
             at,
@@ -98,7 +98,7 @@ impl Marked {
         );
         push_within(&mut self.marks, both + 1);
         push_flag(&mut self.flags, &mut self.candidates, both, false);
-        let halted = self.halts.at(g);
+        let halted = self.halts.at(g as usize);
         push_flag(&mut self.flags, &mut self.candidates, both + 1, halted);
         settle(
             &self.nodes,

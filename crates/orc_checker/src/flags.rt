@@ -37,8 +37,10 @@ fn inner_halts(flags: &Vec<bool>, kind: Kind) -> bool
     match kind {
         Kind::Leaf(_) => false,
         Kind::One(Single::Entered(_, _, _), _) => false,
-        Kind::One(_, part) => flag_at(flags, part),
-        Kind::Two(_, left, right) => flag_at(flags, left) && flag_at(flags, right),
+        Kind::One(_, part) => flag_at(flags, part as usize),
+        Kind::Two(_, left, right) => {
+            flag_at(flags, left as usize) && flag_at(flags, right as usize)
+        }
     }
 }
 
@@ -50,15 +52,15 @@ pub(crate) fn both(left: bool, right: bool) -> bool
 }
 
 /// The node above, where it halts with its parts and has no flag yet.
-fn halts_next(nodes: &Nodes, flags: &Vec<bool>, place: usize) -> Option<usize>
+fn halts_next(nodes: &Nodes, flags: &Vec<bool>, place: u32) -> Option<u32>
     ensures next { IfSome result (λ p. HaltsNext nodes.now.items flags.now.items place p) }
     ensures last { IfNone result (EndsAt nodes.now.items flags.now.items place) }
 {
-    let parent = nodes.node_at(place).parent;
-    if flag_at(flags, parent) {
+    let parent = nodes.node_at(place as usize).parent;
+    if flag_at(flags, parent as usize) {
         return None;
     }
-    let kind = nodes.node_at(parent).kind;
+    let kind = nodes.node_at(parent as usize).kind;
     if inner_halts(flags, kind) {
         Some(parent)
     } else {
@@ -67,12 +69,7 @@ fn halts_next(nodes: &Nodes, flags: &Vec<bool>, place: usize) -> Option<usize>
 }
 
 /// Adds the flag of a new place, which is a candidate where the flag is set.
-pub(crate) fn push_flag(
-    flags: &mut Vec<bool>,
-    candidates: &mut Candidates,
-    place: usize,
-    flag: bool,
-)
+pub(crate) fn push_flag(flags: &mut Vec<bool>, candidates: &mut Candidates, place: u32, flag: bool)
     requires { vec_len flags.old < vec_capacity flags.old }
     ensures items { flags.new.items ≡ flags.old.items ++ flag ∷ [] }
     ensures capacity { vec_capacity flags.old ≤ vec_capacity flags.new }
@@ -86,14 +83,14 @@ pub(crate) fn push_flag(
 }
 
 /// Sets the flag of a place, which is a candidate where it is a side.
-fn set_flag(nodes: &Nodes, flags: &mut Vec<bool>, candidates: &mut Candidates, place: usize)
+fn set_flag(nodes: &Nodes, flags: &mut Vec<bool>, candidates: &mut Candidates, place: u32)
     ensures items { flags.new.items ≡ slice_set flags.old.items place true }
     ensures capacity { vec_capacity flags.new ≡ vec_capacity flags.old }
     ensures known { is_side_at nodes.now.items place ≡ true → MayBe candidates.new place }
     ensures kept { (p : ℕ) → MayBe candidates.old p → MayBe candidates.new p }
 {
-    write_flag(flags, place, true);
-    if is_side_at(nodes, place) {
+    write_flag(flags, place as usize, true);
+    if is_side_at(nodes, place as usize) {
         candidates.add(place);
     }
 }
@@ -103,7 +100,7 @@ pub(crate) fn settle(
     nodes: &Nodes,
     flags: &mut Vec<bool>,
     candidates: &mut Candidates,
-    from: usize,
+    from: u32,
     halted: bool,
 )
     ensures known { AreFlagged nodes.now.items flags.old.items flags.new.items candidates.new }

@@ -17,7 +17,7 @@ use orc_rules::value::Answer;
 use std::alloc::{AllocError, Global};
 
 /// Adds the cell of the node above, where the node at `place` is its right side. The error is refused memory.
-fn push_cell(cells: &mut Vec<u64>, above: Kind, place: usize) -> Result<(), AllocError>
+fn push_cell(cells: &mut Vec<u64>, above: Kind, place: u32) -> Result<(), AllocError>
     ensures { OnOk result (cells.new.items ≡ cells.old.items ++ cell_above above place) }
 {
     if let Kind::Two(double, left, _) = above {
@@ -31,7 +31,7 @@ fn push_cell(cells: &mut Vec<u64>, above: Kind, place: usize) -> Result<(), Allo
 }
 
 /// The cells inside whose right sides a node stands, the outermost first. The error is refused memory.
-fn cells_around(alloc: Global, nodes: &Nodes, from: usize) -> Result<Vec<u64>, AllocError>
+fn cells_around(alloc: Global, nodes: &Nodes, from: u32) -> Result<Vec<u64>, AllocError>
     ensures { IfOk result (λ cells. AreAround nodes.now.items from cells.items) }
 {
     let mut cells = Vec::new(alloc);
@@ -41,8 +41,8 @@ fn cells_around(alloc: Global, nodes: &Nodes, from: usize) -> Result<Vec<u64>, A
             cells.reverse();
             return Ok(cells);
         }
-        let parent = nodes.node_at(place).parent;
-        let above = nodes.node_at(parent).kind;
+        let parent = nodes.node_at(place as usize).parent;
+        let above = nodes.node_at(parent as usize).kind;
         push_cell(&mut cells, above, place)?;
         place = parent;
     }

@@ -29,6 +29,7 @@ mod routines;
 mod scopes;
 mod side;
 pub mod sides;
+pub mod slot;
 mod status;
 mod stillness;
 mod tick;

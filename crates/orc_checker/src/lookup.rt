@@ -7,11 +7,11 @@ use crate::arena::{Double, Kind, Node, Single, Tip};
 use crate::nodes::Nodes;
 
 /// The node that a table of places gives for a number, with its place.
-pub(crate) fn node_by(nodes: &Nodes, places: &Vec<usize>, number: u64) -> Option<(usize, Node)>
+pub(crate) fn node_by(nodes: &Nodes, places: &Vec<u32>, number: u64) -> Option<(u32, Node)>
     ensures { result ≡ node_by nodes.now.items (slice_get places.now.items number) }
 {
     match places.get(number as usize) {
-        Some(place) => match nodes.get(*place) {
+        Some(place) => match nodes.get(*place as usize) {
             Some(node) => Some((*place, node)),
             None => None,
         },
@@ -43,7 +43,7 @@ pub(crate) fn waits_with(kind: Kind, k: u64) -> bool
 }
 
 /// The sides of the pruning of cell `c`, where the node is it.
-pub(crate) fn pruning_with(kind: Kind, c: u64) -> Option<(usize, usize)>
+pub(crate) fn pruning_with(kind: Kind, c: u64) -> Option<(u32, u32)>
     ensures { result ≡ pruning_with kind c }
 {
     match kind {
@@ -53,11 +53,11 @@ pub(crate) fn pruning_with(kind: Kind, c: u64) -> Option<(usize, usize)>
 }
 
 /// The left side of otherwise `s`, and its right one with its scope, where the node is it.
-pub(crate) fn otherwise_with(kind: Kind, s: u64) -> Option<(usize, usize, usize)>
+pub(crate) fn otherwise_with(kind: Kind, s: u64) -> Option<(u32, u32, u32)>
     ensures { result ≡ otherwise_with kind s }
 {
     match kind {
-        Kind::One(Single::Entered(mark, right, scope), left) if mark == s => {
+        Kind::One(Single::Entered(mark, right, scope), left) if mark as u64 == s => {
             Some((left, right, scope))
         }
         _ => None,

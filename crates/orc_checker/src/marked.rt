@@ -21,7 +21,7 @@ use crate::halts::Halts;
 use crate::lookup::{node_by, tip_with};
 use crate::nodes::Nodes;
 use crate::rest::Rest;
-use crate::room::push_within;
+use crate::room::{fits, push_within};
 use orc_names::{Bound, Scope, meaning};
 use orc_rules::answers::Answers;
 use orc_rules::entry::{Entry, RuleFault};
@@ -36,11 +36,11 @@ pub struct Marked {
     pub(crate) nodes: Nodes,
     pub(crate) scopes: Vec<Scope>,
     pub(crate) cells: Vec<Bound>,
-    pub(crate) marks: Vec<usize>,
+    pub(crate) marks: Vec<u32>,
     pub(crate) halts: Halts,
     pub(crate) flags: Vec<bool>,
     /// The node on which each cell's pruning was opened; there is no cell 0.
-    pub(crate) prunings: Vec<usize>,
+    pub(crate) prunings: Vec<u32>,
     pub(crate) rest: Rest,
     /// The sides that may have halted, so that what asks for them looks at none of the others.
     pub(crate) candidates: Candidates,
@@ -83,22 +83,22 @@ impl Model for Marked {
 /// Where a token stands: its node in the marked term with the one above it, the program's node under it, and its scope.
 #[derive(Clone, Copy)]
 pub(crate) struct Spot {
-    pub at: usize,
-    pub parent: usize,
-    pub node: usize,
-    pub scope: usize,
+    pub at: u32,
+    pub parent: u32,
+    pub node: u32,
+    pub scope: u32,
 }
 
 /// Where a token stands: its node in the marked term with the one above it, and what it stands on.
 #[derive(Clone, Copy)]
 pub(crate) struct Holder {
-    pub at: usize,
-    pub parent: usize,
+    pub at: u32,
+    pub parent: u32,
     pub tip: Tip,
 }
 
 /// A token's node below that of `spot`, in its scope.
-pub(crate) fn token_node(mark: u64, node: usize, spot: Spot) -> Node
+pub(crate) fn token_node(mark: u64, node: u32, spot: Spot) -> Node
     ensures { result ≡ record { kind = AtLeaf (IsToken mark node spot.scope); parent = spot.at } }
 {
     Node {
@@ -142,13 +142,14 @@ impl Marked {
         let mut prunings = Vec::with_capacity(alloc, 1)?;
         let halts = Halts::new(alloc, program)?;
         let root = program.source();
+        fits(root)?;
         let halted = halts.at(root);
         nodes.push_within(Node {
             kind: Kind::One(Single::Passed, 1),
             parent: 0,
         });
         nodes.push_within(Node {
-            kind: Kind::Leaf(Tip::Token(1, root, 0)),
+            kind: Kind::Leaf(Tip::Token(1, root as u32, 0)),
             parent: 0,
         });
         push_within(&mut marks, 0);
@@ -302,9 +303,9 @@ impl Marked {
     {
         match tip {
             Tip::Bears(_, v) => Some(v),
-            Tip::Token(_, node, scope) => match program.node(node) {
+            Tip::Token(_, node, scope) => match program.node(node as usize) {
                 TermNode::Operand(operand) => {
-                    value_of(&self.scopes, &self.cells, operand, scope)
+                    value_of(&self.scopes, &self.cells, operand, scope as usize)
                 }
                 _ => None,
             },

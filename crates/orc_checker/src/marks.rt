@@ -10,7 +10,7 @@ ghost use Rattle.orc_rules.specs.declared.entry.Entry.TheVariants as entry;
 use crate::arena::{Double, Kind, Node, Single, Tip};
 use crate::flags::push_flag;
 use crate::marked::{Marked, expect_after, token_node};
-use crate::room::{push_within, reserve};
+use crate::room::{fits, push_within, reserve_numbered};
 use orc_rules::entry::RuleFault;
 use orc_rules::program::{Program, TermNode};
 
@@ -22,11 +22,11 @@ impl Marked {
         ensures reason { IfErr result (λ r. (t : Table) → IsRightlyRefused program.now t (entry.End s) self.old r) }
     {
         let spot = self.spot(s)?;
-        let TermNode::Stop = program.node(spot.node) else {
+        let TermNode::Stop = program.node(spot.node as usize) else {
             return Err(RuleFault::Form);
         };
         self.nodes.write_node(
-            spot.at,
+            spot.at as usize,
             Node {
                 kind: Kind::Leaf(Tip::Ended),
                 parent: spot.parent,
@@ -48,22 +48,24 @@ impl Marked {
         ensures reason { IfErr result (λ r. (t : Table) → IsRightlyRefused program.now t (entry.Fork s a b) self.old r) }
     {
         let spot = self.spot(s)?;
-        let TermNode::Par(f, g) = program.node(spot.node) else {
+        let TermNode::Par(f, g) = program.node(spot.node as usize) else {
             return Err(RuleFault::Form);
         };
         self.expect_mark(a)?;
         expect_after(a, b)?;
-        reserve(&mut self.nodes, &mut self.flags, &mut self.marks).map_err(|_| RuleFault::Memory)?;
-        let n = self.nodes.len();
+        reserve_numbered(&mut self.nodes, &mut self.flags, &mut self.marks, f, g).map_err(
+            |_| RuleFault::Memory,
+        )?;
+        let n = self.nodes.next_number();
         self.nodes.write_node(
-            spot.at,
+            spot.at as usize,
             Node {
                 kind: Kind::Two(Double::Both, n, n + 1),
                 parent: spot.parent,
             },
         );
-        self.nodes.push_within(token_node(a, f, spot));
-        self.nodes.push_within(token_node(b, g, spot));
+        self.nodes.push_within(token_node(a, f as u32, spot));
+        self.nodes.push_within(token_node(b, g as u32, spot));
         push_within(&mut self.marks, n);
         push_within(&mut self.marks, n + 1);
         let left = self.halts.at(f);
@@ -80,20 +82,22 @@ impl Marked {
         ensures reason { IfErr result (λ r. (t : Table) → IsRightlyRefused program.now t (entry.Seq s a) self.old r) }
     {
         let spot = self.spot(s)?;
-        let TermNode::Seq(f, x, g) = program.node(spot.node) else {
+        let TermNode::Seq(f, x, g) = program.node(spot.node as usize) else {
             return Err(RuleFault::Form);
         };
         self.expect_mark(a)?;
-        reserve(&mut self.nodes, &mut self.flags, &mut self.marks).map_err(|_| RuleFault::Memory)?;
-        let n = self.nodes.len();
+        reserve_numbered(&mut self.nodes, &mut self.flags, &mut self.marks, f, g).map_err(
+            |_| RuleFault::Memory,
+        )?;
+        let n = self.nodes.next_number();
         self.nodes.write_node(
-            spot.at,
+            spot.at as usize,
             Node {
-                kind: Kind::One(Single::Feeds(x, g, spot.scope), n),
+                kind: Kind::One(Single::Feeds(x, g as u32, spot.scope), n),
                 parent: spot.parent,
             },
         );
-        self.nodes.push_within(token_node(a, f, spot));
+        self.nodes.push_within(token_node(a, f as u32, spot));
         push_within(&mut self.marks, n);
         let halted = self.halts.at(f);
         push_flag(&mut self.flags, &mut self.candidates, n, halted);
@@ -107,20 +111,23 @@ impl Marked {
         ensures reason { IfErr result (λ r. (t : Table) → IsRightlyRefused program.now t (entry.Other s a) self.old r) }
     {
         let spot = self.spot(s)?;
-        let TermNode::Other(f, g) = program.node(spot.node) else {
+        let TermNode::Other(f, g) = program.node(spot.node as usize) else {
             return Err(RuleFault::Form);
         };
         self.expect_mark(a)?;
-        reserve(&mut self.nodes, &mut self.flags, &mut self.marks).map_err(|_| RuleFault::Memory)?;
-        let n = self.nodes.len();
+        fits(s as usize).map_err(|_| RuleFault::Memory)?;
+        reserve_numbered(&mut self.nodes, &mut self.flags, &mut self.marks, f, g).map_err(
+            |_| RuleFault::Memory,
+        )?;
+        let n = self.nodes.next_number();
         self.nodes.write_node(
-            spot.at,
+            spot.at as usize,
             Node {
-                kind: Kind::One(Single::Entered(s, g, spot.scope), n),
+                kind: Kind::One(Single::Entered(s as u32, g as u32, spot.scope), n),
                 parent: spot.parent,
             },
         );
-        self.nodes.push_within(token_node(a, f, spot));
+        self.nodes.push_within(token_node(a, f as u32, spot));
         push_within(&mut self.marks, n);
         let halted = self.halts.at(f);
         push_flag(&mut self.flags, &mut self.candidates, n, halted);

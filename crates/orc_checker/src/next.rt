@@ -152,11 +152,17 @@ impl Marked {
             Err(_) => return None,
         };
         if let Some(value) = self.value_under(program, holder.tip) {
-            return self.publication(holder.at, value);
+            return self.publication(holder.at as usize, value);
         }
         match holder.tip {
             Tip::Token(_, node, scope) => {
-                move_from(program, &self.scopes, &self.cells, node, scope)
+                move_from(
+                    program,
+                    &self.scopes,
+                    &self.cells,
+                    node as usize,
+                    scope as usize,
+                )
             },
             _ => None,
         }
@@ -183,8 +189,8 @@ impl Marked {
             Ok(spot) => spot,
             Err(_) => return None,
         };
-        let operand = operand_at(program, spot.node, position)?;
-        match meaning(&self.scopes, &self.cells, operand, spot.scope) {
+        let operand = operand_at(program, spot.node as usize, position)?;
+        match meaning(&self.scopes, &self.cells, operand, spot.scope as usize) {
             Some(Bound::Cell(cell)) => Some(cell),
             _ => None,
         }

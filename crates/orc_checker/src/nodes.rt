@@ -8,7 +8,8 @@ ghost use Rattle.orc_checker.specs.Rising.{nowhere};
 
 use crate::arena::{Double, Kind, Node, Single, Tip};
 use crate::ranks::Ranks;
-use crate::room::push_within;
+use crate::room::{fits, push_within};
+use crate::slot::Slot;
 use std::alloc::{AllocError, Global};
 use std::marker::Model;
 
@@ -18,31 +19,31 @@ use std::marker::Model;
 /// How deep the nodes nest is told by their ranks.
 #[derive(Drop)]
 pub(crate) struct Nodes {
-    items: Vec<Node>,
-    hints: Vec<usize>,
+    items: Vec<Slot>,
+    hints: Vec<u32>,
     /// The numbers of all nodes with tokens, which can move now or later, and of some without any more.
-    restless: Vec<usize>,
+    restless: Vec<u32>,
     ranks: Ranks,
 }
 
 impl Model for Nodes {
-    ghost use Rattle.std.specs.Prelude.{◌-◌, min, vec_len, vec_capacity};
+    ghost use Rattle.std.specs.Prelude.{◌-◌, ◌^◌, min, vec_len, vec_capacity};
     ghost use Rattle.orc_checker.specs.Hints.{Stock, AreHints, AreListed};
     ghost use Rattle.orc_checker.specs.Ranks.{AreKept};
 
     ghost Value = { Stock };
 
-    ghost view = { λ n. record { items = n.items.items; room = min (vec_capacity n.items - vec_len n.items) (min (vec_capacity n.hints - vec_len n.hints) (vec_capacity n.restless - vec_len n.restless)) } };
+    ghost view = { λ n. record { items = n.items.items; room = min (2 ^ 32 - 1 - vec_len n.items) (min (vec_capacity n.items - vec_len n.items) (min (vec_capacity n.hints - vec_len n.hints) (vec_capacity n.restless - vec_len n.restless))) } };
 
     ghost invariant = { λ n. AreHints n.items.items n.hints.items × AreListed n.items.items n.restless.items × AreKept n.items.items n.ranks };
 }
 
 /// The node of that number, one that is gone where there is none.
-pub(crate) fn item(items: &Vec<Node>, i: usize) -> Node
+pub(crate) fn item(items: &Vec<Slot>, i: usize) -> Node
     ensures { result ≡ slice_index_or items.now.items i nowhere }
 {
     match items.get(i) {
-        Some(node) => *node,
+        Some(slot) => slot.node(),
         None => Node {
             kind: Kind::Leaf(Tip::Gone),
             parent: 0,
@@ -51,18 +52,18 @@ pub(crate) fn item(items: &Vec<Node>, i: usize) -> Node
 }
 
 // Writes a node that is there.
-fn set_item(items: &mut Vec<Node>, i: usize, node: Node)
+fn set_item(items: &mut Vec<Slot>, i: usize, node: Node)
     ensures items { items.new.items ≡ slice_set items.old.items i node }
     ensures len { vec_len items.new ≡ vec_len items.old }
     ensures capacity { vec_capacity items.new ≡ vec_capacity items.old }
 {
     if let Some(slot) = items.get_mut(i) {
-        *slot = node;
+        *slot = Slot::new(node);
     }
 }
 
 // Whether a node lets through what its part publishes, and stays as it is.
-fn lets_through(kind: Kind, part: usize) -> bool
+fn lets_through(kind: Kind, part: u32) -> bool
     ensures { result ≡ lets kind part }
 {
     match kind {
@@ -85,12 +86,12 @@ fn is_restless(kind: Kind) -> bool
 }
 
 // Takes those out of a list that can't any more.
-fn keep_restless(items: &Vec<Node>, list: &mut Vec<usize>)
+fn keep_restless(items: &Vec<Slot>, list: &mut Vec<u32>)
     ensures { AreListed items.now.items list.old.items → AreListed items.now.items list.new.items }
 {
     let mut next = 0;
     while next < list.len() {
-        if is_restless(item(items, list[next]).kind) {
+        if is_restless(item(items, list[next] as usize).kind) {
             next += 1;
         } else {
             let _number = list.swap_remove(next);
@@ -100,7 +101,7 @@ fn keep_restless(items: &Vec<Node>, list: &mut Vec<usize>)
 
 // Room for two more in a list of those with tokens. A full list forgets the others first, and grows only where more than half of it stays: so
 // it is as long as there are tokens at one time, and not as there were nodes.
-fn reserve_listed(items: &Vec<Node>, list: &mut Vec<usize>) -> Result<(), AllocError>
+fn reserve_listed(items: &Vec<Slot>, list: &mut Vec<u32>) -> Result<(), AllocError>
     ensures listed { AreListed items.now.items list.old.items → AreListed items.now.items list.new.items }
     ensures room { IfOk result (λ _. vec_len list.new + 2 ≤ vec_capacity list.new) }
 {
@@ -115,38 +116,48 @@ fn reserve_listed(items: &Vec<Node>, list: &mut Vec<usize>) -> Result<(), AllocE
 }
 
 // The hint of that number, the number itself where there is none.
-fn hint_at(hints: &Vec<usize>, i: usize) -> usize
+fn hint_at(hints: &Vec<u32>, i: usize) -> usize
     ensures { result ≡ slice_index_or hints.now.items i i }
 {
     match hints.get(i) {
+        Some(hint) => *hint as usize,
+        None => i,
+    }
+}
+
+// The same, as it is stored.
+fn stored_hint(hints: &Vec<u32>, i: u32) -> u32
+    ensures { result ≡ slice_index_or hints.now.items i i }
+{
+    match hints.get(i as usize) {
         Some(hint) => *hint,
         None => i,
     }
 }
 
 // Writes a hint that is there.
-fn set_hint(hints: &mut Vec<usize>, i: usize, hint: usize)
+fn set_hint(hints: &mut Vec<u32>, i: u32, hint: u32)
     ensures items { hints.new.items ≡ slice_set hints.old.items i hint }
     ensures len { vec_len hints.new ≡ vec_len hints.old }
     ensures capacity { vec_capacity hints.new ≡ vec_capacity hints.old }
 {
-    if let Some(slot) = hints.get_mut(i) {
+    if let Some(slot) = hints.get_mut(i as usize) {
         *slot = hint;
     }
 }
 
 // The hint of a node below `parent`, where it had none.
-fn hint_below(items: &Vec<Node>, hints: &Vec<usize>, i: usize, parent: usize) -> usize
+fn hint_below(items: &Vec<Slot>, hints: &Vec<u32>, i: u32, parent: u32) -> u32
     ensures { IsHintBelow items.now.items hints.now.items i parent result }
 {
-    match items.get(parent) {
-        Some(above) if lets_through(above.kind, i) => hint_at(hints, parent),
+    match items.get(parent as usize) {
+        Some(above) if lets_through(above.node().kind, i) => stored_hint(hints, parent),
         _ => i,
     }
 }
 
 /// A node whose part `from` is now `to`.
-fn relinked(kind: Kind, from: usize, to: usize) -> Kind
+fn relinked(kind: Kind, from: u32, to: u32) -> Kind
     ensures { result ≡ relink kind from to }
 {
     match kind {
@@ -208,8 +219,17 @@ impl Nodes {
         self.items.len()
     }
 
+    /// The number of the next node, to which one can be added.
+    pub(crate) fn next_number(&self) -> u32
+        requires { 2 ≤ self.now.room }
+        ensures count { result ≡ length self.now.items }
+        ensures fits { result + 1 < 2 ^ 32 }
+    {
+        self.items.len() as u32
+    }
+
     /// The nodes in the order of their numbers.
-    pub(crate) fn items(&self) -> &[Node]
+    pub(crate) fn items(&self) -> &[Slot]
         ensures { result.now ≡ self.now.items }
     {
         &self.items
@@ -220,7 +240,7 @@ impl Nodes {
         ensures { result ≡ slice_get self.now.items i }
     {
         match self.items.get(i) {
-            Some(node) => Some(*node),
+            Some(slot) => Some(slot.node()),
             None => None,
         }
     }
@@ -241,18 +261,18 @@ impl Nodes {
 
     /// A node's hint goes on to that of the node above it, where that one lets through. Walks that do so at each hint on their way halve it for
     /// those that come after them.
-    pub(crate) fn shorten(&mut self, i: usize)
+    pub(crate) fn shorten(&mut self, i: u32)
         ensures { self.new ≡ self.old }
     {
-        let hint = hint_at(&self.hints, i);
-        if let Some(node) = self.get(hint) {
+        let hint = stored_hint(&self.hints, i);
+        if let Some(node) = self.get(hint as usize) {
             let further = hint_below(&self.items, &self.hints, hint, node.parent);
             set_hint(&mut self.hints, i, further);
         }
     }
 
     /// The numbers of all nodes with tokens, which can move now or later, and of some without any more.
-    pub(crate) fn restless(&self) -> &Vec<usize>
+    pub(crate) fn restless(&self) -> &Vec<u32>
         ensures { AreListed self.now.items result.now.items }
     {
         &self.restless
@@ -283,11 +303,12 @@ impl Nodes {
         keep_restless(&self.items, &mut self.restless);
     }
 
-    /// Memory for two more nodes.
+    /// Memory for two more nodes, whose numbers have 32 bits.
     pub(crate) fn reserve(&mut self) -> Result<(), AllocError>
         ensures items { self.new.items ≡ self.old.items }
         ensures room { IfOk result (λ _. 2 ≤ self.new.room) }
     {
+        fits(self.items.len() + 2)?;
         self.items.try_reserve(2)?;
         self.hints.try_reserve(2)?;
         reserve_listed(&self.items, &mut self.restless)?;
@@ -300,10 +321,10 @@ impl Nodes {
         ensures items { self.new.items ≡ self.old.items ++ node ∷ [] }
         ensures room { self.old.room ≤ self.new.room + 1 }
     {
-        let number = self.items.len();
+        let number = self.items.len() as u32;
         let hint = hint_below(&self.items, &self.hints, number, node.parent);
         self.ranks.add(&self.items, node);
-        push_within(&mut self.items, node);
+        push_within(&mut self.items, Slot::new(node));
         push_within(&mut self.hints, hint);
         push_within(&mut self.restless, number);
     }
@@ -319,40 +340,40 @@ impl Nodes {
     }
 
     /// Writes a node that is there and may move from now on.
-    pub(crate) fn wake(&mut self, i: usize, node: Node)
+    pub(crate) fn wake(&mut self, i: u32, node: Node)
         requires room { 1 ≤ self.old.room }
         requires node { CanWake self.old.items i node }
         ensures { self.new.items ≡ slice_set self.old.items i node }
     {
-        self.ranks.write(&self.items, i, node);
-        set_item(&mut self.items, i, node);
+        self.ranks.write(&self.items, i as usize, node);
+        set_item(&mut self.items, i as usize, node);
         push_within(&mut self.restless, i);
     }
 
     /// Puts a node, with all that is below it, below the `|` of number `both` in its place.
-    pub(crate) fn lift(&mut self, i: usize, both: usize)
+    pub(crate) fn lift(&mut self, i: u32, both: u32)
         requires { IsBeside self.old.items i both }
         ensures items { self.new.items ≡ lifted self.old.items i both }
         ensures room { self.new.room ≡ self.old.room }
     {
-        let node = item(&self.items, i);
+        let node = item(&self.items, i as usize);
         set_item(
             &mut self.items,
-            i,
+            i as usize,
             Node {
                 kind: node.kind,
                 parent: both,
             },
         );
-        let above = item(&self.items, node.parent);
+        let above = item(&self.items, node.parent as usize);
         set_item(
             &mut self.items,
-            node.parent,
+            node.parent as usize,
             Node {
                 kind: relinked(above.kind, i, both),
                 parent: above.parent,
             },
         );
-        self.ranks.lift(&self.items, i, both, node.parent);
+        self.ranks.lift(&self.items, i as usize, both as usize, node.parent as usize);
     }
 }

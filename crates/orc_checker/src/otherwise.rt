@@ -24,16 +24,16 @@ use orc_rules::entry::RuleFault;
 /// Where an entered otherwise stands: its node with the one above it and that of its left side, and its right side: the program's node in a scope.
 #[derive(Clone, Copy)]
 pub(crate) struct Otherwise {
-    pub at: usize,
-    pub parent: usize,
-    pub left: usize,
-    pub node: usize,
-    pub scope: usize,
+    pub at: u32,
+    pub parent: u32,
+    pub left: u32,
+    pub node: u32,
+    pub scope: u32,
 }
 
 impl Marked {
     /// The nodes of a side that goes.
-    pub(crate) fn side_at(&self, root: usize) -> Result<Vec<usize>, RuleFault>
+    pub(crate) fn side_at(&self, root: u32) -> Result<Vec<u32>, RuleFault>
         ensures nodes { IfOk result (λ side. AreNodesOf self.now.nodes root side.items) }
         ensures refused { IfErr result (λ r. r ≡ reason.Memory) }
     {
@@ -80,7 +80,7 @@ impl Marked {
     {
         let otherwise = self.otherwise(s)?;
         self.expect_mark(a)?;
-        if !self.part_has_halted(otherwise.left) {
+        if !self.part_has_halted(otherwise.left as usize) {
             return Err(RuleFault::Halted);
         }
         let side = self.side_at(otherwise.left)?;
@@ -93,7 +93,7 @@ impl Marked {
             },
         );
         drop_nodes(&mut self.nodes, &side);
-        let halted = self.halts.at(otherwise.node);
+        let halted = self.halts.at(otherwise.node as usize);
         settle(
             &self.nodes,
             &mut self.flags,

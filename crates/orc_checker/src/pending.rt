@@ -47,7 +47,7 @@ fn next_due(nodes: &Nodes, calls: &Vec<Called>, due: &mut Due) -> Option<u64>
     ensures noted { AreNoted nodes.now.items calls.now.items due.new }
 {
     while let Some((time, node)) = due.first() {
-        if waits_until(nodes, calls, node, time) {
+        if waits_until(nodes, calls, node as usize, time) {
             return Some(time);
         }
         due.drop_first();

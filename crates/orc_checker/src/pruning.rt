@@ -1,6 +1,6 @@
 // Prunings: they are opened, and their cells get a value or never will.
 
-ghost use Rattle.std.specs.Prelude.{◌≡◌, ◌+◌, ◌<◌, ◌≤◌, [], length, reverse, slice_get, slice_set, true, false, vec_len, vec_capacity, IfOk, IfErr, IfSome, IfNone, OnErr};
+ghost use Rattle.std.specs.Prelude.{◌≡◌, ◌+◌, ◌<◌, ◌≤◌, ◌^◌, [], length, reverse, slice_get, slice_set, true, false, vec_len, vec_capacity, IfOk, IfErr, IfSome, IfNone, OnErr};
 ghost use Rattle.orc_rules.specs.Nodes.{code};
 ghost use Rattle.orc_rules.specs.Sites.{Table};
 ghost use Rattle.orc_checker.specs.Checker.{Applies, Enters};
@@ -17,7 +17,7 @@ use crate::arena::{Double, Kind, Node, Single};
 use crate::flags::{both, flag_at, push_flag, settle};
 use crate::lookup::{node_by, pruning_with};
 use crate::marked::{Marked, Spot, expect_after, token_node};
-use crate::room::{push_within, reserve};
+use crate::room::{fits, push_within, reserve_numbered};
 use crate::side::{drop_nodes, falling_calls, nodes_of};
 use crate::walk::{Taker, way_up};
 use orc_names::{Bound, Scope};
@@ -29,34 +29,46 @@ use std::alloc::AllocError;
 /// Where a pruning stands: its node with the one above it, and those of its sides.
 #[derive(Clone, Copy)]
 pub(crate) struct Pruning {
-    pub at: usize,
-    pub parent: usize,
-    pub left: usize,
-    pub right: usize,
+    pub at: u32,
+    pub parent: u32,
+    pub left: u32,
+    pub right: u32,
+}
+
+/// Memory for one more scope, which nodes can name.
+pub(crate) fn reserve_scope(scopes: &mut Vec<Scope>) -> Result<(), AllocError>
+    ensures items { scopes.new.items ≡ scopes.old.items }
+    ensures room { IfOk result (λ _. vec_len scopes.new < vec_capacity scopes.new) }
+    ensures number { IfOk result (λ _. vec_len scopes.new + 1 < 2 ^ 32) }
+{
+    fits(scopes.len() + 1)?;
+    scopes.try_reserve(1)
 }
 
 /// Memory for one more scope and one more cell with its pruning.
 fn reserve_cell(
     scopes: &mut Vec<Scope>,
     cells: &mut Vec<Bound>,
-    prunings: &mut Vec<usize>,
+    prunings: &mut Vec<u32>,
 ) -> Result<(), AllocError>
     ensures scopes { scopes.new.items ≡ scopes.old.items }
     ensures cells { cells.new.items ≡ cells.old.items }
     ensures prunings { prunings.new.items ≡ prunings.old.items }
     ensures room { IfOk result (λ _. (vec_len scopes.new < vec_capacity scopes.new) × (vec_len cells.new < vec_capacity cells.new) × (vec_len prunings.new < vec_capacity prunings.new)) }
+    ensures number { IfOk result (λ _. vec_len scopes.new + 1 < 2 ^ 32) }
 {
-    scopes.try_reserve(1)?;
+    reserve_scope(scopes)?;
     cells.try_reserve(1)?;
     prunings.try_reserve(1)?;
     Ok(())
 }
 
 /// How many scopes there are.
-pub(crate) fn scope_count(scopes: &Vec<Scope>) -> usize
+pub(crate) fn scope_count(scopes: &Vec<Scope>) -> u32
+    requires { vec_len scopes.now < 2 ^ 32 }
     ensures { result ≡ length scopes.now.items }
 {
-    scopes.len()
+    scopes.len() as u32
 }
 
 /// A cell becomes a value or void.
@@ -95,7 +107,7 @@ impl Marked {
         ensures reason { IfErr result (λ r. (t : Table) → IsRightlyRefused program.now t (entry.Open s c a b) self.old r) }
     {
         let spot = self.spot(s)?;
-        let TermNode::Prune(f, x, g) = program.node(spot.node) else {
+        let TermNode::Prune(f, x, g) = program.node(spot.node as usize) else {
             return Err(RuleFault::Form);
         };
         self.expect_cell(c)?;
@@ -104,14 +116,16 @@ impl Marked {
         reserve_cell(&mut self.scopes, &mut self.cells, &mut self.prunings).map_err(
             |_| RuleFault::Memory,
         )?;
-        reserve(&mut self.nodes, &mut self.flags, &mut self.marks).map_err(|_| RuleFault::Memory)?;
-        let n = self.nodes.len();
+        reserve_numbered(&mut self.nodes, &mut self.flags, &mut self.marks, f, g).map_err(
+            |_| RuleFault::Memory,
+        )?;
+        let n = self.nodes.next_number();
         push_within(
             &mut self.scopes,
             Scope {
                 name: x,
                 bound: Bound::Cell(c),
-                outer: spot.scope,
+                outer: spot.scope as usize,
             },
         );
         let inner = Spot {
@@ -120,14 +134,14 @@ impl Marked {
         };
         push_within(&mut self.cells, Bound::Cell(c));
         self.nodes.write_node(
-            spot.at,
+            spot.at as usize,
             Node {
                 kind: Kind::Two(Double::Side(c), n, n + 1),
                 parent: spot.parent,
             },
         );
-        self.nodes.push_within(token_node(a, f, inner));
-        self.nodes.push_within(token_node(b, g, spot));
+        self.nodes.push_within(token_node(a, f as u32, inner));
+        self.nodes.push_within(token_node(b, g as u32, spot));
         push_within(&mut self.marks, n);
         push_within(&mut self.marks, n + 1);
         let left = self.halts.at(f);
@@ -157,7 +171,7 @@ impl Marked {
     }
 
     /// The nodes of a right side that goes, with the calls that pend in it, in falling order, where their cancels are recorded.
-    fn leaving(&self, right: usize) -> Result<(Vec<usize>, Vec<u64>), RuleFault>
+    fn leaving(&self, right: u32) -> Result<(Vec<u32>, Vec<u64>), RuleFault>
         ensures nodes { IfOk result (λ r. AreNodesOf self.now.nodes right r.0.items) }
         ensures recorded { IfOk result (λ r. self.now.rest.cancels ≡ true → AreRising (calls_at self.now.nodes r.0.items) (reverse r.1.items)) }
         ensures not_recorded { IfOk result (λ r. self.now.rest.cancels ≡ false → r.1.items ≡ []) }
@@ -187,7 +201,7 @@ impl Marked {
     {
         let bearer = self.bearer(program, s, v)?;
         self.unbound(c)?;
-        let Some(taker) = way_up(&self.nodes, bearer.at) else {
+        let Some(taker) = way_up(&self.nodes, bearer.at as usize) else {
             return Err(RuleFault::Form);
         };
         let Taker::Bound(cell, at) = taker else {
@@ -196,20 +210,20 @@ impl Marked {
         if cell != c {
             return Err(RuleFault::Form);
         }
-        let pruning = self.nodes.node_at(at);
+        let pruning = self.nodes.node_at(at as usize);
         let Kind::Two(_, left, right) = pruning.kind else {
             return Err(RuleFault::Form);
         };
         let (side, calls) = self.leaving(right)?;
         self.nodes.write_node(
-            at,
+            at as usize,
             Node {
                 kind: Kind::One(Single::Passed, left),
                 parent: pruning.parent,
             },
         );
         drop_nodes(&mut self.nodes, &side);
-        let halted = flag_at(&self.flags, left);
+        let halted = flag_at(&self.flags, left as usize);
         settle(
             &self.nodes,
             &mut self.flags,
@@ -257,12 +271,12 @@ impl Marked {
     {
         let pruning = self.pruning(c)?;
         self.unbound(c)?;
-        if !self.part_has_halted(pruning.right) {
+        if !self.part_has_halted(pruning.right as usize) {
             return Err(RuleFault::Halted);
         }
         let side = self.side_at(pruning.right)?;
         self.nodes.write_node(
-            pruning.at,
+            pruning.at as usize,
             Node {
                 kind: Kind::One(Single::Passed, pruning.left),
                 parent: pruning.parent,

@@ -23,14 +23,14 @@ impl Marked {
         ensures reason { IfErr result (λ r. (t : Table) → IsRightlyRefused program.now t (entry.Publish s v) self.old r) }
     {
         let bearer = self.bearer(program, s, v)?;
-        let Some(taker) = way_up(&self.nodes, bearer.at) else {
+        let Some(taker) = way_up(&self.nodes, bearer.at as usize) else {
             return Err(RuleFault::Form);
         };
         let Taker::Whole = taker else {
             return Err(RuleFault::Form);
         };
         self.nodes.write_node(
-            bearer.at,
+            bearer.at as usize,
             Node {
                 kind: Kind::Leaf(Tip::Ended),
                 parent: bearer.parent,

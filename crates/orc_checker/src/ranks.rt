@@ -10,6 +10,7 @@ ghost use Rattle.orc_checker.specs.declared.arena.Node.{Node as NodeOf};
 use crate::arena::{Double, Kind, Node};
 use crate::marked::Marked;
 use crate::nodes::item;
+use crate::slot::Slot;
 use std::alloc::{AllocError, Global};
 
 /// For each node a number that is greater than that of the node above it, while `are_kept` says so; none is greater than `most`.
@@ -58,64 +59,67 @@ fn set_rank(numbers: &mut Vec<u32>, i: usize, rank: u32)
 fn rank_below(numbers: &Vec<u32>, node: Node) -> Option<u32>
     ensures { IfSome result (λ r. rank numbers.now.items (NodeOf.parent node) < r) }
 {
-    rank_at(numbers, node.parent).checked_add(step_below(node.kind))
+    rank_at(numbers, node.parent as usize).checked_add(step_below(node.kind))
 }
 
 // Whether a part of node `number`, which is to come, doesn't stand below it yet.
-fn stands_apart(items: &Vec<Node>, number: usize, part: usize) -> bool
+fn stands_apart(items: &Vec<Slot>, number: usize, part: usize) -> bool
     ensures { result ≡ true → StandsApart items.now.items number part }
 {
     if part == number {
         return false;
     }
     match items.get(part) {
-        Some(node) => node.parent != number,
+        Some(slot) => slot.node().parent as usize != number,
         None => true,
     }
 }
 
-fn stand_apart(items: &Vec<Node>, number: usize, kind: Kind) -> bool
+fn stand_apart(items: &Vec<Slot>, number: usize, kind: Kind) -> bool
     ensures { result ≡ true → (i : ℕ) → IsPart kind i → StandsApart items.now.items number i }
 {
     match kind {
         Kind::Leaf(_) => true,
-        Kind::One(_, part) => stands_apart(items, number, part),
+        Kind::One(_, part) => stands_apart(items, number, part as usize),
         Kind::Two(_, left, right) => {
-            stands_apart(items, number, left) && stands_apart(items, number, right)
+            stands_apart(items, number, left as usize)
+                && stands_apart(items, number, right as usize)
         }
     }
 }
 
 // Whether a part that stands below a node has a greater number.
-fn is_ranked_below(items: &Vec<Node>, numbers: &Vec<u32>, above: usize, part: usize) -> bool
+fn is_ranked_below(items: &Vec<Slot>, numbers: &Vec<u32>, above: usize, part: usize) -> bool
     ensures { result ≡ true → IsRankedBelow items.now.items numbers.now.items above part }
 {
     match items.get(part) {
-        Some(node) if node.parent == above => rank_at(numbers, above) < rank_at(numbers, part),
+        Some(slot) if slot.node().parent as usize == above => {
+            rank_at(numbers, above) < rank_at(numbers, part)
+        }
         _ => true,
     }
 }
 
-fn are_ranked_below(items: &Vec<Node>, numbers: &Vec<u32>, above: usize, kind: Kind) -> bool
+fn are_ranked_below(items: &Vec<Slot>, numbers: &Vec<u32>, above: usize, kind: Kind) -> bool
     ensures { result ≡ true → (i : ℕ) → IsPart kind i → IsRankedBelow items.now.items numbers.now.items above i }
 {
     match kind {
         Kind::Leaf(_) => true,
-        Kind::One(_, part) => is_ranked_below(items, numbers, above, part),
+        Kind::One(_, part) => is_ranked_below(items, numbers, above, part as usize),
         Kind::Two(_, left, right) => {
-            is_ranked_below(items, numbers, above, left)
-                && is_ranked_below(items, numbers, above, right)
+            is_ranked_below(items, numbers, above, left as usize)
+                && is_ranked_below(items, numbers, above, right as usize)
         }
     }
 }
 
 // How many `|` stand one above the other right above a node on their left.
-fn queue_above(items: &Vec<Node>, at: usize) -> u32 {
+fn queue_above(items: &Vec<Slot>, at: usize) -> u32 {
     let mut place = at;
     for count in 0..LONGEST_QUEUE {
-        let above = item(items, place).parent;
+        let above = item(items, place).parent as usize;
         match item(items, above).kind {
-            Kind::Two(Double::Both, left, _) if left == place => place = above,
+            Kind::Two(Double::Both, left, _) if left as usize == place => place = above,
             _ => return count,
         }
     }
@@ -179,7 +183,7 @@ impl Ranks {
     }
 
     /// Ranks a node that comes behind the others.
-    pub(crate) fn add(&mut self, items: &Vec<Node>, node: Node)
+    pub(crate) fn add(&mut self, items: &Vec<Slot>, node: Node)
         ensures { AreKept items.now.items self.old → AreKept (items.now.items ++ node ∷ []) self.new }
     {
         let were_kept = self.are_kept;
@@ -200,7 +204,7 @@ impl Ranks {
     }
 
     /// A node becomes another one, below the same node.
-    pub(crate) fn write(&mut self, items: &Vec<Node>, i: usize, node: Node)
+    pub(crate) fn write(&mut self, items: &Vec<Slot>, i: usize, node: Node)
         ensures { ((x : NodeOf) → slice_get items.now.items i ≡ Some x → Follows x node) → AreKept items.now.items self.old → AreKept (slice_set items.now.items i node) self.new }
     {
         if self.are_kept {
@@ -209,7 +213,7 @@ impl Ranks {
     }
 
     /// A node went below another one, which was put in its place below `parent`.
-    pub(crate) fn lift(&mut self, items: &Vec<Node>, i: usize, both: usize, parent: usize)
+    pub(crate) fn lift(&mut self, items: &Vec<Slot>, i: usize, both: usize, parent: usize)
         ensures { (nodes : List NodeOf) → parent ≡ NodeOf.parent (slice_index_or nodes i nowhere) → items.now.items ≡ lifted nodes i both → AreKept nodes self.old → AreKept items.now.items self.new }
     {
         if !self.are_kept {
@@ -227,7 +231,7 @@ impl Ranks {
     }
 
     // The nodes below `both` get greater numbers where they need them, and above node `i` half as many are left free as `|` stand there.
-    fn make_room(&mut self, items: &Vec<Node>, i: usize, both: usize)
+    fn make_room(&mut self, items: &Vec<Slot>, i: usize, both: usize)
         ensures { AreRankedBut items.now.items self.old.numbers.items self.old.most (both ∷ []) → AreKept items.now.items self.new }
     {
         self.are_kept = false;
@@ -244,7 +248,7 @@ impl Ranks {
     // The number of a part becomes greater than that of the node above it; then what is below the part comes late too. False where that can't be.
     fn settle_part(
         &mut self,
-        items: &Vec<Node>,
+        items: &Vec<Slot>,
         late: &mut Vec<usize>,
         above: usize,
         part: usize,
@@ -277,7 +281,7 @@ impl Ranks {
     // The same for all parts of a node.
     fn settle_parts(
         &mut self,
-        items: &Vec<Node>,
+        items: &Vec<Slot>,
         late: &mut Vec<usize>,
         above: usize,
         kind: Kind,
@@ -287,16 +291,16 @@ impl Ranks {
     {
         match kind {
             Kind::Leaf(_) => true,
-            Kind::One(_, part) => self.settle_part(items, late, above, part, gap),
+            Kind::One(_, part) => self.settle_part(items, late, above, part as usize, gap),
             Kind::Two(_, left, right) => {
-                self.settle_part(items, late, above, left, gap)
-                    && self.settle_part(items, late, above, right, gap)
+                self.settle_part(items, late, above, left as usize, gap)
+                    && self.settle_part(items, late, above, right as usize, gap)
             }
         }
     }
 
     // The same for all nodes of the list, the last one first. False where that can't be.
-    fn settle(&mut self, items: &Vec<Node>, late: Vec<usize>, gap: Gap) -> bool
+    fn settle(&mut self, items: &Vec<Slot>, late: Vec<usize>, gap: Gap) -> bool
         ensures { result ≡ true → AreRankedBut items.now.items self.old.numbers.items self.old.most late.items → AreRankedBut items.now.items self.new.numbers.items self.new.most [] }
     {
         let mut late = late;
@@ -314,7 +318,7 @@ impl Ranks {
     }
 
     /// Ranks all nodes again, by as small numbers as there are, whether they were kept or not.
-    pub(crate) fn renew(&mut self, items: &Vec<Node>)
+    pub(crate) fn renew(&mut self, items: &Vec<Slot>)
         ensures { AreKept items.now.items self.new }
     {
         self.are_kept = false;

@@ -7,16 +7,16 @@ ghost use Rattle.orc_names.specs.Scopes.{close_param, env_of};
 ghost use Rattle.orc_names.specs.Names.{AreOrdered};
 ghost use Rattle.orc_checker.specs.Rising.{takes, Stands};
 
-use crate::arena::Node;
 use crate::marked::Marked;
 use crate::rest::Called;
+use crate::slot::Slot;
 use crate::walk::{Taker, way_up};
 use orc_names::{Bound, meaning};
 use orc_rules::param::{Operand, Param};
 
 impl Marked {
     /// The nodes, by their numbers.
-    pub fn nodes(&self) -> &[Node]
+    pub fn nodes(&self) -> &[Slot]
         ensures { result.now ≡ self.now.nodes }
     {
         self.nodes.items()

@@ -20,7 +20,7 @@ use std::marker::Model;
 pub struct Called {
     pub found: Found,
     pub at: u64,
-    pub node: usize,
+    pub node: u32,
 }
 
 /// The calls by their numbers, the counts of those whose site's answers depend on how many such calls there were, the time, and the calls

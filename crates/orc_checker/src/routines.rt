@@ -15,7 +15,7 @@ ghost use Rattle.orc_rules.specs.declared.entry.RuleFault.TheVariants as reason;
 use crate::arena::{Kind, Node, Tip};
 use crate::flags::settle;
 use crate::marked::Marked;
-use crate::room::push_within;
+use crate::room::{fits, push_within};
 use orc_names::{Bound, Scope, meaning};
 use orc_rules::entry::RuleFault;
 use orc_rules::param::Operand;
@@ -95,7 +95,7 @@ impl Marked {
         ensures reason { IfErr result (λ r. (t : Table) → IsProgram (definitions program.now) (source program.now) → IsRightlyRefused program.now t (entry.Def s a) self.old r) }
     {
         let spot = self.spot(s)?;
-        let TermNode::Call(number, list) = program.node(spot.node) else {
+        let TermNode::Call(number, list) = program.node(spot.node as usize) else {
             return Err(RuleFault::Form);
         };
         let Some(called) = definition(program, number) else {
@@ -109,14 +109,16 @@ impl Marked {
             &self.cells,
             &called.params,
             operands,
-            spot.scope,
+            spot.scope as usize,
         )?;
+        fits(called.body).map_err(|_| RuleFault::Memory)?;
+        fits(scope).map_err(|_| RuleFault::Memory)?;
         self.marks.try_reserve(1).map_err(|_| RuleFault::Memory)?;
         extend_scopes(&mut self.scopes, &added)?;
         self.nodes.write_node(
-            spot.at,
+            spot.at as usize,
             Node {
-                kind: Kind::Leaf(Tip::Token(a, called.body, scope)),
+                kind: Kind::Leaf(Tip::Token(a, called.body as u32, scope as u32)),
                 parent: spot.parent,
             },
         );

@@ -26,9 +26,11 @@ fn side_of(above: Kind, part: usize) -> Option<Side>
     ensures { result ≡ side_of above part }
 {
     match above {
-        Kind::Two(Double::Side(cell), _, right) if right == part => Some(Side::Right(cell)),
-        Kind::One(Single::Entered(otherwise, _, _), left) if left == part => {
-            Some(Side::Left(otherwise))
+        Kind::Two(Double::Side(cell), _, right) if right as usize == part => {
+            Some(Side::Right(cell))
+        }
+        Kind::One(Single::Entered(otherwise, _, _), left) if left as usize == part => {
+            Some(Side::Left(otherwise as u64))
         }
         _ => None,
     }
@@ -55,7 +57,7 @@ impl Marked {
         ensures { IfSome result (λ b. (x : Context) (l : Listing) (p : Place) → Spells x (code l) self.now p → RightIs p cell b) }
     {
         let pruning = self.find_pruning(cell)?;
-        Some(self.part_has_halted(pruning.right))
+        Some(self.part_has_halted(pruning.right as usize))
     }
 
     /// Whether the left side of an otherwise has halted. None where that otherwise doesn't stand.
@@ -63,7 +65,7 @@ impl Marked {
         ensures { IfSome result (λ b. (x : Context) (l : Listing) (p : Place) → Spells x (code l) self.now p → LeftIs p otherwise b) }
     {
         let entered = self.find_otherwise(otherwise)?;
-        Some(self.part_has_halted(entered.left))
+        Some(self.part_has_halted(entered.left as usize))
     }
 
     /// A side that has halted: of those that stand the first that may have. None where none has.
@@ -75,6 +77,6 @@ impl Marked {
             return None;
         };
         let parent = self.nodes.node_at(place).parent;
-        side_of(self.nodes.node_at(parent).kind, place)
+        side_of(self.nodes.node_at(parent as usize).kind, place)
     }
 }

@@ -150,8 +150,8 @@ fn can_token_move(
             scopes,
             cells,
             &mut halts.active,
-            node,
-            scope,
+            node as usize,
+            scope as usize,
         ),
         Kind::Leaf(Tip::Bears(_, _)) => true,
         _ => false,
@@ -171,7 +171,7 @@ pub(crate) fn can_some_move(
 {
     let list = nodes.restless();
     for i in 0..list.len() {
-        let kind = nodes.node_at(list[i]).kind;
+        let kind = nodes.node_at(list[i] as usize).kind;
         if can_token_move(program, halts, scopes, cells, kind) {
             return true;
         }

@@ -57,14 +57,16 @@ impl Marked {
         ensures other { result ≡ false → AreOrdered self.now.scopes → IsVoid (close (env_of self.now.cells self.now.scopes spot.scope) (code program.now spot.node)) → ⊥ }
         ensures running { result ≡ true → has_halted (code program.now spot.node) ≡ false }
     {
-        match program.node(spot.node) {
-            TermNode::Operand(operand) => is_void(&self.scopes, &self.cells, operand, spot.scope),
+        match program.node(spot.node as usize) {
+            TermNode::Operand(operand) => {
+                is_void(&self.scopes, &self.cells, operand, spot.scope as usize)
+            }
             TermNode::Site(_, list) => {
                 has_void(
                     &self.scopes,
                     &self.cells,
                     program.operands(list),
-                    spot.scope,
+                    spot.scope as usize,
                 )
             }
             _ => false,
@@ -82,7 +84,7 @@ impl Marked {
             return Err(RuleFault::Form);
         }
         self.nodes.write_node(
-            spot.at,
+            spot.at as usize,
             Node {
                 kind: Kind::Leaf(Tip::Ended),
                 parent: spot.parent,

@@ -153,10 +153,10 @@ impl Scene<'_, '_> {
 
     // The program's node on which a token stands, and its scope.
     fn node_of(&self, token: u64) -> Option<(usize, usize)> {
-        for node in self.replay.marked.nodes() {
-            match node.kind {
+        for slot in self.replay.marked.nodes() {
+            match slot.node().kind {
                 Kind::Leaf(Tip::Token(mark, number, scope)) if mark == token => {
-                    return Some((number, scope));
+                    return Some((number as usize, scope as usize));
                 }
                 _ => {}
             }

@@ -83,11 +83,13 @@ fn is_callable(marked: &Marked, operands: &[Operand], scope: usize) -> bool {
 fn is_free(marked: &Marked, program: &Program, kind: Kind) -> bool {
     match kind {
         Kind::Leaf(Tip::Bears(_, _)) => true,
-        Kind::Leaf(Tip::Token(_, node, scope)) => match program.node(node) {
+        Kind::Leaf(Tip::Token(_, node, scope)) => match program.node(node as usize) {
             TermNode::Operand(operand) => {
-                matches!(marked.param(operand, scope), Param::Is(_) | Param::Void)
+                matches!(marked.param(operand, scope as usize), Param::Is(_) | Param::Void)
             }
-            TermNode::Site(_, list) => is_callable(marked, program.operands(list), scope),
+            TermNode::Site(_, list) => {
+                is_callable(marked, program.operands(list), scope as usize)
+            }
             _ => true,
         },
         _ => false,
@@ -143,8 +145,8 @@ impl Allowed {
             }
         }
         self.count = 0;
-        for node in marked.nodes() {
-            if is_free(marked, program, node.kind) {
+        for slot in marked.nodes() {
+            if is_free(marked, program, slot.node().kind) {
                 self.count = self.count.saturating_add(1);
             }
         }

@@ -109,8 +109,8 @@ impl Watch {
                 _ => Fate::UsedUp(number),
             };
         }
-        if let Some(node) = marked.nodes().get(place) {
-            if let Kind::One(Single::Passed, _) = node.kind {
+        if let Some(slot) = marked.nodes().get(place) {
+            if let Kind::One(Single::Passed, _) = slot.node().kind {
                 return Fate::Left(number);
             }
         }

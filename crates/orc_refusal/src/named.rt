@@ -43,7 +43,9 @@ fn is_named(kind: Kind, named: Named) -> bool {
         (Kind::Leaf(Tip::Bears(mark, _)), Named::Token(token)) => mark == token,
         (Kind::Leaf(Tip::Waits(number)), Named::Call(call)) => number == call,
         (Kind::Two(Double::Side(number), _, _), Named::Cell(cell)) => number == cell,
-        (Kind::One(Single::Entered(mark, _, _), _), Named::Otherwise(other)) => mark == other,
+        (Kind::One(Single::Entered(mark, _, _), _), Named::Otherwise(other)) => {
+            mark as u64 == other
+        }
         _ => false,
     }
 }
@@ -51,15 +53,15 @@ fn is_named(kind: Kind, named: Named) -> bool {
 /// Whether the node at a place is what is named.
 pub(crate) fn stands_at(marked: &Marked, place: usize, named: Named) -> bool {
     match marked.nodes().get(place) {
-        Some(node) => is_named(node.kind, named),
+        Some(slot) => is_named(slot.node().kind, named),
         None => false,
     }
 }
 
 /// The node that is named. It looks at all nodes.
 pub(crate) fn place_of(marked: &Marked, named: Named) -> Option<usize> {
-    for (place, node) in marked.nodes().iter().enumerate() {
-        if is_named(node.kind, named) {
+    for (place, slot) in marked.nodes().iter().enumerate() {
+        if is_named(slot.node().kind, named) {
             return Some(place);
         }
     }

@@ -18,8 +18,8 @@ impl Spent {
             is_held.push(false)?;
         }
         let mut spent = Spent { is_held };
-        for (place, node) in marked.nodes().iter().enumerate() {
-            if let Kind::Leaf(Tip::Token(_, _, _)) = node.kind {
+        for (place, slot) in marked.nodes().iter().enumerate() {
+            if let Kind::Leaf(Tip::Token(_, _, _)) = slot.node().kind {
                 spent.hold(marked, place);
             }
         }
@@ -38,7 +38,7 @@ impl Spent {
             }
             *is_held = true;
             match marked.nodes().get(place) {
-                Some(node) if place != 0 => place = node.parent,
+                Some(slot) if place != 0 => place = slot.node().parent as usize,
                 _ => return,
             }
         }

@@ -28,7 +28,7 @@ fn source_of(node: usize, scope: usize, level: usize) -> Side {
 impl<'r, 's> Strip<'r, 's> {
     fn kind(&self, at: usize) -> Kind {
         match self.replay.marked.nodes().get(at) {
-            Some(node) => node.kind,
+            Some(slot) => slot.node().kind,
             None => Kind::Leaf(Tip::Gone),
         }
     }
@@ -54,7 +54,8 @@ impl<'r, 's> Strip<'r, 's> {
     }
 
     // A part of a node, whose own part on the way is the one of this place.
-    fn part(&self, at: usize, level: usize, below: Option<usize>) -> Side {
+    fn part(&self, part: u32, level: usize, below: Option<usize>) -> Side {
+        let at = part as usize;
         match below {
             Some(place) if self.way.node(place) == Some(at) => Side {
                 task: Task::Way(place, level),
@@ -87,9 +88,9 @@ impl<'r, 's> Strip<'r, 's> {
                 self.join(Sign::Opened(cell), wanted, left, right, below)
             }
             Kind::Two(Double::Both, left, right) => {
-                if self.is_left_out(left, below) {
+                if self.is_left_out(left as usize, below) {
                     self.push(self.part(right, wanted, below).task)
-                } else if self.is_left_out(right, below) {
+                } else if self.is_left_out(right as usize, below) {
                     self.push(self.part(left, wanted, below).task)
                 } else {
                     self.join(Sign::Par, wanted, left, right, below)
@@ -112,8 +113,8 @@ impl<'r, 's> Strip<'r, 's> {
         &mut self,
         sign: Sign,
         wanted: usize,
-        left: usize,
-        right: usize,
+        left: u32,
+        right: u32,
         below: Option<usize>,
     ) -> Result<(), AllocError> {
         let levels = sign.levels();
@@ -126,15 +127,15 @@ impl<'r, 's> Strip<'r, 's> {
         &mut self,
         sign: Sign,
         wanted: usize,
-        left: usize,
-        right: usize,
-        scope: usize,
+        left: u32,
+        right: u32,
+        scope: u32,
         below: Option<usize>,
     ) -> Result<(), AllocError> {
         let levels = sign.levels();
         let left = self.part(left, levels.left, below);
         let right = Side {
-            task: Task::Source(right, scope, levels.right),
+            task: Task::Source(right as usize, scope as usize, levels.right),
             is_part: self.way.is_short(),
         };
         self.push_joined(sign, wanted, left, right)
@@ -151,7 +152,7 @@ impl<'r, 's> Strip<'r, 's> {
             Tip::Gone | Tip::Ended => self.page.say("stop"),
             Tip::Token(mark, node, scope) => {
                 self.note(mark)?;
-                self.push(Task::Source(node, scope, wanted))?;
+                self.push(Task::Source(node as usize, scope as usize, wanted))?;
             }
             Tip::Bears(mark, value) => {
                 self.note(mark)?;

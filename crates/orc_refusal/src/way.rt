@@ -33,10 +33,10 @@ fn side_of(marked: &Marked, entry: &Entry) -> Option<usize> {
         Entry::Right(otherwise, _) => Named::Otherwise(*otherwise),
         _ => return None,
     };
-    let node = marked.nodes().get(place_of(marked, named)?)?;
-    match node.kind {
-        Kind::Two(_, _, right) => Some(right),
-        Kind::One(_, left) => Some(left),
+    let slot = marked.nodes().get(place_of(marked, named)?)?;
+    match slot.node().kind {
+        Kind::Two(_, _, right) => Some(right as usize),
+        Kind::One(_, left) => Some(left as usize),
         Kind::Leaf(_) => None,
     }
 }
@@ -46,6 +46,7 @@ fn is_silent(marked: &Marked, spent: &Spent, above: Node, part: usize) -> bool {
     match above.kind {
         Kind::One(Single::Passed, _) => true,
         Kind::Two(Double::Both, left, right) => {
+            let (left, right) = (left as usize, right as usize);
             spent.is_spent(marked, if left == part { right } else { left })
         }
         _ => false,
@@ -95,14 +96,14 @@ impl Way {
             if place == 0 {
                 return Ok(());
             }
-            let Some(node) = marked.nodes().get(place) else {
+            let Some(slot) = marked.nodes().get(place) else {
                 return Ok(());
             };
-            let parent = node.parent;
+            let parent = slot.node().parent as usize;
             let Some(above) = marked.nodes().get(parent) else {
                 return Ok(());
             };
-            if !is_silent(marked, spent, *above, place) {
+            if !is_silent(marked, spent, above.node(), place) {
                 if levels == LEVELS {
                     self.is_inner = true;
                     return Ok(());

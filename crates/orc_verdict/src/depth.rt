@@ -14,16 +14,17 @@ ghost use Rattle.orc_verdict.specs.Heights.{AreHeights, AreAtMost};
 
 use crate::heights::Heights;
 use orc_checker::Marked;
-use orc_checker::arena::{Kind, Node, Single, Tip};
+use orc_checker::arena::{Kind, Single, Tip};
+use orc_checker::slot::Slot;
 use orc_rules::limits::MOST_LEVELS;
 use std::alloc::{AllocError, Global};
 
 // A node's kind, gone where there is none.
-fn kind_of(nodes: &[Node], i: usize) -> Kind
+fn kind_of(nodes: &[Slot], i: usize) -> Kind
     ensures { result ≡ kind_at nodes.now i }
 {
     match nodes.get(i) {
-        Some(node) => node.kind,
+        Some(slot) => slot.node().kind,
         None => Kind::Leaf(Tip::Gone),
     }
 }
@@ -33,10 +34,10 @@ fn own_levels(heights: &Heights, kind: Kind) -> usize
     ensures { result ≡ own_levels heights.now kind }
 {
     match kind {
-        Kind::Leaf(Tip::Token(_, node, _)) => heights.at(node),
+        Kind::Leaf(Tip::Token(_, node, _)) => heights.at(node as usize),
         Kind::Leaf(_) => 1,
-        Kind::One(Single::Feeds(_, right, _), _) => heights.at(right),
-        Kind::One(Single::Entered(_, right, _), _) => heights.at(right),
+        Kind::One(Single::Feeds(_, right, _), _) => heights.at(right as usize),
+        Kind::One(Single::Entered(_, right, _), _) => heights.at(right as usize),
         Kind::One(Single::Passed, _) => 0,
         Kind::Two(_, _, _) => 0,
     }
@@ -70,10 +71,10 @@ fn push_parts(left: &mut Vec<(usize, usize)>, kind: Kind, above: usize) -> Resul
 {
     match kind {
         Kind::Leaf(_) => {}
-        Kind::One(_, part) => left.push((part, above))?,
+        Kind::One(_, part) => left.push((part as usize, above))?,
         Kind::Two(_, part, other) => {
-            left.push((part, above))?;
-            left.push((other, above))?;
+            left.push((part as usize, above))?;
+            left.push((other as usize, above))?;
         }
     }
     Ok(())

@@ -4,7 +4,8 @@ ghost use Rattle.std.specs.Prelude.{◌≡◌, true, false, Some, IfSome, IfNone
 ghost use Rattle.orc_verdict.specs.Finding.{name_at as name_shown, is_leaf, is_one, Has, HasNone, LacksAt};
 
 use orc_checker::Marked;
-use orc_checker::arena::{Double, Kind, Node, Single, Tip};
+use orc_checker::arena::{Double, Kind, Single, Tip};
+use orc_checker::slot::Slot;
 
 /// What an entry names: the mark of a token or of an otherwise, a call, or a cell.
 #[derive(Clone, Copy, PartialEq, Eq)]
@@ -29,7 +30,7 @@ fn name_of(kind: Kind) -> Option<Name>
         Kind::Leaf(Tip::Token(s, _, _)) => Some(Name::Mark(s)),
         Kind::Leaf(Tip::Bears(s, _)) => Some(Name::Mark(s)),
         Kind::Leaf(Tip::Waits(k)) => Some(Name::Call(k)),
-        Kind::One(Single::Entered(s, _, _), _) => Some(Name::Mark(s)),
+        Kind::One(Single::Entered(s, _, _), _) => Some(Name::Mark(s as u64)),
         Kind::Two(Double::Side(c), _, _) => Some(Name::Cell(c)),
         _ => None,
     }
@@ -67,17 +68,15 @@ fn is_named(kind: Kind, name: Name) -> bool
 }
 
 /// The node of that number, where it has the name.
-fn part_at(nodes: &[Node], name: Name, at: usize) -> Option<Part>
+fn part_at(nodes: &[Slot], name: Name, at: usize) -> Option<Part>
     ensures has { IfSome result (λ f. Has nodes.now name f) }
     ensures lacks { IfNone result (LacksAt nodes.now name at) }
 {
     match nodes.get(at) {
-        Some(node) => {
-            if is_named(node.kind, name) {
-                Some(Part {
-                    at,
-                    kind: node.kind,
-                })
+        Some(slot) => {
+            let kind = slot.node().kind;
+            if is_named(kind, name) {
+                Some(Part { at, kind })
             } else {
                 None
             }

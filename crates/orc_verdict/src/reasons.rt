@@ -255,7 +255,7 @@ fn right_has_halted(marked: &Marked, kind: Kind) -> bool
     ensures { result ≡ right_flag marked.now.flags kind }
 {
     match kind {
-        Kind::Two(_, _, right) => marked.part_has_halted(right),
+        Kind::Two(_, _, right) => marked.part_has_halted(right as usize),
         _ => false,
     }
 }
@@ -265,7 +265,7 @@ fn left_has_halted(marked: &Marked, kind: Kind) -> bool
     ensures { result ≡ left_flag marked.now.flags kind }
 {
     match kind {
-        Kind::One(_, left) => marked.part_has_halted(left),
+        Kind::One(_, left) => marked.part_has_halted(left as usize),
         _ => false,
     }
 }

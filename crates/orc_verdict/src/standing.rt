@@ -112,7 +112,9 @@ pub(crate) fn standing_of(
     ensures { AreOrdered marked.now.scopes → result ≡ summary (definitions program.now) args.now (under (code program.now) (env_of marked.now.cells marked.now.scopes) kind) }
 {
     match kind {
-        Kind::Leaf(Tip::Token(_, node, scope)) => on_node(marked, program, args, node, scope),
+        Kind::Leaf(Tip::Token(_, node, scope)) => {
+            on_node(marked, program, args, node as usize, scope as usize)
+        }
         Kind::Leaf(Tip::Bears(_, value)) => Standing::On(Param::Is(value)),
         Kind::Leaf(Tip::Gone) => Standing::Nothing,
         Kind::Leaf(Tip::Ended) => Standing::Nothing,

@@ -26,24 +26,24 @@ returns-clause-done c =
     let v = c.self.view_is in
     let k = c.in-Other in
     let next = c.in_ok-expect_mark.ensures.next in
-    other-enters terms c.args.self.now _ t.at t.parent c.args.s t.node t.scope c.in_ok-spot.ensures.there c.len-n.result c.args.a k.f k.g
+    other-enters terms c.args.self.now _ t.at t.parent c.args.s t.node t.scope c.in_ok-spot.ensures.there c.next_number-n.result c.args.a k.f k.g
     (c.node.ensures.term ∙ ap (unfold_node terms c.args.program.now.lists) k.is)
-    (c.len-n.ensures.count ∙ ap length (c.reserve.ensures.nodes ∙ ap State.nodes v))
+    (c.next_number-n.ensures.count ∙ ap length (c.reserve_numbered.ensures.nodes ∙ ap State.nodes v))
     next
-    (set_one c.args.self.now.nodes _ _ t.at _ _ _ (c.reserve.ensures.nodes ∙ ap State.nodes v) (c.push_within.ensures.items ∙ ap (λ z. z ++ c.token_node.result ∷ []) c.write_node.ensures.items) c.token_node.ensures)
-    (c.push_flag.ensures.items ∙ (λ j. (c.reserve.ensures.flags ∙ ap State.flags v) j ++ (c.at-halted.ensures ∙ ap (λ (z : State). halt_flag z.halts k.f) v) j ∷ []))
-    (record { free = c.in_ok-spot.ensures.free; scopes = ap State.scopes v; cells = ap State.cells v; marks = one_more c.args.self.now.marks _ _ _ c.args.a (c.reserve.ensures.marks ∙ ap State.marks v) c.push_within-2.ensures.items next; rest = ap State.rest v; halts = ap State.halts v })
+    (set_one c.args.self.now.nodes _ _ t.at _ _ _ (c.reserve_numbered.ensures.nodes ∙ ap State.nodes v) (c.push_within.ensures.items ∙ ap (λ z. z ++ c.token_node.result ∷ []) c.write_node.ensures.items) c.token_node.ensures)
+    (c.push_flag.ensures.items ∙ (λ j. (c.reserve_numbered.ensures.flags ∙ ap State.flags v) j ++ (c.at-halted.ensures ∙ ap (λ (z : State). halt_flag z.halts k.f) v) j ∷ []))
+    (record { free = c.in_ok-spot.ensures.free; scopes = ap State.scopes v; cells = ap State.cells v; marks = one_more c.args.self.now.marks _ _ _ c.args.a (c.reserve_numbered.ensures.marks ∙ ap State.marks v) c.push_within-2.ensures.items next; rest = ap State.rest v; halts = ap State.halts v })
 
 pub write_node-requires : goal.write_node-requires
-write_node-requires c = can_turn c.args.self.now.nodes _ _ _ _ _ (c.reserve.ensures.nodes ∙ ap State.nodes c.self.view_is) c.in_ok-spot.ensures.there (λ v. refl) refl
+write_node-requires c = can_turn c.args.self.now.nodes _ _ _ _ _ (c.reserve_numbered.ensures.nodes ∙ ap State.nodes c.self.view_is) c.in_ok-spot.ensures.there (λ v. refl) refl
 
 pub invariant_of-self-2 : goal.invariant_of-self-2
 invariant_of-self-2 c = (
   still_noted _ _ _ _ _
-      (wait_on _ _ _ (wait_on _ _ _ (same_wait _ _ c.reserve.ensures.nodes) (wait_written _ _ _ _ c.write_node.ensures.items refl)) (wait_more _ _ _ c.push_within.ensures.items (ap (λ (z : Node). waits z.kind) c.token_node.ensures)))
+      (wait_on _ _ _ (wait_on _ _ _ (same_wait _ _ c.reserve_numbered.ensures.nodes) (wait_written _ _ _ _ c.write_node.ensures.items refl)) (wait_more _ _ _ c.push_within.ensures.items (ap (λ (z : Node). waits z.kind) c.token_node.ensures)))
       refl c.self.invariant.0,
-  known_one _ _ _ _ _ _ _ c.self.invariant.1 (sides_one c.self.inside.nodes.items c.reserve.new.nodes.items c.in_ok-spot.spot.at _ c.reserve.ensures.nodes (can_turn c.args.self.now.nodes _ _ _ _ _ (c.reserve.ensures.nodes ∙ ap State.nodes c.self.view_is) c.in_ok-spot.ensures.there (λ v. refl) refl) (λ p lt. ne_eqb _ p (λ e. omega (arith, lt, e, c.len-n.ensures.count, ap length c.reserve.ensures.nodes))) _ _ (c.push_within.ensures.items ∙ ap (λ z. z ++ c.token_node.result ∷ []) c.write_node.ensures.items) (λ p lt. ap (λ (z : Node). is_side z.kind p) c.token_node.ensures)) (flags_same _ _ _ _ refl) c.push_flag.ensures.kept _ _ (c.push_flag.ensures.items ∙ ap (λ z. z ++ c.at-halted.result ∷ []) c.reserve.ensures.flags) refl (length_one c.self.inside.nodes.items c.reserve.new.nodes.items c.in_ok-spot.spot.at _ c.reserve.ensures.nodes (can_turn c.args.self.now.nodes _ _ _ _ _ (c.reserve.ensures.nodes ∙ ap State.nodes c.self.view_is) c.in_ok-spot.ensures.there (λ v. refl) refl) (λ p lt. ne_eqb _ p (λ e. omega (arith, lt, e, c.len-n.ensures.count, ap length c.reserve.ensures.nodes))) _ _ (c.push_within.ensures.items ∙ ap (λ z. z ++ c.token_node.result ∷ []) c.write_node.ensures.items)) (c.len-n.ensures.count ∙ ap length c.reserve.ensures.nodes) c.push_flag.ensures.known,
-  indexed_one _ _ _ _ _ _ _ _ _ _ _ _ _ _ _ c.self.invariant.2 c.reserve.ensures.nodes c.write_node.ensures.items c.push_within.ensures.items (λ m x b e. ap name_of (kind_read c.self.inside.nodes.items _ _ _ (ap (λ (z : State). slice_get z.nodes c.in_ok-spot.spot.at) c.self.view_is ∙ c.in_ok-spot.ensures.there) x b) ∙ e) (ap (λ (z : Node). name_of z.kind) c.token_node.ensures) c.len-n.ensures.count (c.in_ok-expect_mark.ensures.next ∙ ap (λ (z : State). length z.marks) (sym c.self.view_is)) c.reserve.ensures.marks c.push_within-2.ensures.items,
+  known_one _ _ _ _ _ _ _ c.self.invariant.1 (sides_one c.self.inside.nodes.items c.reserve_numbered.new.nodes.items c.in_ok-spot.spot.at _ c.reserve_numbered.ensures.nodes (can_turn c.args.self.now.nodes _ _ _ _ _ (c.reserve_numbered.ensures.nodes ∙ ap State.nodes c.self.view_is) c.in_ok-spot.ensures.there (λ v. refl) refl) (λ p lt. ne_eqb _ p (λ e. omega (arith, lt, e, c.next_number-n.ensures.count, ap length c.reserve_numbered.ensures.nodes))) _ _ (c.push_within.ensures.items ∙ ap (λ z. z ++ c.token_node.result ∷ []) c.write_node.ensures.items) (λ p lt. ap (λ (z : Node). is_side z.kind p) c.token_node.ensures)) (flags_same _ _ _ _ refl) c.push_flag.ensures.kept _ _ (c.push_flag.ensures.items ∙ ap (λ z. z ++ c.at-halted.result ∷ []) c.reserve_numbered.ensures.flags) refl (length_one c.self.inside.nodes.items c.reserve_numbered.new.nodes.items c.in_ok-spot.spot.at _ c.reserve_numbered.ensures.nodes (can_turn c.args.self.now.nodes _ _ _ _ _ (c.reserve_numbered.ensures.nodes ∙ ap State.nodes c.self.view_is) c.in_ok-spot.ensures.there (λ v. refl) refl) (λ p lt. ne_eqb _ p (λ e. omega (arith, lt, e, c.next_number-n.ensures.count, ap length c.reserve_numbered.ensures.nodes))) _ _ (c.push_within.ensures.items ∙ ap (λ z. z ++ c.token_node.result ∷ []) c.write_node.ensures.items)) (c.next_number-n.ensures.count ∙ ap length c.reserve_numbered.ensures.nodes) c.push_flag.ensures.known,
+  indexed_one _ _ _ _ _ _ _ _ _ _ _ _ _ _ _ c.self.invariant.2 c.reserve_numbered.ensures.nodes c.write_node.ensures.items c.push_within.ensures.items (λ m x b e. ap name_of (kind_read c.self.inside.nodes.items _ _ _ (ap (λ (z : State). slice_get z.nodes c.in_ok-spot.spot.at) c.self.view_is ∙ c.in_ok-spot.ensures.there) x b) ∙ e) (ap (λ (z : Node). name_of z.kind) c.token_node.ensures) c.next_number-n.ensures.count (c.in_ok-expect_mark.ensures.next ∙ ap (λ (z : State). length z.marks) (sym c.self.view_is)) c.reserve_numbered.ensures.marks c.push_within-2.ensures.items,
   c.self.invariant.3,
 )
 

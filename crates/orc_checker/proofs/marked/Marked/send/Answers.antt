@@ -40,7 +40,7 @@ returns-clause-done c =
     let s = c.args.self.now in
     let f = c.in-Feeds in
     let scope : Scope = record { name = f.x; bound = Is c.args.v; outer = f.outer } in
-    let scopes = c.push_within.ensures.items ∙ ap (λ z. z ++ scope ∷ []) (c.try_reserve.ensures.items ∙ ap State.scopes v) in
+    let scopes = c.push_within.ensures.items ∙ ap (λ z. z ++ scope ∷ []) (c.reserve_scope.ensures.items ∙ ap State.scopes v) in
     let count : c.scope_count.result ≡ length s.scopes + 1 = c.scope_count.ensures ∙ ap length scopes ∙ length-append s.scopes (scope ∷ []) in
     let flags : c.push_flag-2.new.flags.items ≡ (s.flags ++ false ∷ []) ++ halt_flag s.halts f.g ∷ [] =
     c.push_flag-2.ensures.items ∙ (λ j. (c.push_flag.ensures.items ∙ (λ j. (c.reserve.ensures.flags ∙ ap State.flags v) j ++ false ∷ [])) j ++ (c.at-halted.ensures ∙ ap (λ (z : State). halt_flag z.halts f.g) v) j ∷ []) in
@@ -80,7 +80,7 @@ invariant_of-self-2 c =
     let can = can_publish c.args.self.now.nodes _ _ _ c.args.s _ _ (c.reserve.ensures.nodes ∙ ap State.nodes c.self.view_is) c.in_ok-bearer.ensures.there c.in_ok-bearer.ensures.carries in
     let len : length c.rise.new.nodes.items ≡ n = c.rise.ensures.len ∙ ap length c.write_node.ensures.items ∙ length-set c.reserve.new.nodes.items t.at (node (Leaf Ended) t.parent) ∙ ap length c.reserve.ensures.nodes in
     let f = c.in-Feeds in
-    let marks_are = c.push_within-2.ensures.items ∙ ap (λ z. z ++ (c.len-both.result + 1) ∷ []) c.reserve.ensures.marks in
+    let marks_are = c.push_within-2.ensures.items ∙ ap (λ z. z ++ (c.next_number-both.result + 1) ∷ []) c.reserve.ensures.marks in
     let old : Tables = record { marks = c.self.inside.marks.items; prunings = c.self.inside.prunings.items; calls = c.self.inside.rest.calls; cells = c.self.inside.cells.items } in
     let new : Tables = record old { marks = c.push_within-2.new.items.items } in
     let put = get_last _ _ _ c.args.a marks_are (c.in_ok-expect_mark.ensures.next ∙ ap (λ (z : State). length z.marks) (sym c.self.view_is)) in
@@ -88,7 +88,7 @@ invariant_of-self-2 c =
     names_on (IsPut new) _ _ _ (names_same (IsPut new) _ _ c.reserve.ensures.nodes)
     (names_on (IsPut new) _ _ _ (names_written (IsPut new) _ _ _ _ c.write_node.ensures.items refl)
     (names_on (IsPut new) _ _ _ (names_passed (IsPut new) _ _ c.rise.ensures.passes)
-    (names_map _ (IsPut new) _ _ (λ m i h. its (λ w. IsPut new w i) (Leaf (Token c.args.a f.g c.scope_count.result)) (mark c.args.a) m refl (put ∙ ap Some (ap (λ z. z + 1) c.len-both.ensures.count ∙ sym h.1)) h.0) c.graft.ensures.names))) in (
+    (names_map _ (IsPut new) _ _ (λ m i h. its (λ w. IsPut new w i) (Leaf (Token c.args.a f.g c.scope_count.result)) (mark c.args.a) m refl (put ∙ ap Some (ap (λ z. z + 1) c.next_number-both.ensures.count ∙ sym h.1)) h.0) c.graft.ensures.names))) in (
       still_noted _ _ _ _ _
           (wait_on _ _ _ (wait_on _ _ _ (same_wait _ _ c.reserve.ensures.nodes) (wait_written _ _ _ _ c.write_node.ensures.items refl)) (wait_on _ _ _ (wait_passed _ _ c.rise.ensures.passes) (c.graft.ensures.calls refl)))
           refl c.self.invariant.0,
@@ -96,7 +96,7 @@ invariant_of-self-2 c =
           (sides_on n _ _ _ (sides_same n _ _ c.reserve.ensures.nodes)
           (sides_on n _ _ _ (sides_written n _ _ _ _ c.write_node.ensures.items can (λ p lt. refl)) (sides_on n _ _ _ (sides_passed n _ _ c.rise.ensures.passes) (subst (λ z. NoNewSides z c.rise.new.nodes.items c.graft.new.nodes.items) len c.graft.ensures.sides))))
           c.settle.ensures.known (λ p m. c.settle.ensures.kept p (c.push_flag-2.ensures.kept p (c.push_flag.ensures.kept p m))) _ _ _ (c.push_flag-2.ensures.items ∙ ap (λ z. z ++ c.at-halted.result ∷ []) (c.push_flag.ensures.items ∙ ap (λ z. z ++ false ∷ []) c.reserve.ensures.flags)) c.settle.ensures.len
-          (c.graft.ensures.len ∙ ap (λ z. z + 2) len) (c.len-both.ensures.count ∙ len) (λ e. c.settle.ensures.kept _ (c.push_flag-2.ensures.kept _ (c.push_flag.ensures.known e))) (λ e. c.settle.ensures.kept _ (c.push_flag-2.ensures.known e)),
+          (c.graft.ensures.len ∙ ap (λ z. z + 2) len) (c.next_number-both.ensures.count ∙ len) (λ e. c.settle.ensures.kept _ (c.push_flag-2.ensures.kept _ (c.push_flag.ensures.known e))) (λ e. c.settle.ensures.kept _ (c.push_flag-2.ensures.known e)),
       indexed_on old new _ _ c.self.invariant.2 renamed (λ i m e. put_more old new (get_grown _ _ _ marks_are) (λ d k f. f) (λ d k f. f) (λ d f. f) i m),
       c.self.invariant.3,
     )
