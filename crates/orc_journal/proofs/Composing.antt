@@ -3,7 +3,8 @@ use Rattle.std.proofs.Common.{◌≡◌, ◌<◌, ◌+◌, ℕ, zero, suc, List,
 use Rattle.std.specs.Prelude.{slice_get}
 use Rattle.std.proofs.lemmas.List.{flat_map_more}
 use Rattle.orc_rules.specs.declared.entry.Entry.{Entry}
-use Rattle.orc_rules.specs.Text.{line, Fits}
+use Rattle.orc_rules.specs.Named.{AreNamed}
+use Rattle.orc_rules.specs.Text.{line, Fits, IsNamed}
 use Rattle.orc_journal.specs.declared.journal.Version.{Version}
 use Rattle.orc_journal.specs.Texts.{entry_lines, is_of, AreOf}
 use Rattle.orc_journal.proofs.Codes.{same_some}
@@ -48,6 +49,13 @@ each_at names v [] zero e is are = absurd (none_some e (sym is))
 each_at names v [] (suc i) e is are = absurd (none_some e (sym is))
 each_at names v (f ∷ es) zero e is are = subst (λ z. Fits names z × (is_of v z ≡ true)) (same_some f e is) (are.0, are.1)
 each_at names v (f ∷ es) (suc i) e is are = each_at names v es i e is are.2
+
+-- the site of each call among them has a name
+pub named_at : (names : List (List ℕ)) (es : List Entry) (i : ℕ) (e : Entry) → slice_get es i ≡ Some e → AreNamed names es → IsNamed names e
+named_at names [] zero e is are = absurd (none_some e (sym is))
+named_at names [] (suc i) e is are = absurd (none_some e (sym is))
+named_at names (f ∷ es) zero e is are = subst (IsNamed names) (same_some f e is) are.0
+named_at names (f ∷ es) (suc i) e is are = named_at names es i e is are.1
 
 pub none_past : (es : List Entry) (i : ℕ) → slice_get es i ≡ None → i < length es → ⊥
 none_past es i is within = omega (arith, ap length (take_all es i is), length-take i es, within)

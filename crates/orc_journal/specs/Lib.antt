@@ -1,5 +1,6 @@
 pub mod Lines
 pub mod Reading
 pub mod Rows
+pub mod Sizes
 pub mod Texts
 pub mod Faults

@@ -3,7 +3,9 @@
 ghost use Rattle.std.specs.Prelude.{◌≡◌, ◌++◌, ◌+◌, ◌<◌, ◌^◌, if◌then◌else◌, List, ℕ, true, false, IfOk, IfErr, IfSome, Some, OnOk, MatchResult};
 ghost use Rattle.orc_rules.specs.declared.entry.Entry.{Entry as EntryOf};
 ghost use Rattle.orc_rules.specs.Digits.{Gives};
+ghost use Rattle.orc_rules.specs.Named.{AreNamed};
 ghost use Rattle.orc_rules.specs.Text.{line, Fits, IsNamed};
+ghost use Rattle.orc_journal.specs.declared.journal.Version.TheVariants.{Two};
 ghost use Rattle.orc_journal.specs.declared.text.JournalFault.TheVariants.{Memory as MemoryFault};
 ghost use Rattle.orc_journal.specs.Faults.{journal_line, journal_status};
 ghost use Rattle.orc_journal.specs.Reading.{header_at};
@@ -96,6 +98,7 @@ fn is_written(version: Version, entry: &Entry, answers: &Answers) -> bool
     ensures fits { result ≡ true → Fits answers.now.names entry.now × (is_of version entry.now ≡ true) }
     ensures named { result ≡ true → IsNamed answers.now.names entry.now }
     ensures other { result ≡ false → Fits answers.now.names entry.now → is_of version entry.now ≡ true → ⊥ }
+    ensures unnamed { result ≡ false → IsNamed answers.now.names entry.now → is_of version entry.now ≡ true → ⊥ }
 {
     is_known(version, entry) && has_line(entry, answers)
 }
@@ -110,6 +113,8 @@ pub fn write_journal(
     ensures written { IfOk result (λ whole. whole ≡ true → out.new.items ≡ out.old.items ++ journal_text answers.now.names journal.now) }
     ensures each { IfOk result (λ whole. whole ≡ true → AreOf answers.now.names journal.now.version journal.now.entries) }
     ensures lacking { IfOk result (λ whole. whole ≡ false → AreOf answers.now.names journal.now.version journal.now.entries → ⊥) }
+    // In the second version each entry has a line where the sites of all calls have names.
+    ensures unnamed { IfOk result (λ whole. whole ≡ false → journal.now.version ≡ Two → AreNamed answers.now.names journal.now.entries → ⊥) }
 {
     write_header(out, journal.version())?;
     for at in 0..journal.len() {

@@ -33,6 +33,7 @@ use Rattle.orc_ledger.proofs.Asking.{call-lawful}
 use Rattle.orc_ledger.proofs.Calling.{calls-told}
 use Rattle.orc_ledger.proofs.Grouped.{called-grouped}
 use Rattle.orc_ledger.proofs.Keeping.{counted-call}
+use Rattle.orc_ledger.proofs.Brought.{exchanged-brought}
 use Rattle.orc_ledger.proofs.Sizes.{exchanged-members}
 use Rattle.orc_paths.proofs.Forms.{at-stop, at-param, at-call, at-par, at-seq, at-prune, at-other}
 
@@ -97,4 +98,5 @@ module _ (l : Listing) (sites : List Site) (counts : List (List ℕ × ℕ)) (si
         counted = counted-call l sites s s' K.lawful L' t.serial c.number m args T.journal counts counts' (subst (λ z. CountsCall z m args counts counts') its counted) K.counted;
         -- it is in the token's group
         sized = λ j. omega (arith, exchanged-members s s' (t ∷ []) [] [] (c ∷ []) 1 (entry.Call t.serial c.number m args) T j, K.sized j, ap (λ z. is_this j (group_at s.steps z)) step);
+        brought = exchanged-brought s s' K.brought (t ∷ []) [] [] (c ∷ []) 1 (entry.Call t.serial c.number m args) T (omega arith);
       }

@@ -1,5 +1,5 @@
 -- A call and its answer in one go: the records between them, and what a ledger keeps over both.
-use Rattle.std.proofs.Common.{◌≡◌, ◌<◌, ◌+◌, ◌-◌, ◌^◌, ℕ, List, [], ◌∷◌, ◌++◌, ◌∙◌, length, slice_set, refl, sym, ap, arith}
+use Rattle.std.proofs.Common.{◌≡◌, ◌<◌, ◌+◌, ◌-◌, ℕ, List, [], ◌∷◌, ◌++◌, length, slice_set, refl, ap, arith}
 use Rattle.orc_rules.specs.declared.value.Value.{Value}
 use Rattle.orc_rules.specs.declared.value.Answer.{Answer}
 use Rattle.orc_rules.specs.declared.value.Answer.TheVariants.{Value as Gives, Halt}
@@ -24,8 +24,9 @@ use Rattle.orc_ledger.proofs.Asking.{return-lawful, return_halt-lawful}
 use Rattle.orc_ledger.proofs.Calling.{returns-told}
 use Rattle.orc_ledger.proofs.Grouped.{returned-grouped, halted-grouped}
 use Rattle.orc_ledger.proofs.Keeping.{counted-kept}
+use Rattle.orc_ledger.proofs.Brought.{exchanged-brought}
 use Rattle.orc_ledger.proofs.Sizes.{exchanged-members}
-use Rattle.orc_tables.proofs.Slots.{removed, replaced}
+use Rattle.orc_tables.proofs.Slots.{removed}
 
 -- what stands in a slot that is free
 abbrev pub nobody : Token
@@ -84,6 +85,7 @@ given_kept l sites counts sizes s K c pends v due room s' T =
       told = returns-told l sites s s' K.lawful L' K.told [] (t ∷ []) c e tt T;
       counted = counted-kept l sites s s' K.lawful L' (e ∷ []) T.journal (tt, tt) counts K.counted;
       sized = λ j. omega (arith, exchanged-members s s' [] (t ∷ []) (c ∷ []) [] 0 e T j, K.sized j);
+      brought = exchanged-brought s s' K.brought [] (t ∷ []) (c ∷ []) [] 0 e T (omega arith);
     }
 
 -- one halts, and its group has a member less
@@ -98,4 +100,5 @@ halted_kept l sites counts sizes sizes' s K c pends due room s' T left =
       told = returns-told l sites s s' K.lawful L' K.told [] [] c e tt T;
       counted = counted-kept l sites s s' K.lawful L' (e ∷ []) T.journal (tt, tt) counts K.counted;
       sized = λ j. omega (arith, left j, exchanged-members s s' [] [] (c ∷ []) [] 0 e T j, K.sized j);
+      brought = exchanged-brought s s' K.brought [] [] (c ∷ []) [] 0 e T (omega arith);
     }

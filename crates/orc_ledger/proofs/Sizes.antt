@@ -132,4 +132,4 @@ open-new gs g = inr (omega (arith, weight-append (is_named g.number) gs (g ∷ [
 
 -- the same records, and the same sizes in another table
 pub kept-still : (l : Listing) (sites : List Site) (counts : List (List ℕ × ℕ)) (sizes sizes' : List ℕ) (s s' : Records) → Kept l sites counts sizes s → s ≡ s' → ((i : ℕ) → size_of sizes' i ≡ size_of sizes i) → Kept l sites counts sizes' s'
-kept-still l sites counts sizes sizes' s s' K same still = subst (Kept l sites counts sizes') same (record { lawful = K.lawful; grouped = K.grouped; told = K.told; counted = K.counted; sized = λ i. still i ∙ K.sized i })
+kept-still l sites counts sizes sizes' s s' K same still = subst (Kept l sites counts sizes') same (record { lawful = K.lawful; grouped = K.grouped; told = K.told; counted = K.counted; sized = λ i. still i ∙ K.sized i; brought = K.brought })

@@ -1,8 +1,11 @@
 -- What every call of a ledger keeps.
-use Rattle.std.specs.Prelude.{ℕ, List}
+use Rattle.std.specs.Prelude.{◌≡◌, ℕ, List}
 use Rattle.orc_rules.specs.Nodes.{Listing, code, definitions}
 use Rattle.orc_rules.specs.Sites.{Site}
 use Rattle.orc_calls.specs.Counting.{AreCounted}
+use Rattle.orc_journal.specs.declared.journal.Version.{Version}
+use Rattle.orc_journal.specs.declared.journal.Version.TheVariants.{Two}
+use Rattle.orc_ledger.specs.Brought.{AreBrought}
 use Rattle.orc_ledger.specs.Records.{Records, Lawful}
 use Rattle.orc_ledger.specs.Next.{AreGrouped, numbers_of, AreSizes}
 use Rattle.orc_ledger.specs.Told.{AreTold}
@@ -20,8 +23,12 @@ pub record Kept (l : Listing) (sites : List Site) (counts : List (List ℕ × �
   pub counted : AreCounted sites counts lawful.place.calls
   -- of each group's number it is known how many members it has
   pub sized : AreSizes sizes s
+  -- the journal has brought what is there
+  pub brought : AreBrought s
 
--- and that each token which is said to wait does
-pub record IsKept (l : Listing) (sites : List Site) (counts : List (List ℕ × ℕ)) (sizes : List ℕ) (q : Parked) (s : Records) : Type 0 where
+-- and that each token which is said to wait does, that the journal is of the second version, and that the limit is the run's
+pub record IsKept (l : Listing) (sites : List Site) (limit : ℕ) (v : Version) (counts : List (List ℕ × ℕ)) (sizes : List ℕ) (q : Parked) (s : Records) : Type 0 where
   pub kept : Kept l sites counts sizes s
   pub rest : AreAtRest (code l) (definitions l) s q
+  pub version : v ≡ Two
+  pub limited : s.limit ≡ limit

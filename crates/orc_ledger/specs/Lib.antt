@@ -2,6 +2,7 @@ pub mod Answers
 pub mod AtOnce
 pub mod AtRest
 pub mod Begun
+pub mod Brought
 pub mod Calls
 pub mod Doing
 pub mod Halting

@@ -5,6 +5,7 @@ ghost use Rattle.orc_rules.specs.Timed.{IsIn};
 ghost use Rattle.orc_rules.specs.declared.limits.TheConstants.{MOST_ENTRIES};
 ghost use Rattle.orc_tables.specs.Tokens.{IsHeld};
 ghost use Rattle.orc_ledger.specs.Begun.{begun};
+ghost use Rattle.orc_ledger.specs.Brought.{FullIsCrowded};
 ghost use Rattle.orc_ledger.specs.Calls.{HasRoom, IsRefused};
 ghost use Rattle.orc_ledger.specs.Whole.{IsWhole};
 ghost use Rattle.orc_tables.specs.declared.records.Token.{Token as Its};
@@ -18,15 +19,18 @@ use orc_tables::{Crowd, Groups, Pending, Standing, Step, Token, Tokens, push_wit
 use std::alloc::{AllocError, Global};
 use std::marker::{Brand, Model, PhantomData};
 
-/// The program that a book is for, and its sites.
+/// The program that a book is for, its sites, and the limit of its entries.
 pub trait Program {
     ghost use Rattle.orc_rules.specs.Nodes.{Listing};
     ghost use Rattle.orc_rules.specs.Sites.{Site};
-    ghost use Rattle.std.specs.Prelude.{List};
+    ghost use Rattle.std.specs.Prelude.{ℕ, List};
 
     ghost listing: { Listing };
 
     ghost sites: { List Site };
+
+    // The most entries that the journal is to have, the cancels left out.
+    ghost limit: { ℕ };
 }
 
 // A caller that picks a program names it by this.
@@ -36,6 +40,8 @@ impl Program for Brand {
     ghost listing = { record { nodes = []; lists = []; routines = []; root = 0 } };
 
     ghost sites = { [] };
+
+    ghost limit = { 0 };
 }
 
 /// Why a call is refused; nothing has changed then. The first of these that is a cause: the most tokens and calls (`MOST_TOKENS`), groups
@@ -86,7 +92,7 @@ impl<P: Program> Model for Ledger<P> {
 
     ghost view = { λ b. record { limit = b.limit; journal = b.journal.entries; entries = b.entries; next_mark = b.next_mark; now = b.time; made = b.calls.made; tokens = live b.tokens.items; slots = b.tokens.items; calls = b.calls.items; scopes = b.scopes.items; steps = b.steps.items; groups = b.groups.items; cells = b.cells.items } };
 
-    ghost invariant = { λ b. IsKept P.listing P.sites b.counts b.groups.sizes b.tokens.parked (record { limit = b.limit; journal = b.journal.entries; entries = b.entries; next_mark = b.next_mark; now = b.time; made = b.calls.made; tokens = live b.tokens.items; slots = b.tokens.items; calls = b.calls.items; scopes = b.scopes.items; steps = b.steps.items; groups = b.groups.items; cells = b.cells.items }) };
+    ghost invariant = { λ b. IsKept P.listing P.sites P.limit b.journal.version b.counts b.groups.sizes b.tokens.parked (record { limit = b.limit; journal = b.journal.entries; entries = b.entries; next_mark = b.next_mark; now = b.time; made = b.calls.made; tokens = live b.tokens.items; slots = b.tokens.items; calls = b.calls.items; scopes = b.scopes.items; steps = b.steps.items; groups = b.groups.items; cells = b.cells.items }) };
 }
 
 // Written out, so that each exit of a function that has a ledger drops it by one call.
@@ -138,6 +144,7 @@ impl<P: Program> Ledger<P> {
     /// the cancels. The only fault is `Memory`.
     pub fn begin(alloc: Global, limit: usize, root: usize) -> Result<Ledger<P>, LedgerFault>
         requires limit { (1 ≤ limit) × (limit ≤ MOST_ENTRIES) }
+        requires named { limit ≡ P.limit }
         requires root { root ≡ P.listing.root }
         ensures begun { IfOk result (λ s. s ≡ begun limit root) }
         ensures why { IfErr result (λ fault. fault ≡ LedgerFault.Memory) }
@@ -183,9 +190,24 @@ impl<P: Program> Ledger<P> {
         let _journal = &self.journal;
     }
 
+    /// The limit is the one that the run is named with, as a law.
+    pub fn keeps_limit(&self)
+        ensures { self.now.limit ≡ P.limit }
+    {
+        let _journal = &self.journal;
+    }
+
+    /// Where a call is refused as full, the journal has reached the number that refuses it, as a law.
+    pub fn full_is_crowded(&self)
+        ensures { FullIsCrowded P.listing self.now }
+    {
+        let _journal = &self.journal;
+    }
+
     /// The journal, and nothing else of the ledger.
     pub fn into_journal(self) -> Journal
-        ensures { result.entries ≡ self.journal }
+        ensures entries { result.entries ≡ self.journal }
+        ensures version { result.version ≡ Version.Two }
     {
         let Ledger {
             limit: _,
@@ -276,7 +298,8 @@ impl<P: Program> Ledger<P> {
 
     /// The journal.
     pub fn journal(&self) -> &Journal
-        ensures { result.now.entries ≡ self.now.journal }
+        ensures entries { result.now.entries ≡ self.now.journal }
+        ensures version { result.now.version ≡ Version.Two }
     {
         &self.journal
     }

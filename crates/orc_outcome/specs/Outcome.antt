@@ -1,9 +1,7 @@
 -- What a run of a program is.
-use Rattle.std.specs.Prelude.{◌≡◌, ◌≤◌, ◌+◌, ◌⊎◌, ℕ, List, [], ◌∷◌, length, Bool, true}
+use Rattle.std.specs.Prelude.{◌≡◌, ◌≤◌, ℕ, List, [], length, Bool, true}
 use Rattle.orc_rules.specs.declared.value.Value.{Value}
 use Rattle.orc_rules.specs.declared.entry.Entry.{Entry}
-use Rattle.orc_rules.specs.declared.entry.Entry.TheVariants.{Fork, Open, Right, Other, Seq}
-use Rattle.orc_rules.specs.declared.limits.TheConstants.{MOST_TOKENS, MOST_GROUPS, MOST_FRAMES}
 use Rattle.orc_rules.specs.Term.{Halted}
 use Rattle.orc_rules.specs.Sites.{Table}
 use Rattle.orc_rules.specs.Nodes.{Listing, definitions, source}
@@ -12,6 +10,7 @@ use Rattle.orc_rules.specs.Marked.{erase}
 use Rattle.orc_rules.specs.Journal.{Place, Journal, begin, moment}
 use Rattle.orc_rules.specs.Trace.{published}
 use Rattle.orc_journal.specs.declared.journal.Version.TheVariants.{Two}
+use Rattle.orc_journal.specs.Sizes.{IsCrowded}
 use Rattle.orc_journal.specs.Texts.{AreOf, count, journal_text}
 use Rattle.orc_outcome.specs.declared.end.End.{End}
 use Rattle.orc_outcome.specs.declared.end.End.TheVariants as ends
@@ -24,31 +23,6 @@ context l t = record { definitions = definitions l; sites = t.sites; cancels = t
 -- the text of the journal with these entries, in the second version
 abbrev pub text_of : List (List ℕ) → List Entry → List ℕ
 text_of names es = journal_text names (record { version = Two; entries = es })
-
--- an entry that brings a token more, one that opens a side, and one that enters the left side of a `>x>`
-abbrev pub brings : Entry → ℕ
-brings (Fork s a b) = 1
-brings (Open s c a b) = 1
-brings (Right s a) = 1
-brings _ = 0
-
-abbrev pub opens : Entry → ℕ
-opens (Open s c a b) = 1
-opens (Other s a) = 1
-opens _ = 0
-
-abbrev pub feeds : Entry → ℕ
-feeds (Seq s a) = 1
-feeds _ = 0
-
--- how many entries of a journal do
-abbrev pub total : (Entry → ℕ) → List Entry → ℕ
-total w [] = 0
-total w (e ∷ es) = w e + total w es
-
--- one of the engine's numbers can have been reached: as many tokens and calls, open groups or frames as there may be
-abbrev pub IsCrowded : List Entry → Type 0
-IsCrowded es = (MOST_TOKENS ≤ total brings es + 1) ⊎ ((MOST_GROUPS ≤ total opens es + 1) ⊎ (MOST_FRAMES ≤ total feeds es))
 
 -- a run with this limit of entries, cancels not counted, ends so: Halted where its term has halted, Quiet by the definition of quiet, Limit with as many entries as the limit where it isn't quiet, Full only where one of the engine's numbers can have been reached
 abbrev pub EndsAt : Context → ℕ → List Entry → Place → End → Type 0

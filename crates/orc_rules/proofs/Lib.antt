@@ -14,6 +14,7 @@ pub mod Lift
 pub mod Listed
 pub mod Lookup
 pub mod Lost
+pub mod Named
 pub mod Numbered
 pub mod Numbers
 pub mod Numerals

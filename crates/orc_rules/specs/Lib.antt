@@ -6,6 +6,7 @@ pub mod Kinds
 pub mod Labels
 pub mod Lost
 pub mod Marked
+pub mod Named
 pub mod Nodes
 pub mod Numbered
 pub mod Otherwise

@@ -1,6 +1,6 @@
 use Rattle.std.proofs.Common.{sym, ap, ◌∙◌, arith}
 use Rattle.orc_journal.specs.Texts.{is_of}
-use Rattle.orc_journal.proofs.Composing.{none_past, lines_more, each_more, each_at}
+use Rattle.orc_journal.proofs.Composing.{none_past, lines_more, each_more, each_at, named_at}
 use Rattle.orc_journal.proofs.text.write_journal.Goals as goal
 use Rattle.orc_journal.proofs.text.write_journal.Goals.{in-Some+else-not-is_written+in_ok-write_entry, in_default}
 
@@ -8,6 +8,11 @@ pub returns-then-not-is_written-clause-lacking : goal.returns-then-not-is_writte
 returns-then-not-is_written-clause-lacking c _ are =
     let at = each_at c.args.answers.now.names c.args.journal.now.version c.args.journal.now.entries c.loop-at.at c.in-Some.entry (sym c.get.ensures ∙ c.in-Some.is) are in
     c.is_written.ensures.other c.if-not-is_written.true at.0 (ap (λ v. is_of v c.in-Some.entry) c.version-in-Some.ensures ∙ at.1)
+
+pub returns-then-not-is_written-clause-unnamed : goal.returns-then-not-is_written-clause-unnamed
+returns-then-not-is_written-clause-unnamed c _ two are =
+    let named = named_at c.args.answers.now.names c.args.journal.now.entries c.loop-at.at c.in-Some.entry (sym c.get.ensures ∙ c.in-Some.is) are in
+    c.is_written.ensures.unnamed c.if-not-is_written.true named (ap (λ v. is_of v c.in-Some.entry) (c.version-in-Some.ensures ∙ two))
 
 pub loop-at-preserved : goal.loop-at-preserved
 loop-at-preserved c =

@@ -15,6 +15,7 @@ use Rattle.orc_tables.specs.declared.records.Call.{Call}
 use Rattle.orc_tables.specs.declared.records.Step.{Step}
 use Rattle.orc_tables.specs.declared.records.Group.{Group}
 use Rattle.orc_ledger.proofs.Begun.{begun-lawful, begun-grouped}
+use Rattle.orc_ledger.proofs.Brought.{begun-brought}
 use Rattle.orc_ledger.proofs.ledger.Ledger.begin.Goals as goal
 
 -- records made of lists that are those of a new run
@@ -36,6 +37,7 @@ invariant_of-result g c =
       told = refl;
       counted = subst (AreCounted sites []) (ap (λ (w : Place). w.calls) L.leads) (λ m args h. refl);
       sized = λ i. omega (arith, c.join.ensures.sizes i, c.in_ok-groups.ensures.sizes i);
+      brought = begun-brought a.limit l.root;
     } in
     let cells : c.push_within.new.items.items ≡ Void ∷ [] = c.push_within.ensures.items ∙ ap (λ (z : List Bound). z ++ Void ∷ []) (c.in_ok-reserve.ensures.items ∙ c.new-cells.ensures.items) in
     record {
@@ -46,4 +48,6 @@ invariant_of-result g c =
           c.in_ok-calls.ensures.made (ap (λ z. z.entries) c.new.ensures) c.in_ok-tokens.ensures.items c.in_ok-calls.ensures.items c.new-3.ensures.items c.new-4.ensures.items (c.join.ensures.items ∙ c.in_ok-groups.ensures.items) cells)
           (subst (λ z. Kept l sites [] sizes (begun a.limit z)) (sym c.requires.root) kept));
       rest = λ k t h. absurd (cc (sym (ap (λ (q : Parked). is_set q.flags k) c.in_ok-tokens.ensures.parked) ∙ h.1));
+      version = ap (λ j. j.version) c.new.ensures;
+      limited = c.requires.named;
     }

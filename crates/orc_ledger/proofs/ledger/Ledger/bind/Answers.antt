@@ -28,6 +28,7 @@ use Rattle.orc_ledger.proofs.Grouped.{dropped-grouped}
 use Rattle.orc_ledger.proofs.Dropped.{drops}
 use Rattle.orc_ledger.proofs.Subtree.{side-cancelled, slots-listed, numbers-listed, groups-listed}
 use Rattle.orc_tables.specs.Same.{is_this}
+use Rattle.orc_ledger.proofs.Brought.{dropped-brought}
 use Rattle.orc_ledger.proofs.ledger.Ledger.bind.Goals as goal
 
 pub invariant_of-self-2 : goal.invariant_of-self-2
@@ -67,8 +68,11 @@ invariant_of-self-2 g c =
             let same : weight its c.leave_calls.new.groups.items ≡ weight its s.groups = ap (weight its) (c.leave_calls.ensures.groups ∙ c.leave_tokens.ensures.groups) in
             let sides = c.leave_groups.ensures.sizes j (omega (arith, woken, K, tokens, calls, fewer, fewer_calls, same)) in
             omega (arith, woken, K, tokens, calls, sides, fewer, fewer_calls, same);
+        brought = dropped-brought s s' c.self.invariant.kept.brought (code l) a.cell (Is a.value) (Bind a.token.serial a.cell a.value ∷ map Cancel ks) D journal;
       };
       rest = rest-dropped l s s' c.self.invariant.kept.lawful.sound a.cell (Is a.value) D (taken-unbound l g.P.Program.sites s c.self.invariant.kept.lawful a.token (live-in s.slots a.slot a.token held) a.value form a.cell takes.0 takes.1) b.tokens c.wake.new.self refl refl c.self.invariant.rest (stay-but b.tokens c.leave_tokens.new.tokens c.wake.new.self a.cell c.leave_tokens.ensures.parked c.wake.ensures.parked);
+      version = ap (λ j. j.version) c.in_ok-write_bind.ensures.added ∙ c.self.invariant.version;
+      limited = c.self.invariant.limited;
     }
 
 pub returns-clause-done : goal.returns-clause-done

@@ -1,4 +1,4 @@
-use Rattle.std.proofs.Common.{◌≡◌, ◌<◌, ◌+◌, ◌++◌, ◌-◌, slice_get, [], ◌∷◌, ℕ, refl, sym, ap, ◌∙◌, inl, arith}
+use Rattle.std.proofs.Common.{◌≡◌, ◌<◌, ◌+◌, ◌++◌, ◌-◌, slice_get, [], ◌∷◌, refl, sym, ap, ◌∙◌, inl, arith}
 use Rattle.orc_rules.specs.declared.value.Answer.TheVariants.{Value as Gives, Halt}
 use Rattle.orc_rules.specs.declared.value.Found.TheVariants.{After}
 use Rattle.orc_rules.specs.declared.entry.Entry.TheVariants.{Call, Return, ReturnHalt}
@@ -74,6 +74,8 @@ invariant_of-self-in-Value g c =
     record {
       kept = given_kept l sites c.write_answered.new.counts b.groups.sizes s1 kept_between k (inl refl) v (record { delay = 0; says = refl; sum = omega arith; fits = omega (arith, c.self.ranges) }) (omega (arith, room)) s' answering;
       rest = rest-kept (code l) (definitions l) s s' b.tokens c.replace.new.self refl refl c.self.invariant.rest (live-in b.tokens.items) (c.replace.ensures.parked) (same-terms (code l) s s' refl refl);
+      version = ap (λ j. j.version) c.in_ok-write_answered-in-Value.ensures.added ∙ c.self.invariant.version;
+      limited = c.self.invariant.limited;
     }
 
 pub invariant_of-self-in-Halt : goal.invariant_of-self-in-Halt
@@ -114,6 +116,8 @@ invariant_of-self-in-Halt g c =
     record {
       kept = halted_kept l sites c.write_answered-in-Halt.new.counts b.groups.sizes c.leave.new.self.sizes s1 kept_between k (inl refl) (record { delay = 0; says = refl; sum = omega arith; fits = omega (arith, c.self.ranges) }) (omega (arith, room)) s' answering (λ j. c.leave.ensures.sizes j ∙ ap (λ n. size_of b.groups.sizes j - is_this j n) c.group_at-group.ensures);
       rest = rest-kept (code l) (definitions l) s s' b.tokens c.remove.new.self refl refl c.self.invariant.rest (live-in b.tokens.items) (c.remove.ensures.parked) (same-terms (code l) s s' refl refl);
+      version = ap (λ j. j.version) c.in_ok-write_answered-in-Halt.ensures.added ∙ c.self.invariant.version;
+      limited = c.self.invariant.limited;
     }
 
 pub returns-in_ok-write_answered-in-Value-clause-done : goal.returns-in_ok-write_answered-in-Value-clause-done

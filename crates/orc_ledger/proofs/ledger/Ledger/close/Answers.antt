@@ -9,6 +9,7 @@ use Rattle.orc_ledger.proofs.Closed.{closed-lawful}
 use Rattle.orc_ledger.proofs.Keeping.{told-kept, counted-kept}
 use Rattle.orc_ledger.proofs.Grouped.{closed-grouped}
 use Rattle.orc_ledger.proofs.Sizes.{closed-members}
+use Rattle.orc_ledger.proofs.Brought.{closed-brought}
 use Rattle.orc_ledger.proofs.ledger.Ledger.close.Goals as goal
 
 pub invariant_of-self : goal.invariant_of-self
@@ -33,8 +34,11 @@ invariant_of-self g c =
         told = told-kept l sites s s' L L' [] (sym (append-nil s.journal)) tt (λ w. omega arith) c.self.invariant.kept.told;
         counted = counted-kept l sites s s' L L' [] (sym (append-nil s.journal)) tt b.counts c.self.invariant.kept.counted;
         sized = λ j. omega (arith, c.take_out.ensures.sizes j, closed-members s s' a.group T j, c.self.invariant.kept.sized j);
+        brought = closed-brought s s' c.self.invariant.kept.brought a.group T;
       };
       rest = c.self.invariant.rest;
+      version = c.self.invariant.version;
+      limited = c.self.invariant.limited;
     }
 
 pub returns : goal.returns

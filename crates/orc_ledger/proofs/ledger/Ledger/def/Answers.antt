@@ -24,6 +24,7 @@ use Rattle.orc_ledger.proofs.Bodies.{def-lawful, defined-grouped, routine_there}
 use Rattle.orc_tables.specs.Same.{is_this}
 use Rattle.orc_ledger.proofs.Nests.{group-kept}
 use Rattle.orc_ledger.proofs.Sizes.{turned-members}
+use Rattle.orc_ledger.proofs.Brought.{turned-flat}
 use Rattle.orc_ledger.proofs.ledger.Ledger.def.Goals as goal
 
 -- a definition of the listing is one of the program
@@ -71,8 +72,11 @@ invariant_of-self-2 g c =
         told = turns-told l sites s s' L L' c.self.invariant.kept.told a.token (first ∷ []) more [] [] [] (Def a.token.serial b.next_mark) tt T;
         counted = counted-kept l sites s s' L L' (Def a.token.serial b.next_mark ∷ []) journal (tt, tt) b.counts c.self.invariant.kept.counted;
         sized = λ j. omega (arith, turned-members s s' L.sound a.token i (first ∷ []) more [] [] [] _ T j, c.self.invariant.kept.sized j, ap (is_this j) (group-kept s.steps [] a.token.step (step_in l sites s L a.token i)));
+        brought = turned-flat s s' c.self.invariant.kept.brought a.token (first ∷ []) more [] _ T (omega arith);
       };
       rest = rest-kept (code l) (definitions l) s s' b.tokens c.replace.new.self refl refl c.self.invariant.rest (live-in b.tokens.items) (c.replace.ensures.parked) (turns-terms l sites s L s' a.token i (first ∷ []) more [] [] [] (Def a.token.serial b.next_mark) T (λ n. refl) (λ z. refl));
+      version = ap (λ j. j.version) c.in_ok-write.ensures.added ∙ c.self.invariant.version;
+      limited = c.self.invariant.limited;
     }
 
 pub returns-clause-done : goal.returns-clause-done

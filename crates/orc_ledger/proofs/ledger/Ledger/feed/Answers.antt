@@ -21,6 +21,7 @@ use Rattle.orc_ledger.proofs.Grouped.{fed-grouped}
 use Rattle.orc_tables.specs.Same.{is_this}
 use Rattle.orc_ledger.proofs.Nests.{group-end}
 use Rattle.orc_ledger.proofs.Sizes.{turned-members}
+use Rattle.orc_ledger.proofs.Brought.{turned-deep}
 use Rattle.orc_ledger.proofs.ledger.Ledger.feed.Goals as goal
 
 pub invariant_of-self-2 : goal.invariant_of-self-2
@@ -55,8 +56,11 @@ invariant_of-self-2 g c =
         told = turns-told l sites s s' L L' c.self.invariant.kept.told a.token (first ∷ []) [] (step ∷ []) [] [] (Seq a.token.serial b.next_mark) tt T;
         counted = counted-kept l sites s s' L L' (Seq a.token.serial b.next_mark ∷ []) journal (tt, tt) b.counts c.self.invariant.kept.counted;
         sized = λ j. omega (arith, turned-members s s' L.sound a.token i (first ∷ []) [] (step ∷ []) [] [] _ T j, c.self.invariant.kept.sized j, ap (is_this j) (group-end s.steps step));
+        brought = turned-deep s s' c.self.invariant.kept.brought a.token (first ∷ []) [] step [] [] _ T (omega arith) (omega arith) (omega (arith, c.self.invariant.kept.brought.depth a.token.step));
       };
       rest = rest-kept (code l) (definitions l) s s' b.tokens c.replace.new.self refl refl c.self.invariant.rest (live-in b.tokens.items) (c.replace.ensures.parked) (same-terms (code l) s s' refl refl);
+      version = ap (λ j. j.version) c.in_ok-write.ensures.added ∙ c.self.invariant.version;
+      limited = c.self.invariant.limited;
     }
 
 pub returns-clause-done : goal.returns-clause-done

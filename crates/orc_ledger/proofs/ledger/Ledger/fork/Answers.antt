@@ -20,6 +20,7 @@ use Rattle.orc_tables.specs.Same.{is_this}
 use Rattle.orc_tables.specs.OpenGroups.{IsOpen}
 use Rattle.orc_ledger.proofs.Nests.{group-kept}
 use Rattle.orc_ledger.proofs.Sizes.{turned-members, open-token, size-few}
+use Rattle.orc_ledger.proofs.Brought.{turned-flat}
 use Rattle.orc_ledger.proofs.ledger.Ledger.fork.Goals as goal
 
 pub invariant_of-self-2 : goal.invariant_of-self-2
@@ -50,8 +51,11 @@ invariant_of-self-2 g c =
         told = turns-told l sites s s' L L' c.self.invariant.kept.told a.token (first ∷ second ∷ []) [] [] [] [] (Fork a.token.serial b.next_mark (b.next_mark + 1)) tt T;
         counted = counted-kept l sites s s' L L' (Fork a.token.serial b.next_mark (b.next_mark + 1) ∷ []) journal (tt, tt) b.counts c.self.invariant.kept.counted;
         sized = λ j. omega (arith, c.join.ensures.sizes j, turned-members s s' L.sound a.token i (first ∷ second ∷ []) [] [] [] [] _ T j, c.self.invariant.kept.sized j, ap (is_this j) c.group_at-group.ensures, ap (is_this j) (group-kept s.steps [] a.token.step (step_in l sites s L a.token i)));
+        brought = turned-flat s s' c.self.invariant.kept.brought a.token (first ∷ second ∷ []) [] [] _ T (omega arith);
       };
       rest = rest-kept (code l) (definitions l) s s' b.tokens c.add-other.new.self refl refl c.self.invariant.rest (live-in b.tokens.items) (stay-on b.tokens c.reserve.new.self c.add-other.new.self (stay-same b.tokens c.reserve.new.self c.in_ok-reserve.ensures.items c.in_ok-reserve.ensures.parked) (stay-on c.reserve.new.self c.replace.new.self c.add-other.new.self c.replace.ensures.parked c.add-other.ensures.parked)) (same-terms (code l) s s' refl refl);
+      version = ap (λ j. j.version) c.in_ok-write.ensures.added ∙ c.self.invariant.version;
+      limited = c.self.invariant.limited;
     }
 
 pub returns-clause-done : goal.returns-clause-done

@@ -19,6 +19,7 @@ use Rattle.orc_ledger.proofs.Grouped.{returned-grouped}
 use Rattle.orc_ledger.proofs.Keeping.{counted-kept, from_one}
 use Rattle.orc_ledger.proofs.Sizes.{exchanged-members}
 use Rattle.orc_tables.proofs.Slots.{live-in}
+use Rattle.orc_ledger.proofs.Brought.{exchanged-brought}
 use Rattle.orc_ledger.proofs.ledger.Ledger.give.Goals as goal
 
 pub invariant_of-self-2 : goal.invariant_of-self-2
@@ -59,8 +60,11 @@ invariant_of-self-2 g c =
         told = returns-told l sites s s' K.lawful L' K.told [] (t ∷ []) a.call e tt T;
         counted = counted-kept l sites s s' K.lawful L' (e ∷ []) journal (tt, tt) b.counts K.counted;
         sized = λ j. omega (arith, exchanged-members s s' [] (t ∷ []) (a.call ∷ []) [] 0 e T j, K.sized j);
+        brought = exchanged-brought s s' K.brought [] (t ∷ []) (a.call ∷ []) [] 0 e T (omega arith);
       };
       rest = rest-kept (code l) (definitions l) s s' b.tokens c.add-slot.new.self refl refl c.self.invariant.rest (live-in b.tokens.items) (stay-on b.tokens c.reserve.new.self c.add-slot.new.self (stay-same b.tokens c.reserve.new.self c.in_ok-reserve.ensures.items c.in_ok-reserve.ensures.parked) c.add-slot.ensures.parked) (same-terms (code l) s s' refl refl);
+      version = ap (λ j. j.version) c.in_ok-write.ensures.added ∙ c.self.invariant.version;
+      limited = c.self.invariant.limited;
     }
 
 pub returns-clause-done : goal.returns-clause-done

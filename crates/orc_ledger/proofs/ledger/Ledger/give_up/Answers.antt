@@ -1,4 +1,4 @@
-use Rattle.std.proofs.Common.{◌≡◌, ◌+◌, ◌<◌, [], ◌∷◌, ◌++◌, refl, ap, arith}
+use Rattle.std.proofs.Common.{◌≡◌, ◌+◌, ◌<◌, [], ◌∷◌, ◌++◌, refl, ap, arith, ◌∙◌}
 use Rattle.orc_rules.specs.declared.value.Answer.TheVariants.{Halt}
 use Rattle.orc_rules.specs.declared.entry.Entry.TheVariants.{ReturnHalt}
 use Rattle.orc_rules.specs.Timed.{IsIn}
@@ -13,6 +13,7 @@ use Rattle.orc_ledger.proofs.Grouped.{halted-grouped}
 use Rattle.orc_ledger.proofs.Keeping.{counted-kept}
 use Rattle.orc_tables.specs.Same.{is_this}
 use Rattle.orc_ledger.proofs.Sizes.{exchanged-members}
+use Rattle.orc_ledger.proofs.Brought.{exchanged-brought}
 use Rattle.orc_ledger.proofs.ledger.Ledger.give_up.Goals as goal
 
 pub invariant_of-self-2 : goal.invariant_of-self-2
@@ -51,8 +52,11 @@ invariant_of-self-2 g c =
         told = returns-told l sites s s' K.lawful L' K.told [] [] a.call e tt T;
         counted = counted-kept l sites s s' K.lawful L' (e ∷ []) journal (tt, tt) b.counts K.counted;
         sized = λ j. omega (arith, c.leave.ensures.sizes j, exchanged-members s s' [] [] (a.call ∷ []) [] 0 e T j, K.sized j, ap (is_this j) c.group_at-group.ensures);
+        brought = exchanged-brought s s' K.brought [] [] (a.call ∷ []) [] 0 e T (omega arith);
       };
       rest = c.self.invariant.rest;
+      version = ap (λ j. j.version) c.in_ok-write.ensures.added ∙ c.self.invariant.version;
+      limited = c.self.invariant.limited;
     }
 
 pub returns-clause-done : goal.returns-clause-done

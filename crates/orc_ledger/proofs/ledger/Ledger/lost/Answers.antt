@@ -1,4 +1,4 @@
-use Rattle.std.proofs.Common.{◌≡◌, ◌+◌, ◌<◌, ℕ, [], ◌∷◌, ◌++◌, refl, ap, arith}
+use Rattle.std.proofs.Common.{◌≡◌, ◌+◌, ◌<◌, ℕ, [], ◌∷◌, ◌++◌, refl, ap, arith, ◌∙◌}
 use Rattle.orc_rules.specs.declared.entry.Entry.TheVariants.{Lost}
 use Rattle.orc_rules.specs.Nodes.{code}
 use Rattle.orc_rules.specs.Timed.{IsIn}
@@ -19,6 +19,7 @@ use Rattle.orc_ledger.proofs.Calling.{drops-told}
 use Rattle.orc_ledger.proofs.Keeping.{counted-kept}
 use Rattle.orc_ledger.proofs.Grouped.{dropped-grouped}
 use Rattle.orc_ledger.proofs.Dropped.{drops-empty}
+use Rattle.orc_ledger.proofs.Brought.{dropped-brought}
 use Rattle.orc_ledger.proofs.ledger.Ledger.lost.Goals as goal
 
 pub invariant_of-self-2 : goal.invariant_of-self-2
@@ -46,8 +47,11 @@ invariant_of-self-2 g c =
         told = drops-told l sites s s' L L' c.self.invariant.kept.told a.cell Void (Lost a.cell) [] tt D journal;
         counted = counted-kept l sites s s' L L' (Lost a.cell ∷ []) journal (tt, tt) b.counts c.self.invariant.kept.counted;
         sized = λ j. omega (arith, c.take_out.ensures.sizes j, c.take_out.ensures.rest (λ (h : Group). is_this j (group_at s.steps h.outer)), c.self.invariant.kept.sized j, ap (λ z. weight (λ (t : Token). is_this j (group_at s.steps t.step)) (live z)) c.wake.ensures.items);
+        brought = dropped-brought s s' c.self.invariant.kept.brought (code l) a.cell Void (Lost a.cell ∷ []) D journal;
       };
       rest = rest-dropped l s s' L.sound a.cell Void D (side-unbound s L.sound a.group there a.cell c.requires.side) b.tokens c.wake.new.self refl refl c.self.invariant.rest c.wake.ensures.parked;
+      version = ap (λ j. j.version) c.in_ok-write.ensures.added ∙ c.self.invariant.version;
+      limited = c.self.invariant.limited;
     }
 
 pub returns-clause-done : goal.returns-clause-done

@@ -24,6 +24,7 @@ use Rattle.orc_tables.specs.Same.{is_this}
 use Rattle.orc_tables.specs.OpenGroups.{IsOpen, size_of}
 use Rattle.orc_ledger.proofs.Nests.{group-kept, group-end}
 use Rattle.orc_ledger.proofs.Sizes.{turned-members, open-new, size-few, kept-still}
+use Rattle.orc_ledger.proofs.Brought.{turned-deep}
 use Rattle.orc_ledger.proofs.ledger.Ledger.other.Goals as goal
 
 pub invariant_of-self-2 : goal.invariant_of-self-2
@@ -64,8 +65,11 @@ invariant_of-self-2 g c =
         told = turns-told l sites s s' L L' c.self.invariant.kept.told a.token (first ∷ []) [] (step ∷ []) (group ∷ []) [] (Other a.token.serial b.next_mark) tt T;
         counted = counted-kept l sites s s' L L' (Other a.token.serial b.next_mark ∷ []) journal (tt, tt) b.counts c.self.invariant.kept.counted;
         sized = λ j. omega (arith, c.join.ensures.sizes j, ap (λ z. size_of z j) c.open-number.ensures.sizes, c.in_ok-reserve-2.ensures.sizes j, turned-members s s' L.sound a.token i (first ∷ []) [] (step ∷ []) (group ∷ []) [] _ T j, c.self.invariant.kept.sized j, ap (is_this j) (group-end s.steps step), ap (is_this j) (group-kept s.steps (step ∷ []) a.token.step (step_in l sites s L a.token i)));
+        brought = turned-deep s s' c.self.invariant.kept.brought a.token (first ∷ []) [] step (group ∷ []) [] _ T (omega arith) (omega arith) (omega (arith, c.self.invariant.kept.brought.depth a.token.step));
       };
       rest = rest-kept (code l) (definitions l) s s' b.tokens c.replace.new.self refl refl c.self.invariant.rest (live-in b.tokens.items) (c.replace.ensures.parked) (same-terms (code l) s s' refl refl);
+      version = ap (λ j. j.version) c.in_ok-write.ensures.added ∙ c.self.invariant.version;
+      limited = c.self.invariant.limited;
     }
 
 pub returns-clause-done : goal.returns-clause-done
@@ -143,7 +147,7 @@ invariant_of-self-in_err-reserve-2 g c =
     let G = c.self.invariant.kept.grouped in
     let held : IsHeld s.slots a.slot a.token = rw (← c.self.view_is) at c.requires.held in
     let i : IsIn a.token s.tokens = live-in s.slots a.slot a.token held in
-    record { kept = kept-still l sites b.counts b.groups.sizes c.reserve-2.new.self.sizes s _ c.self.invariant.kept (λ k. record { limit = b.limit; journal = b.journal.entries; entries = b.entries; next_mark = b.next_mark; now = b.time; made = b.calls.made; tokens = live b.tokens.items; slots = b.tokens.items; calls = b.calls.items; scopes = b.scopes.items; steps = sym c.in_ok-reserve.ensures.items k; groups = sym c.reserve-2.ensures.items k; cells = b.cells.items }) c.reserve-2.ensures.sizes; rest = rest-same (code l) (definitions l) s _ b.tokens.parked b.tokens.parked (λ k. record { limit = b.limit; journal = b.journal.entries; entries = b.entries; next_mark = b.next_mark; now = b.time; made = b.calls.made; tokens = live b.tokens.items; slots = b.tokens.items; calls = b.calls.items; scopes = b.scopes.items; steps = sym c.in_ok-reserve.ensures.items k; groups = sym c.reserve-2.ensures.items k; cells = b.cells.items }) refl c.self.invariant.rest }
+    record { kept = kept-still l sites b.counts b.groups.sizes c.reserve-2.new.self.sizes s _ c.self.invariant.kept (λ k. record { limit = b.limit; journal = b.journal.entries; entries = b.entries; next_mark = b.next_mark; now = b.time; made = b.calls.made; tokens = live b.tokens.items; slots = b.tokens.items; calls = b.calls.items; scopes = b.scopes.items; steps = sym c.in_ok-reserve.ensures.items k; groups = sym c.reserve-2.ensures.items k; cells = b.cells.items }) c.reserve-2.ensures.sizes; rest = rest-same (code l) (definitions l) s _ b.tokens.parked b.tokens.parked (λ k. record { limit = b.limit; journal = b.journal.entries; entries = b.entries; next_mark = b.next_mark; now = b.time; made = b.calls.made; tokens = live b.tokens.items; slots = b.tokens.items; calls = b.calls.items; scopes = b.scopes.items; steps = sym c.in_ok-reserve.ensures.items k; groups = sym c.reserve-2.ensures.items k; cells = b.cells.items }) refl c.self.invariant.rest; version = c.self.invariant.version; limited = c.self.invariant.limited }
 
 pub invariant_of-self-in_err-write : goal.invariant_of-self-in_err-write
 invariant_of-self-in_err-write g c =
@@ -157,7 +161,7 @@ invariant_of-self-in_err-write g c =
     let G = c.self.invariant.kept.grouped in
     let held : IsHeld s.slots a.slot a.token = rw (← c.self.view_is) at c.requires.held in
     let i : IsIn a.token s.tokens = live-in s.slots a.slot a.token held in
-    record { kept = kept-still l sites b.counts b.groups.sizes c.reserve-2.new.self.sizes s _ c.self.invariant.kept (λ k. record { limit = b.limit; journal = (sym c.in_err-write.ensures.refused k).entries; entries = b.entries; next_mark = b.next_mark; now = b.time; made = b.calls.made; tokens = live b.tokens.items; slots = b.tokens.items; calls = b.calls.items; scopes = b.scopes.items; steps = sym c.in_ok-reserve.ensures.items k; groups = sym c.reserve-2.ensures.items k; cells = b.cells.items }) c.reserve-2.ensures.sizes; rest = rest-same (code l) (definitions l) s _ b.tokens.parked b.tokens.parked (λ k. record { limit = b.limit; journal = (sym c.in_err-write.ensures.refused k).entries; entries = b.entries; next_mark = b.next_mark; now = b.time; made = b.calls.made; tokens = live b.tokens.items; slots = b.tokens.items; calls = b.calls.items; scopes = b.scopes.items; steps = sym c.in_ok-reserve.ensures.items k; groups = sym c.reserve-2.ensures.items k; cells = b.cells.items }) refl c.self.invariant.rest }
+    record { kept = kept-still l sites b.counts b.groups.sizes c.reserve-2.new.self.sizes s _ c.self.invariant.kept (λ k. record { limit = b.limit; journal = (sym c.in_err-write.ensures.refused k).entries; entries = b.entries; next_mark = b.next_mark; now = b.time; made = b.calls.made; tokens = live b.tokens.items; slots = b.tokens.items; calls = b.calls.items; scopes = b.scopes.items; steps = sym c.in_ok-reserve.ensures.items k; groups = sym c.reserve-2.ensures.items k; cells = b.cells.items }) c.reserve-2.ensures.sizes; rest = rest-same (code l) (definitions l) s _ b.tokens.parked b.tokens.parked (λ k. record { limit = b.limit; journal = (sym c.in_err-write.ensures.refused k).entries; entries = b.entries; next_mark = b.next_mark; now = b.time; made = b.calls.made; tokens = live b.tokens.items; slots = b.tokens.items; calls = b.calls.items; scopes = b.scopes.items; steps = sym c.in_ok-reserve.ensures.items k; groups = sym c.reserve-2.ensures.items k; cells = b.cells.items }) refl c.self.invariant.rest; version = ap (λ j. j.version) c.in_err-write.ensures.refused ∙ c.self.invariant.version; limited = c.self.invariant.limited }
 
 pub join-requires-clause-open : goal.join-requires-clause-open
 join-requires-clause-open g c =

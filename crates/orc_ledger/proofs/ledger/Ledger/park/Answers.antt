@@ -27,6 +27,8 @@ invariant_of-self g c =
     record {
       kept = kept-still l sites b.counts b.groups.sizes b.groups.sizes s s' c.self.invariant.kept (λ k. record { limit = b.limit; journal = b.journal.entries; entries = b.entries; next_mark = b.next_mark; now = b.time; made = b.calls.made; tokens = live (sym c.park.ensures.items k); slots = sym c.park.ensures.items k; calls = b.calls.items; scopes = b.scopes.items; steps = b.steps.items; groups = b.groups.items; cells = b.cells.items }) (λ i. refl);
       rest = rest-parked (code l) (definitions l) s s' b.tokens c.park.new.self refl refl c.self.invariant.rest (same-terms (code l) s s' refl refl) a.slot a.token c.awaited.new.listed.items (ap (λ z. slice_get z a.slot) c.park.ensures.items ∙ held.0, held.1) (live-in b.tokens.items) c.park.ensures.parked waiting its (live-in b.tokens.items a.slot a.token held);
+      version = c.self.invariant.version;
+      limited = c.self.invariant.limited;
     }
 
 -- the same where the token is parked
@@ -45,4 +47,6 @@ invariant_of-self-in-Wait g c =
     record {
       kept = kept-still l sites b.counts b.groups.sizes b.groups.sizes s s' c.self.invariant.kept (λ k. record { limit = b.limit; journal = b.journal.entries; entries = b.entries; next_mark = b.next_mark; now = b.time; made = b.calls.made; tokens = live (sym c.park.ensures.items k); slots = sym c.park.ensures.items k; calls = b.calls.items; scopes = b.scopes.items; steps = b.steps.items; groups = b.groups.items; cells = b.cells.items }) (λ i. refl);
       rest = rest-parked (code l) (definitions l) s s' b.tokens c.park.new.self refl refl c.self.invariant.rest (same-terms (code l) s s' refl refl) a.slot a.token c.awaited.new.listed.items (ap (λ z. slice_get z a.slot) c.park.ensures.items ∙ held.0, held.1) (live-in b.tokens.items) c.park.ensures.parked waiting its (live-in b.tokens.items a.slot a.token held);
+      version = c.self.invariant.version;
+      limited = c.self.invariant.limited;
     }

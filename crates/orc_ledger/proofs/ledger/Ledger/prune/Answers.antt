@@ -30,6 +30,7 @@ use Rattle.orc_tables.specs.OpenGroups.{IsOpen, size_of}
 use Rattle.orc_ledger.proofs.Nests.{group-kept, group-end}
 use Rattle.orc_ledger.proofs.Sizes.{turned-members, open-token, open-more, open-new, size-few, kept-still}
 use Rattle.orc_tables.proofs.Weight.{one-most}
+use Rattle.orc_ledger.proofs.Brought.{turned-deep}
 use Rattle.orc_ledger.proofs.ledger.Ledger.prune.Goals as goal
 
 pub invariant_of-self-2 : goal.invariant_of-self-2
@@ -74,8 +75,11 @@ invariant_of-self-2 g c =
         told = turns-told l sites s s' L L' c.self.invariant.kept.told a.token (first ∷ second ∷ []) (name ∷ []) (step ∷ []) (group ∷ []) (Cell (length s.cells) ∷ []) (Open a.token.serial (length s.cells) b.next_mark (b.next_mark + 1)) tt T;
         counted = counted-kept l sites s s' L L' (Open a.token.serial (length s.cells) b.next_mark (b.next_mark + 1) ∷ []) entry (tt, tt) b.counts c.self.invariant.kept.counted;
         sized = λ j. omega (arith, c.join-2.ensures.sizes j, c.join.ensures.sizes j, ap (λ z. size_of z j) c.open-number.ensures.sizes, c.in_ok-reserve-5.ensures.sizes j, turned-members s s' L.sound a.token i (first ∷ second ∷ []) (name ∷ []) (step ∷ []) (group ∷ []) (Cell (length s.cells) ∷ []) _ T j, c.self.invariant.kept.sized j, ap (is_this j) (group-end s.steps step), ap (is_this j) (group-kept s.steps (step ∷ []) a.token.step (step_in l sites s L a.token i)), ap (is_this j) c.group_at-parent.ensures, ap (λ z. is_this j (group_at z a.token.step)) c.in_ok-reserve-3.ensures.items);
+        brought = turned-deep s s' c.self.invariant.kept.brought a.token (first ∷ second ∷ []) (name ∷ []) step (group ∷ []) (Cell (length s.cells) ∷ []) _ T (omega arith) (omega arith) (omega arith);
       };
       rest = rest-kept (code l) (definitions l) s s' b.tokens c.add-other.new.self refl refl c.self.invariant.rest (live-in b.tokens.items) (stay-on b.tokens c.reserve.new.self c.add-other.new.self (stay-same b.tokens c.reserve.new.self c.in_ok-reserve.ensures.items c.in_ok-reserve.ensures.parked) (stay-on c.reserve.new.self c.replace.new.self c.add-other.new.self c.replace.ensures.parked c.add-other.ensures.parked)) (turns-terms l sites s L s' a.token i (first ∷ second ∷ []) (name ∷ []) (step ∷ []) (group ∷ []) (Cell (length s.cells) ∷ []) (Open a.token.serial (length s.cells) b.next_mark (b.next_mark + 1)) T (λ n. refl) (λ z. ap (λ y. current y z) T.cells ∙ current-push s.cells z));
+      version = ap (λ j. j.version) c.in_ok-write.ensures.added ∙ c.self.invariant.version;
+      limited = c.self.invariant.limited;
     }
 
 pub returns-clause-done : goal.returns-clause-done
@@ -180,7 +184,7 @@ invariant_of-self-in_err-reserve-5 g c =
     let G = c.self.invariant.kept.grouped in
     let held : IsHeld s.slots a.slot a.token = rw (← c.self.view_is) at c.requires.held in
     let i : IsIn a.token s.tokens = live-in s.slots a.slot a.token held in
-    record { kept = kept-still l sites b.counts b.groups.sizes c.reserve-5.new.self.sizes s _ c.self.invariant.kept (λ k. record { limit = b.limit; journal = b.journal.entries; entries = b.entries; next_mark = b.next_mark; now = b.time; made = b.calls.made; tokens = live (sym c.in_ok-reserve.ensures.items k); slots = sym c.in_ok-reserve.ensures.items k; calls = b.calls.items; scopes = sym c.in_ok-reserve-2.ensures.items k; steps = sym c.in_ok-reserve-3.ensures.items k; groups = sym c.reserve-5.ensures.items k; cells = sym c.in_ok-reserve-4.ensures.items k }) c.reserve-5.ensures.sizes; rest = rest-same (code l) (definitions l) s _ b.tokens.parked c.reserve.new.self.parked (λ k. record { limit = b.limit; journal = b.journal.entries; entries = b.entries; next_mark = b.next_mark; now = b.time; made = b.calls.made; tokens = live (sym c.in_ok-reserve.ensures.items k); slots = sym c.in_ok-reserve.ensures.items k; calls = b.calls.items; scopes = sym c.in_ok-reserve-2.ensures.items k; steps = sym c.in_ok-reserve-3.ensures.items k; groups = sym c.reserve-5.ensures.items k; cells = sym c.in_ok-reserve-4.ensures.items k }) c.in_ok-reserve.ensures.parked c.self.invariant.rest }
+    record { kept = kept-still l sites b.counts b.groups.sizes c.reserve-5.new.self.sizes s _ c.self.invariant.kept (λ k. record { limit = b.limit; journal = b.journal.entries; entries = b.entries; next_mark = b.next_mark; now = b.time; made = b.calls.made; tokens = live (sym c.in_ok-reserve.ensures.items k); slots = sym c.in_ok-reserve.ensures.items k; calls = b.calls.items; scopes = sym c.in_ok-reserve-2.ensures.items k; steps = sym c.in_ok-reserve-3.ensures.items k; groups = sym c.reserve-5.ensures.items k; cells = sym c.in_ok-reserve-4.ensures.items k }) c.reserve-5.ensures.sizes; rest = rest-same (code l) (definitions l) s _ b.tokens.parked c.reserve.new.self.parked (λ k. record { limit = b.limit; journal = b.journal.entries; entries = b.entries; next_mark = b.next_mark; now = b.time; made = b.calls.made; tokens = live (sym c.in_ok-reserve.ensures.items k); slots = sym c.in_ok-reserve.ensures.items k; calls = b.calls.items; scopes = sym c.in_ok-reserve-2.ensures.items k; steps = sym c.in_ok-reserve-3.ensures.items k; groups = sym c.reserve-5.ensures.items k; cells = sym c.in_ok-reserve-4.ensures.items k }) c.in_ok-reserve.ensures.parked c.self.invariant.rest; version = c.self.invariant.version; limited = c.self.invariant.limited }
 
 pub invariant_of-self-in_err-write : goal.invariant_of-self-in_err-write
 invariant_of-self-in_err-write g c =
@@ -194,7 +198,7 @@ invariant_of-self-in_err-write g c =
     let G = c.self.invariant.kept.grouped in
     let held : IsHeld s.slots a.slot a.token = rw (← c.self.view_is) at c.requires.held in
     let i : IsIn a.token s.tokens = live-in s.slots a.slot a.token held in
-    record { kept = kept-still l sites b.counts b.groups.sizes c.reserve-5.new.self.sizes s _ c.self.invariant.kept (λ k. record { limit = b.limit; journal = (sym c.in_err-write.ensures.refused k).entries; entries = b.entries; next_mark = b.next_mark; now = b.time; made = b.calls.made; tokens = live (sym c.in_ok-reserve.ensures.items k); slots = sym c.in_ok-reserve.ensures.items k; calls = b.calls.items; scopes = sym c.in_ok-reserve-2.ensures.items k; steps = sym c.in_ok-reserve-3.ensures.items k; groups = sym c.reserve-5.ensures.items k; cells = sym c.in_ok-reserve-4.ensures.items k }) c.reserve-5.ensures.sizes; rest = rest-same (code l) (definitions l) s _ b.tokens.parked c.reserve.new.self.parked (λ k. record { limit = b.limit; journal = (sym c.in_err-write.ensures.refused k).entries; entries = b.entries; next_mark = b.next_mark; now = b.time; made = b.calls.made; tokens = live (sym c.in_ok-reserve.ensures.items k); slots = sym c.in_ok-reserve.ensures.items k; calls = b.calls.items; scopes = sym c.in_ok-reserve-2.ensures.items k; steps = sym c.in_ok-reserve-3.ensures.items k; groups = sym c.reserve-5.ensures.items k; cells = sym c.in_ok-reserve-4.ensures.items k }) c.in_ok-reserve.ensures.parked c.self.invariant.rest }
+    record { kept = kept-still l sites b.counts b.groups.sizes c.reserve-5.new.self.sizes s _ c.self.invariant.kept (λ k. record { limit = b.limit; journal = (sym c.in_err-write.ensures.refused k).entries; entries = b.entries; next_mark = b.next_mark; now = b.time; made = b.calls.made; tokens = live (sym c.in_ok-reserve.ensures.items k); slots = sym c.in_ok-reserve.ensures.items k; calls = b.calls.items; scopes = sym c.in_ok-reserve-2.ensures.items k; steps = sym c.in_ok-reserve-3.ensures.items k; groups = sym c.reserve-5.ensures.items k; cells = sym c.in_ok-reserve-4.ensures.items k }) c.reserve-5.ensures.sizes; rest = rest-same (code l) (definitions l) s _ b.tokens.parked c.reserve.new.self.parked (λ k. record { limit = b.limit; journal = (sym c.in_err-write.ensures.refused k).entries; entries = b.entries; next_mark = b.next_mark; now = b.time; made = b.calls.made; tokens = live (sym c.in_ok-reserve.ensures.items k); slots = sym c.in_ok-reserve.ensures.items k; calls = b.calls.items; scopes = sym c.in_ok-reserve-2.ensures.items k; steps = sym c.in_ok-reserve-3.ensures.items k; groups = sym c.reserve-5.ensures.items k; cells = sym c.in_ok-reserve-4.ensures.items k }) c.in_ok-reserve.ensures.parked c.self.invariant.rest; version = ap (λ j. j.version) c.in_err-write.ensures.refused ∙ c.self.invariant.version; limited = c.self.invariant.limited }
 
 pub join-requires-clause-open : goal.join-requires-clause-open
 join-requires-clause-open g c =

@@ -1,4 +1,4 @@
-use Rattle.std.proofs.Common.{◌≡◌, ◌<◌, ◌++◌, ℕ, ◌+◌, [], ◌∷◌, sym, refl, ap, arith, append-nil}
+use Rattle.std.proofs.Common.{◌≡◌, ◌<◌, ◌++◌, ℕ, ◌+◌, [], ◌∷◌, sym, refl, ap, arith, append-nil, ◌∙◌}
 use Rattle.orc_rules.specs.declared.entry.Entry.TheVariants.{Publish}
 use Rattle.orc_rules.specs.Timed.{IsIn}
 use Rattle.orc_rules.specs.Nodes.{code, definitions}
@@ -22,6 +22,7 @@ use Rattle.orc_ledger.proofs.Sending.{publish-lawful}
 use Rattle.orc_ledger.proofs.Grouped.{published-grouped}
 use Rattle.orc_tables.specs.Same.{is_this}
 use Rattle.orc_ledger.proofs.Sizes.{crossed-members}
+use Rattle.orc_ledger.proofs.Brought.{crossed-brought}
 use Rattle.orc_ledger.proofs.ledger.Ledger.publish.Goals as goal
 
 pub leave_others-requires-clause-within : goal.leave_others-requires-clause-within
@@ -67,8 +68,11 @@ invariant_of-self-2 g c =
         told = crosses-told l sites s s' L L' c.self.invariant.kept.told a.token [] [] ns (Publish a.token.serial a.value) tt T;
         counted = counted-kept l sites s s' L L' (Publish a.token.serial a.value ∷ []) journal (tt, tt) b.counts c.self.invariant.kept.counted;
         sized = λ j. omega (arith, c.leave.ensures.sizes j, crossed-members s s' a.token [] [] ns (Publish a.token.serial a.value) T j, c.self.invariant.kept.sized j, ap (is_this j) c.group_at-group.ensures);
+        brought = crossed-brought s s' c.self.invariant.kept.brought a.token [] [] ns (Publish a.token.serial a.value) T (omega arith);
       };
       rest = rest-kept (code l) (definitions l) s s' b.tokens c.remove.new.self refl refl c.self.invariant.rest (live-in b.tokens.items) (c.remove.ensures.parked) (same-terms (code l) s s' refl refl);
+      version = ap (λ j. j.version) c.in_ok-write.ensures.added ∙ c.self.invariant.version;
+      limited = c.self.invariant.limited;
     }
 
 pub returns-clause-done : goal.returns-clause-done

@@ -21,6 +21,7 @@ use Rattle.orc_ledger.proofs.Closed.{mark-later}
 use Rattle.orc_tables.specs.OpenGroups.{size_of}
 use Rattle.orc_ledger.proofs.Sizes.{resumed-members}
 use Rattle.orc_tables.proofs.Slots.{live-in}
+use Rattle.orc_ledger.proofs.Brought.{resumed-brought}
 use Rattle.orc_ledger.proofs.ledger.Ledger.right.Goals as goal
 
 pub add-slot-requires-clause-serial : goal.add-slot-requires-clause-serial
@@ -62,8 +63,11 @@ invariant_of-self-2 g c =
         told = resumes-told l sites s s' L L' K.told a.group a.number a.node a.scope T;
         counted = counted-kept l sites s s' L L' (Right a.number s.next_mark ∷ []) journal (tt, tt) b.counts K.counted;
         sized = λ j. omega (arith, ap (λ z. size_of z j) c.take-left.ensures.sizes, resumed-members s s' a.group a.number a.node a.scope T j, K.sized j);
+        brought = resumed-brought s s' K.brought a.group a.number a.node a.scope T;
       };
       rest = rest-kept (code l) (definitions l) s s' b.tokens c.add-slot.new.self refl refl c.self.invariant.rest (live-in b.tokens.items) (stay-on b.tokens c.reserve.new.self c.add-slot.new.self (stay-same b.tokens c.reserve.new.self c.in_ok-reserve.ensures.items c.in_ok-reserve.ensures.parked) c.add-slot.ensures.parked) (same-terms (code l) s s' refl refl);
+      version = ap (λ j. j.version) c.in_ok-write.ensures.added ∙ c.self.invariant.version;
+      limited = c.self.invariant.limited;
     }
 
 pub returns-clause-done : goal.returns-clause-done

@@ -28,6 +28,7 @@ use Rattle.orc_ledger.proofs.Grouped.{sent-grouped}
 use Rattle.orc_tables.specs.Same.{is_this}
 use Rattle.orc_tables.specs.OpenGroups.{IsOpen}
 use Rattle.orc_ledger.proofs.Sizes.{crossed-members, open-reach, size-few}
+use Rattle.orc_ledger.proofs.Brought.{crossed-brought}
 use Rattle.orc_ledger.proofs.ledger.Ledger.send.Goals as goal
 
 pub leave_others-requires-clause-within : goal.leave_others-requires-clause-within
@@ -80,8 +81,11 @@ invariant_of-self-2 g c =
         told = crosses-told l sites s s' L L' c.self.invariant.kept.told a.token (first ∷ []) (name ∷ []) ns (Send a.token.serial b.next_mark a.value) tt T;
         counted = counted-kept l sites s s' L L' (Send a.token.serial b.next_mark a.value ∷ []) journal (tt, tt) b.counts c.self.invariant.kept.counted;
         sized = λ j. omega (arith, c.leave.ensures.sizes j, c.join.ensures.sizes j, crossed-members s s' a.token (first ∷ []) (name ∷ []) ns (Send a.token.serial b.next_mark a.value) T j, c.self.invariant.kept.sized j, ap (is_this j) c.group_at-left.ensures, ap (is_this j) c.group_at-joined.ensures);
+        brought = crossed-brought s s' c.self.invariant.kept.brought a.token (first ∷ []) (name ∷ []) ns (Send a.token.serial b.next_mark a.value) T (omega arith);
       };
       rest = rest-kept (code l) (definitions l) s s' b.tokens c.replace.new.self refl refl c.self.invariant.rest (live-in b.tokens.items) (c.replace.ensures.parked) (crosses-terms l sites s L s' a.token i (first ∷ []) (name ∷ []) ns (Send a.token.serial b.next_mark a.value) T);
+      version = ap (λ j. j.version) c.in_ok-write.ensures.added ∙ c.self.invariant.version;
+      limited = c.self.invariant.limited;
     }
 
 pub returns-clause-done : goal.returns-clause-done

@@ -1,4 +1,4 @@
-use Rattle.std.proofs.Common.{◌≡◌, ◌+◌, ◌<◌, [], ◌∷◌, ◌++◌, refl, sym, ap, subst}
+use Rattle.std.proofs.Common.{◌≡◌, ◌+◌, ◌<◌, [], ◌∷◌, ◌++◌, refl, sym, ap, subst, ◌∙◌}
 use Rattle.orc_rules.specs.declared.entry.Entry.TheVariants.{Tick}
 use Rattle.orc_ledger.specs.Kept.{Kept}
 use Rattle.orc_ledger.specs.Records.{Records}
@@ -9,6 +9,7 @@ use Rattle.orc_ledger.proofs.Calling.{tick-told}
 use Rattle.orc_ledger.proofs.Grouped.{ticked-grouped}
 use Rattle.orc_ledger.proofs.Keeping.{counted-kept}
 use Rattle.orc_ledger.proofs.Passing.{ticked, tick-lawful}
+use Rattle.orc_ledger.proofs.Brought.{grown-brought}
 use Rattle.orc_ledger.proofs.ledger.Ledger.tick.Goals as goal
 
 pub invariant_of-self-2 : goal.invariant_of-self-2
@@ -24,8 +25,8 @@ invariant_of-self-2 g c =
     let s' : Records = ticked l sites s K.lawful t in
     let journal : c.write.new.journal.entries ≡ s.journal ++ Tick t ∷ [] = ap (λ j. j.entries) c.in_ok-write.ensures.added in
     let L' = tick-lawful l sites s K.lawful t (ticks-there l sites b.counts b.groups.sizes s K t may) room in
-    let K' : Kept l sites b.counts b.groups.sizes s' = record { lawful = L'; grouped = ticked-grouped l sites s K.lawful K.grouped t; told = tick-told l sites s s' K.lawful L' K.told t refl refl; counted = counted-kept l sites s s' K.lawful L' (Tick t ∷ []) refl (tt, tt) b.counts K.counted; sized = K.sized } in
-    record { kept = subst (λ es. Kept l sites b.counts b.groups.sizes (record s { journal = es; entries = s.entries + 1; now = t })) (sym journal) K'; rest = c.self.invariant.rest }
+    let K' : Kept l sites b.counts b.groups.sizes s' = record { lawful = L'; grouped = ticked-grouped l sites s K.lawful K.grouped t; told = tick-told l sites s s' K.lawful L' K.told t refl refl; counted = counted-kept l sites s s' K.lawful L' (Tick t ∷ []) refl (tt, tt) b.counts K.counted; sized = K.sized; brought = grown-brought s s' K.brought (Tick t ∷ []) refl refl refl refl refl } in
+    record { kept = subst (λ es. Kept l sites b.counts b.groups.sizes (record s { journal = es; entries = s.entries + 1; now = t })) (sym journal) K'; rest = c.self.invariant.rest; version = ap (λ j. j.version) c.in_ok-write.ensures.added ∙ c.self.invariant.version; limited = c.self.invariant.limited }
 
 pub returns-clause-done : goal.returns-clause-done
 returns-clause-done g c =

@@ -18,6 +18,7 @@ use Rattle.orc_ledger.proofs.Passing.{void-lawful}
 use Rattle.orc_ledger.proofs.Grouped.{turned-grouped}
 use Rattle.orc_tables.specs.Same.{is_this}
 use Rattle.orc_ledger.proofs.Sizes.{turned-members}
+use Rattle.orc_ledger.proofs.Brought.{turned-flat}
 use Rattle.orc_ledger.proofs.ledger.Ledger.void.Goals as goal
 
 pub invariant_of-self-2 : goal.invariant_of-self-2
@@ -46,8 +47,11 @@ invariant_of-self-2 g c =
         told = turns-told l sites s s' L L' c.self.invariant.kept.told a.token [] [] [] [] [] (Void a.token.serial) tt T;
         counted = counted-kept l sites s s' L L' (Void a.token.serial ∷ []) journal (tt, tt) b.counts c.self.invariant.kept.counted;
         sized = λ j. omega (arith, c.leave.ensures.sizes j, turned-members s s' L.sound a.token i [] [] [] [] [] _ T j, c.self.invariant.kept.sized j, ap (is_this j) c.group_at-group.ensures);
+        brought = turned-flat s s' c.self.invariant.kept.brought a.token [] [] [] _ T (omega arith);
       };
       rest = rest-kept (code l) (definitions l) s s' b.tokens c.remove.new.self refl refl c.self.invariant.rest (live-in b.tokens.items) (c.remove.ensures.parked) (same-terms (code l) s s' refl refl);
+      version = ap (λ j. j.version) c.in_ok-write.ensures.added ∙ c.self.invariant.version;
+      limited = c.self.invariant.limited;
     }
 
 pub returns-clause-done : goal.returns-clause-done
