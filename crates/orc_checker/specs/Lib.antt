@@ -9,6 +9,7 @@ pub mod Grafting
 pub mod Halting
 pub mod Hints
 pub mod Index
+pub mod Kept
 pub mod Labelling
 pub mod NextDue
 pub mod Offers

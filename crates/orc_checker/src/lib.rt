@@ -9,6 +9,7 @@ mod due;
 mod feed;
 mod flags;
 pub mod halts;
+pub mod kept;
 mod label;
 mod lookup;
 pub mod marked;

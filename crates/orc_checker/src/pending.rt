@@ -6,12 +6,13 @@ ghost use Rattle.orc_checker.specs.NextDue.{AreNoted, IsDueOf, IsDueAt, IsNext};
 
 use crate::arena::{Kind, Tip};
 use crate::due::Due;
+use crate::kept::Kept;
 use crate::nodes::Nodes;
-use crate::rest::{Called, Rest};
+use crate::rest::Rest;
 use orc_calls::due_time;
 
 /// When the call of that number is due.
-fn due_of(calls: &Vec<Called>, call: u64) -> Option<u64>
+fn due_of(calls: &Vec<Kept>, call: u64) -> Option<u64>
     ensures due { IfSome result (IsDueOf calls.now.items call) }
     ensures never { IfNone result ((t : ℕ) → IsDueOf calls.now.items call t → ⊥) }
 {
@@ -20,12 +21,15 @@ fn due_of(calls: &Vec<Called>, call: u64) -> Option<u64>
     }
     match calls.get((call - 1) as usize) {
         None => None,
-        Some(made) => due_time(made.found, made.at),
+        Some(made) => {
+            let known = made.called();
+            due_time(known.found, known.at)
+        }
     }
 }
 
 /// Whether a node waits for a call that is due at that time.
-fn waits_until(nodes: &Nodes, calls: &Vec<Called>, i: usize, time: u64) -> bool
+fn waits_until(nodes: &Nodes, calls: &Vec<Kept>, i: usize, time: u64) -> bool
     ensures { Decides result (IsDueAt nodes.now.items calls.now.items i time) }
 {
     let Kind::Leaf(tip) = nodes.node_at(i).kind else {
@@ -41,7 +45,7 @@ fn waits_until(nodes: &Nodes, calls: &Vec<Called>, i: usize, time: u64) -> bool
 }
 
 /// The least due time of the calls that wait. Those before it that wait no more go out of the notes.
-fn next_due(nodes: &Nodes, calls: &Vec<Called>, due: &mut Due) -> Option<u64>
+fn next_due(nodes: &Nodes, calls: &Vec<Kept>, due: &mut Due) -> Option<u64>
     requires { AreNoted nodes.now.items calls.now.items due.old }
     ensures next { IsNext nodes.now.items calls.now.items result }
     ensures noted { AreNoted nodes.now.items calls.now.items due.new }

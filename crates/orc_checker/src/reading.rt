@@ -7,8 +7,8 @@ ghost use Rattle.orc_names.specs.Scopes.{close_param, env_of};
 ghost use Rattle.orc_names.specs.Names.{AreOrdered};
 ghost use Rattle.orc_checker.specs.Rising.{takes, Stands};
 
+use crate::kept::Kept;
 use crate::marked::Marked;
-use crate::rest::Called;
 use crate::slot::Slot;
 use crate::walk::{Taker, way_up};
 use orc_names::{Bound, meaning};
@@ -23,7 +23,7 @@ impl Marked {
     }
 
     /// The calls that were made, call 1 first.
-    pub fn calls(&self) -> &[Called]
+    pub fn calls(&self) -> &[Kept]
         ensures { result.now ≡ self.now.rest.calls }
     {
         &self.rest.calls

@@ -7,6 +7,7 @@ ghost use Rattle.orc_checker.specs.Calls.{Rest as Aside, AddsCall, IsCall, IsDue
 ghost use Rattle.orc_checker.specs.Index.{call_place};
 ghost use Rattle.orc_rules.specs.declared.entry.RuleFault.TheVariants as reason;
 
+use crate::kept::Kept;
 use crate::room::push_within;
 use orc_calls::{Counts, check_due};
 use orc_rules::answers::Answers;
@@ -27,7 +28,7 @@ pub struct Called {
 /// whose cancel is due, the next one last. Cancels come due where they are recorded.
 #[derive(Drop)]
 pub struct Rest {
-    pub(crate) calls: Vec<Called>,
+    pub(crate) calls: Vec<Kept>,
     pub(crate) counts: Counts,
     pub(crate) time: u64,
     pub(crate) to_cancel: Vec<u64>,
@@ -103,7 +104,7 @@ impl Rest {
     {
         self.calls.try_reserve(1).map_err(|_| RuleFault::Memory)?;
         count(&mut self.counts, answers, site, args)?;
-        push_within(&mut self.calls, called);
+        push_within(&mut self.calls, Kept::new(called));
         Ok(())
     }
 
@@ -115,7 +116,7 @@ impl Rest {
         if k == 0 {
             return None;
         }
-        Some(*self.calls.get((k - 1) as usize)?)
+        Some(self.calls.get((k - 1) as usize)?.called())
     }
 
     /// How many calls were made.

@@ -64,7 +64,8 @@ impl Scene<'_, '_> {
         page.say(", ");
         self.call(page, call.entry)?;
         let at = (number as usize).saturating_sub(1);
-        if let Some(called) = self.replay.marked.calls().get(at) {
+        if let Some(kept) = self.replay.marked.calls().get(at) {
+            let called = kept.called();
             page.say(", made at time ");
             page.number(called.at);
             page.say(" in ");

@@ -201,7 +201,7 @@ impl Refused<'_> {
             return None;
         };
         let place = call.checked_sub(1)? as usize;
-        let called = self.replay.marked.calls().get(place)?;
+        let called = self.replay.marked.calls().get(place)?.called();
         Some((called.found, called.at))
     }
 

@@ -22,7 +22,7 @@ fn call_made(marked: &Marked, k: u64) -> Option<Called>
         return None;
     }
     match marked.calls().get((k - 1) as usize) {
-        Some(called) => Some(*called),
+        Some(kept) => Some(kept.called()),
         None => None,
     }
 }

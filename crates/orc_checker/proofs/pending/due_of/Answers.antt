@@ -21,4 +21,4 @@ never_of calls k made None there never = λ t d.
 pub returns-in-Some-clause-never : goal.returns-in-Some-clause-never
 returns-in-Some-clause-never c =
     never_of c.args.calls.now.items c.args.call _ c.due_time.result (subst (λ z. c.in-Some.made.now ≡ get_or z (c.args.call - 1) c.in-Some.made.now) c.deref.ensures.value c.in-Some.ensures.lookup.1)
-    (time_never c.in-Some.made.now c.due_time.result c.due_time.ensures)
+    (time_never c.in-Some.made.now c.due_time.result (c.due_time.ensures ∙ ap (λ (z : Called). due_by z.at z.found) c.called-known.ensures))

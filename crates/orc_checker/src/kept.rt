@@ -1,0 +1,81 @@
+//! Calls as they are kept.
+
+ghost use Rattle.std.specs.Prelude.{◌≡◌};
+
+use crate::rest::Called;
+use orc_rules::value::{Answer, Found, Value};
+use std::marker::Model;
+
+// A call in one enum: its node first, then when it was made, and the delay of its answer. So no call takes more than 32 bytes.
+#[derive(Clone, Copy)]
+enum Flat {
+    Never(u32, u64),
+    Halts(u32, u64, u64),
+    Number(u32, u64, u64, i64),
+    Truth(u32, u64, u64, bool),
+    Signal(u32, u64, u64),
+}
+
+/// A call that was made, as it is kept, in 32 bytes.
+#[derive(Clone, Copy)]
+pub struct Kept {
+    flat: Flat,
+}
+
+impl Model for Kept {
+    ghost use Rattle.orc_checker.specs.Kept.{called_in, flat_of, is_again};
+    ghost use Rattle.orc_checker.specs.declared.rest.Called.{Called};
+
+    ghost Value = { Called };
+
+    ghost view = { λ k. called_in k.flat };
+
+    ghost inverse = { λ c. record { flat = flat_of c.found c.at c.node } };
+
+    ghost inverse_ok = { λ k h. λ i. record { flat = is_again k.flat i } };
+}
+
+impl Kept {
+    /// The call kept.
+    pub fn new(called: Called) -> Kept
+        ensures { result ≡ called }
+    {
+        let node = called.node;
+        let at = called.at;
+        let flat = match called.found {
+            Found::Never => Flat::Never(node, at),
+            Found::After(answer, delay) => match answer {
+                Answer::Halt => Flat::Halts(node, at, delay),
+                Answer::Value(value) => match value {
+                    Value::Number(number) => Flat::Number(node, at, delay, number),
+                    Value::Truth(truth) => Flat::Truth(node, at, delay, truth),
+                    Value::Signal => Flat::Signal(node, at, delay),
+                },
+            },
+        };
+        Kept { flat }
+    }
+
+    /// The call.
+    pub fn called(&self) -> Called
+        ensures { result ≡ self.now }
+    {
+        let (node, at, found) = match self.flat {
+            Flat::Never(node, at) => (node, at, Found::Never),
+            Flat::Halts(node, at, delay) => (node, at, Found::After(Answer::Halt, delay)),
+            Flat::Number(node, at, delay, number) => {
+                let answer = Answer::Value(Value::Number(number));
+                (node, at, Found::After(answer, delay))
+            }
+            Flat::Truth(node, at, delay, truth) => {
+                let answer = Answer::Value(Value::Truth(truth));
+                (node, at, Found::After(answer, delay))
+            }
+            Flat::Signal(node, at, delay) => {
+                let answer = Answer::Value(Value::Signal);
+                (node, at, Found::After(answer, delay))
+            }
+        };
+        Called { found, at, node }
+    }
+}
