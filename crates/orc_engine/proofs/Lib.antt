@@ -1,2 +1,4 @@
+pub mod Further
 pub mod Reading
+pub mod Stopping
 pub mod Words

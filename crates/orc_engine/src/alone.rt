@@ -4,8 +4,9 @@ ghost use Rattle.std.specs.Prelude.{◌≡◌, ◌≤◌, ◌↔◌, Err, IfOk, 
 ghost use Rattle.orc_rules.specs.declared.limits.TheConstants.{MOST_ENTRIES};
 ghost use Rattle.orc_outcome.specs.Outcome.{IsPlayed};
 ghost use Rattle.orc_engine.specs.Ranges.{IsInRange};
+ghost use Rattle.orc_engine.specs.Stops.{Stops};
 
-use crate::desk::{Desk, Stop, Turn};
+use crate::desk::{Desk, Stop};
 use crate::fault::EngineFault;
 use orc_graph::Graph;
 use orc_ledger::{Ledger, Program as Naming};
@@ -67,20 +68,14 @@ fn run_named<P: Naming>(
 fn play<P: Naming>(desk: &mut Desk<P>, graph: &Graph, answers: &Answers) -> Stop
     requires graph { graph.now ≡ P.listing }
     requires answers { answers.now.sites ≡ P.sites }
+    ensures stops { Stops P.listing desk.new.ledger result }
 {
     if let Err(stop) = desk.begin() {
         return stop;
     }
-    for _turn in 0..u64::MAX {
-        let went = match desk.turn(graph, answers) {
-            // The table answers each call here.
-            Ok(Turn::Went) | Ok(Turn::Asks(_)) => Ok(()),
-            Ok(Turn::Rests) => desk.rest(graph),
-            Err(stop) => Err(stop),
-        };
-        if let Err(stop) = went {
+    loop {
+        if let Err(stop) = desk.go(graph, answers) {
             return stop;
         }
     }
-    Stop::Broken
 }
