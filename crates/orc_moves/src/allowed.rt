@@ -85,7 +85,10 @@ fn is_free(marked: &Marked, program: &Program, kind: Kind) -> bool {
         Kind::Leaf(Tip::Bears(_, _)) => true,
         Kind::Leaf(Tip::Token(_, node, scope)) => match program.node(node as usize) {
             TermNode::Operand(operand) => {
-                matches!(marked.param(operand, scope as usize), Param::Is(_) | Param::Void)
+                matches!(
+                    marked.param(operand, scope as usize),
+                    Param::Is(_) | Param::Void
+                )
             }
             TermNode::Site(_, list) => {
                 is_callable(marked, program.operands(list), scope as usize)
