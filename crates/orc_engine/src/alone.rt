@@ -41,7 +41,8 @@ pub fn run_alone(
     run_named::<Brand>(alloc, program, &graph, answers, keeps_text, limit as usize)
 }
 
-fn run_named<P: Naming>(
+/// Runs a program whose graph is built, as [`run_alone`] does, with a limit in range.
+pub(crate) fn run_named<P: Naming>(
     alloc: Global,
     program: &Program,
     graph: &Graph,

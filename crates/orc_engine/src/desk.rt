@@ -692,11 +692,6 @@ impl<P: Naming> Desk<P> {
         }
     }
 
-    /// Whether somebody else makes the calls.
-    pub(crate) fn asks(&self) -> bool {
-        self.asks
-    }
-
     /// Whether it is between two rounds of turns: calls that are due have their turn then.
     pub(crate) fn is_between(&self) -> bool {
         self.ready.is_between()

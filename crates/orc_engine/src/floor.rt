@@ -179,8 +179,7 @@ impl<P: Naming, C: Drop> Floor<P, C> {
             if self.is_over() {
                 return Errand::Over;
             }
-            if self.desk.asks()
-                && self.desk.is_between()
+            if self.desk.is_between()
                 && let Some(errand) = self.take_due()
             {
                 return errand;
@@ -188,7 +187,7 @@ impl<P: Naming, C: Drop> Floor<P, C> {
             match self.desk.turn(graph, answers) {
                 Ok(Turn::Went) => {}
                 Ok(Turn::Asks(number)) => return self.make(number),
-                Ok(Turn::Rests) => match self.rest(graph, answers) {
+                Ok(Turn::Rests) => match self.rest(graph) {
                     Errand::None => {}
                     errand => return errand,
                 },
@@ -210,16 +209,9 @@ impl<P: Naming, C: Drop> Floor<P, C> {
     }
 
     // No token's turn comes: a call that is due, else a tick.
-    fn rest(&mut self, graph: &Graph, answers: &Answers) -> Errand<C>
+    fn rest(&mut self, graph: &Graph) -> Errand<C>
         requires graph { graph.now ≡ P.listing }
-        requires answers { answers.now.sites ≡ P.sites }
     {
-        if !self.desk.asks() {
-            if let Err(stop) = self.desk.rest(graph, answers) {
-                self.stop(stop);
-            }
-            return Errand::None;
-        }
         if self.desk.due_beyond(0).is_some() {
             // The others that are due are in some worker's hand.
             return self.take_due().unwrap_or(Errand::Rest);

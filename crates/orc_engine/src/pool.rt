@@ -5,6 +5,7 @@ ghost use Rattle.orc_rules.specs.declared.limits.TheConstants.{MOST_ENTRIES};
 ghost use Rattle.orc_outcome.specs.Outcome.{IsPlayed};
 ghost use Rattle.orc_engine.specs.Ranges.{IsInRange};
 
+use crate::alone;
 use crate::desk::Desk;
 use crate::fault::EngineFault;
 use crate::floor::Floor;
@@ -26,9 +27,9 @@ use std::thread::{Scope, Threads};
 /// Runs a program on the calling thread and `workers - 1` more; one that can't be started is left out. What is run and what it answers is as of
 /// [`run_alone`](crate::run_alone), whatever the workers do when.
 ///
-/// Each call goes through `gate`, is made by `sites` and polled outside every lock, and `sites` is told which ones are cancelled. Where the sites go
-/// by the table and the gate is open, the table answers, and nobody is asked. Where neither may wait for another thread, the calling thread does
-/// everything, and no other is started: there would be nothing for it to do.
+/// Each call goes through `gate`, is made by `sites` and polled outside every lock, and `sites` is told which ones are cancelled. Where neither may
+/// wait for another thread, the calling thread does everything, and no other is started: there would be nothing for it to do. Where the sites go by
+/// the table and the gate is open, nobody is asked, and it is a run of `run_alone`.
 ///
 /// The fault is Range where there are no workers or over `MOST_WORKERS`, or the limit is 0 or over `MOST_ENTRIES`, and then alone; Site where the
 /// sites answered a call otherwise than the table says, or not when it was due; Memory or Broken as of `run_alone`.
@@ -57,17 +58,12 @@ where
     let Ok(graph) = Graph::build(alloc, program) else {
         return Err(EngineFault::Memory);
     };
+    let limit = limit as usize;
+    if sites.goes_by_table() && gate.is_open() {
+        return alone::run_named::<Brand>(alloc, program, &graph, answers, keeps_text, limit);
+    }
     run_named::<Brand, R, S, G>(
-        rt,
-        alloc,
-        program,
-        &graph,
-        answers,
-        sites,
-        gate,
-        workers,
-        keeps_text,
-        limit as usize,
+        rt, alloc, program, &graph, answers, sites, gate, workers, keeps_text, limit,
     )
 }
 
@@ -99,8 +95,7 @@ where
     let Ok(ledger) = Ledger::<P>::begin(alloc, limit, graph.root() as usize) else {
         return Err(EngineFault::Memory);
     };
-    let asks = !(sites.goes_by_table() && gate.is_open());
-    let mut desk = Desk::new(alloc, ledger, asks);
+    let mut desk = Desk::new(alloc, ledger, true);
     if desk.begin().is_err() {
         return Err(EngineFault::Memory);
     }
