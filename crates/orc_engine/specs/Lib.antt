@@ -1,3 +1,4 @@
 pub mod Ends
 pub mod Ranges
 pub mod Faults
+pub mod Stops

@@ -4,6 +4,7 @@ ghost use Rattle.std.specs.Prelude.{◌≡◌, ◌≤◌, ◌↔◌, Err, IfOk, 
 ghost use Rattle.orc_rules.specs.declared.limits.TheConstants.{MOST_ENTRIES};
 ghost use Rattle.orc_outcome.specs.Outcome.{IsPlayed};
 ghost use Rattle.orc_engine.specs.Ranges.{IsInRange};
+ghost use Rattle.orc_engine.specs.Stops.{Stops};
 
 use crate::desk::{Desk, Stop, Turn};
 use crate::fault::EngineFault;
@@ -49,6 +50,7 @@ fn run_named<P: Naming>(
     limit: usize,
 ) -> Result<Played, EngineFault>
     requires limit { (1 ≤ limit) × (limit ≤ MOST_ENTRIES) }
+    requires named { limit ≡ P.limit }
     requires program { program.now ≡ P.listing }
     requires graph { graph.now ≡ P.listing }
     requires answers { answers.now.sites ≡ P.sites }
@@ -60,13 +62,14 @@ fn run_named<P: Naming>(
     };
     let mut desk = Desk::new(alloc, ledger, false);
     let stop = play(&mut desk, graph, answers);
-    desk.finish(program, graph, answers, stop, keeps_text, limit)
+    desk.finish(program, graph, answers, stop, keeps_text)
 }
 
 // Turns until the run stops.
 fn play<P: Naming>(desk: &mut Desk<P>, graph: &Graph, answers: &Answers) -> Stop
     requires graph { graph.now ≡ P.listing }
     requires answers { answers.now.sites ≡ P.sites }
+    ensures stops { Stops P.listing desk.new.ledger result }
 {
     if let Err(stop) = desk.begin() {
         return stop;

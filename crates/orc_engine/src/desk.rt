@@ -3,6 +3,9 @@
 ghost use Rattle.std.specs.Prelude.{◌≡◌, IfOk, IfErr};
 ghost use Rattle.orc_outcome.specs.Outcome.{IsPlayed};
 ghost use Rattle.orc_engine.specs.Ends.{HasEnded};
+ghost use Rattle.orc_engine.specs.Stops.{Stops};
+ghost use Rattle.orc_journal.specs.Sizes.{IsCrowded};
+ghost use Rattle.orc_rules.specs.Named.{HasNames};
 ghost use Rattle.orc_rules.specs.Nodes.{code, definitions};
 ghost use Rattle.orc_ledger.specs.Doing.{what_of};
 ghost use Rattle.orc_tables.specs.Tokens.{IsHeld};
@@ -149,11 +152,15 @@ impl<P: Naming> Desk<P> {
     }
 
     /// The first token's turn comes.
-    pub(crate) fn begin(&mut self) -> Result<(), Stop> {
+    pub(crate) fn begin(&mut self) -> Result<(), Stop>
+        ensures stops { IfErr result (λ stop. Stops P.listing self.new.ledger stop) }
+    {
         self.join(0, 1)
     }
 
-    fn join(&mut self, slot: usize, serial: u64) -> Result<(), Stop> {
+    fn join(&mut self, slot: usize, serial: u64) -> Result<(), Stop>
+        ensures stops { IfErr result (λ stop. Stops P.listing self.new.ledger stop) }
+    {
         match self.ready.push(Handle { slot, serial }) {
             Ok(()) => Ok(()),
             Err(_) => Err(Stop::Refused(LedgerFault::Memory)),
@@ -165,6 +172,8 @@ impl<P: Naming> Desk<P> {
     pub(crate) fn turn(&mut self, graph: &Graph, answers: &Answers) -> Result<Turn, Stop>
         requires graph { graph.now ≡ P.listing }
         requires answers { answers.now.sites ≡ P.sites }
+
+        ensures stops { IfErr result (λ stop. Stops P.listing self.new.ledger stop) }
     {
         if self.is_between() {
             self.sweep();
@@ -214,7 +223,9 @@ impl<P: Naming> Desk<P> {
 
     // The turn of the token in a slot comes.
     #[inline(always)]
-    fn join_held(&mut self, slot: usize) -> Result<(), Stop> {
+    fn join_held(&mut self, slot: usize) -> Result<(), Stop>
+        ensures stops { IfErr result (λ stop. Stops P.listing self.new.ledger stop) }
+    {
         match self.ledger.held(slot) {
             Some(token) => self.join(slot, token.serial),
             None => Ok(()),
@@ -233,6 +244,8 @@ impl<P: Naming> Desk<P> {
         requires graph { graph.now ≡ P.listing }
         requires answers { answers.now.sites ≡ P.sites }
         requires held { IsHeld self.old.ledger.slots slot token }
+
+        ensures stops { IfErr result (λ stop. Stops P.listing self.new.ledger stop) }
     {
         // Room for a token that comes beside it, before anything changes.
         if self.ready.reserve().is_err() {
@@ -263,14 +276,19 @@ impl<P: Naming> Desk<P> {
                 self.wait(graph, slot)?;
                 Ok(Step::Done)
             }
-            Err(fault) => Err(Stop::Refused(fault)),
+            Err(fault) => {
+                self.ledger.full_is_crowded();
+                Err(Stop::Refused(fault))
+            }
         }
     }
 
     // Two tokens stand in these slots: one goes on, and the turn of the other one comes. The left side of `f | g` goes on; but the right side of a
     // pruning, so that its group may be gone before the left side opens more.
     #[inline(always)]
-    fn part(&mut self, left: usize, right: usize) -> Result<Step, Stop> {
+    fn part(&mut self, left: usize, right: usize) -> Result<Step, Stop>
+        ensures stops { IfErr result (λ stop. Stops P.listing self.new.ledger stop) }
+    {
         if self.is_beside(left, right) {
             self.join_held(right)?;
             Ok(Step::On(left))
@@ -304,6 +322,8 @@ impl<P: Naming> Desk<P> {
         requires answers { answers.now.sites ≡ P.sites }
         requires held { IsHeld self.old.ledger.slots slot token }
         requires calls { what_of (code P.listing) (definitions P.listing) self.old.ledger token ≡ What.Call }
+
+        ensures stops { IfErr result (λ stop. Stops P.listing self.new.ledger stop) }
     {
         if self.asks {
             return match self
@@ -311,7 +331,10 @@ impl<P: Naming> Desk<P> {
                 .call(graph, answers, slot, token, &mut self.args)
             {
                 Ok(call) => Ok(Step::Asks(call.number)),
-                Err(fault) => Err(Stop::Refused(fault)),
+                Err(fault) => {
+                    self.ledger.full_is_crowded();
+                    Err(Stop::Refused(fault))
+                }
             };
         }
         match self
@@ -324,12 +347,17 @@ impl<P: Naming> Desk<P> {
                 Ok(Step::Done)
             }
             Ok(Called::Pends(_)) => Ok(Step::Done),
-            Err(fault) => Err(Stop::Refused(fault)),
+            Err(fault) => {
+                self.ledger.full_is_crowded();
+                Err(Stop::Refused(fault))
+            }
         }
     }
 
     // A call is answered. Gives the slot of the token on its answer.
-    fn answer(&mut self, call: Call, answer: Answer) -> Result<Option<usize>, Stop> {
+    fn answer(&mut self, call: Call, answer: Answer) -> Result<Option<usize>, Stop>
+        ensures stops { IfErr result (λ stop. Stops P.listing self.new.ledger stop) }
+    {
         match self.ledger.returned(call.number, answer) {
             Ok(Some(slot)) => Ok(Some(slot)),
             Ok(None) => {
@@ -347,6 +375,8 @@ impl<P: Naming> Desk<P> {
     // The token in a slot waits for each of its cells.
     fn wait(&mut self, graph: &Graph, slot: usize) -> Result<(), Stop>
         requires graph { graph.now ≡ P.listing }
+
+        ensures stops { IfErr result (λ stop. Stops P.listing self.new.ledger stop) }
     {
         let Some(token) = self.ledger.held(slot) else {
             return Ok(());
@@ -366,7 +396,9 @@ impl<P: Naming> Desk<P> {
         Ok(())
     }
 
-    fn wake(&mut self, cell: u64) -> Result<(), Stop> {
+    fn wake(&mut self, cell: u64) -> Result<(), Stop>
+        ensures stops { IfErr result (λ stop. Stops P.listing self.new.ledger stop) }
+    {
         match self.waiting.wake(cell, &mut self.ready) {
             Ok(()) => Ok(()),
             Err(_) => Err(Stop::Refused(LedgerFault::Memory)),
@@ -375,7 +407,9 @@ impl<P: Naming> Desk<P> {
 
     // A group that has no members any more ends, and so do those round it.
     #[inline(always)]
-    fn close(&mut self, group: u32) -> Result<(), Stop> {
+    fn close(&mut self, group: u32) -> Result<(), Stop>
+        ensures stops { IfErr result (λ stop. Stops P.listing self.new.ledger stop) }
+    {
         if group == 0 || !self.ledger.is_empty(group) {
             return Ok(());
         }
@@ -384,7 +418,9 @@ impl<P: Naming> Desk<P> {
 
     // The group ends if it has no members, and then so do those round it.
     #[inline(never)]
-    fn close_from(&mut self, group: u32) -> Result<(), Stop> {
+    fn close_from(&mut self, group: u32) -> Result<(), Stop>
+        ensures stops { IfErr result (λ stop. Stops P.listing self.new.ledger stop) }
+    {
         let mut group = group;
         // Groups are nested at most so deep.
         for _nested in 0..MOST_GROUPS {
@@ -400,7 +436,10 @@ impl<P: Naming> Desk<P> {
                     return self.join_held(slot);
                 }
                 Ok(Halted::Closed(parent)) => group = parent,
-                Err(HaltFault::Refused(fault)) => return Err(Stop::Refused(fault)),
+                Err(HaltFault::Refused(fault)) => {
+                    self.ledger.full_is_crowded();
+                    return Err(Stop::Refused(fault));
+                }
                 Err(_) => return Err(Stop::Broken),
             }
         }
@@ -415,17 +454,17 @@ impl<P: Naming> Desk<P> {
         answers: &Answers,
         stop: Stop,
         keeps_text: bool,
-        limit: usize,
     ) -> Result<Played, EngineFault>
         requires program { program.now ≡ P.listing }
         requires graph { graph.now ≡ P.listing }
         requires answers { answers.now.sites ≡ P.sites }
-        ensures played { IfOk result (λ p. IsPlayed P.listing answers.now keeps_text limit p.summary p.published.items p.text.items) }
+        ensures played { IfOk result (λ p. IsPlayed P.listing answers.now keeps_text P.limit p.summary p.published.items p.text.items) }
         ensures range { IfErr result (λ fault. fault ≡ EngineFault.Range → ⊥) }
+        ensures full { IfErr result (λ fault. stop ≡ Stop.Refused LedgerFault.Full → Stops P.listing self.ledger stop → HasNames P.listing answers.now → fault ≡ EngineFault.Broken → ⊥) }
     {
         let end = self.end(program, graph, answers, stop)?;
         let alloc = self.alloc;
-        tell(alloc, self.into_ledger(), answers, keeps_text, limit, end)
+        tell(alloc, self.into_ledger(), answers, keeps_text, end)
     }
 
     // How a run ends that stops so. The fault is Broken where it can't end so.
@@ -441,6 +480,7 @@ impl<P: Naming> Desk<P> {
         requires answers { answers.now.sites ≡ P.sites }
         ensures ended { IfOk result (λ end. HasEnded P.listing answers.now self.new.ledger end) }
         ensures range { IfErr result (λ fault. fault ≡ EngineFault.Range → ⊥) }
+        ensures full { IfErr result (λ _. stop ≡ Stop.Refused LedgerFault.Full → Stops P.listing self.old.ledger stop → ⊥) }
     {
         match stop {
             Stop::Rests => self.rested(graph, answers),
@@ -466,11 +506,12 @@ impl<P: Naming> Desk<P> {
         }
     }
 
-    // How a run ends for which one of the engine's limits is reached.
+    // How a run ends for which one of the engine's limits is reached. The fault is Broken where none can have been.
     fn crowded(&mut self, answers: &Answers) -> Result<End, EngineFault>
         requires answers { answers.now.sites ≡ P.sites }
         ensures ended { IfOk result (λ end. HasEnded P.listing answers.now self.new.ledger end) }
         ensures range { IfErr result (λ fault. fault ≡ EngineFault.Range → ⊥) }
+        ensures crowded { IfErr result (λ _. IsCrowded self.old.ledger.journal → ⊥) }
     {
         if is_crowded(self.ledger.journal()) {
             Ok(End::Full)
@@ -516,6 +557,8 @@ impl<P: Naming> Desk<P> {
     /// No token can move: an answer that is due, by the table, else a tick. It stops where nothing can come next.
     pub(crate) fn rest(&mut self, graph: &Graph) -> Result<(), Stop>
         requires graph { graph.now ≡ P.listing }
+
+        ensures stops { IfErr result (λ stop. Stops P.listing self.new.ledger stop) }
     {
         if let Some(number) = self.due_beyond(0) {
             return self.answer_due(number);
@@ -527,7 +570,9 @@ impl<P: Naming> Desk<P> {
         }
     }
 
-    fn answer_due(&mut self, number: u64) -> Result<(), Stop> {
+    fn answer_due(&mut self, number: u64) -> Result<(), Stop>
+        ensures stops { IfErr result (λ stop. Stops P.listing self.new.ledger stop) }
+    {
         let Some(call) = self.ledger.pending(number) else {
             return Err(Stop::Broken);
         };
@@ -538,7 +583,9 @@ impl<P: Naming> Desk<P> {
     }
 
     // A call is answered, and the turn of the token on its answer comes.
-    fn answer_pending(&mut self, call: Call, answer: Answer) -> Result<(), Stop> {
+    fn answer_pending(&mut self, call: Call, answer: Answer) -> Result<(), Stop>
+        ensures stops { IfErr result (λ stop. Stops P.listing self.new.ledger stop) }
+    {
         if let Some(slot) = self.answer(call, answer)? {
             self.join_held(slot)?;
         }
@@ -549,6 +596,8 @@ impl<P: Naming> Desk<P> {
     /// nothing can come next.
     pub(crate) fn pass_time(&mut self, graph: &Graph) -> Result<bool, Stop>
         requires graph { graph.now ≡ P.listing }
+
+        ensures stops { IfErr result (λ stop. Stops P.listing self.new.ledger stop) }
     {
         let next = self.ledger.next(graph);
         self.ledger.is_whole();
@@ -610,14 +659,18 @@ impl<P: Naming> Desk<P> {
     }
 
     /// The call with this number was answered so, if it still pends.
-    pub(crate) fn answered(&mut self, number: u64, answer: Answer) -> Result<(), Stop> {
+    pub(crate) fn answered(&mut self, number: u64, answer: Answer) -> Result<(), Stop>
+        ensures stops { IfErr result (λ stop. Stops P.listing self.new.ledger stop) }
+    {
         match self.ledger.pending(number) {
             Some(call) => self.answer_pending(call, answer),
             None => Ok(()),
         }
     }
 
-    fn note_cancelled(&mut self) -> Result<(), Stop> {
+    fn note_cancelled(&mut self) -> Result<(), Stop>
+        ensures stops { IfErr result (λ stop. Stops P.listing self.new.ledger stop) }
+    {
         if self.asks && self.gone.extend_from_slice(&self.cancelled).is_err() {
             return Err(Stop::Refused(LedgerFault::Memory));
         }
