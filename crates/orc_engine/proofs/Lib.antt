@@ -1,3 +1,4 @@
-pub mod Full
+pub mod Further
 pub mod Reading
+pub mod Stopping
 pub mod Words

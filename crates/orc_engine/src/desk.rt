@@ -1,14 +1,20 @@
 //! The records of a run and what its workers do with them: tokens move, calls are answered, groups halt, time passes.
 
-ghost use Rattle.std.specs.Prelude.{◌≡◌, IfOk, IfErr};
-ghost use Rattle.orc_outcome.specs.Outcome.{IsPlayed};
-ghost use Rattle.orc_engine.specs.Ends.{HasEnded};
-ghost use Rattle.orc_engine.specs.Stops.{Stops};
-ghost use Rattle.orc_journal.specs.Sizes.{IsCrowded};
+ghost use Rattle.std.specs.Prelude.{◌≡◌, ◌≤◌, ◌<◌, ◌^◌, ℕ, true, false, IfOk, IfErr};
+ghost use Rattle.std.specs.VecDeque.{deque_len};
 ghost use Rattle.orc_rules.specs.Named.{HasNames};
-ghost use Rattle.orc_rules.specs.Nodes.{code, definitions};
-ghost use Rattle.orc_ledger.specs.Doing.{what_of};
+ghost use Rattle.orc_rules.specs.Nodes.{code, definitions, source};
+ghost use Rattle.orc_rules.specs.Program.{IsProgram};
+ghost use Rattle.orc_outcome.specs.Outcome.{IsPlayed};
+ghost use Rattle.orc_paths.specs.Doing.{is_wait};
 ghost use Rattle.orc_tables.specs.Tokens.{IsHeld};
+ghost use Rattle.orc_tables.specs.declared.records.Group.{Group};
+ghost use Rattle.orc_ledger.specs.Answers.{IsDueNow, Pends};
+ghost use Rattle.orc_ledger.specs.Doing.{what_of};
+ghost use Rattle.orc_ledger.specs.Halting.{IsGroup};
+ghost use Rattle.orc_ledger.specs.Next.{members, numbers_of};
+ghost use Rattle.orc_engine.specs.Ends.{HasEnded};
+ghost use Rattle.orc_engine.specs.Stops.{Goes, Advances, HasMoved, IsNearer, HasTurned, NoneIsDue, IsAtWork, Stops};
 
 use crate::fault::EngineFault;
 use crate::quiet::is_quiet_at;
@@ -19,14 +25,14 @@ use crate::waiting::Waiting;
 use orc_graph::Graph;
 use orc_ledger::{
     Call, Called, HaltFault, Halted, Ledger, LedgerFault, Moved, Next, Program as Naming,
-    ReturnFault, Token, What,
+    ReturnFault, Token, What, calls_fit,
 };
 use orc_names::Scope;
 use orc_outcome::{End, Played};
 use orc_rules::answers::Answers;
 use orc_rules::limits::MOST_GROUPS;
 use orc_rules::program::Program;
-use orc_rules::value::{Answer, Args, Found};
+use orc_rules::value::{Answer, Args};
 use orc_site::{Due, Request, due_after};
 use std::alloc::Global;
 use std::mem;
@@ -61,8 +67,10 @@ pub(crate) enum Stop {
 enum Step {
     // In this slot.
     On(usize),
-    // Not now.
+    // It is gone.
     Done,
+    // It stays as it is until something comes for which it waits.
+    Waits,
     // The call with this number was recorded in its place, and is to be made.
     Asks(u64),
 }
@@ -153,13 +161,15 @@ impl<P: Naming> Desk<P> {
 
     /// The first token's turn comes.
     pub(crate) fn begin(&mut self) -> Result<(), Stop>
-        ensures stops { IfErr result (λ stop. Stops P.listing self.new.ledger stop) }
+        ensures same { self.new.ledger ≡ self.old.ledger }
+        ensures memory { IfErr result (λ stop. stop ≡ Stop.Refused LedgerFault.Memory) }
     {
         self.join(0, 1)
     }
 
     fn join(&mut self, slot: usize, serial: u64) -> Result<(), Stop>
-        ensures stops { IfErr result (λ stop. Stops P.listing self.new.ledger stop) }
+        ensures same { self.new.ledger ≡ self.old.ledger }
+        ensures memory { IfErr result (λ stop. stop ≡ Stop.Refused LedgerFault.Memory) }
     {
         match self.ready.push(Handle { slot, serial }) {
             Ok(()) => Ok(()),
@@ -167,20 +177,38 @@ impl<P: Naming> Desk<P> {
         }
     }
 
+    /// A token's turn or, where no token's turn comes, what else comes next. So a run is nearer its end each time: its entries are more, or as many and its
+    /// groups fewer, or as many and the turns that come fewer.
+    pub(crate) fn go(&mut self, graph: &Graph, answers: &Answers) -> Result<(), Stop>
+        requires graph { graph.now ≡ P.listing }
+        requires answers { answers.now.sites ≡ P.sites }
+        ensures nearer { IfOk result (λ _. IsNearer self.old.ledger (deque_len self.old.ready.handles) self.new.ledger (deque_len self.new.ready.handles)) }
+        ensures within { self.new.ledger.entries ≤ self.new.ledger.limit }
+        ensures few { deque_len self.new.ready.handles < 2 ^ 64 }
+        ensures stops { IfErr result (λ stop. Stops P.listing self.new.ledger stop) }
+    {
+        let went = match self.turn(graph, answers) {
+            // The table answers each call here.
+            Ok(Turn::Went) | Ok(Turn::Asks(_)) => Ok(()),
+            Ok(Turn::Rests) => self.rest(graph, answers),
+            Err(stop) => Err(stop),
+        };
+        self.ledger.is_whole();
+        let _ready = self.ready.len();
+        went
+    }
+
     /// The turn of a token: it moves until it is gone, waits, or has made its moves. Between two rounds that of a call which is due, if the table answers
     /// it here: else tokens that move on and on would starve it.
     pub(crate) fn turn(&mut self, graph: &Graph, answers: &Answers) -> Result<Turn, Stop>
         requires graph { graph.now ≡ P.listing }
         requires answers { answers.now.sites ≡ P.sites }
-
+        ensures turned { IfOk result (λ turn. HasTurned self.old.ledger (deque_len self.old.ready.handles) self.new.ledger (deque_len self.new.ready.handles) turn) }
         ensures stops { IfErr result (λ stop. Stops P.listing self.new.ledger stop) }
     {
         if self.is_between() {
             self.sweep();
-            if !self.asks
-                && let Some(number) = self.due_beyond(0)
-            {
-                self.answer_due(number)?;
+            if !self.asks && self.answer_due()? {
                 return Ok(Turn::Went);
             }
         }
@@ -197,7 +225,7 @@ impl<P: Naming> Desk<P> {
             };
             match self.step(graph, answers, slot, token)? {
                 Step::On(next) => slot = next,
-                Step::Done => return Ok(Turn::Went),
+                Step::Done | Step::Waits => return Ok(Turn::Went),
                 Step::Asks(number) => return Ok(Turn::Asks(number)),
             }
         }
@@ -206,7 +234,10 @@ impl<P: Naming> Desk<P> {
     }
 
     // Tokens that are gone wait no more before the one that has waited longest: many may go at once, and their turns would take all rounds.
-    fn sweep(&mut self) {
+    fn sweep(&mut self)
+        ensures same { self.new.ledger ≡ self.old.ledger }
+        ensures fewer { deque_len self.new.ready.handles ≤ deque_len self.old.ready.handles }
+    {
         for _ in 0..self.ready.len() {
             match self.ready.oldest() {
                 Some(handle) if !self.is_there(handle) => self.ready.drop_oldest(),
@@ -224,7 +255,8 @@ impl<P: Naming> Desk<P> {
     // The turn of the token in a slot comes.
     #[inline(always)]
     fn join_held(&mut self, slot: usize) -> Result<(), Stop>
-        ensures stops { IfErr result (λ stop. Stops P.listing self.new.ledger stop) }
+        ensures same { self.new.ledger ≡ self.old.ledger }
+        ensures memory { IfErr result (λ stop. stop ≡ Stop.Refused LedgerFault.Memory) }
     {
         match self.ledger.held(slot) {
             Some(token) => self.join(slot, token.serial),
@@ -244,13 +276,15 @@ impl<P: Naming> Desk<P> {
         requires graph { graph.now ≡ P.listing }
         requires answers { answers.now.sites ≡ P.sites }
         requires held { IsHeld self.old.ledger.slots slot token }
-
+        ensures moved { IfOk result (λ step. HasMoved self.old.ledger (deque_len self.old.ready.handles) self.new.ledger (deque_len self.new.ready.handles) step) }
+        ensures waits { IfOk result (λ step. step ≡ Step.Waits → IsProgram (definitions P.listing) (source P.listing) → is_wait (what_of (code P.listing) (definitions P.listing) self.old.ledger token) ≡ true) }
         ensures stops { IfErr result (λ stop. Stops P.listing self.new.ledger stop) }
     {
         // Room for a token that comes beside it, before anything changes.
         if self.ready.reserve().is_err() {
             return Err(Stop::Refused(LedgerFault::Memory));
         }
+        calls_fit(&self.ledger);
         match self
             .ledger
             .advance(graph, slot, token, &mut self.scopes, &mut self.cancelled)
@@ -274,7 +308,7 @@ impl<P: Naming> Desk<P> {
             Ok(Moved::Calls) => self.call(graph, answers, slot, token),
             Ok(Moved::Waits) => {
                 self.wait(graph, slot)?;
-                Ok(Step::Done)
+                Ok(Step::Waits)
             }
             Err(fault) => {
                 self.ledger.full_is_crowded();
@@ -287,7 +321,9 @@ impl<P: Naming> Desk<P> {
     // pruning, so that its group may be gone before the left side opens more.
     #[inline(always)]
     fn part(&mut self, left: usize, right: usize) -> Result<Step, Stop>
-        ensures stops { IfErr result (λ stop. Stops P.listing self.new.ledger stop) }
+        ensures same { self.new.ledger ≡ self.old.ledger }
+        ensures on { IfOk result (λ step. (slot : ℕ) × (step ≡ Step.On slot)) }
+        ensures memory { IfErr result (λ stop. stop ≡ Stop.Refused LedgerFault.Memory) }
     {
         if self.is_beside(left, right) {
             self.join_held(right)?;
@@ -322,7 +358,7 @@ impl<P: Naming> Desk<P> {
         requires answers { answers.now.sites ≡ P.sites }
         requires held { IsHeld self.old.ledger.slots slot token }
         requires calls { what_of (code P.listing) (definitions P.listing) self.old.ledger token ≡ What.Call }
-
+        ensures moved { IfOk result (λ step. Advances self.old.ledger self.new.ledger × (step ≡ Step.Waits → ⊥)) }
         ensures stops { IfErr result (λ stop. Stops P.listing self.new.ledger stop) }
     {
         if self.asks {
@@ -356,7 +392,8 @@ impl<P: Naming> Desk<P> {
 
     // A call is answered. Gives the slot of the token on its answer.
     fn answer(&mut self, call: Call, answer: Answer) -> Result<Option<usize>, Stop>
-        ensures stops { IfErr result (λ stop. Stops P.listing self.new.ledger stop) }
+        ensures advances { IfOk result (λ _. Advances self.old.ledger self.new.ledger) }
+        ensures stops { IfErr result (λ stop. Pends self.old.ledger call.number call → IsDueNow P.listing P.sites self.old.ledger call.number answer → Stops P.listing self.new.ledger stop) }
     {
         match self.ledger.returned(call.number, answer) {
             Ok(Some(slot)) => Ok(Some(slot)),
@@ -375,15 +412,20 @@ impl<P: Naming> Desk<P> {
     // The token in a slot waits for each of its cells.
     fn wait(&mut self, graph: &Graph, slot: usize) -> Result<(), Stop>
         requires graph { graph.now ≡ P.listing }
-
-        ensures stops { IfErr result (λ stop. Stops P.listing self.new.ledger stop) }
+        ensures same { self.new.ledger ≡ self.old.ledger }
+        ensures fewer { deque_len self.new.ready.handles ≤ deque_len self.old.ready.handles }
+        ensures memory { IfErr result (λ stop. stop ≡ Stop.Refused LedgerFault.Memory) }
     {
         let Some(token) = self.ledger.held(slot) else {
             return Ok(());
         };
-        self.ledger
+        if self
+            .ledger
             .park(graph, slot, token, &mut self.cells)
-            .map_err(Stop::Refused)?;
+            .is_err()
+        {
+            return Err(Stop::Refused(LedgerFault::Memory));
+        }
         for cell in &self.cells {
             let handle = Handle {
                 slot,
@@ -397,7 +439,8 @@ impl<P: Naming> Desk<P> {
     }
 
     fn wake(&mut self, cell: u64) -> Result<(), Stop>
-        ensures stops { IfErr result (λ stop. Stops P.listing self.new.ledger stop) }
+        ensures same { self.new.ledger ≡ self.old.ledger }
+        ensures memory { IfErr result (λ stop. stop ≡ Stop.Refused LedgerFault.Memory) }
     {
         match self.waiting.wake(cell, &mut self.ready) {
             Ok(()) => Ok(()),
@@ -408,6 +451,7 @@ impl<P: Naming> Desk<P> {
     // A group that has no members any more ends, and so do those round it.
     #[inline(always)]
     fn close(&mut self, group: u32) -> Result<(), Stop>
+        ensures goes { IfOk result (λ _. Goes self.old.ledger self.new.ledger) }
         ensures stops { IfErr result (λ stop. Stops P.listing self.new.ledger stop) }
     {
         if group == 0 || !self.ledger.is_empty(group) {
@@ -416,31 +460,36 @@ impl<P: Naming> Desk<P> {
         self.close_from(group)
     }
 
-    // The group ends if it has no members, and then so do those round it.
+    // The group ends if it is open and has no members, and then so do those round it.
     #[inline(never)]
     fn close_from(&mut self, group: u32) -> Result<(), Stop>
+        ensures goes { IfOk result (λ _. Goes self.old.ledger self.new.ledger) }
+        ensures advances { IfOk result (λ _. (g : Group) → IsGroup self.old.ledger group g → members (numbers_of self.old.ledger) self.old.ledger group ≡ 0 → Advances self.old.ledger self.new.ledger) }
         ensures stops { IfErr result (λ stop. Stops P.listing self.new.ledger stop) }
     {
-        let mut group = group;
+        let mut number = group;
         // Groups are nested at most so deep.
         for _nested in 0..MOST_GROUPS {
-            if group == 0 || !self.ledger.is_empty(group) {
+            if !self.ledger.is_empty(number) {
                 return Ok(());
             }
-            match self.ledger.halt(group) {
-                Ok(Halted::Lost(cell, parent)) => {
-                    self.wake(cell)?;
-                    group = parent;
-                }
-                Ok(Halted::Resumed(slot)) => {
-                    return self.join_held(slot);
-                }
-                Ok(Halted::Closed(parent)) => group = parent,
+            let halted = match self.ledger.halt(number) {
+                Ok(halted) => halted,
                 Err(HaltFault::Refused(fault)) => {
                     self.ledger.full_is_crowded();
                     return Err(Stop::Refused(fault));
                 }
-                Err(_) => return Err(Stop::Broken),
+                // The program's own group isn't open.
+                Err(HaltFault::Gone) => return Ok(()),
+                Err(HaltFault::Live) => unreachable!(),
+            };
+            match halted {
+                Halted::Lost(cell, parent) => {
+                    self.wake(cell)?;
+                    number = parent;
+                }
+                Halted::Resumed(slot) => return self.join_held(slot),
+                Halted::Closed(parent) => number = parent,
             }
         }
         Ok(())
@@ -460,7 +509,7 @@ impl<P: Naming> Desk<P> {
         requires answers { answers.now.sites ≡ P.sites }
         ensures played { IfOk result (λ p. IsPlayed P.listing answers.now keeps_text P.limit p.summary p.published.items p.text.items) }
         ensures range { IfErr result (λ fault. fault ≡ EngineFault.Range → ⊥) }
-        ensures full { IfErr result (λ fault. stop ≡ Stop.Refused LedgerFault.Full → Stops P.listing self.ledger stop → HasNames P.listing answers.now → fault ≡ EngineFault.Broken → ⊥) }
+        ensures sound { IfErr result (λ fault. fault ≡ EngineFault.Broken → Stops P.listing self.ledger stop → IsProgram (definitions P.listing) (source P.listing) → HasNames P.listing answers.now → ⊥) }
     {
         let end = self.end(program, graph, answers, stop)?;
         let alloc = self.alloc;
@@ -480,7 +529,7 @@ impl<P: Naming> Desk<P> {
         requires answers { answers.now.sites ≡ P.sites }
         ensures ended { IfOk result (λ end. HasEnded P.listing answers.now self.new.ledger end) }
         ensures range { IfErr result (λ fault. fault ≡ EngineFault.Range → ⊥) }
-        ensures full { IfErr result (λ _. stop ≡ Stop.Refused LedgerFault.Full → Stops P.listing self.old.ledger stop → ⊥) }
+        ensures sound { IfErr result (λ fault. fault ≡ EngineFault.Broken → Stops P.listing self.old.ledger stop → IsProgram (definitions P.listing) (source P.listing) → ⊥) }
     {
         match stop {
             Stop::Rests => self.rested(graph, answers),
@@ -498,6 +547,7 @@ impl<P: Naming> Desk<P> {
         requires answers { answers.now.sites ≡ P.sites }
         ensures ended { IfOk result (λ end. HasEnded P.listing answers.now self.new.ledger end) }
         ensures range { IfErr result (λ fault. fault ≡ EngineFault.Range → ⊥) }
+        ensures sound { IfErr result (λ _. Stops P.listing self.old.ledger Stop.Rests → ⊥) }
     {
         match self.ledger.next(graph) {
             Next::Quiet => Ok(End::Quiet),
@@ -511,7 +561,7 @@ impl<P: Naming> Desk<P> {
         requires answers { answers.now.sites ≡ P.sites }
         ensures ended { IfOk result (λ end. HasEnded P.listing answers.now self.new.ledger end) }
         ensures range { IfErr result (λ fault. fault ≡ EngineFault.Range → ⊥) }
-        ensures crowded { IfErr result (λ _. IsCrowded self.old.ledger.journal → ⊥) }
+        ensures sound { IfErr result (λ _. Stops P.listing self.old.ledger (Stop.Refused LedgerFault.Full) → ⊥) }
     {
         if is_crowded(self.ledger.journal()) {
             Ok(End::Full)
@@ -533,6 +583,7 @@ impl<P: Naming> Desk<P> {
         requires answers { answers.now.sites ≡ P.sites }
         ensures ended { IfOk result (λ end. HasEnded P.listing answers.now self.new.ledger end) }
         ensures range { IfErr result (λ fault. fault ≡ EngineFault.Range → ⊥) }
+        ensures sound { IfErr result (λ _. Stops P.listing self.old.ledger (Stop.Refused LedgerFault.Limit) → ⊥) }
     {
         let next = self.ledger.next(graph);
         if self.ledger.entries() < self.ledger.limit() {
@@ -554,37 +605,79 @@ impl<P: Naming> Desk<P> {
         }
     }
 
-    /// No token can move: an answer that is due, by the table, else a tick. It stops where nothing can come next.
-    pub(crate) fn rest(&mut self, graph: &Graph) -> Result<(), Stop>
+    /// No token's turn comes: an answer that is due, by the table, else a tick, else what the ledger finds. It stops where nothing can come next.
+    pub(crate) fn rest(&mut self, graph: &Graph, answers: &Answers) -> Result<(), Stop>
         requires graph { graph.now ≡ P.listing }
-
+        requires answers { answers.now.sites ≡ P.sites }
+        ensures advances { IfOk result (λ _. Advances self.old.ledger self.new.ledger) }
         ensures stops { IfErr result (λ stop. Stops P.listing self.new.ledger stop) }
     {
-        if let Some(number) = self.due_beyond(0) {
-            return self.answer_due(number);
+        if self.answer_due()? || self.pass_time(graph)? {
+            return Ok(());
         }
-        if self.pass_time(graph)? {
-            Ok(())
-        } else {
-            Err(Stop::Broken)
+        self.recover(graph, answers)
+    }
+
+    // Work is left of which no turn tells. No run has come here yet, but nothing else promises that whoever can move has a turn that comes.
+    #[inline(never)]
+    fn recover(&mut self, graph: &Graph, answers: &Answers) -> Result<(), Stop>
+        requires graph { graph.now ≡ P.listing }
+        requires answers { answers.now.sites ≡ P.sites }
+        requires due { NoneIsDue self.old.ledger }
+        requires work { IsAtWork P.listing self.old.ledger }
+        ensures advances { IfOk result (λ _. Advances self.old.ledger self.new.ledger) }
+        ensures stops { IfErr result (λ stop. Stops P.listing self.new.ledger stop) }
+    {
+        if let Some((slot, token)) = self.ledger.movable(graph) {
+            return self.set_going(graph, answers, slot, token);
+        }
+        match self.ledger.empty_group() {
+            Some(group) => self.close_from(group),
+            None => unreachable!(),
         }
     }
 
-    fn answer_due(&mut self, number: u64) -> Result<(), Stop>
+    // A token that doesn't wait moves, and its turn comes again.
+    fn set_going(
+        &mut self,
+        graph: &Graph,
+        answers: &Answers,
+        slot: usize,
+        token: Token,
+    ) -> Result<(), Stop>
+        requires graph { graph.now ≡ P.listing }
+        requires answers { answers.now.sites ≡ P.sites }
+        requires held { IsHeld self.old.ledger.slots slot token }
+        requires moves { is_wait (what_of (code P.listing) (definitions P.listing) self.old.ledger token) ≡ false }
+        ensures advances { IfOk result (λ _. Advances self.old.ledger self.new.ledger) }
         ensures stops { IfErr result (λ stop. Stops P.listing self.new.ledger stop) }
     {
-        let Some(call) = self.ledger.pending(number) else {
-            return Err(Stop::Broken);
+        match self.step(graph, answers, slot, token)? {
+            Step::On(next) => self.join_held(next),
+            Step::Done | Step::Asks(_) => Ok(()),
+            // In a program that the scope check took each call of a definition has its arguments.
+            Step::Waits => Err(Stop::Broken),
+        }
+    }
+
+    // The call that is due with the least number is answered, by the table. Whether there was one.
+    fn answer_due(&mut self) -> Result<bool, Stop>
+        ensures advances { IfOk result (λ answered. answered ≡ true → Advances self.old.ledger self.new.ledger) }
+        ensures none { IfOk result (λ answered. answered ≡ false → (self.new.ledger ≡ self.old.ledger) × NoneIsDue self.old.ledger) }
+        ensures fewer { IfOk result (λ answered. answered ≡ false → deque_len self.new.ready.handles ≤ deque_len self.old.ready.handles) }
+        ensures stops { IfErr result (λ stop. Stops P.listing self.new.ledger stop) }
+    {
+        let Some((call, answer)) = self.ledger.due() else {
+            return Ok(false);
         };
-        let Found::After(answer, _) = call.found else {
-            return Err(Stop::Broken);
-        };
-        self.answer_pending(call, answer)
+        self.answer_pending(call, answer)?;
+        Ok(true)
     }
 
     // A call is answered, and the turn of the token on its answer comes.
     fn answer_pending(&mut self, call: Call, answer: Answer) -> Result<(), Stop>
-        ensures stops { IfErr result (λ stop. Stops P.listing self.new.ledger stop) }
+        ensures advances { IfOk result (λ _. Advances self.old.ledger self.new.ledger) }
+        ensures stops { IfErr result (λ stop. Pends self.old.ledger call.number call → IsDueNow P.listing P.sites self.old.ledger call.number answer → Stops P.listing self.new.ledger stop) }
     {
         if let Some(slot) = self.answer(call, answer)? {
             self.join_held(slot)?;
@@ -596,7 +689,8 @@ impl<P: Naming> Desk<P> {
     /// nothing can come next.
     pub(crate) fn pass_time(&mut self, graph: &Graph) -> Result<bool, Stop>
         requires graph { graph.now ≡ P.listing }
-
+        ensures advances { IfOk result (λ passed. passed ≡ true → Advances self.old.ledger self.new.ledger) }
+        ensures work { IfOk result (λ passed. passed ≡ false → (self.new.ledger ≡ self.old.ledger) × IsAtWork P.listing self.old.ledger) }
         ensures stops { IfErr result (λ stop. Stops P.listing self.new.ledger stop) }
     {
         let next = self.ledger.next(graph);
@@ -659,9 +753,7 @@ impl<P: Naming> Desk<P> {
     }
 
     /// The call with this number was answered so, if it still pends.
-    pub(crate) fn answered(&mut self, number: u64, answer: Answer) -> Result<(), Stop>
-        ensures stops { IfErr result (λ stop. Stops P.listing self.new.ledger stop) }
-    {
+    pub(crate) fn answered(&mut self, number: u64, answer: Answer) -> Result<(), Stop> {
         match self.ledger.pending(number) {
             Some(call) => self.answer_pending(call, answer),
             None => Ok(()),
@@ -669,7 +761,8 @@ impl<P: Naming> Desk<P> {
     }
 
     fn note_cancelled(&mut self) -> Result<(), Stop>
-        ensures stops { IfErr result (λ stop. Stops P.listing self.new.ledger stop) }
+        ensures same { self.new.ledger ≡ self.old.ledger }
+        ensures memory { IfErr result (λ stop. stop ≡ Stop.Refused LedgerFault.Memory) }
     {
         if self.asks && self.gone.extend_from_slice(&self.cancelled).is_err() {
             return Err(Stop::Refused(LedgerFault::Memory));

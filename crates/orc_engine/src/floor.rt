@@ -188,7 +188,7 @@ impl<P: Naming, C: Drop> Floor<P, C> {
             match self.desk.turn(graph, answers) {
                 Ok(Turn::Went) => {}
                 Ok(Turn::Asks(number)) => return self.make(number),
-                Ok(Turn::Rests) => match self.rest(graph) {
+                Ok(Turn::Rests) => match self.rest(graph, answers) {
                     Errand::None => {}
                     errand => return errand,
                 },
@@ -210,11 +210,12 @@ impl<P: Naming, C: Drop> Floor<P, C> {
     }
 
     // No token's turn comes: a call that is due, else a tick.
-    fn rest(&mut self, graph: &Graph) -> Errand<C>
+    fn rest(&mut self, graph: &Graph, answers: &Answers) -> Errand<C>
         requires graph { graph.now ≡ P.listing }
+        requires answers { answers.now.sites ≡ P.sites }
     {
         if !self.desk.asks() {
-            if let Err(stop) = self.desk.rest(graph) {
+            if let Err(stop) = self.desk.rest(graph, answers) {
                 self.stop(stop);
             }
             return Errand::None;

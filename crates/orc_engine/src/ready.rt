@@ -1,5 +1,8 @@
 //! The tokens whose turn comes.
 
+ghost use Rattle.std.specs.Prelude.{◌≡◌, ◌≤◌, ◌+◌, MatchOption};
+ghost use Rattle.std.specs.VecDeque.{deque_len};
+
 use std::alloc::{AllocError, Global};
 use std::collections::VecDeque;
 
@@ -29,13 +32,17 @@ impl Ready {
         }
     }
 
-    pub(crate) fn len(&self) -> usize {
+    pub(crate) fn len(&self) -> usize
+        ensures { result ≡ deque_len self.now.handles }
+    {
         self.handles.len()
     }
 
     /// Makes room for one more. The error is refused memory.
     #[inline(always)]
-    pub(crate) fn reserve(&mut self) -> Result<(), AllocError> {
+    pub(crate) fn reserve(&mut self) -> Result<(), AllocError>
+        ensures { deque_len self.new.handles ≡ deque_len self.old.handles }
+    {
         self.handles.reserve(1)
     }
 
@@ -54,7 +61,9 @@ impl Ready {
     }
 
     /// The token that has waited longest waits no more.
-    pub(crate) fn drop_oldest(&mut self) {
+    pub(crate) fn drop_oldest(&mut self)
+        ensures { deque_len self.new.handles ≤ deque_len self.old.handles }
+    {
         let _gone = self.handles.pop_front();
     }
 
@@ -65,7 +74,9 @@ impl Ready {
 
     /// Takes the token whose turn it is.
     #[inline(always)]
-    pub(crate) fn take(&mut self) -> Option<Handle> {
+    pub(crate) fn take(&mut self) -> Option<Handle>
+        ensures { MatchOption result (deque_len self.new.handles ≤ deque_len self.old.handles) (λ _. deque_len self.new.handles + 1 ≡ deque_len self.old.handles) }
+    {
         self.turns = self.turns.wrapping_add(1);
         if self.turns % ROUND == 0 {
             self.handles.pop_front()

@@ -1,5 +1,6 @@
 -- A walk over a list that looks for one item of some weight.
-use Rattle.std.proofs.Common.{◌≡◌, ◌≤◌, ◌<◌, ◌+◌, ℕ, List, [], ◌∷◌, length, take, get_or, ap, ◌∙◌, arith}
+use Rattle.std.proofs.Common.{◌≡◌, ◌≤◌, ◌<◌, ◌+◌, ℕ, List, [], ◌∷◌, length, take, get_or, ap, ◌∙◌, arith, true, Option, Some, None}
+use Rattle.std.specs.Option.{MatchOption, is_some}
 use Rattle.std.proofs.lemmas.List.{take_more, take_all}
 use Rattle.orc_tables.specs.Same.{weight}
 use Rattle.orc_tables.proofs.Weight.{weight-append, weight-in, in-got}
@@ -12,3 +13,8 @@ none-at-all w xs i past before = omega (arith, before, ap (weight w) (take_all i
 
 pub one-there : {X : Type 0} (w : X → ℕ) (xs : List X) (i : ℕ) (d : X) → i < length xs → w (get_or xs i d) ≡ 1 → 1 ≤ weight w xs
 one-there w xs i d lt this = omega (arith, this, weight-in w xs (get_or xs i d) (in-got xs i d lt))
+
+-- what such a walk has found
+pub the-found : {X : Type 0} (none : Type 0) (some : X → Type 0) (o : Option X) → MatchOption o none some → is_some o ≡ true → (x : X) × some x
+the-found none some (Some x) h e = (x, h)
+the-found none some None h e = cc e

@@ -3,7 +3,8 @@ use Rattle.std.specs.Prelude.{◌≡◌, ◌+◌, ◌≤◌, ℕ, List, [], ◌�
 use Rattle.orc_rules.specs.declared.value.Value.{Value}
 use Rattle.orc_rules.specs.declared.entry.Entry.TheVariants as entry
 use Rattle.orc_rules.specs.Term.{Term, call, par, seq, prune, other}
-use Rattle.orc_rules.specs.Nodes.{Listing, code, definitions, param_of}
+use Rattle.orc_rules.specs.Nodes.{Listing, code, source, definitions, param_of}
+use Rattle.orc_rules.specs.Program.{IsProgram}
 use Rattle.orc_names.specs.declared.names.Bound.TheVariants as bound
 use Rattle.orc_names.specs.Scopes.{close, without}
 use Rattle.orc_paths.specs.Spelling.{feeding}
@@ -150,3 +151,7 @@ Hinders s t _ fault = IsRefused s 0 0 0 fault
 
 abbrev pub IsHindered : Listing → Records → Token → LedgerFault → Type 0
 IsHindered l s t fault = Hinders s t (what_of (code l) (definitions l) s t) fault
+
+-- in a program with a closed term and closed bodies the operands of a definition's call fit
+abbrev pub CallsFit : Listing → Records → Type 0
+CallsFit l s = IsProgram (definitions l) (source l) → (slot : ℕ) (t : Token) (s' : Records) → IsHeld s.slots slot t → what_of (code l) (definitions l) s t ≡ Def → Misfits l s slot t s' → ⊥

@@ -44,9 +44,13 @@ abbrev pub is_empty : ℕ → ℕ
 is_empty zero = 1
 is_empty (suc k) = 0
 
+-- how many open groups have nobody
+abbrev pub empty_groups : Numbers → Records → ℕ
+empty_groups n s = weight (λ (g : Group). is_empty (members n s (n.number g))) s.groups
+
 -- how many groups, the root too, have nobody
 abbrev pub open_empty : Numbers → Records → ℕ
-open_empty n s = is_empty (members n s 0) + weight (λ (g : Group). is_empty (members n s (n.number g))) s.groups
+open_empty n s = is_empty (members n s 0) + empty_groups n s
 
 -- the side is the one that the step enters
 abbrev pub IsSide : Entered → Side → Type 0

@@ -1,6 +1,7 @@
 //! Laws of a ledger's records: each function's contract is the law. They tie what a token does next, and what comes next, to the rules.
 
 ghost use Rattle.orc_ledger.specs.Laws.{WordIsOffered, WaitIsStill, WordIsAllowed, NoneIsLost, NextTicks, NextIsQuiet, WorkHasCause, WorkIsAllowed, TickIsNext, QuietIsNext, RootHasHalted};
+ghost use Rattle.orc_ledger.specs.Moves.{CallsFit};
 ghost use Rattle.orc_ledger.specs.Offered.{NothingIsLost};
 
 use crate::ledger::{Ledger, Program};
@@ -72,6 +73,14 @@ pub fn root_has_halted()
 /// And where the run is quiet by the rules, `next` says that, with the same exceptions.
 pub fn offered<P: Program>(ledger: &Ledger<P>)
     ensures { NothingIsLost P.listing P.sites ledger.now }
+{
+    let _journal = &ledger.journal;
+}
+
+/// In a program that the scope check took each call of a definition that a token makes has its arguments. So [`Ledger::advance`] leaves no token as it
+/// is but those that wait or call a site.
+pub fn calls_fit<P: Program>(ledger: &Ledger<P>)
+    ensures { CallsFit P.listing ledger.now }
 {
     let _journal = &ledger.journal;
 }

@@ -22,8 +22,8 @@ pub use at_once::Called;
 pub use calls::ReturnFault;
 pub use halting::{HaltFault, Halted};
 pub use laws::{
-    next_is_quiet, next_ticks, none_is_lost, offered, quiet_is_next, root_has_halted, tick_is_next,
-    wait_is_still, word_is_allowed, word_is_offered, work_has_cause, work_is_allowed,
+    calls_fit, next_is_quiet, next_ticks, none_is_lost, offered, quiet_is_next, root_has_halted,
+    tick_is_next, wait_is_still, word_is_allowed, word_is_offered, work_has_cause, work_is_allowed,
 };
 pub use ledger::{Ledger, LedgerFault, Program};
 pub use moves::Moved;

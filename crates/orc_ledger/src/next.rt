@@ -1,10 +1,14 @@
 //! What comes next where no token is at hand.
 
-ghost use Rattle.std.specs.Prelude.{◌≡◌, ◌≤◌, ◌↔◌, true, false};
+ghost use Rattle.std.specs.Prelude.{◌≡◌, ◌≤◌, ◌↔◌, true, false, MatchOption};
 ghost use Rattle.orc_rules.specs.Nodes.{code, definitions};
+ghost use Rattle.orc_paths.specs.Doing.{is_wait};
 ghost use Rattle.orc_tables.specs.Same.{only};
-ghost use Rattle.orc_tables.specs.Tokens.{is_live};
-ghost use Rattle.orc_ledger.specs.Next.{numbers_of, ready, ready_one, open_empty, members, next_of};
+ghost use Rattle.orc_tables.specs.Tokens.{is_live, IsHeld};
+ghost use Rattle.orc_tables.specs.declared.records.Group.{Group as Its};
+ghost use Rattle.orc_ledger.specs.Doing.{what_of};
+ghost use Rattle.orc_ledger.specs.Halting.{IsGroup};
+ghost use Rattle.orc_ledger.specs.Next.{numbers_of, ready, ready_one, empty_groups, open_empty, members, next_of};
 ghost use Rattle.orc_ledger.specs.Spoken.{spoken, IsRight};
 
 use crate::ledger::{Ledger, Program};
@@ -24,7 +28,8 @@ impl<P: Program> Ledger<P> {
     // Whether a slot holds a token that doesn't wait.
     fn can_move(&self, graph: &Graph, slot: &Token) -> bool
         requires { graph.now ≡ P.listing }
-        ensures some { result ≡ true → only is_live (ready_one (code P.listing) (definitions P.listing) self.now) slot.now ≡ 1 }
+        ensures held { result ≡ true → 1 ≤ slot.now.serial }
+        ensures moves { result ≡ true → is_wait (what_of (code P.listing) (definitions P.listing) self.now slot.now) ≡ false }
         ensures none { result ≡ false → only is_live (ready_one (code P.listing) (definitions P.listing) self.now) slot.now ≡ 0 }
     {
         if slot.serial == 0 {
@@ -36,21 +41,30 @@ impl<P: Program> Ledger<P> {
         }
     }
 
+    /// A token that doesn't wait, with its slot. It looks at one after another, and at none where all are parked.
+    pub fn movable(&self, graph: &Graph) -> Option<(usize, Token)>
+        requires { graph.now ≡ P.listing }
+        ensures { MatchOption result (ready (code P.listing) (definitions P.listing) self.now ≡ 0) (λ m. IsHeld self.now.slots m.0 m.1 × (is_wait (what_of (code P.listing) (definitions P.listing) self.now m.1) ≡ false)) }
+    {
+        if self.tokens.all_wait() {
+            return None;
+        }
+        for (slot, token) in self.tokens.slots().iter().enumerate() {
+            if self.can_move(graph, token) {
+                return Some((slot, *token));
+            }
+        }
+        None
+    }
+
     // Whether some token doesn't wait.
     fn any_moves(&self, graph: &Graph) -> bool
         requires { graph.now ≡ P.listing }
         ensures some { result ≡ true → 1 ≤ ready (code P.listing) (definitions P.listing) self.now }
         ensures none { result ≡ false → ready (code P.listing) (definitions P.listing) self.now ≡ 0 }
     {
-        if self.tokens.all_wait() {
-            return false;
-        }
-        for slot in self.tokens.slots() {
-            if self.can_move(graph, slot) {
-                return true;
-            }
-        }
-        false
+        let _tokens = &self.tokens;
+        self.movable(graph).is_some()
     }
 
     /// How many tokens, pending calls and open groups are in the group of that number: its live count. That of the program is 0; where no group has
@@ -68,20 +82,24 @@ impl<P: Program> Ledger<P> {
         self.member_count(number) == 0
     }
 
+    /// The number of an open group in which nobody is. The program's own isn't among them.
+    pub fn empty_group(&self) -> Option<u32>
+        ensures { MatchOption result (empty_groups (numbers_of self.now) self.now ≡ 0) (λ number. (members (numbers_of self.now) self.now number ≡ 0) × ((g : Its) × IsGroup self.now number g)) }
+    {
+        for group in self.groups.items() {
+            if self.is_empty(group.number) {
+                return Some(group.number);
+            }
+        }
+        None
+    }
+
     // Whether the program's own group or an open one has no members.
     fn any_empty(&self) -> bool
         ensures some { result ≡ true → 1 ≤ open_empty (numbers_of self.now) self.now }
         ensures none { result ≡ false → open_empty (numbers_of self.now) self.now ≡ 0 }
     {
-        if self.is_empty(0) {
-            return true;
-        }
-        for group in self.groups.items() {
-            if self.is_empty(group.number) {
-                return true;
-            }
-        }
-        false
+        self.is_empty(0) || self.empty_group().is_some()
     }
 
     // What comes next, as an equation alone.

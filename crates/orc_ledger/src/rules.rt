@@ -1,6 +1,6 @@
 //! What the rules say of a run's end: whether a token can use one, and whether the term has halted.
 
-ghost use Rattle.std.specs.Prelude.{◌≡◌, ◌≤◌, true};
+ghost use Rattle.std.specs.Prelude.{◌≡◌, ◌≤◌, ◌↔◌, true};
 ghost use Rattle.orc_rules.specs.Nodes.{code, definitions};
 ghost use Rattle.orc_rules.specs.Term.{Halted};
 ghost use Rattle.orc_rules.specs.Marked.{erase};
@@ -9,6 +9,7 @@ ghost use Rattle.orc_rules.specs.Journal.{Place, moment};
 ghost use Rattle.orc_ledger.specs.Records.{context};
 ghost use Rattle.orc_ledger.specs.Answers.{IsAt};
 ghost use Rattle.orc_ledger.specs.Doing.{what_of};
+ghost use Rattle.orc_ledger.specs.Next.{members, numbers_of};
 ghost use Rattle.orc_ledger.specs.Whole.{is_rule};
 
 use crate::ledger::{Ledger, Program};
@@ -53,7 +54,8 @@ impl<P: Program> Ledger<P> {
 
     /// Whether the program's own group has no members. The term has halted then, by the rules.
     pub fn has_halted(&self) -> bool
-        ensures { result ≡ true → (p : Place) → IsAt P.listing P.sites self.now p → Halted (erase p.marked) }
+        ensures empty { result ≡ true ↔ (members (numbers_of self.now) self.now 0 ≡ 0) }
+        ensures halted { result ≡ true → (p : Place) → IsAt P.listing P.sites self.now p → Halted (erase p.marked) }
     {
         let _time = &self.time;
         self.is_empty(0)

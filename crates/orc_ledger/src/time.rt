@@ -1,13 +1,17 @@
 //! Time: which calls are due, and ticks.
 
-ghost use Rattle.std.specs.Prelude.{◌≡◌, ◌+◌, ◌++◌, ◌∷◌, [], ℕ, MatchOption, IfErr, OnOk, OnErr};
+ghost use Rattle.std.specs.Prelude.{◌≡◌, ◌≤◌, ◌+◌, ◌++◌, ◌∷◌, [], ℕ, Some, MatchOption, IfErr, OnOk, OnErr};
+ghost use Rattle.orc_rules.specs.Timed.{IsIn};
 ghost use Rattle.orc_rules.specs.declared.entry.Entry.TheVariants.{Tick};
-ghost use Rattle.orc_tables.specs.PendingCalls.{next_due};
+ghost use Rattle.orc_tables.specs.PendingCalls.{due_of, next_due};
 ghost use Rattle.orc_tables.specs.PendingCalls.{IsDueBeyond, IsLeastBeyond};
-ghost use Rattle.orc_ledger.specs.Answers.{MayTick, IsStopped};
+ghost use Rattle.orc_tables.specs.declared.records.Call.{Call as Its};
+ghost use Rattle.orc_ledger.specs.Answers.{IsDueNow, MayTick, IsStopped, Pends};
 
 use crate::ledger::{Ledger, LedgerFault, Program, write};
 use orc_rules::entry::Entry;
+use orc_rules::value::{Answer, Found};
+use orc_tables::Call;
 
 impl<P: Program> Ledger<P> {
     /// The least number over this one of a pending call that is due now.
@@ -16,6 +20,24 @@ impl<P: Program> Ledger<P> {
         ensures same { self.new ≡ self.old }
     {
         self.calls.due_beyond(self.time, number)
+    }
+
+    /// The call with the least number of those that are due now, and the answer that the table gives. Where there is none no call is overdue either.
+    pub fn due(&mut self) -> Option<(Call, Answer)>
+        ensures due { MatchOption result ((c : Its) (t : ℕ) → IsIn c self.old.calls → due_of c ≡ Some t → t ≤ self.old.now → ⊥) (λ d. Pends self.old d.0.number d.0 × IsDueNow P.listing P.sites self.old d.0.number d.1) }
+        ensures same { self.new ≡ self.old }
+    {
+        let _time = &self.time;
+        let Some(number) = self.due_beyond(0) else {
+            return None;
+        };
+        let Some(call) = self.pending(number) else {
+            unreachable!()
+        };
+        let Found::After(answer, _) = call.found else {
+            unreachable!()
+        };
+        Some((call, answer))
     }
 
     /// The least due time of the pending calls.

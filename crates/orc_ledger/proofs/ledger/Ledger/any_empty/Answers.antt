@@ -1,41 +1,16 @@
-use Rattle.std.proofs.Common.{◌≡◌, ◌<◌, ◌≤◌, ℕ, zero, suc, List, length, arith, ap, sym, refl, ◌∙◌, Bool, true, false}
-use Rattle.orc_tables.specs.Same.{weight}
+use Rattle.std.proofs.Common.{◌≡◌, ℕ, arith, ap, sym, ◌∙◌}
+use Rattle.orc_tables.proofs.Weight.{weight-in}
+use Rattle.orc_tables.specs.declared.records.Group.{Group}
 use Rattle.orc_ledger.specs.Records.{Records}
 use Rattle.orc_ledger.specs.Next.{numbers_of, members, is_empty}
-use Rattle.orc_tables.specs.declared.records.Group.{Group}
-use Rattle.orc_ledger.proofs.Scans.{one-there, none-so-far, none-at-all}
+use Rattle.orc_ledger.proofs.Scans.{the-found}
 use Rattle.orc_ledger.proofs.ledger.Ledger.any_empty.Goals as goal
 
-full : (k : ℕ) → (k ≡ 0 → ⊥) → is_empty k ≡ 0
-full zero h = absurd (h refl)
-full (suc k) h = refl
-
-not_both : {b : Bool} → b ≡ true → b ≡ false → ⊥
-not_both is off = cc (sym is ∙ off)
-
-pub returns-then-is_empty-2-clause-some : goal.returns-then-is_empty-2-clause-some
-returns-then-is_empty-2-clause-some g c e =
+-- the group that is found is counted
+pub returns-else-is_empty-clause-some : goal.returns-else-is_empty-clause-some
+returns-else-is_empty-clause-some g c e =
     let s : Records = c.args.self.now in
     let w : Group → ℕ = λ h. is_empty (members (numbers_of s) s h.number) in
-    let xs : List Group = c.deref-group-items.result.now in
-    let lt : c.loop-group.group-index < length xs = c.loop-group-test.true in
-    let groups : xs ≡ s.groups = c.deref-group-items.ensures.value ∙ c.items.ensures ∙ ap (λ (z : Records). z.groups) c.self.view_is in
-    let there : 1 ≤ weight w xs = one-there w xs c.loop-group.group-index _ lt (ap is_empty (c.is_empty-in-loop-group.ensures.0 c.if-is_empty-2.true)) in
-    omega (arith, there, ap (weight w) groups)
-
-pub loop-group-preserved : goal.loop-group-preserved
-loop-group-preserved g c =
-    let s : Records = c.args.self.now in
-    let w : Group → ℕ = λ h. is_empty (members (numbers_of s) s h.number) in
-    let xs : List Group = c.deref-group-items.result.now in
-    none-so-far w xs c.loop-group.group-index _ c.loop-group-test.true c.loop-group.invariant (full _ (λ e. not_both (c.is_empty-in-loop-group.ensures.1 e) c.if-is_empty-2.false))
-
-pub returns-clause-none : goal.returns-clause-none
-returns-clause-none g c e =
-    let s : Records = c.args.self.now in
-    let w : Group → ℕ = λ h. is_empty (members (numbers_of s) s h.number) in
-    let xs : List Group = c.deref-group-items.result.now in
-    let groups : xs ≡ s.groups = c.deref-group-items.ensures.value ∙ c.items.ensures ∙ ap (λ (z : Records). z.groups) c.self.view_is in
-    let none : weight w xs ≡ 0 = none-at-all w xs c.loop-group.group-index c.loop-group-test.false c.loop-group.invariant in
-    let root : is_empty (members (numbers_of s) s 0) ≡ 0 = full (members (numbers_of s) s 0) (λ e. not_both (c.is_empty.ensures.1 e) c.if-is_empty.false) in
-    omega (arith, none, root, ap (weight w) groups)
+    let f = the-found _ _ c.empty_group.result c.empty_group.ensures (sym c.is_some.ensures ∙ e) in
+    let one : w f.1.1.0 ≡ 1 = ap (λ n. is_empty (members (numbers_of s) s n)) f.1.1.1.1 ∙ ap is_empty f.1.0 in
+    omega (arith, weight-in w s.groups f.1.1.0 f.1.1.1.0, one)

@@ -10,8 +10,8 @@ use Rattle.orc_ledger.proofs.Keeping.{journal_one}
 use Rattle.orc_ledger.proofs.Ended.{root-halted}
 use Rattle.orc_ledger.proofs.ledger.Ledger.has_halted.Goals as goal
 
-pub returns : goal.returns
-returns g c e p at =
+pub returns-clause-halted : goal.returns-clause-halted
+returns-clause-halted g c e p at =
     let l = g.P.Program.listing in
     let sites = g.P.Program.sites in
     let s : Records = c.args.self.now in

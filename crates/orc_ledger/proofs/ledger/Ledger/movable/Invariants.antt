@@ -3,7 +3,7 @@ use Rattle.orc_rules.specs.Nodes.{code, definitions}
 use Rattle.orc_tables.specs.Same.{weight, only}
 use Rattle.orc_tables.specs.Tokens.{is_live}
 use Rattle.orc_ledger.specs.Next.{ready_one}
-use Rattle.orc_ledger.proofs.ledger.Ledger.any_moves.Given as goal
+use Rattle.orc_ledger.proofs.ledger.Ledger.movable.Given as goal
 
 abbrev pub invariant-loop-slot : goal.invariant-loop-slot
-invariant-loop-slot g l = weight (only is_live (ready_one (code g.P.Program.listing) (definitions g.P.Program.listing) l.self)) (take l.slot-index l.slot-items) ≡ 0
+invariant-loop-slot g l = weight (only is_live (ready_one (code g.P.Program.listing) (definitions g.P.Program.listing) l.self)) (take l.slot l.token-items) ≡ 0
