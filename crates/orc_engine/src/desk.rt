@@ -172,7 +172,6 @@ impl<P: Naming> Desk<P> {
     pub(crate) fn turn(&mut self, graph: &Graph, answers: &Answers) -> Result<Turn, Stop>
         requires graph { graph.now ≡ P.listing }
         requires answers { answers.now.sites ≡ P.sites }
-
         ensures stops { IfErr result (λ stop. Stops P.listing self.new.ledger stop) }
     {
         if self.is_between() {
@@ -244,7 +243,6 @@ impl<P: Naming> Desk<P> {
         requires graph { graph.now ≡ P.listing }
         requires answers { answers.now.sites ≡ P.sites }
         requires held { IsHeld self.old.ledger.slots slot token }
-
         ensures stops { IfErr result (λ stop. Stops P.listing self.new.ledger stop) }
     {
         // Room for a token that comes beside it, before anything changes.
@@ -322,7 +320,6 @@ impl<P: Naming> Desk<P> {
         requires answers { answers.now.sites ≡ P.sites }
         requires held { IsHeld self.old.ledger.slots slot token }
         requires calls { what_of (code P.listing) (definitions P.listing) self.old.ledger token ≡ What.Call }
-
         ensures stops { IfErr result (λ stop. Stops P.listing self.new.ledger stop) }
     {
         if self.asks {
@@ -375,7 +372,6 @@ impl<P: Naming> Desk<P> {
     // The token in a slot waits for each of its cells.
     fn wait(&mut self, graph: &Graph, slot: usize) -> Result<(), Stop>
         requires graph { graph.now ≡ P.listing }
-
         ensures stops { IfErr result (λ stop. Stops P.listing self.new.ledger stop) }
     {
         let Some(token) = self.ledger.held(slot) else {
@@ -557,7 +553,6 @@ impl<P: Naming> Desk<P> {
     /// No token can move: an answer that is due, by the table, else a tick. It stops where nothing can come next.
     pub(crate) fn rest(&mut self, graph: &Graph) -> Result<(), Stop>
         requires graph { graph.now ≡ P.listing }
-
         ensures stops { IfErr result (λ stop. Stops P.listing self.new.ledger stop) }
     {
         if let Some(number) = self.due_beyond(0) {
@@ -596,7 +591,6 @@ impl<P: Naming> Desk<P> {
     /// nothing can come next.
     pub(crate) fn pass_time(&mut self, graph: &Graph) -> Result<bool, Stop>
         requires graph { graph.now ≡ P.listing }
-
         ensures stops { IfErr result (λ stop. Stops P.listing self.new.ledger stop) }
     {
         let next = self.ledger.next(graph);

@@ -1,4 +1,4 @@
-use Rattle.std.proofs.Common.{◌≡◌, sym, subst}
+use Rattle.std.proofs.Common.{sym, subst}
 use Rattle.orc_ledger.specs.Halting.{IsHinderedAt}
 use Rattle.orc_ledger.specs.declared.halting.HaltFault.TheVariants.{Refused}
 use Rattle.orc_engine.proofs.Full.{refused-so}
