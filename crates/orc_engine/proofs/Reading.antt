@@ -7,7 +7,8 @@ use Rattle.orc_rules.specs.Sites.{Table}
 use Rattle.orc_rules.specs.Journal.{Journal, begin}
 use Rattle.orc_journal.proofs.Composing.{take_one}
 use Rattle.orc_checker.specs.Checker.{State, Applies}
-use Rattle.orc_outcome.specs.Outcome.{context, total}
+use Rattle.orc_journal.specs.Sizes.{total}
+use Rattle.orc_outcome.specs.Outcome.{context}
 use Rattle.orc_ledger.proofs.Binding.{journal_more}
 use Rattle.orc_engine.specs.Ends.{IsSpelt}
 

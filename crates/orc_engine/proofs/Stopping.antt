@@ -21,6 +21,7 @@ use Rattle.orc_tables.specs.declared.records.Token.{Token}
 use Rattle.orc_tables.proofs.Ripe.{next_some}
 use Rattle.orc_ledger.specs.Records.{Records}
 use Rattle.orc_ledger.specs.Answers.{IsDueNow, IsReturned, IsStopped, IsUnanswered, Pends}
+use Rattle.orc_ledger.specs.Brought.{FullIsCrowded}
 use Rattle.orc_ledger.specs.Calls.{IsRefused}
 use Rattle.orc_ledger.specs.Halting.{HasHalted, Becomes, IsRefusedAt, IsHinderedAt}
 use Rattle.orc_ledger.specs.Moves.{Hinders, IsHindered}
@@ -31,6 +32,7 @@ use Rattle.orc_ledger.specs.declared.calls.ReturnFault.{ReturnFault}
 use Rattle.orc_ledger.specs.declared.calls.ReturnFault.TheVariants as return_
 use Rattle.orc_ledger.specs.declared.halting.Halted.{Halted}
 use Rattle.orc_ledger.specs.declared.halting.Halted.TheVariants.{Lost, Resumed, Closed}
+use Rattle.orc_ledger.specs.declared.halting.HaltFault.TheVariants.{Refused}
 use Rattle.orc_ledger.specs.declared.ledger.LedgerFault.{LedgerFault}
 use Rattle.orc_ledger.specs.declared.ledger.LedgerFault.TheVariants as fault
 use Rattle.orc_ledger.proofs.Owed.{not-none}
@@ -41,42 +43,52 @@ use Rattle.orc_engine.proofs.Further.{exchanged, dropped, resumed, closed}
 
 -- ---- what the ledger refuses
 
-pub refused : (l : Listing) (s : Records) (tokens groups depth : ℕ) (f : LedgerFault) → IsRefused s tokens groups depth f → Stops l s (stop.Refused f)
-refused l s tokens groups depth fault.Full h = (tokens, groups, depth, h)
-refused l s tokens groups depth fault.Limit h = h.1
-refused l s tokens groups depth fault.Memory h = tt
+limited_by : (s : Records) (t : Token) (w : What) → Hinders s t w fault.Limit → s.limit ≤ s.entries
+limited_by s t Halt h = h.1
+limited_by s t Fork h = h.1
+limited_by s t Seq h = h.1
+limited_by s t Prune h = h.1
+limited_by s t Other h = h.1
+limited_by s t Def h = h.1
+limited_by s t Void h = h.1
+limited_by s t (Publish v) h = h.1
+limited_by s t (Send v) h = h.1
+limited_by s t (Bind c v) h = h.1
+limited_by s t Call h = absurd h
+limited_by s t (Wait c) h = absurd h
 
-hindered_by : (l : Listing) (s : Records) (t : Token) (w : What) (f : LedgerFault) → Hinders s t w f → Stops l s (stop.Refused f)
-hindered_by l s t Halt f h = refused l s 0 0 0 f h
-hindered_by l s t Fork f h = refused l s 1 0 0 f h
-hindered_by l s t Seq f h = refused l s 0 0 (depth_at s.steps t.step + 1) f h
-hindered_by l s t Prune f h = refused l s 1 1 0 f h
-hindered_by l s t Other f h = refused l s 0 1 0 f h
-hindered_by l s t Def f h = refused l s 0 0 0 f h
-hindered_by l s t Void f h = refused l s 0 0 0 f h
-hindered_by l s t (Publish v) f h = refused l s 0 0 0 f h
-hindered_by l s t (Send v) f h = refused l s 0 0 0 f h
-hindered_by l s t (Bind c v) f h = refused l s 0 0 0 f h
-hindered_by l s t Call f h = absurd h
-hindered_by l s t (Wait c) f h = absurd h
+pub hindered : (l : Listing) (s s' : Records) (t : Token) (f : LedgerFault) → s' ≡ s → FullIsCrowded l s' → IsHindered l s t f → Stops l s' (stop.Refused f)
+hindered l s s' t f same law h = go f (subst (λ z. IsHindered l z t f) (sym same) h)
+  where
+    go : (f : LedgerFault) → IsHindered l s' t f → Stops l s' (stop.Refused f)
+    go fault.Full k = law.moves t k
+    go fault.Limit k = limited_by s' t (what_of (code l) (definitions l) s' t) k
+    go fault.Memory k = tt
 
-pub hindered : (l : Listing) (s s' : Records) (t : Token) (f : LedgerFault) → s' ≡ s → IsHindered l s t f → Stops l s' (stop.Refused f)
-hindered l s s' t f same h = subst (λ z. Stops l z (stop.Refused f)) (sym same) (hindered_by l s t (what_of (code l) (definitions l) s t) f h)
+limited_at : (s : Records) (side : Side) → IsRefusedAt s side fault.Limit → s.limit ≤ s.entries
+limited_at s (Right c) h = h.1
+limited_at s (Left n node scope) h = h.2
 
-refused_at : (l : Listing) (s : Records) (side : Side) (f : LedgerFault) → IsRefusedAt s side f → Stops l s (stop.Refused f)
-refused_at l s (Right c) f h = refused l s 0 0 0 f h
-refused_at l s (Left n node scope) f h = refused l s 1 0 0 f h.1
-
-pub unhalted : (l : Listing) (s s' : Records) (f : LedgerFault) (g : Group) → s' ≡ s → IsRefusedAt s g.side f → Stops l s' (stop.Refused f)
-unhalted l s s' f g same h = subst (λ z. Stops l z (stop.Refused f)) (sym same) (refused_at l s g.side f h)
+pub unhalted : (l : Listing) (s s' : Records) (number : ℕ) (f : LedgerFault) → s' ≡ s → FullIsCrowded l s' → IsHinderedAt s number (Refused f) → Stops l s' (stop.Refused f)
+unhalted l s s' number f same law h = go f (subst (λ z. IsHinderedAt z number (Refused f)) (sym same) h)
+  where
+    go : (f : LedgerFault) → IsHinderedAt s' number (Refused f) → Stops l s' (stop.Refused f)
+    go fault.Full k = law.halts number k
+    go fault.Limit k = limited_at s' k.0.side k.3
+    go fault.Memory k = tt
 
 pub stopped : (l : Listing) (s s' : Records) (f : LedgerFault) → s' ≡ s → IsStopped s f → Stops l s' (stop.Refused f)
 stopped l s s' fault.Full same h = absurd h
 stopped l s s' fault.Limit same h = subst (λ z. Stops l z (stop.Refused fault.Limit)) (sym same) h
 stopped l s s' fault.Memory same h = tt
 
-pub refused-so : (l : Listing) (s s' : Records) (tokens groups depth : ℕ) (f : LedgerFault) → s' ≡ s → IsRefused s tokens groups depth f → Stops l s' (stop.Refused f)
-refused-so l s s' tokens groups depth f same h = subst (λ z. Stops l z (stop.Refused f)) (sym same) (refused l s tokens groups depth f h)
+pub refused-so : (l : Listing) (s s' : Records) (f : LedgerFault) → s' ≡ s → FullIsCrowded l s' → IsRefused s 0 0 0 f → Stops l s' (stop.Refused f)
+refused-so l s s' f same law h = go f (subst (λ z. IsRefused z 0 0 0 f) (sym same) h)
+  where
+    go : (f : LedgerFault) → IsRefused s' 0 0 0 f → Stops l s' (stop.Refused f)
+    go fault.Full k = law.calls k
+    go fault.Limit k = k.1
+    go fault.Memory k = tt
 
 pub no-memory : (l : Listing) (s : Records) (r : Stop) → r ≡ stop.Refused fault.Memory → Stops l s r
 no-memory l s r is = subst (Stops l s) (sym is) tt

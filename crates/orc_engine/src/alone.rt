@@ -2,6 +2,9 @@
 
 ghost use Rattle.std.specs.Prelude.{◌≡◌, ◌≤◌, ◌↔◌, Err, IfOk, IfErr};
 ghost use Rattle.orc_rules.specs.declared.limits.TheConstants.{MOST_ENTRIES};
+ghost use Rattle.orc_rules.specs.Named.{HasNames};
+ghost use Rattle.orc_rules.specs.Nodes.{definitions, source};
+ghost use Rattle.orc_rules.specs.Program.{IsProgram};
 ghost use Rattle.orc_outcome.specs.Outcome.{IsPlayed};
 ghost use Rattle.orc_engine.specs.Ranges.{IsInRange};
 ghost use Rattle.orc_engine.specs.Stops.{Stops};
@@ -21,7 +24,7 @@ use std::marker::Brand;
 /// counted. The cancels of a bind follow it at once. The journal's text is kept where `keeps_text`.
 ///
 /// The fault is Range where the limit is 0 or over `MOST_ENTRIES`, and then alone; Memory where memory was refused before the run began, or for
-/// what is told of it; or Broken where the engine finds nothing to do though something is left.
+/// what is told of it; or Broken, but not for a program that the scope check takes with the names of its sites.
 pub fn run_alone(
     alloc: Global,
     program: &Program,
@@ -31,6 +34,7 @@ pub fn run_alone(
 ) -> Result<Played, EngineFault>
     ensures played { IfOk result (λ p. IsPlayed program.now answers.now keeps_text limit p.summary p.published.items p.text.items) }
     ensures range { result ≡ Err EngineFault.Range ↔ (IsInRange 1 limit → ⊥) }
+    ensures sound { IfErr result (λ fault. fault ≡ EngineFault.Broken → IsProgram (definitions program.now) (source program.now) → HasNames program.now answers.now → ⊥) }
 {
     if limit < 1 || limit > MOST_ENTRIES {
         return Err(EngineFault::Range);
@@ -51,18 +55,20 @@ pub(crate) fn run_named<P: Naming>(
     limit: usize,
 ) -> Result<Played, EngineFault>
     requires limit { (1 ≤ limit) × (limit ≤ MOST_ENTRIES) }
+    requires named { limit ≡ P.limit }
     requires program { program.now ≡ P.listing }
     requires graph { graph.now ≡ P.listing }
     requires answers { answers.now.sites ≡ P.sites }
     ensures played { IfOk result (λ p. IsPlayed program.now answers.now keeps_text limit p.summary p.published.items p.text.items) }
     ensures range { IfErr result (λ fault. fault ≡ EngineFault.Range → ⊥) }
+    ensures sound { IfErr result (λ fault. fault ≡ EngineFault.Broken → IsProgram (definitions program.now) (source program.now) → HasNames program.now answers.now → ⊥) }
 {
     let Ok(ledger) = Ledger::<P>::begin(alloc, limit, graph.root() as usize) else {
         return Err(EngineFault::Memory);
     };
     let mut desk = Desk::new(alloc, ledger, false);
     let stop = play(&mut desk, graph, answers);
-    desk.finish(program, graph, answers, stop, keeps_text, limit)
+    desk.finish(program, graph, answers, stop, keeps_text)
 }
 
 // Turns until the run stops.

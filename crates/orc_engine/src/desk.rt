@@ -2,6 +2,7 @@
 
 ghost use Rattle.std.specs.Prelude.{◌≡◌, ◌≤◌, ◌<◌, ◌^◌, ℕ, true, false, IfOk, IfErr};
 ghost use Rattle.std.specs.VecDeque.{deque_len};
+ghost use Rattle.orc_rules.specs.Named.{HasNames};
 ghost use Rattle.orc_rules.specs.Nodes.{code, definitions, source};
 ghost use Rattle.orc_rules.specs.Program.{IsProgram};
 ghost use Rattle.orc_outcome.specs.Outcome.{IsPlayed};
@@ -309,7 +310,10 @@ impl<P: Naming> Desk<P> {
                 self.wait(graph, slot)?;
                 Ok(Step::Waits)
             }
-            Err(fault) => Err(Stop::Refused(fault)),
+            Err(fault) => {
+                self.ledger.full_is_crowded();
+                Err(Stop::Refused(fault))
+            }
         }
     }
 
@@ -363,7 +367,10 @@ impl<P: Naming> Desk<P> {
                 .call(graph, answers, slot, token, &mut self.args)
             {
                 Ok(call) => Ok(Step::Asks(call.number)),
-                Err(fault) => Err(Stop::Refused(fault)),
+                Err(fault) => {
+                    self.ledger.full_is_crowded();
+                    Err(Stop::Refused(fault))
+                }
             };
         }
         match self
@@ -376,7 +383,10 @@ impl<P: Naming> Desk<P> {
                 Ok(Step::Done)
             }
             Ok(Called::Pends(_)) => Ok(Step::Done),
-            Err(fault) => Err(Stop::Refused(fault)),
+            Err(fault) => {
+                self.ledger.full_is_crowded();
+                Err(Stop::Refused(fault))
+            }
         }
     }
 
@@ -465,7 +475,10 @@ impl<P: Naming> Desk<P> {
             }
             let halted = match self.ledger.halt(number) {
                 Ok(halted) => halted,
-                Err(HaltFault::Refused(fault)) => return Err(Stop::Refused(fault)),
+                Err(HaltFault::Refused(fault)) => {
+                    self.ledger.full_is_crowded();
+                    return Err(Stop::Refused(fault));
+                }
                 // The program's own group isn't open.
                 Err(HaltFault::Gone) => return Ok(()),
                 Err(HaltFault::Live) => unreachable!(),
@@ -490,17 +503,17 @@ impl<P: Naming> Desk<P> {
         answers: &Answers,
         stop: Stop,
         keeps_text: bool,
-        limit: usize,
     ) -> Result<Played, EngineFault>
         requires program { program.now ≡ P.listing }
         requires graph { graph.now ≡ P.listing }
         requires answers { answers.now.sites ≡ P.sites }
-        ensures played { IfOk result (λ p. IsPlayed P.listing answers.now keeps_text limit p.summary p.published.items p.text.items) }
+        ensures played { IfOk result (λ p. IsPlayed P.listing answers.now keeps_text P.limit p.summary p.published.items p.text.items) }
         ensures range { IfErr result (λ fault. fault ≡ EngineFault.Range → ⊥) }
+        ensures sound { IfErr result (λ fault. fault ≡ EngineFault.Broken → Stops P.listing self.ledger stop → IsProgram (definitions P.listing) (source P.listing) → HasNames P.listing answers.now → ⊥) }
     {
         let end = self.end(program, graph, answers, stop)?;
         let alloc = self.alloc;
-        tell(alloc, self.into_ledger(), answers, keeps_text, limit, end)
+        tell(alloc, self.into_ledger(), answers, keeps_text, end)
     }
 
     // How a run ends that stops so. The fault is Broken where it can't end so.
@@ -516,7 +529,7 @@ impl<P: Naming> Desk<P> {
         requires answers { answers.now.sites ≡ P.sites }
         ensures ended { IfOk result (λ end. HasEnded P.listing answers.now self.new.ledger end) }
         ensures range { IfErr result (λ fault. fault ≡ EngineFault.Range → ⊥) }
-        ensures sound { IfErr result (λ fault. fault ≡ EngineFault.Broken → Stops P.listing self.old.ledger stop → IsProgram (definitions P.listing) (source P.listing) → stop ≡ Stop.Refused LedgerFault.Full) }
+        ensures sound { IfErr result (λ fault. fault ≡ EngineFault.Broken → Stops P.listing self.old.ledger stop → IsProgram (definitions P.listing) (source P.listing) → ⊥) }
     {
         match stop {
             Stop::Rests => self.rested(graph, answers),
@@ -543,11 +556,12 @@ impl<P: Naming> Desk<P> {
         }
     }
 
-    // How a run ends for which one of the engine's limits is reached.
+    // How a run ends for which one of the engine's limits is reached. The fault is Broken where none can have been.
     fn crowded(&mut self, answers: &Answers) -> Result<End, EngineFault>
         requires answers { answers.now.sites ≡ P.sites }
         ensures ended { IfOk result (λ end. HasEnded P.listing answers.now self.new.ledger end) }
         ensures range { IfErr result (λ fault. fault ≡ EngineFault.Range → ⊥) }
+        ensures sound { IfErr result (λ _. Stops P.listing self.old.ledger (Stop.Refused LedgerFault.Full) → ⊥) }
     {
         if is_crowded(self.ledger.journal()) {
             Ok(End::Full)

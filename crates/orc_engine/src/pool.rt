@@ -86,6 +86,7 @@ where
     S::Call: Send,
     G: Gate + Sync,
     requires limit { (1 ≤ limit) × (limit ≤ MOST_ENTRIES) }
+    requires named { limit ≡ P.limit }
     requires program { program.now ≡ P.listing }
     requires graph { graph.now ≡ P.listing }
     requires answers { answers.now.sites ≡ P.sites }
@@ -102,7 +103,7 @@ where
     let floor = Mutex::new(Floor::new(alloc, desk));
     play(rt, alloc, graph, answers, &floor, sites, gate, workers);
     let (desk, stop) = floor.into_inner().into_desk();
-    desk.finish(program, graph, answers, stop, keeps_text, limit)
+    desk.finish(program, graph, answers, stop, keeps_text)
 }
 
 // All workers play. The others are of use only where one may wait for another.

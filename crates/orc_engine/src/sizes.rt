@@ -1,7 +1,7 @@
 //! Whether one of the engine's limits can have ended a run.
 
-ghost use Rattle.std.specs.Prelude.{◌≡◌, ◌≤◌, ◌+◌, true};
-ghost use Rattle.orc_outcome.specs.Outcome.{brings, feeds, opens, total, IsCrowded};
+ghost use Rattle.std.specs.Prelude.{◌≡◌, ◌≤◌, ◌↔◌, true};
+ghost use Rattle.orc_journal.specs.Sizes.{brings, feeds, opens, total, IsCrowded};
 
 use orc_journal::Journal;
 use orc_rules::entry::Entry;
@@ -16,7 +16,8 @@ struct Sizes {
 }
 
 fn brings(entry: &Entry) -> usize
-    ensures { result ≡ brings entry.now }
+    ensures brings { result ≡ brings entry.now }
+    ensures one { result ≤ 1 }
 {
     match entry {
         Entry::Fork(_, _, _) | Entry::Open(_, _, _, _) | Entry::Right(_, _) => 1,
@@ -25,7 +26,8 @@ fn brings(entry: &Entry) -> usize
 }
 
 fn opens(entry: &Entry) -> usize
-    ensures { result ≡ opens entry.now }
+    ensures opens { result ≡ opens entry.now }
+    ensures one { result ≤ 1 }
 {
     match entry {
         Entry::Open(_, _, _, _) | Entry::Other(_, _) => 1,
@@ -34,7 +36,8 @@ fn opens(entry: &Entry) -> usize
 }
 
 fn feeds(entry: &Entry) -> usize
-    ensures { result ≡ feeds entry.now }
+    ensures feeds { result ≡ feeds entry.now }
+    ensures one { result ≤ 1 }
 {
     match entry {
         Entry::Seq(_, _) => 1,
@@ -42,26 +45,19 @@ fn feeds(entry: &Entry) -> usize
     }
 }
 
-// A sum that stays at the greatest number, which no journal reaches.
-fn sum(one: usize, other: usize) -> usize
-    ensures { result ≤ one + other }
-{
-    one.saturating_add(other)
-}
-
 fn sizes_of(journal: &Journal) -> Sizes
-    ensures brought { result.brought ≤ total brings journal.now.entries }
-    ensures opened { result.opened ≤ total opens journal.now.entries }
-    ensures fed { result.fed ≤ total feeds journal.now.entries }
+    ensures brought { result.brought ≡ total brings journal.now.entries }
+    ensures opened { result.opened ≡ total opens journal.now.entries }
+    ensures fed { result.fed ≡ total feeds journal.now.entries }
 {
     let mut brought = 0;
     let mut opened = 0;
     let mut fed = 0;
     for at in 0..journal.len() {
         if let Some(entry) = journal.get(at) {
-            brought = sum(brought, brings(&entry));
-            opened = sum(opened, opens(&entry));
-            fed = sum(fed, feeds(&entry));
+            brought += brings(&entry);
+            opened += opens(&entry);
+            fed += feeds(&entry);
         }
     }
     Sizes {
@@ -73,7 +69,7 @@ fn sizes_of(journal: &Journal) -> Sizes
 
 /// Whether one of the engine's limits can have ended a run with this journal.
 pub(crate) fn is_crowded(journal: &Journal) -> bool
-    ensures { result ≡ true → IsCrowded journal.now.entries }
+    ensures { result ≡ true ↔ IsCrowded journal.now.entries }
 {
     let sizes = sizes_of(journal);
     sizes.brought >= MOST_TOKENS - 1 || sizes.opened >= MOST_GROUPS - 1 || sizes.fed >= MOST_FRAMES

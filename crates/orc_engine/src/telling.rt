@@ -1,27 +1,27 @@
 //! What is told of a run at its end.
 
 ghost use Rattle.std.specs.Prelude.{◌≡◌, IfOk, IfErr};
+ghost use Rattle.orc_rules.specs.Named.{AreNamed, HasNames};
 ghost use Rattle.orc_journal.specs.declared.journal.Version.TheVariants.{Two};
 ghost use Rattle.orc_journal.specs.Texts.{AreOf};
 ghost use Rattle.orc_outcome.specs.Outcome.{text_of, IsPlayed};
 ghost use Rattle.orc_engine.specs.Ends.{HasEnded};
 
 use crate::fault::EngineFault;
-use orc_journal::{Journal, Version, write_journal};
+use orc_journal::{Journal, write_journal};
 use orc_ledger::{Ledger, Program as Naming};
 use orc_outcome::{End, Played, Summary};
 use orc_rules::answers::Answers;
 use std::alloc::Global;
 
-// The text of a journal in the second version. The fault is Broken where an entry has no line, else Memory.
+// The text of a journal in the second version. The fault is Broken where a site that is called has no name, else Memory.
 fn text_of(alloc: Global, journal: &Journal, answers: &Answers) -> Result<Vec<u8>, EngineFault>
+    requires version { journal.now.version ≡ Two }
     ensures text { IfOk result (λ text. text.items ≡ text_of answers.now.names journal.now.entries) }
     ensures fits { IfOk result (λ _. AreOf answers.now.names Two journal.now.entries) }
     ensures range { IfErr result (λ fault. fault ≡ EngineFault.Range → ⊥) }
+    ensures named { IfErr result (λ fault. fault ≡ EngineFault.Broken → AreNamed answers.now.names journal.now.entries → ⊥) }
 {
-    if journal.version() != Version::Two {
-        return Err(EngineFault::Broken);
-    }
     let mut text = Vec::new(alloc);
     match write_journal(journal, answers, &mut text) {
         Ok(true) => Ok(text),
@@ -30,25 +30,23 @@ fn text_of(alloc: Global, journal: &Journal, answers: &Answers) -> Result<Vec<u8
     }
 }
 
-/// What is told of a run that has ended so.
+/// What is told of a run that has ended so. The fault is Broken where a site that the program calls has no name, else Memory.
 pub(crate) fn tell<P: Naming>(
     alloc: Global,
     ledger: Ledger<P>,
     answers: &Answers,
     keeps_text: bool,
-    limit: usize,
     end: End,
 ) -> Result<Played, EngineFault>
     requires sites { answers.now.sites ≡ P.sites }
     requires ended { HasEnded P.listing answers.now ledger end }
-    ensures played { IfOk result (λ p. IsPlayed P.listing answers.now keeps_text limit p.summary p.published.items p.text.items) }
+    ensures played { IfOk result (λ p. IsPlayed P.listing answers.now keeps_text P.limit p.summary p.published.items p.text.items) }
     ensures range { IfErr result (λ fault. fault ≡ EngineFault.Range → ⊥) }
+    ensures named { IfErr result (λ fault. fault ≡ EngineFault.Broken → HasNames P.listing answers.now → ⊥) }
 {
-    if ledger.limit() != limit {
-        return Err(EngineFault::Broken);
-    }
     let now = ledger.time();
     ledger.is_whole();
+    ledger.keeps_limit();
     let journal = ledger.into_journal();
     let Ok(published) = journal.published(alloc) else {
         return Err(EngineFault::Memory);

@@ -121,7 +121,8 @@ fn says(what: What, entry: &Entry) -> bool {
 impl<P: Naming> Replay<P> {
     /// Token 1 stands at the program's main term.
     pub fn begin(alloc: Global, graph: &Graph) -> Result<Replay<P>, Odd>
-        requires { graph.now ≡ P.listing }
+        requires graph { graph.now ≡ P.listing }
+        requires limit { P.limit ≡ MOST_ENTRIES }
     {
         let ledger = Ledger::begin(alloc, MOST_ENTRIES as usize, graph.root() as usize)?;
         let mut slots = Vec::new(alloc);
@@ -437,6 +438,7 @@ fn replay_named<P: Naming>(
 ) -> Result<State, Stop>
     requires graph { graph.now ≡ P.listing }
     requires answers { answers.now.sites ≡ P.sites }
+    requires limit { P.limit ≡ MOST_ENTRIES }
 {
     let mut replay = match Replay::<P>::begin(alloc, graph) {
         Ok(replay) => replay,

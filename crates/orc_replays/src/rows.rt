@@ -130,6 +130,7 @@ fn wrong_step<P: Naming>(
 ) -> Option<usize>
     requires graph { graph.now ≡ P.listing }
     requires answers { answers.now.sites ≡ P.sites }
+    requires limit { P.limit ≡ MOST_ENTRIES }
 {
     let Ok(mut replay) = Replay::<P>::begin(alloc, graph) else {
         return Some(0);
@@ -301,6 +302,7 @@ fn calls_are_answered_when_they_are_due(rt: HostRuntime) -> Result<(), Fail> {
 // Where the first token and those after it in its slot have moved until one is refused: how many entries there are, and why.
 fn refused_at<P: Naming>(alloc: Global, graph: &Graph, limit: usize) -> Option<(usize, LedgerFault)>
     requires graph { graph.now ≡ P.listing }
+    requires limit { limit ≡ P.limit }
 {
     if limit < 1 || limit > 10_000_000 {
         return None;

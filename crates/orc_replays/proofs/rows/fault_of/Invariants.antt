@@ -1,4 +1,5 @@
+use Rattle.orc_rules.specs.declared.limits.TheConstants.{MOST_ENTRIES}
 use Rattle.orc_replays.proofs.rows.fault_of.Given as goal
 
 abbrev pub ghosts-wrong_step : goal.ghosts-wrong_step
-ghosts-wrong_step a = record { listing = a.graph.now; sites = a.answers.now.sites }
+ghosts-wrong_step a = record { listing = a.graph.now; sites = a.answers.now.sites; limit = MOST_ENTRIES }

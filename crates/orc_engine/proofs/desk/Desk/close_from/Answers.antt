@@ -4,7 +4,8 @@ use Rattle.orc_rules.specs.Nodes.{code}
 use Rattle.orc_ledger.specs.Records.{Records}
 use Rattle.orc_engine.specs.Stops.{Advances}
 use Rattle.orc_engine.proofs.Further.{further-still}
-use Rattle.orc_engine.proofs.Stopping.{halted-further}
+use Rattle.orc_ledger.specs.Halting.{IsHinderedAt}
+use Rattle.orc_engine.proofs.Stopping.{halted-further, unhalted}
 use Rattle.orc_engine.proofs.desk.Desk.close_from.Goals as goal
 use Rattle.orc_engine.proofs.desk.Desk.close_from.Goals.{in-Lost+in_ok-wake-in-Lost, in-Closed}
 
@@ -29,3 +30,10 @@ loop-nested-preserved g c =
       | in-Lost+in_ok-wake-in-Lost w ↦ inl (subst (Advances c.args.self.now.ledger) (sym (ap (λ d. d.ledger) w.self-is ∙ w.wake.ensures.same)) a)
       | in-Closed w ↦ inl (subst (Advances c.args.self.now.ledger) (sym (ap (λ d. d.ledger) w.self-is)) a)
     ]
+
+pub returns-in-Err-Refused-clause-stops : goal.returns-in-Err-Refused-clause-stops
+returns-in-Err-Refused-clause-stops g c =
+    let h = c.in-Err-Refused in
+    let n = c.loop-nested.number in
+    let s = c.loop-nested.self.ledger in
+    unhalted g.P.Program.listing s c.halt.new.self n h.fault h.ensures.refused c.full_is_crowded.ensures (subst (λ f. IsHinderedAt s n f) h.field-0-is h.ensures.why)

@@ -32,5 +32,5 @@ returns-in-Some-false-clause-ended g c p at =
     let t = c.args.answers.now in
     let field = c.in-Some-false.field-0 in
     let says = subst (λ z. (q : Place) → Journal (outcome.context z t) (begin (source z)) c.journal.result.now.entries q → (field ≡ true) ↔ IsQuiet (outcome.context z t) (moment q)) c.requires.program c.in-Some-false.ensures in
-    let there : Journal (outcome.context l t) (begin (source l)) c.journal.result.now.entries p = subst (λ es. Journal (outcome.context l t) (begin (source l)) es p) (sym c.journal.ensures) at in
+    let there : Journal (outcome.context l t) (begin (source l)) c.journal.result.now.entries p = subst (λ es. Journal (outcome.context l t) (begin (source l)) es p) (sym c.journal.ensures.entries) at in
     (omega (arith, c.is_whole.ensures.entries, c.is_whole.ensures.within, c.if-entries-limit.false, c.entries.ensures, c.limit.ensures), λ quiet. cc ((says p there).1 quiet, c.in-Some-false.field-0-test))
