@@ -1,5 +1,5 @@
 -- Each move of a token brings a run further, but where the token calls a site or waits.
-use Rattle.std.proofs.Common.{◌≡◌, ◌≤◌, ◌<◌, ◌+◌, ◌*◌, ℕ, List, [], refl, sym, ap, subst, ◌∙◌, arith, inl, inr, Bool, true, false}
+use Rattle.std.proofs.Common.{◌≡◌, ◌≤◌, ℕ, List, refl, ap, subst, ◌∙◌, arith, Bool, true, false}
 use Rattle.orc_rules.specs.declared.entry.Entry.{Entry}
 use Rattle.orc_rules.specs.Nodes.{Listing, code, definitions, source}
 use Rattle.orc_rules.specs.Program.{IsProgram}
@@ -19,7 +19,6 @@ use Rattle.orc_tables.specs.declared.records.Token.{Token}
 use Rattle.orc_tables.proofs.Weight.{weight-but}
 use Rattle.orc_ledger.specs.Records.{Records}
 use Rattle.orc_ledger.specs.AtOnce.{IsCalled}
-use Rattle.orc_ledger.specs.Answers.{IsReturned}
 use Rattle.orc_ledger.specs.Calls.{Turns, Crosses, Drops, Exchanges, Resumes, Closes, group_goes}
 use Rattle.orc_ledger.specs.Doing.{what_of}
 use Rattle.orc_ledger.specs.Moves.{Does, Moves, CallsFit}

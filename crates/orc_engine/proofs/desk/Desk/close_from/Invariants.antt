@@ -1,6 +1,6 @@
 -- The run is further, or nothing has happened yet.
 use Rattle.std.proofs.Common.{◌≡◌, ◌⊎◌}
-use Rattle.orc_engine.specs.Stops.{Goes, Advances}
+use Rattle.orc_engine.specs.Stops.{Advances}
 use Rattle.orc_engine.proofs.desk.Desk.close_from.Given as goal
 
 abbrev pub invariant-loop-nested : goal.invariant-loop-nested

@@ -1,5 +1,5 @@
-use Rattle.std.proofs.Common.{sym, subst, ◌∙◌}
-use Rattle.orc_engine.specs.Stops.{Goes, Advances}
+use Rattle.std.proofs.Common.{subst, ◌∙◌}
+use Rattle.orc_engine.specs.Stops.{Goes}
 use Rattle.orc_engine.proofs.Further.{bound-further, goes-on}
 use Rattle.orc_engine.proofs.desk.Desk.step.Goals as goal
 
