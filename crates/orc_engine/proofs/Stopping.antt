@@ -1,16 +1,18 @@
 -- Why a run stops, by what the ledger refuses; and that it comes to an end.
-use Rattle.std.proofs.Common.{◌≡◌, ◌≤◌, ◌<◌, ◌+◌, ◌*◌, ℕ, zero, suc, Option, Some, None, Result, Ok, Err, IfOk, Bool, true, false, cond, refl, sym, ap, subst, arith, inl, inr}
+use Rattle.std.proofs.Common.{◌≡◌, ◌≤◌, ◌<◌, ◌+◌, ◌*◌, ◌^◌, ◌-◌, ◌⊎◌, ℕ, zero, suc, Option, Some, None, Result, Ok, Err, IfOk, IfErr, Bool, true, false, cond, refl, sym, ap, subst, ◌∙◌, arith, inl, inr}
 use Rattle.std.specs.Prelude.{nat_lt}
 use Rattle.std.proofs.lemmas.Bool.{ltb-false}
 use Rattle.std.proofs.Math.Nat.{mul-le-mul_left}
 use Rattle.orc_rules.specs.Nodes.{Listing, code, definitions}
+use Rattle.orc_rules.specs.Sites.{Site}
 use Rattle.orc_rules.specs.Term.{Term}
 use Rattle.orc_rules.specs.declared.value.Answer.{Answer}
 use Rattle.orc_rules.specs.declared.value.Answer.TheVariants as answer
 use Rattle.orc_paths.specs.declared.what.What.{What}
 use Rattle.orc_paths.specs.declared.what.What.TheVariants.{Halt, Fork, Seq, Prune, Other, Def, Void, Publish, Send, Bind, Call, Wait}
+use Rattle.orc_tables.specs.Same.{weight}
 use Rattle.orc_tables.specs.Steps.{depth_at}
-use Rattle.orc_tables.specs.PendingCalls.{next_due}
+use Rattle.orc_tables.specs.PendingCalls.{due_of, has_number, next_due}
 use Rattle.orc_tables.specs.declared.records.Call.{Call as Pending}
 use Rattle.orc_tables.specs.declared.records.Group.{Group}
 use Rattle.orc_tables.specs.declared.records.Side.{Side}
@@ -18,25 +20,25 @@ use Rattle.orc_tables.specs.declared.records.Side.TheVariants.{Right, Left}
 use Rattle.orc_tables.specs.declared.records.Token.{Token}
 use Rattle.orc_tables.proofs.Ripe.{next_some}
 use Rattle.orc_ledger.specs.Records.{Records}
-<<<<<<< HEAD
 use Rattle.orc_ledger.specs.Answers.{IsDueNow, IsReturned, IsStopped, IsUnanswered, Pends}
 use Rattle.orc_ledger.specs.Brought.{FullIsCrowded}
-=======
-use Rattle.orc_ledger.specs.Answers.{IsReturned, IsStopped}
->>>>>>> progress/progress
 use Rattle.orc_ledger.specs.Calls.{IsRefused}
-use Rattle.orc_ledger.specs.Halting.{HasHalted, Becomes, IsRefusedAt}
+use Rattle.orc_ledger.specs.Halting.{HasHalted, Becomes, IsRefusedAt, IsHinderedAt}
 use Rattle.orc_ledger.specs.Moves.{Hinders, IsHindered}
 use Rattle.orc_ledger.specs.Doing.{what_of}
-use Rattle.orc_ledger.specs.Next.{members, numbers_of, ready, empty_groups, is_empty, next_at, next_by, work, ticks}
+use Rattle.orc_ledger.specs.Next.{members, numbers_of, ready, empty_groups, is_empty, next_at, next_by, next_of, work, ticks, quiet}
+use Rattle.orc_ledger.specs.Spoken.{spoken}
+use Rattle.orc_ledger.specs.declared.calls.ReturnFault.{ReturnFault}
+use Rattle.orc_ledger.specs.declared.calls.ReturnFault.TheVariants as return_
 use Rattle.orc_ledger.specs.declared.halting.Halted.{Halted}
 use Rattle.orc_ledger.specs.declared.halting.Halted.TheVariants.{Lost, Resumed, Closed}
 use Rattle.orc_ledger.specs.declared.halting.HaltFault.TheVariants.{Refused}
 use Rattle.orc_ledger.specs.declared.ledger.LedgerFault.{LedgerFault}
 use Rattle.orc_ledger.specs.declared.ledger.LedgerFault.TheVariants as fault
+use Rattle.orc_ledger.proofs.Owed.{not-none}
 use Rattle.orc_engine.specs.declared.desk.Stop.{Stop}
 use Rattle.orc_engine.specs.declared.desk.Stop.TheVariants as stop
-use Rattle.orc_engine.specs.Stops.{Advances, IsNearer, IsAtWork, NoneIsDue, Stops, left}
+use Rattle.orc_engine.specs.Stops.{Advances, IsNearer, IsAtWork, NoneIsDue, Stops, left, open_groups}
 use Rattle.orc_engine.proofs.Further.{exchanged, dropped, resumed, closed}
 
 -- ---- what the ledger refuses
@@ -65,7 +67,7 @@ hindered l s s' t f same law h = go f (subst (λ z. IsHindered l z t f) (sym sam
 
 limited_at : (s : Records) (side : Side) → IsRefusedAt s side fault.Limit → s.limit ≤ s.entries
 limited_at s (Right c) h = h.1
-limited_at s (Left n node scope) h = h.2
+limited_at s (Left n node scope) h = h.1.1
 
 pub unhalted : (l : Listing) (s s' : Records) (number : ℕ) (f : LedgerFault) → s' ≡ s → FullIsCrowded l s' → IsHinderedAt s number (Refused f) → Stops l s' (stop.Refused f)
 unhalted l s s' number f same law h = go f (subst (λ z. IsHinderedAt z number (Refused f)) (sym same) h)
@@ -146,3 +148,8 @@ nearer-end k s s' n n' (inr (same, fewer)) within few = omega (arith, ap (λ z. 
 pub weaker : {X E : Type 0} (r : Result X E) (A B : X → Type 0) → ((x : X) → A x → B x) → IfOk r A → IfOk r B
 weaker (Ok x) A B f h = f x h
 weaker (Err e) A B f h = tt
+
+-- and of its error
+pub weaker-fault : {X E : Type 0} (r : Result X E) (A B : E → Type 0) → ((e : E) → A e → B e) → IfErr r A → IfErr r B
+weaker-fault (Ok x) A B f h = tt
+weaker-fault (Err e) A B f h = f e h
