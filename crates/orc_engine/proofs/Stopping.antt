@@ -1,5 +1,5 @@
 -- Why a run stops, by what the ledger refuses; and that it comes to an end.
-use Rattle.std.proofs.Common.{◌≡◌, ◌≤◌, ◌<◌, ◌+◌, ◌*◌, ◌^◌, ◌-◌, ◌⊎◌, ℕ, zero, suc, Option, Some, None, Result, Ok, Err, IfOk, Bool, true, false, cond, refl, sym, ap, subst, ◌∙◌, arith, inl, inr}
+use Rattle.std.proofs.Common.{◌≡◌, ◌≤◌, ◌<◌, ◌+◌, ◌*◌, ◌^◌, ◌-◌, ◌⊎◌, ℕ, zero, suc, Option, Some, None, Result, Ok, Err, IfOk, IfErr, Bool, true, false, cond, refl, sym, ap, subst, ◌∙◌, arith, inl, inr}
 use Rattle.std.specs.Prelude.{nat_lt}
 use Rattle.std.proofs.lemmas.Bool.{ltb-false}
 use Rattle.std.proofs.Math.Nat.{mul-le-mul_left}
@@ -67,7 +67,7 @@ hindered l s s' t f same law h = go f (subst (λ z. IsHindered l z t f) (sym sam
 
 limited_at : (s : Records) (side : Side) → IsRefusedAt s side fault.Limit → s.limit ≤ s.entries
 limited_at s (Right c) h = h.1
-limited_at s (Left n node scope) h = h.2
+limited_at s (Left n node scope) h = h.1.1
 
 pub unhalted : (l : Listing) (s s' : Records) (number : ℕ) (f : LedgerFault) → s' ≡ s → FullIsCrowded l s' → IsHinderedAt s number (Refused f) → Stops l s' (stop.Refused f)
 unhalted l s s' number f same law h = go f (subst (λ z. IsHinderedAt z number (Refused f)) (sym same) h)
@@ -148,3 +148,8 @@ nearer-end k s s' n n' (inr (same, fewer)) within few = omega (arith, ap (λ z. 
 pub weaker : {X E : Type 0} (r : Result X E) (A B : X → Type 0) → ((x : X) → A x → B x) → IfOk r A → IfOk r B
 weaker (Ok x) A B f h = f x h
 weaker (Err e) A B f h = tt
+
+-- and of its error
+pub weaker-fault : {X E : Type 0} (r : Result X E) (A B : E → Type 0) → ((e : E) → A e → B e) → IfErr r A → IfErr r B
+weaker-fault (Ok x) A B f h = tt
+weaker-fault (Err e) A B f h = f e h
