@@ -1,5 +1,5 @@
 -- What is added behind the tables leaves the entries of the rows as they are.
-use Rattle.std.proofs.Common.{◌≡◌, ℕ, ◌+◌, ◌<◌, ◌≤◌, List, [], ◌∷◌, ◌++◌, length, get_or, take, drop, map, refl, sym, ap, subst, ◌∙◌, arith, length-drop, length-append}
+use Rattle.std.proofs.Common.{◌≡◌, ℕ, ◌+◌, ◌≤◌, List, [], ◌∷◌, ◌++◌, length, get_or, take, drop, map, refl, sym, ap, subst, ◌∙◌, arith, length-drop, length-append}
 use Rattle.std.proofs.lemmas.List.{take-append-le, drop-append-le, map-append, take_all, drop_at, append-nil, get_or_append_left, get_or_at, drop_more}
 use Rattle.orc_rules.specs.declared.value.Value.{Value}
 use Rattle.orc_rules.specs.declared.value.Value.TheVariants.{Signal}
@@ -12,7 +12,7 @@ use Rattle.orc_journal.specs.declared.rows.Parts.{Parts}
 use Rattle.orc_journal.specs.declared.rows.Called.{Called}
 use Rattle.orc_journal.specs.declared.rows.Row.{Row}
 use Rattle.orc_journal.specs.declared.rows.Row.TheVariants.{Narrow, Wide}
-use Rattle.orc_journal.specs.Rows.{Contents, no_parts, no_call, parts_in, value_at, call_by, plain, given, entry_by, entry_from, entry_of, grown, HasArguments, HasCall, HasValue, IsPlain, IsPlaced, IsThere, ArePlaced, IsWithin, AreWithin, Keeps, Names, StandsAt, StandFrom, StandsFor}
+use Rattle.orc_journal.specs.Rows.{Contents, no_parts, no_call, parts_in, call_by, plain, given, entry_by, entry_from, entry_of, grown, HasArguments, HasCall, HasValue, IsPlain, IsPlaced, IsThere, ArePlaced, IsWithin, AreWithin, Keeps, Names, StandsAt, StandFrom, StandsFor}
 use Rattle.orc_journal.specs.Texts.{Written, journal_with}
 use Rattle.orc_journal.specs.declared.journal.Version.{Version}
 

@@ -13,7 +13,7 @@ use Rattle.orc_rules.specs.Marked.{Marked, ended, token, in_call, in_par, in_seq
 use Rattle.orc_rules.specs.Text.{IsNamed}
 use Rattle.orc_rules.specs.Timed.{Context}
 use Rattle.orc_rules.specs.Journal.{Place, Enters, Journal}
-use Rattle.orc_rules.specs.Named.{CallsWithin, CallWithin, MarksWithin, AreNamed, CallsAreNamed}
+use Rattle.orc_rules.specs.Named.{CallsWithin, BodiesCallWithin, MarksWithin, AreNamed, CallsAreNamed}
 
 module _ (n : ℕ) where
   cond_within : (b : Bool) (f g : Term) → CallsWithin n f → CallsWithin n g → CallsWithin n (cond b f g)
@@ -89,7 +89,7 @@ module _ (n : ℕ) where
   emits_within (on_entered i e) s = (emits_within e s.0, s.1)
   emits_within (passes e) s = emits_within e s.0
 
-  body_within : (ds : List Definition) (e : ℕ) (d : Definition) → CallWithin n ds → slice_get ds e ≡ Some d → CallsWithin n d.body
+  body_within : (ds : List Definition) (e : ℕ) (d : Definition) → BodiesCallWithin n ds → slice_get ds e ≡ Some d → CallsWithin n d.body
   body_within [] e d s h = cc h
   body_within (b ∷ ds) zero d s h = let is : b ≡ d = some_is b d h in subst (λ (w : Definition). CallsWithin n w.body) is s.0
     where
@@ -101,7 +101,7 @@ module _ (n : ℕ) where
       some_is b d h = ap (or_that b) h
   body_within (b ∷ ds) (suc e) d s h = body_within ds e d s.1 h
 
-  entered_within : (x : Context) (p : Place) (e : Entry) (q : Place) → CallWithin n x.definitions → Enters x p e q → MarksWithin n p.marked → MarksWithin n q.marked
+  entered_within : (x : Context) (p : Place) (e : Entry) (q : Place) → BodiesCallWithin n x.definitions → Enters x p e q → MarksWithin n p.marked → MarksWithin n q.marked
   entered_within x p (End s) q ds h src = replaced_within (λ k. tt) h.part src
   entered_within x p (Fork s a b) q ds (f, g, ea, eb, h) src = replaced_within (λ k. k) h.part src
   entered_within x p (Seq s a) q ds (f, g, z, ea, h) src = replaced_within (λ k. k) h.part src
@@ -140,7 +140,7 @@ entry_named x names p (Publish s v) q h src = tt
 entry_named x names p (Tick t) q h src = tt
 entry_named x names p (Cancel k) q h src = tt
 
-journal_named : (x : Context) (names : List (List ℕ)) (p q : Place) (es : List Entry) → CallWithin (length names) x.definitions → Journal x p es q → MarksWithin (length names) p.marked → AreNamed names es
+journal_named : (x : Context) (names : List (List ℕ)) (p q : Place) (es : List Entry) → BodiesCallWithin (length names) x.definitions → Journal x p es q → MarksWithin (length names) p.marked → AreNamed names es
 journal_named x names p q [] ds h src = tt
 journal_named x names p q (e ∷ es) ds (mid, lead, h) src =
     (entry_named x names p e mid lead.1 src, journal_named x names mid q es ds h (entered_within (length names) x p e mid ds lead.1 src))

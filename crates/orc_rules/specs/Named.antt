@@ -23,9 +23,9 @@ CallsWithin n (pending k) = Unit {0}
 CallsWithin n (opened f c g) = CallsWithin n f × CallsWithin n g
 
 -- nor do the bodies of definitions
-abbrev pub CallWithin : ℕ → List Definition → Type 0
-CallWithin n [] = Unit {0}
-CallWithin n (d ∷ ds) = CallsWithin n d.body × CallWithin n ds
+abbrev pub BodiesCallWithin : ℕ → List Definition → Type 0
+BodiesCallWithin n [] = Unit {0}
+BodiesCallWithin n (d ∷ ds) = CallsWithin n d.body × BodiesCallWithin n ds
 
 -- nor does what stands under marks and on right sides
 abbrev pub MarksWithin : ℕ → Marked → Type 0
@@ -39,7 +39,7 @@ MarksWithin n (in_other m f g) = MarksWithin n f × CallsWithin n g
 
 -- the table has a name for each site that a program calls
 abbrev pub HasNames : Listing → Table → Type 0
-HasNames l t = CallsWithin (length t.names) (source l) × CallWithin (length t.names) (definitions l)
+HasNames l t = CallsWithin (length t.names) (source l) × BodiesCallWithin (length t.names) (definitions l)
 
 -- the sites of all calls among these entries have names
 abbrev pub AreNamed : List (List ℕ) → List Entry → Type 0
@@ -48,4 +48,4 @@ AreNamed names (e ∷ es) = IsNamed names e × AreNamed names es
 
 -- each call in a journal of a program is of a site that has a name, if each site that the program calls has one
 abbrev pub CallsAreNamed : Type 0
-CallsAreNamed = (x : Context) (t : Term) (names : List (List ℕ)) (es : List Entry) (p : Place) → CallsWithin (length names) t → CallWithin (length names) x.definitions → Journal x (begin t) es p → AreNamed names es
+CallsAreNamed = (x : Context) (t : Term) (names : List (List ℕ)) (es : List Entry) (p : Place) → CallsWithin (length names) t → BodiesCallWithin (length names) x.definitions → Journal x (begin t) es p → AreNamed names es

@@ -18,7 +18,8 @@ use Rattle.orc_rules.specs.Timed.{IsIn}
 use Rattle.orc_syntax.specs.Tree.{Label, Seq, Par, Prune, Other, Tree, Leaf, Variable, Call, Operation, Val, Trees, Nil, Cons, Define, Source, count, span_of}
 use Rattle.orc_scope.specs.declared.fault.FaultKind.TheVariants.{Arity}
 use Rattle.orc_scope.specs.Checking.{IsWrittenOut}
-use Rattle.orc_scope.specs.Lawful.{CallsBelow, BodiesCallBelow, IsLawful}
+use Rattle.orc_rules.specs.Named.{CallsWithin, BodiesCallWithin}
+use Rattle.orc_scope.specs.Lawful.{IsLawful}
 use Rattle.orc_scope.specs.Scope.{Known, position, position_from, inner_meaning, meaning, outer_meaning, name_faults, call_faults, arity_faults, number_faults, fault, faults, faults_of_all, bound}
 use Rattle.orc_scope.specs.Written.{number, written, written_all, called, params, param_or, as_param, pruned, prunings}
 use Rattle.orc_scope.specs.Program.{text, name_of, arity_of, known_in, definition_faults, definitions_faults, program_faults, written_define, variables}
@@ -55,7 +56,7 @@ good_closed defs k (other f g) xs h = (good_closed defs k f xs h.0, good_closed 
 good_closed defs k (pending n) xs h = h
 good_closed defs k (opened f c g) xs h = h
 
-good_sites : (defs : List Definition) (k m : ℕ) (t : Term) (xs : List ℕ) → k ≤ m → IsGood defs k xs t → CallsBelow m t
+good_sites : (defs : List Definition) (k m : ℕ) (t : Term) (xs : List ℕ) → k ≤ m → IsGood defs k xs t → CallsWithin m t
 good_sites defs k m stop xs le h = tt
 good_sites defs k m (param p) xs le h = tt
 good_sites defs k m (site n ps) xs le h = let lt = h.1 in omega (arith, le, lt)
@@ -297,7 +298,7 @@ are_closed : (defs : List Definition) (k : ℕ) (ds : List Definition) → Bodie
 are_closed defs k [] h = tt
 are_closed defs k (d ∷ ds) h = (good_closed defs k d.body d.params h.0, are_closed defs k ds h.1)
 
-call_sites : (defs : List Definition) (k m : ℕ) (ds : List Definition) → k ≤ m → BodiesGood defs k ds → BodiesCallBelow m ds
+call_sites : (defs : List Definition) (k m : ℕ) (ds : List Definition) → k ≤ m → BodiesGood defs k ds → BodiesCallWithin m ds
 call_sites defs k m [] le h = tt
 call_sites defs k m (d ∷ ds) le h = (good_sites defs k m d.body d.params le h.0, call_sites defs k m ds le h.1)
 
@@ -333,8 +334,8 @@ lawful sites s l e out =
     let program : IsProgram (definitions l) (source l) = subst (λ (f : Term). IsProgram (definitions l) f) (sym out.source) (subst (λ (ds : List Definition). IsProgram ds (written known names s.main)) (sym out.definitions) (closed, all)) in
     record {
       program = program;
-      source_sites = subst (λ (f : Term). CallsBelow (length sites) f) (sym out.source) (good_sites defs k (length sites) (written known names s.main) [] le main);
-      body_sites = subst (λ (ds : List Definition). BodiesCallBelow (length sites) ds) (sym out.definitions) (call_sites defs k (length sites) defs le bodies);
+      source_sites = subst (λ (f : Term). CallsWithin (length sites) f) (sym out.source) (good_sites defs k (length sites) (written known names s.main) [] le main);
+      body_sites = subst (λ (ds : List Definition). BodiesCallWithin (length sites) ds) (sym out.definitions) (call_sites defs k (length sites) defs le bodies);
       is_source = closed_source (definitions l) (source l) [] program.0;
       are_source = are_source (definitions l) (definitions l) program.1;
     }
