@@ -13,3 +13,9 @@ engine_line (engine.Site number) = codes "E5 at call " ++ decimal number
 abbrev pub engine_status : EngineFault → ℕ
 engine_status engine.Memory = 5
 engine_status f = 7
+
+-- the engine is to blame itself: it found nothing to do where something was left, or took an answer that isn't the table's
+abbrev pub IsOwn : EngineFault → Type 0
+IsOwn engine.Broken = Unit {0}
+IsOwn (engine.Site number) = Unit {0}
+IsOwn f = ⊥

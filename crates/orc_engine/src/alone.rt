@@ -6,6 +6,7 @@ ghost use Rattle.orc_rules.specs.Named.{HasNames};
 ghost use Rattle.orc_rules.specs.Nodes.{definitions, source};
 ghost use Rattle.orc_rules.specs.Program.{IsProgram};
 ghost use Rattle.orc_outcome.specs.Outcome.{IsPlayed};
+ghost use Rattle.orc_engine.specs.Faults.{IsOwn};
 ghost use Rattle.orc_engine.specs.Ranges.{IsInRange};
 ghost use Rattle.orc_engine.specs.Stops.{Stops};
 
@@ -23,8 +24,8 @@ use std::marker::Brand;
 /// Runs a program: entries that the rules allow, one after another, until nothing can come next or the journal has `limit` of them, cancels not
 /// counted. The cancels of a bind follow it at once. The journal's text is kept where `keeps_text`.
 ///
-/// The fault is Range where the limit is 0 or over `MOST_ENTRIES`, and then alone; Memory where memory was refused before the run began, or for
-/// what is told of it; or Broken, but not for a program that the scope check takes with the names of its sites.
+/// The fault is Range where the limit is 0 or over `MOST_ENTRIES`, and then alone; or Memory where memory was refused before the run began, or for
+/// what is told of it. No other comes, if the program is one that the scope check takes with the names of its sites.
 pub fn run_alone(
     alloc: Global,
     program: &Program,
@@ -34,7 +35,7 @@ pub fn run_alone(
 ) -> Result<Played, EngineFault>
     ensures played { IfOk result (λ p. IsPlayed program.now answers.now keeps_text limit p.summary p.published.items p.text.items) }
     ensures range { result ≡ Err EngineFault.Range ↔ (IsInRange 1 limit → ⊥) }
-    ensures sound { IfErr result (λ fault. fault ≡ EngineFault.Broken → IsProgram (definitions program.now) (source program.now) → HasNames program.now answers.now → ⊥) }
+    ensures sound { IfErr result (λ fault. IsOwn fault → IsProgram (definitions program.now) (source program.now) → HasNames program.now answers.now → ⊥) }
 {
     if limit < 1 || limit > MOST_ENTRIES {
         return Err(EngineFault::Range);
@@ -42,11 +43,11 @@ pub fn run_alone(
     let Ok(graph) = Graph::build(alloc, program) else {
         return Err(EngineFault::Memory);
     };
-    run_named::<Brand>(alloc, program, &graph, answers, keeps_text, limit as usize)
+    run_graph::<Brand>(alloc, program, &graph, answers, keeps_text, limit as usize)
 }
 
 /// Runs a program whose graph is built, as [`run_alone`] does, with a limit in range.
-pub(crate) fn run_named<P: Naming>(
+pub(crate) fn run_graph<P: Naming>(
     alloc: Global,
     program: &Program,
     graph: &Graph,
@@ -61,7 +62,7 @@ pub(crate) fn run_named<P: Naming>(
     requires answers { answers.now.sites ≡ P.sites }
     ensures played { IfOk result (λ p. IsPlayed program.now answers.now keeps_text limit p.summary p.published.items p.text.items) }
     ensures range { IfErr result (λ fault. fault ≡ EngineFault.Range → ⊥) }
-    ensures sound { IfErr result (λ fault. fault ≡ EngineFault.Broken → IsProgram (definitions program.now) (source program.now) → HasNames program.now answers.now → ⊥) }
+    ensures sound { IfErr result (λ fault. IsOwn fault → IsProgram (definitions program.now) (source program.now) → HasNames program.now answers.now → ⊥) }
 {
     let Ok(ledger) = Ledger::<P>::begin(alloc, limit, graph.root() as usize) else {
         return Err(EngineFault::Memory);

@@ -14,6 +14,7 @@ ghost use Rattle.orc_ledger.specs.Doing.{what_of};
 ghost use Rattle.orc_ledger.specs.Halting.{IsGroup};
 ghost use Rattle.orc_ledger.specs.Next.{members, numbers_of};
 ghost use Rattle.orc_engine.specs.Ends.{HasEnded};
+ghost use Rattle.orc_engine.specs.Faults.{IsOwn};
 ghost use Rattle.orc_engine.specs.Stops.{Goes, Advances, HasMoved, IsNearer, HasTurned, NoneIsDue, IsAtWork, Stops};
 
 use crate::fault::EngineFault;
@@ -509,7 +510,7 @@ impl<P: Naming> Desk<P> {
         requires answers { answers.now.sites ≡ P.sites }
         ensures played { IfOk result (λ p. IsPlayed P.listing answers.now keeps_text P.limit p.summary p.published.items p.text.items) }
         ensures range { IfErr result (λ fault. fault ≡ EngineFault.Range → ⊥) }
-        ensures sound { IfErr result (λ fault. fault ≡ EngineFault.Broken → Stops P.listing self.ledger stop → IsProgram (definitions P.listing) (source P.listing) → HasNames P.listing answers.now → ⊥) }
+        ensures sound { IfErr result (λ fault. IsOwn fault → Stops P.listing self.ledger stop → IsProgram (definitions P.listing) (source P.listing) → HasNames P.listing answers.now → ⊥) }
     {
         let end = self.end(program, graph, answers, stop)?;
         let alloc = self.alloc;
@@ -529,7 +530,7 @@ impl<P: Naming> Desk<P> {
         requires answers { answers.now.sites ≡ P.sites }
         ensures ended { IfOk result (λ end. HasEnded P.listing answers.now self.new.ledger end) }
         ensures range { IfErr result (λ fault. fault ≡ EngineFault.Range → ⊥) }
-        ensures sound { IfErr result (λ fault. fault ≡ EngineFault.Broken → Stops P.listing self.old.ledger stop → IsProgram (definitions P.listing) (source P.listing) → ⊥) }
+        ensures sound { IfErr result (λ fault. IsOwn fault → Stops P.listing self.old.ledger stop → IsProgram (definitions P.listing) (source P.listing) → ⊥) }
     {
         match stop {
             Stop::Rests => self.rested(graph, answers),

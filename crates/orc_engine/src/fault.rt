@@ -12,7 +12,7 @@ pub enum EngineFault {
     Range,
     /// Memory was refused before the run began, or for what is told of it.
     Memory,
-    /// The engine found nothing to do where something was left. No run is known to end so.
+    /// Several workers found nothing to do where something was left. No run is known to end so.
     Broken,
     /// The sites answered the call with this number otherwise than the table says, or not when it was due.
     Site(u64),

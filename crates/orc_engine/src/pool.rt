@@ -3,6 +3,10 @@
 ghost use Rattle.std.specs.Prelude.{◌≡◌, ◌≤◌, ◌↔◌, Err, IfOk, IfErr};
 ghost use Rattle.orc_rules.specs.declared.limits.TheConstants.{MOST_ENTRIES};
 ghost use Rattle.orc_outcome.specs.Outcome.{IsPlayed};
+ghost use Rattle.orc_rules.specs.Named.{HasNames};
+ghost use Rattle.orc_rules.specs.Nodes.{definitions, source};
+ghost use Rattle.orc_rules.specs.Program.{IsProgram};
+ghost use Rattle.orc_engine.specs.Faults.{IsOwn};
 ghost use Rattle.orc_engine.specs.Ranges.{IsInRange};
 
 use crate::alone;
@@ -32,7 +36,8 @@ use std::thread::{Scope, Threads};
 /// the table and the gate is open, nobody is asked, and it is a run of `run_alone`.
 ///
 /// The fault is Range where there are no workers or over `MOST_WORKERS`, or the limit is 0 or over `MOST_ENTRIES`, and then alone; Site where the
-/// sites answered a call otherwise than the table says, or not when it was due; Memory or Broken as of `run_alone`.
+/// sites answered a call otherwise than the table says, or not when it was due; Broken where something is left that no worker has; Memory as of
+/// `run_alone`. Where nobody is asked Site and Broken come no more than there.
 pub fn run_pool<R, S, G>(
     rt: &R,
     alloc: Global,
@@ -51,6 +56,7 @@ where
     G: Gate + Sync,
     ensures played { IfOk result (λ p. IsPlayed program.now answers.now keeps_text limit p.summary p.published.items p.text.items) }
     ensures range { result ≡ Err EngineFault.Range ↔ (IsInRange workers limit → ⊥) }
+    ensures sound { S.by_table sites.now → G.holds_nobody gate.now → IfErr result (λ fault. IsOwn fault → IsProgram (definitions program.now) (source program.now) → HasNames program.now answers.now → ⊥) }
 {
     if workers < 1 || workers > MOST_WORKERS || limit < 1 || limit > MOST_ENTRIES {
         return Err(EngineFault::Range);
@@ -60,7 +66,7 @@ where
     };
     let limit = limit as usize;
     if sites.goes_by_table() && gate.is_open() {
-        return alone::run_named::<Brand>(alloc, program, &graph, answers, keeps_text, limit);
+        return alone::run_graph::<Brand>(alloc, program, &graph, answers, keeps_text, limit);
     }
     run_named::<Brand, R, S, G>(
         rt, alloc, program, &graph, answers, sites, gate, workers, keeps_text, limit,

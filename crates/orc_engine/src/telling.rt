@@ -6,6 +6,7 @@ ghost use Rattle.orc_journal.specs.declared.journal.Version.TheVariants.{Two};
 ghost use Rattle.orc_journal.specs.Texts.{AreOf};
 ghost use Rattle.orc_outcome.specs.Outcome.{text_of, IsPlayed};
 ghost use Rattle.orc_engine.specs.Ends.{HasEnded};
+ghost use Rattle.orc_engine.specs.Faults.{IsOwn};
 
 use crate::fault::EngineFault;
 use orc_journal::{Journal, write_journal};
@@ -20,7 +21,7 @@ fn text_of(alloc: Global, journal: &Journal, answers: &Answers) -> Result<Vec<u8
     ensures text { IfOk result (λ text. text.items ≡ text_of answers.now.names journal.now.entries) }
     ensures fits { IfOk result (λ _. AreOf answers.now.names Two journal.now.entries) }
     ensures range { IfErr result (λ fault. fault ≡ EngineFault.Range → ⊥) }
-    ensures named { IfErr result (λ fault. fault ≡ EngineFault.Broken → AreNamed answers.now.names journal.now.entries → ⊥) }
+    ensures named { IfErr result (λ fault. IsOwn fault → AreNamed answers.now.names journal.now.entries → ⊥) }
 {
     let mut text = Vec::new(alloc);
     match write_journal(journal, answers, &mut text) {
@@ -42,7 +43,7 @@ pub(crate) fn tell<P: Naming>(
     requires ended { HasEnded P.listing answers.now ledger end }
     ensures played { IfOk result (λ p. IsPlayed P.listing answers.now keeps_text P.limit p.summary p.published.items p.text.items) }
     ensures range { IfErr result (λ fault. fault ≡ EngineFault.Range → ⊥) }
-    ensures named { IfErr result (λ fault. fault ≡ EngineFault.Broken → HasNames P.listing answers.now → ⊥) }
+    ensures named { IfErr result (λ fault. IsOwn fault → HasNames P.listing answers.now → ⊥) }
 {
     let now = ledger.time();
     ledger.is_whole();

@@ -2,10 +2,14 @@
 
 ghost use Rattle.std.specs.Prelude.{◌≡◌, ◌↔◌, ℕ, List, length, Err, IfOk, IfErr, OnOk, OnErr};
 ghost use Rattle.std.specs.Io.KnownBytes.{Appends};
+ghost use Rattle.orc_rules.specs.Named.{HasNames};
+ghost use Rattle.orc_rules.specs.Nodes.{definitions, source};
+ghost use Rattle.orc_rules.specs.Program.{IsProgram};
 ghost use Rattle.orc_outcome.specs.Outcome.{IsPlayed};
+ghost use Rattle.orc_engine.specs.Faults.{IsOwn};
 ghost use Rattle.orc_engine.specs.Ranges.{IsInRange};
 ghost use Rattle.orc_run.specs.Output.{AppendsPrefix};
-ghost use Rattle.orc_run.specs.Running.{Ran, LeavesAtFault, IsFaultOf, IsOther, kept};
+ghost use Rattle.orc_run.specs.Running.{Ran, LeavesAtFault, IsFaultOf, IsOther, IsOwnOf, kept};
 
 use crate::faults::RunFault;
 use crate::output::{WriteFault, write_text};
@@ -30,6 +34,7 @@ pub fn play<R: Threads + Wait + Sync>(
 ) -> Result<Played, EngineFault>
     ensures ran { IfOk result (λ p. IsPlayed loaded.now.program loaded.now.answers options.now.journal options.now.limit p.summary p.published.items p.text.items) }
     ensures range { result ≡ Err EngineFault.Range ↔ (IsInRange options.now.workers options.now.limit → ⊥) }
+    ensures sound { IfErr result (λ fault. IsOwn fault → IsProgram (definitions loaded.now.program) (source loaded.now.program) → HasNames loaded.now.program loaded.now.answers → ⊥) }
 {
     if options.workers == 1 {
         return run_alone(
@@ -62,6 +67,7 @@ fn run_program<R: Threads + Wait + Sync>(
     ensures ran { IfOk result (λ p. IsPlayed loaded.now.program loaded.now.answers options.now.journal options.now.limit p.summary p.published.items p.text.items) }
     ensures fault { IfErr result IsOther }
     ensures range { IfErr result (λ f. f ≡ RunFault.Engine EngineFault.Range → IsInRange options.now.workers options.now.limit → ⊥) }
+    ensures sound { IfErr result (λ f. IsOwnOf f → IsProgram (definitions loaded.now.program) (source loaded.now.program) → HasNames loaded.now.program loaded.now.answers → ⊥) }
 {
     play(rt, alloc, loaded, options).map_err(RunFault::Engine)
 }
@@ -88,7 +94,7 @@ fn write_run<W: Write>(
 ///
 /// A fault is answered where the source's text, the script or the source's names are at fault, in this order; then
 /// `Engine` where the engine brings the run to no end (the limit is out of range, or memory is refused before the run begins or for what is
-/// told of it); and `Write` where memory for the text is refused or the output isn't taken whole. Nothing is written then, but at a fault of the output a prefix
+/// told of it; no other fault of the engine comes); and `Write` where memory for the text is refused or the output isn't taken whole. Nothing is written then, but at a fault of the output a prefix
 /// of the text. A run for which memory is refused once it has begun ends so, and what it has published is written.
 pub fn run_text<R: Threads + Wait + Sync, W: Write>(
     rt: &R,
@@ -102,6 +108,7 @@ pub fn run_text<R: Threads + Wait + Sync, W: Write>(
     ensures fault { IfErr result (LeavesAtFault source.now script.now options.now (W.contents out.old) (W.contents out.new)) }
     ensures cause { IfErr result (IsFaultOf source.now script.now) }
     ensures range { IfErr result (λ f. f ≡ RunFault.Engine EngineFault.Range → IsInRange options.now.workers options.now.limit → ⊥) }
+    ensures sound { IfErr result (λ f. IsOwnOf f → ⊥) }
 {
     let loaded = load(alloc, source, script)?;
     let played = run_program(rt, alloc, &loaded, options)?;

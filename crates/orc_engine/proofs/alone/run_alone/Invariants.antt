@@ -1,5 +1,5 @@
 -- The program, the sites and the limit of the run name the ledger's.
 use Rattle.orc_engine.proofs.alone.run_alone.Given as goal
 
-abbrev pub ghosts-run_named : goal.ghosts-run_named
-ghosts-run_named a = record { listing = a.program.now; sites = a.answers.now.sites; limit = a.limit }
+abbrev pub ghosts-run_graph : goal.ghosts-run_graph
+ghosts-run_graph a = record { listing = a.program.now; sites = a.answers.now.sites; limit = a.limit }

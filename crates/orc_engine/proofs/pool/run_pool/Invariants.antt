@@ -3,3 +3,6 @@ use Rattle.orc_engine.proofs.pool.run_pool.Given as goal
 
 abbrev pub ghosts-run_named : goal.ghosts-run_named
 ghosts-run_named g a = record { listing = a.program.now; sites = a.answers.now.sites; limit = a.limit }
+
+abbrev pub ghosts-run_graph : goal.ghosts-run_graph
+ghosts-run_graph g a = record { listing = a.program.now; sites = a.answers.now.sites; limit = a.limit }

@@ -7,7 +7,7 @@ use Rattle.orc_journal.specs.declared.journal.Version.TheVariants.{Two}
 use Rattle.orc_journal.specs.Texts.{AreOf}
 use Rattle.orc_outcome.specs.Outcome.{context, text_of, EndsAt}
 use Rattle.orc_ledger.specs.Whole.{IsWhole}
-use Rattle.orc_engine.specs.declared.fault.EngineFault.TheVariants.{Broken}
+use Rattle.orc_engine.specs.Faults.{IsOwn}
 use Rattle.orc_engine.proofs.telling.tell.Goals as goal
 use Rattle.orc_engine.proofs.telling.tell.Goals.{then-keeps_text+in_ok-text, else-keeps_text}
 
@@ -42,5 +42,5 @@ returns-in_err-text-clause-named g c =
     let s = c.args.ledger in
     let whole : IsWhole l t.sites s = subst (λ z. IsWhole l z s) (sym c.requires.sites) c.is_whole.ensures in
     let named : HasNames l t → AreNamed t.names c.into_journal-journal.result.entries = λ has. subst (AreNamed t.names) (sym c.into_journal-journal.ensures.entries) (calls_are_named (context l t) (source l) t.names s.journal whole.place has.0 has.1 whole.leads) in
-    let unnamed : c.in_err-text.field-0.0 ≡ Broken → HasNames l t → ⊥ = λ e has. c.in_err-text.ensures.named e (named has) in
+    let unnamed : IsOwn c.in_err-text.field-0.0 → HasNames l t → ⊥ = λ e has. c.in_err-text.ensures.named e (named has) in
     search (rules, unnamed)

@@ -1,5 +1,5 @@
 use Rattle.orc_run.specs.Running.{kept}
-use Rattle.orc_run.proofs.Told.{told}
+use Rattle.orc_run.proofs.Told.{told, taken}
 use Rattle.orc_run.proofs.running.run_text.Goals as goal
 
 -- the run whose text was written
@@ -17,3 +17,10 @@ returns-clause-fault g c =
     let played = c.in_ok-played.played in
     let tells = told loaded.program loaded.answers c.args.options.now played.summary played.published.items played.text.items c.in_ok-played.ensures.ran in
     (played.summary, kept c.args.options.now.journal played.published.items played.text.items, (loaded.program, loaded.answers, c.in_ok-loaded.ensures.says, c.in_ok-loaded.ensures.spells, tells), c.in-Err.ensures.err)
+
+-- a fault of the engine's own comes of no program that was loaded
+pub returns-in_err-played-clause-sound : goal.returns-in_err-played-clause-sound
+returns-in_err-played-clause-sound g c =
+    let loaded = c.in_ok-loaded.loaded in
+    let good = taken c.args.source.now loaded.answers loaded.program c.in_ok-loaded.ensures.spells in
+    λ own. c.in_err-played.ensures.sound own good.0 good.1

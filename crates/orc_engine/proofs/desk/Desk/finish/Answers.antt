@@ -3,7 +3,7 @@ use Rattle.orc_rules.specs.Named.{HasNames}
 use Rattle.orc_rules.specs.Nodes.{definitions, source}
 use Rattle.orc_rules.specs.Program.{IsProgram}
 use Rattle.orc_engine.specs.Stops.{Stops}
-use Rattle.orc_engine.specs.declared.fault.EngineFault.TheVariants.{Broken}
+use Rattle.orc_engine.specs.Faults.{IsOwn}
 use Rattle.orc_engine.proofs.Stopping.{weaker-fault}
 use Rattle.orc_engine.proofs.desk.Desk.finish.Goals as goal
 
@@ -11,4 +11,4 @@ pub returns-clause-sound : goal.returns-clause-sound
 returns-clause-sound g c =
     let l = g.P.Program.listing in
     let t = c.args.answers.now in
-    weaker-fault c.tell.result (λ f. f ≡ Broken → HasNames l t → ⊥) (λ f. f ≡ Broken → Stops l c.args.self.ledger c.args.stop → IsProgram (definitions l) (source l) → HasNames l t → ⊥) (λ f h broken stops is has. h broken has) c.tell.ensures.named
+    weaker-fault c.tell.result (λ f. IsOwn f → HasNames l t → ⊥) (λ f. IsOwn f → Stops l c.args.self.ledger c.args.stop → IsProgram (definitions l) (source l) → HasNames l t → ⊥) (λ f h own stops is has. h own has) c.tell.ensures.named
