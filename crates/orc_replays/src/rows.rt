@@ -1,6 +1,7 @@
 //! Rows by calls of the ledger: what it writes, what comes next, and what it refuses.
 
 ghost use Rattle.std.specs.Prelude.{◌≡◌};
+ghost use Rattle.orc_rules.specs.declared.limits.TheConstants.{MOST_ENTRIES};
 
 use crate::replay_text;
 use crate::replaying::{Odd, Replay, Stop};
