@@ -1,4 +1,5 @@
-use Rattle.orc_run.specs.Running.{kept}
+use Rattle.std.proofs.Common.{rules}
+use Rattle.orc_run.specs.Running.{IsOwnOf, kept}
 use Rattle.orc_run.proofs.Told.{told, taken}
 use Rattle.orc_run.proofs.running.run_text.Goals as goal
 
@@ -23,4 +24,5 @@ pub returns-in_err-played-clause-sound : goal.returns-in_err-played-clause-sound
 returns-in_err-played-clause-sound g c =
     let loaded = c.in_ok-loaded.loaded in
     let good = taken c.args.source.now loaded.answers loaded.program c.in_ok-loaded.ensures.spells in
-    λ own. c.in_err-played.ensures.sound own good.0 good.1
+    let unowned : IsOwnOf c.in_err-played.field-0.0 → ⊥ = λ own. c.in_err-played.ensures.sound own good.0 good.1 in
+    search (rules, unowned)
