@@ -1,0 +1,5 @@
+pub mod Calls
+pub mod Grafted
+pub mod Holes
+pub mod Marks
+pub mod Shapes

@@ -1,0 +1,47 @@
+-- A part's own run is a run of the whole: what it comes to, where the whole publishes what the part does.
+use Rattle.std.specs.Prelude.{◌≡◌, ◌<◌, ◌≤◌, ℕ, ◌+◌, ◌^◌, List, [], ◌++◌, false, length, map}
+use Rattle.std.specs.List.{AllByRecursion}
+use Rattle.orc_rules.specs.declared.entry.Entry.{Entry}
+use Rattle.orc_rules.specs.Term.{Term}
+use Rattle.orc_rules.specs.Sites.{Site, is_scripted}
+use Rattle.orc_rules.specs.Marked.{Marked, token, in_par, in_opened}
+use Rattle.orc_rules.specs.Timed.{Context, CallMade}
+use Rattle.orc_rules.specs.Journal.{Place, Journal, begin}
+use Rattle.orc_graft.specs.declared.numbering.Numbering.{Numbering}
+use Rattle.orc_graft.specs.Moved.{moved, moved_marked, AreLocal}
+
+-- m becomes m' where one x in it becomes y, round which there are only sides of `|` and left sides of open cells: all that it publishes the whole publishes
+pub data Branches (x y : Marked) : Marked → Marked → Type 0 where
+  whole : Branches x y x y
+  on_left : {f g f' : Marked} → Branches x y f f' → Branches x y (in_par f g) (in_par f' g)
+  on_right : {f g g' : Marked} → Branches x y g g' → Branches x y (in_par f g) (in_par f g')
+  on_main : {f g f' : Marked} {c : ℕ} → Branches x y f f' → Branches x y (in_opened f c g) (in_opened f' c g)
+
+-- the part's numbers are those that come next at a place
+pub record Follows (n : Numbering) (p : Place) : Type 0 where
+  pub mark : n.mark ≡ p.mark
+  pub calls : n.calls ≡ length p.calls
+  pub later : 2 ≤ p.mark
+
+-- a call of the part: behind those that were made, and no script answers it
+abbrev pub IsNewCall : List Site → ℕ → CallMade → Type 0
+IsNewCall sites made c = (made < c.number) × (is_scripted sites c.site ≡ false)
+
+-- the whole's journal goes on by the part's entries from p to r, where the part has come to its own place q
+pub record Grafts (x : Context) (n : Numbering) (es : List Entry) (q p r : Place) : Type 0 where
+  pub leads : Journal x p (map (moved n) es) r
+  pub mark : r.mark + 2 ≡ p.mark + q.mark
+  pub now : r.now ≡ p.now
+  pub cells : r.cells ≡ p.cells
+  pub to_cancel : r.to_cancel ≡ []
+  pub calls : List CallMade
+  pub made : r.calls ≡ calls ++ p.calls
+  pub as_many : length calls ≡ length q.calls
+  pub new : AllByRecursion (IsNewCall x.sites (length p.calls)) calls
+
+-- the journal of a part's own run, put behind that of a run in which the part stands as a token whose publications are the whole's, is a journal
+abbrev pub PartIsGrafted : Type 0
+PartIsGrafted = (x : Context) (n : Numbering) (t : Term) (es : List Entry) (q p : Place) (m : Marked)
+    → Journal x (begin t) es q → AreLocal x.sites es → Follows n p → p.now < 2 ^ 64 → p.to_cancel ≡ []
+    → Branches (token n.token t) (moved_marked n q.marked) p.marked m
+    → (r : Place) × (r.marked ≡ m) × Grafts x n es q p r
