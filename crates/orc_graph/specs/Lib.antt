@@ -1,3 +1,4 @@
 pub mod Bodies
+pub mod Called
 pub mod Graph
 pub mod Ranges

@@ -1,9 +1,11 @@
 //! The definitions, their parameters one behind another.
 
-ghost use Rattle.std.specs.Prelude.{◌≡◌, ◌++◌, ◌∷◌, [], length, map, slice_get, option_map, MatchOption, OnOk};
+ghost use Rattle.std.specs.Prelude.{◌≡◌, ◌++◌, ◌∷◌, [], length, map, slice_get, option_map, true, MatchOption, IfOk, OnOk};
+ghost use Rattle.std.specs.List.{AllByRecursion};
+ghost use Rattle.orc_graph.specs.Called.{HasBody};
 ghost use Rattle.orc_graph.specs.Ranges.{params_at};
 
-use crate::numbers::{GraphFault, Range, part, place, put, short};
+use crate::numbers::{GraphFault, Range, copied, part, place, put, short};
 use std::alloc::Global;
 use std::marker::Model;
 
@@ -62,6 +64,28 @@ impl Definitions {
         let params = place(&mut self.names, params)?;
         put(&mut self.bodies, Body { params, node })?;
         Ok(())
+    }
+
+    /// The same definitions again. The error is refused memory.
+    pub(crate) fn copied(&self, alloc: Global) -> Result<Definitions, GraphFault>
+        ensures { IfOk result (λ definitions. definitions ≡ self.now) }
+    {
+        Ok(Definitions {
+            names: copied(alloc, &self.names, 0)?,
+            bodies: copied(alloc, &self.bodies, 0)?,
+        })
+    }
+
+    /// Whether each body is one of so many nodes.
+    pub(crate) fn have_bodies(&self, nodes: usize) -> bool
+        ensures { result ≡ true → AllByRecursion (HasBody nodes) self.now }
+    {
+        for body in &self.bodies {
+            if body.node as usize >= nodes {
+                return false;
+            }
+        }
+        true
     }
 
     /// How many definitions there are.

@@ -1,7 +1,12 @@
 //! The graph of a program.
 
-ghost use Rattle.std.specs.Prelude.{◌≡◌, ◌≤◌, ◌++◌, ◌∷◌, [], length, map, slice_get, slice_index_or, option_map, IfOk, IfErr};
-ghost use Rattle.orc_rules.specs.Nodes.{ArePartsFirst, node_of, unfold_node, code};
+ghost use Rattle.std.specs.Prelude.{◌≡◌, ◌≤◌, ◌++◌, ◌∷◌, [], length, map, slice_get, slice_index_or, option_map, true, IfOk, IfErr};
+ghost use Rattle.std.specs.List.{AllByRecursion};
+ghost use Rattle.orc_rules.specs.Nodes.{ArePartsFirst, node_of, unfold_node, code, source, definitions};
+ghost use Rattle.orc_rules.specs.Term.{call};
+ghost use Rattle.orc_rules.specs.declared.param.Operand.TheVariants.{Is as operand_is};
+ghost use Rattle.orc_rules.specs.declared.param.Param.TheVariants.{Is as param_is};
+ghost use Rattle.orc_graph.specs.Called.{with_call, HasList};
 ghost use Rattle.orc_rules.specs.declared.limits.TheConstants.{MOST_ARGUMENTS};
 ghost use Rattle.orc_graph.specs.Graph.{term_node};
 ghost use Rattle.orc_graph.specs.Ranges.{params_at};
@@ -9,9 +14,10 @@ ghost use Rattle.orc_graph.specs.Ranges.{params_at};
 use crate::definitions::Definitions;
 use crate::lists::Lists;
 use crate::node::Node;
-use crate::numbers::{GraphFault, put, short};
-use orc_rules::param::Operand;
+use crate::numbers::{GraphFault, copied, put, short};
+use orc_rules::param::{Operand, Operands};
 use orc_rules::program::{Program, TermNode};
+use orc_rules::value::Value;
 use std::alloc::Global;
 use std::marker::Model;
 
@@ -99,6 +105,28 @@ fn definitions_of(alloc: Global, program: &Program) -> Result<Definitions, Graph
     Ok(definitions)
 }
 
+// Values as operands.
+fn operands_of(values: &[Value]) -> Operands
+    requires { length values.now ≤ MOST_ARGUMENTS }
+    ensures { result ≡ map operand_is values.now }
+{
+    let mut operands = Operands::new();
+    for value in values {
+        operands.push(Operand::Is(*value));
+    }
+    operands
+}
+
+// Whether the list that a node names is one of so many.
+fn has_list(node: Node, lists: usize) -> bool
+    ensures { result ≡ true → HasList lists (term_node node) }
+{
+    match node {
+        Node::Site(_, list) | Node::Call(_, list) => (list as usize) < lists,
+        _ => true,
+    }
+}
+
 impl Graph {
     /// The graph of a program: it has the same nodes, lists, definitions and main term. `Memory` is the only fault: memory was refused, or a
     /// number of the program takes more than 32 bits.
@@ -111,6 +139,53 @@ impl Graph {
         let nodes = short_nodes(alloc, program)?;
         let lists = lists_of(alloc, program)?;
         let definitions = definitions_of(alloc, program)?;
+        Ok(Graph {
+            nodes,
+            lists,
+            definitions,
+            root,
+        })
+    }
+
+    // Whether each list that a node names is there.
+    fn have_lists(&self) -> bool
+        ensures { result ≡ true → AllByRecursion (HasList (length self.now.lists)) self.now.nodes }
+    {
+        let lists = self.lists.len();
+        for node in &self.nodes {
+            if !has_list(*node, lists) {
+                return false;
+            }
+        }
+        true
+    }
+
+    /// A copy of the graph whose main term is the call of that definition with these values: one node and one list more, behind the others.
+    /// `Memory` is the only fault: memory was refused, or a number would take more than 32 bits. It also stands for a graph in which a node names a
+    /// list that isn't there, or a definition a body that isn't, since what is added could be taken for those; no checked program has such a graph.
+    pub fn for_call(
+        &self,
+        alloc: Global,
+        definition: u32,
+        args: &[Value],
+    ) -> Result<Graph, GraphFault>
+        requires { length args.now ≤ MOST_ARGUMENTS }
+        ensures calls { IfOk result (λ graph. source graph ≡ call definition (map param_is args.now)) }
+        ensures same { IfOk result (λ graph. definitions graph ≡ definitions self.now) }
+        ensures whole { IfOk result (λ graph. graph ≡ with_call self.now definition args.now) }
+        ensures why { IfErr result (λ fault. fault ≡ GraphFault.Memory) }
+    {
+        let len = self.len();
+        if !self.have_lists() || !self.definitions.have_bodies(len) {
+            return Err(GraphFault::Memory);
+        }
+        let root = short(len)?;
+        let list = short(self.lists.len())?;
+        let mut nodes = copied(alloc, &self.nodes, 1)?;
+        put(&mut nodes, Node::Call(definition, list))?;
+        let mut lists = self.lists.copied(alloc)?;
+        lists.push(operands_of(args).as_slice())?;
+        let definitions = self.definitions.copied(alloc)?;
         Ok(Graph {
             nodes,
             lists,

@@ -1,9 +1,10 @@
 //! The lists of operands, one behind another.
 
-ghost use Rattle.std.specs.Prelude.{◌≡◌, ◌++◌, ◌∷◌, ◌≤◌, [], length, map, slice_index_or, slice_get, OnOk};
+ghost use Rattle.std.specs.Prelude.{◌≡◌, ◌++◌, ◌∷◌, ◌≤◌, [], length, map, slice_index_or, slice_get, IfOk, OnOk};
 ghost use Rattle.orc_rules.specs.declared.limits.TheConstants.{MOST_ARGUMENTS};
 
-use crate::numbers::{GraphFault, Range, part, place, put};
+use crate::numbers::{GraphFault, Range, copied, part, place, put};
+use orc_rules::limits::MOST_ARGUMENTS;
 use orc_rules::param::Operand;
 use std::alloc::Global;
 use std::marker::Model;
@@ -46,6 +47,23 @@ impl Lists {
             operands: Vec::new(alloc),
             ranges: Vec::new(alloc),
         }
+    }
+
+    /// The same lists again, with room for one more. The error is refused memory.
+    pub(crate) fn copied(&self, alloc: Global) -> Result<Lists, GraphFault>
+        ensures { IfOk result (λ lists. lists ≡ self.now) }
+    {
+        Ok(Lists {
+            operands: copied(alloc, &self.operands, MOST_ARGUMENTS)?,
+            ranges: copied(alloc, &self.ranges, 1)?,
+        })
+    }
+
+    /// How many lists there are.
+    pub(crate) fn len(&self) -> usize
+        ensures { result ≡ length self.now }
+    {
+        self.ranges.len()
     }
 
     /// Adds a list at the end.

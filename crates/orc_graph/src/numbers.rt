@@ -3,6 +3,8 @@
 ghost use Rattle.orc_graph.specs.Ranges.{cut};
 ghost use Rattle.std.specs.Prelude.{◌≡◌, ◌++◌, ◌∷◌, ◌+◌, ◌≤◌, [], length, IfOk, OnOk, if◌then◌else◌, is_ok};
 
+use std::alloc::Global;
+
 /// Why no graph is made of a program.
 #[derive(Clone, Copy, Debug, PartialEq, Eq)]
 pub enum GraphFault {
@@ -33,6 +35,24 @@ pub(crate) fn put<T: Copy + Drop>(items: &mut Vec<T>, item: T) -> Result<(), Gra
 {
     match items.push(item) {
         Ok(()) => Ok(()),
+        Err(_) => Err(GraphFault::Memory),
+    }
+}
+
+/// The same items again, with room for as many more. The error is refused memory.
+pub(crate) fn copied<T: Copy + Drop>(
+    alloc: Global,
+    items: &[T],
+    more: usize,
+) -> Result<Vec<T>, GraphFault>
+    ensures { IfOk result (λ copy. copy.items ≡ items.now) }
+{
+    let mut copy = Vec::new(alloc);
+    if copy.try_reserve(items.len().saturating_add(more)).is_err() {
+        return Err(GraphFault::Memory);
+    }
+    match copy.extend_from_slice(items) {
+        Ok(()) => Ok(copy),
         Err(_) => Err(GraphFault::Memory),
     }
 }

@@ -3,6 +3,7 @@ pub mod Codes
 pub mod Composing
 pub mod Digits
 pub mod Entries
+pub mod Grafted
 pub mod Keeping
 pub mod Loops
 pub mod Names

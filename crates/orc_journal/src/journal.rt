@@ -30,8 +30,8 @@ pub enum Version {
 #[derive(Drop)]
 pub struct Journal {
     version: Version,
-    rows: Vec<Row>,
-    tables: Tables,
+    pub(crate) rows: Vec<Row>,
+    pub(crate) tables: Tables,
 }
 
 impl Model for Journal {

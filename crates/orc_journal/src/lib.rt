@@ -2,6 +2,7 @@
 #![tactic(auto)]
 
 mod fitting;
+mod grafting;
 mod journal;
 mod lines;
 mod reading;

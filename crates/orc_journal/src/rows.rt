@@ -1,10 +1,10 @@
 //! The entries of a journal in 16 bytes each, with tables of what doesn't fit there.
 
-ghost use Rattle.std.specs.Prelude.{◌≡◌, ◌≤◌, ◌∷◌, List, [], length, slice_index_or, option_to_list, IfOk, IfSome, OnOk, OnErr};
+ghost use Rattle.std.specs.Prelude.{◌≡◌, ◌≤◌, ◌∷◌, List, [], length, take, drop, slice_index_or, option_to_list, IfOk, IfSome, OnOk, OnErr};
 ghost use Rattle.orc_rules.specs.Trace.{published};
 ghost use Rattle.orc_rules.specs.declared.limits.TheConstants.{MOST_ARGUMENTS};
 ghost use Rattle.orc_rules.specs.declared.entry.Entry.TheVariants.{Call};
-ghost use Rattle.orc_journal.specs.Rows.{last_of, parts_in, no_call, value_at, call_by, entry_of, grown, plain, given, HasCall, HasValue, IsPlain, IsThere, IsWithin, Keeps, Names, StandsAt, StandFrom, StandsFor};
+ghost use Rattle.orc_journal.specs.Rows.{last_of, parts_in, no_call, value_at, call_by, entry_of, grown, plain, given, HasArguments, HasCall, HasValue, IsPlain, IsThere, IsWithin, Keeps, Names, StandsAt, StandFrom, StandsFor};
 ghost use Rattle.orc_journal.specs.declared.rows.Parts.{Parts as PartsOf};
 
 use crate::room::put;
@@ -172,7 +172,7 @@ impl Tables {
     // The row of an entry of numbers alone. Neither it nor that of an entry with a value is inlined: so `add` is small, and is inlined itself where an
     // entry's kind is known.
     #[inline(never)]
-    fn add_plain(
+    pub(crate) fn add_plain(
         &mut self,
         kind: Kind,
         first: u64,
@@ -286,7 +286,9 @@ impl Tables {
         }
     }
 
-    fn parts_at(&self, row: Row) -> Parts
+    /// The parts of a row.
+    #[inline(always)]
+    pub(crate) fn parts_at(&self, row: Row) -> Parts
         requires { IsThere self.now.wides row }
         ensures { result ≡ parts_in self.now.wides row }
     {
@@ -298,14 +300,42 @@ impl Tables {
         }
     }
 
+    /// A call's site and where its arguments stand.
+    #[inline(always)]
+    pub(crate) fn called(&self, at: u64) -> Called
+        requires { HasCall self.now at }
+        ensures called { result ≡ slice_index_or self.now.calls at no_call }
+        ensures arguments { HasArguments self.now.values result }
+    {
+        self.calls[at as usize]
+    }
+
+    /// The arguments of a call.
+    #[inline(always)]
+    pub(crate) fn args(&self, called: Called) -> &[Value]
+        requires { HasArguments self.now.values called }
+        ensures value { result.now ≡ take called.count (drop called.start self.now.values) }
+        ensures len { length result.now ≤ MOST_ARGUMENTS }
+    {
+        let start = called.start as usize;
+        let end = start + called.count as usize;
+        &self.values[start..end]
+    }
+
+    /// The value at a place.
+    #[inline(always)]
+    pub(crate) fn value(&self, at: u64) -> Value
+        ensures { result ≡ value_at self.now.values at }
+    {
+        value_at(&self.values, at)
+    }
+
     fn call(&self, s: u64, k: u64, at: u64) -> Entry
         requires { HasCall self.now at }
         ensures { result ≡ call_by self.now.values s k (slice_index_or self.now.calls at no_call) }
     {
-        let called = self.calls[at as usize];
-        let start = called.start as usize;
-        let end = start + called.count as usize;
-        Entry::Call(s, k, called.site, args_of(&self.values[start..end]))
+        let called = self.called(at);
+        Entry::Call(s, k, called.site, args_of(self.args(called)))
     }
 
     /// The entry of a row.
@@ -322,14 +352,14 @@ impl Tables {
             Kind::Def => Entry::Def(p.first, p.second),
             Kind::Void => Entry::Void(p.first),
             Kind::Open => Entry::Open(p.first, p.second, p.third, p.fourth),
-            Kind::Send => Entry::Send(p.first, p.second, value_at(&self.values, p.third)),
+            Kind::Send => Entry::Send(p.first, p.second, self.value(p.third)),
             Kind::Call => self.call(p.first, p.second, p.third),
-            Kind::Return => Entry::Return(p.first, p.second, value_at(&self.values, p.third)),
+            Kind::Return => Entry::Return(p.first, p.second, self.value(p.third)),
             Kind::ReturnHalt => Entry::ReturnHalt(p.first),
-            Kind::Bind => Entry::Bind(p.first, p.second, value_at(&self.values, p.third)),
+            Kind::Bind => Entry::Bind(p.first, p.second, self.value(p.third)),
             Kind::Lost => Entry::Lost(p.first),
             Kind::Right => Entry::Right(p.first, p.second),
-            Kind::Publish => Entry::Publish(p.first, value_at(&self.values, p.third)),
+            Kind::Publish => Entry::Publish(p.first, self.value(p.third)),
             Kind::Tick => Entry::Tick(p.first),
             Kind::Cancel => Entry::Cancel(p.first),
         }
@@ -342,7 +372,7 @@ impl Tables {
     {
         let p = self.parts_at(row);
         match p.kind {
-            Kind::Publish => Some(value_at(&self.values, p.third)),
+            Kind::Publish => Some(self.value(p.third)),
             _ => None,
         }
     }

@@ -1,7 +1,8 @@
 -- The table of calls: each number leads to its call's place.
 use Rattle.std.proofs.Common.{◌≡◌, ◌≤◌, ◌<◌, ◌-◌, ℕ, zero, suc, List, [], ◌∷◌, refl, ap, ◌∙◌, arith, length, get_or, Bool, true, false, cond, Some, ◌+◌, ◌++◌, sym, subst, inl, inr, ◌⊎◌, ⊎_elim, nat_eq, eq-eqb, Option, None, take}
-use Rattle.std.specs.Prelude.{slice_get, slice_set, slice_index_or}
+use Rattle.std.specs.Prelude.{slice_get, slice_set, slice_index_or, replicate, if◌then◌else◌}
 use Rattle.std.specs.List.{swap_remove}
+use Rattle.std.proofs.lemmas.List.{take_all}
 use Rattle.std.proofs.lemmas.Bool.{eqb-true}
 use Rattle.std.proofs.Math.Decide.{ℕ_discrete}
 use Rattle.orc_rules.specs.Timed.{IsIn}
@@ -51,6 +52,16 @@ pub more-got : {X : Type 0} (xs : List X) (x : X) (k : ℕ) (y : X) → slice_ge
 more-got [] x k y h = cc h
 more-got (z ∷ xs) x zero y h = h
 more-got (z ∷ xs) x (suc k) y h = more-got xs x k y h
+
+pub kept-got : {X : Type 0} (xs ys : List X) (k : ℕ) (y : X) → slice_get xs k ≡ Some y → slice_get (xs ++ ys) k ≡ Some y
+kept-got [] ys k y h = cc h
+kept-got (z ∷ xs) ys zero y h = h
+kept-got (z ∷ xs) ys (suc k) y h = kept-got xs ys k y h
+
+-- what was there is there in a list that grew, or stayed as it was
+pub resized-got : (b : Bool) (xs ys : List ℕ) (n m x : ℕ) → ys ≡ (if b then take n xs ++ replicate m x else xs) → length xs ≤ n → (k y : ℕ) → slice_get xs k ≡ Some y → slice_get ys k ≡ Some y
+resized-got true xs ys n m x is le k y h = ap (λ z. slice_get z k) (is ∙ ap (λ z. z ++ replicate m x) (take_all n xs le)) ∙ kept-got xs (replicate m x) k y h
+resized-got false xs ys n m x is le k y h = ap (λ z. slice_get z k) is ∙ h
 
 pub end-got : {X : Type 0} (xs : List X) (x : X) → slice_get (xs ++ x ∷ []) (length xs) ≡ Some x
 end-got [] x = refl

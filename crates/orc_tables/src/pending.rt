@@ -1,6 +1,6 @@
 //! The calls that pend, by their numbers.
 
-ghost use Rattle.std.specs.Prelude.{◌≡◌, ◌+◌, ◌≤◌, ◌<◌, ◌-◌, ◌⊎◌, ◌^◌, [], ℕ, Some, None, true, false, IfSome, IfNone, MatchOption, IfOk, OnOk, length, vec_len, slice_get, slice_set};
+ghost use Rattle.std.specs.Prelude.{◌≡◌, ◌+◌, ◌≤◌, ◌<◌, ◌-◌, ◌⊎◌, ◌^◌, [], ℕ, Some, None, true, false, IfSome, IfNone, MatchOption, IfOk, OnOk, OnErr, length, vec_len, slice_get, slice_set};
 ghost use Rattle.orc_rules.specs.Timed.{IsIn};
 ghost use Rattle.orc_tables.specs.Same.{weight, but};
 ghost use Rattle.orc_tables.specs.PendingCalls.{has_number};
@@ -334,6 +334,18 @@ impl Pending {
         ensures made { self.new.made ≡ self.old.made + 1 }
     {
         push_within(&mut self.places, 0);
+    }
+
+    /// The next numbers, so many, are those of calls that don't pend. Where memory is refused nothing changes.
+    pub fn pass_numbers(&mut self, count: u64) -> Result<(), AllocError>
+        ensures items { self.new.items ≡ self.old.items }
+        ensures made { OnOk result (self.new.made ≡ self.old.made + count) }
+        ensures refused { OnErr result (self.new.made ≡ self.old.made) }
+    {
+        let Some(len) = self.places.len().checked_add(count as usize) else {
+            return Err(AllocError);
+        };
+        self.places.resize(len, 0)
     }
 
     /// Takes the call with this number out, where there is one.
