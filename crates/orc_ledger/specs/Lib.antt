@@ -13,6 +13,7 @@ pub mod Moves
 pub mod Next
 pub mod Offered
 pub mod Parameters
+pub mod Parts
 pub mod Records
 pub mod Requests
 pub mod Spoken

@@ -70,7 +70,7 @@ impl<P: Program> Ledger<P> {
     }
 
     // What a call of a site with these operands does.
-    fn scan(&self, operands: &[Operand], scope: usize) -> What
+    pub(crate) fn scan(&self, operands: &[Operand], scope: usize) -> What
         ensures { result ≡ scan false Nothing (closed (its_env (code P.listing) self.now scope) operands.now) }
     {
         call_with(&self.scopes, &self.cells, operands, scope, false, None)
