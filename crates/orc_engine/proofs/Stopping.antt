@@ -1,18 +1,15 @@
 -- Why a run stops, by what the ledger refuses; and that it comes to an end.
-use Rattle.std.proofs.Common.{◌≡◌, ◌≤◌, ◌<◌, ◌+◌, ◌*◌, ◌^◌, ◌-◌, ◌⊎◌, ℕ, zero, suc, Option, Some, None, Result, Ok, Err, IfOk, IfErr, Bool, true, false, cond, refl, sym, ap, subst, ◌∙◌, arith, inl, inr}
+use Rattle.std.proofs.Common.{◌≡◌, ◌≤◌, ◌<◌, ◌+◌, ◌*◌, ℕ, zero, suc, Option, Some, None, Result, Ok, Err, IfOk, IfErr, Bool, true, false, cond, refl, sym, ap, subst, arith, inl, inr}
 use Rattle.std.specs.Prelude.{nat_lt}
 use Rattle.std.proofs.lemmas.Bool.{ltb-false}
 use Rattle.std.proofs.Math.Nat.{mul-le-mul_left}
 use Rattle.orc_rules.specs.Nodes.{Listing, code, definitions}
-use Rattle.orc_rules.specs.Sites.{Site}
 use Rattle.orc_rules.specs.Term.{Term}
 use Rattle.orc_rules.specs.declared.value.Answer.{Answer}
 use Rattle.orc_rules.specs.declared.value.Answer.TheVariants as answer
 use Rattle.orc_paths.specs.declared.what.What.{What}
 use Rattle.orc_paths.specs.declared.what.What.TheVariants.{Halt, Fork, Seq, Prune, Other, Def, Void, Publish, Send, Bind, Call, Wait}
-use Rattle.orc_tables.specs.Same.{weight}
-use Rattle.orc_tables.specs.Steps.{depth_at}
-use Rattle.orc_tables.specs.PendingCalls.{due_of, has_number, next_due}
+use Rattle.orc_tables.specs.PendingCalls.{next_due}
 use Rattle.orc_tables.specs.declared.records.Call.{Call as Pending}
 use Rattle.orc_tables.specs.declared.records.Group.{Group}
 use Rattle.orc_tables.specs.declared.records.Side.{Side}
@@ -20,25 +17,21 @@ use Rattle.orc_tables.specs.declared.records.Side.TheVariants.{Right, Left}
 use Rattle.orc_tables.specs.declared.records.Token.{Token}
 use Rattle.orc_tables.proofs.Ripe.{next_some}
 use Rattle.orc_ledger.specs.Records.{Records}
-use Rattle.orc_ledger.specs.Answers.{IsDueNow, IsReturned, IsStopped, IsUnanswered, Pends}
+use Rattle.orc_ledger.specs.Answers.{IsReturned, IsStopped}
 use Rattle.orc_ledger.specs.Brought.{FullIsCrowded}
 use Rattle.orc_ledger.specs.Calls.{IsRefused}
 use Rattle.orc_ledger.specs.Halting.{HasHalted, Becomes, IsRefusedAt, IsHinderedAt}
 use Rattle.orc_ledger.specs.Moves.{Hinders, IsHindered}
 use Rattle.orc_ledger.specs.Doing.{what_of}
-use Rattle.orc_ledger.specs.Next.{members, numbers_of, ready, empty_groups, is_empty, next_at, next_by, next_of, work, ticks, quiet}
-use Rattle.orc_ledger.specs.Spoken.{spoken}
-use Rattle.orc_ledger.specs.declared.calls.ReturnFault.{ReturnFault}
-use Rattle.orc_ledger.specs.declared.calls.ReturnFault.TheVariants as return_
+use Rattle.orc_ledger.specs.Next.{members, numbers_of, ready, empty_groups, is_empty, next_at, next_by, work, ticks}
 use Rattle.orc_ledger.specs.declared.halting.Halted.{Halted}
 use Rattle.orc_ledger.specs.declared.halting.Halted.TheVariants.{Lost, Resumed, Closed}
 use Rattle.orc_ledger.specs.declared.halting.HaltFault.TheVariants.{Refused}
 use Rattle.orc_ledger.specs.declared.ledger.LedgerFault.{LedgerFault}
 use Rattle.orc_ledger.specs.declared.ledger.LedgerFault.TheVariants as fault
-use Rattle.orc_ledger.proofs.Owed.{not-none}
 use Rattle.orc_engine.specs.declared.desk.Stop.{Stop}
 use Rattle.orc_engine.specs.declared.desk.Stop.TheVariants as stop
-use Rattle.orc_engine.specs.Stops.{Advances, IsNearer, IsAtWork, NoneIsDue, Stops, left, open_groups}
+use Rattle.orc_engine.specs.Stops.{Advances, IsNearer, IsAtWork, NoneIsDue, Stops, left}
 use Rattle.orc_engine.proofs.Further.{exchanged, dropped, resumed, closed}
 
 -- ---- what the ledger refuses

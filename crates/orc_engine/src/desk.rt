@@ -1,6 +1,6 @@
 //! The records of a run and what its workers do with them: tokens move, calls are answered, groups halt, time passes.
 
-ghost use Rattle.std.specs.Prelude.{◌≡◌, ◌≤◌, ◌<◌, ◌^◌, ℕ, true, false, IfOk, IfErr};
+ghost use Rattle.std.specs.Prelude.{◌≡◌, ◌≤◌, ◌<◌, ◌^◌, ℕ, true, false, IfOk, IfErr, IfSome};
 ghost use Rattle.std.specs.VecDeque.{deque_len};
 ghost use Rattle.orc_rules.specs.Named.{HasNames};
 ghost use Rattle.orc_rules.specs.Nodes.{code, definitions, source};
@@ -18,15 +18,16 @@ ghost use Rattle.orc_engine.specs.Faults.{IsOwn};
 ghost use Rattle.orc_engine.specs.Stops.{Goes, Advances, HasMoved, IsNearer, HasTurned, NoneIsDue, IsAtWork, Stops};
 
 use crate::fault::EngineFault;
+use crate::jobs::Job;
 use crate::quiet::is_quiet_at;
 use crate::ready::{Handle, Ready};
 use crate::sizes::is_crowded;
 use crate::telling::tell;
 use crate::waiting::Waiting;
-use orc_graph::Graph;
+use orc_graph::{Graph, Node};
 use orc_ledger::{
     Call, Called, HaltFault, Halted, Ledger, LedgerFault, Moved, Next, Program as Naming,
-    ReturnFault, Token, What, calls_fit,
+    ReturnFault, Standing, Task, Token, What, calls_fit,
 };
 use orc_names::Scope;
 use orc_outcome::{End, Played};
@@ -35,7 +36,7 @@ use orc_rules::limits::MOST_GROUPS;
 use orc_rules::program::Program;
 use orc_rules::value::{Answer, Args};
 use orc_site::{Due, Request, due_after};
-use std::alloc::Global;
+use std::alloc::{AllocError, Global};
 use std::mem;
 
 /// The most moves of a token in its turn.
@@ -63,6 +64,15 @@ pub(crate) enum Stop {
     Site(u64),
 }
 
+// Whether a token whose publications are the run's stands at a call of a definition.
+#[inline(always)]
+fn is_at_call(graph: &Graph, token: &Token) -> bool {
+    match token.standing {
+        Standing::At(node, _) if token.step == 0 => matches!(graph.node(node), Node::Call(_, _)),
+        _ => false,
+    }
+}
+
 // How a token goes on after a move.
 #[derive(Clone, Copy)]
 enum Step {
@@ -83,6 +93,8 @@ pub(crate) struct Desk<P: Naming> {
     ready: Ready,
     waiting: Waiting,
     asks: bool,
+    // Whether tokens go on by turns to the next calls of definitions, so that many stand at one.
+    spreads: bool,
     // The calls that were cancelled, where others are told of them.
     gone: Vec<u64>,
     // Lent to the ledger's calls.
@@ -101,6 +113,7 @@ impl<P: Naming> Drop for Desk<P> {
             ready,
             waiting,
             asks: _,
+            spreads: _,
             gone,
             scopes,
             cancelled,
@@ -127,6 +140,7 @@ impl<P: Naming> Desk<P> {
             ready: Ready::new(alloc),
             waiting: Waiting::new(alloc),
             asks,
+            spreads: false,
             gone: Vec::new(alloc),
             scopes: Vec::new(alloc),
             cancelled: Vec::new(alloc),
@@ -135,7 +149,7 @@ impl<P: Naming> Desk<P> {
         }
     }
 
-    fn into_ledger(self) -> Ledger<P>
+    pub(crate) fn into_ledger(self) -> Ledger<P>
         ensures { result ≡ self.ledger }
     {
         let Desk {
@@ -144,6 +158,7 @@ impl<P: Naming> Desk<P> {
             ready,
             waiting,
             asks: _,
+            spreads: _,
             gone,
             scopes,
             cancelled,
@@ -199,6 +214,24 @@ impl<P: Naming> Desk<P> {
         went
     }
 
+    /// A token's turn, or an answer that is due. False where there is neither.
+    pub(crate) fn go_now(&mut self, graph: &Graph, answers: &Answers) -> Result<bool, Stop>
+        requires graph { graph.now ≡ P.listing }
+        requires answers { answers.now.sites ≡ P.sites }
+        ensures nearer { IfOk result (λ went. went ≡ true → IsNearer self.old.ledger (deque_len self.old.ready.handles) self.new.ledger (deque_len self.new.ready.handles)) }
+        ensures within { self.new.ledger.entries ≤ self.new.ledger.limit }
+        ensures few { deque_len self.new.ready.handles < 2 ^ 64 }
+    {
+        let went = match self.turn(graph, answers) {
+            Ok(Turn::Went) | Ok(Turn::Asks(_)) => Ok(true),
+            Ok(Turn::Rests) => Ok(false),
+            Err(stop) => Err(stop),
+        };
+        self.ledger.is_whole();
+        let _ready = self.ready.len();
+        went
+    }
+
     /// The turn of a token: it moves until it is gone, waits, or has made its moves. Between two rounds that of a call which is due, if the table answers
     /// it here: else tokens that move on and on would starve it.
     pub(crate) fn turn(&mut self, graph: &Graph, answers: &Answers) -> Result<Turn, Stop>
@@ -213,17 +246,20 @@ impl<P: Naming> Desk<P> {
                 return Ok(Turn::Went);
             }
         }
-        let Some(handle) = self.ready.take() else {
+        let Some(handle) = self.ready.take(self.spreads) else {
             return Ok(Turn::Rests);
         };
         if !self.is_there(handle) {
             return Ok(Turn::Went);
         }
         let mut slot = handle.slot;
-        for _move in 0..MOVES {
+        for moved in 0..MOVES {
             let Some(token) = self.ledger.held(slot) else {
                 return Ok(Turn::Went);
             };
+            if self.spreads && moved > 0 && is_at_call(graph, &token) {
+                break;
+            }
             match self.step(graph, answers, slot, token)? {
                 Step::On(next) => slot = next,
                 Step::Done | Step::Waits => return Ok(Turn::Went),
@@ -232,6 +268,14 @@ impl<P: Naming> Desk<P> {
         }
         self.join_held(slot)?;
         Ok(Turn::Went)
+    }
+
+    /// Whether tokens go on, one after another, just to the next call of a definition.
+    pub(crate) fn spread(&mut self, spreads: bool)
+        ensures same { self.new.ledger ≡ self.old.ledger }
+        ensures ready { self.new.ready ≡ self.old.ready }
+    {
+        self.spreads = spreads;
     }
 
     // Tokens that are gone wait no more before the one that has waited longest: many may go at once, and their turns would take all rounds.
@@ -247,10 +291,21 @@ impl<P: Naming> Desk<P> {
         }
     }
 
+    // The token of a handle, if it is there.
+    #[inline(always)]
+    fn token_of(&self, handle: Handle) -> Option<Token>
+        ensures { IfSome result (λ token. IsHeld self.now.ledger.slots handle.slot token) }
+    {
+        if handle.serial < 1 {
+            return None;
+        }
+        self.ledger.token(handle.slot, handle.serial)
+    }
+
     // Whether the slot still holds the token.
     #[inline(always)]
     fn is_there(&self, handle: Handle) -> bool {
-        handle.serial > 0 && self.ledger.token(handle.slot, handle.serial).is_some()
+        self.token_of(handle).is_some()
     }
 
     // The turn of the token in a slot comes.
@@ -715,6 +770,54 @@ impl<P: Naming> Desk<P> {
     /// How many tokens have a turn that comes.
     pub(crate) fn ready(&self) -> usize {
         self.ready.len()
+    }
+
+    /// How many entries there are, cancels not counted.
+    pub(crate) fn entries(&self) -> usize {
+        self.ledger.entries()
+    }
+
+    /// The calls of definitions with values at which tokens stand whose turn comes, and whose publications are the run's. The error is refused memory.
+    pub(crate) fn jobs(&self, graph: &Graph) -> Result<Vec<Job<P>>, AllocError>
+        requires graph { graph.now ≡ P.listing }
+    {
+        let mut jobs = Vec::new(self.alloc);
+        for at in 0..self.ready.len() {
+            if let Some(handle) = self.ready.get(at) {
+                if let Some(task) = self.task_of(graph, handle) {
+                    jobs.push(Job::new(handle, task))?;
+                }
+            }
+        }
+        Ok(jobs)
+    }
+
+    // The call at which a token stands, if it is there and can be run apart.
+    fn task_of(&self, graph: &Graph, handle: Handle) -> Option<Task>
+        requires graph { graph.now ≡ P.listing }
+    {
+        let token = self.token_of(handle)?;
+        self.ledger.task(graph, &token)
+    }
+
+    /// Takes in what came of a job, if it is over and its token still stands at its call. Whether it was taken in.
+    pub(crate) fn take_in(&mut self, graph: &Graph, job: &Job<P>) -> bool
+        requires graph { graph.now ≡ P.listing }
+        ensures ready { self.new.ready ≡ self.old.ready }
+        ensures taken { result ≡ true → Advances self.old.ledger self.new.ledger }
+        ensures refused { result ≡ false → self.new.ledger ≡ self.old.ledger }
+    {
+        let Some(part) = job.part() else {
+            return false;
+        };
+        let handle = job.handle();
+        let Some(token) = self.token_of(handle) else {
+            return false;
+        };
+        let Some(task) = self.ledger.task(graph, &token) else {
+            return false;
+        };
+        part.is_of(&task) && self.ledger.take_in(handle.slot, token, part).is_ok()
     }
 
     /// The time of the run.

@@ -72,13 +72,18 @@ impl Ready {
         self.turns % ROUND == 0
     }
 
-    /// Takes the token whose turn it is.
+    /// The token in that place, from the one that has waited longest.
+    pub(crate) fn get(&self, at: usize) -> Option<Handle> {
+        self.handles.get(at).copied()
+    }
+
+    /// Takes the token whose turn it is: where they spread, always the one that has waited longest.
     #[inline(always)]
-    pub(crate) fn take(&mut self) -> Option<Handle>
+    pub(crate) fn take(&mut self, spreads: bool) -> Option<Handle>
         ensures { MatchOption result (deque_len self.new.handles ≤ deque_len self.old.handles) (λ _. deque_len self.new.handles + 1 ≡ deque_len self.old.handles) }
     {
         self.turns = self.turns.wrapping_add(1);
-        if self.turns % ROUND == 0 {
+        if spreads || self.turns % ROUND == 0 {
             self.handles.pop_front()
         } else {
             self.handles.pop_back()

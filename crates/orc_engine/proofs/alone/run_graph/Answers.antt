@@ -1,4 +1,4 @@
-use Rattle.std.proofs.Common.{◌≡◌, sym, subst, IfErr}
+use Rattle.std.proofs.Common.{sym, subst, IfErr}
 use Rattle.orc_rules.specs.Named.{HasNames}
 use Rattle.orc_rules.specs.Nodes.{definitions, source}
 use Rattle.orc_rules.specs.Program.{IsProgram}

@@ -1,4 +1,3 @@
-use Rattle.std.proofs.Common.{◌≡◌}
 use Rattle.orc_rules.specs.Named.{HasNames}
 use Rattle.orc_rules.specs.Nodes.{definitions, source}
 use Rattle.orc_rules.specs.Program.{IsProgram}

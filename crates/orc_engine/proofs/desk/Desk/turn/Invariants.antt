@@ -4,5 +4,5 @@ use Rattle.std.specs.VecDeque.{deque_len}
 use Rattle.orc_engine.specs.Stops.{Advances}
 use Rattle.orc_engine.proofs.desk.Desk.turn.Given as goal
 
-abbrev pub invariant-loop-move : goal.invariant-loop-move
-invariant-loop-move g l = Advances l.fn.self.ledger l.self.ledger ⊎ ((l.self.ledger ≡ l.fn.self.ledger) × (deque_len l.self.ready.handles < deque_len l.fn.self.ready.handles) × (l._move ≡ 0))
+abbrev pub invariant-loop-moved : goal.invariant-loop-moved
+invariant-loop-moved g l = Advances l.fn.self.ledger l.self.ledger ⊎ ((l.self.ledger ≡ l.fn.self.ledger) × (deque_len l.self.ready.handles < deque_len l.fn.self.ready.handles) × (l.moved ≡ 0))
