@@ -46,8 +46,8 @@ pub fn run_alone(
     run_graph::<Brand>(alloc, program, &graph, answers, keeps_text, limit as usize)
 }
 
-/// Runs a program whose graph is built, as [`run_alone`] does, with a limit in range.
-pub(crate) fn run_graph<P: Naming>(
+// Runs a program whose graph is built, with a limit in range.
+fn run_graph<P: Naming>(
     alloc: Global,
     program: &Program,
     graph: &Graph,

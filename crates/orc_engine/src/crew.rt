@@ -38,6 +38,9 @@ const SAMPLES: usize = 16;
 /// The most entries of a call's run.
 const LONGEST: usize = 262_144;
 
+/// The longest run of a sample has so many entries at least, or the others aren't made apart: to begin a run costs as much as a hundred entries.
+const WORTH: usize = 512;
+
 /// Runs a program as [`run_alone`](crate::run_alone) does, on the calling thread and `workers - 1` more, which help it to run calls of definitions apart. The
 /// table answers all calls of sites. The journal is the same on any number of workers.
 ///
@@ -74,8 +77,8 @@ pub fn run_crew<R: Threads + Sync>(
     )
 }
 
-// Runs a program whose graph is built, with a limit and workers in range.
-fn run_graph<P, R>(
+/// Runs a program whose graph is built, as [`run_crew`] does, with a limit and workers in range.
+pub(crate) fn run_graph<P, R>(
     rt: &R,
     alloc: Global,
     program: &Program,
@@ -224,33 +227,25 @@ where
     ensures goes { Advances desk.old.ledger desk.new.ledger ⊎ (desk.new.ledger ≡ desk.old.ledger) }
     ensures ready { desk.new.ready ≡ desk.old.ready }
 {
+    let room = LONGEST.min(desk.room());
     let Ok(mut jobs) = desk.jobs(graph) else {
         return false;
     };
-    let samples = SAMPLES.min(jobs.len());
-    run_all(
-        rt,
-        alloc,
-        &mut jobs[..samples],
-        graph,
-        answers,
-        workers,
-        LONGEST,
-    );
-    let longest = longest_of(&jobs[..samples]);
-    if longest > 0 {
-        let limit = longest.saturating_mul(2).min(LONGEST);
-        run_all(
-            rt,
-            alloc,
-            &mut jobs[samples..],
-            graph,
-            answers,
-            workers,
-            limit,
-        );
+    if room == 0 || jobs.len() < SAMPLES {
+        return false;
     }
-    let count = jobs.len();
+    let samples = &mut jobs[..SAMPLES];
+    run_all(rt, alloc, samples, graph, answers, workers, room);
+    let longest = longest_of(samples);
+    if longest < WORTH {
+        return false;
+    }
+    // No more calls than the limit may have room for.
+    let most = SAMPLES.saturating_add(desk.room() / longest);
+    let count = jobs.len().min(most);
+    let limit = longest.saturating_mul(2).min(room);
+    let others = &mut jobs[SAMPLES..count];
+    run_all(rt, alloc, others, graph, answers, workers, limit);
     let taken = take_all(desk, graph, jobs);
     taken > count / 2
 }

@@ -42,6 +42,12 @@ use std::mem;
 /// The most moves of a token in its turn.
 const MOVES: u32 = 64;
 
+/// The most calls that are run apart at a time.
+const MOST_JOBS: usize = 1_024;
+
+/// So far from one another stand the tokens whose calls are put side by side.
+const STRIDE: usize = 16;
+
 /// What a turn has come to.
 #[derive(Clone, Copy)]
 pub(crate) enum Turn {
@@ -777,15 +783,26 @@ impl<P: Naming> Desk<P> {
         self.ledger.entries()
     }
 
-    /// The calls of definitions with values at which tokens stand whose turn comes, and whose publications are the run's. The error is refused memory.
+    /// How many entries more the limit has room for.
+    pub(crate) fn room(&self) -> usize {
+        self.ledger.limit().saturating_sub(self.ledger.entries())
+    }
+
+    /// The calls of definitions with values at which tokens stand whose turn comes, and whose publications are the run's, `MOST_JOBS` of them at most.
+    /// Tokens that came one after another stand apart, since their runs are mostly of one length. The error is refused memory.
     pub(crate) fn jobs(&self, graph: &Graph) -> Result<Vec<Job<P>>, AllocError>
         requires graph { graph.now ≡ P.listing }
     {
         let mut jobs = Vec::new(self.alloc);
-        for at in 0..self.ready.len() {
-            if let Some(handle) = self.ready.get(at) {
-                if let Some(task) = self.task_of(graph, handle) {
-                    jobs.push(Job::new(handle, task))?;
+        for first in 0..STRIDE {
+            for at in (first..self.ready.len()).step_by(STRIDE) {
+                if jobs.len() == MOST_JOBS {
+                    return Ok(jobs);
+                }
+                if let Some(handle) = self.ready.get(at) {
+                    if let Some(task) = self.task_of(graph, handle) {
+                        jobs.push(Job::new(handle, task))?;
+                    }
                 }
             }
         }

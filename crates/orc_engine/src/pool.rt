@@ -9,7 +9,7 @@ ghost use Rattle.orc_rules.specs.Program.{IsProgram};
 ghost use Rattle.orc_engine.specs.Faults.{IsOwn};
 ghost use Rattle.orc_engine.specs.Ranges.{IsInRange};
 
-use crate::alone;
+use crate::crew;
 use crate::desk::Desk;
 use crate::fault::EngineFault;
 use crate::floor::Floor;
@@ -33,7 +33,7 @@ use std::thread::{Scope, Threads};
 ///
 /// Each call goes through `gate`, is made by `sites` and polled outside every lock, and `sites` is told which ones are cancelled. Where neither may
 /// wait for another thread, the calling thread does everything, and no other is started: there would be nothing for it to do. Where the sites go by
-/// the table and the gate is open, nobody is asked, and it is a run of `run_alone`.
+/// the table and the gate is open, nobody is asked, and it is a run of [`run_crew`](crate::run_crew).
 ///
 /// The fault is Range where there are no workers or over `MOST_WORKERS`, or the limit is 0 or over `MOST_ENTRIES`, and then alone; Site where the
 /// sites answered a call otherwise than the table says, or not when it was due; Broken where something is left that no worker has; Memory as of
@@ -66,7 +66,9 @@ where
     };
     let limit = limit as usize;
     if sites.goes_by_table() && gate.is_open() {
-        return alone::run_graph::<Brand>(alloc, program, &graph, answers, keeps_text, limit);
+        return crew::run_graph::<Brand, R>(
+            rt, alloc, program, &graph, answers, workers, keeps_text, limit,
+        );
     }
     run_named::<Brand, R, S, G>(
         rt, alloc, program, &graph, answers, sites, gate, workers, keeps_text, limit,

@@ -6,6 +6,8 @@ mod calculus;
 #[cfg(test)]
 mod command_lines;
 #[cfg(test)]
+mod crews;
+#[cfg(test)]
 mod documents;
 #[cfg(test)]
 mod drawings;
