@@ -7,6 +7,7 @@ pub mod Grafted
 pub mod Keeping
 pub mod Loops
 pub mod Names
+pub mod Shifted
 pub mod Shown
 pub mod Stripping
 pub mod Whole

@@ -1,6 +1,7 @@
 pub mod Lines
 pub mod Reading
 pub mod Rows
+pub mod Shifts
 pub mod Sizes
 pub mod Texts
 pub mod Faults

@@ -146,8 +146,11 @@ impl Journal {
         Ok(())
     }
 
-    // Adds a part's entries under these numbers. Where memory is refused, or a number doesn't fit 64 bits, some of them may have been added.
-    fn push_part(&mut self, part: &Journal, numbering: Numbering) -> Result<(), AllocError>
+    // Adds a part's entries under these numbers, one by one. Where memory is refused, or a number doesn't fit 64 bits, some of them may have been
+    // added. Kept apart, since the rows of a part mostly move as they are.
+    #[cold]
+    #[inline(never)]
+    fn push_each(&mut self, part: &Journal, numbering: Numbering) -> Result<(), AllocError>
         ensures added { OnOk result (self.new ≡ journal_with self.old (map (moved numbering) part.now.entries)) }
         ensures begun { (es : List EntryOf) × (self.new ≡ journal_with self.old es) }
     {
@@ -164,8 +167,11 @@ impl Journal {
         ensures added { OnOk result (self.new ≡ journal_with self.old (map (moved numbering) part.now.entries)) }
         ensures refused { OnErr result (self.new ≡ self.old) }
     {
+        if self.push_shifted(part, numbering)? {
+            return Ok(());
+        }
         let len = self.len();
-        let pushed = self.push_part(part, numbering);
+        let pushed = self.push_each(part, numbering);
         if pushed.is_err() {
             self.truncate(len);
         }

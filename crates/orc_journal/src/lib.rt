@@ -8,6 +8,7 @@ mod lines;
 mod reading;
 mod room;
 mod rows;
+mod shifting;
 mod text;
 mod writing;
 

@@ -48,9 +48,9 @@ const _: () = prove!(size_of::<Called>() == 12);
 /// What the rows of a journal point to.
 #[derive(Drop)]
 pub(crate) struct Tables {
-    values: Vec<Value>,
-    calls: Vec<Called>,
-    wides: Vec<Parts>,
+    pub(crate) values: Vec<Value>,
+    pub(crate) calls: Vec<Called>,
+    pub(crate) wides: Vec<Parts>,
 }
 
 impl Model for Tables {
@@ -85,8 +85,9 @@ fn last_of(kind: Kind, third: u32) -> u64
     }
 }
 
+// The number in 32 bits, where it fits.
 #[inline(always)]
-fn short(number: u64) -> Option<u32>
+pub(crate) fn short(number: u64) -> Option<u32>
     ensures { IfSome result (λ n. n ≡ number) }
 {
     if number <= u32::MAX as u64 {
