@@ -1,7 +1,7 @@
 //! One run whose work is shared out: where many tokens stand at calls of definitions, the calls' own runs are made side by side, and taken in one after
 //! another in the order of the tokens. So the journal doesn't depend on which thread is quicker, nor on how many there are.
 
-ghost use Rattle.std.specs.Prelude.{◌≡◌, ◌≤◌, ◌<◌, ◌^◌, ◌⊎◌, ◌↔◌, Err, IfOk, IfErr};
+ghost use Rattle.std.specs.Prelude.{◌≡◌, ◌≤◌, ◌<◌, ◌^◌, ◌⊎◌, ◌↔◌, Err, IfOk, IfErr, IfSome};
 ghost use Rattle.std.specs.VecDeque.{deque_len};
 ghost use Rattle.orc_rules.specs.declared.limits.TheConstants.{MOST_ENTRIES};
 ghost use Rattle.orc_rules.specs.Named.{HasNames};
@@ -32,11 +32,14 @@ const MANY: usize = 128;
 /// So many entries are made by one worker before others help, and so many, each time, until there are enough tokens.
 const PATIENCE: usize = 4_096;
 
-/// So many calls show how long the others' runs may be.
+/// So many calls show what the others' runs are like.
 const SAMPLES: usize = 16;
 
-/// The most entries of a call's run.
-const LONGEST: usize = 262_144;
+/// The most entries of a sample's run.
+const SHORT: usize = 65_536;
+
+/// The most entries of another call's run.
+const LONGEST: usize = 1_048_576;
 
 /// The longest run of a sample has so many entries at least, or the others aren't made apart: to begin a run costs as much as a hundred entries.
 const WORTH: usize = 512;
@@ -227,7 +230,7 @@ where
     ensures goes { Advances desk.old.ledger desk.new.ledger ⊎ (desk.new.ledger ≡ desk.old.ledger) }
     ensures ready { desk.new.ready ≡ desk.old.ready }
 {
-    let room = LONGEST.min(desk.room());
+    let room = desk.room();
     let Ok(mut jobs) = desk.jobs(graph) else {
         return false;
     };
@@ -235,19 +238,18 @@ where
         return false;
     }
     let samples = &mut jobs[..SAMPLES];
-    run_all(rt, alloc, samples, graph, answers, workers, room);
-    let longest = longest_of(samples);
-    if longest < WORTH {
+    let limit = SHORT.min(room);
+    run_all(rt, alloc, samples, graph, answers, workers, limit);
+    let Some(longest) = longest_of(samples) else {
         return false;
-    }
+    };
     // No more calls than the limit may have room for.
-    let most = SAMPLES.saturating_add(desk.room() / longest);
+    let most = SAMPLES.saturating_add(room / longest);
     let count = jobs.len().min(most);
-    let limit = longest.saturating_mul(2).min(room);
     let others = &mut jobs[SAMPLES..count];
+    let limit = LONGEST.min(room);
     run_all(rt, alloc, others, graph, answers, workers, limit);
-    let taken = take_all(desk, graph, jobs);
-    taken > count / 2
+    take_all(desk, graph, jobs) > count / 2
 }
 
 // Each job is done on one of the threads.
@@ -278,13 +280,23 @@ where
     );
 }
 
-// The most entries that a job's run has.
-fn longest_of<P: Naming>(jobs: &[Job<P>]) -> usize {
+// The most entries that a sample's run has. None where that is too few, or where half of the samples came to nothing.
+fn longest_of<P: Naming>(samples: &[Job<P>]) -> Option<usize>
+    ensures { IfSome result (λ longest. 1 ≤ longest) }
+{
     let mut longest = 0;
-    for job in jobs {
-        longest = longest.max(job.entries());
+    let mut over: usize = 0;
+    for job in samples {
+        let entries = job.entries();
+        longest = longest.max(entries);
+        if entries > 0 {
+            over = over.saturating_add(1);
+        }
     }
-    longest
+    if longest < WORTH || over < samples.len() / 2 {
+        return None;
+    }
+    Some(longest)
 }
 
 // Takes in what came of the jobs, and gives of how many something did.

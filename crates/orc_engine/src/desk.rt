@@ -45,8 +45,11 @@ const MOVES: u32 = 64;
 /// The most calls that are run apart at a time.
 const MOST_JOBS: usize = 1_024;
 
-/// So far from one another stand the tokens whose calls are put side by side.
+/// Of how many tokens one stands beside another whose calls are put side by side, and with which of so many one begins each time. However many threads
+/// share out these calls, each has some of the tokens that came first, whose runs are mostly the longest.
 const STRIDE: usize = 16;
+
+const ORDER: [usize; STRIDE] = [0, 8, 4, 12, 2, 10, 6, 14, 1, 9, 5, 13, 3, 11, 7, 15];
 
 /// What a turn has come to.
 #[derive(Clone, Copy)]
@@ -101,6 +104,8 @@ pub(crate) struct Desk<P: Naming> {
     asks: bool,
     // Whether tokens go on by turns to the next calls of definitions, so that many stand at one.
     spreads: bool,
+    // Whether it has opened a cell, or made a call that isn't answered at once: what is round a call that is run apart bears on both.
+    touches: bool,
     // The calls that were cancelled, where others are told of them.
     gone: Vec<u64>,
     // Lent to the ledger's calls.
@@ -120,6 +125,7 @@ impl<P: Naming> Drop for Desk<P> {
             waiting,
             asks: _,
             spreads: _,
+            touches: _,
             gone,
             scopes,
             cancelled,
@@ -147,6 +153,7 @@ impl<P: Naming> Desk<P> {
             waiting: Waiting::new(alloc),
             asks,
             spreads: false,
+            touches: false,
             gone: Vec::new(alloc),
             scopes: Vec::new(alloc),
             cancelled: Vec::new(alloc),
@@ -165,6 +172,7 @@ impl<P: Naming> Desk<P> {
             waiting,
             asks: _,
             spreads: _,
+            touches: _,
             gone,
             scopes,
             cancelled,
@@ -274,6 +282,11 @@ impl<P: Naming> Desk<P> {
         }
         self.join_held(slot)?;
         Ok(Turn::Went)
+    }
+
+    /// Whether it has opened a cell, or made a call that wasn't answered at once.
+    pub(crate) fn touches(&self) -> bool {
+        self.touches
     }
 
     /// Whether tokens go on, one after another, just to the next call of a definition.
@@ -391,6 +404,7 @@ impl<P: Naming> Desk<P> {
             self.join_held(right)?;
             Ok(Step::On(left))
         } else {
+            self.touches = true;
             self.join_held(left)?;
             Ok(Step::On(right))
         }
@@ -444,7 +458,10 @@ impl<P: Naming> Desk<P> {
                 self.close(group)?;
                 Ok(Step::Done)
             }
-            Ok(Called::Pends(_)) => Ok(Step::Done),
+            Ok(Called::Pends(_)) => {
+                self.touches = true;
+                Ok(Step::Done)
+            }
             Err(fault) => {
                 self.ledger.full_is_crowded();
                 Err(Stop::Refused(fault))
@@ -788,13 +805,13 @@ impl<P: Naming> Desk<P> {
         self.ledger.limit().saturating_sub(self.ledger.entries())
     }
 
-    /// The calls of definitions with values at which tokens stand whose turn comes, and whose publications are the run's, `MOST_JOBS` of them at most.
-    /// Tokens that came one after another stand apart, since their runs are mostly of one length. The error is refused memory.
+    /// The calls of definitions with values at which tokens stand whose turn comes, and whose publications are the run's, `MOST_JOBS` of them at most, in
+    /// a fixed order in which tokens that came one after another stand apart. The error is refused memory.
     pub(crate) fn jobs(&self, graph: &Graph) -> Result<Vec<Job<P>>, AllocError>
         requires graph { graph.now ≡ P.listing }
     {
         let mut jobs = Vec::new(self.alloc);
-        for first in 0..STRIDE {
+        for first in ORDER {
             for at in (first..self.ready.len()).step_by(STRIDE) {
                 if jobs.len() == MOST_JOBS {
                     return Ok(jobs);

@@ -102,7 +102,7 @@ fn run_apart<Q: Naming, P: Naming>(
     desk.into_ledger().into_part::<P>(answers, task)
 }
 
-// Turns until nothing can be done at once, or the run stops.
+// Turns until nothing can be done at once, the run stops, or what is round it bears on it.
 fn play_now<Q: Naming>(desk: &mut Desk<Q>, graph: &Graph, answers: &Answers)
     requires graph { graph.now ≡ Q.listing }
     requires answers { answers.now.sites ≡ Q.sites }
@@ -112,8 +112,8 @@ fn play_now<Q: Naming>(desk: &mut Desk<Q>, graph: &Graph, answers: &Answers)
     }
     loop {
         match desk.go_now(graph, answers) {
-            Ok(true) => {}
-            Ok(false) | Err(_) => return,
+            Ok(true) if !desk.touches() => {}
+            Ok(_) | Err(_) => return,
         }
     }
 }

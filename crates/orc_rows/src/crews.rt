@@ -12,7 +12,8 @@ use std::test::Fail;
 use std::thread::Threads;
 
 // 4,096 leaves, each with a value of its own.
-const TREE: &[u8] = b"def tree(n, m) = Lt(0, n) >b> (Iff(b) >> m | Ift(b) >> Sub(n, 1) >k> Add(m, m) >l> (tree(k, l) | Add(l, 1) >r> tree(k, r)))\ntree(12, 1)";
+const TREE: &[u8] =
+    b"def tree(n, m) = Lt(0, n) >b> (Iff(b) >> m | Ift(b) >> Sub(n, 1) >k> Add(m, m) >l> (tree(k, l) | Add(l, 1) >r> tree(k, r)))\ntree(12, 1)";
 
 // A run whose journal the check accepts.
 fn accepted<R: Threads + Wait + Sync>(
@@ -118,7 +119,8 @@ fn calls_that_touch_what_is_round_them_are_run_in_place(rt: HostRuntime) -> Resu
 #[test]
 fn calls_without_an_end_are_cut(rt: HostRuntime) -> Result<(), Fail> {
     let alloc = rt.alloc();
-    let source = b"def on(n) = Add(n, 1) >m> on(m)\ndef tree(n) = Lt(0, n) >b> (Iff(b) >> on(1) | Ift(b) >> Sub(n, 1) >m> (tree(m) | tree(m)))\ntree(8)";
+    let source =
+        b"def on(n) = Add(n, 1) >m> on(m)\ndef tree(n) = Lt(0, n) >b> (Iff(b) >> on(1) | Ift(b) >> Sub(n, 1) >m> (tree(m) | tree(m)))\ntree(8)";
     let ended = ends(&rt, alloc, source, b"", 40_000);
     assert_eq!(rt; ended, Some((End::Limit, 0)));
     Ok(())
