@@ -68,23 +68,27 @@ impl<'a> Bindings<'a> {
                 let first = self.parts.len().saturating_sub(count);
                 self.parts.truncate(first);
             }
-            Part::Operation(operator) => {
-                let right = self.take();
-                let left = self.take();
-                match operator {
-                    Operator::Seq(Some(name)) => self.add(name, Binder::Sequence, right)?,
-                    Operator::Prune(Some(name)) => self.add(name, Binder::Pruning, left)?,
-                    _ => {}
-                }
-            }
-            Part::Val(name) => {
-                let scope = self.take();
-                let _value = self.take();
-                self.add(name, Binder::Val, scope)?;
-            }
+            Part::Operation(operator) => self.read_operation(operator)?,
+            Part::Val(name) => self.read_val(name)?,
         }
         self.parts.push(node.span)?;
         Ok(())
+    }
+
+    fn read_operation(&mut self, operator: Operator<'a>) -> Result<(), AllocError> {
+        let right = self.take();
+        let left = self.take();
+        match operator {
+            Operator::Seq(Some(name)) => self.add(name, Binder::Sequence, right),
+            Operator::Prune(Some(name)) => self.add(name, Binder::Pruning, left),
+            _ => Ok(()),
+        }
+    }
+
+    fn read_val(&mut self, name: Name<'a>) -> Result<(), AllocError> {
+        let scope = self.take();
+        let _value = self.take();
+        self.add(name, Binder::Val, scope)
     }
 
     fn take(&mut self) -> Span {

@@ -2,13 +2,13 @@
 
 use crate::ended::Ended;
 use crate::moves::{Moves, Wait};
-use crate::page::Page;
 use crate::replay::{Made, Replay};
 use crate::rules::Rules;
 use crate::scene::{Scene, begin, name_of, reach, say_more};
-use orc_journal::read_journal;
+use orc_checker::rest::Called;
+use orc_journal::{Journal, read_journal};
 use orc_outcome::{End, Summary};
-use orc_page::Subject;
+use orc_page::{Page, Subject};
 use orc_rules::entry::Entry;
 use orc_rules::limits::{MOST_ENTRIES, MOST_FRAMES, MOST_GROUPS, MOST_TOKENS};
 use orc_rules::value::Found;
@@ -36,47 +36,45 @@ fn count_out(calls: &[Made]) -> u64 {
 
 impl Scene<'_, '_> {
     // Each call that is out, and why it never returns.
-    fn silent_calls(&self, page: &mut Page) -> Result<(), AllocError> {
-        let script = self.subject.script_text();
-        let rules = Rules::new(self.alloc, script)?;
+    fn silent_calls(&self, page: &mut Page) {
+        match Rules::new(self.alloc, self.subject.script_text()) {
+            Ok(rules) => self.calls_out(page, &rules),
+            Err(_) => page.refuse(),
+        }
+    }
+
+    fn calls_out(&self, page: &mut Page, rules: &Rules) {
         let mut shown: u64 = 0;
         let mut number: u64 = 0;
         for call in &self.replay.calls {
             number = number.saturating_add(1);
             if call.is_out && shown < LINES {
                 shown = shown.saturating_add(1);
-                self.silent_call(page, number, *call, &rules)?;
+                self.silent_call(page, number, *call, rules);
             }
         }
         self.rest(page, count_out(&self.replay.calls), shown);
-        Ok(())
     }
 
-    fn silent_call(
-        &self,
-        page: &mut Page,
-        number: u64,
-        call: Made,
-        rules: &Rules,
-    ) -> Result<(), AllocError> {
-        page.note("call ");
-        page.number(number);
-        page.say(", ");
-        self.call(page, call.entry)?;
+    fn silent_call(&self, page: &mut Page, number: u64, call: Made, rules: &Rules) {
+        page.note("");
+        page.say_number("call ", number, ", ");
+        self.call(page, call.entry);
         let at = (number as usize).saturating_sub(1);
         if let Some(kept) = self.replay.marked.calls().get(at) {
-            let called = kept.called();
-            page.say(", made at time ");
-            page.number(called.at);
-            page.say(" in ");
-            self.place(page, call.spot);
-            match called.found {
-                Found::Never => self.never(page, call, rules),
-                Found::After(_, _) => page.say(": its due time is over the greatest time"),
-            }
+            self.silence(page, call, kept.called(), rules);
         }
         page.say("\n");
-        Ok(())
+    }
+
+    // When and where a call was made, and why it never returns.
+    fn silence(&self, page: &mut Page, call: Made, called: Called, rules: &Rules) {
+        page.say_number(", made at time ", called.at, " in ");
+        self.place(page, call.spot);
+        match called.found {
+            Found::Never => self.never(page, call, rules),
+            Found::After(_, _) => page.say(": its due time is over the greatest time"),
+        }
     }
 
     // The line of the script that says never.
@@ -84,15 +82,13 @@ impl Scene<'_, '_> {
         if let Some(Entry::Call(_, _, site, args)) = self.journal.get(call.entry) {
             let name = name_of(self.ended.answers, site);
             if let Some(place) = rules.first(name, args.as_slice()) {
-                page.say(": line ");
-                page.number(rules.number(place));
-                page.say(" of the script says never");
+                page.say_number(": line ", rules.number(place), " of the script says never");
             }
         }
     }
 
     // Each cell that is waited for, and what could give it a value.
-    fn waits(&self, page: &mut Page, moves: &Moves) -> Result<(), AllocError> {
+    fn waits(&self, page: &mut Page, moves: &Moves) {
         let mut shown: u64 = 0;
         let mut all: u64 = 0;
         for wait in &moves.waits {
@@ -100,15 +96,14 @@ impl Scene<'_, '_> {
                 all = all.saturating_add(1);
                 if shown < LINES {
                     shown = shown.saturating_add(1);
-                    self.wait(page, moves, *wait)?;
+                    self.wait(page, moves, *wait);
                 }
             }
         }
         self.rest(page, all, shown);
-        Ok(())
     }
 
-    fn wait(&self, page: &mut Page, moves: &Moves, wait: Wait) -> Result<(), AllocError> {
+    fn wait(&self, page: &mut Page, moves: &Moves, wait: Wait) {
         page.note("");
         self.cell(page, wait.cell);
         page.say(", has no value, and ");
@@ -120,12 +115,18 @@ impl Scene<'_, '_> {
         });
         self.place(page, self.replay.spot(wait.first, self.sketch));
         page.say("); it could come from ");
-        let inside = self.replay.inside(self.alloc, wait.cell)?;
-        if !self.calls_inside(page, &inside) {
-            self.waiting_inside(page, moves, &inside);
+        match self.replay.inside(self.alloc, wait.cell) {
+            Ok(inside) => self.giver(page, moves, &inside),
+            Err(_) => page.refuse(),
         }
         page.say("\n");
-        Ok(())
+    }
+
+    // What could give a value from inside these steps.
+    fn giver(&self, page: &mut Page, moves: &Moves, inside: &[bool]) {
+        if !self.calls_inside(page, inside) {
+            self.waiting_inside(page, moves, inside);
+        }
     }
 
     // The calls that are out inside these steps: whether there are some.
@@ -136,8 +137,7 @@ impl Scene<'_, '_> {
             number = number.saturating_add(1);
             if call.is_out && inside.get(call.step).copied().unwrap_or(false) {
                 if all < IN_A_LINE {
-                    page.say(if all > 0 { ", call " } else { "call " });
-                    page.number(number);
+                    page.say_number(if all > 0 { ", call " } else { "call " }, number, "");
                 }
                 all = all.saturating_add(1);
             }
@@ -159,54 +159,48 @@ impl Scene<'_, '_> {
         page.say("nothing");
     }
 
-    fn quiet(&self, page: &mut Page, moves: &Moves) -> Result<(), AllocError> {
-        self.silent_calls(page)?;
-        self.waits(page, moves)?;
+    fn quiet(&self, page: &mut Page, moves: &Moves) {
+        self.silent_calls(page);
+        self.waits(page, moves);
         page.help("a time limit is `x <x< (f | Rwait(10) >> 0)`");
-        Ok(())
     }
 
     // The entries that could come next.
-    fn next(&self, page: &mut Page, moves: &Moves) -> Result<(), AllocError> {
+    fn next(&self, page: &mut Page, moves: &Moves) {
         if moves.count == 0 {
             page.note("nothing could go on: it has just ended\n");
-            return Ok(());
+            return;
         }
         page.note("it could go on with ");
         for (i, entry) in moves.entries.iter().enumerate() {
-            if i > 0 {
-                page.say(", ");
-            }
+            page.say(if i > 0 { ", `" } else { "`" });
+            self.entry(page, entry);
             page.say("`");
-            self.entry(page, entry)?;
-            page.say("`");
-            self.on(page, entry)?;
+            self.on(page, entry);
         }
         say_more(page, moves.count, moves.entries.len() as u64);
         page.say("\n");
-        Ok(())
     }
 
     // What the token of an entry stands on.
-    fn on(&self, page: &mut Page, entry: &Entry) -> Result<(), AllocError> {
+    fn on(&self, page: &mut Page, entry: &Entry) {
         let Some(token) = mark_named(entry) else {
-            return Ok(());
+            return;
         };
         if let Some(spot) = self.replay.token(token).spot {
             page.say(" (");
-            self.term(page, token, spot)?;
+            self.term(page, token, spot);
             page.say(", ");
             self.line(page, self.sketch.span(spot).start);
             page.say(")");
         }
-        Ok(())
     }
 
     // The calls that are out, with their due times.
-    fn out(&self, page: &mut Page) -> Result<(), AllocError> {
+    fn out(&self, page: &mut Page) {
         let all = count_out(&self.replay.calls);
         if all == 0 {
-            return Ok(());
+            return;
         }
         page.note("calls that are out: ");
         let mut shown: u64 = 0;
@@ -214,62 +208,60 @@ impl Scene<'_, '_> {
         for call in &self.replay.calls {
             number = number.saturating_add(1);
             if call.is_out && shown < IN_A_LINE {
-                if shown > 0 {
-                    page.say(", ");
-                }
+                page.say(if shown > 0 { ", " } else { "" });
                 shown = shown.saturating_add(1);
-                self.call(page, call.entry)?;
+                self.call(page, call.entry);
                 self.due(page, number);
             }
         }
         say_more(page, all, shown);
         page.say("\n");
-        Ok(())
     }
 
     fn due(&self, page: &mut Page, call: u64) {
         match self.replay.marked.due(call) {
-            Some((_answer, time)) => {
-                page.say(", due at ");
-                page.number(time);
-            }
+            Some((_answer, time)) => page.say_number(", due at ", time, ""),
             None => page.say(", never due"),
         }
     }
 
-    fn cut(&self, page: &mut Page, moves: &Moves) -> Result<(), AllocError> {
-        self.next(page, moves)?;
-        self.out(page)?;
+    fn cut(&self, page: &mut Page, moves: &Moves) {
+        self.next(page, moves);
+        self.out(page);
         let definitions = self.replay.definitions;
         if definitions > 0 {
             page.note("definitions were called ");
             page.count(definitions, "time");
             page.say("; the last call is made again for ever where nothing stops it\n");
         }
-        Ok(())
     }
 
     // What of the engine's room is taken.
-    fn room(&self, page: &mut Page, moves: &Moves) -> Result<(), AllocError> {
-        page.note("the engine can hold no more; by the rules it could go on\n");
-        page.note("tokens and calls ");
-        let calls = count_out(&self.replay.calls);
-        page.number(moves.tokens.saturating_add(calls));
-        page.say(" of ");
-        page.number(MOST_TOKENS as u64);
-        page.say(", open sides ");
-        page.number(moves.sides);
-        page.say(" of ");
-        page.number((MOST_GROUPS as u64).saturating_sub(1));
-        page.say(", left sides of `>x>` round one token ");
-        page.number(self.replay.frames(self.alloc)?);
-        page.say(" of ");
-        page.number(MOST_FRAMES as u64);
-        page.say("\n");
-        Ok(())
+    fn room(&self, page: &mut Page, moves: &Moves) {
+        match self.replay.frames(self.alloc) {
+            Ok(frames) => self.taken(page, moves, frames),
+            Err(_) => page.refuse(),
+        }
     }
 
-    fn end(&self, page: &mut Page, moves: &Moves) -> Result<(), AllocError> {
+    fn taken(&self, page: &mut Page, moves: &Moves, frames: u64) {
+        page.note("the engine can hold no more; by the rules it could go on\n");
+        page.note("");
+        let calls = count_out(&self.replay.calls);
+        page.say_number(
+            "tokens and calls ",
+            moves.tokens.saturating_add(calls),
+            " of ",
+        );
+        page.number(MOST_TOKENS as u64);
+        page.say_number(", open sides ", moves.sides, " of ");
+        page.number((MOST_GROUPS as u64).saturating_sub(1));
+        page.say_number(", left sides of `>x>` round one token ", frames, " of ");
+        page.number(MOST_FRAMES as u64);
+        page.say("\n");
+    }
+
+    fn end(&self, page: &mut Page, moves: &Moves) {
         if self.ended.summary.end == End::Halted {
             return self.halted(page);
         }
@@ -277,17 +269,16 @@ impl Scene<'_, '_> {
         match self.ended.summary.end {
             End::Quiet => self.quiet(page, moves),
             End::Limit => {
-                self.cut(page, moves)?;
+                self.cut(page, moves);
                 page.note("help: --limit sets the greatest number of entries, up to ");
                 page.number(MOST_ENTRIES);
                 page.say("\n");
-                Ok(())
             }
             End::Full => {
-                self.cut(page, moves)?;
-                self.room(page, moves)
+                self.cut(page, moves);
+                self.room(page, moves);
             }
-            End::Halted | End::Memory => Ok(()),
+            End::Halted | End::Memory => {}
         }
     }
 }
@@ -307,21 +298,31 @@ pub fn explain_end(alloc: Global, subject: &Subject, ended: &Ended) -> Result<St
     let Ok(ast) = parse(alloc, subject.source.text) else {
         return Err(AllocError);
     };
+    let sketch = Sketch::new(alloc, &ast)?;
     let Ok(journal) = read_journal(alloc, ended.journal, ended.answers) else {
         return Err(AllocError);
     };
-    let sketch = Sketch::new(alloc, &ast)?;
-    let mut replay = Replay::new(alloc, ended, &sketch, &journal)?;
+    end_of(alloc, subject, ended, &sketch, &journal)
+}
+
+fn end_of(
+    alloc: Global,
+    subject: &Subject,
+    ended: &Ended,
+    sketch: &Sketch,
+    journal: &Journal,
+) -> Result<String, AllocError> {
+    let mut replay = Replay::new(alloc, ended, sketch, journal)?;
     let moves = Moves::new(alloc, ended.program, &mut replay)?;
     let scene = Scene {
         alloc,
         subject,
         ended,
-        sketch: &sketch,
-        journal: &journal,
+        sketch,
+        journal,
         replay: &replay,
     };
     let mut page = Page::new(alloc);
-    scene.end(&mut page, &moves)?;
+    scene.end(&mut page, &moves);
     page.finish()
 }

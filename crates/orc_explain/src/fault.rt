@@ -1,8 +1,11 @@
 //! What is explained of each fault.
 
-use crate::page::Page;
+use crate::journal::say_journal;
+use crate::scope::say_scope;
+use crate::script::say_script;
+use crate::syntax::{say_refused, say_syntax};
 use orc_journal::JournalFault;
-use orc_page::Subject;
+use orc_page::{Page, Subject};
 use orc_rules::limits::MOST_ENTRIES;
 use orc_scope::ScopeFault;
 use orc_site::ScriptFault;
@@ -30,42 +33,32 @@ pub enum Fault {
     Write,
 }
 
-impl Page {
-    // A fault of the engine.
-    fn broken(&mut self) {
-        self.note(
-            "this is a fault of orc, not of your files: the engine found nothing to do where something was left\n",
-        );
-        self.help("please keep FILE and the script, and report them");
-    }
+// A fault of the engine.
+fn say_broken(page: &mut Page) {
+    page.note(
+        "this is a fault of orc, not of your files: the engine found nothing to do where something was left\n",
+    );
+    page.help("please keep FILE and the script, and report them");
+}
 
-    fn fault(&mut self, alloc: Global, subject: &Subject, fault: Fault) -> Result<(), AllocError> {
-        match fault {
-            Fault::Syntax(fault) => self.syntax(alloc, &subject.source, fault),
-            Fault::Scope(fault) => self.scope(alloc, subject, fault),
-            Fault::Script(fault) => self.script(alloc, subject, fault),
-            Fault::Journal(fault) => self.journal(alloc, subject, fault),
-            Fault::Range => {
-                self.note("the limit is 1 to ");
-                self.number(MOST_ENTRIES);
-                self.say("\n");
-                Ok(())
-            }
-            Fault::Begin => {
-                self.refused("the run was begun");
-                Ok(())
-            }
-            Fault::Broken => {
-                self.broken();
-                Ok(())
-            }
-            Fault::Write => {
-                self.note(
-                    "standard output took only a part of the text: a full device, or a reader that has gone\n",
-                );
-                Ok(())
-            }
-        }
+fn say_range(page: &mut Page) {
+    page.note("the limit is 1 to ");
+    page.number(MOST_ENTRIES);
+    page.say("\n");
+}
+
+fn say_fault(page: &mut Page, alloc: Global, subject: &Subject, fault: Fault) {
+    match fault {
+        Fault::Syntax(fault) => say_syntax(page, alloc, &subject.source, fault),
+        Fault::Scope(fault) => say_scope(page, alloc, subject, fault),
+        Fault::Script(fault) => say_script(page, alloc, subject, fault),
+        Fault::Journal(fault) => say_journal(page, alloc, subject, fault),
+        Fault::Range => say_range(page),
+        Fault::Begin => say_refused(page, "the run was begun"),
+        Fault::Broken => say_broken(page),
+        Fault::Write => page.note(
+            "standard output took only a part of the text: a full device, or a reader that has gone\n",
+        ),
     }
 }
 
@@ -81,13 +74,13 @@ pub fn explain_unread(alloc: Global, path: &str) -> Result<String, AllocError> {
 /// The text that explains that memory was refused for the command line or a file, below its own line. The error is refused memory.
 pub fn explain_refused(alloc: Global) -> Result<String, AllocError> {
     let mut page = Page::new(alloc);
-    page.refused("the command line or a file was read");
+    say_refused(&mut page, "the command line or a file was read");
     page.finish()
 }
 
 /// The text that explains a fault of these files, below its own line. The error is refused memory.
 pub fn explain(alloc: Global, subject: &Subject, fault: Fault) -> Result<String, AllocError> {
     let mut page = Page::new(alloc);
-    page.fault(alloc, subject, fault)?;
+    say_fault(&mut page, alloc, subject, fault);
     page.finish()
 }

@@ -1,7 +1,6 @@
 //! Hints: what may have been meant.
 
-use crate::page::Page;
-use orc_page::{Document, place_of};
+use orc_page::{Document, Page, place_of};
 
 /// A hint's words. `%` stands for a name, `@` for the line and the column of a place, and `#` for its line.
 #[derive(Clone, Copy)]
@@ -29,28 +28,27 @@ impl<'a> Hint<'a> {
     }
 }
 
-impl Page {
-    /// Words with their name and their place filled in.
-    pub(crate) fn form(&mut self, document: &Document, hint: Hint) {
-        for byte in hint.words.as_bytes() {
-            match *byte {
-                b'%' => self.word(hint.name),
-                b'@' => self.place(document.text, hint.at),
-                b'#' => {
-                    let place = place_of(document.text, hint.at.min(document.text.len()));
-                    self.number(place.line as u64);
-                }
-                byte => self.byte(byte),
-            }
+// Words with their name and their place filled in.
+fn say_form(page: &mut Page, document: &Document, hint: Hint) {
+    for byte in hint.words.as_bytes() {
+        match *byte {
+            b'%' => page.word(hint.name),
+            b'@' => page.place(document.text, hint.at),
+            b'#' => say_line(page, document, hint.at),
+            byte => page.byte(byte),
         }
     }
+}
 
-    /// The line of a hint, where there is one.
-    pub(crate) fn hint(&mut self, document: &Document, hint: Option<Hint>) {
-        if let Some(hint) = hint {
-            self.note("help: ");
-            self.form(document, hint);
-            self.say("\n");
-        }
-    }
+// The number of the line of a place.
+fn say_line(page: &mut Page, document: &Document, at: usize) {
+    let place = place_of(document.text, at.min(document.text.len()));
+    page.number(place.line as u64);
+}
+
+/// The line of a hint.
+pub(crate) fn say_hint(page: &mut Page, document: &Document, hint: Hint) {
+    page.note("help: ");
+    say_form(page, document, hint);
+    page.say("\n");
 }

@@ -1,13 +1,16 @@
 //! Faults of a journal's text (J).
 
 use crate::near::Near;
-use crate::page::Page;
+use crate::syntax::say_refused;
 use crate::words::said_of;
 use orc_journal::JournalFault;
-use orc_page::{Document, Subject};
+use orc_lex::token::Span;
+use orc_page::{Document, Page, Subject};
 use orc_rules::limits::{LONGEST_JOURNAL, MOST_ENTRIES};
 use orc_site::read_script;
-use std::alloc::{AllocError, Global};
+use std::alloc::Global;
+
+const CANCEL: &str = "cancel K";
 
 /// The words with which entries begin, each with the form of its entries.
 const FORMS: [(&[u8], &str); 16] = [
@@ -26,7 +29,7 @@ const FORMS: [(&[u8], &str); 16] = [
     (b"right", "right S A"),
     (b"publish", "publish S V"),
     (b"tick", "tick T"),
-    (b"cancel", "cancel K"),
+    (b"cancel", CANCEL),
 ];
 
 // What stands before the first byte of this kind, and what behind it.
@@ -53,120 +56,122 @@ fn called(line: &[u8]) -> Option<&[u8]> {
     }
 }
 
-impl Page {
-    /// What is wrong with a journal's text. The error is refused memory.
-    pub(crate) fn journal(
-        &mut self,
-        alloc: Global,
-        subject: &Subject,
-        fault: JournalFault,
-    ) -> Result<(), AllocError> {
-        let Some(document) = subject.journal else {
-            return Ok(());
-        };
-        match fault {
-            JournalFault::Header => self.header(&document),
-            JournalFault::Line(number) => self.journal_line(alloc, subject, &document, number)?,
-            JournalFault::Long => self.long_journal(&document),
-            JournalFault::Memory => self.refused("the journal was read"),
-        }
-        Ok(())
+/// What is wrong with a journal's text.
+pub(crate) fn say_journal(page: &mut Page, alloc: Global, subject: &Subject, fault: JournalFault) {
+    let Some(document) = subject.journal else {
+        return;
+    };
+    match fault {
+        JournalFault::Header => say_header(page, &document),
+        JournalFault::Line(number) => say_journal_line(page, alloc, subject, &document, number),
+        JournalFault::Long => say_long_journal(page, &document),
+        JournalFault::Memory => say_refused(page, "the journal was read"),
     }
+}
 
-    fn header(&mut self, document: &Document) {
-        let span = document.line(1);
-        self.point(document, span);
-        self.say("no header\n");
-        self.expected("`orc-journal 2` or `orc-journal 1`, and a line feed");
-        if !document.text.starts_with(b"orc-journal") {
-            self.help("a journal is what `orc run FILE --journal` writes");
-        }
+fn say_header(page: &mut Page, document: &Document) {
+    let span = document.line(1);
+    page.point(document, span);
+    page.say("no header\n");
+    page.expected("`orc-journal 2` or `orc-journal 1`, and a line feed");
+    if !document.text.starts_with(b"orc-journal") {
+        page.help("a journal is what `orc run FILE --journal` writes");
     }
+}
 
-    fn long_journal(&mut self, document: &Document) {
-        self.say(" --> ");
-        self.path(document.name);
-        self.say("\n");
-        self.note("expected: at most ");
-        self.number(LONGEST_JOURNAL as u64);
-        self.say(" bytes and ");
-        self.number(MOST_ENTRIES);
-        self.say(" entries\n");
-    }
+fn say_long_journal(page: &mut Page, document: &Document) {
+    page.say(" --> ");
+    page.path(document.name);
+    page.say("\n");
+    page.note("expected: at most ");
+    page.number(LONGEST_JOURNAL as u64);
+    page.say_number(" bytes and ", MOST_ENTRIES, " entries\n");
+}
 
-    fn journal_line(
-        &mut self,
-        alloc: Global,
-        subject: &Subject,
-        document: &Document,
-        number: usize,
-    ) -> Result<(), AllocError> {
-        let span = document.line(number);
-        let line = document.part(span);
-        self.point(document, span);
-        let (word, _fields) = split_at_byte(line, b' ');
-        match said_of(word, FORMS.as_slice()) {
-            _ if line.is_empty() => {
-                self.say("an entry has to stand here: a journal has no blank lines\n");
-            }
-            None => self.no_entry(alloc, word)?,
-            Some("cancel K") if document.text.starts_with(b"orc-journal 1\n") => {
-                self.say("version 1 has no `cancel` lines\n");
-            }
-            Some(_) if span.end >= document.text.len() => {
-                self.say("the last line has no line feed: the journal was cut off\n");
-            }
-            Some(form) => self.wrong_form(alloc, subject, line, form)?,
-        }
-        Ok(())
+fn say_journal_line(
+    page: &mut Page,
+    alloc: Global,
+    subject: &Subject,
+    document: &Document,
+    number: usize,
+) {
+    let span = document.line(number);
+    let line = document.part(span);
+    page.point(document, span);
+    let (word, _fields) = split_at_byte(line, b' ');
+    if line.is_empty() {
+        page.say("an entry has to stand here: a journal has no blank lines\n");
+        return;
     }
+    match said_of(word, FORMS.as_slice()) {
+        None => say_no_entry(page, alloc, word),
+        Some(form) => say_entry(page, alloc, subject, document, span, form),
+    }
+}
 
-    // A line that begins with no entry's word.
-    fn no_entry(&mut self, alloc: Global, word: &[u8]) -> Result<(), AllocError> {
-        self.say("no entry is called `");
-        self.word(word);
-        self.say("`");
-        let mut near = Near::new(alloc, word);
-        let mut meant: &[u8] = b"";
-        for (other, _form) in FORMS {
-            if near.takes(other)? {
-                meant = other;
-            }
-        }
-        if !meant.is_empty() {
-            self.say("; did you mean `");
-            self.word(meant);
-            self.say("`?");
-        }
-        self.say("\n");
-        Ok(())
+// A line that begins with the word of the entries of this form.
+fn say_entry(
+    page: &mut Page,
+    alloc: Global,
+    subject: &Subject,
+    document: &Document,
+    span: Span,
+    form: &str,
+) {
+    if form == CANCEL && document.text.starts_with(b"orc-journal 1\n") {
+        page.say("version 1 has no `cancel` lines\n");
+    } else if span.end >= document.text.len() {
+        page.say("the last line has no line feed: the journal was cut off\n");
+    } else {
+        say_wrong_form(page, alloc, subject, document.part(span), form);
     }
+}
 
-    // An entry in another form, or the call of a site that the table doesn't name.
-    fn wrong_form(
-        &mut self,
-        alloc: Global,
-        subject: &Subject,
-        line: &[u8],
-        form: &str,
-    ) -> Result<(), AllocError> {
-        if let [b'c', b'a', b'l', b'l', b' ', ..] = line {
-            if let Some(name) = called(line) {
-                // The script was read before: only memory can be refused here.
-                let Ok(answers) = read_script(alloc, subject.script_text()) else {
-                    return Err(AllocError);
-                };
-                if answers.site_named(name).is_none() {
-                    self.say("no site is called `");
-                    self.word(name);
-                    self.say("`: is this the script of that run?\n");
-                    return Ok(());
-                }
+// A line that begins with no entry's word.
+fn say_no_entry(page: &mut Page, alloc: Global, word: &[u8]) {
+    page.say_word("no entry is called `", word, "`");
+    let meant = near_word(page, alloc, word);
+    if !meant.is_empty() {
+        page.say_word("; did you mean `", meant, "`?");
+    }
+    page.say("\n");
+}
+
+// The entries' word that is nearest to one, nothing where none is near. The page heeds refused memory.
+fn near_word(page: &mut Page, alloc: Global, word: &[u8]) -> &'static [u8] {
+    let mut near = Near::new(alloc, word);
+    let mut meant: &'static [u8] = b"";
+    for (other, _form) in FORMS.iter() {
+        if near.takes(*other) {
+            meant = *other;
+        }
+    }
+    if near.is_refused {
+        page.refuse();
+    }
+    meant
+}
+
+// An entry in another form, or the call of a site that the table doesn't name.
+fn say_wrong_form(page: &mut Page, alloc: Global, subject: &Subject, line: &[u8], form: &str) {
+    if line.starts_with(b"call ") {
+        if let Some(name) = called(line) {
+            // The script was read before: only memory can be refused here.
+            let Ok(answers) = read_script(alloc, subject.script_text()) else {
+                page.refuse();
+                return;
+            };
+            if answers.site_named(name).is_none() {
+                page.say_word(
+                    "no site is called `",
+                    name,
+                    "`: is this the script of that run?\n",
+                );
+                return;
             }
         }
-        self.say("the form is `");
-        self.say(form);
-        self.say("`: one space between, numbers without leading zeros\n");
-        Ok(())
     }
+    page.say("the form is `");
+    page.say(form);
+    page.say("`: one space between, numbers without leading zeros\n");
 }

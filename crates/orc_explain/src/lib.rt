@@ -18,7 +18,6 @@ mod hint;
 mod journal;
 mod moves;
 mod near;
-mod page;
 mod remarks;
 mod replay;
 mod rules;

@@ -18,6 +18,8 @@ pub(crate) struct Near<'n> {
     most: usize,
     // Whether a name that differs in capitals alone may still be taken.
     is_open: bool,
+    /// Whether memory was refused: then none is taken any more.
+    pub is_refused: bool,
 }
 
 // Whether two names differ in capitals alone.
@@ -49,28 +51,38 @@ impl<'n> Near<'n> {
             name,
             most,
             is_open: name.len() <= LONGEST,
+            is_refused: false,
         }
     }
 
-    /// Whether one more name is nearer than those before, and near enough. One that differs in capitals alone is the nearest. The error is
-    /// refused memory.
-    pub(crate) fn takes(&mut self, candidate: &[u8]) -> Result<bool, AllocError> {
+    /// Whether one more name is nearer than those before, and near enough. One that differs in capitals alone is the nearest.
+    pub(crate) fn takes(&mut self, candidate: &[u8]) -> bool {
         if !self.is_open || candidate == self.name {
-            return Ok(false);
+            return false;
         }
         if are_alike(self.name, candidate) {
             self.is_open = false;
-            return Ok(true);
+            return true;
         }
         if self.most == 0 || self.name.len().abs_diff(candidate.len()) > self.most {
-            return Ok(false);
+            return false;
         }
-        match edits(self.alloc, self.name, candidate)? {
-            Some(edits) if edits <= self.most => {
+        self.is_few_edits_to(candidate)
+    }
+
+    // Whether few edits lead to a name. From then on only fewer do.
+    fn is_few_edits_to(&mut self, candidate: &[u8]) -> bool {
+        match edits(self.alloc, self.name, candidate) {
+            Ok(Some(edits)) if edits <= self.most => {
                 self.most = edits.saturating_sub(1);
-                Ok(true)
+                true
             }
-            _ => Ok(false),
+            Ok(_) => false,
+            Err(_) => {
+                self.is_open = false;
+                self.is_refused = true;
+                false
+            }
         }
     }
 }

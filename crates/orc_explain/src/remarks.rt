@@ -1,9 +1,9 @@
 //! What looks like a mistake in a run that has halted, and isn't one of the language.
 
-use crate::page::Page;
 use crate::replay::Made;
 use crate::rules::{Rule, Rules};
 use crate::scene::{Scene, begin, name_of};
+use orc_page::Page;
 use orc_rules::builtin::is_same;
 use orc_rules::entry::Entry;
 use orc_rules::value::Value;
@@ -84,27 +84,54 @@ impl Drop for Remarks {
     }
 }
 
+// The arguments that a built-in site takes.
+#[derive(Clone, Copy)]
+enum Taken {
+    Numbers,
+    Values,
+    Truth,
+    Time,
+}
+
+impl Taken {
+    fn fits(self, args: &[Value]) -> bool {
+        match self {
+            Taken::Numbers => matches!(args, [Value::Number(_), Value::Number(_)]),
+            Taken::Values => args.len() == 2,
+            Taken::Truth => matches!(args, [Value::Truth(_)]),
+            Taken::Time => matches!(args, [Value::Number(_)]),
+        }
+    }
+
+    fn words(self) -> &'static str {
+        match self {
+            Taken::Numbers => "two numbers",
+            Taken::Values => "two values",
+            Taken::Truth => "`true` or `false`",
+            Taken::Time => "a number of units of time",
+        }
+    }
+}
+
+/// What the built-in sites take.
+const SITES: [(&[u8], Taken); 7] = [
+    (b"Add", Taken::Numbers),
+    (b"Sub", Taken::Numbers),
+    (b"Lt", Taken::Numbers),
+    (b"Eq", Taken::Values),
+    (b"Ift", Taken::Truth),
+    (b"Iff", Taken::Truth),
+    (b"Rwait", Taken::Time),
+];
+
 // What a built-in site takes, where the arguments are something else.
 fn wanted(name: &[u8], args: &[Value]) -> Option<&'static str> {
-    match name {
-        b"Add" | b"Sub" | b"Lt" => match args {
-            [Value::Number(_), Value::Number(_)] => None,
-            _ => Some("two numbers"),
-        },
-        b"Eq" => match args {
-            [_, _] => None,
-            _ => Some("two values"),
-        },
-        b"Ift" | b"Iff" => match args {
-            [Value::Truth(_)] => None,
-            _ => Some("`true` or `false`"),
-        },
-        b"Rwait" => match args {
-            [Value::Number(_)] => None,
-            _ => Some("a number of units of time"),
-        },
-        _ => None,
+    for (site, taken) in SITES.iter() {
+        if *site == name && !taken.fits(args) {
+            return Some(taken.words());
+        }
     }
+    None
 }
 
 // Whether an earlier line answers all calls that a later one would.
@@ -139,6 +166,48 @@ fn differences(patterns: &[Option<Value>], args: &[Value]) -> (u64, Option<(u64,
     (count, first)
 }
 
+// The line that is nearest to a call: of those for as many arguments the one with the fewest other values, else the first of the site.
+fn nearest<'a>(rules: &Rules<'a>, name: &[u8], args: &[Value]) -> Option<Rule<'a>> {
+    let mut nearest: Option<Rule<'a>> = None;
+    let mut least: u64 = 0;
+    for rule in &rules.list {
+        if rule.name == name {
+            let far = distance(rules.patterns(rule), args);
+            if nearest.is_none() || far < least {
+                nearest = Some(*rule);
+                least = far;
+            }
+        }
+    }
+    nearest
+}
+
+// How many of a call's arguments a line's patterns don't take, the most there can be where they are for others.
+fn distance(patterns: &[Option<Value>], args: &[Value]) -> u64 {
+    if patterns.len() == args.len() {
+        differences(patterns, args).0
+    } else {
+        u64::MAX
+    }
+}
+
+// Why a line doesn't answer a call.
+fn missed(page: &mut Page, rules: &Rules, rule: &Rule, args: &[Value]) {
+    let patterns = rules.patterns(rule);
+    page.say_number("; the nearest one, line ", rule.number as u64, "");
+    if patterns.len() != args.len() {
+        page.say(", is for ");
+        page.count(patterns.len() as u64, "argument");
+        return;
+    }
+    let (_count, first) = differences(patterns, args);
+    if let Some((place, value)) = first {
+        page.say(", wants ");
+        page.value(value);
+        page.say_number(" as argument ", place, "");
+    }
+}
+
 impl Remarks {
     fn new(alloc: Global, scene: &Scene, rules: &Rules) -> Result<Remarks, AllocError> {
         let mut remarks = Remarks {
@@ -146,22 +215,40 @@ impl Remarks {
             unanswered: Groups::new(alloc),
             used: Vec::new(alloc),
         };
+        remarks.read(scene, rules)?;
+        Ok(remarks)
+    }
+
+    fn read(&mut self, scene: &Scene, rules: &Rules) -> Result<(), AllocError> {
         for _rule in &rules.list {
-            remarks.used.push(false)?;
+            self.used.push(false)?;
         }
         let mut number: u64 = 0;
         for made in &scene.replay.calls {
             number = number.saturating_add(1);
-            if let Some(Entry::Call(_, _, site, args)) = scene.journal.get(made.entry) {
-                let name = name_of(scene.ended.answers, site);
-                if scene.ended.answers.is_scripted(site) {
-                    remarks.scripted(rules, name, args.as_slice(), *made, number)?;
-                } else if wanted(name, args.as_slice()).is_some() {
-                    remarks.wrong.add(*made, number)?;
-                }
-            }
+            self.add(scene, rules, *made, number)?;
         }
-        Ok(remarks)
+        Ok(())
+    }
+
+    fn add(
+        &mut self,
+        scene: &Scene,
+        rules: &Rules,
+        made: Made,
+        number: u64,
+    ) -> Result<(), AllocError> {
+        let Some(Entry::Call(_, _, site, args)) = scene.journal.get(made.entry) else {
+            return Ok(());
+        };
+        let name = name_of(scene.ended.answers, site);
+        if scene.ended.answers.is_scripted(site) {
+            self.scripted(rules, name, args.as_slice(), made, number)
+        } else if wanted(name, args.as_slice()).is_some() {
+            self.wrong.add(made, number)
+        } else {
+            Ok(())
+        }
     }
 
     fn scripted(
@@ -200,34 +287,39 @@ impl Remarks {
 
 impl Scene<'_, '_> {
     /// What is to be said of a run that has halted. Nothing at all where nothing looks wrong.
-    pub(crate) fn halted(&self, page: &mut Page) -> Result<(), AllocError> {
-        let script = self.subject.script_text();
-        let rules = Rules::new(self.alloc, script)?;
-        let remarks = Remarks::new(self.alloc, self, &rules)?;
+    pub(crate) fn halted(&self, page: &mut Page) {
+        let Ok(rules) = Rules::new(self.alloc, self.subject.script_text()) else {
+            page.refuse();
+            return;
+        };
+        match Remarks::new(self.alloc, self, &rules) {
+            Ok(remarks) => self.remarks(page, &remarks, &rules),
+            Err(_) => page.refuse(),
+        }
+    }
+
+    fn remarks(&self, page: &mut Page, remarks: &Remarks, rules: &Rules) {
         let is_silent = self.ended.summary.published == 0;
         if !is_silent && remarks.is_empty() {
-            return Ok(());
+            return;
         }
         begin(page, self.ended.summary);
         if is_silent {
             page.note("nothing was published\n");
         }
-        self.wrong_calls(page, &remarks.wrong)?;
-        self.unanswered_calls(page, &remarks.unanswered, &rules)?;
-        self.unused_lines(page, &remarks, &rules);
-        Ok(())
+        self.wrong_calls(page, &remarks.wrong);
+        self.unanswered_calls(page, &remarks.unanswered, rules);
+        self.unused_lines(page, remarks, rules);
     }
 
     // `call 3, Ift(3), in line 1, column 5 halted`, the first call of a group.
-    fn halted_call(&self, page: &mut Page, group: &Group) -> Result<(), AllocError> {
-        page.note("call ");
-        page.number(group.number);
-        page.say(", ");
-        self.call(page, group.first.entry)?;
+    fn halted_call(&self, page: &mut Page, group: &Group) {
+        page.note("");
+        page.say_number("call ", group.number, ", ");
+        self.call(page, group.first.entry);
         page.say(", made in ");
         self.place(page, group.first.spot);
         page.say(", halted: ");
-        Ok(())
     }
 
     // How many calls more were made there.
@@ -240,105 +332,45 @@ impl Scene<'_, '_> {
         page.say("\n");
     }
 
-    fn wrong_calls(&self, page: &mut Page, groups: &Groups) -> Result<(), AllocError> {
+    fn wrong_calls(&self, page: &mut Page, groups: &Groups) {
         let mut shown: u64 = 0;
-        for group in &groups.list {
-            if shown < SHOWN {
-                shown = shown.saturating_add(1);
-                self.halted_call(page, group)?;
-                if let Some(Entry::Call(_, _, site, args)) = self.journal.get(group.first.entry) {
-                    let name = name_of(self.ended.answers, site);
-                    page.say("`");
-                    page.word(name);
-                    page.say("` takes ");
-                    page.say(wanted(name, args.as_slice()).unwrap_or("other values"));
-                }
-                self.others(page, group);
-            }
+        for group in groups.list.iter().take(SHOWN as usize) {
+            shown = shown.saturating_add(1);
+            self.halted_call(page, group);
+            self.site_takes(page, group.first.entry);
+            self.others(page, group);
         }
         self.rest(page, groups.list.len() as u64, shown);
-        Ok(())
     }
 
-    fn unanswered_calls(
-        &self,
-        page: &mut Page,
-        groups: &Groups,
-        rules: &Rules,
-    ) -> Result<(), AllocError> {
+    // What a call's site takes.
+    fn site_takes(&self, page: &mut Page, entry: usize) {
+        if let Some(Entry::Call(_, _, site, args)) = self.journal.get(entry) {
+            let name = name_of(self.ended.answers, site);
+            page.say_word("`", name, "` takes ");
+            page.say(wanted(name, args.as_slice()).unwrap_or("other values"));
+        }
+    }
+
+    fn unanswered_calls(&self, page: &mut Page, groups: &Groups, rules: &Rules) {
         let mut shown: u64 = 0;
-        for group in &groups.list {
-            if shown < SHOWN {
-                shown = shown.saturating_add(1);
-                self.halted_call(page, group)?;
-                page.say("no line of the script answers it");
-                if let Some(Entry::Call(_, _, site, args)) = self.journal.get(group.first.entry) {
-                    let name = name_of(self.ended.answers, site);
-                    self.nearest(page, rules, name, args.as_slice())?;
-                }
-                self.others(page, group);
-            }
+        for group in groups.list.iter().take(SHOWN as usize) {
+            shown = shown.saturating_add(1);
+            self.halted_call(page, group);
+            page.say("no line of the script answers it");
+            self.nearest_line(page, group.first.entry, rules);
+            self.others(page, group);
         }
         self.rest(page, groups.list.len() as u64, shown);
-        Ok(())
     }
 
-    // The line that is nearest to a call: of those for as many arguments the one with the fewest other values, else the first of the site.
-    fn nearest(
-        &self,
-        page: &mut Page,
-        rules: &Rules,
-        name: &[u8],
-        args: &[Value],
-    ) -> Result<(), AllocError> {
-        let mut nearest: Option<(u64, Rule)> = None;
-        for rule in &rules.list {
-            if rule.name == name {
-                let patterns = rules.patterns(rule);
-                let far = if patterns.len() == args.len() {
-                    differences(patterns, args).0
-                } else {
-                    u64::MAX
-                };
-                let is_nearer = match nearest {
-                    Some((other, _)) => far < other,
-                    None => true,
-                };
-                if is_nearer {
-                    nearest = Some((far, *rule));
-                }
+    fn nearest_line(&self, page: &mut Page, entry: usize, rules: &Rules) {
+        if let Some(Entry::Call(_, _, site, args)) = self.journal.get(entry) {
+            let name = name_of(self.ended.answers, site);
+            if let Some(rule) = nearest(rules, name, args.as_slice()) {
+                missed(page, rules, &rule, args.as_slice());
             }
         }
-        match nearest {
-            Some((_, rule)) => self.missed(page, rules, &rule, args),
-            None => Ok(()),
-        }
-    }
-
-    // Why a line doesn't answer a call.
-    fn missed(
-        &self,
-        page: &mut Page,
-        rules: &Rules,
-        rule: &Rule,
-        args: &[Value],
-    ) -> Result<(), AllocError> {
-        let patterns = rules.patterns(rule);
-        page.say("; the nearest one, line ");
-        page.number(rule.number as u64);
-        if patterns.len() != args.len() {
-            page.say(", is for ");
-            page.count(patterns.len() as u64, "argument");
-            return Ok(());
-        }
-        let (_count, first) = differences(patterns, args);
-        if let Some((place, value)) = first {
-            page.say(", wants ");
-            self.value(page, value)?;
-            page.say(" as argument ");
-            page.number(place);
-        }
-        Ok(())
     }
 
     fn unused_lines(&self, page: &mut Page, remarks: &Remarks, rules: &Rules) {
@@ -360,16 +392,17 @@ impl Scene<'_, '_> {
     fn hidden(&self, page: &mut Page, rules: &Rules, place: usize, rule: &Rule) {
         for earlier in rules.list.iter().take(place) {
             if hides(rules, earlier, rule) {
-                page.say(": line ");
-                page.number(earlier.number as u64);
-                page.say(" comes first and answers all of its calls");
+                let number = earlier.number as u64;
+                page.say_number(
+                    ": line ",
+                    number,
+                    " comes first and answers all of its calls",
+                );
                 return;
             }
         }
         if !self.is_called(rule.name) {
-            page.say(": `");
-            page.word(rule.name);
-            page.say("` was never called");
+            page.say_word(": `", rule.name, "` was never called");
         }
     }
 

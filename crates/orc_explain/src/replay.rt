@@ -100,29 +100,38 @@ impl<'a> Replay<'a> {
     // What an entry makes besides tokens, or ends.
     fn note(&mut self, sketch: &Sketch<'a>, entry: &Entry, at: usize) -> Result<(), AllocError> {
         match entry {
-            Entry::Call(s, _, _, _) => {
-                let token = self.token(*s);
-                self.calls.push(Made {
-                    spot: token.spot.unwrap_or(0),
-                    step: token.step,
-                    entry: at,
-                    is_out: true,
-                })?;
-            }
-            Entry::Return(k, _, _) | Entry::ReturnHalt(k) | Entry::Cancel(k) => {
-                if let Some(made) = self.calls.get_mut((*k as usize).saturating_sub(1)) {
-                    made.is_out = false;
-                }
-            }
-            Entry::Open(s, _, _, _) => {
-                if let Shape::Prune(_, _, purpose) = self.trail.shape(sketch, *s) {
-                    let spot = self.token(*s).spot.unwrap_or(0);
-                    self.cells.push(Cell { purpose, spot })?;
-                }
-            }
+            Entry::Call(s, _, _, _) => return self.add_call(*s, at),
+            Entry::Return(k, _, _) | Entry::ReturnHalt(k) | Entry::Cancel(k) => self.end_call(*k),
+            Entry::Open(s, _, _, _) => return self.add_cell(sketch, *s),
             Entry::Def(_, _) => self.definitions = self.definitions.saturating_add(1),
             _ => {}
         }
+        Ok(())
+    }
+
+    fn add_call(&mut self, mark: u64, entry: usize) -> Result<(), AllocError> {
+        let token = self.token(mark);
+        self.calls.push(Made {
+            spot: token.spot.unwrap_or(0),
+            step: token.step,
+            entry,
+            is_out: true,
+        })?;
+        Ok(())
+    }
+
+    fn end_call(&mut self, call: u64) {
+        if let Some(made) = self.calls.get_mut((call as usize).saturating_sub(1)) {
+            made.is_out = false;
+        }
+    }
+
+    fn add_cell(&mut self, sketch: &Sketch<'a>, mark: u64) -> Result<(), AllocError> {
+        let Shape::Prune(_, _, purpose) = self.trail.shape(sketch, mark) else {
+            return Ok(());
+        };
+        let spot = self.token(mark).spot.unwrap_or(0);
+        self.cells.push(Cell { purpose, spot })?;
         Ok(())
     }
 

@@ -40,13 +40,22 @@ fn number_of(text: &[u8]) -> Option<i64> {
     }
 }
 
+/// The patterns that are no numbers.
+const WORDS: [(&[u8], Option<Value>); 4] = [
+    (b"_", None),
+    (b"true", Some(Value::Truth(true))),
+    (b"false", Some(Value::Truth(false))),
+    (b"signal", Some(Value::Signal)),
+];
+
 // What a pattern stands for, where a piece of a line is one: a value, or None for any.
 fn pattern_of(text: &[u8]) -> Option<Option<Value>> {
+    for (word, pattern) in WORDS.iter() {
+        if *word == text {
+            return Some(*pattern);
+        }
+    }
     match text {
-        b"_" => Some(None),
-        b"true" => Some(Some(Value::Truth(true))),
-        b"false" => Some(Some(Value::Truth(false))),
-        b"signal" => Some(Some(Value::Signal)),
         [b'-' | b'0'..=b'9', ..] => Some(Some(Value::Number(number_of(text)?))),
         _ => None,
     }

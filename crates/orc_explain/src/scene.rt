@@ -1,20 +1,18 @@
 //! What is told of a run: its calls, entries and terms in words.
 
 use crate::ended::Ended;
-use crate::page::Page;
 use crate::replay::Replay;
 use crate::tokens::span_at;
 use orc_checker::arena::{Kind, Tip};
-use orc_journal::{Journal, has_line, write_entry, write_value};
+use orc_journal::{Journal, has_line, write_entry};
 use orc_outcome::{End, Summary};
-use orc_page::{Subject, place_of};
+use orc_page::{Page, Subject, place_of};
 use orc_rules::answers::Answers;
 use orc_rules::entry::Entry;
 use orc_rules::param::Param;
 use orc_rules::program::TermNode;
-use orc_rules::value::Value;
 use orc_sketch::{Purpose, Sketch};
-use std::alloc::{AllocError, Global};
+use std::alloc::Global;
 
 /// How many columns of a term are shown.
 const TERM: usize = 28;
@@ -46,8 +44,7 @@ pub(crate) fn begin(page: &mut Page, summary: Summary) {
 /// How far a run came.
 pub(crate) fn reach(page: &mut Page, summary: Summary) {
     page.number(summary.now);
-    page.say(", after ");
-    page.number(summary.entries);
+    page.say_number(", after ", summary.entries, "");
     page.say(if summary.entries == 1 {
         " entry\n"
     } else {
@@ -58,9 +55,7 @@ pub(crate) fn reach(page: &mut Page, summary: Summary) {
 /// `and N more`, where there are more than were shown.
 pub(crate) fn say_more(page: &mut Page, all: u64, shown: u64) {
     if all > shown {
-        page.say(" and ");
-        page.number(all.saturating_sub(shown));
-        page.say(" more");
+        page.say_number(" and ", all.saturating_sub(shown), " more");
     }
 }
 
@@ -76,9 +71,8 @@ impl Scene<'_, '_> {
     /// A line that says how many were left out.
     pub(crate) fn rest(&self, page: &mut Page, all: u64, shown: u64) {
         if all > shown {
-            page.note("and ");
-            page.number(all.saturating_sub(shown));
-            page.say(" more\n");
+            page.note("");
+            page.say_number("and ", all.saturating_sub(shown), " more\n");
         }
     }
 
@@ -92,62 +86,51 @@ impl Scene<'_, '_> {
     pub(crate) fn line(&self, page: &mut Page, at: usize) {
         let source = self.subject.source;
         let text = source.text;
-        page.say("line ");
-        page.number(place_of(text, at.min(text.len())).line as u64);
-    }
-
-    pub(crate) fn value(&self, page: &mut Page, value: Value) -> Result<(), AllocError> {
-        let mut text = Vec::new(self.alloc);
-        write_value(&mut text, value)?;
-        page.word(text.as_slice());
-        Ok(())
+        let place = place_of(text, at.min(text.len()));
+        page.say_number("line ", place.line as u64, "");
     }
 
     /// A call that was made, as `NAME(a, b)`, by the place of its entry.
-    pub(crate) fn call(&self, page: &mut Page, entry: usize) -> Result<(), AllocError> {
+    pub(crate) fn call(&self, page: &mut Page, entry: usize) {
         if let Some(Entry::Call(_, _, site, args)) = self.journal.get(entry) {
             page.word(name_of(self.ended.answers, site));
-            page.say("(");
-            for (i, arg) in args.as_slice().iter().enumerate() {
-                if i > 0 {
-                    page.say(", ");
-                }
-                self.value(page, *arg)?;
-            }
-            page.say(")");
+            page.values(args.as_slice());
         }
-        Ok(())
     }
 
     /// The line of an entry.
-    pub(crate) fn entry(&self, page: &mut Page, entry: &Entry) -> Result<(), AllocError> {
+    pub(crate) fn entry(&self, page: &mut Page, entry: &Entry) {
         if has_line(entry, self.ended.answers) {
             let mut text = Vec::new(self.alloc);
-            write_entry(entry, self.ended.answers, &mut text)?;
-            page.word(text.trim_ascii_end());
+            match write_entry(entry, self.ended.answers, &mut text) {
+                Ok(_) => page.word(text.trim_ascii_end()),
+                Err(_) => page.refuse(),
+            }
         }
-        Ok(())
+    }
+
+    // The purpose of a cell.
+    fn purpose(&self, cell: u64) -> Purpose<'_> {
+        let at = (cell as usize).saturating_sub(1);
+        match self.replay.cells.get(at) {
+            Some(cell) => cell.purpose,
+            None => Purpose::Nothing,
+        }
     }
 
     /// What a cell's value is for.
     pub(crate) fn cell(&self, page: &mut Page, cell: u64) {
-        let at = (cell as usize).saturating_sub(1);
-        match self.replay.cells.get(at).map(|cell| cell.purpose) {
-            Some(Purpose::Variable(name)) => {
-                page.say("`");
-                page.word(name.text);
-                page.say("`, named in ");
+        match self.purpose(cell) {
+            Purpose::Variable(name) => {
+                page.say_word("`", name.text, "`, named in ");
                 self.line(page, name.span.start);
             }
-            Some(Purpose::Argument(place, name)) => {
-                page.say("argument ");
-                page.number(place as u64);
-                page.say(" of `");
-                page.word(name.text);
-                page.say("`, called in ");
+            Purpose::Argument(place, name) => {
+                page.say_number("argument ", place as u64, "");
+                page.say_word(" of `", name.text, "`, called in ");
                 self.line(page, name.span.start);
             }
-            Some(Purpose::Nothing) | None => page.say("the value of a `<<`"),
+            Purpose::Nothing => page.say("the value of a `<<`"),
         }
     }
 
@@ -165,48 +148,42 @@ impl Scene<'_, '_> {
     }
 
     /// What a token stands on: a call with its values put in, else the source's text, cut.
-    pub(crate) fn term(&self, page: &mut Page, token: u64, spot: usize) -> Result<(), AllocError> {
+    pub(crate) fn term(&self, page: &mut Page, token: u64, spot: usize) {
         let span = self.sketch.span(spot);
         let source = self.subject.source;
         let Some((number, scope)) = self.node_of(token) else {
-            return Ok(());
+            return;
         };
         match self.ended.program.node(number) {
             TermNode::Call(_, list) | TermNode::Site(_, list) => {
                 page.word(source.part(span_at(source.text, span.start)));
-                self.operands(page, list, scope)
+                self.operands(page, list, scope);
             }
-            _ => {
-                squeeze(page, source.part(span));
-                Ok(())
-            }
+            _ => squeeze(page, source.part(span)),
         }
     }
 
-    fn operands(&self, page: &mut Page, list: usize, scope: usize) -> Result<(), AllocError> {
+    fn operands(&self, page: &mut Page, list: usize, scope: usize) {
         page.say("(");
         for (i, operand) in self.ended.program.operands(list).iter().enumerate() {
             if i > 0 {
                 page.say(", ");
             }
             match self.replay.marked.param(*operand, scope) {
-                Param::Is(value) => self.value(page, value)?,
+                Param::Is(value) => page.value(value),
                 Param::Cell(cell) => self.awaited(page, cell),
                 Param::Void | Param::Name(_) => page.say("void"),
             }
         }
         page.say(")");
-        Ok(())
     }
 
     // A cell without a value, as it stands in a term.
     fn awaited(&self, page: &mut Page, cell: u64) {
-        let at = (cell as usize).saturating_sub(1);
-        if let Some(Purpose::Variable(name)) = self.replay.cells.get(at).map(|cell| cell.purpose) {
+        if let Purpose::Variable(name) = self.purpose(cell) {
             page.word(name.text);
         }
-        page.say("#");
-        page.number(cell);
+        page.say_number("#", cell, "");
     }
 }
 

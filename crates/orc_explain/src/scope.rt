@@ -1,19 +1,19 @@
 //! Faults of names (C).
 
-use crate::bindings::{Binder, Bindings};
-use crate::hint::Hint;
+use crate::bindings::{Binder, Binding, Bindings};
+use crate::hint::{Hint, say_hint};
 use crate::near::Near;
-use crate::page::Page;
+use crate::syntax::say_refused;
 use crate::tokens::span_at;
 use crate::wanted::NO_IF;
-use crate::words::{RESERVED, said_of};
-use orc_page::{Document, Subject};
+use crate::words::{RESERVED, is_one_of, said_of};
+use orc_page::{Document, Page, Subject};
 use orc_rules::answers::Answers;
 use orc_rules::limits::{MOST_ARGUMENTS, MOST_NODES};
 use orc_scope::{FaultKind, ScopeFault};
 use orc_site::read_script;
 use orc_syntax::{Ast, Definition, Expr, Name, Part, parse};
-use std::alloc::{AllocError, Global};
+use std::alloc::Global;
 
 /// What the built-in sites answer, in words.
 const PURPOSES: [(&[u8], &str); 7] = [
@@ -25,6 +25,9 @@ const PURPOSES: [(&[u8], &str); 7] = [
     (b"Iff", "`signal` for `false`, else nothing"),
     (b"Rwait", "`signal` after a time"),
 ];
+
+/// What other languages call a choice.
+const CHOICES: [&[u8]; 2] = [b"if", b"If"];
 
 // The first definition of this name.
 fn definition_of<'d, 'a>(ast: &'d Ast<'a>, name: &[u8]) -> Option<&'d Definition<'a>> {
@@ -102,53 +105,50 @@ fn has_many(ast: &Ast) -> bool {
 }
 
 // The nearest variable.
-fn near_variable<'a>(
-    near: &mut Near,
-    bindings: &Bindings<'a>,
-) -> Result<Option<Name<'a>>, AllocError> {
+fn near_variable<'a>(near: &mut Near, bindings: &Bindings<'a>) -> Option<Name<'a>> {
     let mut nearest = None;
     for binding in bindings.list.iter() {
-        if near.takes(binding.name.text)? {
+        if near.takes(binding.name.text) {
             nearest = Some(binding.name);
         }
     }
-    Ok(nearest)
+    nearest
 }
 
 // The definition that is nearer than what came before.
-fn near_definition<'a>(near: &mut Near, ast: &Ast<'a>) -> Result<Option<Name<'a>>, AllocError> {
+fn near_definition<'a>(near: &mut Near, ast: &Ast<'a>) -> Option<Name<'a>> {
     let mut nearest = None;
     for definition in &ast.definitions {
-        if near.takes(definition.name.text)? {
+        if near.takes(definition.name.text) {
             nearest = Some(definition.name);
         }
     }
-    Ok(nearest)
+    nearest
 }
 
 // The reserved word that is nearer than what came before.
-fn near_word(near: &mut Near) -> Result<Option<&'static [u8]>, AllocError> {
+fn near_word(near: &mut Near) -> Option<&'static [u8]> {
     let mut nearest = None;
-    for word in RESERVED {
-        if near.takes(word)? {
-            nearest = Some(word);
+    for word in RESERVED.iter() {
+        if near.takes(*word) {
+            nearest = Some(*word);
         }
     }
-    Ok(nearest)
+    nearest
 }
 
 // The site that is nearer than what came before.
-fn near_site(near: &mut Near, answers: &Answers) -> Result<Option<u32>, AllocError> {
+fn near_site<'a>(near: &mut Near, answers: &'a Answers) -> Option<&'a [u8]> {
     let mut nearest = None;
     for site in 0..u32::MAX {
         let Some(name) = answers.name(site) else {
-            return Ok(nearest);
+            return nearest;
         };
-        if near.takes(name)? {
-            nearest = Some(site);
+        if near.takes(name) {
+            nearest = Some(name);
         }
     }
-    Ok(nearest)
+    nearest
 }
 
 // Where a variable is known.
@@ -161,244 +161,253 @@ fn reach(binder: Binder) -> &'static str {
     }
 }
 
-impl Page {
-    /// What is wrong with a name. The error is refused memory.
-    pub(crate) fn scope(
-        &mut self,
-        alloc: Global,
-        subject: &Subject,
-        fault: ScopeFault,
-    ) -> Result<(), AllocError> {
-        if fault.kind == FaultKind::Memory {
-            self.refused("names were looked up");
-            return Ok(());
-        }
-        let document = subject.source;
-        // What spells no program has no such fault: only memory can be refused here.
-        let Ok(ast) = parse(alloc, document.text) else {
-            return Err(AllocError);
-        };
-        let at = fault.span.start;
-        let span = span_at(document.text, at);
-        let name = document.part(span);
-        self.point(&document, span);
-        match fault.kind {
-            FaultKind::Unbound => self.unbound(alloc, &document, &ast, name),
-            FaultKind::NotValue => {
-                self.not_value(&ast, name);
-                Ok(())
-            }
-            FaultKind::Arity { want, got } => {
-                self.arity(&document, &ast, name, want as u64, got as u64);
-                Ok(())
-            }
-            FaultKind::DefinedTwice => {
-                let first = definition_of(&ast, name).map(|definition| definition.name);
-                self.say("a second definition of this name\n");
-                self.first_one(&document, first);
-                Ok(())
-            }
-            FaultKind::ParameterTwice => {
-                let first = first_parameter(&ast, name, at);
-                self.say("a second parameter of this name\n");
-                self.first_one(&document, first);
-                Ok(())
-            }
-            FaultKind::CallOfVariable => self.call_of_variable(alloc, &document, &ast, name, at),
-            FaultKind::NoSite => {
-                let count = arguments_at(&ast, at);
-                self.no_site(alloc, subject, &ast, name, count)
-            }
-            FaultKind::TooMany | FaultKind::Memory => {
-                self.too_many(has_many(&ast));
-                Ok(())
-            }
-        }
+/// What is wrong with a name.
+pub(crate) fn say_scope(page: &mut Page, alloc: Global, subject: &Subject, fault: ScopeFault) {
+    if fault.kind == FaultKind::Memory {
+        say_refused(page, "names were looked up");
+        return;
     }
+    // What spells no program has no such fault: only memory can be refused here.
+    match parse(alloc, subject.source.text) {
+        Ok(ast) => say_name(page, alloc, subject, &ast, fault),
+        Err(_) => page.refuse(),
+    }
+}
 
-    fn unbound(
-        &mut self,
-        alloc: Global,
-        document: &Document,
-        ast: &Ast,
-        name: &[u8],
-    ) -> Result<(), AllocError> {
-        self.say("no `");
-        self.word(name);
-        self.say("` is in scope here\n");
-        let bindings = Bindings::new(alloc, ast)?;
-        if let Some(binding) = bindings.first(name) {
+fn say_name(page: &mut Page, alloc: Global, subject: &Subject, ast: &Ast, fault: ScopeFault) {
+    let document = &subject.source;
+    let at = fault.span.start;
+    let span = span_at(document.text, at);
+    let name = document.part(span);
+    page.point(document, span);
+    match fault.kind {
+        FaultKind::Unbound => say_unbound(page, alloc, document, ast, name),
+        FaultKind::NotValue => say_not_value(page, ast, name),
+        FaultKind::Arity { want, got } => {
+            say_arity(page, document, ast, name, want as u64, got as u64);
+        }
+        FaultKind::DefinedTwice => say_second_definition(page, document, ast, name),
+        FaultKind::ParameterTwice => say_second_parameter(page, document, ast, name, at),
+        FaultKind::CallOfVariable => say_call_of_variable(page, alloc, document, ast, name, at),
+        FaultKind::NoSite => say_no_site(page, alloc, subject, ast, name, at),
+        FaultKind::TooMany | FaultKind::Memory => say_too_many(page, has_many(ast)),
+    }
+}
+
+fn say_unbound(page: &mut Page, alloc: Global, document: &Document, ast: &Ast, name: &[u8]) {
+    page.say_word("no `", name, "` is in scope here\n");
+    let Ok(bindings) = Bindings::new(alloc, ast) else {
+        page.refuse();
+        return;
+    };
+    match bindings.first(name) {
+        Some(binding) => {
             let words = reach(binding.binder);
-            let hint = Hint::of_place(words, name, binding.name.span.start);
-            self.hint(document, Some(hint));
-            return Ok(());
+            say_hint(
+                page,
+                document,
+                Hint::of_place(words, name, binding.name.span.start),
+            );
         }
-        let mut near = Near::new(alloc, name);
-        let variable = near_variable(&mut near, &bindings)?;
-        let definition = near_definition(&mut near, ast)?;
-        let word = near_word(&mut near)?;
-        match (word, definition, variable) {
-            (Some(word), _, _) => self.meant(word),
-            (None, Some(other), _) | (None, None, Some(other)) => self.meant(other.text),
-            _ => self.perhaps_site(name),
-        }
-        Ok(())
+        None => say_near(page, alloc, ast, &bindings, name),
     }
+}
 
-    // A name that may have been meant.
-    fn meant(&mut self, name: &[u8]) {
-        self.note("help: did you mean `");
-        self.word(name);
-        self.say("`?");
-        if let Some(purpose) = said_of(name, PURPOSES.as_slice()) {
-            self.say(" It is ");
-            self.say(purpose);
-            self.say(".");
-        }
-        self.say("\n");
+// The name in place of one that isn't known.
+fn say_near(page: &mut Page, alloc: Global, ast: &Ast, bindings: &Bindings, name: &[u8]) {
+    let mut near = Near::new(alloc, name);
+    let variable = near_variable(&mut near, bindings);
+    let definition = near_definition(&mut near, ast);
+    let word = near_word(&mut near);
+    if near.is_refused {
+        page.refuse();
     }
-
-    // A name with a capital may be that of a site.
-    fn perhaps_site(&mut self, name: &[u8]) {
-        if let [b'A'..=b'Z', ..] = name {
-            self.note("help: a site is called with brackets: `");
-            self.word(name);
-            self.say("()`\n");
-        }
+    match word.or(text_of(definition.or(variable))) {
+        Some(other) => say_meant(page, other),
+        None => say_perhaps_site(page, name),
     }
+}
 
-    fn not_value(&mut self, ast: &Ast, name: &[u8]) {
-        let kind = match definition_of(ast, name) {
-            Some(_) => "definition",
-            None => "site",
-        };
-        self.say("`");
-        self.word(name);
-        self.say("` is a ");
-        self.say(kind);
-        self.say(", and isn't called here\n");
-        self.note("help: call it: `");
-        self.word(name);
-        self.say("(..)`; ");
-        self.say(kind);
-        self.say("s aren't values\n");
+fn text_of<'a>(name: Option<Name<'a>>) -> Option<&'a [u8]> {
+    name.map(|name| name.text)
+}
+
+// A name that may have been meant.
+fn say_meant(page: &mut Page, name: &[u8]) {
+    page.note("help: ");
+    page.say_word("did you mean `", name, "`?");
+    if let Some(purpose) = said_of(name, PURPOSES.as_slice()) {
+        page.say(" It is ");
+        page.say(purpose);
+        page.say(".");
     }
+    page.say("\n");
+}
 
-    fn arity(&mut self, document: &Document, ast: &Ast, name: &[u8], want: u64, got: u64) {
-        self.say("called with ");
-        self.count(got, "argument");
-        self.say("\n");
-        self.note("expected: ");
-        self.count(want, "argument");
-        if let Some(definition) = definition_of(ast, name) {
-            self.say(", as `");
-            self.word(name);
-            self.say("` is defined in ");
-            self.place(document.text, definition.name.span.start);
-        }
-        self.say("\n");
+// A name with a capital may be that of a site.
+fn say_perhaps_site(page: &mut Page, name: &[u8]) {
+    if let [b'A'..=b'Z', ..] = name {
+        page.note("help: ");
+        page.say_word("a site is called with brackets: `", name, "()`\n");
     }
+}
 
-    // Where the first one of two stands.
-    fn first_one(&mut self, document: &Document, first: Option<Name>) {
-        if let Some(name) = first {
-            self.note("the first one stands in ");
-            self.place(document.text, name.span.start);
-            self.say("\n");
-        }
+fn say_not_value(page: &mut Page, ast: &Ast, name: &[u8]) {
+    let kind = match definition_of(ast, name) {
+        Some(_) => "definition",
+        None => "site",
+    };
+    page.say_word("`", name, "` is a ");
+    page.say(kind);
+    page.say(", and isn't called here\n");
+    page.note("help: ");
+    page.say_word("call it: `", name, "(..)`; ");
+    page.say(kind);
+    page.say("s aren't values\n");
+}
+
+fn say_arity(page: &mut Page, document: &Document, ast: &Ast, name: &[u8], want: u64, got: u64) {
+    page.say("called with ");
+    page.count(got, "argument");
+    page.say("\n");
+    page.note("expected: ");
+    page.count(want, "argument");
+    if let Some(definition) = definition_of(ast, name) {
+        page.say_word(", as `", name, "` is defined in ");
+        page.place(document.text, definition.name.span.start);
     }
+    page.say("\n");
+}
 
-    fn call_of_variable(
-        &mut self,
-        alloc: Global,
-        document: &Document,
-        ast: &Ast,
-        name: &[u8],
-        at: usize,
-    ) -> Result<(), AllocError> {
-        self.say("`");
-        self.word(name);
-        self.say("` is a variable, and variables can't be called\n");
-        let bindings = Bindings::new(alloc, ast)?;
-        if let Some(binding) = bindings.known(name, at) {
-            self.note("it is named in ");
-            self.place(document.text, binding.name.span.start);
-            self.say("\n");
+fn say_second_definition(page: &mut Page, document: &Document, ast: &Ast, name: &[u8]) {
+    page.say("a second definition of this name\n");
+    if let Some(first) = definition_of(ast, name) {
+        say_first(page, document, first.name);
+    }
+}
+
+fn say_second_parameter(page: &mut Page, document: &Document, ast: &Ast, name: &[u8], at: usize) {
+    page.say("a second parameter of this name\n");
+    if let Some(first) = first_parameter(ast, name, at) {
+        say_first(page, document, first);
+    }
+}
+
+// Where the first one of two stands.
+fn say_first(page: &mut Page, document: &Document, name: Name) {
+    page.note("the first one stands in ");
+    page.place(document.text, name.span.start);
+    page.say("\n");
+}
+
+fn say_call_of_variable(
+    page: &mut Page,
+    alloc: Global,
+    document: &Document,
+    ast: &Ast,
+    name: &[u8],
+    at: usize,
+) {
+    page.say_word(
+        "`",
+        name,
+        "` is a variable, and variables can't be called\n",
+    );
+    match Bindings::new(alloc, ast) {
+        Ok(bindings) => say_binding(page, document, bindings.known(name, at)),
+        Err(_) => page.refuse(),
+    }
+    page.note("help: ");
+    page.say_word(
+        "sites and definitions aren't values; where a bracket only follows it, write `(",
+        name,
+        ")`\n",
+    );
+}
+
+// Where a variable is named.
+fn say_binding(page: &mut Page, document: &Document, binding: Option<Binding>) {
+    if let Some(binding) = binding {
+        page.note("it is named in ");
+        page.place(document.text, binding.name.span.start);
+        page.say("\n");
+    }
+}
+
+fn say_no_site(
+    page: &mut Page,
+    alloc: Global,
+    subject: &Subject,
+    ast: &Ast,
+    name: &[u8],
+    at: usize,
+) {
+    page.say_word("no definition and no site is called `", name, "`\n");
+    if is_one_of(name, CHOICES.as_slice()) {
+        page.help(NO_IF);
+        return;
+    }
+    // The script was read before: only memory can be refused here.
+    match read_script(alloc, subject.script_text()) {
+        Ok(answers) => say_near_site(page, alloc, subject, ast, &answers, name, at),
+        Err(_) => page.refuse(),
+    }
+}
+
+// The name in place of one that nothing has.
+fn say_near_site(
+    page: &mut Page,
+    alloc: Global,
+    subject: &Subject,
+    ast: &Ast,
+    answers: &Answers,
+    name: &[u8],
+    at: usize,
+) {
+    let mut near = Near::new(alloc, name);
+    let definition = near_definition(&mut near, ast);
+    let site = near_site(&mut near, answers);
+    if near.is_refused {
+        page.refuse();
+    }
+    match site.or(text_of(definition)) {
+        Some(other) => say_meant(page, other),
+        None => say_own_site(page, subject, name, arguments_at(ast, at)),
+    }
+}
+
+// A line of a script for a site of one's own.
+fn say_own_site(page: &mut Page, subject: &Subject, name: &[u8], count: usize) {
+    page.note("help: a site of your own needs a line in ");
+    match subject.script {
+        Some(script) => {
+            page.say("the script ");
+            page.path(script.name);
         }
-        self.note(
-            "help: sites and definitions aren't values; where a bracket only follows it, write `(",
+        None => page.say("a script, given with --script"),
+    }
+    page.say_word(": `", name, "(");
+    for argument in 0..count {
+        page.say(if argument > 0 { ", _" } else { "_" });
+    }
+    page.say(") = 0 after 1`\n");
+}
+
+// An argument or a parameter too many, or else nodes.
+fn say_too_many(page: &mut Page, are_arguments: bool) {
+    if are_arguments {
+        page.say_number(
+            "the ",
+            MOST_ARGUMENTS as u64 + 1,
+            "th argument or parameter\n",
         );
-        self.word(name);
-        self.say(")`\n");
-        Ok(())
-    }
-
-    fn no_site(
-        &mut self,
-        alloc: Global,
-        subject: &Subject,
-        ast: &Ast,
-        name: &[u8],
-        count: usize,
-    ) -> Result<(), AllocError> {
-        self.say("no definition and no site is called `");
-        self.word(name);
-        self.say("`\n");
-        match name {
-            b"if" | b"If" => {
-                self.help(NO_IF);
-                return Ok(());
-            }
-            _ => {}
-        }
-        // The script was read before: only memory can be refused here.
-        let Ok(answers) = read_script(alloc, subject.script_text()) else {
-            return Err(AllocError);
-        };
-        let mut near = Near::new(alloc, name);
-        let definition = near_definition(&mut near, ast)?;
-        let site = near_site(&mut near, &answers)?;
-        match (site, definition) {
-            (Some(site), _) => self.meant(answers.name(site).unwrap_or(b"")),
-            (None, Some(other)) => self.meant(other.text),
-            (None, None) => self.own_site(subject, name, count),
-        }
-        Ok(())
-    }
-
-    // A line of a script for a site of one's own.
-    fn own_site(&mut self, subject: &Subject, name: &[u8], count: usize) {
-        self.note("help: a site of your own needs a line in ");
-        match subject.script {
-            Some(script) => {
-                self.say("the script ");
-                self.path(script.name);
-            }
-            None => self.say("a script, given with --script"),
-        }
-        self.say(": `");
-        self.word(name);
-        self.say("(");
-        for argument in 0..count {
-            self.say(if argument > 0 { ", _" } else { "_" });
-        }
-        self.say(") = 0 after 1`\n");
-    }
-
-    // An argument or a parameter too many, or else nodes.
-    fn too_many(&mut self, are_arguments: bool) {
-        if are_arguments {
-            self.say("the ");
-            self.number(MOST_ARGUMENTS as u64 + 1);
-            self.say("th argument or parameter\n");
-            self.note("expected: at most ");
-            self.number(MOST_ARGUMENTS as u64);
-            self.say("\n");
-            self.help("put the numbers into fewer parameters");
-        } else {
-            self.say("the program has over ");
-            self.grouped(MOST_NODES as u64);
-            self.say(" nodes when it is written out\n");
-        }
+        page.note("expected: at most ");
+        page.number(MOST_ARGUMENTS as u64);
+        page.say("\n");
+        page.help("put the numbers into fewer parameters");
+    } else {
+        page.say("the program has over ");
+        page.grouped(MOST_NODES as u64);
+        page.say(" nodes when it is written out\n");
     }
 }

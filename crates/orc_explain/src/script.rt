@@ -1,9 +1,9 @@
 //! Faults of a script (L).
 
-use crate::page::Page;
+use crate::syntax::{say_long, say_refused};
 use crate::words::{RESERVED, is_one_of};
 use orc_lex::token::Span;
-use orc_page::{Document, Subject};
+use orc_page::{Document, Page, Subject};
 use orc_rules::builtin::Builtin;
 use orc_rules::digits::digits_at;
 use orc_rules::limits::{LONGEST_SOURCE, MOST_ANSWERS, MOST_ARGUMENTS};
@@ -189,7 +189,7 @@ impl<'a> Line<'a> {
         if here.kind != Kind::Name {
             return Err(Wrong::Name);
         }
-        for built_in in Builtin::ALL {
+        for built_in in Builtin::ALL.iter() {
             if here.text == built_in.name() {
                 return Err(Wrong::BuiltIn);
             }
@@ -295,109 +295,92 @@ fn words(wrong: Wrong) -> &'static str {
     }
 }
 
-impl Page {
-    /// What is wrong with a script. The error is refused memory.
-    pub(crate) fn script(
-        &mut self,
-        alloc: Global,
-        subject: &Subject,
-        fault: ScriptFault,
-    ) -> Result<(), AllocError> {
-        let Some(document) = subject.script else {
-            return Ok(());
-        };
-        match fault {
-            ScriptFault::Line(number) => self.script_line(alloc, &document, number),
-            ScriptFault::Memory => {
-                self.refused("the script was read");
-                Ok(())
-            }
-            ScriptFault::Long => {
-                self.long(&document, LONGEST_SOURCE as u64);
-                Ok(())
-            }
-        }
+/// What is wrong with a script.
+pub(crate) fn say_script(page: &mut Page, alloc: Global, subject: &Subject, fault: ScriptFault) {
+    let Some(document) = subject.script else {
+        return;
+    };
+    match fault {
+        ScriptFault::Line(number) => say_script_line(page, alloc, &document, number),
+        ScriptFault::Memory => say_refused(page, "the script was read"),
+        ScriptFault::Long => say_long(page, &document, LONGEST_SOURCE as u64),
     }
+}
 
-    fn script_line(
-        &mut self,
-        alloc: Global,
-        document: &Document,
-        number: usize,
-    ) -> Result<(), AllocError> {
-        let mut line = Line::new(alloc, document.text, document.line(number))?;
-        let Err(wrong) = line.whole() else {
-            return Ok(());
-        };
+fn say_script_line(page: &mut Page, alloc: Global, document: &Document, number: usize) {
+    let Ok(mut line) = Line::new(alloc, document.text, document.line(number)) else {
+        page.refuse();
+        return;
+    };
+    if let Err(wrong) = line.whole() {
         let here = line.here();
-        self.point(document, here.span);
-        match wrong {
-            Wrong::BuiltIn | Wrong::Reserved => {
-                self.say("`");
-                self.word(here.text);
-            }
-            Wrong::Many => {
-                self.say("over ");
-                self.number(MOST_ARGUMENTS as u64);
-                self.say(" patterns or ");
-                self.grouped(MOST_ANSWERS as u64);
-            }
-            _ => {}
-        }
-        self.say(words(wrong));
-        self.say("\n");
-        self.advice(wrong, here, line.pieces.first().copied());
-        Ok(())
+        page.point(document, here.span);
+        say_wrong(page, wrong, here);
+        say_advice(page, wrong, here, line.pieces.first().copied());
     }
+}
 
-    // What to write instead.
-    fn advice(&mut self, wrong: Wrong, here: Piece, site: Option<Piece>) {
-        match wrong {
-            Wrong::Name => match here.text {
-                b"#" | b"/" => self.help("a comment is `-- ..` to the end of the line"),
-                _ => self.help(FORM),
-            },
-            Wrong::BuiltIn => self.help("take another name"),
-            Wrong::Bracket => self.bare_site(site),
-            Wrong::Pattern => self.named(
-                PATTERN,
-                here,
-                ": variables don't exist here, `",
-                "` would be `_`",
-            ),
-            Wrong::Answer => self.named(
-                ANSWER,
-                here,
-                ": a site answers with one value, not with an expression",
-                "",
-            ),
-            Wrong::Assign | Wrong::More => self.help(FORM),
-            Wrong::Time => self.help(TIME),
-            Wrong::Range => self.expected("-9223372036854775808 to 9223372036854775807"),
-            Wrong::Reserved | Wrong::Comma | Wrong::NeverAfter | Wrong::Many => {}
+fn say_wrong(page: &mut Page, wrong: Wrong, here: Piece) {
+    match wrong {
+        Wrong::BuiltIn | Wrong::Reserved => page.say_word("`", here.text, ""),
+        Wrong::Many => {
+            page.say_number("over ", MOST_ARGUMENTS as u64, " patterns or ");
+            page.grouped(MOST_ANSWERS as u64);
         }
+        _ => {}
     }
+    page.say(words(wrong));
+    page.say("\n");
+}
 
-    // A site without arguments.
-    fn bare_site(&mut self, site: Option<Piece>) {
-        if let Some(site) = site {
-            self.note("help: `");
-            self.word(site.text);
-            self.say("()` where it has no arguments\n");
-        }
+// What to write instead.
+fn say_advice(page: &mut Page, wrong: Wrong, here: Piece, site: Option<Piece>) {
+    match wrong {
+        Wrong::Name => match here.text {
+            b"#" | b"/" => page.help("a comment is `-- ..` to the end of the line"),
+            _ => page.help(FORM),
+        },
+        Wrong::BuiltIn => page.help("take another name"),
+        Wrong::Bracket => say_bare_site(page, site),
+        Wrong::Pattern => say_named(
+            page,
+            PATTERN,
+            here,
+            ": variables don't exist here, `",
+            "` would be `_`",
+        ),
+        Wrong::Answer => say_named(
+            page,
+            ANSWER,
+            here,
+            ": a site answers with one value, not with an expression",
+            "",
+        ),
+        Wrong::Assign | Wrong::More => page.help(FORM),
+        Wrong::Time => page.help(TIME),
+        Wrong::Range => page.expected("-9223372036854775808 to 9223372036854775807"),
+        Wrong::Reserved | Wrong::Comma | Wrong::NeverAfter | Wrong::Many => {}
     }
+}
 
-    // A hint that says more where a name stands: its two halves, and the name between them where the second one isn't empty.
-    fn named(&mut self, words: &str, here: Piece, first: &str, second: &str) {
-        self.note("help: ");
-        self.say(words);
-        if here.kind == Kind::Name {
-            self.say(first);
-            if !second.is_empty() {
-                self.word(here.text);
-                self.say(second);
-            }
-        }
-        self.say("\n");
+// A site without arguments.
+fn say_bare_site(page: &mut Page, site: Option<Piece>) {
+    if let Some(site) = site {
+        page.note("help: ");
+        page.say_word("`", site.text, "()` where it has no arguments\n");
     }
+}
+
+// A hint that says more where a name stands: its two halves, and the name between them where the second one isn't empty.
+fn say_named(page: &mut Page, words: &str, here: Piece, first: &str, second: &str) {
+    page.note("help: ");
+    page.say(words);
+    if here.kind == Kind::Name {
+        if second.is_empty() {
+            page.say(first);
+        } else {
+            page.say_word(first, here.text, second);
+        }
+    }
+    page.say("\n");
 }

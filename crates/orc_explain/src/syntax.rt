@@ -1,13 +1,14 @@
 //! Faults of a source's text (S).
 
-use crate::page::Page;
-use crate::tokens::{Tokens, span_at};
+use crate::hint::say_hint;
+use crate::signs::say_stray;
+use crate::tokens::{Tokens, say_token, span_at};
 use crate::wanted::hint_of;
 use orc_lex::token::{Kind, Side, Span, Token, What};
-use orc_page::Document;
+use orc_page::{Document, Page};
 use orc_rules::limits::LONGEST_SOURCE;
 use orc_syntax::SyntaxFault;
-use std::alloc::{AllocError, Global};
+use std::alloc::Global;
 
 // What had to stand there; the second sign of an operator is told by its first one.
 fn wanted(what: What, tokens: &Tokens) -> &'static str {
@@ -31,100 +32,97 @@ fn wanted(what: What, tokens: &Tokens) -> &'static str {
     }
 }
 
-impl Page {
-    /// What is wrong with a source's text.
-    pub(crate) fn syntax(
-        &mut self,
-        alloc: Global,
-        document: &Document,
-        fault: SyntaxFault,
-    ) -> Result<(), AllocError> {
-        match fault {
-            SyntaxFault::Encoding(at) => {
-                let end = at.saturating_add(1);
-                self.point(document, Span { start: at, end });
-                self.say("from here on the bytes aren't UTF-8\n");
-                self.help("save the file as UTF-8; outside comments only ASCII is allowed");
-            }
-            SyntaxFault::Character(at) => self.stray(document, at),
-            SyntaxFault::Number(span) => {
-                self.point(document, span);
-                self.say("this number is out of range\n");
-                self.expected("-9223372036854775808 to 9223372036854775807");
-            }
-            SyntaxFault::Expected(at, what) => self.unexpected(alloc, document, at, what)?,
-            SyntaxFault::Deep(at) => self.deep(document, at),
-            SyntaxFault::Long => self.long(document, LONGEST_SOURCE as u64),
-            SyntaxFault::Comment(at) => {
-                let end = at.saturating_add(2);
-                self.point(document, Span { start: at, end });
-                self.say("this comment isn't closed\n");
-                self.expected("one `-}` for each `{-`, the ones inside it too");
-            }
-            SyntaxFault::Memory => self.refused("the source was read as a program"),
+/// What is wrong with a source's text.
+pub(crate) fn say_syntax(page: &mut Page, alloc: Global, document: &Document, fault: SyntaxFault) {
+    match fault {
+        SyntaxFault::Encoding(at) => say_encoding(page, document, at),
+        SyntaxFault::Character(at) => say_stray(page, document, at),
+        SyntaxFault::Number(span) => say_out_of_range(page, document, span),
+        SyntaxFault::Expected(at, what) => say_unexpected(page, alloc, document, at, what),
+        SyntaxFault::Deep(at) => say_deep(page, document, at),
+        SyntaxFault::Long => say_long(page, document, LONGEST_SOURCE as u64),
+        SyntaxFault::Comment(at) => say_comment(page, document, at),
+        SyntaxFault::Memory => say_refused(page, "the source was read as a program"),
+    }
+}
+
+fn say_encoding(page: &mut Page, document: &Document, at: usize) {
+    let end = at.saturating_add(1);
+    page.point(document, Span { start: at, end });
+    page.say("from here on the bytes aren't UTF-8\n");
+    page.help("save the file as UTF-8; outside comments only ASCII is allowed");
+}
+
+fn say_out_of_range(page: &mut Page, document: &Document, span: Span) {
+    page.point(document, span);
+    page.say("this number is out of range\n");
+    page.expected("-9223372036854775808 to 9223372036854775807");
+}
+
+fn say_comment(page: &mut Page, document: &Document, at: usize) {
+    let end = at.saturating_add(2);
+    page.point(document, Span { start: at, end });
+    page.say("this comment isn't closed\n");
+    page.expected("one `-}` for each `{-`, the ones inside it too");
+}
+
+// The token that can't go on, or the end of the text.
+fn say_unexpected(page: &mut Page, alloc: Global, document: &Document, at: usize, what: What) {
+    let Ok(tokens) = Tokens::new(alloc, document.text, at) else {
+        page.refuse();
+        return;
+    };
+    match tokens.here {
+        Some(token) => {
+            page.point(document, token.span);
+            say_token(page, document, &token);
+            page.say(" can't stand here\n");
         }
-        Ok(())
+        None => say_end(page, document, tokens.back(1), at),
     }
+    page.expected(wanted(what, &tokens));
+    if let Some(hint) = hint_of(document.text, &tokens, what) {
+        say_hint(page, document, hint);
+    }
+}
 
-    // The token that can't go on, or the end of the text.
-    fn unexpected(
-        &mut self,
-        alloc: Global,
-        document: &Document,
-        at: usize,
-        what: What,
-    ) -> Result<(), AllocError> {
-        let tokens = Tokens::new(alloc, document.text, at)?;
-        match (tokens.here, tokens.back(1)) {
-            (Some(token), _) => {
-                self.point(document, token.span);
-                self.token(document, &token);
-                self.say(" can't stand here\n");
-            }
-            (None, last) => {
-                let start = last.map_or(at, |token| token.span.end);
-                self.point(document, Span { start, end: start });
-                self.say("the text ends here\n");
-            }
+// The end of the text, behind its last token.
+fn say_end(page: &mut Page, document: &Document, last: Option<Token>, at: usize) {
+    let start = last.map_or(at, |token| token.span.end);
+    page.point(document, Span { start, end: start });
+    page.say("the text ends here\n");
+}
+
+// A bracket, a `val` or an operator too many.
+fn say_deep(page: &mut Page, document: &Document, at: usize) {
+    let span = span_at(document.text, at);
+    page.point(document, span);
+    match document.part(span) {
+        b"(" | b"val" => {
+            page.say("the 201st open bracket or `val` of this expression\n");
+            page.help("give an inner part a name with `def`");
         }
-        self.expected(wanted(what, &tokens));
-        self.hint(document, hint_of(document.text, &tokens, what));
-        Ok(())
-    }
-
-    // A bracket, a `val` or an operator too many.
-    fn deep(&mut self, document: &Document, at: usize) {
-        let span = span_at(document.text, at);
-        self.point(document, span);
-        match document.part(span) {
-            b"(" | b"val" => {
-                self.say("the 201st open bracket or `val` of this expression\n");
-                self.help("give an inner part a name with `def`");
-            }
-            _ => {
-                self.say("the 4,001st operator of this expression\n");
-                self.help("give parts of it names with `def`: each body counts by itself");
-            }
+        _ => {
+            page.say("the 4,001st operator of this expression\n");
+            page.help("give parts of it names with `def`: each body counts by itself");
         }
     }
+}
 
-    /// A text that is too long.
-    pub(crate) fn long(&mut self, document: &Document, most: u64) {
-        self.say(" --> ");
-        self.path(document.name);
-        self.say("\n");
-        self.note("expected: at most ");
-        self.number(most);
-        self.say(" bytes, and these are ");
-        self.number(document.text.len() as u64);
-        self.say("\n");
-    }
+/// A text that is too long.
+pub(crate) fn say_long(page: &mut Page, document: &Document, most: u64) {
+    page.say(" --> ");
+    page.path(document.name);
+    page.say("\n");
+    page.note("expected: at most ");
+    page.number(most);
+    page.say_number(" bytes, and these are ", document.text.len() as u64, "\n");
+}
 
-    /// That memory was refused while something was done.
-    pub(crate) fn refused(&mut self, what: &str) {
-        self.note("memory was refused while ");
-        self.say(what);
-        self.say("\n");
-        self.help("nothing was found wrong up to there");
-    }
+/// That memory was refused while something was done.
+pub(crate) fn say_refused(page: &mut Page, what: &str) {
+    page.note("memory was refused while ");
+    page.say(what);
+    page.say("\n");
+    page.help("nothing was found wrong up to there");
 }

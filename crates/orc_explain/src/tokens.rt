@@ -1,9 +1,8 @@
 //! The tokens before a place of a source.
 
-use crate::page::Page;
 use orc_lex::lexer::{Piece, piece_at};
 use orc_lex::token::{Kind, Plain, Span, Token};
-use orc_page::Document;
+use orc_page::{Document, Page};
 use std::alloc::{AllocError, Global};
 
 /// The tokens of a source up to a place, and the one that begins there.
@@ -60,18 +59,15 @@ impl<'a> Tokens<'a> {
     }
 }
 
-impl Page {
-    /// A token by its kind and its text.
-    pub(crate) fn token(&mut self, document: &Document, token: &Token) {
-        self.say(match token.kind {
-            Kind::Name(_) => "the name `",
-            Kind::Plain(Plain::Number(_)) => "the number `",
-            Kind::Plain(_) | Kind::Def | Kind::Val => "the word `",
-            _ => "`",
-        });
-        self.word(document.part(token.span));
-        self.say("`");
-    }
+/// A token by its kind and its text.
+pub(crate) fn say_token(page: &mut Page, document: &Document, token: &Token) {
+    let before = match token.kind {
+        Kind::Name(_) => "the name `",
+        Kind::Plain(Plain::Number(_)) => "the number `",
+        Kind::Plain(_) | Kind::Def | Kind::Val => "the word `",
+        _ => "`",
+    };
+    page.say_word(before, document.part(token.span), "`");
 }
 
 /// The token that begins at a place, as wide as a byte where none does.

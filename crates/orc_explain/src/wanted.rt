@@ -66,14 +66,26 @@ fn are_crossed(first: &[u8], second: &[u8]) -> bool {
         .any(|(one, other)| *one == first && *other == second)
 }
 
-// What two tokens say, or the second alone, where it stands in place of an expression.
-fn said_of_pair(last: &[u8], here: &[u8]) -> Option<&'static str> {
-    for (first, second, said) in PAIRS {
-        if first == last && second == here {
-            return Some(said);
+// What a table says of two tokens.
+fn said_of_both(
+    first: &[u8],
+    second: &[u8],
+    table: &[(&[u8], &[u8], &'static str)],
+) -> Option<&'static str> {
+    for (one, other, said) in table {
+        if *one == first && *other == second {
+            return Some(*said);
         }
     }
-    said_of(here, MISPLACED.as_slice())
+    None
+}
+
+// What two tokens say, or the second alone, where it stands in place of an expression.
+fn said_of_pair(last: &[u8], here: &[u8]) -> Option<&'static str> {
+    match said_of_both(last, here, PAIRS.as_slice()) {
+        Some(said) => Some(said),
+        None => said_of(here, MISPLACED.as_slice()),
+    }
 }
 
 fn name_of<'a>(token: Option<Token<'a>>) -> Option<&'a [u8]> {
@@ -102,6 +114,15 @@ fn is_number(token: Option<Token>) -> bool {
 
 fn is_reserved(word: &[u8]) -> bool {
     is_one_of(word, RESERVED.as_slice())
+}
+
+// How many brackets are closed behind a token, where so many are closed behind the next one. None where it opens those round it.
+fn closed_before(closed: usize, kind: Kind) -> Option<usize> {
+    match kind {
+        Kind::Close => Some(closed.saturating_add(1)),
+        Kind::Open => closed.checked_sub(1),
+        _ => Some(closed),
+    }
 }
 
 /// A source's text and its tokens round the place.
@@ -138,11 +159,9 @@ impl<'a> Around<'_, 'a> {
     fn open_bracket(&self) -> Option<Token<'a>> {
         let mut closed: usize = 0;
         for token in self.tokens.before.iter().rev() {
-            match token.kind {
-                Kind::Close => closed = closed.saturating_add(1),
-                Kind::Open if closed == 0 => return Some(*token),
-                Kind::Open => closed = closed.saturating_sub(1),
-                _ => {}
+            match closed_before(closed, token.kind) {
+                Some(more) => closed = more,
+                None => return Some(*token),
             }
         }
         None
@@ -153,13 +172,16 @@ impl<'a> Around<'_, 'a> {
         let mut is_ended = self.here() == b";".as_slice();
         let mut closed: usize = 0;
         for token in self.tokens.before.iter().rev() {
-            match token.kind {
-                Kind::Close => closed = closed.saturating_add(1),
-                Kind::Open if closed == 0 => return false,
-                Kind::Open => closed = closed.saturating_sub(1),
-                Kind::Val if closed == 0 => return is_ended,
-                Kind::Joint(Joint::Other) if closed == 0 => is_ended = true,
-                _ => {}
+            if closed == 0 {
+                match token.kind {
+                    Kind::Val => return is_ended,
+                    Kind::Joint(Joint::Other) => is_ended = true,
+                    _ => {}
+                }
+            }
+            match closed_before(closed, token.kind) {
+                Some(more) => closed = more,
+                None => return false,
             }
         }
         false

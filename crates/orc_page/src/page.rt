@@ -74,8 +74,22 @@ impl Page {
         ensures kept { other.now.is_refused ≡ false → self.new ≡ self.old }
     {
         if other.is_refused {
-            self.is_refused = true;
+            self.refuse();
         }
+    }
+
+    /// Where memory for what belongs into this text was refused, it isn't given out.
+    pub fn refuse(&mut self)
+        ensures { self.new.is_refused ≡ true }
+    {
+        self.is_refused = true;
+    }
+
+    /// Whether memory was refused, so that nothing more is written.
+    pub fn is_refused(&self) -> bool
+        ensures { result ≡ self.now.is_refused }
+    {
+        self.is_refused
     }
 
     /// A sign as it stands.
@@ -94,6 +108,13 @@ impl Page {
     /// A number in decimal.
     pub fn number(&mut self, number: u64) {
         self.print(number);
+    }
+
+    /// A number in decimal between words.
+    pub fn say_number(&mut self, before: &str, number: u64, behind: &str) {
+        self.say(before);
+        self.number(number);
+        self.say(behind);
     }
 
     /// A number below a million, with a comma behind its thousands.
@@ -116,6 +137,18 @@ impl Page {
             Value::Truth(truth) => self.print(truth),
             Value::Signal => self.say("signal"),
         }
+    }
+
+    /// A call's values in their brackets.
+    pub fn values(&mut self, values: &[Value]) {
+        self.say("(");
+        for (place, value) in values.iter().enumerate() {
+            if place > 0 {
+                self.say(", ");
+            }
+            self.value(*value);
+        }
+        self.say(")");
     }
 
     /// The number of a character, as Unicode writes it.
@@ -150,6 +183,13 @@ impl Page {
         if word.len() > LONGEST_WORD {
             self.say("..");
         }
+    }
+
+    /// A word of a text between words.
+    pub fn say_word(&mut self, before: &str, word: &[u8], behind: &str) {
+        self.say(before);
+        self.word(word);
+        self.say(behind);
     }
 
     /// The name of a file.

@@ -5,7 +5,7 @@ use orc_moves::Allowed;
 use orc_page::Page;
 use orc_rules::answers::Answers;
 use orc_rules::entry::Entry;
-use std::alloc::{AllocError, Global};
+use std::alloc::Global;
 
 /// The tick that is allowed, as its time.
 pub(crate) fn tick_in(allowed: &Allowed) -> Option<u64> {
@@ -31,14 +31,14 @@ pub(crate) fn cancel_in(allowed: &Allowed) -> Option<u64> {
     }
 }
 
-/// Says which entries are allowed. The error is refused memory.
+/// Says which entries are allowed.
 pub(crate) fn say_allowed(
     page: &mut Page,
     alloc: Global,
     answers: &Answers,
     allowed: &Allowed,
     has_halted: bool,
-) -> Result<(), AllocError> {
+) {
     let entries = allowed.entries();
     page.note("allowed here: ");
     if entries.is_empty() {
@@ -49,14 +49,11 @@ pub(crate) fn say_allowed(
         if place > 0 {
             page.say(", ");
         }
-        say_entry(page, alloc, answers, entry)?;
+        say_entry(page, alloc, answers, entry);
     }
     let told = entries.len() as u64;
     if allowed.count() > told {
-        page.say(" and ");
-        page.number(allowed.count().saturating_sub(told));
-        page.say(" more");
+        page.say_number(" and ", allowed.count().saturating_sub(told), " more");
     }
     page.say("\n");
-    Ok(())
 }

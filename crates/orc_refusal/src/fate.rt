@@ -160,11 +160,7 @@ impl Watch {
         page.number(self.number());
         page.say(" now");
         match self.fate.words() {
-            Some((before, entry, behind)) => {
-                page.say(before);
-                page.number(entry);
-                page.say(behind);
-            }
+            Some((before, entry, behind)) => page.say_number(before, entry, behind),
             None => self.say_numbers(marked, page),
         }
         page.say("\n");
@@ -178,8 +174,7 @@ impl Watch {
         } else if self.number() == 0 {
             page.say(": numbers begin with 1");
         } else if self.number() > last {
-            page.say(": numbers go up to ");
-            page.number(last);
+            page.say_number(": numbers go up to ", last, "");
         } else {
             page.say(": no otherwise was entered by this mark");
         }

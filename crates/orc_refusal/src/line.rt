@@ -23,18 +23,18 @@ pub(crate) fn line_of(
     Ok(line)
 }
 
-/// Writes the line of an entry. The error is refused memory.
-pub(crate) fn say_entry(
-    page: &mut Page,
-    alloc: Global,
-    answers: &Answers,
-    entry: &Entry,
-) -> Result<(), AllocError> {
-    let line = line_of(alloc, answers, Some(entry))?;
-    for byte in &line {
+/// Writes the line of an entry.
+pub(crate) fn say_entry(page: &mut Page, alloc: Global, answers: &Answers, entry: &Entry) {
+    match line_of(alloc, answers, Some(entry)) {
+        Ok(line) => say_bytes(page, line.as_slice()),
+        Err(_) => page.refuse(),
+    }
+}
+
+fn say_bytes(page: &mut Page, bytes: &[u8]) {
+    for byte in bytes {
         page.byte(*byte);
     }
-    Ok(())
 }
 
 /// The whole of a line.

@@ -1,5 +1,6 @@
 //! The names of a running program: of variables, definitions, sites and cells.
 
+use crate::sign::Sign;
 use orc_checker::Marked;
 use orc_names::{Bound, Scope};
 use orc_page::Page;
@@ -81,6 +82,29 @@ impl<'r, 's> Names<'r, 's> {
         }
         page.say("#");
         page.number(cell);
+    }
+
+    /// Writes a sign, with the name that it binds where that is a variable.
+    pub(crate) fn say_sign(&self, page: &mut Page, sign: Sign) {
+        match sign {
+            Sign::Par => page.say(" | "),
+            Sign::Other => page.say(" ; "),
+            Sign::Seq(name) => self.say_binder(page, " >", name, "> "),
+            Sign::Prune(name) => self.say_binder(page, " <", name, "< "),
+            Sign::Opened(cell) => {
+                page.say(" <");
+                self.say_cell(page, cell);
+                page.say("< ");
+            }
+        }
+    }
+
+    fn say_binder(&self, page: &mut Page, before: &str, name: u32, behind: &str) {
+        page.say(before);
+        if self.argument(name).is_none() {
+            self.say_variable(page, name);
+        }
+        page.say(behind);
     }
 
     pub(crate) fn say_definition(&self, page: &mut Page, definition: u32) {

@@ -14,7 +14,7 @@ use orc_rules::limits::{MOST_ARGUMENTS, MOST_LEVELS};
 use orc_rules::program::Program;
 use orc_rules::value::{Answer, Found};
 use orc_verdict::mark_named;
-use std::alloc::{AllocError, Global};
+use std::alloc::Global;
 
 /// An entry that is refused, with its line, what was before it, and what is allowed there.
 #[derive(Clone, Copy)]
@@ -58,55 +58,51 @@ impl Refused<'_> {
         self.show(page, field(self.line, number));
     }
 
-    /// Shows the entry, and says why it is refused. The error is refused memory.
-    pub(crate) fn say(
-        &self,
-        page: &mut Page,
-        alloc: Global,
-        why: RuleFault,
-    ) -> Result<(), AllocError> {
-        let Some(entry) = self.entry else {
-            self.say_end(page);
-            return Ok(());
-        };
+    /// Shows the entry, and says why it is refused.
+    pub(crate) fn say(&self, page: &mut Page, alloc: Global, why: RuleFault) {
+        match self.entry {
+            Some(entry) => self.say_reason(page, alloc, entry, why),
+            None => self.say_end(page),
+        }
+    }
+
+    fn say_reason(&self, page: &mut Page, alloc: Global, entry: &Entry, why: RuleFault) {
         match why {
             RuleFault::Cancel => self.say_cancel(page),
             RuleFault::Mark => self.say_mark(page),
-            RuleFault::Form => return self.say_form(page, alloc, entry),
+            RuleFault::Form => self.say_form(page, alloc, entry),
             RuleFault::Number => self.say_number(page, entry),
             RuleFault::Answer => self.say_answer(page, entry),
             RuleFault::Time => self.say_time(page, entry),
-            RuleFault::Halted => {
-                self.show_word(page, 1);
-                page.say("that side hasn't halted\n");
-            }
-            RuleFault::Deep => {
-                self.show_whole(page);
-                page.say("the term would nest over ");
-                page.grouped(MOST_LEVELS as u64);
-                page.say(" levels\n");
-            }
+            RuleFault::Halted => self.say_halted(page),
+            RuleFault::Deep => self.say_deep(page),
             RuleFault::Memory => {}
         }
-        Ok(())
+    }
+
+    fn say_halted(&self, page: &mut Page) {
+        self.show_word(page, 1);
+        page.say("that side hasn't halted\n");
+    }
+
+    fn say_deep(&self, page: &mut Page) {
+        self.show_whole(page);
+        page.say("the term would nest over ");
+        page.grouped(MOST_LEVELS as u64);
+        page.say(" levels\n");
     }
 
     // A cancel is due behind the last entry.
     fn say_end(&self, page: &mut Page) {
         self.show_whole(page);
-        page.say("the journal ends here, and cancel ");
-        page.number(cancel_in(self.allowed).unwrap_or(0));
-        page.say(" is due\n");
+        let call = cancel_in(self.allowed).unwrap_or(0);
+        page.say_number("the journal ends here, and cancel ", call, " is due\n");
     }
 
     fn say_cancel(&self, page: &mut Page) {
         self.show_whole(page);
         match cancel_in(self.allowed) {
-            Some(call) => {
-                page.say("cancel ");
-                page.number(call);
-                page.say(" has to come first\n");
-            }
+            Some(call) => page.say_number("cancel ", call, " has to come first\n"),
             None => page.say("no cancel is due\n"),
         }
     }
@@ -123,59 +119,67 @@ impl Refused<'_> {
         }
     }
 
-    fn say_form(&self, page: &mut Page, alloc: Global, entry: &Entry) -> Result<(), AllocError> {
+    fn say_form(&self, page: &mut Page, alloc: Global, entry: &Entry) {
         let mark = mark_named(entry).unwrap_or(0);
         match entry_of(&self.replay.marked, self.program, mark) {
-            Some(other) if other.kind().word() == entry.kind().word() => {
-                self.show_whole(page);
-                page.say("this has to be `");
-                say_entry(page, alloc, self.answers, &other)?;
-                page.say("`\n");
-            }
-            Some(other) => {
-                self.show_word(page, 0);
-                page.say("mark ");
-                page.number(mark);
-                page.say(" may `");
-                page.word(other.kind().word());
-                page.say("`\n");
-            }
+            Some(other) => self.say_other(page, alloc, entry, mark, &other),
             None => self.say_waits(page, mark),
         }
-        Ok(())
+    }
+
+    // The entry that the token may have in its place.
+    fn say_other(&self, page: &mut Page, alloc: Global, entry: &Entry, mark: u64, other: &Entry) {
+        if other.kind().word() == entry.kind().word() {
+            self.show_whole(page);
+            page.say("this has to be `");
+            say_entry(page, alloc, self.answers, other);
+        } else {
+            self.show_word(page, 0);
+            page.say_number("mark ", mark, " may `");
+            page.word(other.kind().word());
+        }
+        page.say("`\n");
     }
 
     // The token waits for cells.
     fn say_waits(&self, page: &mut Page, mark: u64) {
-        let marked = &self.replay.marked;
-        let mut cells: u64 = 0;
-        for place in 0..MOST_ARGUMENTS {
-            if marked.awaited(self.program, mark, place).is_some() {
-                cells = cells.saturating_add(1);
-            }
-        }
+        let cells = self.cells_awaited(mark);
         if cells == 0 {
             self.show_whole(page);
             page.say("another kind of term, name, argument, value or taker stands there\n");
             return;
         }
         self.show_word(page, 0);
-        page.say("mark ");
-        page.number(mark);
-        page.say(if cells == 1 {
-            " waits for cell"
-        } else {
-            " waits for cells"
-        });
-        let mut sign = " ";
+        page.say_number("mark ", mark, " waits for cell");
+        page.say(if cells == 1 { " " } else { "s " });
+        self.say_cells(page, mark);
+        page.say("\n");
+    }
+
+    // How many of a token's arguments are cells without a value.
+    fn cells_awaited(&self, mark: u64) -> u64 {
+        let mut cells: u64 = 0;
         for place in 0..MOST_ARGUMENTS {
-            if let Some(cell) = marked.awaited(self.program, mark, place) {
-                page.say(sign);
-                page.number(cell);
+            if self
+                .replay
+                .marked
+                .awaited(self.program, mark, place)
+                .is_some()
+            {
+                cells = cells.saturating_add(1);
+            }
+        }
+        cells
+    }
+
+    fn say_cells(&self, page: &mut Page, mark: u64) {
+        let mut sign = "";
+        for place in 0..MOST_ARGUMENTS {
+            if let Some(cell) = self.replay.marked.awaited(self.program, mark, place) {
+                page.say_number(sign, cell, "");
                 sign = ", ";
             }
         }
-        page.say("\n");
     }
 
     fn say_number(&self, page: &mut Page, entry: &Entry) {
@@ -185,9 +189,7 @@ impl Refused<'_> {
             if let Some(number) = number {
                 if number != next {
                     self.show_word(page, place);
-                    page.say("the next number is ");
-                    page.number(next);
-                    page.say("\n");
+                    page.say_number("the next number is ", next, "\n");
                     return;
                 }
                 place = place.saturating_add(1);
@@ -234,18 +236,15 @@ impl Refused<'_> {
     }
 
     fn say_due(&self, page: &mut Page, call: u64, returned: Option<(Found, u64)>) {
-        page.say("call ");
-        page.number(call);
+        page.say_number("call ", call, "");
         let due = match returned {
             Some((found, at)) => due_time(found, at),
             None => None,
         };
         match due {
             Some(time) => {
-                page.say(" is due at ");
-                page.number(time);
-                page.say(", and now it is ");
-                page.number(self.replay.marked.now());
+                page.say_number(" is due at ", time, "");
+                page.say_number(", and now it is ", self.replay.marked.now(), "");
             }
             None => page.say(" is never due: its due time is over the greatest time"),
         }
@@ -260,10 +259,7 @@ impl Refused<'_> {
             return;
         }
         match tick_in(self.allowed) {
-            Some(time) => {
-                page.say("the next due time is ");
-                page.number(time);
-            }
+            Some(time) => page.say_number("the next due time is ", time, ""),
             None => page.say("no call that is out is ever due"),
         }
     }

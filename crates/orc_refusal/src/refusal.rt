@@ -12,7 +12,7 @@ use orc_journal::{Journal, read_journal};
 use orc_moves::Allowed;
 use orc_page::{Document, Page};
 use orc_rules::answers::Answers;
-use orc_rules::entry::{Entry, RuleFault};
+use orc_rules::entry::RuleFault;
 use orc_rules::program::Program;
 use orc_site::read_script;
 use orc_syntax::{Ast, parse};
@@ -74,7 +74,7 @@ impl<'s> Case<'s> {
         })
     }
 
-    // The explanation of the entry at a place, counted from 0.
+    // The explanation of the entry at a place, counted from 0. The error is refused memory.
     fn say(
         &self,
         page: &mut Page,
@@ -83,80 +83,120 @@ impl<'s> Case<'s> {
         place: usize,
         why: RuleFault,
     ) -> Result<(), AllocError> {
-        let entry = self.journal.get(place);
         let mut replay = Replay::new(alloc, &self.program, &self.answers, &self.journal, place)?;
         let allowed = Allowed::new(alloc, &mut replay.marked, &self.program, &self.answers)?;
-        self.say_place(page, alloc, name, place, replay.marked.now())?;
-        let line = line_of(alloc, &self.answers, entry.as_ref())?;
-        let refused = Refused {
-            program: &self.program,
-            answers: &self.answers,
-            replay: &replay,
-            allowed: &allowed,
-            entry: entry.as_ref(),
-            line: line.as_slice(),
-            number: line_number(place),
-        };
-        refused.say(page, alloc, why)?;
+        self.say_place(page, name, place, replay.marked.now());
+        if let Some(before) = place.checked_sub(1) {
+            self.say_before(page, alloc, before);
+        }
+        self.say_why(page, alloc, &replay, &allowed, place, why);
         if let RuleFault::Deep = why {
             page.note("the rules allow this entry: only the checker's limit refuses it\n");
             return Ok(());
         }
-        self.say_term(page, alloc, &replay, entry.as_ref(), why)?;
+        self.say_term(page, alloc, &replay, place, why)?;
         let has_halted = replay.marked.has_halted();
-        say_allowed(page, alloc, &self.answers, &allowed, has_halted)
+        say_allowed(page, alloc, &self.answers, &allowed, has_halted);
+        Ok(())
     }
 
-    // Where the entry stands, and the one before it.
-    fn say_place(
-        &self,
-        page: &mut Page,
-        alloc: Global,
-        name: &str,
-        place: usize,
-        time: u64,
-    ) -> Result<(), AllocError> {
+    // Where the entry stands.
+    fn say_place(&self, page: &mut Page, name: &str, place: usize, time: u64) {
         let number = line_number(place);
         page.widen(number);
         page.inset();
         page.say("--> ");
         page.path(name);
-        page.say(", entry ");
-        page.number(number.saturating_sub(1));
-        page.say(" (line ");
-        page.number(number);
-        page.say("), at time ");
-        page.number(time);
-        page.say("\n");
+        page.say_number(", entry ", number.saturating_sub(1), "");
+        page.say_number(" (line ", number, ")");
+        page.say_number(", at time ", time, "\n");
         page.margin();
         page.say("\n");
-        if let Some(before) = place.checked_sub(1) {
-            let entry = self.journal.get(before);
-            let line = line_of(alloc, &self.answers, entry.as_ref())?;
-            page.row(line_number(before), line.as_slice(), 0, 0);
-        }
-        Ok(())
     }
 
-    // The term before the entry.
+    // The entry before it.
+    fn say_before(&self, page: &mut Page, alloc: Global, before: usize) {
+        let entry = self.journal.get(before);
+        match line_of(alloc, &self.answers, entry.as_ref()) {
+            Ok(line) => page.row(line_number(before), line.as_slice(), 0, 0),
+            Err(_) => page.refuse(),
+        }
+    }
+
+    // The entry, and what is wrong with it.
+    fn say_why(
+        &self,
+        page: &mut Page,
+        alloc: Global,
+        replay: &Replay,
+        allowed: &Allowed,
+        place: usize,
+        why: RuleFault,
+    ) {
+        let entry = self.journal.get(place);
+        let Ok(line) = line_of(alloc, &self.answers, entry.as_ref()) else {
+            page.refuse();
+            return;
+        };
+        let refused = Refused {
+            program: &self.program,
+            answers: &self.answers,
+            replay,
+            allowed,
+            entry: entry.as_ref(),
+            line: line.as_slice(),
+            number: line_number(place),
+        };
+        refused.say(page, alloc, why);
+    }
+
+    // The term before the entry. The error is refused memory.
     fn say_term(
         &self,
         page: &mut Page,
         alloc: Global,
         replay: &Replay,
-        entry: Option<&Entry>,
+        place: usize,
         why: RuleFault,
     ) -> Result<(), AllocError> {
-        let names = Names::new(alloc, &self.ast, &self.answers, &replay.marked)?;
+        let entry = self.journal.get(place);
         let marked = &replay.marked;
+        let names = Names::new(alloc, &self.ast, &self.answers, marked)?;
         let spent = Spent::new(alloc, marked)?;
-        let way = Way::new(alloc, marked, &spent, entry, replay.first.named, why)?;
-        let program = &self.program;
-        let mut strip = Strip::new(alloc, program, replay, &self.journal, &names, &way, &spent)?;
+        let way = Way::new(
+            alloc,
+            marked,
+            &spent,
+            entry.as_ref(),
+            replay.first.named,
+            why,
+        )?;
         page.margin();
         page.say("\n");
         page.note("the term before it, its marks below:\n");
-        strip.show(page, alloc)
+        self.show_term(page, alloc, replay, &names, &way, &spent);
+        Ok(())
+    }
+
+    fn show_term(
+        &self,
+        page: &mut Page,
+        alloc: Global,
+        replay: &Replay,
+        names: &Names,
+        way: &Way,
+        spent: &Spent,
+    ) {
+        let strip = Strip::new(
+            alloc,
+            &self.program,
+            replay,
+            &self.journal,
+            names,
+            way,
+            spent,
+        );
+        strip.show(page, alloc);
     }
 }
 

@@ -4,7 +4,6 @@ use crate::strip::{Stretch, Strip};
 use crate::way::Label;
 use orc_page::Page;
 use std::alloc::{AllocError, Global};
-use std::mem;
 
 /// A longer line isn't shown whole, in columns.
 const LONGEST: usize = 76;
@@ -69,15 +68,23 @@ impl Strip<'_, '_> {
         })
     }
 
-    /// Writes the term, and below it its marks. The error is refused memory.
-    pub(crate) fn show(&mut self, page: &mut Page, alloc: Global) -> Result<(), AllocError> {
+    /// Writes the term, and below it its marks.
+    pub(crate) fn show(&self, page: &mut Page, alloc: Global) {
+        page.heed(&self.page);
         let window = self.window();
-        let text = mem::replace(&mut self.page, Page::new(alloc)).finish()?;
+        self.show_text(page, window);
+        match self.rule(alloc, window) {
+            Ok(rule) => rule.show(page, window),
+            Err(_) => page.refuse(),
+        }
+    }
+
+    fn show_text(&self, page: &mut Page, window: Window) {
         indent(page);
         if window.is_front_cut {
             page.say(CUT);
         }
-        let text = text.as_bytes();
+        let text = self.page.as_str().as_bytes();
         for byte in text.get(window.first..window.end).unwrap_or(b"") {
             page.byte(*byte);
         }
@@ -85,22 +92,9 @@ impl Strip<'_, '_> {
             page.say(" ..");
         }
         page.say("\n");
-        let rule = self.rule(alloc, window)?;
-        let signs = rule.signs.trim_ascii_end();
-        if !signs.is_empty() {
-            indent(page);
-            if window.is_front_cut {
-                page.fill(' ', CUT.len() as u64);
-            }
-            for byte in signs {
-                page.byte(*byte);
-            }
-            page.say("\n");
-        }
-        Ok(())
     }
 
-    // The carets under what is named, the numbers of the marks beside it, and what the carets mean.
+    // The carets under what is named, the numbers of the marks beside it, and what the carets mean. The error is refused memory.
     fn rule(&self, alloc: Global, window: Window) -> Result<Rule, AllocError> {
         let mut rule = Rule::new(alloc, window.end.saturating_sub(window.first))?;
         let named = self.named_in(window);
@@ -109,26 +103,12 @@ impl Strip<'_, '_> {
         }
         for note in &self.notes {
             if note.column >= window.first && note.column < window.end {
-                let mut number = Page::new(alloc);
-                number.number(note.mark);
                 let column = note.column.saturating_sub(window.first);
-                rule.put(column, number.finish()?.as_bytes());
+                rule.put(alloc, column, note.mark)?;
             }
         }
         if let Some(named) = named {
-            let mut label = Page::new(alloc);
-            match self.way.label() {
-                Label::Mark(mark) => {
-                    label.say(" mark ");
-                    label.number(mark);
-                }
-                Label::Call(call) => {
-                    label.say(" call ");
-                    label.number(call);
-                }
-                Label::Nothing => {}
-            }
-            rule.put_last(named.end, label.finish()?.as_bytes());
+            rule.put_last(alloc, named.end, self.way.label())?;
         }
         Ok(rule)
     }
@@ -180,18 +160,46 @@ impl Rule {
         }
     }
 
-    // Puts a number where there is room for it, apart from what stands beside it.
-    fn put(&mut self, start: usize, text: &[u8]) {
+    // Puts a number where there is room for it, apart from what stands beside it. The error is refused memory.
+    fn put(&mut self, alloc: Global, start: usize, number: u64) -> Result<(), AllocError> {
+        let mut page = Page::new(alloc);
+        page.number(number);
+        let text = page.finish()?;
         let end = start.saturating_add(text.len());
         if self.is_blank(start.saturating_sub(1), end.saturating_add(1)) {
-            self.write(start, text);
+            self.write(start, text.as_bytes());
         }
+        Ok(())
     }
 
-    // Puts a text behind which nothing stands.
-    fn put_last(&mut self, start: usize, text: &[u8]) {
-        if self.is_blank(start, self.signs.len()) {
-            self.write(start, text);
+    // Puts a label behind which nothing stands. The error is refused memory.
+    fn put_last(&mut self, alloc: Global, start: usize, label: Label) -> Result<(), AllocError> {
+        let mut page = Page::new(alloc);
+        match label {
+            Label::Mark(mark) => page.say_number(" mark ", mark, ""),
+            Label::Call(call) => page.say_number(" call ", call, ""),
+            Label::Nothing => {}
         }
+        let text = page.finish()?;
+        if self.is_blank(start, self.signs.len()) {
+            self.write(start, text.as_bytes());
+        }
+        Ok(())
+    }
+
+    // Shows the signs below what is shown of a line.
+    fn show(&self, page: &mut Page, window: Window) {
+        let signs = self.signs.trim_ascii_end();
+        if signs.is_empty() {
+            return;
+        }
+        indent(page);
+        if window.is_front_cut {
+            page.fill(' ', CUT.len() as u64);
+        }
+        for byte in signs {
+            page.byte(*byte);
+        }
+        page.say("\n");
     }
 }

@@ -9,7 +9,7 @@ use crate::way::Way;
 use orc_journal::Journal;
 use orc_page::Page;
 use orc_rules::program::Program;
-use std::alloc::{AllocError, Global};
+use std::alloc::Global;
 
 /// A part off the way to what is named that takes more columns is left out.
 const LONGEST_PART: usize = 28;
@@ -82,7 +82,7 @@ impl Drop for Strip<'_, '_> {
 }
 
 impl<'r, 's> Strip<'r, 's> {
-    /// The term before an entry. The error is refused memory.
+    /// The term before an entry. Where memory is refused, its page says so.
     pub(crate) fn new(
         alloc: Global,
         program: &'r Program,
@@ -91,7 +91,7 @@ impl<'r, 's> Strip<'r, 's> {
         names: &'r Names<'r, 's>,
         way: &'r Way,
         spent: &'r Spent,
-    ) -> Result<Strip<'r, 's>, AllocError> {
+    ) -> Strip<'r, 's> {
         let mut strip = Strip {
             program,
             replay,
@@ -108,96 +108,97 @@ impl<'r, 's> Strip<'r, 's> {
             parts: Vec::new(alloc),
             most: AHEAD,
         };
-        strip.write()?;
-        Ok(strip)
+        strip.begin();
+        strip.write();
+        strip
     }
 
-    fn write(&mut self) -> Result<(), AllocError> {
+    fn begin(&mut self) {
         match self.way.top() {
             Some(top) => {
                 // What stands left of the named part is short.
                 self.most = usize::MAX;
-                self.push(Task::Way(top, 0))?;
+                self.push(Task::Way(top, 0));
             }
-            None => self.push(Task::Node(0, 0))?,
+            None => self.push(Task::Node(0, 0)),
         }
+    }
+
+    fn write(&mut self) {
         for _task in 0..u64::MAX {
             if self.page.len() > self.most {
                 self.is_cut = true;
-                return Ok(());
+                return;
             }
             match self.tasks.pop() {
-                Some(task) => self.act(task)?,
-                None => return Ok(()),
+                Some(task) if !self.page.is_refused() => self.act(task),
+                _ => return,
             }
         }
-        Ok(())
     }
 
-    fn act(&mut self, task: Task) -> Result<(), AllocError> {
+    fn act(&mut self, task: Task) {
         match task {
             Task::Open => self.open(),
-            Task::Close => {
-                self.close();
-                Ok(())
-            }
-            Task::Bind(name) => {
-                self.bound.push(name)?;
-                Ok(())
-            }
+            Task::Close => self.close(),
+            Task::Bind(name) => self.bind(name),
             Task::Unbind => {
                 let _name = self.bound.pop();
-                Ok(())
             }
-            _ if self.is_long() => Ok(()),
+            _ if self.is_long() => {}
+            _ => self.write_part(task),
+        }
+    }
+
+    // Writes a part that isn't left out, as far as its own parts.
+    fn write_part(&mut self, task: Task) {
+        match task {
             Task::Node(at, level) => self.node(at, level),
             Task::Way(at, level) => self.way_node(at, level),
             Task::Source(node, scope, level) => {
                 self.see();
-                self.source(node, scope, level)
+                self.source(node, scope, level);
             }
-            Task::Operand(operand, scope) => {
-                self.operand(operand, scope);
-                Ok(())
-            }
-            Task::Sign(sign) => {
-                self.sign(sign);
-                Ok(())
-            }
-            Task::Say(text) => {
-                self.page.say(text);
-                Ok(())
-            }
+            Task::Operand(operand, scope) => self.operand(operand, scope),
+            Task::Sign(sign) => self.names.say_sign(&mut self.page, sign),
+            Task::Say(text) => self.page.say(text),
             Task::Underline(start) => {
                 let end = self.page.len();
                 self.named = Some(Stretch { start, end });
-                Ok(())
             }
+            Task::Open | Task::Close | Task::Bind(_) | Task::Unbind => {}
         }
     }
 
     /// Lets a part wait, which is then written next.
-    pub(crate) fn push(&mut self, task: Task) -> Result<(), AllocError> {
-        self.tasks.push(task)?;
-        Ok(())
+    pub(crate) fn push(&mut self, task: Task) {
+        if self.tasks.push(task).is_err() {
+            self.page.refuse();
+        }
+    }
+
+    fn bind(&mut self, name: u32) {
+        if self.bound.push(name).is_err() {
+            self.page.refuse();
+        }
     }
 
     /// From here on the line goes on for so long that all that is shown is written.
-    pub(crate) fn begin_named(&mut self) -> Result<(), AllocError> {
+    pub(crate) fn begin_named(&mut self) {
         let start = self.page.len();
         self.most = start.saturating_add(AHEAD);
-        self.push(Task::Underline(start))
+        self.push(Task::Underline(start));
     }
 
-    fn open(&mut self) -> Result<(), AllocError> {
-        let is_long = self.is_long();
-        let start = self.page.len();
-        self.parts.push(Part {
-            start,
+    fn open(&mut self) {
+        let part = Part {
+            start: self.page.len(),
             seen: 0,
-            is_long,
-        })?;
-        Ok(())
+            is_long: self.is_long(),
+        };
+        if self.parts.push(part).is_err() {
+            self.page.refuse();
+        }
     }
 
     // Ends a part: it is left out where it has become long.
@@ -210,15 +211,20 @@ impl<'r, 's> Strip<'r, 's> {
             return;
         }
         self.page.truncate(part.start);
+        self.forget_notes(part.start);
+        self.page.say("..");
+    }
+
+    // Takes back the notes from a column on.
+    fn forget_notes(&mut self, start: usize) {
         for _note in 0..self.notes.len() {
             match self.notes.last() {
-                Some(note) if note.column >= part.start => {
+                Some(note) if note.column >= start => {
                     let _note = self.notes.pop();
                 }
                 _ => break,
             }
         }
-        self.page.say("..");
     }
 
     // Whether the part that is being written is left out: each node of the program takes a column at least.
@@ -239,67 +245,36 @@ impl<'r, 's> Strip<'r, 's> {
         }
     }
 
-    fn sign(&mut self, sign: Sign) {
-        match sign {
-            Sign::Par => self.page.say(" | "),
-            Sign::Other => self.page.say(" ; "),
-            Sign::Seq(name) if self.names.argument(name).is_some() => self.page.say(" >> "),
-            Sign::Prune(name) if self.names.argument(name).is_some() => self.page.say(" << "),
-            Sign::Seq(name) => {
-                self.page.say(" >");
-                self.names.say_variable(&mut self.page, name);
-                self.page.say("> ");
-            }
-            Sign::Prune(name) => {
-                self.page.say(" <");
-                self.names.say_variable(&mut self.page, name);
-                self.page.say("< ");
-            }
-            Sign::Opened(cell) => {
-                self.page.say(" <");
-                self.names.say_cell(&mut self.page, cell);
-                self.page.say("< ");
-            }
-        }
-    }
-
     /// Lets an operation wait with its parts, in brackets where its place wants a tighter form.
-    pub(crate) fn push_joined(
-        &mut self,
-        sign: Sign,
-        wanted: usize,
-        left: Side,
-        right: Side,
-    ) -> Result<(), AllocError> {
+    pub(crate) fn push_joined(&mut self, sign: Sign, wanted: usize, left: Side, right: Side) {
         let is_inner = sign.levels().own < wanted;
         if is_inner {
-            self.push(Task::Say(")"))?;
+            self.push(Task::Say(")"));
         }
-        self.push_side(right, sign.bound_right())?;
-        self.push(Task::Sign(sign))?;
-        self.push_side(left, sign.bound_left())?;
+        self.push_side(right, sign.bound_right());
+        self.push(Task::Sign(sign));
+        self.push_side(left, sign.bound_left());
         if is_inner {
-            self.push(Task::Say("("))?;
+            self.push(Task::Say("("));
         }
-        Ok(())
     }
 
     // Lets a side wait in which this name is bound.
-    fn push_side(&mut self, side: Side, name: Option<u32>) -> Result<(), AllocError> {
+    fn push_side(&mut self, side: Side, name: Option<u32>) {
         if side.is_part {
-            self.push(Task::Close)?;
+            self.push(Task::Close);
         }
-        if name.is_some() {
-            self.push(Task::Unbind)?;
-        }
-        self.push(side.task)?;
-        if let Some(name) = name {
-            self.push(Task::Bind(name))?;
+        match name {
+            Some(name) => {
+                self.push(Task::Unbind);
+                self.push(side.task);
+                self.push(Task::Bind(name));
+            }
+            None => self.push(side.task),
         }
         if side.is_part {
-            self.push(Task::Open)?;
+            self.push(Task::Open);
         }
-        Ok(())
     }
 }
 

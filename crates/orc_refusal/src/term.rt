@@ -8,7 +8,6 @@ use orc_rules::entry::Entry;
 use orc_rules::limits::MOST_ARGUMENTS;
 use orc_rules::param::{Operand, Param};
 use orc_rules::program::TermNode;
-use std::alloc::AllocError;
 
 /// A call, with the expressions that stand as its arguments, by their places.
 #[derive(Clone, Copy)]
@@ -34,23 +33,22 @@ impl<'r, 's> Strip<'r, 's> {
     }
 
     /// Writes a node of the way: the named one, or one above it.
-    pub(crate) fn way_node(&mut self, at: usize, wanted: usize) -> Result<(), AllocError> {
-        let Some(node) = self.way.node(at) else {
-            return Ok(());
-        };
-        if at == 0 {
-            self.begin_named()?;
+    pub(crate) fn way_node(&mut self, at: usize, wanted: usize) {
+        if let Some(node) = self.way.node(at) {
+            if at == 0 {
+                self.begin_named();
+            }
+            self.parts_of(node, wanted, at.checked_sub(1));
         }
-        self.parts_of(node, wanted, at.checked_sub(1))
     }
 
     /// Writes a node off the way. A part that has halted is `stop`.
-    pub(crate) fn node(&mut self, at: usize, wanted: usize) -> Result<(), AllocError> {
+    pub(crate) fn node(&mut self, at: usize, wanted: usize) {
         if self.spent.is_spent(&self.replay.marked, at) {
             self.page.say("stop");
-            return Ok(());
+        } else {
+            self.parts_of(at, wanted, None);
         }
-        self.parts_of(at, wanted, None)
     }
 
     // A part of a node, whose own part on the way is the one of this place.
@@ -69,12 +67,7 @@ impl<'r, 's> Strip<'r, 's> {
     }
 
     // Writes the parts of a node, whose own part on the way is the one of this place.
-    fn parts_of(
-        &mut self,
-        at: usize,
-        wanted: usize,
-        below: Option<usize>,
-    ) -> Result<(), AllocError> {
+    fn parts_of(&mut self, at: usize, wanted: usize, below: Option<usize>) {
         match self.kind(at) {
             Kind::Leaf(tip) => self.tip(tip, wanted),
             Kind::One(Single::Passed, part) => self.push(self.part(part, wanted, below).task),
@@ -88,14 +81,19 @@ impl<'r, 's> Strip<'r, 's> {
                 self.join(Sign::Opened(cell), wanted, left, right, below)
             }
             Kind::Two(Double::Both, left, right) => {
-                if self.is_left_out(left as usize, below) {
-                    self.push(self.part(right, wanted, below).task)
-                } else if self.is_left_out(right as usize, below) {
-                    self.push(self.part(left, wanted, below).task)
-                } else {
-                    self.join(Sign::Par, wanted, left, right, below)
-                }
+                self.join_both(wanted, left, right, below);
             }
+        }
+    }
+
+    // Both sides of a `|`, or the one that is left.
+    fn join_both(&mut self, wanted: usize, left: u32, right: u32, below: Option<usize>) {
+        if self.is_left_out(left as usize, below) {
+            self.push(self.part(right, wanted, below).task);
+        } else if self.is_left_out(right as usize, below) {
+            self.push(self.part(left, wanted, below).task);
+        } else {
+            self.join(Sign::Par, wanted, left, right, below);
         }
     }
 
@@ -109,18 +107,11 @@ impl<'r, 's> Strip<'r, 's> {
         self.spent.is_spent(&self.replay.marked, at)
     }
 
-    fn join(
-        &mut self,
-        sign: Sign,
-        wanted: usize,
-        left: u32,
-        right: u32,
-        below: Option<usize>,
-    ) -> Result<(), AllocError> {
+    fn join(&mut self, sign: Sign, wanted: usize, left: u32, right: u32, below: Option<usize>) {
         let levels = sign.levels();
         let left = self.part(left, levels.left, below);
         let right = self.part(right, levels.right, below);
-        self.push_joined(sign, wanted, left, right)
+        self.push_joined(sign, wanted, left, right);
     }
 
     fn join_source(
@@ -131,87 +122,72 @@ impl<'r, 's> Strip<'r, 's> {
         right: u32,
         scope: u32,
         below: Option<usize>,
-    ) -> Result<(), AllocError> {
+    ) {
         let levels = sign.levels();
         let left = self.part(left, levels.left, below);
         let right = Side {
             task: Task::Source(right as usize, scope as usize, levels.right),
             is_part: self.way.is_short(),
         };
-        self.push_joined(sign, wanted, left, right)
+        self.push_joined(sign, wanted, left, right);
     }
 
-    fn note(&mut self, mark: u64) -> Result<(), AllocError> {
+    fn note(&mut self, mark: u64) {
         let column = self.page.len();
-        self.notes.push(Note { column, mark })?;
-        Ok(())
+        if self.notes.push(Note { column, mark }).is_err() {
+            self.page.refuse();
+        }
     }
 
-    fn tip(&mut self, tip: Tip, wanted: usize) -> Result<(), AllocError> {
+    fn tip(&mut self, tip: Tip, wanted: usize) {
         match tip {
             Tip::Gone | Tip::Ended => self.page.say("stop"),
             Tip::Token(mark, node, scope) => {
-                self.note(mark)?;
-                self.push(Task::Source(node as usize, scope as usize, wanted))?;
+                self.note(mark);
+                self.push(Task::Source(node as usize, scope as usize, wanted));
             }
             Tip::Bears(mark, value) => {
-                self.note(mark)?;
+                self.note(mark);
                 self.page.value(value);
             }
             Tip::Waits(call) => self.pending(call),
         }
-        Ok(())
     }
 
     // A call that is out.
     fn pending(&mut self, call: u64) {
-        self.page.say("?");
-        self.page.number(call);
-        self.page.say(":");
+        self.page.say_number("?", call, ":");
         if let Some(Entry::Call(_, _, site, args)) = self.replay.call(self.journal, call) {
             self.names.say_site(&mut self.page, site);
-            self.page.say("(");
-            for (place, value) in args.as_slice().iter().enumerate() {
-                if place > 0 {
-                    self.page.say(", ");
-                }
-                self.page.value(*value);
-            }
-            self.page.say(")");
+            self.page.values(args.as_slice());
         }
     }
 
     /// Writes a node of the program in a scope.
-    pub(crate) fn source(
-        &mut self,
-        node: usize,
-        scope: usize,
-        wanted: usize,
-    ) -> Result<(), AllocError> {
+    pub(crate) fn source(&mut self, node: usize, scope: usize, wanted: usize) {
         if let Some(called) = self.called(node) {
-            return self.call(called, scope);
+            self.call(called, scope);
+            return;
         }
-        let (sign, left, right) = match self.program.node(node) {
-            TermNode::Par(left, right) => (Sign::Par, left, right),
-            TermNode::Seq(left, name, right) => (Sign::Seq(name), left, right),
-            TermNode::Prune(left, name, right) => (Sign::Prune(name), left, right),
-            TermNode::Other(left, right) => (Sign::Other, left, right),
-            TermNode::Operand(operand) => {
-                self.operand(operand, scope);
-                return Ok(());
+        match self.program.node(node) {
+            TermNode::Par(left, right) => self.pair(Sign::Par, left, right, scope, wanted),
+            TermNode::Seq(left, name, right) => {
+                self.pair(Sign::Seq(name), left, right, scope, wanted);
             }
-            TermNode::Stop | TermNode::Site(_, _) | TermNode::Call(_, _) => {
-                self.page.say("stop");
-                return Ok(());
+            TermNode::Prune(left, name, right) => {
+                self.pair(Sign::Prune(name), left, right, scope, wanted);
             }
-        };
+            TermNode::Other(left, right) => self.pair(Sign::Other, left, right, scope, wanted),
+            TermNode::Operand(operand) => self.operand(operand, scope),
+            TermNode::Stop | TermNode::Site(_, _) | TermNode::Call(_, _) => self.page.say("stop"),
+        }
+    }
+
+    fn pair(&mut self, sign: Sign, left: usize, right: usize, scope: usize, wanted: usize) {
         let levels = sign.levels();
-        self.push_joined(
-            sign,
-            wanted,
-            source_of(left, scope, levels.left),
-            source_of(right, scope, levels.right),
-        )
+        let left = source_of(left, scope, levels.left);
+        let right = source_of(right, scope, levels.right);
+        self.push_joined(sign, wanted, left, right);
     }
 
     // The call that a node is, with the prunings of its arguments round it: the first argument's is the innermost.
@@ -231,18 +207,28 @@ impl<'r, 's> Strip<'r, 's> {
                     at = inner;
                 }
                 call @ (TermNode::Site(_, list) | TermNode::Call(_, list)) => {
-                    let operands = self.program.operands(list);
-                    for (place, value) in given.iter().enumerate() {
-                        if value.is_some() && !self.is_own(operands.get(place).copied(), place) {
-                            return None;
-                        }
-                    }
-                    return Some(Called { node: call, given });
+                    return self.with_given(call, list, given);
                 }
                 _ => return None,
             }
         }
         None
+    }
+
+    // A call with the expressions given, where each is that of its argument.
+    fn with_given(
+        &self,
+        node: TermNode,
+        list: usize,
+        given: [Option<usize>; MOST_ARGUMENTS],
+    ) -> Option<Called> {
+        let operands = self.program.operands(list);
+        for (place, value) in given.iter().enumerate() {
+            if value.is_some() && !self.is_own(operands.get(place).copied(), place) {
+                return None;
+            }
+        }
+        Some(Called { node, given })
     }
 
     // Whether an operand is that of the pruning of a call's argument at a place.
@@ -253,31 +239,33 @@ impl<'r, 's> Strip<'r, 's> {
         }
     }
 
-    fn call(&mut self, called: Called, scope: usize) -> Result<(), AllocError> {
-        let list = match called.node {
+    fn call(&mut self, called: Called, scope: usize) {
+        match called.node {
             TermNode::Site(site, list) => {
                 self.names.say_site(&mut self.page, site);
-                list
+                self.arguments(list, called.given, scope);
             }
             TermNode::Call(definition, list) => {
                 self.names.say_definition(&mut self.page, definition);
-                list
+                self.arguments(list, called.given, scope);
             }
-            _ => return Ok(()),
-        };
+            _ => {}
+        }
+    }
+
+    fn arguments(&mut self, list: usize, given: [Option<usize>; MOST_ARGUMENTS], scope: usize) {
         self.page.say("(");
-        self.push(Task::Say(")"))?;
+        self.push(Task::Say(")"));
         let operands = self.program.operands(list);
         for (place, operand) in operands.iter().enumerate().rev() {
-            match called.given.get(place).copied().flatten() {
-                Some(node) => self.push(Task::Source(node, scope, 0))?,
-                None => self.push(Task::Operand(*operand, scope))?,
-            }
+            self.push(match given.get(place).copied().flatten() {
+                Some(node) => Task::Source(node, scope, 0),
+                None => Task::Operand(*operand, scope),
+            });
             if place > 0 {
-                self.push(Task::Say(", "))?;
+                self.push(Task::Say(", "));
             }
         }
-        Ok(())
     }
 
     /// Writes an argument in a scope: what is put for it.
