@@ -30,16 +30,16 @@ use std::thread::Threads;
 const MANY: usize = 128;
 
 /// So many entries are made by one worker before others help, and so many, each time, until there are enough tokens.
-const PATIENCE: usize = 4_096;
+const PATIENCE: usize = 5_000;
 
 /// So many calls show what the others' runs are like.
 const SAMPLES: usize = 16;
 
 /// The most entries of a sample's run.
-const SHORT: usize = 65_536;
+const SHORT: usize = 60_000;
 
 /// The most entries of another call's run.
-const LONGEST: usize = 1_048_576;
+const LONGEST: usize = 1_000_000;
 
 /// The longest run of a sample has so many entries at least, or the others aren't made apart: to begin a run costs as much as a hundred entries.
 const WORTH: usize = 512;

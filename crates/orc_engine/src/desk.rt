@@ -43,7 +43,7 @@ use std::mem;
 const MOVES: u32 = 64;
 
 /// The most calls that are run apart at a time.
-const MOST_JOBS: usize = 1_024;
+const MOST_JOBS: usize = 1_000;
 
 /// Of how many tokens one stands beside another whose calls are put side by side, and with which of so many one begins each time. However many threads
 /// share out these calls, each has some of the tokens that came first, whose runs are mostly the longest.
