@@ -1,5 +1,5 @@
 //! One run whose work is shared out: where many tokens stand at calls of definitions, the calls' own runs are made side by side, and taken in one after
-//! another in the order of the tokens. So the journal doesn't depend on which thread is quicker, nor on how many there are.
+//! another in a fixed order. So the journal doesn't depend on which thread is quicker, nor on how many there are.
 
 ghost use Rattle.std.specs.Prelude.{◌≡◌, ◌≤◌, ◌<◌, ◌^◌, ◌⊎◌, ◌↔◌, Err, IfOk, IfErr, IfSome};
 ghost use Rattle.std.specs.VecDeque.{deque_len};
@@ -211,8 +211,8 @@ where
     }
 }
 
-// Runs the calls at which tokens stand side by side, and takes in what came of them: first of a few, which show how long the others may be. Whether that
-// was worth it.
+// Runs the calls at which tokens stand side by side, first a few, which show whether the others are worth it, and takes in what came of them. Gives
+// whether most of them came to something.
 fn run_side_by_side<P, R>(
     rt: &R,
     alloc: Global,
