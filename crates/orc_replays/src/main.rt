@@ -3,8 +3,6 @@
 #![tactic(auto)]
 
 #[cfg(test)]
-mod apart;
-#[cfg(test)]
 mod random;
 mod replaying;
 #[cfg(test)]
