@@ -55,12 +55,12 @@ fn are_the_leaves(alloc: Global, values: &[Value]) -> Result<bool, Fail> {
         }
     }
     sorted.sort()?;
-    let mut wanted = 4_096;
+    let mut wanted: i64 = 4_096;
     for number in &sorted {
         if *number != wanted {
             return Ok(false);
         }
-        wanted += 1;
+        wanted = wanted.saturating_add(1);
     }
     Ok(sorted.len() == 4_096)
 }
