@@ -1,5 +1,5 @@
 -- Why a run stops, by what the ledger refuses; and that it comes to an end.
-use Rattle.std.proofs.Common.{◌≡◌, ◌≤◌, ◌<◌, ◌+◌, ◌*◌, ℕ, zero, suc, Option, Some, None, Result, Ok, Err, IfOk, IfErr, Bool, true, false, cond, refl, sym, ap, subst, arith, inl, inr}
+use Rattle.std.proofs.Common.{◌≡◌, ◌≤◌, ◌<◌, ◌+◌, ◌*◌, ℕ, zero, suc, Option, Some, None, Result, Ok, Err, IfOk, IfErr, Bool, true, false, cond, refl, sym, ap, subst, ◌∙◌, arith, inl, inr}
 use Rattle.std.specs.Prelude.{nat_lt}
 use Rattle.std.proofs.lemmas.Bool.{ltb-false}
 use Rattle.std.proofs.Math.Nat.{mul-le-mul_left}
@@ -31,8 +31,10 @@ use Rattle.orc_ledger.specs.declared.ledger.LedgerFault.{LedgerFault}
 use Rattle.orc_ledger.specs.declared.ledger.LedgerFault.TheVariants as fault
 use Rattle.orc_engine.specs.declared.desk.Stop.{Stop}
 use Rattle.orc_engine.specs.declared.desk.Stop.TheVariants as stop
-use Rattle.orc_engine.specs.Stops.{Advances, IsNearer, IsAtWork, NoneIsDue, Stops, left}
-use Rattle.orc_engine.proofs.Further.{exchanged, dropped, resumed, closed}
+use Rattle.orc_engine.specs.declared.desk.Turn.{Turn}
+use Rattle.orc_engine.specs.declared.desk.Turn.TheVariants as turn
+use Rattle.orc_engine.specs.Stops.{Advances, HasSpread, HasTurned, IsNearer, IsAtWork, NoneIsDue, Stops, left}
+use Rattle.orc_engine.proofs.Further.{further-still, exchanged, dropped, resumed, closed}
 
 -- ---- what the ledger refuses
 
@@ -136,6 +138,27 @@ lower k p p' n n' less few = omega (arith, mul-le-mul_left k less, few)
 pub nearer-end : (k : ℕ) (s s' : Records) (n n' : ℕ) → IsNearer s n s' n' → s'.entries ≤ s'.limit → n' < k → k * left s' + n' < k * left s + n
 nearer-end k s s' n n' (inl a) within few = lower k (left s) (left s') n n' (omega (arith, a.limit, a.far, within)) few
 nearer-end k s s' n n' (inr (same, fewer)) within few = omega (arith, ap (λ z. k * left z) same, fewer)
+
+pub spread-on : (s s' s'' : Records) (n n' n'' : ℕ) → HasSpread s n s' n' → HasSpread s' n' s'' n'' → HasSpread s n s'' n''
+spread-on s s' s'' n n' n'' (inl a) (inl b) = inl (further-still s s' s'' a b)
+spread-on s s' s'' n n' n'' (inl a) (inr (same, few)) = inl (subst (Advances s) (sym same) a)
+spread-on s s' s'' n n' n'' (inr (same, few)) (inl b) = inl (subst (λ z. Advances z s'') same b)
+spread-on s s' s'' n n' n'' (inr (same, few)) (inr (still, fewer)) = inr (still ∙ same, omega (arith, few, fewer))
+
+pub spread-nearer : (s s' s'' : Records) (n n' n'' : ℕ) → HasSpread s n s' n' → IsNearer s' n' s'' n'' → IsNearer s n s'' n''
+spread-nearer s s' s'' n n' n'' (inl a) (inl b) = inl (further-still s s' s'' a b)
+spread-nearer s s' s'' n n' n'' (inl a) (inr (same, few)) = inl (subst (Advances s) (sym same) a)
+spread-nearer s s' s'' n n' n'' (inr (same, few)) (inl b) = inl (subst (λ z. Advances z s'') same b)
+spread-nearer s s' s'' n n' n'' (inr (same, few)) (inr (still, fewer)) = inr (still ∙ same, omega (arith, few, fewer))
+
+pub nearer-spread : (s s' : Records) (n n' : ℕ) → IsNearer s n s' n' → HasSpread s n s' n'
+nearer-spread s s' n n' (inl a) = inl a
+nearer-spread s s' n n' (inr (same, fewer)) = inr (same, omega (arith, fewer))
+
+pub turned-spread : (s s' : Records) (n n' : ℕ) (t : Turn) → HasTurned s n s' n' t → HasSpread s n s' n'
+turned-spread s s' n n' turn.Went h = nearer-spread s s' n n' h
+turned-spread s s' n n' (turn.Asks k) h = nearer-spread s s' n n' h
+turned-spread s s' n n' turn.Rests h = inr h
 
 -- what is said of a result's value, weaker
 pub weaker : {X E : Type 0} (r : Result X E) (A B : X → Type 0) → ((x : X) → A x → B x) → IfOk r A → IfOk r B

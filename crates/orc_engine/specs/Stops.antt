@@ -46,6 +46,10 @@ HasMoved s n s' n' _ = Advances s s'
 abbrev pub IsNearer : Records → ℕ → Records → ℕ → Type 0
 IsNearer s n s' n' = Advances s s' ⊎ ((s' ≡ s) × (n' < n))
 
+-- the run is further, or as far, and no more tokens have a turn that comes
+abbrev pub HasSpread : Records → ℕ → Records → ℕ → Type 0
+HasSpread s n s' n' = Advances s s' ⊎ ((s' ≡ s) × (n' ≤ n))
+
 abbrev pub HasTurned : Records → ℕ → Records → ℕ → Turn → Type 0
 HasTurned s n s' n' turn.Rests = (s' ≡ s) × (n' ≤ n)
 HasTurned s n s' n' _ = IsNearer s n s' n'

@@ -1,7 +1,7 @@
 //! One run whose work is shared out: where many tokens stand at calls of definitions, the calls' own runs are made side by side, and taken in one after
 //! another in a fixed order. So the journal doesn't depend on which thread is quicker, nor on how many there are.
 
-ghost use Rattle.std.specs.Prelude.{◌≡◌, ◌≤◌, ◌<◌, ◌^◌, ◌⊎◌, ◌↔◌, Err, IfOk, IfErr, IfSome};
+ghost use Rattle.std.specs.Prelude.{◌≡◌, ◌≤◌, ◌<◌, ◌^◌, ◌⊎◌, ◌↔◌, Err, IfOk, IfErr};
 ghost use Rattle.std.specs.VecDeque.{deque_len};
 ghost use Rattle.orc_rules.specs.declared.limits.TheConstants.{MOST_ENTRIES};
 ghost use Rattle.orc_rules.specs.Named.{HasNames};
@@ -10,11 +10,11 @@ ghost use Rattle.orc_rules.specs.Program.{IsProgram};
 ghost use Rattle.orc_outcome.specs.Outcome.{IsPlayed};
 ghost use Rattle.orc_engine.specs.Faults.{IsOwn};
 ghost use Rattle.orc_engine.specs.Ranges.{IsInRange};
-ghost use Rattle.orc_engine.specs.Stops.{Advances, IsNearer, Stops};
+ghost use Rattle.orc_engine.specs.Stops.{Advances, HasSpread, IsNearer, Stops};
 
 use crate::desk::{Desk, Stop};
 use crate::fault::EngineFault;
-use crate::jobs::Job;
+use crate::jobs::{Came, Job};
 use orc_graph::Graph;
 use orc_ledger::{Ledger, Program as Naming};
 use orc_outcome::Played;
@@ -26,23 +26,53 @@ use std::marker::Brand;
 use std::thread;
 use std::thread::Threads;
 
-/// So many tokens are waited for before their calls are run side by side.
+/// So many entries are made by one worker before others help, and so many from one time that they have helped to the next; ten times as many where there
+/// was too little for them to do.
+const PATIENCE: usize = 5_000;
+
+/// So many tokens are to stand at calls before the calls are run side by side.
 const MANY: usize = 128;
 
-/// So many entries are made by one worker before others help, and so many, each time, until there are enough tokens.
-const PATIENCE: usize = 5_000;
+/// And so many where the runs of those are too long.
+const MORE: usize = 1_000;
 
 /// So many calls show what the others' runs are like.
 const SAMPLES: usize = 16;
 
-/// The most entries of a sample's run.
-const SHORT: usize = 60_000;
-
-/// The most entries of another call's run.
-const LONGEST: usize = 1_000_000;
+/// The most entries of a sample's run. The tables of a run of so many entries fit a processor's own cache.
+const SHORT: usize = 20_000;
 
 /// The longest run of a sample has so many entries at least, or the others aren't made apart: to begin a run costs as much as a hundred entries.
 const WORTH: usize = 512;
+
+/// So many calls are run side by side before what came of them is taken in.
+const BATCH: usize = 32;
+
+/// A run may have so many times as many entries as the longest one before it, but no more than `LONGEST`.
+const LONGER: usize = 8;
+
+const LONGEST: usize = 1_000_000;
+
+/// What calls of definitions came to that were run side by side.
+#[derive(Clone, Copy)]
+enum Trial {
+    /// There were too few of them.
+    Few,
+    /// Their runs were too long, as it seems.
+    Long,
+    /// Their runs were too short, or can't stand for the calls.
+    Vain,
+    /// Most of them were taken in.
+    Good,
+}
+
+// What came of some calls' runs: how many are over, how many were too long, and the most entries that one has.
+#[derive(Clone, Copy)]
+struct Tally {
+    over: usize,
+    long: usize,
+    longest: usize,
+}
 
 /// Runs a program as [`run_alone`](crate::run_alone) does, on the calling thread and `workers - 1` more, which help it to run calls of definitions apart. The
 /// table answers all calls of sites. The journal is the same on any number of workers.
@@ -159,19 +189,19 @@ where
     requires graph { graph.now ≡ P.listing }
     requires answers { answers.now.sites ≡ P.sites }
     ensures nearer { IfOk result (λ _. IsNearer desk.old.ledger (deque_len desk.old.ready.handles) desk.new.ledger (deque_len desk.new.ready.handles)) }
-    ensures within { desk.new.ledger.entries ≤ desk.new.ledger.limit }
+    ensures within { IfOk result (λ _. desk.new.ledger.entries ≤ desk.new.ledger.limit) }
     ensures few { deque_len desk.new.ready.handles < 2 ^ 64 }
     ensures stops { IfErr result (λ stop. Stops P.listing desk.new.ledger stop) }
 {
-    let next = share(rt, alloc, desk, graph, answers, workers, next);
+    let next = share(rt, alloc, desk, graph, answers, workers, next)?;
     match desk.go(graph, answers) {
         Ok(()) => Ok(next),
         Err(stop) => Err(stop),
     }
 }
 
-// From `now` entries on: where enough tokens have turns that come, the calls at which they stand are run side by side; else tokens are spread for a
-// while, so that there are more of them. Gives the number of entries at which it is time again.
+// From `now` entries on tokens are spread, and the calls at which they stand are run side by side: first of few tokens, and if their runs are too long, of
+// more. Gives the number of entries at which it is time again.
 #[inline(never)]
 fn share<P, R>(
     rt: &R,
@@ -181,38 +211,58 @@ fn share<P, R>(
     answers: &Answers,
     workers: usize,
     now: usize,
-) -> usize
+) -> Result<usize, Stop>
 where
     P: Naming + Send + Sync,
     R: Threads + Sync,
     requires workers { 1 ≤ workers }
     requires graph { graph.now ≡ P.listing }
     requires answers { answers.now.sites ≡ P.sites }
-    ensures goes { Advances desk.old.ledger desk.new.ledger ⊎ (desk.new.ledger ≡ desk.old.ledger) }
-    ensures ready { desk.new.ready ≡ desk.old.ready }
+    ensures spread { IfOk result (λ _. HasSpread desk.old.ledger (deque_len desk.old.ready.handles) desk.new.ledger (deque_len desk.new.ready.handles)) }
+    ensures stops { IfErr result (λ stop. Stops P.listing desk.new.ledger stop) }
 {
     if desk.entries() < now {
-        return now;
+        return Ok(now);
     }
-    if desk.ready() >= MANY {
-        desk.spread(false);
-        return if run_side_by_side(rt, alloc, desk, graph, answers, workers) {
-            desk.entries().saturating_add(PATIENCE)
-        } else {
-            desk.entries().saturating_mul(16)
-        };
+    let mut trial = attempt(rt, alloc, desk, graph, answers, workers, MANY)?;
+    if matches!(trial, Trial::Long) {
+        trial = attempt(rt, alloc, desk, graph, answers, workers, MORE)?;
     }
-    let spreads = desk.entries().saturating_sub(now) <= PATIENCE;
-    desk.spread(spreads);
-    if spreads {
-        now
-    } else {
-        desk.entries().saturating_mul(2)
-    }
+    let entries = desk.entries();
+    Ok(match trial {
+        Trial::Good => entries.saturating_add(PATIENCE),
+        Trial::Few => entries.saturating_add(10 * PATIENCE),
+        Trial::Long | Trial::Vain => entries.saturating_mul(16),
+    })
 }
 
-// Runs the calls at which tokens stand side by side, first a few, which show whether the others are worth it, and takes in what came of them. Gives
-// whether most of them came to something.
+// Tokens are spread until so many stand ready, and the calls at which they stand are run side by side.
+fn attempt<P, R>(
+    rt: &R,
+    alloc: Global,
+    desk: &mut Desk<P>,
+    graph: &Graph,
+    answers: &Answers,
+    workers: usize,
+    wanted: usize,
+) -> Result<Trial, Stop>
+where
+    P: Naming + Send + Sync,
+    R: Threads + Sync,
+    requires workers { 1 ≤ workers }
+    requires graph { graph.now ≡ P.listing }
+    requires answers { answers.now.sites ≡ P.sites }
+    ensures spread { IfOk result (λ _. HasSpread desk.old.ledger (deque_len desk.old.ready.handles) desk.new.ledger (deque_len desk.new.ready.handles)) }
+    ensures stops { IfErr result (λ stop. Stops P.listing desk.new.ledger stop) }
+{
+    desk.spread(graph, answers, wanted)?;
+    if desk.ready() < wanted {
+        return Ok(Trial::Few);
+    }
+    Ok(run_side_by_side(rt, alloc, desk, graph, answers, workers))
+}
+
+// Runs the calls at which tokens stand side by side, first a few, which show whether the others are worth it, and takes in what came of them.
 fn run_side_by_side<P, R>(
     rt: &R,
     alloc: Global,
@@ -220,7 +270,7 @@ fn run_side_by_side<P, R>(
     graph: &Graph,
     answers: &Answers,
     workers: usize,
-) -> bool
+) -> Trial
 where
     P: Naming + Send + Sync,
     R: Threads + Sync,
@@ -232,35 +282,124 @@ where
 {
     let room = desk.room();
     let Ok(mut jobs) = desk.jobs(graph) else {
-        return false;
+        return Trial::Vain;
     };
     if room == 0 || jobs.len() < SAMPLES {
-        return false;
+        return Trial::Vain;
     }
     let samples = &mut jobs[..SAMPLES];
-    let limit = SHORT.min(room);
-    run_all(rt, alloc, samples, graph, answers, workers, limit);
-    let Some(longest) = longest_of(samples) else {
-        return false;
-    };
-    // No more calls than the limit may have room for.
-    let most = SAMPLES.saturating_add(room / longest);
-    let count = jobs.len().min(most);
-    let others = &mut jobs[SAMPLES..count];
-    let limit = LONGEST.min(room);
-    run_all(rt, alloc, others, graph, answers, workers, limit);
-    take_all(desk, graph, jobs) > count / 2
+    run_all(rt, alloc, graph, answers, workers, SHORT.min(room), samples);
+    let tally = tally_of(samples);
+    if tally.long > tally.over {
+        return Trial::Long;
+    }
+    // A run begins with a copy of the program's graph.
+    if tally.over < SAMPLES / 2 || tally.longest < WORTH.max(graph.len()) {
+        return Trial::Vain;
+    }
+    run_others(
+        rt,
+        alloc,
+        desk,
+        graph,
+        answers,
+        workers,
+        tally.longest,
+        &mut jobs,
+    );
+    Trial::Good
+}
+
+// Does the jobs behind the samples in batches, and takes in what came of those before a batch while it is done: as long as most of a batch comes to
+// something, and the limit has room for the next.
+fn run_others<P, R>(
+    rt: &R,
+    alloc: Global,
+    desk: &mut Desk<P>,
+    graph: &Graph,
+    answers: &Answers,
+    workers: usize,
+    longest: usize,
+    jobs: &mut [Job<P>],
+)
+where
+    P: Naming + Send + Sync,
+    R: Threads + Sync,
+    requires workers { 1 ≤ workers }
+    requires graph { graph.now ≡ P.listing }
+    requires answers { answers.now.sites ≡ P.sites }
+    ensures goes { Advances desk.old.ledger desk.new.ledger ⊎ (desk.new.ledger ≡ desk.old.ledger) }
+    ensures ready { desk.new.ready ≡ desk.old.ready }
+{
+    let mut longest = longest;
+    for from in (SAMPLES..jobs.len()).step_by(BATCH) {
+        let room = desk.room();
+        if room == 0 || room / BATCH < longest {
+            break;
+        }
+        let limit = longest.saturating_mul(LONGER).clamp(1, LONGEST).min(room);
+        let from = from.min(jobs.len());
+        let (before, behind) = jobs.split_at_mut(from);
+        let count = BATCH.min(behind.len());
+        let batch = &mut behind[..count];
+        run_beside(
+            rt, alloc, desk, graph, answers, workers, limit, before, batch,
+        );
+        let tally = tally_of(batch);
+        if tally.over < count / 2 {
+            break;
+        }
+        longest = tally.longest.max(longest);
+    }
+    take_all(graph, desk, jobs);
+}
+
+// What came of the jobs before is taken in, while those of the batch are done.
+fn run_beside<P, R>(
+    rt: &R,
+    alloc: Global,
+    desk: &mut Desk<P>,
+    graph: &Graph,
+    answers: &Answers,
+    workers: usize,
+    limit: usize,
+    before: &mut [Job<P>],
+    batch: &mut [Job<P>],
+)
+where
+    P: Naming + Send + Sync,
+    R: Threads + Sync,
+    requires workers { 1 ≤ workers }
+    requires limit { (1 ≤ limit) × (limit ≤ MOST_ENTRIES) }
+    requires graph { graph.now ≡ P.listing }
+    requires answers { answers.now.sites ≡ P.sites }
+    ensures goes { Advances desk.old.ledger desk.new.ledger ⊎ (desk.new.ledger ≡ desk.old.ledger) }
+    ensures ready { desk.new.ready ≡ desk.old.ready }
+{
+    if workers == 1 {
+        run_all(rt, alloc, graph, answers, workers, limit, batch);
+        take_all(graph, desk, before);
+        return;
+    }
+    let others = workers - 1;
+    thread::join_mut(
+        rt,
+        &mut ||
+            requires { (1 ≤ others) × (1 ≤ limit) × (limit ≤ MOST_ENTRIES) × (graph.now ≡ P.listing) × (answers.now.sites ≡ P.sites) }
+        { run_all(rt, alloc, graph, answers, others, limit, batch) },
+        &mut || take_all(graph, desk, before),
+    );
 }
 
 // Each job is done on one of the threads.
 fn run_all<P, R>(
     rt: &R,
     alloc: Global,
-    jobs: &mut [Job<P>],
     graph: &Graph,
     answers: &Answers,
     workers: usize,
     limit: usize,
+    jobs: &mut [Job<P>],
 )
 where
     P: Naming + Send + Sync,
@@ -280,36 +419,36 @@ where
     );
 }
 
-// The most entries that a sample's run has. None where that is too few, or where half of the samples came to nothing.
-fn longest_of<P: Naming>(samples: &[Job<P>]) -> Option<usize>
-    ensures { IfSome result (λ longest. 1 ≤ longest) }
-{
-    let mut longest = 0;
-    let mut over: usize = 0;
-    for job in samples {
-        let entries = job.entries();
-        longest = longest.max(entries);
-        if entries > 0 {
-            over = over.saturating_add(1);
+// What came of the jobs.
+fn tally_of<P: Naming>(jobs: &[Job<P>]) -> Tally {
+    let mut tally = Tally {
+        over: 0,
+        long: 0,
+        longest: 0,
+    };
+    for job in jobs {
+        match job.came() {
+            Came::Over(part) => {
+                tally.over = tally.over.saturating_add(1);
+                tally.longest = tally.longest.max(part.len());
+            }
+            Came::Long => tally.long = tally.long.saturating_add(1),
+            Came::Nothing => {}
         }
     }
-    if longest < WORTH || over < samples.len() / 2 {
-        return None;
-    }
-    Some(longest)
+    tally
 }
 
-// Takes in what came of the jobs, and gives of how many something did.
-fn take_all<P: Naming>(desk: &mut Desk<P>, graph: &Graph, jobs: Vec<Job<P>>) -> usize
+// Takes in, one after another, what came of those jobs that still have it.
+fn take_all<P: Naming>(graph: &Graph, desk: &mut Desk<P>, jobs: &mut [Job<P>])
     requires graph { graph.now ≡ P.listing }
     ensures goes { Advances desk.old.ledger desk.new.ledger ⊎ (desk.new.ledger ≡ desk.old.ledger) }
     ensures ready { desk.new.ready ≡ desk.old.ready }
 {
-    let mut taken: usize = 0;
     for job in jobs {
-        if desk.take_in(graph, &job) {
-            taken = taken.saturating_add(1);
+        if let Came::Over(part) = job.take() {
+            // What isn't taken in goes on in its place.
+            let _taken = desk.take_in(graph, job.handle(), &part);
         }
     }
-    taken
 }

@@ -2,10 +2,8 @@
 
 ghost use Rattle.std.specs.Prelude.{◌≡◌, ◌≤◌, ◌<◌, ◌^◌, ℕ, true, false, IfOk, IfErr, IfSome};
 ghost use Rattle.std.specs.VecDeque.{deque_len};
-ghost use Rattle.orc_rules.specs.Named.{HasNames};
 ghost use Rattle.orc_rules.specs.Nodes.{code, definitions, source};
 ghost use Rattle.orc_rules.specs.Program.{IsProgram};
-ghost use Rattle.orc_outcome.specs.Outcome.{IsPlayed};
 ghost use Rattle.orc_paths.specs.Doing.{is_wait};
 ghost use Rattle.orc_tables.specs.Tokens.{IsHeld};
 ghost use Rattle.orc_tables.specs.declared.records.Group.{Group};
@@ -13,16 +11,9 @@ ghost use Rattle.orc_ledger.specs.Answers.{IsDueNow, Pends};
 ghost use Rattle.orc_ledger.specs.Doing.{what_of};
 ghost use Rattle.orc_ledger.specs.Halting.{IsGroup};
 ghost use Rattle.orc_ledger.specs.Next.{members, numbers_of};
-ghost use Rattle.orc_engine.specs.Ends.{HasEnded};
-ghost use Rattle.orc_engine.specs.Faults.{IsOwn};
 ghost use Rattle.orc_engine.specs.Stops.{Goes, Advances, HasMoved, IsNearer, HasTurned, NoneIsDue, IsAtWork, Stops};
 
-use crate::fault::EngineFault;
-use crate::jobs::Job;
-use crate::quiet::is_quiet_at;
 use crate::ready::{Handle, Ready};
-use crate::sizes::is_crowded;
-use crate::telling::tell;
 use crate::waiting::Waiting;
 use orc_graph::{Graph, Node};
 use orc_ledger::{
@@ -30,26 +21,15 @@ use orc_ledger::{
     ReturnFault, Standing, Task, Token, What, calls_fit,
 };
 use orc_names::Scope;
-use orc_outcome::{End, Played};
 use orc_rules::answers::Answers;
 use orc_rules::limits::MOST_GROUPS;
-use orc_rules::program::Program;
 use orc_rules::value::{Answer, Args};
 use orc_site::{Due, Request, due_after};
-use std::alloc::{AllocError, Global};
+use std::alloc::Global;
 use std::mem;
 
 /// The most moves of a token in its turn.
 const MOVES: u32 = 64;
-
-/// The most calls that are run apart at a time.
-const MOST_JOBS: usize = 1_000;
-
-/// Of how many tokens one stands beside another whose calls are put side by side, and with which of so many one begins each time. However many threads
-/// share out these calls, each has some of the tokens that came first, whose runs are mostly the longest.
-const STRIDE: usize = 16;
-
-const ORDER: [usize; STRIDE] = [0, 8, 4, 12, 2, 10, 6, 14, 1, 9, 5, 13, 3, 11, 7, 15];
 
 /// What a turn has come to.
 #[derive(Clone, Copy)]
@@ -73,9 +53,9 @@ pub(crate) enum Stop {
     Site(u64),
 }
 
-// Whether a token whose publications are the run's stands at a call of a definition.
+/// Whether a token whose publications are the run's stands at a call of a definition.
 #[inline(always)]
-fn is_at_call(graph: &Graph, token: &Token) -> bool {
+pub(crate) fn is_at_call(graph: &Graph, token: &Token) -> bool {
     match token.standing {
         Standing::At(node, _) if token.step == 0 => matches!(graph.node(node), Node::Call(_, _)),
         _ => false,
@@ -97,13 +77,15 @@ enum Step {
 
 /// A run: its ledger, the tokens whose turn comes, and those that wait.
 pub(crate) struct Desk<P: Naming> {
-    alloc: Global,
-    ledger: Ledger<P>,
-    ready: Ready,
+    pub(crate) alloc: Global,
+    pub(crate) ledger: Ledger<P>,
+    pub(crate) ready: Ready,
     waiting: Waiting,
     asks: bool,
-    // Whether tokens go on by turns to the next calls of definitions, so that many stand at one.
-    spreads: bool,
+    // Whether a token's turn ends at the next call of a definition, and the one that has waited longest goes first.
+    pub(crate) spreads: bool,
+    // How many moves have led to the token whose turn it is, one after another.
+    moves: u32,
     // Whether it has opened a cell, or made a call that isn't answered at once: what is round a call that is run apart bears on both.
     touches: bool,
     // The calls that were cancelled, where others are told of them.
@@ -125,6 +107,7 @@ impl<P: Naming> Drop for Desk<P> {
             waiting,
             asks: _,
             spreads: _,
+            moves: _,
             touches: _,
             gone,
             scopes,
@@ -153,6 +136,7 @@ impl<P: Naming> Desk<P> {
             waiting: Waiting::new(alloc),
             asks,
             spreads: false,
+            moves: 0,
             touches: false,
             gone: Vec::new(alloc),
             scopes: Vec::new(alloc),
@@ -172,6 +156,7 @@ impl<P: Naming> Desk<P> {
             waiting,
             asks: _,
             spreads: _,
+            moves: _,
             touches: _,
             gone,
             scopes,
@@ -201,7 +186,11 @@ impl<P: Naming> Desk<P> {
         ensures same { self.new.ledger ≡ self.old.ledger }
         ensures memory { IfErr result (λ stop. stop ≡ Stop.Refused LedgerFault.Memory) }
     {
-        match self.ready.push(Handle { slot, serial }) {
+        match self.ready.push(Handle {
+            slot,
+            serial,
+            moves: self.moves,
+        }) {
             Ok(()) => Ok(()),
             Err(_) => Err(Stop::Refused(LedgerFault::Memory)),
         }
@@ -268,6 +257,7 @@ impl<P: Naming> Desk<P> {
         }
         let mut slot = handle.slot;
         for moved in 0..MOVES {
+            self.moves = handle.moves.saturating_add(moved);
             let Some(token) = self.ledger.held(slot) else {
                 return Ok(Turn::Went);
             };
@@ -289,14 +279,6 @@ impl<P: Naming> Desk<P> {
         self.touches
     }
 
-    /// Whether tokens go on, one after another, just to the next call of a definition.
-    pub(crate) fn spread(&mut self, spreads: bool)
-        ensures same { self.new.ledger ≡ self.old.ledger }
-        ensures ready { self.new.ready ≡ self.old.ready }
-    {
-        self.spreads = spreads;
-    }
-
     // Tokens that are gone wait no more before the one that has waited longest: many may go at once, and their turns would take all rounds.
     fn sweep(&mut self)
         ensures same { self.new.ledger ≡ self.old.ledger }
@@ -312,7 +294,7 @@ impl<P: Naming> Desk<P> {
 
     // The token of a handle, if it is there.
     #[inline(always)]
-    fn token_of(&self, handle: Handle) -> Option<Token>
+    pub(crate) fn token_of(&self, handle: Handle) -> Option<Token>
         ensures { IfSome result (λ token. IsHeld self.now.ledger.slots handle.slot token) }
     {
         if handle.serial < 1 {
@@ -509,6 +491,7 @@ impl<P: Naming> Desk<P> {
             let handle = Handle {
                 slot,
                 serial: token.serial,
+                moves: self.moves,
             };
             if self.waiting.add(*cell, handle).is_err() {
                 return Err(Stop::Refused(LedgerFault::Memory));
@@ -572,116 +555,6 @@ impl<P: Naming> Desk<P> {
             }
         }
         Ok(())
-    }
-
-    /// What is told of the run, which stops so.
-    pub(crate) fn finish(
-        mut self,
-        program: &Program,
-        graph: &Graph,
-        answers: &Answers,
-        stop: Stop,
-        keeps_text: bool,
-    ) -> Result<Played, EngineFault>
-        requires program { program.now ≡ P.listing }
-        requires graph { graph.now ≡ P.listing }
-        requires answers { answers.now.sites ≡ P.sites }
-        ensures played { IfOk result (λ p. IsPlayed P.listing answers.now keeps_text P.limit p.summary p.published.items p.text.items) }
-        ensures range { IfErr result (λ fault. fault ≡ EngineFault.Range → ⊥) }
-        ensures sound { IfErr result (λ fault. IsOwn fault → Stops P.listing self.ledger stop → IsProgram (definitions P.listing) (source P.listing) → HasNames P.listing answers.now → ⊥) }
-    {
-        let end = self.end(program, graph, answers, stop)?;
-        let alloc = self.alloc;
-        tell(alloc, self.into_ledger(), answers, keeps_text, end)
-    }
-
-    // How a run ends that stops so. The fault is Broken where it can't end so.
-    fn end(
-        &mut self,
-        program: &Program,
-        graph: &Graph,
-        answers: &Answers,
-        stop: Stop,
-    ) -> Result<End, EngineFault>
-        requires program { program.now ≡ P.listing }
-        requires graph { graph.now ≡ P.listing }
-        requires answers { answers.now.sites ≡ P.sites }
-        ensures ended { IfOk result (λ end. HasEnded P.listing answers.now self.new.ledger end) }
-        ensures range { IfErr result (λ fault. fault ≡ EngineFault.Range → ⊥) }
-        ensures sound { IfErr result (λ fault. IsOwn fault → Stops P.listing self.old.ledger stop → IsProgram (definitions P.listing) (source P.listing) → ⊥) }
-    {
-        match stop {
-            Stop::Rests => self.rested(graph, answers),
-            Stop::Refused(LedgerFault::Memory) => Ok(End::Memory),
-            Stop::Refused(LedgerFault::Full) => self.crowded(answers),
-            Stop::Refused(LedgerFault::Limit) => self.cut(program, graph, answers),
-            Stop::Broken => Err(EngineFault::Broken),
-            Stop::Site(number) => Err(EngineFault::Site(number)),
-        }
-    }
-
-    // How a run ends in which nothing can come next.
-    fn rested(&mut self, graph: &Graph, answers: &Answers) -> Result<End, EngineFault>
-        requires graph { graph.now ≡ P.listing }
-        requires answers { answers.now.sites ≡ P.sites }
-        ensures ended { IfOk result (λ end. HasEnded P.listing answers.now self.new.ledger end) }
-        ensures range { IfErr result (λ fault. fault ≡ EngineFault.Range → ⊥) }
-        ensures sound { IfErr result (λ _. Stops P.listing self.old.ledger Stop.Rests → ⊥) }
-    {
-        match self.ledger.next(graph) {
-            Next::Quiet => Ok(End::Quiet),
-            Next::Work if self.ledger.has_halted() => Ok(End::Halted),
-            Next::Work | Next::Ticks(_) => Err(EngineFault::Broken),
-        }
-    }
-
-    // How a run ends for which one of the engine's limits is reached. The fault is Broken where none can have been.
-    fn crowded(&mut self, answers: &Answers) -> Result<End, EngineFault>
-        requires answers { answers.now.sites ≡ P.sites }
-        ensures ended { IfOk result (λ end. HasEnded P.listing answers.now self.new.ledger end) }
-        ensures range { IfErr result (λ fault. fault ≡ EngineFault.Range → ⊥) }
-        ensures sound { IfErr result (λ _. Stops P.listing self.old.ledger (Stop.Refused LedgerFault.Full) → ⊥) }
-    {
-        if is_crowded(self.ledger.journal()) {
-            Ok(End::Full)
-        } else {
-            Err(EngineFault::Broken)
-        }
-    }
-
-    // How a run ends whose journal has as many entries as the limit. Mostly the ledger knows whether it is quiet then; where only moves of marks
-    // are left, the rules are asked.
-    fn cut(
-        &mut self,
-        program: &Program,
-        graph: &Graph,
-        answers: &Answers,
-    ) -> Result<End, EngineFault>
-        requires program { program.now ≡ P.listing }
-        requires graph { graph.now ≡ P.listing }
-        requires answers { answers.now.sites ≡ P.sites }
-        ensures ended { IfOk result (λ end. HasEnded P.listing answers.now self.new.ledger end) }
-        ensures range { IfErr result (λ fault. fault ≡ EngineFault.Range → ⊥) }
-        ensures sound { IfErr result (λ _. Stops P.listing self.old.ledger (Stop.Refused LedgerFault.Limit) → ⊥) }
-    {
-        let next = self.ledger.next(graph);
-        if self.ledger.entries() < self.ledger.limit() {
-            return Err(EngineFault::Broken);
-        }
-        self.ledger.is_whole();
-        match next {
-            Next::Quiet => return Ok(End::Quiet),
-            Next::Ticks(_) => return Ok(End::Limit),
-            Next::Work => {}
-        }
-        if self.ledger.can_use_rule(graph) {
-            return Ok(End::Limit);
-        }
-        match is_quiet_at(self.alloc, program, answers, self.ledger.journal()) {
-            Some(true) => Ok(End::Quiet),
-            Some(false) => Ok(End::Limit),
-            None => Ok(End::Memory),
-        }
     }
 
     /// No token's turn comes: an answer that is due, by the table, else a tick, else what the ledger finds. It stops where nothing can come next.
@@ -798,60 +671,6 @@ impl<P: Naming> Desk<P> {
     /// How many entries there are, cancels not counted.
     pub(crate) fn entries(&self) -> usize {
         self.ledger.entries()
-    }
-
-    /// How many entries more the limit has room for.
-    pub(crate) fn room(&self) -> usize {
-        self.ledger.limit().saturating_sub(self.ledger.entries())
-    }
-
-    /// The calls of definitions with values at which tokens stand whose turn comes, and whose publications are the run's, `MOST_JOBS` of them at most, in
-    /// a fixed order in which tokens that came one after another stand apart. The error is refused memory.
-    pub(crate) fn jobs(&self, graph: &Graph) -> Result<Vec<Job<P>>, AllocError>
-        requires graph { graph.now ≡ P.listing }
-    {
-        let mut jobs = Vec::new(self.alloc);
-        for first in ORDER {
-            for at in (first..self.ready.len()).step_by(STRIDE) {
-                if jobs.len() == MOST_JOBS {
-                    return Ok(jobs);
-                }
-                if let Some(handle) = self.ready.get(at) {
-                    if let Some(task) = self.task_of(graph, handle) {
-                        jobs.push(Job::new(handle, task))?;
-                    }
-                }
-            }
-        }
-        Ok(jobs)
-    }
-
-    // The call at which a token stands, if it is there and can be run apart.
-    fn task_of(&self, graph: &Graph, handle: Handle) -> Option<Task>
-        requires graph { graph.now ≡ P.listing }
-    {
-        let token = self.token_of(handle)?;
-        self.ledger.task(graph, &token)
-    }
-
-    /// Takes in what came of a job, if it is over and its token still stands at its call. Whether it was taken in.
-    pub(crate) fn take_in(&mut self, graph: &Graph, job: &Job<P>) -> bool
-        requires graph { graph.now ≡ P.listing }
-        ensures ready { self.new.ready ≡ self.old.ready }
-        ensures taken { result ≡ true → Advances self.old.ledger self.new.ledger }
-        ensures refused { result ≡ false → self.new.ledger ≡ self.old.ledger }
-    {
-        let Some(part) = job.part() else {
-            return false;
-        };
-        let handle = job.handle();
-        let Some(token) = self.token_of(handle) else {
-            return false;
-        };
-        let Some(task) = self.ledger.task(graph, &token) else {
-            return false;
-        };
-        part.is_of(&task) && self.ledger.take_in(handle.slot, token, part).is_ok()
     }
 
     /// The time of the run.

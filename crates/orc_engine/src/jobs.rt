@@ -5,20 +5,32 @@ ghost use Rattle.orc_rules.specs.declared.limits.TheConstants.{MOST_ENTRIES};
 ghost use Rattle.orc_rules.specs.Nodes.{definitions, source};
 ghost use Rattle.orc_ledger.specs.Parts.{call_of};
 
-use crate::desk::Desk;
+use crate::desk::{Desk, Stop};
 use crate::ready::Handle;
 use orc_graph::Graph;
-use orc_ledger::{Ledger, Part, Program as Naming, Task};
+use orc_ledger::{Ledger, LedgerFault, Part, Program as Naming, Task};
 use orc_rules::answers::Answers;
 use std::alloc::Global;
 use std::marker::Brand;
+use std::mem;
+
+/// What came of a call's run.
+#[derive(Drop)]
+pub(crate) enum Came<P: Naming> {
+    /// Nothing: nobody has run it, it can't stand for the call, or memory was refused.
+    Nothing,
+    /// It has more entries than it may have.
+    Long,
+    /// It is over.
+    Over(Part<P>),
+}
 
 /// A call at which a token stands, and what came of its run.
 #[derive(Drop)]
 pub(crate) struct Job<P: Naming> {
     handle: Handle,
     task: Task,
-    part: Option<Part<P>>,
+    came: Came<P>,
 }
 
 impl<P: Naming> Job<P> {
@@ -27,7 +39,7 @@ impl<P: Naming> Job<P> {
         Job {
             handle,
             task,
-            part: None,
+            came: Came::Nothing,
         }
     }
 
@@ -36,45 +48,40 @@ impl<P: Naming> Job<P> {
         self.handle
     }
 
-    /// What came of its run, if it is over.
-    pub(crate) fn part(&self) -> Option<&Part<P>> {
-        self.part.as_ref()
+    /// What came of its run.
+    pub(crate) fn came(&self) -> &Came<P> {
+        &self.came
     }
 
-    /// How many entries its run has, 0 where it isn't over.
-    pub(crate) fn entries(&self) -> usize {
-        match &self.part {
-            Some(part) => part.len(),
-            None => 0,
-        }
+    /// What came of its run, which the job has no more.
+    pub(crate) fn take(&mut self) -> Came<P> {
+        mem::replace(&mut self.came, Came::Nothing)
     }
 
-    /// Runs it apart, with at most so many entries. Where its run isn't over then, or can't stand for the call, nothing came of it.
+    /// Runs it apart, with at most so many entries.
     pub(crate) fn run(&mut self, alloc: Global, graph: &Graph, answers: &Answers, limit: usize)
         requires limit { (1 ≤ limit) × (limit ≤ MOST_ENTRIES) }
         requires graph { graph.now ≡ P.listing }
         requires answers { answers.now.sites ≡ P.sites }
     {
-        if self.part.is_none() {
-            self.part = part_of(alloc, graph, answers, self.task.copied(), limit);
-        }
+        self.came = came_of(alloc, graph, answers, self.task.copied(), limit);
     }
 }
 
 // What comes of a task's run.
-fn part_of<P: Naming>(
+fn came_of<P: Naming>(
     alloc: Global,
     graph: &Graph,
     answers: &Answers,
     task: Task,
     limit: usize,
-) -> Option<Part<P>>
+) -> Came<P>
     requires limit { (1 ≤ limit) × (limit ≤ MOST_ENTRIES) }
     requires graph { graph.now ≡ P.listing }
     requires answers { answers.now.sites ≡ P.sites }
 {
     let Ok(own) = graph.for_call(alloc, task.definition, task.args.as_slice()) else {
-        return None;
+        return Came::Nothing;
     };
     run_apart::<Brand, P>(alloc, &own, answers, task, limit)
 }
@@ -85,7 +92,7 @@ fn run_apart<Q: Naming, P: Naming>(
     answers: &Answers,
     task: Task,
     limit: usize,
-) -> Option<Part<P>>
+) -> Came<P>
     requires limit { (1 ≤ limit) × (limit ≤ MOST_ENTRIES) }
     requires named { limit ≡ Q.limit }
     requires graph { graph.now ≡ Q.listing }
@@ -95,25 +102,31 @@ fn run_apart<Q: Naming, P: Naming>(
     requires call { source Q.listing ≡ call_of task.definition task.args }
 {
     let Ok(ledger) = Ledger::<Q>::begin(alloc, limit, graph.root() as usize) else {
-        return None;
+        return Came::Nothing;
     };
     let mut desk = Desk::new(alloc, ledger, false);
-    play_now(&mut desk, graph, answers);
-    desk.into_ledger().into_part::<P>(answers, task)
+    if is_cut(&mut desk, graph, answers) {
+        return Came::Long;
+    }
+    match desk.into_ledger().into_part::<P>(answers, task) {
+        Some(part) => Came::Over(part),
+        None => Came::Nothing,
+    }
 }
 
-// Turns until nothing can be done at once, the run stops, or what is round it bears on it.
-fn play_now<Q: Naming>(desk: &mut Desk<Q>, graph: &Graph, answers: &Answers)
+// Turns until nothing can be done at once, the run stops, or what is round it bears on it. Whether its limit has stopped it.
+fn is_cut<Q: Naming>(desk: &mut Desk<Q>, graph: &Graph, answers: &Answers) -> bool
     requires graph { graph.now ≡ Q.listing }
     requires answers { answers.now.sites ≡ Q.sites }
 {
     if desk.begin().is_err() {
-        return;
+        return false;
     }
     loop {
         match desk.go_now(graph, answers) {
             Ok(true) if !desk.touches() => {}
-            Ok(_) | Err(_) => return,
+            Err(Stop::Refused(LedgerFault::Limit)) => return true,
+            Ok(_) | Err(_) => return false,
         }
     }
 }

@@ -6,6 +6,7 @@
 mod alone;
 mod crew;
 mod desk;
+mod ending;
 mod fault;
 mod floor;
 mod hub;
@@ -14,6 +15,7 @@ mod poller;
 mod pool;
 mod quiet;
 mod ready;
+mod sharing;
 mod sizes;
 mod telling;
 mod waiting;

@@ -11,6 +11,8 @@ use std::collections::VecDeque;
 pub(crate) struct Handle {
     pub(crate) slot: usize,
     pub(crate) serial: u64,
+    /// How many moves have led to the token, one after another. The fewer, the more may come of it.
+    pub(crate) moves: u32,
 }
 
 /// Of how many turns one is that of the token which has waited longest.
@@ -75,6 +77,22 @@ impl Ready {
     /// The token in that place, from the one that has waited longest.
     pub(crate) fn get(&self, at: usize) -> Option<Handle> {
         self.handles.get(at).copied()
+    }
+
+    /// The token that has waited longest goes behind the others.
+    pub(crate) fn pass_oldest(&mut self)
+        ensures { deque_len self.new.handles ≡ deque_len self.old.handles }
+    {
+        self.handles.rotate_left(self.handles.len().min(1));
+    }
+
+    /// The least number of moves that have led to one of the tokens, 0 where there is none.
+    pub(crate) fn fewest_moves(&self) -> u32 {
+        self.handles
+            .iter()
+            .map(|handle| handle.moves)
+            .min()
+            .unwrap_or(0)
     }
 
     /// Takes the token whose turn it is: where they spread, always the one that has waited longest.

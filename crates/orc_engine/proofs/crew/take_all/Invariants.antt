@@ -5,7 +5,5 @@ use Rattle.orc_engine.proofs.crew.take_all.Given as goal
 
 abbrev pub invariant-loop-job : goal.invariant-loop-job
 invariant-loop-job g l =
-    (goal.iterator-loop-job g).can_next l.job-iterator ×
-    (goal.iterator-loop-job g).is_finite l.job-iterator ×
     (Advances l.fn.desk.ledger l.desk.ledger ⊎ (l.desk.ledger ≡ l.fn.desk.ledger)) ×
     (l.desk.ready ≡ l.fn.desk.ready)

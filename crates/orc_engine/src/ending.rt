@@ -1,0 +1,133 @@
+//! How a run ends, and what is told of it.
+
+ghost use Rattle.std.specs.Prelude.{◌≡◌, IfOk, IfErr};
+ghost use Rattle.orc_rules.specs.Named.{HasNames};
+ghost use Rattle.orc_rules.specs.Nodes.{definitions, source};
+ghost use Rattle.orc_rules.specs.Program.{IsProgram};
+ghost use Rattle.orc_outcome.specs.Outcome.{IsPlayed};
+ghost use Rattle.orc_engine.specs.Ends.{HasEnded};
+ghost use Rattle.orc_engine.specs.Faults.{IsOwn};
+ghost use Rattle.orc_engine.specs.Stops.{Stops};
+
+use crate::desk::{Desk, Stop};
+use crate::fault::EngineFault;
+use crate::quiet::is_quiet_at;
+use crate::sizes::is_crowded;
+use crate::telling::tell;
+use orc_graph::Graph;
+use orc_ledger::{LedgerFault, Next, Program as Naming};
+use orc_outcome::{End, Played};
+use orc_rules::answers::Answers;
+use orc_rules::program::Program;
+
+impl<P: Naming> Desk<P> {
+    /// What is told of the run, which stops so.
+    pub(crate) fn finish(
+        mut self,
+        program: &Program,
+        graph: &Graph,
+        answers: &Answers,
+        stop: Stop,
+        keeps_text: bool,
+    ) -> Result<Played, EngineFault>
+        requires program { program.now ≡ P.listing }
+        requires graph { graph.now ≡ P.listing }
+        requires answers { answers.now.sites ≡ P.sites }
+        ensures played { IfOk result (λ p. IsPlayed P.listing answers.now keeps_text P.limit p.summary p.published.items p.text.items) }
+        ensures range { IfErr result (λ fault. fault ≡ EngineFault.Range → ⊥) }
+        ensures sound { IfErr result (λ fault. IsOwn fault → Stops P.listing self.ledger stop → IsProgram (definitions P.listing) (source P.listing) → HasNames P.listing answers.now → ⊥) }
+    {
+        let end = self.end(program, graph, answers, stop)?;
+        let alloc = self.alloc;
+        tell(alloc, self.into_ledger(), answers, keeps_text, end)
+    }
+
+    // How a run ends that stops so. The fault is Broken where it can't end so.
+    fn end(
+        &mut self,
+        program: &Program,
+        graph: &Graph,
+        answers: &Answers,
+        stop: Stop,
+    ) -> Result<End, EngineFault>
+        requires program { program.now ≡ P.listing }
+        requires graph { graph.now ≡ P.listing }
+        requires answers { answers.now.sites ≡ P.sites }
+        ensures ended { IfOk result (λ end. HasEnded P.listing answers.now self.new.ledger end) }
+        ensures range { IfErr result (λ fault. fault ≡ EngineFault.Range → ⊥) }
+        ensures sound { IfErr result (λ fault. IsOwn fault → Stops P.listing self.old.ledger stop → IsProgram (definitions P.listing) (source P.listing) → ⊥) }
+    {
+        match stop {
+            Stop::Rests => self.rested(graph, answers),
+            Stop::Refused(LedgerFault::Memory) => Ok(End::Memory),
+            Stop::Refused(LedgerFault::Full) => self.crowded(answers),
+            Stop::Refused(LedgerFault::Limit) => self.cut(program, graph, answers),
+            Stop::Broken => Err(EngineFault::Broken),
+            Stop::Site(number) => Err(EngineFault::Site(number)),
+        }
+    }
+
+    // How a run ends in which nothing can come next.
+    fn rested(&mut self, graph: &Graph, answers: &Answers) -> Result<End, EngineFault>
+        requires graph { graph.now ≡ P.listing }
+        requires answers { answers.now.sites ≡ P.sites }
+        ensures ended { IfOk result (λ end. HasEnded P.listing answers.now self.new.ledger end) }
+        ensures range { IfErr result (λ fault. fault ≡ EngineFault.Range → ⊥) }
+        ensures sound { IfErr result (λ _. Stops P.listing self.old.ledger Stop.Rests → ⊥) }
+    {
+        match self.ledger.next(graph) {
+            Next::Quiet => Ok(End::Quiet),
+            Next::Work if self.ledger.has_halted() => Ok(End::Halted),
+            Next::Work | Next::Ticks(_) => Err(EngineFault::Broken),
+        }
+    }
+
+    // How a run ends for which one of the engine's limits is reached. The fault is Broken where none can have been.
+    fn crowded(&mut self, answers: &Answers) -> Result<End, EngineFault>
+        requires answers { answers.now.sites ≡ P.sites }
+        ensures ended { IfOk result (λ end. HasEnded P.listing answers.now self.new.ledger end) }
+        ensures range { IfErr result (λ fault. fault ≡ EngineFault.Range → ⊥) }
+        ensures sound { IfErr result (λ _. Stops P.listing self.old.ledger (Stop.Refused LedgerFault.Full) → ⊥) }
+    {
+        if is_crowded(self.ledger.journal()) {
+            Ok(End::Full)
+        } else {
+            Err(EngineFault::Broken)
+        }
+    }
+
+    // How a run ends whose journal has as many entries as the limit. Mostly the ledger knows whether it is quiet then; where only moves of marks
+    // are left, the rules are asked.
+    fn cut(
+        &mut self,
+        program: &Program,
+        graph: &Graph,
+        answers: &Answers,
+    ) -> Result<End, EngineFault>
+        requires program { program.now ≡ P.listing }
+        requires graph { graph.now ≡ P.listing }
+        requires answers { answers.now.sites ≡ P.sites }
+        ensures ended { IfOk result (λ end. HasEnded P.listing answers.now self.new.ledger end) }
+        ensures range { IfErr result (λ fault. fault ≡ EngineFault.Range → ⊥) }
+        ensures sound { IfErr result (λ _. Stops P.listing self.old.ledger (Stop.Refused LedgerFault.Limit) → ⊥) }
+    {
+        let next = self.ledger.next(graph);
+        if self.ledger.entries() < self.ledger.limit() {
+            return Err(EngineFault::Broken);
+        }
+        self.ledger.is_whole();
+        match next {
+            Next::Quiet => return Ok(End::Quiet),
+            Next::Ticks(_) => return Ok(End::Limit),
+            Next::Work => {}
+        }
+        if self.ledger.can_use_rule(graph) {
+            return Ok(End::Limit);
+        }
+        match is_quiet_at(self.alloc, program, answers, self.ledger.journal()) {
+            Some(true) => Ok(End::Quiet),
+            Some(false) => Ok(End::Limit),
+            None => Ok(End::Memory),
+        }
+    }
+}
