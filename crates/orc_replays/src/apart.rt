@@ -1,0 +1,129 @@
+//! A call of a definition that is run apart by a ledger of its own, and taken in.
+
+ghost use Rattle.std.specs.Prelude.{◌≡◌, ◌≤◌};
+ghost use Rattle.orc_rules.specs.declared.limits.TheConstants.{MOST_ENTRIES};
+ghost use Rattle.orc_rules.specs.Nodes.{definitions, source};
+ghost use Rattle.orc_ledger.specs.Parts.{call_of};
+
+use orc_graph::Graph;
+use orc_journal::write_journal;
+use orc_ledger::{Called, Ledger, LedgerFault, Moved, Part, Program as Naming, Task};
+use orc_load::load;
+use orc_rules::answers::Answers;
+use orc_rules::value::Args;
+use std::alloc::Global;
+use std::marker::Brand;
+use std::test::Fail;
+
+// What a call's own run comes to, in which one token moves at a time, if it is over within so many entries.
+fn run_apart<Q: Naming, P: Naming>(
+    alloc: Global,
+    graph: &Graph,
+    answers: &Answers,
+    task: Task,
+    limit: usize,
+) -> Option<Part<P>>
+    requires limit { (1 ≤ limit) × (limit ≤ MOST_ENTRIES) }
+    requires named { limit ≡ Q.limit }
+    requires graph { graph.now ≡ Q.listing }
+    requires answers { answers.now.sites ≡ Q.sites }
+    requires sites { Q.sites ≡ P.sites }
+    requires definitions { definitions Q.listing ≡ definitions P.listing }
+    requires call { source Q.listing ≡ call_of task.definition task.args }
+{
+    let mut ledger = Ledger::<Q>::begin(alloc, limit, graph.root() as usize).ok()?;
+    let mut scopes = Vec::new(alloc);
+    let mut cancelled = Vec::new(alloc);
+    let mut args = Args::new();
+    for _move in 0..limit {
+        let Some(token) = ledger.held(0) else {
+            break;
+        };
+        match ledger.advance(graph, 0, token, &mut scopes, &mut cancelled) {
+            Ok(Moved::Calls) => {
+                if !matches!(
+                    ledger.call_through(graph, answers, 0, token, &mut args),
+                    Ok(Called::Answered)
+                ) {
+                    return None;
+                }
+            }
+            Ok(_) => {}
+            Err(_) => return None,
+        }
+    }
+    ledger.into_part::<P>(answers, task)
+}
+
+// What comes of a task's own run, if it is over within a hundred entries.
+fn part_of<P: Naming>(
+    alloc: Global,
+    graph: &Graph,
+    answers: &Answers,
+    task: Task,
+) -> Option<Part<P>>
+    requires graph { graph.now ≡ P.listing }
+    requires answers { answers.now.sites ≡ P.sites }
+{
+    let own = graph
+        .for_call(alloc, task.definition, task.args.as_slice())
+        .ok()?;
+    run_apart::<Brand, P>(alloc, &own, answers, task, 100)
+}
+
+// The first token stands at a call of a definition, which is run apart and taken in, where the limit has room for so many entries: the journal then.
+fn taken<P: Naming>(
+    alloc: Global,
+    graph: &Graph,
+    answers: &Answers,
+    limit: usize,
+) -> Option<Result<Vec<u8>, LedgerFault>>
+    requires limit { (1 ≤ limit) × (limit ≤ MOST_ENTRIES) }
+    requires named { limit ≡ P.limit }
+    requires graph { graph.now ≡ P.listing }
+    requires answers { answers.now.sites ≡ P.sites }
+{
+    let mut ledger = Ledger::<P>::begin(alloc, limit, graph.root() as usize).ok()?;
+    let token = ledger.held(0)?;
+    let task = ledger.task(graph, &token)?;
+    let part = part_of::<P>(alloc, graph, answers, task.copied())?;
+    if !part.is_of(&task) {
+        return None;
+    }
+    if let Err(fault) = ledger.take_in(0, token, &part) {
+        return Some(Err(fault));
+    }
+    let mut text = Vec::new(alloc);
+    match write_journal(&ledger.into_journal(), answers, &mut text) {
+        Ok(true) => Some(Ok(text)),
+        _ => None,
+    }
+}
+
+fn text_of(alloc: Global, source: &[u8], limit: usize) -> Option<Result<Vec<u8>, LedgerFault>> {
+    let loaded = load(alloc, source, b"").ok()?;
+    let graph = Graph::build(alloc, &loaded.program).ok()?;
+    if limit < 1 || limit > 100 {
+        return None;
+    }
+    taken::<Brand>(alloc, &graph, &loaded.answers, limit)
+}
+
+const SOURCE: &[u8] = b"def f(n) = Add(n, 1)\nf(4)";
+
+// The rules allow these entries in this order alone.
+const JOURNAL: &[u8] = b"orc-journal 2\ndef 1 2\ncall 2 1 Add(4, 1)\nreturn 1 3 5\npublish 3 5\n";
+
+#[test]
+fn what_is_run_apart_stands_in_its_place(rt: HostRuntime) -> Result<(), Fail> {
+    let alloc = rt.alloc();
+    let text = text_of(alloc, SOURCE, 4);
+    assert!(rt; matches!(&text, Some(Ok(text)) if text.as_slice() == JOURNAL));
+    // One entry more than there is room for.
+    let text = text_of(alloc, SOURCE, 3);
+    assert!(rt; matches!(text, Some(Err(LedgerFault::Limit))));
+    // What isn't over, and what opens a cell, is no part.
+    assert!(rt; text_of(alloc, b"def f(n) = n | 1\nf(4)", 100).is_none());
+    assert!(rt; text_of(alloc, b"def f(n) = x <x< n\nf(4)", 100).is_none());
+    Ok(())
+}
