@@ -49,7 +49,7 @@ const WORTH: usize = 512;
 const BATCH: usize = 32;
 
 /// A run may have so many times as many entries as the longest one before it, but no more than `LONGEST`.
-const LONGER: usize = 8;
+const LONGER: usize = 2;
 
 const LONGEST: usize = 1_000_000;
 
@@ -74,8 +74,8 @@ struct Tally {
     longest: usize,
 }
 
-/// Runs a program as [`run_alone`](crate::run_alone) does, on the calling thread and `workers - 1` more, which help it to run calls of definitions apart. The
-/// table answers all calls of sites. The journal is the same on any number of workers.
+/// Runs a program as [`run_alone`](crate::run_alone) does, on the calling thread. Calls of definitions are run apart on `workers` threads, of which the calling
+/// one is one where it has nothing to take in. The table answers all calls of sites. The journal is the same on any number of workers.
 ///
 /// The fault is Range where there are no workers or over `MOST_WORKERS`, or the limit is 0 or over `MOST_ENTRIES`, and then alone; or Memory as of
 /// `run_alone`. No other comes, if the program is one that the scope check takes with the names of its sites.
@@ -354,7 +354,7 @@ where
     take_all(graph, desk, jobs);
 }
 
-// What came of the jobs before is taken in, while those of the batch are done.
+// What came of the jobs before is taken in, while those of the batch are done on as many threads beside this one.
 fn run_beside<P, R>(
     rt: &R,
     alloc: Global,
@@ -381,12 +381,11 @@ where
         take_all(graph, desk, before);
         return;
     }
-    let others = workers - 1;
     thread::join_mut(
         rt,
         &mut ||
-            requires { (1 ≤ others) × (1 ≤ limit) × (limit ≤ MOST_ENTRIES) × (graph.now ≡ P.listing) × (answers.now.sites ≡ P.sites) }
-        { run_all(rt, alloc, graph, answers, others, limit, batch) },
+            requires { (1 ≤ workers) × (1 ≤ limit) × (limit ≤ MOST_ENTRIES) × (graph.now ≡ P.listing) × (answers.now.sites ≡ P.sites) }
+        { run_all(rt, alloc, graph, answers, workers, limit, batch) },
         &mut || take_all(graph, desk, before),
     );
 }
