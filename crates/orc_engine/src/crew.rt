@@ -1,7 +1,7 @@
 //! One run whose work is shared out: where many tokens stand at calls of definitions, the calls' own runs are made side by side, and taken in one after
 //! another in a fixed order. So the journal doesn't depend on which thread is quicker, nor on how many there are.
 
-ghost use Rattle.std.specs.Prelude.{◌≡◌, ◌≤◌, ◌<◌, ◌^◌, ◌⊎◌, ◌↔◌, Err, IfOk, IfErr};
+ghost use Rattle.std.specs.Prelude.{◌≡◌, ◌≤◌, ◌<◌, ◌^◌, ◌⊎◌, ◌↔◌, Err, IfOk, IfErr, true, false, MatchOption};
 ghost use Rattle.std.specs.VecDeque.{deque_len};
 ghost use Rattle.orc_rules.specs.declared.limits.TheConstants.{MOST_ENTRIES};
 ghost use Rattle.orc_rules.specs.Named.{HasNames};
@@ -22,7 +22,7 @@ use orc_rules::answers::Answers;
 use orc_rules::limits::{MOST_ENTRIES, MOST_WORKERS};
 use orc_rules::program::Program;
 use std::alloc::Global;
-use std::marker::Brand;
+use std::marker::{Brand, PhantomData};
 use std::thread;
 use std::thread::Threads;
 
@@ -98,7 +98,7 @@ pub fn run_crew<R: Threads + Sync>(
     let Ok(graph) = Graph::build(alloc, program) else {
         return Err(EngineFault::Memory);
     };
-    run_graph::<Brand, R>(
+    run_graph(
         rt,
         alloc,
         program,
@@ -111,7 +111,7 @@ pub fn run_crew<R: Threads + Sync>(
 }
 
 /// Runs a program whose graph is built, as [`run_crew`] does, with a limit and workers in range.
-pub(crate) fn run_graph<P, R>(
+pub(crate) fn run_graph<R: Threads + Sync>(
     rt: &R,
     alloc: Global,
     program: &Program,
@@ -121,6 +121,44 @@ pub(crate) fn run_graph<P, R>(
     keeps_text: bool,
     limit: usize,
 ) -> Result<Played, EngineFault>
+    requires workers { 1 ≤ workers }
+    requires limit { (1 ≤ limit) × (limit ≤ MOST_ENTRIES) }
+    requires graph { graph.now ≡ program.now }
+    ensures played { IfOk result (λ p. IsPlayed program.now answers.now keeps_text limit p.summary p.published.items p.text.items) }
+    ensures range { IfErr result (λ fault. fault ≡ EngineFault.Range → ⊥) }
+    ensures sound { IfErr result (λ fault. IsOwn fault → IsProgram (definitions program.now) (source program.now) → HasNames program.now answers.now → ⊥) }
+{
+    if !keeps_text {
+        match run_named::<Brand, R>(
+            rt, alloc, program, graph, answers, workers, false, false, limit,
+        ) {
+            Ok(Some(played)) => return Ok(played),
+            Ok(None) => {}
+            Err(fault) => return Err(fault),
+        }
+    }
+    // How the run ends can't be told without its journal, or the journal is wanted.
+    match run_named::<Brand, R>(
+        rt, alloc, program, graph, answers, workers, true, keeps_text, limit,
+    ) {
+        Ok(Some(played)) => Ok(played),
+        Ok(None) => unreachable!(),
+        Err(fault) => Err(fault),
+    }
+}
+
+// The same of a run whose journal is kept or isn't. None where it isn't, and how the run ends can't be told without it.
+fn run_named<P, R>(
+    rt: &R,
+    alloc: Global,
+    program: &Program,
+    graph: &Graph,
+    answers: &Answers,
+    workers: usize,
+    keeps: bool,
+    keeps_text: bool,
+    limit: usize,
+) -> Result<Option<Played>, EngineFault>
 where
     P: Naming + Send + Sync,
     R: Threads + Sync,
@@ -130,292 +168,208 @@ where
     requires program { program.now ≡ P.listing }
     requires graph { graph.now ≡ P.listing }
     requires answers { answers.now.sites ≡ P.sites }
-    ensures played { IfOk result (λ p. IsPlayed program.now answers.now keeps_text limit p.summary p.published.items p.text.items) }
+    requires keeps { keeps ≡ P.keeps }
+    requires text { keeps_text ≡ true → keeps ≡ true }
+    ensures played { IfOk result (λ played. MatchOption played (keeps ≡ false) (λ p. IsPlayed program.now answers.now keeps_text limit p.summary p.published.items p.text.items)) }
     ensures range { IfErr result (λ fault. fault ≡ EngineFault.Range → ⊥) }
     ensures sound { IfErr result (λ fault. IsOwn fault → IsProgram (definitions program.now) (source program.now) → HasNames program.now answers.now → ⊥) }
 {
     let Ok(ledger) = Ledger::<P>::begin(alloc, limit, graph.root() as usize) else {
         return Err(EngineFault::Memory);
     };
-    let mut desk = Desk::new(alloc, ledger, false);
-    let stop = play(rt, alloc, &mut desk, graph, answers, workers);
-    desk.finish(program, graph, answers, stop, keeps_text)
-}
-
-// Turns until the run stops.
-fn play<P, R>(
-    rt: &R,
-    alloc: Global,
-    desk: &mut Desk<P>,
-    graph: &Graph,
-    answers: &Answers,
-    workers: usize,
-) -> Stop
-where
-    P: Naming + Send + Sync,
-    R: Threads + Sync,
-    requires workers { 1 ≤ workers }
-    requires graph { graph.now ≡ P.listing }
-    requires answers { answers.now.sites ≡ P.sites }
-    ensures stops { Stops P.listing desk.new.ledger result }
-{
-    if let Err(stop) = desk.begin() {
-        return stop;
-    }
-    // Where the journal has so many entries, the work is shared out next.
-    let mut next = PATIENCE;
-    loop {
-        match go(rt, alloc, desk, graph, answers, workers, next) {
-            Ok(then) => next = then,
-            Err(stop) => return stop,
-        }
-    }
-}
-
-// A turn, and before it the work is shared out if it is time. Gives the number of entries at which it is time again.
-fn go<P, R>(
-    rt: &R,
-    alloc: Global,
-    desk: &mut Desk<P>,
-    graph: &Graph,
-    answers: &Answers,
-    workers: usize,
-    next: usize,
-) -> Result<usize, Stop>
-where
-    P: Naming + Send + Sync,
-    R: Threads + Sync,
-    requires workers { 1 ≤ workers }
-    requires graph { graph.now ≡ P.listing }
-    requires answers { answers.now.sites ≡ P.sites }
-    ensures nearer { IfOk result (λ _. IsNearer desk.old.ledger (deque_len desk.old.ready.handles) desk.new.ledger (deque_len desk.new.ready.handles)) }
-    ensures within { IfOk result (λ _. desk.new.ledger.entries ≤ desk.new.ledger.limit) }
-    ensures few { deque_len desk.new.ready.handles < 2 ^ 64 }
-    ensures stops { IfErr result (λ stop. Stops P.listing desk.new.ledger stop) }
-{
-    let next = share(rt, alloc, desk, graph, answers, workers, next)?;
-    match desk.go(graph, answers) {
-        Ok(()) => Ok(next),
-        Err(stop) => Err(stop),
-    }
-}
-
-// From `now` entries on tokens are spread, and the calls at which they stand are run side by side: first of few tokens, and if their runs are too long, of
-// more. Gives the number of entries at which it is time again.
-#[inline(never)]
-fn share<P, R>(
-    rt: &R,
-    alloc: Global,
-    desk: &mut Desk<P>,
-    graph: &Graph,
-    answers: &Answers,
-    workers: usize,
-    now: usize,
-) -> Result<usize, Stop>
-where
-    P: Naming + Send + Sync,
-    R: Threads + Sync,
-    requires workers { 1 ≤ workers }
-    requires graph { graph.now ≡ P.listing }
-    requires answers { answers.now.sites ≡ P.sites }
-    ensures spread { IfOk result (λ _. HasSpread desk.old.ledger (deque_len desk.old.ready.handles) desk.new.ledger (deque_len desk.new.ready.handles)) }
-    ensures stops { IfErr result (λ stop. Stops P.listing desk.new.ledger stop) }
-{
-    if desk.entries() < now {
-        return Ok(now);
-    }
-    let mut trial = attempt(rt, alloc, desk, graph, answers, workers, MANY)?;
-    if matches!(trial, Trial::Long) {
-        trial = attempt(rt, alloc, desk, graph, answers, workers, MORE)?;
-    }
-    let entries = desk.entries();
-    Ok(match trial {
-        Trial::Good => entries.saturating_add(PATIENCE),
-        Trial::Few => entries.saturating_add(10 * PATIENCE),
-        Trial::Long | Trial::Vain => entries.saturating_mul(16),
-    })
-}
-
-// Tokens are spread until so many stand ready, and the calls at which they stand are run side by side.
-fn attempt<P, R>(
-    rt: &R,
-    alloc: Global,
-    desk: &mut Desk<P>,
-    graph: &Graph,
-    answers: &Answers,
-    workers: usize,
-    wanted: usize,
-) -> Result<Trial, Stop>
-where
-    P: Naming + Send + Sync,
-    R: Threads + Sync,
-    requires workers { 1 ≤ workers }
-    requires graph { graph.now ≡ P.listing }
-    requires answers { answers.now.sites ≡ P.sites }
-    ensures spread { IfOk result (λ _. HasSpread desk.old.ledger (deque_len desk.old.ready.handles) desk.new.ledger (deque_len desk.new.ready.handles)) }
-    ensures stops { IfErr result (λ stop. Stops P.listing desk.new.ledger stop) }
-{
-    desk.spread(graph, answers, wanted)?;
-    if desk.ready() < wanted {
-        return Ok(Trial::Few);
-    }
-    Ok(run_side_by_side(rt, alloc, desk, graph, answers, workers))
-}
-
-// Runs the calls at which tokens stand side by side, first a few, which show whether the others are worth it, and takes in what came of them.
-fn run_side_by_side<P, R>(
-    rt: &R,
-    alloc: Global,
-    desk: &mut Desk<P>,
-    graph: &Graph,
-    answers: &Answers,
-    workers: usize,
-) -> Trial
-where
-    P: Naming + Send + Sync,
-    R: Threads + Sync,
-    requires workers { 1 ≤ workers }
-    requires graph { graph.now ≡ P.listing }
-    requires answers { answers.now.sites ≡ P.sites }
-    ensures goes { Advances desk.old.ledger desk.new.ledger ⊎ (desk.new.ledger ≡ desk.old.ledger) }
-    ensures ready { desk.new.ready ≡ desk.old.ready }
-{
-    let room = desk.room();
-    let Ok(mut jobs) = desk.jobs(graph) else {
-        return Trial::Vain;
-    };
-    if room == 0 || jobs.len() < SAMPLES {
-        return Trial::Vain;
-    }
-    let samples = &mut jobs[..SAMPLES];
-    run_all(rt, alloc, graph, answers, workers, SHORT.min(room), samples);
-    let tally = tally_of(samples);
-    if tally.long > tally.over {
-        return Trial::Long;
-    }
-    // A run begins with a copy of the program's graph.
-    if tally.over < SAMPLES / 2 || tally.longest < WORTH.max(graph.len()) {
-        return Trial::Vain;
-    }
-    run_others(
+    let mut desk = Desk::new(alloc, ledger, keeps, false);
+    let crew = Crew::<P, R> {
         rt,
         alloc,
-        desk,
         graph,
         answers,
         workers,
-        tally.longest,
-        &mut jobs,
-    );
-    Trial::Good
+        keeps,
+        naming: PhantomData,
+    };
+    let stop = crew.play(&mut desk);
+    desk.finish(program, graph, answers, stop, keeps_text)
 }
 
-// Does the jobs behind the samples in batches, and takes in what came of those before a batch while it is done: as long as most of a batch comes to
-// something, and the limit has room for the next.
-fn run_others<P, R>(
-    rt: &R,
+// The threads that run one program, the program's graph and what its sites answer.
+#[derive(Drop)]
+struct Crew<'c, P: Naming, R> {
+    rt: &'c R,
     alloc: Global,
-    desk: &mut Desk<P>,
-    graph: &Graph,
-    answers: &Answers,
+    graph: &'c Graph,
+    answers: &'c Answers,
     workers: usize,
-    longest: usize,
-    jobs: &mut [Job<P>],
-)
+    // Whether the run's journal is kept, and so those of the parts.
+    keeps: bool,
+    // Whose program, sites and limit the run's records name.
+    naming: PhantomData<P>,
+    ghost its_graph: { graph.now ≡ P.listing },
+    ghost its_sites: { answers.now.sites ≡ P.sites },
+    ghost its_keeping: { keeps ≡ P.keeps },
+    ghost has_some: { 1 ≤ workers },
+}
+
+impl<P, R> Crew<'_, P, R>
 where
     P: Naming + Send + Sync,
     R: Threads + Sync,
-    requires workers { 1 ≤ workers }
-    requires graph { graph.now ≡ P.listing }
-    requires answers { answers.now.sites ≡ P.sites }
-    ensures goes { Advances desk.old.ledger desk.new.ledger ⊎ (desk.new.ledger ≡ desk.old.ledger) }
-    ensures ready { desk.new.ready ≡ desk.old.ready }
 {
-    let mut longest = longest;
-    for from in (SAMPLES..jobs.len()).step_by(BATCH) {
+    // Turns until the run stops.
+    fn play(&self, desk: &mut Desk<P>) -> Stop
+        ensures stops { Stops P.listing desk.new.ledger result }
+    {
+        if let Err(stop) = desk.begin() {
+            return stop;
+        }
+        // Where the journal has so many entries, the work is shared out next.
+        let mut next = PATIENCE;
+        loop {
+            match self.go(desk, next) {
+                Ok(then) => next = then,
+                Err(stop) => return stop,
+            }
+        }
+    }
+
+    // A turn, and before it the work is shared out if it is time. Gives the number of entries at which it is time again.
+    fn go(&self, desk: &mut Desk<P>, next: usize) -> Result<usize, Stop>
+        ensures nearer { IfOk result (λ _. IsNearer desk.old.ledger (deque_len desk.old.ready.handles) desk.new.ledger (deque_len desk.new.ready.handles)) }
+        ensures within { IfOk result (λ _. desk.new.ledger.entries ≤ desk.new.ledger.limit) }
+        ensures few { deque_len desk.new.ready.handles < 2 ^ 64 }
+        ensures stops { IfErr result (λ stop. Stops P.listing desk.new.ledger stop) }
+    {
+        let next = self.share(desk, next)?;
+        match desk.go(self.graph, self.answers) {
+            Ok(()) => Ok(next),
+            Err(stop) => Err(stop),
+        }
+    }
+
+    // From `now` entries on tokens are spread, and the calls at which they stand are run side by side: first of few tokens, and if their runs are too long,
+    // of more. Gives the number of entries at which it is time again.
+    #[inline(never)]
+    fn share(&self, desk: &mut Desk<P>, now: usize) -> Result<usize, Stop>
+        ensures spread { IfOk result (λ _. HasSpread desk.old.ledger (deque_len desk.old.ready.handles) desk.new.ledger (deque_len desk.new.ready.handles)) }
+        ensures stops { IfErr result (λ stop. Stops P.listing desk.new.ledger stop) }
+    {
+        if desk.entries() < now {
+            return Ok(now);
+        }
+        let mut trial = self.attempt(desk, MANY)?;
+        if matches!(trial, Trial::Long) {
+            trial = self.attempt(desk, MORE)?;
+        }
+        let entries = desk.entries();
+        Ok(match trial {
+            Trial::Good => entries.saturating_add(PATIENCE),
+            Trial::Few => entries.saturating_add(10 * PATIENCE),
+            Trial::Long | Trial::Vain => entries.saturating_mul(16),
+        })
+    }
+
+    // Tokens are spread until so many stand ready, and the calls at which they stand are run side by side.
+    fn attempt(&self, desk: &mut Desk<P>, wanted: usize) -> Result<Trial, Stop>
+        ensures spread { IfOk result (λ _. HasSpread desk.old.ledger (deque_len desk.old.ready.handles) desk.new.ledger (deque_len desk.new.ready.handles)) }
+        ensures stops { IfErr result (λ stop. Stops P.listing desk.new.ledger stop) }
+    {
+        desk.spread(self.graph, self.answers, wanted)?;
+        if desk.ready() < wanted {
+            return Ok(Trial::Few);
+        }
+        Ok(self.run_side_by_side(desk))
+    }
+
+    // Runs the calls at which tokens stand side by side, first a few, which show whether the others are worth it, and takes in what came of them.
+    fn run_side_by_side(&self, desk: &mut Desk<P>) -> Trial
+        ensures goes { Advances desk.old.ledger desk.new.ledger ⊎ (desk.new.ledger ≡ desk.old.ledger) }
+        ensures ready { desk.new.ready ≡ desk.old.ready }
+    {
         let room = desk.room();
-        if room == 0 || room / BATCH < longest {
-            break;
+        let Ok(mut jobs) = desk.jobs(self.graph) else {
+            return Trial::Vain;
+        };
+        if room == 0 || jobs.len() < SAMPLES {
+            return Trial::Vain;
         }
-        let limit = longest.saturating_mul(LONGER).clamp(1, LONGEST).min(room);
-        let from = from.min(jobs.len());
-        let (before, behind) = jobs.split_at_mut(from);
-        let count = BATCH.min(behind.len());
-        let batch = &mut behind[..count];
-        run_beside(
-            rt, alloc, desk, graph, answers, workers, limit, before, batch,
+        let samples = &mut jobs[..SAMPLES];
+        self.run_all(SHORT.min(room), samples);
+        let tally = tally_of(samples);
+        if tally.long > tally.over {
+            return Trial::Long;
+        }
+        // A run begins with a copy of the program's graph.
+        if tally.over < SAMPLES / 2 || tally.longest < WORTH.max(self.graph.len()) {
+            return Trial::Vain;
+        }
+        self.run_others(desk, tally.longest, &mut jobs);
+        Trial::Good
+    }
+
+    // Does the jobs behind the samples in batches, and takes in what came of those before a batch while it is done: as long as most of a batch comes to
+    // something, and the limit has room for the next.
+    fn run_others(&self, desk: &mut Desk<P>, longest: usize, jobs: &mut [Job<P>])
+        ensures goes { Advances desk.old.ledger desk.new.ledger ⊎ (desk.new.ledger ≡ desk.old.ledger) }
+        ensures ready { desk.new.ready ≡ desk.old.ready }
+    {
+        let mut longest = longest;
+        for from in (SAMPLES..jobs.len()).step_by(BATCH) {
+            let room = desk.room();
+            if room == 0 || room / BATCH < longest {
+                break;
+            }
+            let limit = longest.saturating_mul(LONGER).clamp(1, LONGEST).min(room);
+            let from = from.min(jobs.len());
+            let (before, behind) = jobs.split_at_mut(from);
+            let count = BATCH.min(behind.len());
+            let batch = &mut behind[..count];
+            self.run_beside(desk, limit, before, batch);
+            let tally = tally_of(batch);
+            if tally.over < count / 2 {
+                break;
+            }
+            longest = tally.longest.max(longest);
+        }
+        take_all(self.graph, desk, jobs);
+    }
+
+    // What came of the jobs before is taken in, while those of the batch are done on as many threads beside this one.
+    fn run_beside(
+        &self,
+        desk: &mut Desk<P>,
+        limit: usize,
+        before: &mut [Job<P>],
+        batch: &mut [Job<P>],
+    )
+        requires limit { (1 ≤ limit) × (limit ≤ MOST_ENTRIES) }
+        ensures goes { Advances desk.old.ledger desk.new.ledger ⊎ (desk.new.ledger ≡ desk.old.ledger) }
+        ensures ready { desk.new.ready ≡ desk.old.ready }
+    {
+        let graph = self.graph;
+        if self.workers == 1 {
+            self.run_all(limit, batch);
+            take_all(graph, desk, before);
+            return;
+        }
+        thread::join_mut(
+            self.rt,
+            &mut || requires { (1 ≤ limit) × (limit ≤ MOST_ENTRIES) } { self.run_all(limit, batch) },
+            &mut || take_all(graph, desk, before),
         );
-        let tally = tally_of(batch);
-        if tally.over < count / 2 {
-            break;
-        }
-        longest = tally.longest.max(longest);
     }
-    take_all(graph, desk, jobs);
-}
 
-// What came of the jobs before is taken in, while those of the batch are done on as many threads beside this one.
-fn run_beside<P, R>(
-    rt: &R,
-    alloc: Global,
-    desk: &mut Desk<P>,
-    graph: &Graph,
-    answers: &Answers,
-    workers: usize,
-    limit: usize,
-    before: &mut [Job<P>],
-    batch: &mut [Job<P>],
-)
-where
-    P: Naming + Send + Sync,
-    R: Threads + Sync,
-    requires workers { 1 ≤ workers }
-    requires limit { (1 ≤ limit) × (limit ≤ MOST_ENTRIES) }
-    requires graph { graph.now ≡ P.listing }
-    requires answers { answers.now.sites ≡ P.sites }
-    ensures goes { Advances desk.old.ledger desk.new.ledger ⊎ (desk.new.ledger ≡ desk.old.ledger) }
-    ensures ready { desk.new.ready ≡ desk.old.ready }
-{
-    if workers == 1 {
-        run_all(rt, alloc, graph, answers, workers, limit, batch);
-        take_all(graph, desk, before);
-        return;
+    // Each job is done on one of the threads.
+    fn run_all(&self, limit: usize, jobs: &mut [Job<P>])
+        requires limit { (1 ≤ limit) × (limit ≤ MOST_ENTRIES) }
+    {
+        thread::for_each_mut(
+            self.rt,
+            jobs,
+            self.workers,
+            &|_: usize, job: &mut Job<P>| requires { (1 ≤ limit) × (limit ≤ MOST_ENTRIES) } {
+                job.run(self.alloc, self.graph, self.answers, self.keeps, limit)
+            },
+        );
     }
-    thread::join_mut(
-        rt,
-        &mut ||
-            requires { (1 ≤ workers) × (1 ≤ limit) × (limit ≤ MOST_ENTRIES) × (graph.now ≡ P.listing) × (answers.now.sites ≡ P.sites) }
-        { run_all(rt, alloc, graph, answers, workers, limit, batch) },
-        &mut || take_all(graph, desk, before),
-    );
-}
-
-// Each job is done on one of the threads.
-fn run_all<P, R>(
-    rt: &R,
-    alloc: Global,
-    graph: &Graph,
-    answers: &Answers,
-    workers: usize,
-    limit: usize,
-    jobs: &mut [Job<P>],
-)
-where
-    P: Naming + Send + Sync,
-    R: Threads + Sync,
-    requires workers { 1 ≤ workers }
-    requires limit { (1 ≤ limit) × (limit ≤ MOST_ENTRIES) }
-    requires graph { graph.now ≡ P.listing }
-    requires answers { answers.now.sites ≡ P.sites }
-{
-    thread::for_each_mut(
-        rt,
-        jobs,
-        workers,
-        &|_: usize, job: &mut Job<P>|
-            requires { (graph.now ≡ P.listing) × (answers.now.sites ≡ P.sites) × (1 ≤ limit) × (limit ≤ MOST_ENTRIES) }
-        { job.run(alloc, graph, answers, limit) },
-    );
 }
 
 // What came of the jobs.

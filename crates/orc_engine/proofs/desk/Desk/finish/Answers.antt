@@ -6,8 +6,8 @@ use Rattle.orc_engine.specs.Faults.{IsOwn}
 use Rattle.orc_engine.proofs.Stopping.{weaker-fault}
 use Rattle.orc_engine.proofs.desk.Desk.finish.Goals as goal
 
-pub returns-clause-sound : goal.returns-clause-sound
-returns-clause-sound g c =
+pub returns-in-Err-clause-sound : goal.returns-in-Err-clause-sound
+returns-in-Err-clause-sound g c =
     let l = g.P.Program.listing in
     let t = c.args.answers.now in
     weaker-fault c.tell.result (λ f. IsOwn f → HasNames l t → ⊥) (λ f. IsOwn f → Stops l c.args.self.ledger c.args.stop → IsProgram (definitions l) (source l) → HasNames l t → ⊥) (λ f h own stops is has. h own has) c.tell.ensures.named

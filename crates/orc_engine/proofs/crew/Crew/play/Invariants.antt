@@ -2,7 +2,7 @@
 use Rattle.std.proofs.Common.{◌+◌, ◌*◌, ◌^◌}
 use Rattle.std.specs.VecDeque.{deque_len}
 use Rattle.orc_engine.specs.Stops.{left}
-use Rattle.orc_engine.proofs.crew.play.Given as goal
+use Rattle.orc_engine.proofs.crew.Crew.play.Given as goal
 
 abbrev pub decreases-loop-then : goal.decreases-loop-then
 decreases-loop-then g l = 2 ^ 64 * left l.desk.ledger + deque_len l.desk.ready.handles
