@@ -1,6 +1,6 @@
 //! One worker, which holds all tokens and waits for nobody.
 
-ghost use Rattle.std.specs.Prelude.{◌≡◌, ◌≤◌, ◌↔◌, Err, IfOk, IfErr};
+ghost use Rattle.std.specs.Prelude.{◌≡◌, ◌≤◌, ◌↔◌, Err, IfOk, IfErr, true, false, MatchOption};
 ghost use Rattle.orc_rules.specs.declared.limits.TheConstants.{MOST_ENTRIES};
 ghost use Rattle.orc_rules.specs.Named.{HasNames};
 ghost use Rattle.orc_rules.specs.Nodes.{definitions, source};
@@ -43,31 +43,47 @@ pub fn run_alone(
     let Ok(graph) = Graph::build(alloc, program) else {
         return Err(EngineFault::Memory);
     };
-    run_graph::<Brand>(alloc, program, &graph, answers, keeps_text, limit as usize)
+    let limit = limit as usize;
+    if !keeps_text {
+        match run_graph::<Brand>(alloc, program, &graph, answers, false, false, limit) {
+            Ok(Some(played)) => return Ok(played),
+            Ok(None) => {}
+            Err(fault) => return Err(fault),
+        }
+    }
+    // How the run ends can't be told without its journal, or the journal is wanted.
+    match run_graph::<Brand>(alloc, program, &graph, answers, true, keeps_text, limit) {
+        Ok(Some(played)) => Ok(played),
+        Ok(None) => unreachable!(),
+        Err(fault) => Err(fault),
+    }
 }
 
-// Runs a program whose graph is built, with a limit in range.
+// Runs a program whose graph is built, with a limit in range. None where the journal isn't kept, and how the run ends can't be told without it.
 fn run_graph<P: Naming>(
     alloc: Global,
     program: &Program,
     graph: &Graph,
     answers: &Answers,
+    keeps: bool,
     keeps_text: bool,
     limit: usize,
-) -> Result<Played, EngineFault>
+) -> Result<Option<Played>, EngineFault>
     requires limit { (1 ≤ limit) × (limit ≤ MOST_ENTRIES) }
     requires named { limit ≡ P.limit }
     requires program { program.now ≡ P.listing }
     requires graph { graph.now ≡ P.listing }
     requires answers { answers.now.sites ≡ P.sites }
-    ensures played { IfOk result (λ p. IsPlayed program.now answers.now keeps_text limit p.summary p.published.items p.text.items) }
+    requires keeps { keeps ≡ P.keeps }
+    requires text { keeps_text ≡ true → keeps ≡ true }
+    ensures played { IfOk result (λ played. MatchOption played (keeps ≡ false) (λ p. IsPlayed program.now answers.now keeps_text limit p.summary p.published.items p.text.items)) }
     ensures range { IfErr result (λ fault. fault ≡ EngineFault.Range → ⊥) }
     ensures sound { IfErr result (λ fault. IsOwn fault → IsProgram (definitions program.now) (source program.now) → HasNames program.now answers.now → ⊥) }
 {
     let Ok(ledger) = Ledger::<P>::begin(alloc, limit, graph.root() as usize) else {
         return Err(EngineFault::Memory);
     };
-    let mut desk = Desk::new(alloc, ledger, false);
+    let mut desk = Desk::new(alloc, ledger, keeps, false);
     let stop = play(&mut desk, graph, answers);
     desk.finish(program, graph, answers, stop, keeps_text)
 }

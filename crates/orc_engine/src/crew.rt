@@ -1,7 +1,7 @@
 //! One run whose work is shared out: where many tokens stand at calls of definitions, the calls' own runs are made side by side, and taken in one after
 //! another in a fixed order. So the journal doesn't depend on which thread is quicker, nor on how many there are.
 
-ghost use Rattle.std.specs.Prelude.{◌≡◌, ◌≤◌, ◌<◌, ◌^◌, ◌⊎◌, ◌↔◌, Err, IfOk, IfErr};
+ghost use Rattle.std.specs.Prelude.{◌≡◌, ◌≤◌, ◌<◌, ◌^◌, ◌⊎◌, ◌↔◌, Err, IfOk, IfErr, true, false, MatchOption};
 ghost use Rattle.std.specs.VecDeque.{deque_len};
 ghost use Rattle.orc_rules.specs.declared.limits.TheConstants.{MOST_ENTRIES};
 ghost use Rattle.orc_rules.specs.Named.{HasNames};
@@ -98,7 +98,7 @@ pub fn run_crew<R: Threads + Sync>(
     let Ok(graph) = Graph::build(alloc, program) else {
         return Err(EngineFault::Memory);
     };
-    run_graph::<Brand, R>(
+    run_graph(
         rt,
         alloc,
         program,
@@ -111,7 +111,7 @@ pub fn run_crew<R: Threads + Sync>(
 }
 
 /// Runs a program whose graph is built, as [`run_crew`] does, with a limit and workers in range.
-pub(crate) fn run_graph<P, R>(
+pub(crate) fn run_graph<R: Threads + Sync>(
     rt: &R,
     alloc: Global,
     program: &Program,
@@ -121,6 +121,44 @@ pub(crate) fn run_graph<P, R>(
     keeps_text: bool,
     limit: usize,
 ) -> Result<Played, EngineFault>
+    requires workers { 1 ≤ workers }
+    requires limit { (1 ≤ limit) × (limit ≤ MOST_ENTRIES) }
+    requires graph { graph.now ≡ program.now }
+    ensures played { IfOk result (λ p. IsPlayed program.now answers.now keeps_text limit p.summary p.published.items p.text.items) }
+    ensures range { IfErr result (λ fault. fault ≡ EngineFault.Range → ⊥) }
+    ensures sound { IfErr result (λ fault. IsOwn fault → IsProgram (definitions program.now) (source program.now) → HasNames program.now answers.now → ⊥) }
+{
+    if !keeps_text {
+        match run_named::<Brand, R>(
+            rt, alloc, program, graph, answers, workers, false, false, limit,
+        ) {
+            Ok(Some(played)) => return Ok(played),
+            Ok(None) => {}
+            Err(fault) => return Err(fault),
+        }
+    }
+    // How the run ends can't be told without its journal, or the journal is wanted.
+    match run_named::<Brand, R>(
+        rt, alloc, program, graph, answers, workers, true, keeps_text, limit,
+    ) {
+        Ok(Some(played)) => Ok(played),
+        Ok(None) => unreachable!(),
+        Err(fault) => Err(fault),
+    }
+}
+
+// The same of a run whose journal is kept or isn't. None where it isn't, and how the run ends can't be told without it.
+fn run_named<P, R>(
+    rt: &R,
+    alloc: Global,
+    program: &Program,
+    graph: &Graph,
+    answers: &Answers,
+    workers: usize,
+    keeps: bool,
+    keeps_text: bool,
+    limit: usize,
+) -> Result<Option<Played>, EngineFault>
 where
     P: Naming + Send + Sync,
     R: Threads + Sync,
@@ -130,20 +168,23 @@ where
     requires program { program.now ≡ P.listing }
     requires graph { graph.now ≡ P.listing }
     requires answers { answers.now.sites ≡ P.sites }
-    ensures played { IfOk result (λ p. IsPlayed program.now answers.now keeps_text limit p.summary p.published.items p.text.items) }
+    requires keeps { keeps ≡ P.keeps }
+    requires text { keeps_text ≡ true → keeps ≡ true }
+    ensures played { IfOk result (λ played. MatchOption played (keeps ≡ false) (λ p. IsPlayed program.now answers.now keeps_text limit p.summary p.published.items p.text.items)) }
     ensures range { IfErr result (λ fault. fault ≡ EngineFault.Range → ⊥) }
     ensures sound { IfErr result (λ fault. IsOwn fault → IsProgram (definitions program.now) (source program.now) → HasNames program.now answers.now → ⊥) }
 {
     let Ok(ledger) = Ledger::<P>::begin(alloc, limit, graph.root() as usize) else {
         return Err(EngineFault::Memory);
     };
-    let mut desk = Desk::new(alloc, ledger, false);
+    let mut desk = Desk::new(alloc, ledger, keeps, false);
     let crew = Crew::<P, R> {
         rt,
         alloc,
         graph,
         answers,
         workers,
+        keeps,
         naming: PhantomData,
     };
     let stop = crew.play(&mut desk);
@@ -158,10 +199,13 @@ struct Crew<'c, P: Naming, R> {
     graph: &'c Graph,
     answers: &'c Answers,
     workers: usize,
+    // Whether the run's journal is kept, and so those of the parts.
+    keeps: bool,
     // Whose program, sites and limit the run's records name.
     naming: PhantomData<P>,
     ghost its_graph: { graph.now ≡ P.listing },
     ghost its_sites: { answers.now.sites ≡ P.sites },
+    ghost its_keeping: { keeps ≡ P.keeps },
     ghost has_some: { 1 ≤ workers },
 }
 
@@ -325,7 +369,7 @@ where
             self.workers,
             &|_: usize, job: &mut Job<P>|
                 requires { (1 ≤ limit) × (limit ≤ MOST_ENTRIES) }
-            { job.run(self.alloc, self.graph, self.answers, limit) },
+            { job.run(self.alloc, self.graph, self.answers, self.keeps, limit) },
         );
     }
 }

@@ -75,10 +75,15 @@ enum Step {
     Asks(u64),
 }
 
+/// So many entries are held before they are forgotten, where the journal isn't kept: they fit a processor's own cache.
+const MOST_HELD: usize = 4_096;
+
 /// A run: its ledger, the tokens whose turn comes, and those that wait.
 pub(crate) struct Desk<P: Naming> {
     pub(crate) alloc: Global,
     pub(crate) ledger: Ledger<P>,
+    // Whether the ledger keeps its journal.
+    pub(crate) keeps: bool,
     pub(crate) ready: Ready,
     waiting: Waiting,
     asks: bool,
@@ -95,6 +100,7 @@ pub(crate) struct Desk<P: Naming> {
     cancelled: Vec<u64>,
     cells: Vec<u64>,
     args: Args,
+    ghost its_keeping: { keeps ≡ P.keeps },
 }
 
 // Written out, so that each exit of a function that has a run drops it by one call.
@@ -103,6 +109,7 @@ impl<P: Naming> Drop for Desk<P> {
         let Desk {
             alloc: _,
             ledger,
+            keeps: _,
             ready,
             waiting,
             asks: _,
@@ -127,11 +134,15 @@ impl<P: Naming> Drop for Desk<P> {
 }
 
 impl<P: Naming> Desk<P> {
-    /// A run that begins. Where it `asks`, somebody else makes the calls and is told which are cancelled; else the table answers them here.
-    pub(crate) fn new(alloc: Global, ledger: Ledger<P>, asks: bool) -> Desk<P> {
+    /// A run that begins, whose ledger `keeps` its journal or doesn't. Where it `asks`, somebody else makes the calls and is told which are cancelled; else the
+    /// table answers them here.
+    pub(crate) fn new(alloc: Global, ledger: Ledger<P>, keeps: bool, asks: bool) -> Desk<P>
+        requires { keeps ≡ P.keeps }
+    {
         Desk {
             alloc,
             ledger,
+            keeps,
             ready: Ready::new(alloc),
             waiting: Waiting::new(alloc),
             asks,
@@ -152,6 +163,7 @@ impl<P: Naming> Desk<P> {
         let Desk {
             alloc: _,
             ledger,
+            keeps: _,
             ready,
             waiting,
             asks: _,
@@ -245,6 +257,7 @@ impl<P: Naming> Desk<P> {
     {
         if self.is_between() {
             self.sweep();
+            self.forget_entries(answers);
             if !self.asks && self.answer_due()? {
                 return Ok(Turn::Went);
             }
@@ -289,6 +302,17 @@ impl<P: Naming> Desk<P> {
                 Some(handle) if !self.is_there(handle) => self.ready.drop_oldest(),
                 _ => return,
             }
+        }
+    }
+
+    // The entries that are held are forgotten, if the journal isn't kept and they are many.
+    fn forget_entries(&mut self, answers: &Answers)
+        requires answers { answers.now.sites ≡ P.sites }
+        ensures ledger { self.new.ledger ≡ self.old.ledger }
+        ensures ready { self.new.ready ≡ self.old.ready }
+    {
+        if !self.keeps && self.ledger.held_len() >= MOST_HELD {
+            self.ledger.forget(answers);
         }
     }
 

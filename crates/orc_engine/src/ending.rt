@@ -1,6 +1,6 @@
 //! How a run ends, and what is told of it.
 
-ghost use Rattle.std.specs.Prelude.{◌≡◌, IfOk, IfErr};
+ghost use Rattle.std.specs.Prelude.{◌≡◌, true, false, IfOk, IfErr, MatchOption};
 ghost use Rattle.orc_rules.specs.Named.{HasNames};
 ghost use Rattle.orc_rules.specs.Nodes.{definitions, source};
 ghost use Rattle.orc_rules.specs.Program.{IsProgram};
@@ -21,7 +21,7 @@ use orc_rules::answers::Answers;
 use orc_rules::program::Program;
 
 impl<P: Naming> Desk<P> {
-    /// What is told of the run, which stops so.
+    /// What is told of the run, which stops so. None where that can't be told without its journal, which isn't kept.
     pub(crate) fn finish(
         mut self,
         program: &Program,
@@ -29,37 +29,43 @@ impl<P: Naming> Desk<P> {
         answers: &Answers,
         stop: Stop,
         keeps_text: bool,
-    ) -> Result<Played, EngineFault>
+    ) -> Result<Option<Played>, EngineFault>
         requires program { program.now ≡ P.listing }
         requires graph { graph.now ≡ P.listing }
         requires answers { answers.now.sites ≡ P.sites }
-        ensures played { IfOk result (λ p. IsPlayed P.listing answers.now keeps_text P.limit p.summary p.published.items p.text.items) }
+        requires text { keeps_text ≡ true → P.keeps ≡ true }
+        ensures played { IfOk result (λ played. MatchOption played (P.keeps ≡ false) (λ p. IsPlayed P.listing answers.now keeps_text P.limit p.summary p.published.items p.text.items)) }
         ensures range { IfErr result (λ fault. fault ≡ EngineFault.Range → ⊥) }
         ensures sound { IfErr result (λ fault. IsOwn fault → Stops P.listing self.ledger stop → IsProgram (definitions P.listing) (source P.listing) → HasNames P.listing answers.now → ⊥) }
     {
-        let end = self.end(program, graph, answers, stop)?;
+        let Some(end) = self.end(program, graph, answers, stop)? else {
+            return Ok(None);
+        };
         let alloc = self.alloc;
-        tell(alloc, self.into_ledger(), answers, keeps_text, end)
+        match tell(alloc, self.into_ledger(), answers, keeps_text, end) {
+            Ok(played) => Ok(Some(played)),
+            Err(fault) => Err(fault),
+        }
     }
 
-    // How a run ends that stops so. The fault is Broken where it can't end so.
+    // How a run ends that stops so. None where that can't be told without its journal, which isn't kept. The fault is Broken where it can't end so.
     fn end(
         &mut self,
         program: &Program,
         graph: &Graph,
         answers: &Answers,
         stop: Stop,
-    ) -> Result<End, EngineFault>
+    ) -> Result<Option<End>, EngineFault>
         requires program { program.now ≡ P.listing }
         requires graph { graph.now ≡ P.listing }
         requires answers { answers.now.sites ≡ P.sites }
-        ensures ended { IfOk result (λ end. HasEnded P.listing answers.now self.new.ledger end) }
+        ensures ended { IfOk result (λ end. MatchOption end (P.keeps ≡ false) (HasEnded P.listing answers.now self.new.ledger)) }
         ensures range { IfErr result (λ fault. fault ≡ EngineFault.Range → ⊥) }
         ensures sound { IfErr result (λ fault. IsOwn fault → Stops P.listing self.old.ledger stop → IsProgram (definitions P.listing) (source P.listing) → ⊥) }
     {
         match stop {
             Stop::Rests => self.rested(graph, answers),
-            Stop::Refused(LedgerFault::Memory) => Ok(End::Memory),
+            Stop::Refused(LedgerFault::Memory) => Ok(Some(End::Memory)),
             Stop::Refused(LedgerFault::Full) => self.crowded(answers),
             Stop::Refused(LedgerFault::Limit) => self.cut(program, graph, answers),
             Stop::Broken => Err(EngineFault::Broken),
@@ -68,29 +74,32 @@ impl<P: Naming> Desk<P> {
     }
 
     // How a run ends in which nothing can come next.
-    fn rested(&mut self, graph: &Graph, answers: &Answers) -> Result<End, EngineFault>
+    fn rested(&mut self, graph: &Graph, answers: &Answers) -> Result<Option<End>, EngineFault>
         requires graph { graph.now ≡ P.listing }
         requires answers { answers.now.sites ≡ P.sites }
-        ensures ended { IfOk result (λ end. HasEnded P.listing answers.now self.new.ledger end) }
+        ensures ended { IfOk result (λ end. MatchOption end (P.keeps ≡ false) (HasEnded P.listing answers.now self.new.ledger)) }
         ensures range { IfErr result (λ fault. fault ≡ EngineFault.Range → ⊥) }
         ensures sound { IfErr result (λ _. Stops P.listing self.old.ledger Stop.Rests → ⊥) }
     {
         match self.ledger.next(graph) {
-            Next::Quiet => Ok(End::Quiet),
-            Next::Work if self.ledger.has_halted() => Ok(End::Halted),
+            Next::Quiet => Ok(Some(End::Quiet)),
+            Next::Work if self.ledger.has_halted() => Ok(Some(End::Halted)),
             Next::Work | Next::Ticks(_) => Err(EngineFault::Broken),
         }
     }
 
     // How a run ends for which one of the engine's limits is reached. The fault is Broken where none can have been.
-    fn crowded(&mut self, answers: &Answers) -> Result<End, EngineFault>
+    fn crowded(&mut self, answers: &Answers) -> Result<Option<End>, EngineFault>
         requires answers { answers.now.sites ≡ P.sites }
-        ensures ended { IfOk result (λ end. HasEnded P.listing answers.now self.new.ledger end) }
+        ensures ended { IfOk result (λ end. MatchOption end (P.keeps ≡ false) (HasEnded P.listing answers.now self.new.ledger)) }
         ensures range { IfErr result (λ fault. fault ≡ EngineFault.Range → ⊥) }
         ensures sound { IfErr result (λ _. Stops P.listing self.old.ledger (Stop.Refused LedgerFault.Full) → ⊥) }
     {
+        if !self.keeps {
+            return Ok(None);
+        }
         if is_crowded(self.ledger.journal()) {
-            Ok(End::Full)
+            Ok(Some(End::Full))
         } else {
             Err(EngineFault::Broken)
         }
@@ -103,11 +112,11 @@ impl<P: Naming> Desk<P> {
         program: &Program,
         graph: &Graph,
         answers: &Answers,
-    ) -> Result<End, EngineFault>
+    ) -> Result<Option<End>, EngineFault>
         requires program { program.now ≡ P.listing }
         requires graph { graph.now ≡ P.listing }
         requires answers { answers.now.sites ≡ P.sites }
-        ensures ended { IfOk result (λ end. HasEnded P.listing answers.now self.new.ledger end) }
+        ensures ended { IfOk result (λ end. MatchOption end (P.keeps ≡ false) (HasEnded P.listing answers.now self.new.ledger)) }
         ensures range { IfErr result (λ fault. fault ≡ EngineFault.Range → ⊥) }
         ensures sound { IfErr result (λ _. Stops P.listing self.old.ledger (Stop.Refused LedgerFault.Limit) → ⊥) }
     {
@@ -117,17 +126,20 @@ impl<P: Naming> Desk<P> {
         }
         self.ledger.is_whole();
         match next {
-            Next::Quiet => return Ok(End::Quiet),
-            Next::Ticks(_) => return Ok(End::Limit),
+            Next::Quiet => return Ok(Some(End::Quiet)),
+            Next::Ticks(_) => return Ok(Some(End::Limit)),
             Next::Work => {}
         }
         if self.ledger.can_use_rule(graph) {
-            return Ok(End::Limit);
+            return Ok(Some(End::Limit));
+        }
+        if !self.keeps {
+            return Ok(None);
         }
         match is_quiet_at(self.alloc, program, answers, self.ledger.journal()) {
-            Some(true) => Ok(End::Quiet),
-            Some(false) => Ok(End::Limit),
-            None => Ok(End::Memory),
+            Some(true) => Ok(Some(End::Quiet)),
+            Some(false) => Ok(Some(End::Limit)),
+            None => Ok(Some(End::Memory)),
         }
     }
 }

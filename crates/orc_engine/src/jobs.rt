@@ -58,13 +58,21 @@ impl<P: Naming> Job<P> {
         mem::replace(&mut self.came, Came::Nothing)
     }
 
-    /// Runs it apart, with at most so many entries.
-    pub(crate) fn run(&mut self, alloc: Global, graph: &Graph, answers: &Answers, limit: usize)
+    /// Runs it apart, with at most so many entries; its journal is kept where that of the run is.
+    pub(crate) fn run(
+        &mut self,
+        alloc: Global,
+        graph: &Graph,
+        answers: &Answers,
+        keeps: bool,
+        limit: usize,
+    )
+        requires keeps { keeps ≡ P.keeps }
         requires limit { (1 ≤ limit) × (limit ≤ MOST_ENTRIES) }
         requires graph { graph.now ≡ P.listing }
         requires answers { answers.now.sites ≡ P.sites }
     {
-        self.came = came_of(alloc, graph, answers, self.task.copied(), limit);
+        self.came = came_of(alloc, graph, answers, keeps, self.task.copied(), limit);
     }
 }
 
@@ -73,9 +81,11 @@ fn came_of<P: Naming>(
     alloc: Global,
     graph: &Graph,
     answers: &Answers,
+    keeps: bool,
     task: Task,
     limit: usize,
 ) -> Came<P>
+    requires keeps { keeps ≡ P.keeps }
     requires limit { (1 ≤ limit) × (limit ≤ MOST_ENTRIES) }
     requires graph { graph.now ≡ P.listing }
     requires answers { answers.now.sites ≡ P.sites }
@@ -83,18 +93,21 @@ fn came_of<P: Naming>(
     let Ok(own) = graph.for_call(alloc, task.definition, task.args.as_slice()) else {
         return Came::Nothing;
     };
-    run_apart::<Brand, P>(alloc, &own, answers, task, limit)
+    run_apart::<Brand, P>(alloc, &own, answers, keeps, task, limit)
 }
 
 fn run_apart<Q: Naming, P: Naming>(
     alloc: Global,
     graph: &Graph,
     answers: &Answers,
+    keeps: bool,
     task: Task,
     limit: usize,
 ) -> Came<P>
+    requires keeps { keeps ≡ P.keeps }
     requires limit { (1 ≤ limit) × (limit ≤ MOST_ENTRIES) }
     requires named { limit ≡ Q.limit }
+    requires kept { Q.keeps ≡ P.keeps }
     requires graph { graph.now ≡ Q.listing }
     requires answers { answers.now.sites ≡ Q.sites }
     requires sites { Q.sites ≡ P.sites }
@@ -104,11 +117,16 @@ fn run_apart<Q: Naming, P: Naming>(
     let Ok(ledger) = Ledger::<Q>::begin(alloc, limit, graph.root() as usize) else {
         return Came::Nothing;
     };
-    let mut desk = Desk::new(alloc, ledger, false);
+    let mut desk = Desk::new(alloc, ledger, keeps, false);
     if is_cut(&mut desk, graph, answers) {
         return Came::Long;
     }
-    match desk.into_ledger().into_part::<P>(answers, task) {
+    let mut ledger = desk.into_ledger();
+    if !keeps {
+        // What is taken in is then what it publishes, and no entry.
+        ledger.forget(answers);
+    }
+    match ledger.into_part::<P>(answers, task) {
         Some(part) => Came::Over(part),
         None => Came::Nothing,
     }

@@ -1,6 +1,6 @@
 //! Several workers: the calling thread, and others beside it.
 
-ghost use Rattle.std.specs.Prelude.{◌≡◌, ◌≤◌, ◌↔◌, Err, IfOk, IfErr};
+ghost use Rattle.std.specs.Prelude.{◌≡◌, ◌≤◌, ◌↔◌, true, Err, IfOk, IfErr};
 ghost use Rattle.orc_rules.specs.declared.limits.TheConstants.{MOST_ENTRIES};
 ghost use Rattle.orc_outcome.specs.Outcome.{IsPlayed};
 ghost use Rattle.orc_rules.specs.Named.{HasNames};
@@ -66,7 +66,7 @@ where
     };
     let limit = limit as usize;
     if sites.goes_by_table() && gate.is_open() {
-        return crew::run_graph::<Brand, R>(
+        return crew::run_graph(
             rt, alloc, program, &graph, answers, workers, keeps_text, limit,
         );
     }
@@ -98,20 +98,25 @@ where
     requires program { program.now ≡ P.listing }
     requires graph { graph.now ≡ P.listing }
     requires answers { answers.now.sites ≡ P.sites }
+    requires kept { P.keeps ≡ true }
     ensures played { IfOk result (λ p. IsPlayed program.now answers.now keeps_text limit p.summary p.published.items p.text.items) }
     ensures range { IfErr result (λ fault. fault ≡ EngineFault.Range → ⊥) }
 {
     let Ok(ledger) = Ledger::<P>::begin(alloc, limit, graph.root() as usize) else {
         return Err(EngineFault::Memory);
     };
-    let mut desk = Desk::new(alloc, ledger, true);
+    let mut desk = Desk::new(alloc, ledger, true, true);
     if desk.begin().is_err() {
         return Err(EngineFault::Memory);
     }
     let floor = Mutex::new(Floor::new(alloc, desk));
     play(rt, alloc, graph, answers, &floor, sites, gate, workers);
     let (desk, stop) = floor.into_inner().into_desk();
-    desk.finish(program, graph, answers, stop, keeps_text)
+    match desk.finish(program, graph, answers, stop, keeps_text) {
+        Ok(Some(played)) => Ok(played),
+        Ok(None) => unreachable!(),
+        Err(fault) => Err(fault),
+    }
 }
 
 // All workers play. The others are of use only where one may wait for another.

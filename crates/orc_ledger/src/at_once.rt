@@ -7,13 +7,14 @@ ghost use Rattle.orc_rules.specs.declared.value.Found.TheVariants.{After};
 ghost use Rattle.orc_calls.specs.Counting.{CountsCall};
 ghost use Rattle.orc_ledger.specs.AtOnce.{IsCalled};
 ghost use Rattle.orc_ledger.specs.Calls.{IsRefused};
+ghost use Rattle.orc_ledger.specs.Chronicles.{chronicle_with};
 ghost use Rattle.orc_ledger.specs.Doing.{what_of};
 ghost use Rattle.orc_tables.specs.Tokens.{IsHeld};
 
+use crate::chronicle::Chronicle;
 use crate::ledger::{Ledger, LedgerFault, Program};
 use orc_calls::Counts;
 use orc_graph::Graph;
-use orc_journal::Journal;
 use orc_paths::What;
 use orc_rules::answers::Answers;
 use orc_rules::entry::Entry;
@@ -43,8 +44,8 @@ fn answer_at_once(found: Found) -> Option<Answer>
 
 // Writes a call, which is counted, and its answer. Where memory is refused nothing changes.
 #[inline(always)]
-fn write_answered(
-    journal: &mut Journal,
+fn write_answered<P: Program>(
+    journal: &mut Chronicle<P>,
     counts: &mut Counts,
     answers: &Answers,
     token: u64,
@@ -53,7 +54,7 @@ fn write_answered(
     args: &Args,
     answer: &Entry,
 ) -> Result<(), LedgerFault>
-    ensures added { OnOk result (journal.new ≡ record { version = journal.old.version; entries = (journal.old.entries ++ Calls token call site args.now ∷ []) ++ answer.now ∷ [] }) }
+    ensures added { OnOk result (journal.new ≡ chronicle_with (chronicle_with journal.old (Calls token call site args.now ∷ [])) (answer.now ∷ [])) }
     ensures counted { OnOk result (CountsCall answers.now.sites site args.now counts.old counts.new) }
     ensures refused { OnErr result ((journal.new ≡ journal.old) × (counts.new ≡ counts.old)) }
     ensures why { IfErr result (λ fault. fault ≡ LedgerFault.Memory) }

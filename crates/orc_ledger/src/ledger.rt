@@ -1,20 +1,26 @@
 //! The records under their invariant: the journal leads from the program's term to a place that they spell.
 
-ghost use Rattle.std.specs.Prelude.{◌≡◌, ◌+◌, ◌<◌, ◌≤◌, ◌++◌, ◌∷◌, [], length, IfOk, IfErr, IfSome, IfNone, OnOk, OnErr};
+ghost use Rattle.std.specs.Prelude.{◌≡◌, ◌+◌, ◌<◌, ◌≤◌, ◌∷◌, [], true, false, length, IfOk, IfErr, IfSome, IfNone, OnOk, OnErr};
 ghost use Rattle.orc_rules.specs.Timed.{IsIn};
 ghost use Rattle.orc_rules.specs.declared.limits.TheConstants.{MOST_ENTRIES};
 ghost use Rattle.orc_tables.specs.Tokens.{IsHeld};
+ghost use Rattle.orc_journal.specs.declared.journal.Version.TheVariants.{Two};
 ghost use Rattle.orc_ledger.specs.Begun.{begun};
 ghost use Rattle.orc_ledger.specs.Brought.{FullIsCrowded};
 ghost use Rattle.orc_ledger.specs.Calls.{HasRoom, IsRefused};
+ghost use Rattle.orc_ledger.specs.Chronicles.{chronicle_with};
+ghost use Rattle.orc_rules.specs.Trace.{published};
 ghost use Rattle.orc_ledger.specs.Whole.{IsWhole};
 ghost use Rattle.orc_tables.specs.declared.records.Token.{Token as Its};
 
+use crate::chronicle::Chronicle;
 use orc_calls::Counts;
-use orc_journal::{Journal, Version};
+use orc_journal::Journal;
 use orc_names::{Bound, Scope};
+use orc_rules::answers::Answers;
 use orc_rules::entry::Entry;
 use orc_rules::limits::{MOST_FRAMES, MOST_GROUPS, MOST_TOKENS};
+use orc_rules::value::Value;
 use orc_tables::{Crowd, Groups, Pending, Standing, Step, Token, Tokens, push_within, reserve};
 use std::alloc::{AllocError, Global};
 use std::marker::{Brand, Model, PhantomData};
@@ -23,7 +29,7 @@ use std::marker::{Brand, Model, PhantomData};
 pub trait Program {
     ghost use Rattle.orc_rules.specs.Nodes.{Listing};
     ghost use Rattle.orc_rules.specs.Sites.{Site};
-    ghost use Rattle.std.specs.Prelude.{ℕ, List};
+    ghost use Rattle.std.specs.Prelude.{ℕ, Bool, List};
 
     ghost listing: { Listing };
 
@@ -31,17 +37,22 @@ pub trait Program {
 
     // The most entries that the journal is to have, the cancels left out.
     ghost limit: { ℕ };
+
+    // Whether all of the journal is held to the end.
+    ghost keeps: { Bool };
 }
 
 // A caller that picks a program names it by this.
 impl Program for Brand {
-    ghost use Rattle.std.specs.Prelude.{[]};
+    ghost use Rattle.std.specs.Prelude.{true, []};
 
     ghost listing = { record { nodes = []; lists = []; routines = []; root = 0 } };
 
     ghost sites = { [] };
 
     ghost limit = { 0 };
+
+    ghost keeps = { true };
 }
 
 /// Why a call is refused; nothing has changed then. The first of these that is a cause: the most tokens and calls (`MOST_TOKENS`), groups
@@ -67,7 +78,7 @@ impl From<AllocError> for LedgerFault {
 /// The records of a run, with its journal.
 pub struct Ledger<P: Program> {
     pub(crate) limit: usize,
-    pub(crate) journal: Journal,
+    pub(crate) journal: Chronicle<P>,
     pub(crate) entries: usize,
     pub(crate) next_mark: u64,
     pub(crate) time: u64,
@@ -128,8 +139,11 @@ impl<P: Program> Drop for Ledger<P> {
 
 // Writes an entry. Where memory is refused nothing changes.
 #[inline(always)]
-pub(crate) fn write(journal: &mut Journal, entry: &Entry) -> Result<(), LedgerFault>
-    ensures added { OnOk result (journal.new ≡ record { version = journal.old.version; entries = journal.old.entries ++ entry.now ∷ [] }) }
+pub(crate) fn write<P: Program>(
+    journal: &mut Chronicle<P>,
+    entry: &Entry,
+) -> Result<(), LedgerFault>
+    ensures added { OnOk result (journal.new ≡ chronicle_with journal.old (entry.now ∷ [])) }
     ensures refused { OnErr result (journal.new ≡ journal.old) }
     ensures why { IfErr result (λ fault. fault ≡ LedgerFault.Memory) }
 {
@@ -167,7 +181,7 @@ impl<P: Program> Ledger<P> {
         let calls = Pending::begin(alloc)?;
         Ok(Ledger {
             limit,
-            journal: Journal::new(alloc, Version::Two),
+            journal: Chronicle::new(alloc),
             entries: 0,
             next_mark: 2,
             time: 0,
@@ -204,10 +218,26 @@ impl<P: Program> Ledger<P> {
         let _journal = &self.journal;
     }
 
-    /// The journal, and nothing else of the ledger.
+    /// The journal, which is kept, and nothing else of the ledger.
     pub fn into_journal(self) -> Journal
+        requires keeps { P.keeps ≡ true }
         ensures entries { result.entries ≡ self.journal }
-        ensures version { result.version ≡ Version.Two }
+        ensures version { result.version ≡ Two }
+    {
+        self.into_chronicle().into_journal()
+    }
+
+    /// The values that the journal's entries publish, in order, and nothing else of the ledger. The error is refused memory.
+    pub fn into_published(self) -> Result<Vec<Value>, AllocError>
+        ensures { IfOk result (λ values. values.items ≡ published self.journal) }
+    {
+        self.into_chronicle().into_published()
+    }
+
+    // The journal, as much of it as is held, and nothing else of the ledger.
+    pub(crate) fn into_chronicle(self) -> Chronicle<P>
+        ensures entries { result.entries ≡ self.journal }
+        ensures version { result.version ≡ Two }
     {
         let Ledger {
             limit: _,
@@ -296,12 +326,36 @@ impl<P: Program> Ledger<P> {
         }
     }
 
-    /// The journal.
+    /// The journal, which is kept.
     pub fn journal(&self) -> &Journal
+        requires keeps { P.keeps ≡ true }
         ensures entries { result.now.entries ≡ self.now.journal }
-        ensures version { result.now.version ≡ Version.Two }
+        ensures version { result.now.version ≡ Two }
     {
-        &self.journal
+        self.journal.journal()
+    }
+
+    /// How many entries the journal has, the cancels too.
+    pub fn journal_len(&self) -> usize
+        ensures { result ≡ length self.now.journal }
+    {
+        self.journal.len()
+    }
+
+    /// How many entries of the journal are held.
+    #[inline(always)]
+    pub fn held_len(&self) -> usize {
+        self.journal.held_len()
+    }
+
+    /// The entries of the journal that are there are held no more, if there is memory for what is still to be known of them: what they publish. All that
+    /// clauses say of the journal stays.
+    pub fn forget(&mut self, answers: &Answers)
+        requires keeps { P.keeps ≡ false }
+        requires answers { answers.now.sites ≡ P.sites }
+        ensures { self.new ≡ self.old }
+    {
+        self.journal.forget(answers);
     }
 
     /// Whether one more entry, so many more tokens and groups, and a token with so many left sides of a `>x>` round it, are within the limits.

@@ -4,6 +4,7 @@
 mod at_once;
 mod awaiting;
 mod calls;
+mod chronicle;
 mod definitions;
 mod halting;
 mod laws;

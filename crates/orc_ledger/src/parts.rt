@@ -1,21 +1,19 @@
 //! Parts of a run that are made apart: a call of a definition with values is a program of its own, which a ledger of its own can run. Where it is over
 //! its entries are taken in, as if they had been made here.
 
-ghost use Rattle.std.specs.Prelude.{◌≡◌, ◌+◌, ◌≤◌, true, length, map, IfOk, IfErr, IfSome, OnOk, OnErr};
+ghost use Rattle.std.specs.Prelude.{◌≡◌, ◌≤◌, true, length, IfOk, IfErr, IfSome, OnErr};
 ghost use Rattle.orc_rules.specs.Nodes.{definitions, source};
-ghost use Rattle.orc_graft.specs.Moved.{moved};
-ghost use Rattle.orc_journal.specs.Texts.{journal_with};
 ghost use Rattle.orc_tables.specs.Tokens.{IsHeld};
 ghost use Rattle.orc_ledger.specs.Parts.{call_of, StandsFor, TakesIn, IsUntaken};
 
+use crate::chronicle::Chronicle;
 use crate::ledger::{Ledger, LedgerFault, Program};
 use orc_graft::Numbering;
 use orc_graph::{Graph, Node};
-use orc_journal::Journal;
 use orc_paths::{What, put_values};
 use orc_rules::answers::Answers;
 use orc_rules::value::{Args, Value};
-use orc_tables::{Pending, Standing, Token};
+use orc_tables::{Standing, Token};
 use std::marker::{Model, PhantomData};
 
 /// A call of a definition with values.
@@ -42,7 +40,7 @@ impl Task {
 pub struct Part<P: Program> {
     definition: u32,
     args: Args,
-    journal: Journal,
+    journal: Chronicle<P>,
     next_mark: u64,
     calls: u64,
     program: PhantomData<P>,
@@ -103,33 +101,6 @@ fn are_same(values: &[Value], others: &[Value]) -> bool
     }
 }
 
-// Puts a part's entries behind the journal, and gives its calls their numbers. Where memory is refused nothing changes.
-fn append(
-    journal: &mut Journal,
-    calls: &mut Pending,
-    part: &Journal,
-    numbering: Numbering,
-    made: u64,
-) -> Result<(), LedgerFault>
-    ensures items { calls.new.items ≡ calls.old.items }
-    ensures added { OnOk result (journal.new ≡ journal_with journal.old (map (moved numbering) part.now.entries)) }
-    ensures made { OnOk result (calls.new.made ≡ calls.old.made + made) }
-    ensures refused { OnErr result ((journal.new ≡ journal.old) × (calls.new.made ≡ calls.old.made)) }
-    ensures why { IfErr result (λ fault. fault ≡ LedgerFault.Memory) }
-{
-    let len = journal.len();
-    if journal.append(part, numbering).is_err() {
-        return Err(LedgerFault::Memory);
-    }
-    match calls.pass_numbers(made) {
-        Ok(()) => Ok(()),
-        Err(_) => {
-            journal.truncate(len);
-            Err(LedgerFault::Memory)
-        }
-    }
-}
-
 impl<P: Program> Ledger<P> {
     /// The call of a definition with values at which a token stands, if what the token publishes the whole run publishes.
     pub fn task(&self, graph: &Graph, token: &Token) -> Option<Task>
@@ -171,6 +142,7 @@ impl<P: Program> Ledger<P> {
     pub fn into_part<W: Program>(self, answers: &Answers, task: Task) -> Option<Part<W>>
         requires answers { answers.now.sites ≡ W.sites }
         requires sites { P.sites ≡ W.sites }
+        requires keeps { P.keeps ≡ W.keeps }
         requires definitions { definitions P.listing ≡ definitions W.listing }
         requires call { source P.listing ≡ call_of task.definition task.args }
         ensures { IfSome result (λ part. (part.definition ≡ task.definition) × (part.args ≡ task.args)) }
@@ -184,7 +156,7 @@ impl<P: Program> Ledger<P> {
         Some(Part {
             definition,
             args,
-            journal: self.into_journal(),
+            journal: self.into_chronicle().named::<W>(),
             next_mark,
             calls,
             program: PhantomData,
@@ -209,13 +181,8 @@ impl<P: Program> Ledger<P> {
             mark: self.next_mark,
             calls: self.calls.next_number() - 1,
         };
-        append(
-            &mut self.journal,
-            &mut self.calls,
-            &part.journal,
-            numbering,
-            part.calls,
-        )?;
+        self.journal
+            .append(&part.journal, numbering, &mut self.calls, part.calls)?;
         self.entries += entries;
         self.next_mark = self.next_mark + part.next_mark - 2;
         self.tokens.remove(slot);

@@ -1,11 +1,12 @@
 //! Calls of sites: a token makes one, and it pends; what it asks.
 
-ghost use Rattle.std.specs.Prelude.{◌≡◌, ◌++◌, ◌∷◌, [], ℕ, Some, IfOk, IfErr, MatchOption, OnOk, OnErr};
+ghost use Rattle.std.specs.Prelude.{◌≡◌, ◌++◌, ◌∷◌, [], ℕ, true, Some, IfOk, IfErr, MatchOption, OnOk, OnErr};
 ghost use Rattle.orc_rules.specs.Nodes.{code, definitions};
 ghost use Rattle.orc_rules.specs.declared.entry.Entry.TheVariants.{Call as Calls};
 ghost use Rattle.orc_calls.specs.Counting.{CountsCall};
 ghost use Rattle.orc_ledger.specs.Answers.{Pends};
 ghost use Rattle.orc_ledger.specs.Calls.{IsRefused};
+ghost use Rattle.orc_ledger.specs.Chronicles.{chronicle_with};
 ghost use Rattle.orc_tables.specs.PendingCalls.{has_number};
 ghost use Rattle.orc_paths.specs.Doing.{IsCall};
 ghost use Rattle.orc_ledger.specs.Doing.{term_of, what_of};
@@ -13,10 +14,10 @@ ghost use Rattle.orc_ledger.specs.Requests.{IsAsked, IsMade};
 ghost use Rattle.orc_tables.specs.Same.{weight};
 ghost use Rattle.orc_tables.specs.Tokens.{IsHeld};
 
+use crate::chronicle::Chronicle;
 use crate::ledger::{Ledger, LedgerFault, Program};
 use orc_calls::Counts;
 use orc_graph::{Graph, Node};
-use orc_journal::Journal;
 use orc_paths::{What, put_values};
 use orc_rules::answers::Answers;
 use orc_rules::entry::Entry;
@@ -34,8 +35,8 @@ pub struct Request {
 }
 
 // Writes a call and counts it. Where memory is refused nothing changes.
-fn write_call(
-    journal: &mut Journal,
+fn write_call<P: Program>(
+    journal: &mut Chronicle<P>,
     counts: &mut Counts,
     answers: &Answers,
     token: u64,
@@ -43,7 +44,7 @@ fn write_call(
     site: u32,
     args: &Args,
 ) -> Result<(), LedgerFault>
-    ensures added { OnOk result (journal.new ≡ record { version = journal.old.version; entries = journal.old.entries ++ Calls token call site args.now ∷ [] }) }
+    ensures added { OnOk result (journal.new ≡ chronicle_with journal.old (Calls token call site args.now ∷ [])) }
     ensures counted { OnOk result (CountsCall answers.now.sites site args.now counts.old counts.new) }
     ensures refused { OnErr result ((journal.new ≡ journal.old) × (counts.new ≡ counts.old)) }
     ensures why { IfErr result (λ fault. fault ≡ LedgerFault.Memory) }
@@ -134,15 +135,15 @@ impl<P: Program> Ledger<P> {
         Ok(call)
     }
 
-    /// What the call that pends with this number asks.
+    /// What the call that pends with this number asks. A ledger that doesn't keep its journal may know it no more.
     pub fn request(&self, number: u64) -> Option<Request>
-        ensures { MatchOption result (weight (has_number number) self.now.calls ≡ 0) (IsAsked P.listing P.sites self.now number) }
+        ensures { MatchOption result (P.keeps ≡ true → weight (has_number number) self.now.calls ≡ 0) (IsAsked P.listing P.sites self.now number) }
     {
         let Some(call) = self.calls.get(number) else {
             return None;
         };
         let Some(entry) = self.journal.get(call.row) else {
-            unreachable!()
+            return None;
         };
         let Entry::Call(_, _, site, args) = entry else {
             unreachable!()

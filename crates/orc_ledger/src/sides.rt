@@ -16,9 +16,10 @@ ghost use Rattle.orc_ledger.specs.Records.{its_env, its_path, is_over};
 ghost use Rattle.orc_paths.specs.Paths.{standing, has_left};
 ghost use Rattle.orc_tables.specs.Steps.{group_at};
 ghost use Rattle.orc_ledger.specs.Calls.{Drops, Closes, Resumes, AreCancelled, IsRefused};
+ghost use Rattle.orc_ledger.specs.Chronicles.{chronicle_with};
 
+use crate::chronicle::Chronicle;
 use crate::ledger::{Ledger, LedgerFault, Program, write};
-use orc_journal::Journal;
 use orc_names::Bound;
 use orc_rules::entry::Entry;
 use orc_rules::value::Value;
@@ -37,14 +38,14 @@ fn settle(cells: &mut Vec<Bound>, cell: u64, bound: Bound)
 }
 
 // Writes a bind and the cancels of these calls. Where memory is refused nothing changes.
-fn write_bind(
-    journal: &mut Journal,
+fn write_bind<P: Program>(
+    journal: &mut Chronicle<P>,
     token: u64,
     cell: u64,
     value: Value,
     cancelled: &Vec<u64>,
 ) -> Result<(), LedgerFault>
-    ensures added { OnOk result (journal.new ≡ record { version = journal.old.version; entries = journal.old.entries ++ Bind token cell value ∷ map Cancel cancelled.now.items }) }
+    ensures added { OnOk result (journal.new ≡ chronicle_with journal.old (Bind token cell value ∷ map Cancel cancelled.now.items)) }
     ensures refused { OnErr result (journal.new ≡ journal.old) }
     ensures why { IfErr result (λ fault. fault ≡ LedgerFault.Memory) }
 {

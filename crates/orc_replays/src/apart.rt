@@ -1,6 +1,6 @@
 //! A call of a definition that is run apart by a ledger of its own, and taken in.
 
-ghost use Rattle.std.specs.Prelude.{◌≡◌, ◌≤◌};
+ghost use Rattle.std.specs.Prelude.{◌≡◌, ◌≤◌, true, false};
 ghost use Rattle.orc_rules.specs.declared.limits.TheConstants.{MOST_ENTRIES};
 ghost use Rattle.orc_rules.specs.Nodes.{definitions, source};
 ghost use Rattle.orc_ledger.specs.Parts.{call_of};
@@ -10,24 +10,27 @@ use orc_journal::write_journal;
 use orc_ledger::{Called, Ledger, LedgerFault, Moved, Part, Program as Naming, Task};
 use orc_load::load;
 use orc_rules::answers::Answers;
-use orc_rules::value::Args;
+use orc_rules::value::{Args, Value};
 use std::alloc::Global;
 use std::marker::Brand;
 use std::test::Fail;
 
-// What a call's own run comes to, in which one token moves at a time, if it is over within so many entries.
+// What a call's own run comes to, in which one token moves at a time, if it is over within so many entries. Where they aren't kept each is forgotten at once.
 fn run_apart<Q: Naming, P: Naming>(
     alloc: Global,
     graph: &Graph,
     answers: &Answers,
+    keeps: bool,
     task: Task,
     limit: usize,
 ) -> Option<Part<P>>
+    requires keeps { keeps ≡ P.keeps }
     requires limit { (1 ≤ limit) × (limit ≤ MOST_ENTRIES) }
     requires named { limit ≡ Q.limit }
     requires graph { graph.now ≡ Q.listing }
     requires answers { answers.now.sites ≡ Q.sites }
     requires sites { Q.sites ≡ P.sites }
+    requires kept { Q.keeps ≡ P.keeps }
     requires definitions { definitions Q.listing ≡ definitions P.listing }
     requires call { source Q.listing ≡ call_of task.definition task.args }
 {
@@ -51,6 +54,9 @@ fn run_apart<Q: Naming, P: Naming>(
             Ok(_) => {}
             Err(_) => return None,
         }
+        if !keeps {
+            ledger.forget(answers);
+        }
     }
     ledger.into_part::<P>(answers, task)
 }
@@ -60,24 +66,28 @@ fn part_of<P: Naming>(
     alloc: Global,
     graph: &Graph,
     answers: &Answers,
+    keeps: bool,
     task: Task,
 ) -> Option<Part<P>>
+    requires keeps { keeps ≡ P.keeps }
     requires graph { graph.now ≡ P.listing }
     requires answers { answers.now.sites ≡ P.sites }
 {
     let own = graph
         .for_call(alloc, task.definition, task.args.as_slice())
         .ok()?;
-    run_apart::<Brand, P>(alloc, &own, answers, task, 100)
+    run_apart::<Brand, P>(alloc, &own, answers, keeps, task, 100)
 }
 
-// The first token stands at a call of a definition, which is run apart and taken in, where the limit has room for so many entries: the journal then.
+// The first token stands at a call of a definition, which is run apart and taken in, where the limit has room for so many entries.
 fn taken<P: Naming>(
     alloc: Global,
     graph: &Graph,
     answers: &Answers,
+    keeps: bool,
     limit: usize,
-) -> Option<Result<Vec<u8>, LedgerFault>>
+) -> Option<Result<Ledger<P>, LedgerFault>>
+    requires keeps { keeps ≡ P.keeps }
     requires limit { (1 ≤ limit) × (limit ≤ MOST_ENTRIES) }
     requires named { limit ≡ P.limit }
     requires graph { graph.now ≡ P.listing }
@@ -86,18 +96,72 @@ fn taken<P: Naming>(
     let mut ledger = Ledger::<P>::begin(alloc, limit, graph.root() as usize).ok()?;
     let token = ledger.held(0)?;
     let task = ledger.task(graph, &token)?;
-    let part = part_of::<P>(alloc, graph, answers, task.copied())?;
+    let part = part_of::<P>(alloc, graph, answers, keeps, task.copied())?;
     if !part.is_of(&task) {
         return None;
     }
-    if let Err(fault) = ledger.take_in(0, token, &part) {
-        return Some(Err(fault));
+    match ledger.take_in(0, token, &part) {
+        Ok(()) => Some(Ok(ledger)),
+        Err(fault) => Some(Err(fault)),
     }
+}
+
+// The text of the journal then.
+fn text_named<P: Naming>(
+    alloc: Global,
+    graph: &Graph,
+    answers: &Answers,
+    limit: usize,
+) -> Option<Result<Vec<u8>, LedgerFault>>
+    requires keeps { P.keeps ≡ true }
+    requires limit { (1 ≤ limit) × (limit ≤ MOST_ENTRIES) }
+    requires named { limit ≡ P.limit }
+    requires graph { graph.now ≡ P.listing }
+    requires answers { answers.now.sites ≡ P.sites }
+{
+    let ledger = match taken::<P>(alloc, graph, answers, true, limit)? {
+        Ok(ledger) => ledger,
+        Err(fault) => return Some(Err(fault)),
+    };
     let mut text = Vec::new(alloc);
     match write_journal(&ledger.into_journal(), answers, &mut text) {
         Ok(true) => Some(Ok(text)),
         _ => None,
     }
+}
+
+// What a run has come to that doesn't keep its journal.
+#[derive(Drop)]
+struct Known {
+    values: Vec<Value>,
+    entries: usize,
+    held: usize,
+}
+
+// The same of a journal that isn't kept.
+fn known_named<P: Naming>(
+    alloc: Global,
+    graph: &Graph,
+    answers: &Answers,
+    limit: usize,
+) -> Option<Known>
+    requires keeps { P.keeps ≡ false }
+    requires limit { (1 ≤ limit) × (limit ≤ MOST_ENTRIES) }
+    requires named { limit ≡ P.limit }
+    requires graph { graph.now ≡ P.listing }
+    requires answers { answers.now.sites ≡ P.sites }
+{
+    let Ok(ledger) = taken::<P>(alloc, graph, answers, false, limit)? else {
+        return None;
+    };
+    let entries = ledger.journal_len();
+    let held = ledger.held_len();
+    let values = ledger.into_published().ok()?;
+    Some(Known {
+        values,
+        entries,
+        held,
+    })
 }
 
 fn text_of(alloc: Global, source: &[u8], limit: usize) -> Option<Result<Vec<u8>, LedgerFault>> {
@@ -106,7 +170,16 @@ fn text_of(alloc: Global, source: &[u8], limit: usize) -> Option<Result<Vec<u8>,
     if limit < 1 || limit > 100 {
         return None;
     }
-    taken::<Brand>(alloc, &graph, &loaded.answers, limit)
+    text_named::<Brand>(alloc, &graph, &loaded.answers, limit)
+}
+
+fn known_of(alloc: Global, source: &[u8], limit: usize) -> Option<Known> {
+    let loaded = load(alloc, source, b"").ok()?;
+    let graph = Graph::build(alloc, &loaded.program).ok()?;
+    if limit < 1 || limit > 100 {
+        return None;
+    }
+    known_named::<Brand>(alloc, &graph, &loaded.answers, limit)
 }
 
 const SOURCE: &[u8] = b"def f(n) = Add(n, 1)\nf(4)";
@@ -125,5 +198,18 @@ fn what_is_run_apart_stands_in_its_place(rt: HostRuntime) -> Result<(), Fail> {
     // What isn't over, and what opens a cell, is no part.
     assert!(rt; text_of(alloc, b"def f(n) = n | 1\nf(4)", 100).is_none());
     assert!(rt; text_of(alloc, b"def f(n) = x <x< n\nf(4)", 100).is_none());
+    Ok(())
+}
+
+#[test]
+fn a_part_that_is_forgotten_counts_and_publishes(rt: HostRuntime) -> Result<(), Fail> {
+    let alloc = rt.alloc();
+    let known = known_of(alloc, SOURCE, 4);
+    assert!(rt;
+        matches!(&known, Some(known) if known.values.as_slice() == [Value::Number(5)].as_slice())
+    );
+    assert!(rt; matches!(&known, Some(known) if known.entries == 4 && known.held == 0));
+    // One entry more than there is room for.
+    assert!(rt; known_of(alloc, SOURCE, 3).is_none());
     Ok(())
 }

@@ -1,6 +1,6 @@
 //! Journals replayed by calls of the ledger, entry by entry.
 
-ghost use Rattle.std.specs.Prelude.{◌≡◌, ◌<◌, IfSome, vec_len};
+ghost use Rattle.std.specs.Prelude.{◌≡◌, ◌<◌, true, IfSome, vec_len};
 
 use orc_graph::Graph;
 use orc_journal::{Journal, Version, write_journal};
@@ -408,7 +408,7 @@ impl<P: Naming> Replay<P> {
             let Some(entry) = journal.get(at) else {
                 return Ok(());
             };
-            if self.ledger.journal().len() <= at
+            if self.ledger.journal_len() <= at
                 && let Err(why) = self.enter(graph, answers, &entry)
             {
                 return Err(Stop {
@@ -439,6 +439,7 @@ fn replay_named<P: Naming>(
     requires graph { graph.now ≡ P.listing }
     requires answers { answers.now.sites ≡ P.sites }
     requires limit { P.limit ≡ MOST_ENTRIES }
+    requires keeps { P.keeps ≡ true }
 {
     let mut replay = match Replay::<P>::begin(alloc, graph) {
         Ok(replay) => replay,

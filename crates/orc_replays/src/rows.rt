@@ -1,6 +1,6 @@
 //! Rows by calls of the ledger: what it writes, what comes next, and what it refuses.
 
-ghost use Rattle.std.specs.Prelude.{◌≡◌};
+ghost use Rattle.std.specs.Prelude.{◌≡◌, true};
 ghost use Rattle.orc_rules.specs.declared.limits.TheConstants.{MOST_ENTRIES};
 
 use crate::replay_text;
@@ -110,7 +110,9 @@ fn has_lines<P: Naming>(
     ledger: &Ledger<P>,
     answers: &Answers,
     steps: &[Step],
-) -> Result<bool, AllocError> {
+) -> Result<bool, AllocError>
+    requires { P.keeps ≡ true }
+{
     let mut wanted = Vec::from_slice(alloc, b"orc-journal 2\n")?;
     for step in steps {
         if let Step::Does(lines) = step {
@@ -132,6 +134,7 @@ fn wrong_step<P: Naming>(
     requires graph { graph.now ≡ P.listing }
     requires answers { answers.now.sites ≡ P.sites }
     requires limit { P.limit ≡ MOST_ENTRIES }
+    requires keeps { P.keeps ≡ true }
 {
     let Ok(mut replay) = Replay::<P>::begin(alloc, graph) else {
         return Some(0);

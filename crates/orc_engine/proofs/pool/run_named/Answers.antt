@@ -1,8 +1,10 @@
-use Rattle.std.proofs.Common.{sym, subst, IfOk}
+use Rattle.std.proofs.Common.{sym, subst, rules}
 use Rattle.orc_outcome.specs.Outcome.{IsPlayed}
 use Rattle.orc_engine.proofs.pool.run_named.Goals as goal
 
-pub returns-clause-played : goal.returns-clause-played
-returns-clause-played g c =
-    subst (λ n. IfOk c.finish.result (λ p. IsPlayed c.args.program.now c.args.answers.now c.args.keeps_text n p.summary p.published.items p.text.items)) (sym c.requires.named)
-    (subst (λ l. IfOk c.finish.result (λ p. IsPlayed l c.args.answers.now c.args.keeps_text g.P.Program.limit p.summary p.published.items p.text.items)) (sym c.requires.program) c.finish.ensures.played)
+pub returns-in-Ok-Some-clause-played : goal.returns-in-Ok-Some-clause-played
+returns-in-Ok-Some-clause-played g c =
+    let p = c.in-Ok-Some.played in
+    let told : IsPlayed g.P.Program.listing c.args.answers.now c.args.keeps_text g.P.Program.limit p.summary p.published.items p.text.items = search rules in
+    subst (λ n. IsPlayed c.args.program.now c.args.answers.now c.args.keeps_text n p.summary p.published.items p.text.items) (sym c.requires.named)
+    (subst (λ l. IsPlayed l c.args.answers.now c.args.keeps_text g.P.Program.limit p.summary p.published.items p.text.items) (sym c.requires.program) told)

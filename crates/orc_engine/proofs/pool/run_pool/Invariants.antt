@@ -1,8 +1,6 @@
--- The program, the sites and the limit of the run name the ledger's.
+-- The program, the sites and the limit of the run name the ledger's, whose journal is kept.
+use Rattle.std.proofs.Common.{true}
 use Rattle.orc_engine.proofs.pool.run_pool.Given as goal
 
 abbrev pub ghosts-run_named : goal.ghosts-run_named
-ghosts-run_named g a = record { listing = a.program.now; sites = a.answers.now.sites; limit = a.limit }
-
-abbrev pub ghosts-run_graph : goal.ghosts-run_graph
-ghosts-run_graph g a = record { listing = a.program.now; sites = a.answers.now.sites; limit = a.limit }
+ghosts-run_named g a = record { listing = a.program.now; sites = a.answers.now.sites; limit = a.limit; keeps = true }

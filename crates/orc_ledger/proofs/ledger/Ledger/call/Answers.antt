@@ -48,7 +48,7 @@ invariant_of-self-2 g c =
       cells = refl;
     } in
     let room : s.entries < s.limit = rw (← c.self.view_is) at c.in_ok-within.ensures.room in
-    record { kept = called-kept l sites b.counts b.groups.sizes s K a.answers.now.sites c.requires.answers m args a.token (live-in s.slots a.slot a.token held) asks room made c.next_number.ensures found which s' refl refl c.len.ensures T c.write_call.new.counts c.in_ok-write_call.ensures.counted; rest = rest-kept (code l) (definitions l) s s' b.tokens c.remove.new.self refl refl c.self.invariant.rest (live-in b.tokens.items) (c.remove.ensures.parked) (same-terms (code l) s s' refl refl); version = ap (λ j. j.version) c.in_ok-write_call.ensures.added ∙ c.self.invariant.version; limited = c.self.invariant.limited }
+    record { kept = called-kept l sites b.counts b.groups.sizes s K a.answers.now.sites c.requires.answers m args a.token (live-in s.slots a.slot a.token held) asks room made c.next_number.ensures found which s' refl refl c.len.ensures.entries T c.write_call.new.counts c.in_ok-write_call.ensures.counted; rest = rest-kept (code l) (definitions l) s s' b.tokens c.remove.new.self refl refl c.self.invariant.rest (live-in b.tokens.items) (c.remove.ensures.parked) (same-terms (code l) s s' refl refl); version = ap (λ j. j.version) c.in_ok-write_call.ensures.added ∙ c.self.invariant.version; limited = c.self.invariant.limited }
 
 pub returns-clause-done : goal.returns-clause-done
 returns-clause-done g c =
@@ -81,5 +81,5 @@ returns-clause-done g c =
       steps = refl;
       cells = refl;
     } in
-    let is_made : IsMade l sites s a.token made s' = record { site = m; args = args; asks = asks; number = c.next_number.ensures; step = refl; made_at = refl; place = K.lawful.place; at = K.lawful.leads; found = found; nth = which; row = c.len.ensures; exchanges = T } in
+    let is_made : IsMade l sites s a.token made s' = record { site = m; args = args; asks = asks; number = c.next_number.ensures; step = refl; made_at = refl; place = K.lawful.place; at = K.lawful.leads; found = found; nth = which; row = c.len.ensures.entries; exchanges = T } in
     rw (← c.self.view_is) is_made

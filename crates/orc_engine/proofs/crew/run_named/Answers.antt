@@ -5,7 +5,7 @@ use Rattle.orc_rules.specs.Program.{IsProgram}
 use Rattle.orc_engine.specs.Stops.{Stops}
 use Rattle.orc_engine.specs.Faults.{IsOwn}
 use Rattle.orc_engine.proofs.Stopping.{weaker-fault}
-use Rattle.orc_engine.proofs.crew.run_graph.Goals as goal
+use Rattle.orc_engine.proofs.crew.run_named.Goals as goal
 
 pub returns-clause-sound : goal.returns-clause-sound
 returns-clause-sound g c =
