@@ -42,14 +42,15 @@ const SAMPLES: usize = 16;
 /// The most entries of a sample's run. The tables of a run of so many entries fit a processor's own cache.
 const SHORT: usize = 20_000;
 
-/// The longest run of a sample has so many entries at least, or the others aren't made apart: to begin a run costs as much as a hundred entries.
+/// Runs have so many entries on average, or no more of them are made apart: to begin one costs as much as a hundred entries.
 const WORTH: usize = 512;
 
-/// So many calls are run side by side before what came of them is taken in.
-const BATCH: usize = 32;
+/// So many calls are run side by side before what came of them is taken in. A thread that begins may wait some milliseconds for a processor, so a batch is
+/// to be worth more than that.
+const BATCH: usize = 256;
 
-/// A run may have so many times as many entries as the longest one before it, but no more than `LONGEST`.
-const LONGER: usize = 2;
+/// A run may have so many times as many entries as those before it had on average, but no more than `LONGEST`.
+const LONGER: usize = 8;
 
 const LONGEST: usize = 1_000_000;
 
@@ -62,16 +63,33 @@ enum Trial {
     Long,
     /// Their runs were too short, or can't stand for the calls.
     Vain,
-    /// Most of them were taken in.
-    Good,
+    /// Most of them came to something, and had so many entries on average.
+    Good(usize),
 }
 
-// What came of some calls' runs: how many are over, how many were too long, and the most entries that one has.
+// When the work is shared out next.
+#[derive(Clone, Copy)]
+struct Plan {
+    // Where the journal has so many entries.
+    entries: usize,
+    // How many entries the runs had on average that were made apart the last time; 0 where samples are to show it.
+    mean: usize,
+}
+
+// What came of some calls' runs: how many there were, how many are over, how many were too long, and the entries of those that are over.
 #[derive(Clone, Copy)]
 struct Tally {
+    count: usize,
     over: usize,
     long: usize,
-    longest: usize,
+    entries: usize,
+}
+
+impl Tally {
+    // The entries of a run that is over, on average.
+    fn mean(&self) -> usize {
+        self.entries / self.over.max(1)
+    }
 }
 
 /// Runs a program as [`run_alone`](crate::run_alone) does, on the calling thread. Calls of definitions are run apart on `workers` threads, of which the calling
@@ -221,54 +239,57 @@ where
         if let Err(stop) = desk.begin() {
             return stop;
         }
-        // Where the journal has so many entries, the work is shared out next.
-        let mut next = PATIENCE;
+        let mut plan = Plan {
+            entries: PATIENCE,
+            mean: 0,
+        };
         loop {
-            match self.go(desk, next) {
-                Ok(then) => next = then,
+            match self.go(desk, plan) {
+                Ok(next) => plan = next,
                 Err(stop) => return stop,
             }
         }
     }
 
-    // A turn, and before it the work is shared out if it is time. Gives the number of entries at which it is time again.
-    fn go(&self, desk: &mut Desk<P>, next: usize) -> Result<usize, Stop>
+    // A turn, and before it the work is shared out if it is time. Tells when it is time again.
+    fn go(&self, desk: &mut Desk<P>, plan: Plan) -> Result<Plan, Stop>
         ensures nearer { IfOk result (λ _. IsNearer desk.old.ledger (deque_len desk.old.ready.handles) desk.new.ledger (deque_len desk.new.ready.handles)) }
         ensures within { IfOk result (λ _. desk.new.ledger.entries ≤ desk.new.ledger.limit) }
         ensures few { deque_len desk.new.ready.handles < 2 ^ 64 }
         ensures stops { IfErr result (λ stop. Stops P.listing desk.new.ledger stop) }
     {
-        let next = self.share(desk, next)?;
+        let next = self.share(desk, plan)?;
         match desk.go(self.graph, self.answers) {
             Ok(()) => Ok(next),
             Err(stop) => Err(stop),
         }
     }
 
-    // From `now` entries on tokens are spread, and the calls at which they stand are run side by side: first of few tokens, and if their runs are too long,
-    // of more. Gives the number of entries at which it is time again.
+    // If it is time tokens are spread, and the calls at which they stand are run side by side: first of few tokens, and if their runs are too long, of more.
+    // Tells when it is time again.
     #[inline(never)]
-    fn share(&self, desk: &mut Desk<P>, now: usize) -> Result<usize, Stop>
+    fn share(&self, desk: &mut Desk<P>, plan: Plan) -> Result<Plan, Stop>
         ensures spread { IfOk result (λ _. HasSpread desk.old.ledger (deque_len desk.old.ready.handles) desk.new.ledger (deque_len desk.new.ready.handles)) }
         ensures stops { IfErr result (λ stop. Stops P.listing desk.new.ledger stop) }
     {
-        if desk.entries() < now {
-            return Ok(now);
+        if desk.entries() < plan.entries {
+            return Ok(plan);
         }
-        let mut trial = self.attempt(desk, MANY)?;
+        let mut trial = self.attempt(desk, MANY, plan.mean)?;
         if matches!(trial, Trial::Long) {
-            trial = self.attempt(desk, MORE)?;
+            trial = self.attempt(desk, MORE, 0)?;
         }
-        let entries = desk.entries();
-        Ok(match trial {
-            Trial::Good => entries.saturating_add(PATIENCE),
-            Trial::Few => entries.saturating_add(10 * PATIENCE),
-            Trial::Long | Trial::Vain => entries.saturating_mul(16),
-        })
+        let now = desk.entries();
+        let (entries, mean) = match trial {
+            Trial::Good(mean) => (now.saturating_add(PATIENCE), mean),
+            Trial::Few => (now.saturating_add(10 * PATIENCE), plan.mean),
+            Trial::Long | Trial::Vain => (now.saturating_mul(16), 0),
+        };
+        Ok(Plan { entries, mean })
     }
 
     // Tokens are spread until so many stand ready, and the calls at which they stand are run side by side.
-    fn attempt(&self, desk: &mut Desk<P>, wanted: usize) -> Result<Trial, Stop>
+    fn attempt(&self, desk: &mut Desk<P>, wanted: usize, mean: usize) -> Result<Trial, Stop>
         ensures spread { IfOk result (λ _. HasSpread desk.old.ledger (deque_len desk.old.ready.handles) desk.new.ledger (deque_len desk.new.ready.handles)) }
         ensures stops { IfErr result (λ stop. Stops P.listing desk.new.ledger stop) }
     {
@@ -276,11 +297,12 @@ where
         if desk.ready() < wanted {
             return Ok(Trial::Few);
         }
-        Ok(self.run_side_by_side(desk))
+        Ok(self.run_side_by_side(desk, mean))
     }
 
-    // Runs the calls at which tokens stand side by side, first a few, which show whether the others are worth it, and takes in what came of them.
-    fn run_side_by_side(&self, desk: &mut Desk<P>) -> Trial
+    // Runs the calls at which tokens stand side by side, and takes in what came of them. Where it isn't known how many entries their runs have on average, a few
+    // show it first, and whether the others are worth it.
+    fn run_side_by_side(&self, desk: &mut Desk<P>, mean: usize) -> Trial
         ensures goes { Advances desk.old.ledger desk.new.ledger ⊎ (desk.new.ledger ≡ desk.old.ledger) }
         ensures ready { desk.new.ready ≡ desk.old.ready }
     {
@@ -291,45 +313,63 @@ where
         if room == 0 || jobs.len() < SAMPLES {
             return Trial::Vain;
         }
+        if mean > 0 {
+            return self.run_batches(desk, mean, 0, &mut jobs);
+        }
         let samples = &mut jobs[..SAMPLES];
         self.run_all(SHORT.min(room), samples);
-        let tally = tally_of(samples);
-        if tally.long > tally.over {
-            return Trial::Long;
+        match self.trial_of(tally_of(samples)) {
+            Trial::Good(mean) => self.run_batches(desk, mean, SAMPLES, &mut jobs),
+            trial => trial,
         }
-        // A run begins with a copy of the program's graph.
-        if tally.over < SAMPLES / 2 || tally.longest < WORTH.max(self.graph.len()) {
-            return Trial::Vain;
-        }
-        self.run_others(desk, tally.longest, &mut jobs);
-        Trial::Good
     }
 
-    // Does the jobs behind the samples in batches, and takes in what came of those before a batch while it is done: as long as most of a batch comes to
-    // something, and the limit has room for the next.
-    fn run_others(&self, desk: &mut Desk<P>, longest: usize, jobs: &mut [Job<P>])
+    // What calls came to of which this came.
+    fn trial_of(&self, tally: Tally) -> Trial {
+        let mean = tally.mean();
+        if tally.long > tally.over {
+            Trial::Long
+        } else if tally.over < tally.count / 2 || mean < WORTH.max(self.graph.len()) {
+            // A run begins with a copy of the program's graph.
+            Trial::Vain
+        } else {
+            Trial::Good(mean)
+        }
+    }
+
+    // Does the jobs behind the first `done` ones in batches, and takes in what came of those before a batch while it is done: as long as most of a batch comes
+    // to something, and the limit has room for the next. Tells what the last batch came to.
+    fn run_batches(
+        &self,
+        desk: &mut Desk<P>,
+        mean: usize,
+        done: usize,
+        jobs: &mut [Job<P>],
+    ) -> Trial
         ensures goes { Advances desk.old.ledger desk.new.ledger ⊎ (desk.new.ledger ≡ desk.old.ledger) }
         ensures ready { desk.new.ready ≡ desk.old.ready }
     {
-        let mut longest = longest;
-        for from in (SAMPLES..jobs.len()).step_by(BATCH) {
+        let mut mean = mean;
+        let mut trial = Trial::Good(mean);
+        for from in (done..jobs.len()).step_by(BATCH) {
             let room = desk.room();
-            if room == 0 || room / BATCH < longest {
-                break;
-            }
-            let limit = longest.saturating_mul(LONGER).clamp(1, LONGEST).min(room);
             let from = from.min(jobs.len());
             let (before, behind) = jobs.split_at_mut(from);
             let count = BATCH.min(behind.len());
-            let batch = &mut behind[..count];
-            self.run_beside(desk, limit, before, batch);
-            let tally = tally_of(batch);
-            if tally.over < count / 2 {
+            if count == 0 || room == 0 || room / count < mean {
                 break;
             }
-            longest = tally.longest.max(longest);
+            let limit = mean.saturating_mul(LONGER).clamp(1, LONGEST).min(room);
+            let batch = &mut behind[..count];
+            self.run_beside(desk, limit, before, batch);
+            trial = self.trial_of(tally_of(batch));
+            let Trial::Good(next) = trial else {
+                break;
+            };
+            mean = next;
         }
         take_all(self.graph, desk, jobs);
+        trial
     }
 
     // What came of the jobs before is taken in, while those of the batch are done on as many threads beside this one.
@@ -345,9 +385,9 @@ where
         ensures ready { desk.new.ready ≡ desk.old.ready }
     {
         let graph = self.graph;
-        if self.workers == 1 {
-            self.run_all(limit, batch);
+        if self.workers == 1 || before.len() <= SAMPLES {
             take_all(graph, desk, before);
+            self.run_all(limit, batch);
             return;
         }
         thread::join_mut(
@@ -377,15 +417,16 @@ where
 // What came of the jobs.
 fn tally_of<P: Naming>(jobs: &[Job<P>]) -> Tally {
     let mut tally = Tally {
+        count: jobs.len(),
         over: 0,
         long: 0,
-        longest: 0,
+        entries: 0,
     };
     for job in jobs {
         match job.came() {
             Came::Over(part) => {
                 tally.over = tally.over.saturating_add(1);
-                tally.longest = tally.longest.max(part.len());
+                tally.entries = tally.entries.saturating_add(part.len());
             }
             Came::Long => tally.long = tally.long.saturating_add(1),
             Came::Nothing => {}

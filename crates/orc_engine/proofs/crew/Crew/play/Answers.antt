@@ -3,5 +3,5 @@ use Rattle.std.specs.VecDeque.{deque_len}
 use Rattle.orc_engine.proofs.Stopping.{nearer-end}
 use Rattle.orc_engine.proofs.crew.Crew.play.Goals as goal
 
-pub loop-then-smaller : goal.loop-then-smaller
-loop-then-smaller g c = nearer-end (2 ^ 64) c.loop-then.desk.ledger c.go.new.desk.ledger (deque_len c.loop-then.desk.ready.handles) (deque_len c.go.new.desk.ready.handles) c.in-Ok.ensures.nearer c.in-Ok.ensures.within c.go.ensures.few
+pub loop-next-smaller : goal.loop-next-smaller
+loop-next-smaller g c = nearer-end (2 ^ 64) c.loop-next.desk.ledger c.go.new.desk.ledger (deque_len c.loop-next.desk.ready.handles) (deque_len c.go.new.desk.ready.handles) c.in-Ok.ensures.nearer c.in-Ok.ensures.within c.go.ensures.few

@@ -4,5 +4,5 @@ use Rattle.std.specs.VecDeque.{deque_len}
 use Rattle.orc_engine.specs.Stops.{left}
 use Rattle.orc_engine.proofs.crew.Crew.play.Given as goal
 
-abbrev pub decreases-loop-then : goal.decreases-loop-then
-decreases-loop-then g l = 2 ^ 64 * left l.desk.ledger + deque_len l.desk.ready.handles
+abbrev pub decreases-loop-next : goal.decreases-loop-next
+decreases-loop-next g l = 2 ^ 64 * left l.desk.ledger + deque_len l.desk.ready.handles

@@ -1,7 +1,7 @@
 -- The run is further, or as far, and the turns that come stay.
 use Rattle.std.proofs.Common.{◌≡◌, ◌⊎◌}
 use Rattle.orc_engine.specs.Stops.{Advances}
-use Rattle.orc_engine.proofs.crew.Crew.run_others.Given as goal
+use Rattle.orc_engine.proofs.crew.Crew.run_batches.Given as goal
 
 abbrev pub invariant-loop-from : goal.invariant-loop-from
 invariant-loop-from g l =
