@@ -164,7 +164,7 @@ build() {
         done
     else
         say "building the program for the first time: every proof is checked, on $jobs processors."
-        say "That takes ten minutes to an hour; the next call starts at once. The log is build.log."
+        say "That takes half an hour to an hour; the next call starts at once. The log is build.log."
         say "It may be broken off: the next call goes on from there."
         # shellcheck disable=SC2086
         crates=$(ranked $libraries)
