@@ -23,12 +23,22 @@ fn read_front<R: rt::Files + AllocGlobal>(rt: &R, path: &str) -> io::Result<Vec<
     Ok(bytes)
 }
 
+fn fault_of(error: io::Error) -> ReadFault {
+    match error.kind() {
+        ErrorKind::OutOfMemory => ReadFault::Memory,
+        _ => ReadFault::Failed,
+    }
+}
+
 impl<R: rt::Files + AllocGlobal> Files for SystemFiles<'_, R> {
+    type Reader = R::File;
+
     fn read(&mut self, path: &str) -> Result<Vec<u8>, ReadFault> {
-        read_front(self.rt, path).map_err(|error| match error.kind() {
-            ErrorKind::OutOfMemory => ReadFault::Memory,
-            _ => ReadFault::Failed,
-        })
+        read_front(self.rt, path).map_err(fault_of)
+    }
+
+    fn open(&mut self, path: &str) -> Result<R::File, ReadFault> {
+        fs::open(self.rt, path).map_err(fault_of)
     }
 }
 

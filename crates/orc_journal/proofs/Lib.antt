@@ -1,5 +1,7 @@
+pub mod Arriving
 pub mod Calls
 pub mod Codes
+pub mod Coming
 pub mod Composing
 pub mod Digits
 pub mod Entries

@@ -13,6 +13,7 @@ use Rattle.orc_journal.specs.declared.text.JournalFault.{JournalFault}
 use Rattle.orc_journal.specs.declared.text.JournalFault.TheVariants.{Header, Line, Long, Memory}
 use Rattle.orc_journal.specs.Reading.{entry_at}
 use Rattle.orc_journal.specs.Lines.{Left, HasRead}
+use Rattle.orc_journal.specs.Pieces.{with_rest}
 use Rattle.orc_journal.specs.Texts.{Written, header, entry_lines, is_of, AreOf, counts, count, IsJournal, IsFault, NoLine}
 use Rattle.orc_journal.proofs.Codes.{same_some}
 use Rattle.orc_journal.proofs.Entries.{entry_again}
@@ -49,12 +50,12 @@ count_front (e ∷ es) gs = go (counts e) (count_front es gs) where
   go true ih = omega (arith, ih)
   go false ih = ih
 
-pub read_more : (names : List (List ℕ)) (text : List ℕ) (l : Left) (es : List Entry) (e : Entry) (behind : List ℕ) (counted : ℕ) → l.rest ≡ line names e ++ behind → Fits names e → is_of l.version e ≡ true → counted ≡ cond (counts e) (l.counted + 1) l.counted
-    → HasRead names text l es → HasRead names text (record { version = l.version; rest = behind; read = l.read + 1; counted = counted }) (es ++ e ∷ [])
+pub read_more : (names : List (List ℕ)) (text : List ℕ) (l : Left) (es : List Entry) (e : Entry) (behind : List ℕ) (counted : ℕ) → l.coming.rest ≡ line names e ++ behind → Fits names e → is_of l.version e ≡ true → counted ≡ cond (counts e) (l.counted + 1) l.counted
+    → HasRead names text l es → HasRead names text (record { version = l.version; coming = with_rest l.coming behind; read = l.read + 1; counted = counted }) (es ++ e ∷ [])
 read_more names text l es e behind counted here fits known is read = record {
-  front = front_more names text l.version es l.rest e behind read.front here;
+  front = front_more names text l.version es l.coming.rest e behind read.front here;
   each = are_more names l.version es e read.each fits known;
-  size = read.size;
+  came = read.came;
   number = omega (arith, read.number, length-append es (e ∷ []));
   counts = is ∙ ap (λ (n : ℕ). cond (counts e) (n + 1) n) read.counts ∙ sym (count_more es e);
 }

@@ -2,6 +2,8 @@
 use Rattle.std.specs.Prelude.{ℕ, List, ◌++◌, codes, decimal}
 use Rattle.orc_journal.specs.declared.text.JournalFault.{JournalFault}
 use Rattle.orc_journal.specs.declared.text.JournalFault.TheVariants as journal
+use Rattle.orc_journal.specs.declared.lines.LinesFault.{LinesFault}
+use Rattle.orc_journal.specs.declared.lines.LinesFault.TheVariants.{Text, Unread}
 
 abbrev pub journal_line : JournalFault → List ℕ
 journal_line journal.Header = codes "J1"
@@ -13,3 +15,8 @@ journal_line journal.Memory = codes "J4"
 abbrev pub journal_status : JournalFault → ℕ
 journal_status journal.Memory = 5
 journal_status f = 1
+
+-- the fault of a text in memory, which can always be read
+abbrev pub journal_fault_of : LinesFault → JournalFault
+journal_fault_of (Text f) = f
+journal_fault_of Unread = journal.Memory

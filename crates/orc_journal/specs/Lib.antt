@@ -1,4 +1,5 @@
 pub mod Lines
+pub mod Pieces
 pub mod Reading
 pub mod Rows
 pub mod Shifts

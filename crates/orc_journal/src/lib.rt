@@ -5,6 +5,7 @@ mod fitting;
 mod grafting;
 mod journal;
 mod lines;
+mod pieces;
 mod reading;
 mod room;
 mod rows;
@@ -14,7 +15,7 @@ mod writing;
 
 pub use fitting::has_line;
 pub use journal::{Journal, Version};
-pub use lines::Lines;
+pub use lines::{Lines, LinesFault};
 pub use reading::read_entry;
 pub use text::{JournalFault, read_journal, write_header, write_journal};
 pub use writing::{write_entry, write_publication, write_value};

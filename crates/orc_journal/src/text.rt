@@ -7,13 +7,13 @@ ghost use Rattle.orc_rules.specs.Named.{AreNamed};
 ghost use Rattle.orc_rules.specs.Text.{line, Fits, IsNamed};
 ghost use Rattle.orc_journal.specs.declared.journal.Version.TheVariants.{Two};
 ghost use Rattle.orc_journal.specs.declared.text.JournalFault.TheVariants.{Memory as MemoryFault};
-ghost use Rattle.orc_journal.specs.Faults.{journal_line, journal_status};
+ghost use Rattle.orc_journal.specs.Faults.{journal_fault_of, journal_line, journal_status};
 ghost use Rattle.orc_journal.specs.Reading.{header_at};
 ghost use Rattle.orc_journal.specs.Texts.{Written, header, is_of, counts, journal_text, AreOf, IsJournal, IsFault};
 
 use crate::fitting::has_line;
 use crate::journal::{Journal, Version};
-use crate::lines::{Lines, is_known};
+use crate::lines::{Lines, LinesFault, is_known};
 use crate::writing::write_entry;
 use orc_rules::answers::Answers;
 use orc_rules::entry::Entry;
@@ -69,6 +69,16 @@ pub fn write_header(out: &mut Vec<u8>, version: Version) -> Result<(), AllocErro
     }
 }
 
+// The fault of a text in memory. Such a text can always be read.
+fn fault_of(fault: LinesFault) -> JournalFault
+    ensures { result ≡ journal_fault_of fault }
+{
+    match fault {
+        LinesFault::Text(fault) => fault,
+        LinesFault::Unread => JournalFault::Memory,
+    }
+}
+
 /// Reads a journal, whose sites are those of the table.
 pub fn read_journal(alloc: Global, text: &[u8], answers: &Answers) -> Result<Journal, JournalFault>
     // What is read is the text's journal.
@@ -79,18 +89,22 @@ pub fn read_journal(alloc: Global, text: &[u8], answers: &Answers) -> Result<Jou
     ensures only { (j : Written) → IsJournal answers.now.names text.now j → MatchResult result (λ k. k ≡ j) (λ f. f ≡ MemoryFault) }
 {
     answers.are_apart();
-    let mut lines = match Lines::new(text) {
+    let mut lines = match Lines::new(alloc, text) {
         Ok(lines) => lines,
-        Err(fault) => return Err(fault),
+        Err(fault) => return Err(fault_of(fault)),
     };
     let mut journal = Journal::new(alloc, lines.version());
     let mut entry = Entry::Tick(0);
-    while lines.next(answers, &mut entry)? {
+    loop {
+        match lines.next(answers, &mut entry) {
+            Ok(true) => {}
+            Ok(false) => return Ok(journal),
+            Err(fault) => return Err(fault_of(fault)),
+        }
         if journal.push(&entry).is_err() {
             return Err(JournalFault::Memory);
         }
     }
-    Ok(journal)
 }
 
 // Whether an entry has a line in a journal of that version.

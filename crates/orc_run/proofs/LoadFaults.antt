@@ -9,7 +9,11 @@ use Rattle.orc_load.specs.Loading.{IsLoadFault, Loads}
 use Rattle.orc_load.specs.declared.fault.LoadFault.{LoadFault}
 use Rattle.orc_load.specs.declared.fault.LoadFault.TheVariants as load
 use Rattle.orc_run.specs.Running.{IsFaultOf, IsOther, LeavesAtFault, of_load}
-use Rattle.orc_run.specs.Checked.{IsBeyond, IsCheckFault, IsJudged, IsOfRun, IsRefusal, LeavesUnjudged}
+use Rattle.orc_journal.specs.Pieces.{MayCome}
+use Rattle.orc_journal.proofs.Coming.{some_may_come}
+use Rattle.orc_run.specs.Checked.{IsBeyond, IsCheckFault, IsJudged, IsOfRun, IsRefusal, IsUnchecked, IsUnjudged, LeavesUnchecked, LeavesUnjudged}
+use Rattle.orc_run.specs.declared.judging.Unchecked.{Unchecked}
+use Rattle.orc_run.specs.declared.judging.Unchecked.TheVariants.{Fault, Unread}
 use Rattle.orc_run.specs.Drawn.{IsUndrawable, LeavesUndrawn}
 use Rattle.orc_run.specs.declared.drawing.Undrawn.{Undrawn}
 use Rattle.orc_run.specs.declared.drawing.Undrawn.TheVariants as undrawn
@@ -52,6 +56,17 @@ refused source script journal (fault.Check f) h = h
 refused source script journal (fault.Engine f) h = h
 refused source script journal (fault.Write w) h = tt
 
+-- ---- a journal that is read piece by piece
+
+pub of_pieces : (source script : List ℕ) (left : Option (List ℕ)) (f : LoadFault) → IsLoadFault source script f → (text : List ℕ) × MayCome left text × IsUnjudged source script text (Fault (of_load f))
+of_pieces source script left f h =
+    let (bytes, may) = some_may_come left in
+    (bytes, may, of_check source script bytes f h)
+
+pub unread : (source script text : List ℕ) (f : Unchecked) → IsUnjudged source script text f → IsUnchecked source script text f
+unread source script text (Fault f) h = refused source script text f h
+unread source script text Unread h = h
+
 pub check_left : (source script journal : List ℕ) (old new : Option (List ℕ)) (f : RunFault) → IsRefusal source script journal f → Keeps old new → LeavesUnjudged source script journal old new f
 check_left source script journal old new (fault.Syntax f) h keeps = keeps
 check_left source script journal old new (fault.Scope f) h keeps = keeps
@@ -60,6 +75,10 @@ check_left source script journal old new (fault.Journal f) h keeps = keeps
 check_left source script journal old new (fault.Check f) h keeps = keeps
 check_left source script journal old new (fault.Engine f) h keeps = keeps
 check_left source script journal old new (fault.Write w) h keeps = absurd h
+
+pub unread_left : (source script text : List ℕ) (old new : Option (List ℕ)) (f : Unchecked) → IsUnjudged source script text f → Keeps old new → LeavesUnchecked source script text old new f
+unread_left source script text old new (Fault f) h keeps = check_left source script text old new f h keeps
+unread_left source script text old new Unread h keeps = keeps
 
 pub draw_left : (source script journal : List ℕ) (old new : Option (List ℕ)) (f : RunFault) → IsRefusal source script journal f → Keeps old new → LeavesUndrawn source script journal old new (undrawn.Fault f)
 draw_left source script journal old new (fault.Syntax f) h keeps = keeps

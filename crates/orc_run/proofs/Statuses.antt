@@ -27,7 +27,8 @@ use Rattle.orc_journal.specs.Faults.{journal_status}
 use Rattle.orc_engine.specs.Faults.{engine_status}
 use Rattle.orc_run.specs.Running.{LeavesAtFault}
 use Rattle.orc_run.specs.Status.{read_status_of}
-use Rattle.orc_run.specs.Checked.{LeavesUnjudged}
+use Rattle.orc_run.specs.Checked.{LeavesUnchecked, LeavesUnjudged}
+use Rattle.orc_run.specs.declared.judging.Unchecked.TheVariants.{Fault}
 use Rattle.orc_run.specs.Drawn.{LeavesUndrawn}
 use Rattle.orc_run.specs.Printed.{LeavesUnprinted}
 use Rattle.orc_words.specs.declared.job.Options.{Options}
@@ -69,6 +70,9 @@ unjudged source script journal old new (fault.Journal f) k = k
 unjudged source script journal old new (fault.Check f) k = k
 unjudged source script journal old new (fault.Engine f) k = k
 unjudged source script journal old new (fault.Write w) k = tt
+
+pub unchecked : (source script journal : List ℕ) (old new : Option (List ℕ)) (f : RunFault) → LeavesUnchecked source script journal old new (Fault f) → LeavesUndone (failure.Fault f) old new
+unchecked source script journal old new f k = unjudged source script journal old new f k
 
 pub unprinted : (source : List ℕ) (old new : Option (List ℕ)) (f : RunFault) → LeavesUnprinted source old new f → LeavesUndone (failure.Fault f) old new
 unprinted source old new (fault.Syntax f) k = k

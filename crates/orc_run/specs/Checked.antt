@@ -1,5 +1,5 @@
 -- What the check of a journal's text does.
-use Rattle.std.specs.Prelude.{◌≡◌, ◌≢◌, ◌⊎◌, ℕ, List, ◌++◌, length, codes, decimal, true}
+use Rattle.std.specs.Prelude.{◌≡◌, ◌≢◌, ◌⊎◌, ℕ, List, ◌++◌, length, codes, decimal, true, ⊤}
 use Rattle.std.specs.declared.option.Option.{Option}
 use Rattle.std.specs.Io.KnownBytes.{Keeps, Appends}
 use Rattle.orc_rules.specs.declared.entry.RuleFault.TheVariants as reason
@@ -25,6 +25,8 @@ use Rattle.orc_outcome.specs.declared.end.End.TheVariants as ends
 use Rattle.orc_outcome.specs.declared.end.Summary.{Summary}
 use Rattle.orc_words.specs.declared.job.Options.{Options}
 use Rattle.orc_run.specs.declared.faults.RunFault.{RunFault}
+use Rattle.orc_run.specs.declared.judging.Unchecked.{Unchecked}
+use Rattle.orc_run.specs.declared.judging.Unchecked.TheVariants as unchecked
 use Rattle.orc_run.specs.declared.faults.RunFault.TheVariants as fault
 
 -- the line of a yes: how many entries there are, and where the run stands
@@ -58,6 +60,27 @@ abbrev pub IsCheckFault : List ℕ → List ℕ → List ℕ → RunFault → Ty
 IsCheckFault text script journal (fault.Write w) = Unit {0}
 IsCheckFault text script journal f = IsRefusal text script journal f
 
+-- ---- a journal that is read piece by piece
+
+-- the source spells a program with the script's sites
+abbrev pub IsLoaded : List ℕ → List ℕ → Type 0
+IsLoaded text script = (l : Listing) × (t : Table) × Says script t × IsProgramOf text t l
+
+-- why no verdict is given on it: such a refusal, or it couldn't be read; it is read only where there is a program
+abbrev pub IsUnjudged : List ℕ → List ℕ → List ℕ → Unchecked → Type 0
+IsUnjudged text script journal (unchecked.Fault f) = IsRefusal text script journal f
+IsUnjudged text script journal unchecked.Unread = IsLoaded text script
+
+-- the fault of its check: such a one, or one of the output
+abbrev pub IsUnchecked : List ℕ → List ℕ → List ℕ → Unchecked → Type 0
+IsUnchecked text script journal (unchecked.Fault f) = IsCheckFault text script journal f
+IsUnchecked text script journal unchecked.Unread = IsLoaded text script
+
+-- nothing was written where it couldn't be read
+abbrev pub LeavesUnchecked : List ℕ → List ℕ → List ℕ → Option (List ℕ) → Option (List ℕ) → Unchecked → Type 0
+LeavesUnchecked text script journal old new (unchecked.Fault f) = LeavesUnjudged text script journal old new f
+LeavesUnchecked text script journal old new unchecked.Unread = Keeps old new
+
 -- ---- the journal of a run
 
 -- a text that a run of the source with the script wrote as its journal, of which the summary tells
@@ -83,3 +106,8 @@ IsBeyond (fault.Journal f) = (f ≡ journal.Long) ⊎ (f ≡ journal.Memory)
 IsBeyond (fault.Check f) = (f.why ≡ reason.Deep) ⊎ (f.why ≡ reason.Memory)
 IsBeyond (fault.Write w) = Unit {0}
 IsBeyond _ = ⊥
+
+-- of one that is read piece by piece also that it couldn't be read
+abbrev pub MayFail : Unchecked → Type 0
+MayFail (unchecked.Fault f) = IsBeyond f
+MayFail unchecked.Unread = ⊤

@@ -11,7 +11,7 @@ use crate::explained::{Explained, subject_of};
 use crate::failures::{Failure, report};
 use crate::faults::RunFault;
 use crate::inputs::{Files, ReadFault};
-use crate::judging::check_text;
+use crate::judging::{Unchecked, check_read, check_text};
 use crate::output::WriteFault;
 use crate::printing::print_text;
 use crate::running::run_text;
@@ -113,9 +113,35 @@ fn run_file<'a, R: Threads + Wait + Sync, F: Files, W: Write>(
     }
 }
 
-// Checks the journal of a file.
+// Checks the journal of a file, which is read piece by piece.
+#[tactic(auto, using(crate::proofs::Statuses::unread, crate::proofs::Statuses::unchecked))]
+fn check_pieces<'a, F: Files, W: Write>(
+    alloc: Global,
+    file: &'a str,
+    journal: &'a str,
+    script: Option<&'a str>,
+    files: &mut F,
+    out: &mut W,
+) -> Result<u8, Failure<'a>>
+    ensures done { IfOk result (HasJudged (F.holds files.old) file.now journal.entry.now (option_map (λ p. p.now) script.entry) (W.contents out.old) (W.contents out.new)) }
+    ensures undone { IfErr result (λ f. LeavesUndone f (W.contents out.old) (W.contents out.new)) }
+{
+    let source = read(file, files)?;
+    let reader = match files.open(journal) {
+        Ok(reader) => reader,
+        Err(fault) => return Err(Failure::Unread(journal, fault)),
+    };
+    let answers = read_script(alloc, script, files)?;
+    match check_read(alloc, source.as_slice(), answers.as_slice(), reader, out) {
+        Ok(()) => Ok(0),
+        Err(Unchecked::Fault(fault)) => Err(Failure::Fault(fault)),
+        Err(Unchecked::Unread) => Err(Failure::Unread(journal, ReadFault::Failed)),
+    }
+}
+
+// Checks the journal of a file, whose text is kept, so that a fault can be shown in it.
 #[tactic(auto, using(crate::proofs::Statuses::unread, crate::proofs::Statuses::unjudged))]
-fn check_file<'a, F: Files, W: Write>(
+fn check_whole<'a, F: Files, W: Write>(
     alloc: Global,
     file: &'a str,
     journal: &'a str,
@@ -147,6 +173,26 @@ fn check_file<'a, F: Files, W: Write>(
             explained.fault(alloc, &subject, fault);
             Err(Failure::Fault(fault))
         }
+    }
+}
+
+// Checks the journal of a file.
+fn check_file<'a, F: Files, W: Write>(
+    alloc: Global,
+    file: &'a str,
+    journal: &'a str,
+    script: Option<&'a str>,
+    files: &mut F,
+    out: &mut W,
+    explained: &mut Explained,
+) -> Result<u8, Failure<'a>>
+    ensures done { IfOk result (HasJudged (F.holds files.old) file.now journal.entry.now (option_map (λ p. p.now) script.entry) (W.contents out.old) (W.contents out.new)) }
+    ensures undone { IfErr result (λ f. LeavesUndone f (W.contents out.old) (W.contents out.new)) }
+{
+    if explained.is_asked() {
+        check_whole(alloc, file, journal, script, files, out, explained)
+    } else {
+        check_pieces(alloc, file, journal, script, files, out)
     }
 }
 
@@ -245,8 +291,9 @@ fn do_job<'a, R: Threads + Wait + Sync, F: Files, W: Write>(
 
 /// Does one command line, whose first word is the program's name, and gives the process's status.
 ///
-/// FILE, JOURNAL and the script are read in this order, before anything else. Standard output is `out`, standard error `err`; what
-/// standard error doesn't take changes no status. Where the status says that a file's text, the command line or the engine was at
+/// FILE, JOURNAL and the script are read in this order, before anything else; but where no explanation is asked for, a JOURNAL that is to be
+/// checked is only opened then, and read while it is checked. Standard output is `out`, standard error `err`; what standard error doesn't
+/// take changes no status. Where the status says that a file's text, the command line or the engine was at
 /// fault, nothing was written to standard output. Where it says that a run ended quiet, or was cut by its limit or one of the
 /// engine's, the whole text of a run that ended so was.
 #[tactic(auto, using(crate::proofs::Statuses::kept, crate::proofs::Statuses::untouched, crate::proofs::Statuses::faultless, crate::proofs::Statuses::ended_quiet, crate::proofs::Statuses::ended_cut, crate::proofs::Statuses::not_quiet, crate::proofs::Statuses::not_cut))]

@@ -71,7 +71,8 @@ impl Explained {
         }
     }
 
-    fn is_asked(&self) -> bool
+    /// Whether the command line asks for it.
+    pub(crate) fn is_asked(&self) -> bool
         ensures { self.now ≡ Unasked → result ≡ false }
     {
         match self {

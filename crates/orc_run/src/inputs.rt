@@ -3,8 +3,11 @@
 ghost use Rattle.std.specs.Prelude.{◌≡◌, ℕ, List, IfOk};
 ghost use Rattle.std.specs.declared.option.Option.{Option};
 ghost use Rattle.std.specs.declared.option.Option.TheVariants.{None};
+ghost use Rattle.std.specs.Io.KnownBytes.{Keeps};
 ghost use Rattle.orc_run.specs.Inputs.{IsHeld};
 ghost use Rattle.orc_run.specs.Status.{read_status_of};
+
+use std::io::Read;
 
 /// Why a file could not be read.
 #[derive(Clone, Copy, Debug, PartialEq, Eq)]
@@ -20,9 +23,17 @@ pub trait Files {
     /// What the file at a path holds, where that is known. Nothing is known of the system's files.
     ghost holds: { Self → List ℕ → Option (List ℕ) } = { λ _ _. None };
 
+    /// A file that is read piece by piece.
+    type Reader: Read + Drop;
+
     /// All bytes of the file at this path.
     fn read(&mut self, path: &str) -> Result<Vec<u8>, ReadFault>
         ensures held { IfOk result (λ bytes. IsHeld (holds self.old path.now) bytes.items) }
+        ensures same { (at : List ℕ) → holds self.new at ≡ holds self.old at };
+
+    /// The file at this path, of which nothing is read yet.
+    fn open(&mut self, path: &str) -> Result<Self::Reader, ReadFault>
+        ensures held { IfOk result (λ file. Keeps (holds self.old path.now) (Self.Reader.remaining file)) }
         ensures same { (at : List ℕ) → holds self.new at ≡ holds self.old at };
 }
 

@@ -20,7 +20,7 @@ pub use explained::Explained;
 pub use failures::{Failure, report};
 pub use faults::RunFault;
 pub use inputs::{Files, ReadFault};
-pub use judging::check_text;
+pub use judging::{Unchecked, check_read, check_text};
 pub use orc_outcome::{End, Summary};
 pub use orc_words::Options;
 pub use output::{WriteFault, write_text};

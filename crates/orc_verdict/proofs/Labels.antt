@@ -1,10 +1,9 @@
 -- Entries that are applied.
-use Rattle.std.proofs.Common.{◌≡◌, ◌<◌, ◌≤◌, ◌+◌, ℕ, List, Bool, Option, refl, subst, arith}
+use Rattle.std.proofs.Common.{◌≡◌, ◌≤◌, ◌+◌, ℕ, List, Option, refl, subst, arith}
 use Rattle.orc_rules.specs.declared.entry.Entry.{Entry}
 use Rattle.orc_rules.specs.declared.entry.Label.{Label}
 use Rattle.orc_rules.specs.declared.entry.RuleFault.{RuleFault}
 use Rattle.orc_rules.specs.declared.limits.TheConstants.{MOST_LEVELS}
-use Rattle.orc_rules.specs.Journal.{Place}
 use Rattle.orc_rules.specs.Marked.{erase}
 use Rattle.orc_rules.specs.Nodes.{Listing, code}
 use Rattle.orc_rules.specs.Refusal.{depth}

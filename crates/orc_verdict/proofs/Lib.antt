@@ -8,3 +8,4 @@ pub mod Labels
 pub mod Levels
 pub mod Nesting
 pub mod Parts
+pub mod Reading

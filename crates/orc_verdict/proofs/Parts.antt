@@ -1,27 +1,19 @@
 -- The part of a marked term that a node with a name shows.
-use Rattle.std.proofs.Common.{◌≡◌, ◌≤◌, ◌<◌, ◌+◌, ℕ, zero, suc, List, [], ◌∷◌, Some, length, refl, sym, ap, ◌∙◌, subst, arith, inl, inr, ◌⊎◌, ⊎_elim}
+use Rattle.std.proofs.Common.{◌≡◌, ◌≤◌, ◌<◌, ◌+◌, ℕ, zero, suc, List, [], ◌∷◌, Some, length, refl, sym, ap, ◌∙◌, arith, inl, inr, ◌⊎◌, ⊎_elim}
 use Rattle.std.specs.Prelude.{slice_get}
 use Rattle.orc_rules.specs.Term.{Term}
-use Rattle.orc_rules.specs.Idle.{has_halted}
-use Rattle.orc_rules.specs.Marked.{Marked, in_opened, in_other, erase, Replaces, here}
+use Rattle.orc_rules.specs.Marked.{Marked}
 use Rattle.orc_rules.specs.Numbered.{mark, cell, once, times}
-use Rattle.orc_rules.specs.Refusal.{Stands}
 use Rattle.orc_checker.specs.declared.arena.Node.{Node}
-use Rattle.orc_checker.specs.declared.arena.Kind.{Kind}
 use Rattle.orc_checker.specs.declared.arena.Kind.TheVariants.{Leaf, One, Two}
 use Rattle.orc_checker.specs.declared.arena.Tip.{Tip}
 use Rattle.orc_checker.specs.declared.arena.Tip.TheVariants.{Gone, Ended, Token, Bears, Waits}
 use Rattle.orc_checker.specs.declared.arena.Single.TheVariants.{Feeds, Entered, Passed}
 use Rattle.orc_checker.specs.declared.arena.Double.TheVariants.{Both, Side}
-use Rattle.orc_checker.specs.Arena.{Tree, leaf, one, two, place, at, Holds, StandOnce, living, living_kind, of_tip, spelled, Frame, plug}
-use Rattle.orc_names.specs.Scopes.{Env, close, env_of}
-use Rattle.orc_checker.specs.Around.{above}
-use Rattle.orc_checker.specs.Rising.{Stands as StandsAt}
-use Rattle.orc_checker.specs.Settling.{flag, Flagged}
+use Rattle.orc_checker.specs.Arena.{Tree, leaf, one, two, place, Holds, of_tip, spelled}
+use Rattle.orc_names.specs.Scopes.{Env, env_of}
 use Rattle.orc_checker.specs.Checker.{State, Draws}
-use Rattle.orc_checker.proofs.Trees.{spot, holds-out, missed}
-use Rattle.orc_checker.proofs.Spelling.{replaces}
-use Rattle.orc_checker.proofs.Settling.{flag_says, flagged-out}
+use Rattle.orc_checker.proofs.Trees.{missed}
 use Rattle.orc_verdict.specs.declared.finding.Name.{Name}
 use Rattle.orc_verdict.specs.declared.finding.Name.TheVariants.{Mark, Call, Cell}
 use Rattle.orc_verdict.specs.Finding.{name_at, named, HasNone, LacksAt}

@@ -7,7 +7,6 @@ use Rattle.orc_rules.specs.declared.entry.Entry.{Entry}
 use Rattle.orc_rules.specs.declared.entry.Entry.TheVariants as entry
 use Rattle.orc_rules.specs.Term.{Term, Definition, stop, param, site, call, par, seq, prune, other, pending, opened}
 use Rattle.orc_rules.specs.Sites.{value_eq}
-use Rattle.orc_rules.specs.Step.{Act, silent, publishes, binds}
 use Rattle.orc_rules.specs.Idle.{has_void}
 use Rattle.orc_checker.specs.declared.arena.Kind.{Kind}
 use Rattle.orc_checker.specs.declared.arena.Kind.TheVariants.{Leaf}

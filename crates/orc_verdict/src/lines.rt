@@ -6,32 +6,40 @@ ghost use Rattle.orc_rules.specs.Nodes.{Listing, source};
 ghost use Rattle.orc_rules.specs.Verdict.{IsVerdict};
 ghost use Rattle.orc_checker.specs.Checker.{context};
 ghost use Rattle.orc_journal.specs.Lines.{HasRead};
+ghost use Rattle.orc_journal.specs.Pieces.{MayCome};
 ghost use Rattle.orc_journal.specs.Texts.{Written, IsJournal};
-ghost use Rattle.orc_verdict.specs.Lines.{IsRefusedAt, IsTextFault};
-ghost use Rattle.orc_verdict.specs.declared.lines.TextFault.TheVariants.{Journal};
+ghost use Rattle.orc_verdict.specs.Lines.{IsRefusedAt, IsTextFault, text_fault_of};
 ghost use Rattle.orc_verdict.specs.Verdicts.{records_cancels};
 
 use crate::heights::Heights;
 use crate::verdict::{CheckFault, Taken, Verdict, records_cancels, state_of, take};
 use orc_checker::Marked;
-use orc_journal::{JournalFault, Lines};
+use orc_journal::{JournalFault, Lines, LinesFault};
 use orc_rules::answers::Answers;
 use orc_rules::entry::{Entry, RuleFault};
 use orc_rules::program::Program;
 use std::alloc::Global;
+use std::io::Read;
 
-/// Why a text has no verdict: it is no journal's, or the journal is refused.
+/// Why a text has no verdict.
 #[derive(Clone, Copy, PartialEq, Eq, Debug)]
 pub enum TextFault {
+    /// It is no journal's.
     Journal(JournalFault),
+    /// The journal is refused.
     Check(CheckFault),
+    /// It couldn't be read.
+    Unread,
 }
 
-impl From<JournalFault> for TextFault {
-    ghost from_gives = { λ fault f. f ≡ Journal fault };
+impl From<LinesFault> for TextFault {
+    ghost from_gives = { λ fault f. f ≡ text_fault_of fault };
 
-    fn from(fault: JournalFault) -> TextFault {
-        TextFault::Journal(fault)
+    fn from(fault: LinesFault) -> TextFault {
+        match fault {
+            LinesFault::Text(fault) => TextFault::Journal(fault),
+            LinesFault::Unread => TextFault::Unread,
+        }
     }
 }
 
@@ -43,29 +51,30 @@ pub struct Checked {
 }
 
 // The fault of a text whose journal is refused: one of the lines that are left goes before.
-fn refused(lines: &mut Lines, answers: &Answers, fault: CheckFault) -> TextFault
-    ensures { (l : Listing) (text : List ℕ) (es : List EntryOf) → HasRead answers.now.names text lines.old es → ((more : List EntryOf) → IsRefusedAt l answers.now lines.old.version (es ++ more) fault) → IsTextFault l answers.now text result }
+fn refused<R: Read + Drop>(lines: &mut Lines<R>, answers: &Answers, fault: CheckFault) -> TextFault
+    ensures { (l : Listing) (text : List ℕ) (es : List EntryOf) → HasRead answers.now.names text lines.old es → ((more : List EntryOf) → IsRefusedAt l answers.now lines.old.version (es ++ more) fault) → (piece : List ℕ) × MayCome lines.old.coming.left piece × IsTextFault l answers.now (text ++ piece) result }
 {
     match lines.finish(answers) {
         Ok(()) => TextFault::Check(fault),
-        Err(fault) => TextFault::Journal(fault),
+        Err(fault) => TextFault::from(fault),
     }
 }
 
-/// The verdict on a text's journal of a program, as `read_journal` and `check_journal` tell it together. Nothing is kept of the entries, so
-/// that a check needs memory for the marked term alone. The fault is that of the text, else that of the journal.
-pub fn check_lines(
+/// The verdict on a text's journal of a program, as `read_journal` and `check_journal` tell it together. The text is read piece by piece, and nothing is
+/// kept of it nor of the entries, so that a check needs memory for the marked term alone. The fault is that of the text, else that of the journal;
+/// or the text couldn't be read.
+pub fn check_lines<R: Read + Drop>(
     alloc: Global,
     program: &Program,
     answers: &Answers,
-    text: &[u8],
+    text: R,
 ) -> Result<Checked, TextFault>
-    ensures verdict { IfOk result (λ c. (j : Written) × IsJournal answers.now.names text.now j × (c.entries ≡ length j.entries) × IsVerdict (context program.now answers.now (records_cancels j.version)) (source program.now) j.entries c.verdict.state c.verdict.now) }
-    ensures fault { IfErr result (IsTextFault program.now answers.now text.now) }
+    ensures verdict { IfOk result (λ c. (whole : List ℕ) × MayCome (R.remaining text) whole × ((j : Written) × IsJournal answers.now.names whole j × (c.entries ≡ length j.entries) × IsVerdict (context program.now answers.now (records_cancels j.version)) (source program.now) j.entries c.verdict.state c.verdict.now)) }
+    ensures fault { IfErr result (λ f. (whole : List ℕ) × MayCome (R.remaining text) whole × IsTextFault program.now answers.now whole f) }
 {
-    let mut lines = match Lines::new(text) {
+    let mut lines = match Lines::new(alloc, text) {
         Ok(lines) => lines,
-        Err(fault) => return Err(TextFault::Journal(fault)),
+        Err(fault) => return Err(TextFault::from(fault)),
     };
     let none = CheckFault {
         at: 0,

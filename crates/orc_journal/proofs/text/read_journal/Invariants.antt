@@ -1,9 +1,10 @@
-use Rattle.std.proofs.Common.{◌≡◌, length}
-use Rattle.orc_journal.specs.Lines.{HasRead}
+use Rattle.std.proofs.Common.{◌≡◌, ℕ, List, Some}
+use Rattle.std.specs.Io.KnownBytes.{Consumes}
+use Rattle.orc_journal.specs.Lines.{HasRead, to_read}
 use Rattle.orc_journal.proofs.text.read_journal.Given as goal
 
 abbrev pub invariant-loop-journal : goal.invariant-loop-journal
-invariant-loop-journal l = (l.lines.version ≡ l.journal.version) × HasRead l.answers.names l.text l.lines l.journal.entries
+invariant-loop-journal l = (l.lines.version ≡ l.journal.version) × ((piece : List ℕ) × Consumes (Some l.fn.text) l.lines.coming.left piece × HasRead l.answers.names piece l.lines l.journal.entries)
 
 abbrev pub decreases-loop-journal : goal.decreases-loop-journal
-decreases-loop-journal l = length l.lines.rest
+decreases-loop-journal l = to_read l.lines

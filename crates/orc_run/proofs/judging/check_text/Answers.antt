@@ -1,28 +1,11 @@
-use Rattle.std.proofs.Common.{◌∙◌, [], length, refl}
-use Rattle.std.proofs.KnownBytes.{Appends-nil}
-use Rattle.std.proofs.lemmas.Result.{err_from_is_err_and}
-use Rattle.orc_run.specs.Checked.{verdict_line, IsBeyond}
-use Rattle.orc_run.proofs.Accepting.{same_line}
+use Rattle.std.proofs.Common.{refl, subst}
+use Rattle.orc_run.specs.Checked.{MayFail}
 use Rattle.orc_run.proofs.judging.check_text.Goals as goal
-
--- memory for the line was refused, and nothing written
-pub returns-in_default-clause-fault : goal.returns-in_default-clause-fault
-returns-in_default-clause-fault g c =
-    let (j, judged, number) = c.in_ok-brought.ensures.judged in
-    let state = c.in_ok-brought.brought.state in
-    (j, state, judged, ([], verdict_line (length j.entries) state, refl, Appends-nil _))
 
 -- ---- the journal of a run
 
-pub returns-in_err-brought-clause-beyond : goal.returns-in_err-brought-clause-beyond
-returns-in_err-brought-clause-beyond g c = λ s of.
-    let (y, is, from) = err_from_is_err_and c.from_residual.result c.from_residual.ensures.1 in
-    let found : IsBeyond y = rw from (c.in_err-brought.ensures.beyond s of) in
-    rw is found
+pub returns-in-Ok-clause-accepted : goal.returns-in-Ok-clause-accepted
+returns-in-Ok-clause-accepted g c = λ s of. c.in-Ok.ensures.accepted c.args.journal.now s refl of
 
--- it is accepted
-pub returns-in-Ok-write_text-clause-accepted : goal.returns-in-Ok-write_text-clause-accepted
-returns-in-Ok-write_text-clause-accepted g c = λ s of.
-    let state = c.in_ok-brought.brought.state in
-    let so = c.in_ok-brought.ensures.accepted s of in
-    (state, so.0, same_line _ _ _ _ s.entries state (c.as_slice.ensures.value ∙ c.in-Ok.ensures) so.1 c.in-Ok-write_text.ensures.ok)
+pub returns-in-Err-Fault-clause-beyond : goal.returns-in-Err-Fault-clause-beyond
+returns-in-Err-Fault-clause-beyond g c = λ s of. subst MayFail c.in-Err-Fault.field-0-is (c.in-Err-Fault.ensures.beyond c.args.journal.now s refl of)

@@ -1,6 +1,6 @@
 use Rattle.std.proofs.Common.{◌∙◌, refl}
 use Rattle.orc_run.proofs.KnownFiles.{held_before, read_before}
-use Rattle.orc_run.proofs.commands.check_file.Goals as goal
+use Rattle.orc_run.proofs.commands.check_whole.Goals as goal
 
 -- the files that the words name were checked
 pub returns-in-Ok-clause-done : goal.returns-in-Ok-clause-done
