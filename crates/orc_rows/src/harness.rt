@@ -3,7 +3,7 @@
 use orc_run::{Files, Options, ReadFault, Summary, command, run_text};
 use std::alloc::Global;
 use std::io;
-use std::io::Write;
+use std::io::{Empty, Read, Write};
 use std::sync::Wait;
 use std::test::Fail;
 use std::thread::Threads;
@@ -18,11 +18,18 @@ pub struct MemoryFiles<'a> {
     pub files: &'a [(&'a str, &'a [u8])],
 }
 
-impl Files for MemoryFiles<'_> {
+impl<'a> Files for MemoryFiles<'a> {
+    type Reader = &'a [u8];
+
     fn read(&mut self, path: &str) -> Result<Vec<u8>, ReadFault> {
+        let bytes = self.open(path)?;
+        Vec::from_slice(self.alloc, bytes).map_err(|_| ReadFault::Memory)
+    }
+
+    fn open(&mut self, path: &str) -> Result<&'a [u8], ReadFault> {
         for (name, bytes) in self.files {
             if *name == path {
-                return Vec::from_slice(self.alloc, bytes).map_err(|_| ReadFault::Memory);
+                return Ok(*bytes);
             }
         }
         Err(ReadFault::Failed)
@@ -38,12 +45,45 @@ pub struct FailingFiles {
 }
 
 impl Files for FailingFiles {
-    fn read(&mut self, _path: &str) -> Result<Vec<u8>, ReadFault> {
+    type Reader = Empty;
+
+    fn read(&mut self, path: &str) -> Result<Vec<u8>, ReadFault> {
+        self.open(path)?;
+        Ok(Vec::new(self.alloc))
+    }
+
+    fn open(&mut self, _path: &str) -> Result<Empty, ReadFault> {
         if self.good == 0 {
             return Err(self.fault);
         }
         self.good -= 1;
-        Ok(Vec::new(self.alloc))
+        Ok(io::empty())
+    }
+}
+
+/// A file in memory that gives so many bytes at a time, and fails when it has given `good` in all.
+#[derive(Drop)]
+pub struct ShortReader<'a> {
+    pub bytes: &'a [u8],
+    pub at_once: usize,
+    pub good: usize,
+}
+
+impl Read for ShortReader<'_> {
+    fn read(&mut self, room: &mut [u8]) -> io::Result<usize> {
+        if self.good == 0 {
+            return Err(io::Error::from(io::ErrorKind::BrokenPipe));
+        }
+        let n = self
+            .at_once
+            .min(self.good)
+            .min(self.bytes.len())
+            .min(room.len());
+        let (given, rest) = self.bytes.split_at(n);
+        room[..n].copy_from_slice(given);
+        self.bytes = rest;
+        self.good -= n;
+        Ok(n)
     }
 }
 

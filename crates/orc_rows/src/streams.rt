@@ -1,7 +1,10 @@
 //! Files that can't be read, and streams that don't take what is written.
 
-use crate::harness::{FailingFiles, IdleWriter, MemoryFiles, ShortWriter, checked, orc, orc_into};
-use orc_run::{ReadFault, command};
+use crate::harness::{
+    FailingFiles, IdleWriter, MemoryFiles, ShortReader, ShortWriter, checked, orc, orc_into,
+};
+use orc_journal::JournalFault;
+use orc_run::{ReadFault, RunFault, Unchecked, check_read, command};
 use std::alloc::Global;
 use std::sync::Wait;
 use std::test::Fail;
@@ -148,6 +151,51 @@ fn blames_the_first_file_that_is_not_read(rt: HostRuntime) -> Result<(), Fail> {
             assert_eq!(rt; String::from_utf8(err)?.as_str(), said, "at {words:?}");
         }
     }
+    Ok(())
+}
+
+// However a journal comes, a byte at a time or many, the check says the same; where it can't be read to its end, that is told and nothing else.
+#[test]
+fn checks_a_journal_that_comes_in_pieces(rt: HostRuntime) -> Result<(), Fail> {
+    let alloc = rt.alloc();
+    let [(_, source), (_, script), (_, bytes)] = FILES;
+    for at_once in [1, 2, 7, 1_000] {
+        let journal = ShortReader {
+            bytes,
+            at_once,
+            good: usize::MAX,
+        };
+        let mut out = Vec::new(alloc);
+        let told = check_read(alloc, source, script, journal, &mut out);
+        assert!(rt; told == Ok(()), "at {at_once}");
+        assert_eq!(rt; out.as_slice(), b"ok 1 Running\n".as_slice());
+    }
+    for good in 0..=bytes.len() {
+        let journal = ShortReader {
+            bytes,
+            at_once: 3,
+            good,
+        };
+        let mut out = Vec::new(alloc);
+        let told = check_read(alloc, source, script, journal, &mut out);
+        assert!(rt; told == Err(Unchecked::Unread), "at {good}");
+        assert!(rt; out.is_empty());
+    }
+    Ok(())
+}
+
+// A line that no piece holds whole is no entry's, and its place is told.
+#[test]
+fn blames_a_line_that_is_longer_than_a_piece(rt: HostRuntime) -> Result<(), Fail> {
+    let alloc = rt.alloc();
+    let [(_, source), (_, script), (_, front)] = FILES;
+    let mut bytes = Vec::from_slice(alloc, front)?;
+    bytes.resize(200_000, b'1')?;
+    let mut out = Vec::new(alloc);
+    let told = check_read(alloc, source, script, bytes.as_slice(), &mut out);
+    let fault = RunFault::Journal(JournalFault::Line(3));
+    assert!(rt; told == Err(Unchecked::Fault(fault)));
+    assert!(rt; out.is_empty());
     Ok(())
 }
 
