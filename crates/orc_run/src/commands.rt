@@ -113,35 +113,10 @@ fn run_file<'a, R: Threads + Wait + Sync, F: Files, W: Write>(
     }
 }
 
-// Checks the journal of a file, which is read piece by piece.
-#[tactic(auto, using(crate::proofs::Statuses::unread, crate::proofs::Statuses::unchecked))]
-fn check_pieces<'a, F: Files, W: Write>(
-    alloc: Global,
-    file: &'a str,
-    journal: &'a str,
-    script: Option<&'a str>,
-    files: &mut F,
-    out: &mut W,
-) -> Result<u8, Failure<'a>>
-    ensures done { IfOk result (HasJudged (F.holds files.old) file.now journal.entry.now (option_map (λ p. p.now) script.entry) (W.contents out.old) (W.contents out.new)) }
-    ensures undone { IfErr result (λ f. LeavesUndone f (W.contents out.old) (W.contents out.new)) }
-{
-    let source = read(file, files)?;
-    let reader = match files.open(journal) {
-        Ok(reader) => reader,
-        Err(fault) => return Err(Failure::Unread(journal, fault)),
-    };
-    let answers = read_script(alloc, script, files)?;
-    match check_read(alloc, source.as_slice(), answers.as_slice(), reader, out) {
-        Ok(()) => Ok(0),
-        Err(Unchecked::Fault(fault)) => Err(Failure::Fault(fault)),
-        Err(Unchecked::Unread) => Err(Failure::Unread(journal, ReadFault::Failed)),
-    }
-}
-
-// Checks the journal of a file, whose text is kept, so that a fault can be shown in it.
-#[tactic(auto, using(crate::proofs::Statuses::unread, crate::proofs::Statuses::unjudged))]
-fn check_whole<'a, F: Files, W: Write>(
+// Checks the journal of a file. It is read piece by piece, but where an explanation is asked for: then its text is kept, so that a fault can be
+// shown in it.
+#[tactic(auto, using(crate::proofs::Statuses::unread, crate::proofs::Statuses::unjudged, crate::proofs::Statuses::unchecked))]
+fn check_file<'a, F: Files, W: Write>(
     alloc: Global,
     file: &'a str,
     journal: &'a str,
@@ -154,6 +129,18 @@ fn check_whole<'a, F: Files, W: Write>(
     ensures undone { IfErr result (λ f. LeavesUndone f (W.contents out.old) (W.contents out.new)) }
 {
     let source = read(file, files)?;
+    if !explained.is_asked() {
+        let reader = match files.open(journal) {
+            Ok(reader) => reader,
+            Err(fault) => return Err(Failure::Unread(journal, fault)),
+        };
+        let answers = read_script(alloc, script, files)?;
+        return match check_read(alloc, source.as_slice(), answers.as_slice(), reader, out) {
+            Ok(()) => Ok(0),
+            Err(Unchecked::Fault(fault)) => Err(Failure::Fault(fault)),
+            Err(Unchecked::Unread) => Err(Failure::Unread(journal, ReadFault::Failed)),
+        };
+    }
     let lines = read(journal, files)?;
     let answers = read_script(alloc, script, files)?;
     match check_text(
@@ -173,26 +160,6 @@ fn check_whole<'a, F: Files, W: Write>(
             explained.fault(alloc, &subject, fault);
             Err(Failure::Fault(fault))
         }
-    }
-}
-
-// Checks the journal of a file.
-fn check_file<'a, F: Files, W: Write>(
-    alloc: Global,
-    file: &'a str,
-    journal: &'a str,
-    script: Option<&'a str>,
-    files: &mut F,
-    out: &mut W,
-    explained: &mut Explained,
-) -> Result<u8, Failure<'a>>
-    ensures done { IfOk result (HasJudged (F.holds files.old) file.now journal.entry.now (option_map (λ p. p.now) script.entry) (W.contents out.old) (W.contents out.new)) }
-    ensures undone { IfErr result (λ f. LeavesUndone f (W.contents out.old) (W.contents out.new)) }
-{
-    if explained.is_asked() {
-        check_whole(alloc, file, journal, script, files, out, explained)
-    } else {
-        check_pieces(alloc, file, journal, script, files, out)
     }
 }
 

@@ -1,0 +1,37 @@
+use Rattle.std.proofs.Common.{◌∙◌, refl, subst}
+use Rattle.std.specs.Io.KnownBytes.{Keeps}
+use Rattle.orc_run.proofs.KnownFiles.{held_before, held_opened, read_before}
+use Rattle.orc_run.proofs.commands.check_file.Goals as goal
+use Rattle.orc_run.proofs.commands.check_file.Goals.{in-Ok-check_read, in-Err-Fault, in-Err-Unread}
+
+-- the files that the words name were checked
+
+pub returns-then-not-is_asked-clause-done : goal.returns-then-not-is_asked-clause-done
+returns-then-not-is_asked-clause-done g c = elim c.match-check_read.branch [
+  | in-Ok-check_read w ↦
+      let (text, may, judges) = w.in-Ok-check_read.ensures.judged in
+      rw w.result-is (
+        c.as_slice.result.now,
+        text,
+        c.as_slice-then-not-is_asked.result.now,
+        held_before _ _ _ _ refl c.as_slice.ensures.value c.in_ok-source.ensures.held,
+        held_opened _ _ text (subst (λ o. Keeps o (g.F.Reader.Read.remaining c.in-Ok.reader)) (c.in_ok-source.ensures.same _) c.in-Ok.ensures.held) may,
+        read_before _ _ _ _ _ (λ at. c.in-Ok.ensures.same at ∙ c.in_ok-source.ensures.same at) c.as_slice-then-not-is_asked.ensures.value c.in_ok-answers.ensures.held,
+        judges,
+        refl,
+      )
+  | in-Err-Fault w ↦ rw w.result-is tt
+  | in-Err-Unread w ↦ rw w.result-is tt
+]
+
+pub returns-in-Ok-check_text-clause-done : goal.returns-in-Ok-check_text-clause-done
+returns-in-Ok-check_text-clause-done g c = (
+  c.as_slice-2.result.now,
+  c.as_slice-4.result.now,
+  c.as_slice-3.result.now,
+  held_before _ _ _ _ refl c.as_slice-2.ensures.value c.in_ok-source.ensures.held,
+  held_before _ _ _ _ (c.in_ok-source.ensures.same _) c.as_slice-4.ensures.value c.in_ok-lines.ensures.held,
+  read_before _ _ _ _ _ (λ at. c.in_ok-lines.ensures.same at ∙ c.in_ok-source.ensures.same at) c.as_slice-3.ensures.value c.in_ok-answers-2.ensures.held,
+  c.in-Ok-check_text.ensures.judged,
+  refl,
+)
