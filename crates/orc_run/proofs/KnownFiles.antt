@@ -1,5 +1,5 @@
 -- What was read of files whose bytes are known.
-use Rattle.std.proofs.Common.{◌≡◌, ◌∙◌, ℕ, List, sym, subst}
+use Rattle.std.proofs.Common.{◌≡◌, ◌∙◌, ℕ, List, refl, sym, subst}
 use Rattle.std.specs.declared.option.Option.{Option}
 use Rattle.std.specs.declared.option.Option.TheVariants.{None, Some}
 use Rattle.std.specs.Io.KnownBytes.{Keeps}
@@ -13,6 +13,16 @@ held_before old new bytes text same is held = subst (λ (b : List ℕ). IsHeld o
 pub read_before : (old new : List ℕ → Option (List ℕ)) (path : Option (List ℕ)) (bytes text : List ℕ) → ((at : List ℕ) → new at ≡ old at) → text ≡ bytes → IsRead new path bytes → IsRead old path text
 read_before old new None bytes text same is none = subst (λ (b : List ℕ). IsRead old None b) (sym is) none
 read_before old new (Some path) bytes text same is held = held_before (old path) (new path) bytes text (same path) is held
+
+-- a source, a journal and a script that were read one after another are what these files held before the first was read
+pub all_before : (first second third : List ℕ → Option (List ℕ)) (file journal : List ℕ) (script : Option (List ℕ)) (sources lines answers source text read : List ℕ)
+    → ((at : List ℕ) → second at ≡ first at) → ((at : List ℕ) → third at ≡ second at) → source ≡ sources → text ≡ lines → read ≡ answers
+    → IsHeld (first file) sources → IsHeld (second journal) lines → IsRead third script answers → IsHeld (first file) source × IsHeld (first journal) text × IsRead first script read
+all_before first second third file journal script sources lines answers source text read one two is this that held kept told = (
+  held_before (first file) (first file) sources source refl is held,
+  held_before (first journal) (second journal) lines text (one journal) this kept,
+  read_before first third script answers read (λ at. two at ∙ one at) that told,
+)
 
 -- ---- a file that is read piece by piece
 

@@ -1,6 +1,6 @@
 use Rattle.std.proofs.Common.{◌∙◌, refl, subst}
 use Rattle.std.specs.Io.KnownBytes.{Keeps}
-use Rattle.orc_run.proofs.KnownFiles.{held_before, held_opened, read_before}
+use Rattle.orc_run.proofs.KnownFiles.{all_before, held_before, held_opened, read_before}
 use Rattle.orc_run.proofs.commands.check_file.Goals as goal
 use Rattle.orc_run.proofs.commands.check_file.Goals.{in-Ok-check_read, in-Err-Fault, in-Err-Unread}
 
@@ -25,13 +25,7 @@ returns-then-not-is_asked-clause-done g c = elim c.match-check_read.branch [
 ]
 
 pub returns-in-Ok-check_text-clause-done : goal.returns-in-Ok-check_text-clause-done
-returns-in-Ok-check_text-clause-done g c = (
-  c.as_slice-2.result.now,
-  c.as_slice-4.result.now,
-  c.as_slice-3.result.now,
-  held_before _ _ _ _ refl c.as_slice-2.ensures.value c.in_ok-source.ensures.held,
-  held_before _ _ _ _ (c.in_ok-source.ensures.same _) c.as_slice-4.ensures.value c.in_ok-lines.ensures.held,
-  read_before _ _ _ _ _ (λ at. c.in_ok-lines.ensures.same at ∙ c.in_ok-source.ensures.same at) c.as_slice-3.ensures.value c.in_ok-answers-2.ensures.held,
-  c.in-Ok-check_text.ensures.judged,
-  refl,
-)
+returns-in-Ok-check_text-clause-done g c =
+    let before = all_before _ _ _ _ _ _ _ _ _ _ _ _ c.in_ok-source.ensures.same c.in_ok-lines.ensures.same c.as_slice-2.ensures.value c.as_slice-4.ensures.value c.as_slice-3.ensures.value
+    c.in_ok-source.ensures.held c.in_ok-lines.ensures.held c.in_ok-answers-2.ensures.held in
+    (c.as_slice-2.result.now, c.as_slice-4.result.now, c.as_slice-3.result.now, before.0, before.1, before.2, c.in-Ok-check_text.ensures.judged, refl)

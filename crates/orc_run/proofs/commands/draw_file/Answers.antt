@@ -1,16 +1,10 @@
-use Rattle.std.proofs.Common.{◌∙◌, refl}
-use Rattle.orc_run.proofs.KnownFiles.{held_before, read_before}
+use Rattle.std.proofs.Common.{refl}
+use Rattle.orc_run.proofs.KnownFiles.{all_before}
 use Rattle.orc_run.proofs.commands.draw_file.Goals as goal
 
 -- the journal of the files that the words name was drawn
 pub returns-in-Ok-clause-done : goal.returns-in-Ok-clause-done
-returns-in-Ok-clause-done g c = (
-  c.as_slice.result.now,
-  c.as_slice-3.result.now,
-  c.as_slice-2.result.now,
-  held_before _ _ _ _ refl c.as_slice.ensures.value c.in_ok-source.ensures.held,
-  held_before _ _ _ _ (c.in_ok-source.ensures.same _) c.as_slice-3.ensures.value c.in_ok-text.ensures.held,
-  read_before _ _ _ _ _ (λ at. c.in_ok-text.ensures.same at ∙ c.in_ok-source.ensures.same at) c.as_slice-2.ensures.value c.in_ok-script.ensures.held,
-  c.in-Ok.ensures.drawn,
-  refl,
-)
+returns-in-Ok-clause-done g c =
+    let before = all_before _ _ _ _ _ _ _ _ _ _ _ _ c.in_ok-source.ensures.same c.in_ok-text.ensures.same c.as_slice.ensures.value c.as_slice-3.ensures.value c.as_slice-2.ensures.value
+    c.in_ok-source.ensures.held c.in_ok-text.ensures.held c.in_ok-script.ensures.held in
+    (c.as_slice.result.now, c.as_slice-3.result.now, c.as_slice-2.result.now, before.0, before.1, before.2, c.in-Ok.ensures.drawn, refl)
