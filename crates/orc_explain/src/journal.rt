@@ -12,6 +12,9 @@ use std::alloc::Global;
 
 const CANCEL: &str = "cancel K";
 
+const NO_RETURNS: &str =
+    "lines end with a line feed alone, and this one with a carriage return before it";
+
 /// The words with which entries begin, each with the form of its entries.
 const FORMS: [(&[u8], &str); 16] = [
     (b"end", "end S"),
@@ -74,7 +77,9 @@ fn say_header(page: &mut Page, document: &Document) {
     page.point(document, span);
     page.say("no header\n");
     page.expected("`orc-journal 2` or `orc-journal 1`, and a line feed");
-    if !document.text.starts_with(b"orc-journal") {
+    if document.part(span).ends_with(b"\r") {
+        page.help(NO_RETURNS);
+    } else if !document.text.starts_with(b"orc-journal") {
         page.help("a journal is what `orc run FILE --journal` writes");
     }
 }
@@ -106,6 +111,9 @@ fn say_journal_line(
     match said_of(word, FORMS.as_slice()) {
         None => say_no_entry(page, alloc, word),
         Some(form) => say_entry(page, alloc, subject, document, span, form),
+    }
+    if line.ends_with(b"\r") {
+        page.help(NO_RETURNS);
     }
 }
 

@@ -1,6 +1,6 @@
 //! What looks like a mistake in a run that has halted, and isn't one of the language.
 
-use crate::replay::Made;
+use crate::replay::{Loss, Made};
 use crate::rules::{Rule, Rules};
 use crate::scene::{Scene, begin, name_of};
 use orc_page::Page;
@@ -70,6 +70,8 @@ struct Remarks {
     wrong: Groups,
     // Calls of a script's sites that no line answers.
     unanswered: Groups,
+    // Other calls that halted.
+    halted: Groups,
     // Whether a line of the script has answered a call, by the lines' places in their list.
     used: Vec<bool>,
 }
@@ -79,6 +81,7 @@ impl Drop for Remarks {
         let Remarks {
             wrong: _,
             unanswered: _,
+            halted: _,
             used: _,
         } = self;
     }
@@ -213,6 +216,7 @@ impl Remarks {
         let mut remarks = Remarks {
             wrong: Groups::new(alloc),
             unanswered: Groups::new(alloc),
+            halted: Groups::new(alloc),
             used: Vec::new(alloc),
         };
         remarks.read(scene, rules)?;
@@ -247,6 +251,15 @@ impl Remarks {
         } else if wanted(name, args.as_slice()).is_some() {
             self.wrong.add(made, number)
         } else {
+            self.other(made, number)
+        }
+    }
+
+    // A call that its site could answer.
+    fn other(&mut self, made: Made, number: u64) -> Result<(), AllocError> {
+        if made.has_halted {
+            self.halted.add(made, number)
+        } else {
             Ok(())
         }
     }
@@ -264,7 +277,7 @@ impl Remarks {
                 if let Some(used) = self.used.get_mut(place) {
                     *used = true;
                 }
-                Ok(())
+                self.other(made, number)
             }
             None => self.unanswered.add(made, number),
         }
@@ -309,6 +322,10 @@ impl Scene<'_, '_> {
         }
         self.wrong_calls(page, &remarks.wrong);
         self.unanswered_calls(page, &remarks.unanswered, rules);
+        if is_silent {
+            self.halted_calls(page, &remarks.halted, rules);
+            self.losses(page);
+        }
         self.unused_lines(page, remarks, rules);
     }
 
@@ -371,6 +388,70 @@ impl Scene<'_, '_> {
                 missed(page, rules, &rule, args.as_slice());
             }
         }
+    }
+
+    fn halted_calls(&self, page: &mut Page, groups: &Groups, rules: &Rules) {
+        let mut shown: u64 = 0;
+        for group in groups.list.iter().take(SHOWN as usize) {
+            shown = shown.saturating_add(1);
+            self.halted_call(page, group);
+            self.halting(page, group.first.entry, rules);
+            self.others(page, group);
+        }
+        self.rest(page, groups.list.len() as u64, shown);
+    }
+
+    // Why a call halted that its site could answer: its line of the script says so, or it is `Ift` or `Iff`.
+    fn halting(&self, page: &mut Page, entry: usize, rules: &Rules) {
+        if let Some(Entry::Call(_, _, site, args)) = self.journal.get(entry) {
+            let name = name_of(self.ended.answers, site);
+            match rules.first(name, args.as_slice()) {
+                Some(place) => {
+                    page.say_number("line ", rules.number(place), " of the script says halt");
+                }
+                None => {
+                    page.say_word("`", name, "` goes on where it is given `");
+                    page.say(if name == b"Iff".as_slice() {
+                        "false`"
+                    } else {
+                        "true`"
+                    });
+                }
+            }
+        }
+    }
+
+    // Where tokens came to nothing, since values were lost.
+    fn losses(&self, page: &mut Page) {
+        for loss in &self.replay.losses {
+            self.loss(page, *loss);
+        }
+        let others = self.replay.other_losses;
+        if others > 0 {
+            page.note("");
+            page.say_number("and ", others, " more\n");
+        }
+    }
+
+    fn loss(&self, page: &mut Page, loss: Loss) {
+        page.note("`");
+        self.words(page, loss.spot);
+        page.say("` (");
+        self.place(page, loss.spot);
+        page.say(") came to nothing: ");
+        match loss.cell {
+            Some(cell) => {
+                self.cell(page, cell);
+                page.say(", has ended without a value");
+            }
+            None => page.say("what stands for a parameter has ended without a value"),
+        }
+        if loss.count > 1 {
+            page.say("; so did ");
+            page.count(loss.count.saturating_sub(1), "more part");
+            page.say(" there");
+        }
+        page.say("\n");
     }
 
     fn unused_lines(&self, page: &mut Page, remarks: &Remarks, rules: &Rules) {

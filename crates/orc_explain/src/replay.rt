@@ -2,10 +2,17 @@
 
 use crate::ended::Ended;
 use orc_checker::Marked;
+use orc_checker::arena::{Kind, Tip};
 use orc_journal::Journal;
+use orc_names::{Bound, meaning};
 use orc_rules::entry::Entry;
+use orc_rules::param::{Operand, Param};
+use orc_rules::program::{Program, TermNode};
 use orc_sketch::{Purpose, Shape, Sketch, Token, Trail, Way};
 use std::alloc::{AllocError, Global};
+
+/// How many spots with lost values are noted.
+const MOST_LOSSES: usize = 4;
 
 /// A call that was made.
 #[derive(Clone, Copy)]
@@ -16,6 +23,18 @@ pub(crate) struct Made {
     pub entry: usize,
     /// Whether it has neither returned nor was cancelled.
     pub is_out: bool,
+    /// Whether it has returned without an answer.
+    pub has_halted: bool,
+}
+
+/// The tokens that came to nothing at a spot, since a value that they needed was lost.
+#[derive(Clone, Copy)]
+pub(crate) struct Loss {
+    pub spot: usize,
+    /// The cell from which the first of them would have had its value. None where it was lost before a definition was called with it.
+    pub cell: Option<u64>,
+    /// How many they are.
+    pub count: u64,
 }
 
 /// A cell, whose pruning stands at a spot.
@@ -33,6 +52,10 @@ pub(crate) struct Replay<'a> {
     pub calls: Vec<Made>,
     /// The cells, cell 1 first.
     pub cells: Vec<Cell<'a>>,
+    /// Where values were lost, at the first few spots.
+    pub losses: Vec<Loss>,
+    /// How many tokens came to nothing by that at other spots.
+    pub other_losses: u64,
     /// How often a definition was called.
     pub definitions: u64,
 }
@@ -44,6 +67,8 @@ impl Drop for Replay<'_> {
             trail: _,
             calls: _,
             cells: _,
+            losses: _,
+            other_losses: _,
             definitions: _,
         } = self;
     }
@@ -68,6 +93,8 @@ impl<'a> Replay<'a> {
             trail: Trail::new(alloc, sketch)?,
             calls: Vec::new(alloc),
             cells: Vec::new(alloc),
+            losses: Vec::new(alloc),
+            other_losses: 0,
             definitions: 0,
         };
         replay.read(ended, sketch, journal)?;
@@ -84,6 +111,9 @@ impl<'a> Replay<'a> {
             let Some(entry) = journal.get(at) else {
                 return Ok(());
             };
+            if let Entry::Void(s) = entry {
+                self.add_loss(ended.program, s)?;
+            }
             if self
                 .marked
                 .step(ended.program, ended.answers, &entry)
@@ -101,7 +131,8 @@ impl<'a> Replay<'a> {
     fn note(&mut self, sketch: &Sketch<'a>, entry: &Entry, at: usize) -> Result<(), AllocError> {
         match entry {
             Entry::Call(s, _, _, _) => return self.add_call(*s, at),
-            Entry::Return(k, _, _) | Entry::ReturnHalt(k) | Entry::Cancel(k) => self.end_call(*k),
+            Entry::Return(k, _, _) | Entry::Cancel(k) => self.end_call(*k, false),
+            Entry::ReturnHalt(k) => self.end_call(*k, true),
             Entry::Open(s, _, _, _) => return self.add_cell(sketch, *s),
             Entry::Def(_, _) => self.definitions = self.definitions.saturating_add(1),
             _ => {}
@@ -116,14 +147,78 @@ impl<'a> Replay<'a> {
             step: token.step,
             entry,
             is_out: true,
+            has_halted: false,
         })?;
         Ok(())
     }
 
-    fn end_call(&mut self, call: u64) {
+    fn end_call(&mut self, call: u64, has_halted: bool) {
         if let Some(made) = self.calls.get_mut((call as usize).saturating_sub(1)) {
             made.is_out = false;
+            made.has_halted = has_halted;
         }
+    }
+
+    // A token comes to nothing, since a value that it needs was lost.
+    fn add_loss(&mut self, program: &Program, token: u64) -> Result<(), AllocError> {
+        let spot = self.token(token).spot.unwrap_or(0);
+        for place in 0..self.losses.len() {
+            if let Some(loss) = self.losses.get_mut(place) {
+                if loss.spot == spot {
+                    loss.count = loss.count.saturating_add(1);
+                    return Ok(());
+                }
+            }
+        }
+        if self.losses.len() < MOST_LOSSES {
+            let cell = self.lost_cell(program, token);
+            self.losses.push(Loss {
+                spot,
+                cell,
+                count: 1,
+            })?;
+        } else {
+            self.other_losses = self.other_losses.saturating_add(1);
+        }
+        Ok(())
+    }
+
+    // The cell of the first lost value that a token needs.
+    fn lost_cell(&self, program: &Program, token: u64) -> Option<u64> {
+        let (number, scope) = self.node_of(token)?;
+        match program.node(number) {
+            TermNode::Operand(operand) => self.cell_of(operand, scope),
+            TermNode::Site(_, list) => {
+                for operand in program.operands(list) {
+                    if matches!(self.marked.param(*operand, scope), Param::Void) {
+                        return self.cell_of(*operand, scope);
+                    }
+                }
+                None
+            }
+            _ => None,
+        }
+    }
+
+    // The cell that was put for an operand, whatever has become of it.
+    fn cell_of(&self, operand: Operand, scope: usize) -> Option<u64> {
+        match meaning(self.marked.scopes(), &[], operand, scope) {
+            Some(Bound::Cell(cell)) => Some(cell),
+            _ => None,
+        }
+    }
+
+    /// The program's node on which a token stands, and its scope.
+    pub(crate) fn node_of(&self, token: u64) -> Option<(usize, usize)> {
+        for slot in self.marked.nodes() {
+            match slot.node().kind {
+                Kind::Leaf(Tip::Token(mark, number, scope)) if mark == token => {
+                    return Some((number as usize, scope as usize));
+                }
+                _ => {}
+            }
+        }
+        None
     }
 
     fn add_cell(&mut self, sketch: &Sketch<'a>, mark: u64) -> Result<(), AllocError> {

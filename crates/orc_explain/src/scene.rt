@@ -3,7 +3,6 @@
 use crate::ended::Ended;
 use crate::replay::Replay;
 use crate::tokens::span_at;
-use orc_checker::arena::{Kind, Tip};
 use orc_journal::{Journal, has_line, write_entry};
 use orc_outcome::{End, Summary};
 use orc_page::{Page, Subject, place_of};
@@ -134,24 +133,11 @@ impl Scene<'_, '_> {
         }
     }
 
-    // The program's node on which a token stands, and its scope.
-    fn node_of(&self, token: u64) -> Option<(usize, usize)> {
-        for slot in self.replay.marked.nodes() {
-            match slot.node().kind {
-                Kind::Leaf(Tip::Token(mark, number, scope)) if mark == token => {
-                    return Some((number as usize, scope as usize));
-                }
-                _ => {}
-            }
-        }
-        None
-    }
-
     /// What a token stands on: a call with its values put in, else the source's text, cut.
     pub(crate) fn term(&self, page: &mut Page, token: u64, spot: usize) {
         let span = self.sketch.span(spot);
         let source = self.subject.source;
-        let Some((number, scope)) = self.node_of(token) else {
+        let Some((number, scope)) = self.replay.node_of(token) else {
             return;
         };
         match self.ended.program.node(number) {
@@ -159,8 +145,13 @@ impl Scene<'_, '_> {
                 page.word(source.part(span_at(source.text, span.start)));
                 self.operands(page, list, scope);
             }
-            _ => squeeze(page, source.part(span)),
+            _ => self.words(page, spot),
         }
+    }
+
+    /// The source's text of a spot, in one line and cut.
+    pub(crate) fn words(&self, page: &mut Page, spot: usize) {
+        squeeze(page, self.subject.source.part(self.sketch.span(spot)));
     }
 
     fn operands(&self, page: &mut Page, list: usize, scope: usize) {

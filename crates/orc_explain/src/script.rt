@@ -1,5 +1,6 @@
 //! Faults of a script (L).
 
+use crate::signs::{NO_ORDER_MARK, ORDER_MARK};
 use crate::syntax::{say_long, say_refused};
 use crate::words::{RESERVED, is_one_of};
 use orc_lex::token::Span;
@@ -150,6 +151,19 @@ impl<'a> Line<'a> {
     // The piece that is looked at.
     fn here(&self) -> Piece<'a> {
         self.pieces.get(self.at).copied().unwrap_or(self.end)
+    }
+
+    // Whether a point or letters stand here, right behind a number.
+    fn lengthens_number(&self) -> bool {
+        let here = self.here();
+        match self.pieces.get(self.at.saturating_sub(1)) {
+            Some(before) => {
+                before.kind == Kind::Number
+                    && before.span.end == here.span.start
+                    && (here.kind == Kind::Name || here.text == b".".as_slice())
+            }
+            None => false,
+        }
     }
 
     fn go(&mut self) {
@@ -316,7 +330,7 @@ fn say_script_line(page: &mut Page, alloc: Global, document: &Document, number: 
         let here = line.here();
         page.point(document, here.span);
         say_wrong(page, wrong, here);
-        say_advice(page, wrong, here, line.pieces.first().copied());
+        say_advice(page, document, wrong, &line);
     }
 }
 
@@ -334,14 +348,12 @@ fn say_wrong(page: &mut Page, wrong: Wrong, here: Piece) {
 }
 
 // What to write instead.
-fn say_advice(page: &mut Page, wrong: Wrong, here: Piece, site: Option<Piece>) {
+fn say_advice(page: &mut Page, document: &Document, wrong: Wrong, line: &Line) {
+    let here = line.here();
     match wrong {
-        Wrong::Name => match here.text {
-            b"#" | b"/" => page.help("a comment is `-- ..` to the end of the line"),
-            _ => page.help(FORM),
-        },
+        Wrong::Name => page.help(name_advice(document, here)),
         Wrong::BuiltIn => page.help("take another name"),
-        Wrong::Bracket => say_bare_site(page, site),
+        Wrong::Bracket => say_bare_site(page, line.pieces.first().copied()),
         Wrong::Pattern => say_named(
             page,
             PATTERN,
@@ -356,10 +368,28 @@ fn say_advice(page: &mut Page, wrong: Wrong, here: Piece, site: Option<Piece>) {
             ": a site answers with one value, not with an expression",
             "",
         ),
+        Wrong::Comma | Wrong::More if line.lengthens_number() => page.help(number_advice(here)),
         Wrong::Assign | Wrong::More => page.help(FORM),
         Wrong::Time => page.help(TIME),
         Wrong::Range => page.expected("-9223372036854775808 to 9223372036854775807"),
         Wrong::Reserved | Wrong::Comma | Wrong::NeverAfter | Wrong::Many => {}
+    }
+}
+
+// What to do about what stands where a site's name has to.
+fn name_advice(document: &Document, here: Piece) -> &'static str {
+    match here.text {
+        b"#" | b"/" => "a comment is `-- ..` to the end of the line",
+        _ if here.span.start == 0 && document.text.starts_with(ORDER_MARK) => NO_ORDER_MARK,
+        _ => FORM,
+    }
+}
+
+// What to do about what stands right behind a number.
+fn number_advice(here: Piece) -> &'static str {
+    match here.text {
+        b"." => "numbers are whole",
+        _ => "numbers are digits alone: a time has no unit",
     }
 }
 

@@ -14,8 +14,16 @@ const NO_LISTS: &str = "there are no lists";
 
 const BRACKETS: &str = "brackets are `(` and `)`; a comment is `{- .. -}`";
 
+/// The bytes of a byte order mark, which some editors put first into a file.
+pub(crate) const ORDER_MARK: &[u8] = b"\xEF\xBB\xBF";
+
+/// What to do about them.
+pub(crate) const NO_ORDER_MARK: &str =
+    "this is a byte order mark: save the file as UTF-8 without one";
+
 // What is said of signs, the first that fits.
-const HINTS: [(&[u8], &str); 19] = [
+const HINTS: [(&[u8], &str); 20] = [
+    (ORDER_MARK, NO_ORDER_MARK),
     (b"//", COMMENT),
     (b"/*", COMMENT),
     (b"#", COMMENT),
