@@ -17,14 +17,14 @@ use Rattle.orc_tables.specs.declared.records.Group.{Group}
 use Rattle.orc_tables.specs.declared.records.Step.{Step}
 use Rattle.orc_tables.specs.declared.records.Token.{Token}
 use Rattle.orc_tables.proofs.Weight.{weight-but}
-use Rattle.orc_ledger.specs.Records.{Records}
-use Rattle.orc_ledger.specs.AtOnce.{IsCalled}
-use Rattle.orc_ledger.specs.Calls.{Turns, Crosses, Drops, Exchanges, Resumes, Closes, group_goes}
-use Rattle.orc_ledger.specs.Doing.{what_of}
-use Rattle.orc_ledger.specs.Moves.{Does, Moves, CallsFit}
-use Rattle.orc_ledger.specs.declared.at_once.Called.{Called}
-use Rattle.orc_ledger.specs.declared.at_once.Called.TheVariants as called
-use Rattle.orc_ledger.specs.declared.moves.Moved.TheVariants as moved
+use Rattle.orc_records.specs.Records.{Records}
+use Rattle.orc_records.specs.AtOnce.{IsCalled}
+use Rattle.orc_records.specs.Calls.{Turns, Crosses, Drops, Exchanges, Resumes, Closes, group_goes}
+use Rattle.orc_records.specs.Doing.{what_of}
+use Rattle.orc_records.specs.Moves.{Does, Moves, CallsFit}
+use Rattle.orc_records.specs.declared.results.Called.{Called}
+use Rattle.orc_records.specs.declared.results.Called.TheVariants as called
+use Rattle.orc_records.specs.declared.results.Moved.TheVariants as moved
 use Rattle.orc_engine.specs.Stops.{Goes, Advances, open_groups}
 
 abbrev one : Group → ℕ

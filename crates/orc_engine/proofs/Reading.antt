@@ -9,7 +9,7 @@ use Rattle.orc_journal.proofs.Composing.{take_one}
 use Rattle.orc_checker.specs.Checker.{State, Applies}
 use Rattle.orc_journal.specs.Sizes.{total}
 use Rattle.orc_outcome.specs.Outcome.{context}
-use Rattle.orc_ledger.proofs.Binding.{journal_more}
+use Rattle.orc_records.proofs.Binding.{journal_more}
 use Rattle.orc_engine.specs.Ends.{IsSpelt}
 
 take_next : (es : List Entry) (i : ℕ) (e : Entry) → slice_get es i ≡ Some e → take (i + 1) es ≡ take i es ++ e ∷ []

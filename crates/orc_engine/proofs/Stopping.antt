@@ -16,19 +16,19 @@ use Rattle.orc_tables.specs.declared.records.Side.{Side}
 use Rattle.orc_tables.specs.declared.records.Side.TheVariants.{Right, Left}
 use Rattle.orc_tables.specs.declared.records.Token.{Token}
 use Rattle.orc_tables.proofs.Ripe.{next_some}
-use Rattle.orc_ledger.specs.Records.{Records}
-use Rattle.orc_ledger.specs.Answers.{IsReturned, IsStopped}
-use Rattle.orc_ledger.specs.Brought.{FullIsCrowded}
-use Rattle.orc_ledger.specs.Calls.{IsRefused}
-use Rattle.orc_ledger.specs.Halting.{HasHalted, Becomes, IsRefusedAt, IsHinderedAt}
-use Rattle.orc_ledger.specs.Moves.{Hinders, IsHindered}
-use Rattle.orc_ledger.specs.Doing.{what_of}
-use Rattle.orc_ledger.specs.Next.{members, numbers_of, ready, empty_groups, is_empty, next_at, next_by, work, ticks}
-use Rattle.orc_ledger.specs.declared.halting.Halted.{Halted}
-use Rattle.orc_ledger.specs.declared.halting.Halted.TheVariants.{Lost, Resumed, Closed}
-use Rattle.orc_ledger.specs.declared.halting.HaltFault.TheVariants.{Refused}
-use Rattle.orc_ledger.specs.declared.ledger.LedgerFault.{LedgerFault}
-use Rattle.orc_ledger.specs.declared.ledger.LedgerFault.TheVariants as fault
+use Rattle.orc_records.specs.Records.{Records}
+use Rattle.orc_records.specs.Answers.{IsReturned, IsStopped}
+use Rattle.orc_records.specs.Brought.{FullIsCrowded}
+use Rattle.orc_records.specs.Calls.{IsRefused}
+use Rattle.orc_records.specs.Halting.{HasHalted, Becomes, IsRefusedAt, IsHinderedAt}
+use Rattle.orc_records.specs.Moves.{Hinders, IsHindered}
+use Rattle.orc_records.specs.Doing.{what_of}
+use Rattle.orc_records.specs.Next.{members, numbers_of, ready, empty_groups, is_empty, next_at, next_by, work, ticks}
+use Rattle.orc_records.specs.declared.results.Halted.{Halted}
+use Rattle.orc_records.specs.declared.results.Halted.TheVariants.{Lost, Resumed, Closed}
+use Rattle.orc_records.specs.declared.faults.HaltFault.TheVariants.{Refused}
+use Rattle.orc_records.specs.declared.faults.LedgerFault.{LedgerFault}
+use Rattle.orc_records.specs.declared.faults.LedgerFault.TheVariants as fault
 use Rattle.orc_engine.specs.declared.desk.Stop.{Stop}
 use Rattle.orc_engine.specs.declared.desk.Stop.TheVariants as stop
 use Rattle.orc_engine.specs.declared.desk.Turn.{Turn}

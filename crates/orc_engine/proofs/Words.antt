@@ -1,10 +1,10 @@
 -- A move that says that its token calls a site has that word, and has changed nothing.
 use Rattle.std.proofs.Common.{◌≡◌, ℕ, List, refl}
 use Rattle.orc_rules.specs.Nodes.{Listing, code, definitions}
-use Rattle.orc_ledger.specs.Records.{Records}
-use Rattle.orc_ledger.specs.Moves.{Does, Moves}
-use Rattle.orc_ledger.specs.Doing.{what_of}
-use Rattle.orc_ledger.specs.declared.moves.Moved.TheVariants as moved
+use Rattle.orc_records.specs.Records.{Records}
+use Rattle.orc_records.specs.Moves.{Does, Moves}
+use Rattle.orc_records.specs.Doing.{what_of}
+use Rattle.orc_records.specs.declared.results.Moved.TheVariants as moved
 use Rattle.orc_tables.specs.declared.records.Token.{Token}
 use Rattle.orc_paths.specs.declared.what.What.{What}
 use Rattle.orc_paths.specs.declared.what.What.TheVariants.{Halt, Fork, Seq, Prune, Other, Def, Void, Publish, Send, Bind, Call, Wait}

@@ -7,8 +7,8 @@ use Rattle.orc_rules.specs.Journal.{Place, Journal, begin}
 use Rattle.orc_checker.specs.Checker.{State, Spells}
 use Rattle.orc_outcome.specs.Outcome.{context, EndsAt}
 use Rattle.orc_outcome.specs.declared.end.End.{End}
-use Rattle.orc_ledger.specs.Records.{Records}
-use Rattle.orc_ledger.specs.Answers.{IsAt}
+use Rattle.orc_records.specs.Records.{Records}
+use Rattle.orc_records.specs.Answers.{IsAt}
 
 -- the run whose records these are ends so
 abbrev pub HasEnded : Listing → Table → Records → End → Type 0

@@ -8,9 +8,9 @@ use Rattle.orc_tables.specs.declared.records.Call.{Call}
 use Rattle.orc_tables.specs.declared.records.Group.{Group}
 use Rattle.orc_tables.specs.PendingCalls.{due_of}
 use Rattle.orc_journal.specs.Sizes.{IsCrowded}
-use Rattle.orc_ledger.specs.Records.{Records}
-use Rattle.orc_ledger.specs.Next.{members, numbers_of, next_of, quiet, work}
-use Rattle.orc_ledger.specs.declared.ledger.LedgerFault.TheVariants as fault
+use Rattle.orc_records.specs.Records.{Records}
+use Rattle.orc_records.specs.Next.{members, numbers_of, next_of, quiet, work}
+use Rattle.orc_records.specs.declared.faults.LedgerFault.TheVariants as fault
 use Rattle.orc_engine.specs.declared.desk.Step.{Step}
 use Rattle.orc_engine.specs.declared.desk.Step.TheVariants as step
 use Rattle.orc_engine.specs.declared.desk.Stop.{Stop}

@@ -7,10 +7,10 @@ ghost use Rattle.orc_rules.specs.Program.{IsProgram};
 ghost use Rattle.orc_paths.specs.Doing.{is_wait};
 ghost use Rattle.orc_tables.specs.Tokens.{IsHeld};
 ghost use Rattle.orc_tables.specs.declared.records.Group.{Group};
-ghost use Rattle.orc_ledger.specs.Answers.{IsDueNow, Pends};
-ghost use Rattle.orc_ledger.specs.Doing.{what_of};
-ghost use Rattle.orc_ledger.specs.Halting.{IsGroup};
-ghost use Rattle.orc_ledger.specs.Next.{members, numbers_of};
+ghost use Rattle.orc_records.specs.Answers.{IsDueNow, Pends};
+ghost use Rattle.orc_records.specs.Doing.{what_of};
+ghost use Rattle.orc_records.specs.Halting.{IsGroup};
+ghost use Rattle.orc_records.specs.Next.{members, numbers_of};
 ghost use Rattle.orc_engine.specs.Stops.{Goes, Advances, HasMoved, IsNearer, HasTurned, NoneIsDue, IsAtWork, Stops};
 
 use crate::ready::{Handle, Ready};

@@ -3,7 +3,7 @@
 ghost use Rattle.std.specs.Prelude.{◌≡◌, ◌≤◌, IfSome};
 ghost use Rattle.orc_rules.specs.declared.limits.TheConstants.{MOST_ENTRIES};
 ghost use Rattle.orc_rules.specs.Nodes.{definitions, source};
-ghost use Rattle.orc_ledger.specs.Parts.{call_of};
+ghost use Rattle.orc_records.specs.Parts.{call_of};
 
 use crate::desk::{Desk, Stop};
 use crate::ready::Handle;

@@ -5,32 +5,22 @@ ghost use Rattle.orc_rules.specs.Nodes.{code, definitions};
 ghost use Rattle.orc_rules.specs.declared.entry.Entry.TheVariants.{Call as Calls};
 ghost use Rattle.orc_rules.specs.declared.value.Found.TheVariants.{After};
 ghost use Rattle.orc_calls.specs.Counting.{CountsCall};
-ghost use Rattle.orc_ledger.specs.AtOnce.{IsCalled};
-ghost use Rattle.orc_ledger.specs.Calls.{IsRefused};
-ghost use Rattle.orc_ledger.specs.Chronicles.{chronicle_with};
-ghost use Rattle.orc_ledger.specs.Doing.{what_of};
+ghost use Rattle.orc_records.specs.AtOnce.{IsCalled};
+ghost use Rattle.orc_records.specs.Calls.{IsRefused};
+ghost use Rattle.orc_chronicle.specs.Chronicles.{chronicle_with};
+ghost use Rattle.orc_records.specs.Doing.{what_of};
 ghost use Rattle.orc_tables.specs.Tokens.{IsHeld};
 
-use crate::chronicle::Chronicle;
-use crate::ledger::{Ledger, LedgerFault, Program};
+use crate::ledger::Ledger;
 use orc_calls::Counts;
+use orc_chronicle::{Chronicle, Program};
 use orc_graph::Graph;
 use orc_paths::What;
+use orc_records::{Called, Halted, LedgerFault};
 use orc_rules::answers::Answers;
 use orc_rules::entry::Entry;
 use orc_rules::value::{Answer, Args, Found};
 use orc_tables::{Call, Standing, Token, group_at};
-
-/// What became of a call of a site.
-#[derive(Clone, Copy)]
-pub enum Called {
-    /// It pends.
-    Pends(Call),
-    /// It was answered at once: a token on the answer stands in the slot of the one that made it.
-    Answered,
-    /// It halted at once, in this group, which may have no member any more.
-    Halted(u32),
-}
 
 // The answer that the table gives at once, if it does.
 fn answer_at_once(found: Found) -> Option<Answer>

@@ -4,13 +4,15 @@ ghost use Rattle.std.specs.Prelude.{◌≡◌, OnOk, IfErr};
 ghost use Rattle.orc_rules.specs.Nodes.{code};
 ghost use Rattle.orc_paths.specs.Awaiting.{cells_among, cells_of};
 ghost use Rattle.orc_paths.specs.Doing.{closed};
-ghost use Rattle.orc_ledger.specs.Doing.{term_of};
-ghost use Rattle.orc_ledger.specs.Records.{its_env};
+ghost use Rattle.orc_records.specs.Doing.{term_of};
+ghost use Rattle.orc_records.specs.Records.{its_env};
 ghost use Rattle.orc_tables.specs.Tokens.{IsHeld};
 
-use crate::ledger::{Ledger, LedgerFault, Program};
+use crate::ledger::Ledger;
+use orc_chronicle::Program;
 use orc_graph::{Graph, Node};
 use orc_paths::{What, list_cells};
+use orc_records::LedgerFault;
 use orc_rules::param::Operand;
 use orc_tables::{Standing, Token};
 

@@ -4,24 +4,16 @@ ghost use Rattle.std.specs.Prelude.{◌≡◌, ◌<◌, Some, None, IfOk, IfErr,
 ghost use Rattle.orc_rules.specs.Timed.{IsIn};
 ghost use Rattle.orc_rules.specs.declared.value.Answer.TheVariants.{Value as Gives, Halt};
 ghost use Rattle.orc_calls.specs.Due.{DueNow};
-ghost use Rattle.orc_ledger.specs.Answers.{IsReturned, IsUnanswered, Pends};
+ghost use Rattle.orc_records.specs.Answers.{IsReturned, IsUnanswered, Pends};
 ghost use Rattle.orc_tables.specs.declared.records.Call.{Call as Its};
 
-use crate::ledger::{Ledger, LedgerFault, Program, write};
+use crate::ledger::{Ledger, write};
 use orc_calls::check_due;
+use orc_chronicle::Program;
+use orc_records::{LedgerFault, ReturnFault};
 use orc_rules::entry::Entry;
 use orc_rules::value::{Answer, Value};
 use orc_tables::{Call, Standing, Token, group_at};
-
-/// Why an answer of a call is refused; nothing has changed then. The first of these that is a cause: no call with this number pends; the table of
-/// sites has another answer for it, or another due time, or none; the journal has as many entries as the limit; memory.
-#[derive(Clone, Copy, Debug, PartialEq, Eq)]
-pub enum ReturnFault {
-    Gone,
-    Wrong,
-    Limit,
-    Memory,
-}
 
 impl<P: Program> Ledger<P> {
     /// A call that pends is answered, where the table of sites gives this answer and it is due now. With a value a token comes in its place,

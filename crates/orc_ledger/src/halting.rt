@@ -5,32 +5,14 @@ ghost use Rattle.orc_rules.specs.Nodes.{code};
 ghost use Rattle.orc_rules.specs.Timed.{IsIn};
 ghost use Rattle.orc_tables.specs.Steps.{group_at};
 ghost use Rattle.orc_paths.specs.Paths.{has_left};
-ghost use Rattle.orc_ledger.specs.Halting.{HasHalted, IsHinderedAt};
+ghost use Rattle.orc_records.specs.Halting.{HasHalted, IsHinderedAt};
 ghost use Rattle.orc_tables.specs.declared.records.Group.{Group as Its};
 
-use crate::ledger::{Ledger, LedgerFault, Program};
+use crate::ledger::Ledger;
+use orc_chronicle::Program;
 use orc_paths::{has_left, left_at};
+use orc_records::{HaltFault, Halted, LedgerFault};
 use orc_tables::{Call, Group, Side, Token, group_at};
-
-/// What has become of a group that halted.
-#[derive(Clone, Copy, Debug, PartialEq, Eq)]
-pub enum Halted {
-    /// The cell has no value; the group round its side has this number, and may have no member any more.
-    Lost(u64, u32),
-    /// A token stands on the right side of the otherwise, in this slot.
-    Resumed(usize),
-    /// A publication had left the side: its group went without an entry. The group round it has this number, and may have no member any more.
-    Closed(u32),
-}
-
-/// Why a group doesn't halt; nothing has changed then. The first of these that is a cause: no open group has this number; it has members; the
-/// entry is refused.
-#[derive(Clone, Copy, Debug, PartialEq, Eq)]
-pub enum HaltFault {
-    Gone,
-    Live,
-    Refused(LedgerFault),
-}
 
 impl<P: Program> Ledger<P> {
     // The open group with this number.

@@ -5,75 +5,26 @@ ghost use Rattle.orc_rules.specs.Timed.{IsIn};
 ghost use Rattle.orc_rules.specs.declared.limits.TheConstants.{MOST_ENTRIES};
 ghost use Rattle.orc_tables.specs.Tokens.{IsHeld};
 ghost use Rattle.orc_journal.specs.declared.journal.Version.TheVariants.{Two};
-ghost use Rattle.orc_ledger.specs.Begun.{begun};
-ghost use Rattle.orc_ledger.specs.Brought.{FullIsCrowded};
-ghost use Rattle.orc_ledger.specs.Calls.{HasRoom, IsRefused};
-ghost use Rattle.orc_ledger.specs.Chronicles.{chronicle_with};
+ghost use Rattle.orc_records.specs.Begun.{begun};
+ghost use Rattle.orc_records.specs.Brought.{FullIsCrowded};
+ghost use Rattle.orc_records.specs.Calls.{HasRoom, IsRefused};
+ghost use Rattle.orc_chronicle.specs.Chronicles.{chronicle_with};
 ghost use Rattle.orc_rules.specs.Trace.{published};
-ghost use Rattle.orc_ledger.specs.Whole.{IsWhole};
+ghost use Rattle.orc_records.specs.Whole.{IsWhole};
 ghost use Rattle.orc_tables.specs.declared.records.Token.{Token as Its};
 
-use crate::chronicle::Chronicle;
 use orc_calls::Counts;
+use orc_chronicle::{Chronicle, Program};
 use orc_journal::Journal;
 use orc_names::{Bound, Scope};
+use orc_records::LedgerFault;
 use orc_rules::answers::Answers;
 use orc_rules::entry::Entry;
 use orc_rules::limits::{MOST_FRAMES, MOST_GROUPS, MOST_TOKENS};
 use orc_rules::value::Value;
 use orc_tables::{Crowd, Groups, Pending, Standing, Step, Token, Tokens, push_within, reserve};
 use std::alloc::{AllocError, Global};
-use std::marker::{Brand, Model, PhantomData};
-
-/// The program that a book is for, its sites, and the limit of its entries.
-pub trait Program {
-    ghost use Rattle.orc_rules.specs.Nodes.{Listing};
-    ghost use Rattle.orc_rules.specs.Sites.{Site};
-    ghost use Rattle.std.specs.Prelude.{ℕ, Bool, List};
-
-    ghost listing: { Listing };
-
-    ghost sites: { List Site };
-
-    // The most entries that the journal is to have, the cancels left out.
-    ghost limit: { ℕ };
-
-    // Whether all of the journal is held to the end.
-    ghost keeps: { Bool };
-}
-
-// A caller that picks a program names it by this.
-impl Program for Brand {
-    ghost use Rattle.std.specs.Prelude.{true, []};
-
-    ghost listing = { record { nodes = []; lists = []; routines = []; root = 0 } };
-
-    ghost sites = { [] };
-
-    ghost limit = { 0 };
-
-    ghost keeps = { true };
-}
-
-/// Why a call is refused; nothing has changed then. The first of these that is a cause: the most tokens and calls (`MOST_TOKENS`), groups
-/// (`MOST_GROUPS`, with the program's own) or left sides of a `>x>` round one token (`MOST_FRAMES`) are reached; the journal has as many entries as
-/// the limit; memory.
-#[derive(Clone, Copy, Debug, PartialEq, Eq)]
-pub enum LedgerFault {
-    Full,
-    Limit,
-    Memory,
-}
-
-impl From<AllocError> for LedgerFault {
-    ghost use Rattle.orc_ledger.specs.declared.ledger.LedgerFault.TheVariants.{Memory};
-
-    ghost from_gives = { λ _ fault. fault ≡ Memory };
-
-    fn from(_error: AllocError) -> LedgerFault {
-        LedgerFault::Memory
-    }
-}
+use std::marker::{Model, PhantomData};
 
 /// The records of a run, with its journal.
 pub struct Ledger<P: Program> {
@@ -95,8 +46,8 @@ pub struct Ledger<P: Program> {
 }
 
 impl<P: Program> Model for Ledger<P> {
-    ghost use Rattle.orc_ledger.specs.Records.{Records};
-    ghost use Rattle.orc_ledger.specs.Kept.{IsKept};
+    ghost use Rattle.orc_records.specs.Records.{Records};
+    ghost use Rattle.orc_records.specs.Kept.{IsKept};
     ghost use Rattle.orc_tables.specs.Tokens.{live};
 
     ghost Value = { Records };

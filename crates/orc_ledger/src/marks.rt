@@ -4,15 +4,17 @@ ghost use Rattle.std.specs.Prelude.{◌≡◌, ◌+◌, ℕ, length, IfOk, IfErr
 ghost use Rattle.orc_rules.specs.Nodes.{code};
 ghost use Rattle.orc_rules.specs.Term.{stop, par, seq, prune, other};
 ghost use Rattle.orc_rules.specs.Journal.{IsVoid};
-ghost use Rattle.orc_ledger.specs.Records.{its_env};
+ghost use Rattle.orc_records.specs.Records.{its_env};
 ghost use Rattle.orc_paths.specs.Paths.{standing};
 ghost use Rattle.orc_tables.specs.Steps.{group_at, depth_at};
 ghost use Rattle.orc_tables.specs.Tokens.{IsHeld};
-ghost use Rattle.orc_ledger.specs.Calls.{IsRefused, IsFree, IsEnded, IsVoided, IsForked, IsFed, IsTried, IsOpened, born};
+ghost use Rattle.orc_records.specs.Calls.{IsRefused, IsFree, IsEnded, IsVoided, IsForked, IsFed, IsTried, IsOpened, born};
 ghost use Rattle.orc_tables.specs.declared.records.Standing.TheVariants.{At};
 
-use crate::ledger::{Ledger, LedgerFault, Program, write};
+use crate::ledger::{Ledger, write};
+use orc_chronicle::Program;
 use orc_names::{Bound, Scope};
+use orc_records::LedgerFault;
 use orc_rules::entry::Entry;
 use orc_rules::limits::MOST_FRAMES;
 use orc_tables::{Entered, Side, Standing, Step, Token, depth_at, group_at, push_within, reserve};

@@ -9,39 +9,22 @@ ghost use Rattle.orc_names.specs.Scopes.{close, close_param, given, without};
 ghost use Rattle.orc_paths.specs.Spelling.{whole, feeding, aiding};
 ghost use Rattle.orc_tables.specs.Tokens.{IsHeld};
 ghost use Rattle.orc_paths.specs.Taking.{Takes, IsOnWay, HasStep, taker, reach};
-ghost use Rattle.orc_ledger.specs.Records.{its_env, its_path};
+ghost use Rattle.orc_records.specs.Records.{its_env, its_path};
 ghost use Rattle.orc_paths.specs.Paths.{standing, has_left};
 ghost use Rattle.orc_tables.specs.Steps.{group_at};
 ghost use Rattle.orc_paths.specs.Doing.{scan, closed};
 ghost use Rattle.orc_tables.specs.declared.records.Entered.TheVariants.{Aid};
-ghost use Rattle.orc_ledger.specs.Moves.{StandsAt, IsThere, Moves, IsHindered};
+ghost use Rattle.orc_records.specs.Moves.{StandsAt, IsThere, Moves, IsHindered};
 
-use crate::ledger::{Ledger, LedgerFault, Program};
+use crate::ledger::Ledger;
+use orc_chronicle::Program;
 use orc_graph::{Graph, Node};
 use orc_names::{Bound, Scope, meaning};
 use orc_paths::{Taker, What, call_with, find_taker};
+use orc_records::{LedgerFault, Moved};
 use orc_rules::param::Operand;
 use orc_rules::value::Value;
 use orc_tables::{Standing, Token, group_at};
-
-/// What a move of a token has done.
-#[derive(Clone, Copy, Debug, PartialEq, Eq)]
-pub enum Moved {
-    /// Another token stands in its slot.
-    On,
-    /// Another token stands in its slot, and one more in this slot.
-    Forked(usize),
-    /// A `>x>` took its value, and a token on the right side stands in its slot. The group that it was in may have no member any more.
-    Sent(u32),
-    /// It went, out of this group, which may have no member any more.
-    Gone(u32),
-    /// The cell has its value, and all inside its right side went. The group round that side is this one, which may have no member any more.
-    Bound(u64, u32),
-    /// It stands at a call of a site with values: nothing has changed.
-    Calls,
-    /// It waits for a cell, or for nothing that ever comes: nothing has changed.
-    Waits,
-}
 
 impl<P: Program> Ledger<P> {
     // The group of a token that took this step last.

@@ -6,23 +6,17 @@ ghost use Rattle.orc_paths.specs.Doing.{is_wait};
 ghost use Rattle.orc_tables.specs.Same.{only};
 ghost use Rattle.orc_tables.specs.Tokens.{is_live, IsHeld};
 ghost use Rattle.orc_tables.specs.declared.records.Group.{Group as Its};
-ghost use Rattle.orc_ledger.specs.Doing.{what_of};
-ghost use Rattle.orc_ledger.specs.Halting.{IsGroup};
-ghost use Rattle.orc_ledger.specs.Next.{numbers_of, ready, ready_one, empty_groups, open_empty, members, next_of};
-ghost use Rattle.orc_ledger.specs.Spoken.{spoken, IsRight};
+ghost use Rattle.orc_records.specs.Doing.{what_of};
+ghost use Rattle.orc_records.specs.Halting.{IsGroup};
+ghost use Rattle.orc_records.specs.Next.{numbers_of, ready, ready_one, empty_groups, open_empty, members, next_of};
+ghost use Rattle.orc_records.specs.Spoken.{spoken, IsRight};
 
-use crate::ledger::{Ledger, Program};
+use crate::ledger::Ledger;
+use orc_chronicle::Program;
 use orc_graph::Graph;
 use orc_paths::What;
+use orc_records::Next;
 use orc_tables::Token;
-
-/// What comes next: an entry or a group that goes, a tick to that time, or nothing any more.
-#[derive(Clone, Copy, Debug, PartialEq, Eq)]
-pub enum Next {
-    Work,
-    Ticks(u64),
-    Quiet,
-}
 
 impl<P: Program> Ledger<P> {
     // Whether a slot holds a token that doesn't wait.

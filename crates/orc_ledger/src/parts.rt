@@ -4,13 +4,14 @@
 ghost use Rattle.std.specs.Prelude.{◌≡◌, ◌≤◌, true, length, IfOk, IfErr, IfSome, OnErr};
 ghost use Rattle.orc_rules.specs.Nodes.{definitions, source};
 ghost use Rattle.orc_tables.specs.Tokens.{IsHeld};
-ghost use Rattle.orc_ledger.specs.Parts.{call_of, StandsFor, TakesIn, IsUntaken};
+ghost use Rattle.orc_records.specs.Parts.{call_of, StandsFor, TakesIn, IsUntaken};
 
-use crate::chronicle::Chronicle;
-use crate::ledger::{Ledger, LedgerFault, Program};
+use crate::ledger::Ledger;
+use orc_chronicle::{Chronicle, Program};
 use orc_graft::Numbering;
 use orc_graph::{Graph, Node};
 use orc_paths::{What, put_values};
+use orc_records::LedgerFault;
 use orc_rules::answers::Answers;
 use orc_rules::value::{Args, Value};
 use orc_tables::{Standing, Token};
@@ -47,7 +48,7 @@ pub struct Part<P: Program> {
 }
 
 impl<P: Program> Model for Part<P> {
-    ghost use Rattle.orc_ledger.specs.Parts.{Apart, IsOver};
+    ghost use Rattle.orc_records.specs.Parts.{Apart, IsOver};
 
     ghost Value = { Apart };
 

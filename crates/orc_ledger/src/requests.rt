@@ -4,35 +4,26 @@ ghost use Rattle.std.specs.Prelude.{◌≡◌, ◌++◌, ◌∷◌, [], ℕ, tru
 ghost use Rattle.orc_rules.specs.Nodes.{code, definitions};
 ghost use Rattle.orc_rules.specs.declared.entry.Entry.TheVariants.{Call as Calls};
 ghost use Rattle.orc_calls.specs.Counting.{CountsCall};
-ghost use Rattle.orc_ledger.specs.Answers.{Pends};
-ghost use Rattle.orc_ledger.specs.Calls.{IsRefused};
-ghost use Rattle.orc_ledger.specs.Chronicles.{chronicle_with};
+ghost use Rattle.orc_records.specs.Answers.{Pends};
+ghost use Rattle.orc_records.specs.Calls.{IsRefused};
+ghost use Rattle.orc_chronicle.specs.Chronicles.{chronicle_with};
 ghost use Rattle.orc_tables.specs.PendingCalls.{has_number};
 ghost use Rattle.orc_paths.specs.Doing.{IsCall};
-ghost use Rattle.orc_ledger.specs.Doing.{term_of, what_of};
-ghost use Rattle.orc_ledger.specs.Requests.{IsAsked, IsMade};
+ghost use Rattle.orc_records.specs.Doing.{term_of, what_of};
+ghost use Rattle.orc_records.specs.Requests.{IsAsked, IsMade};
 ghost use Rattle.orc_tables.specs.Same.{weight};
 ghost use Rattle.orc_tables.specs.Tokens.{IsHeld};
 
-use crate::chronicle::Chronicle;
-use crate::ledger::{Ledger, LedgerFault, Program};
+use crate::ledger::Ledger;
 use orc_calls::Counts;
+use orc_chronicle::{Chronicle, Program};
 use orc_graph::{Graph, Node};
 use orc_paths::{What, put_values};
+use orc_records::{LedgerFault, Request};
 use orc_rules::answers::Answers;
 use orc_rules::entry::Entry;
 use orc_rules::value::Args;
 use orc_tables::{Call, Standing, Token, group_at};
-
-/// What a call asks: its site, its arguments, when it was made, and which call it is of this site with these arguments, from 1; 1 where no script
-/// answers the site.
-#[derive(Drop)]
-pub struct Request {
-    pub site: u32,
-    pub args: Args,
-    pub made_at: u64,
-    pub nth: u64,
-}
 
 // Writes a call and counts it. Where memory is refused nothing changes.
 fn write_call<P: Program>(

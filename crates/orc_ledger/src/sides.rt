@@ -6,21 +6,22 @@ ghost use Rattle.orc_rules.specs.Term.{param};
 ghost use Rattle.orc_rules.specs.declared.param.Param.TheVariants.{Is};
 ghost use Rattle.orc_rules.specs.declared.entry.Entry.TheVariants.{Bind, Cancel, Lost};
 ghost use Rattle.orc_rules.specs.Timed.{IsIn};
-ghost use Rattle.orc_ledger.specs.Next.{members, numbers_of};
+ghost use Rattle.orc_records.specs.Next.{members, numbers_of};
 ghost use Rattle.orc_tables.specs.declared.records.Side.TheVariants.{Left, Right};
 ghost use Rattle.orc_tables.specs.declared.records.Standing.TheVariants.{At};
 ghost use Rattle.orc_tables.specs.Tokens.{IsHeld};
 ghost use Rattle.orc_paths.specs.Spelling.{Path, aiding};
 ghost use Rattle.orc_paths.specs.Taking.{taker};
-ghost use Rattle.orc_ledger.specs.Records.{its_env, its_path, is_over};
+ghost use Rattle.orc_records.specs.Records.{its_env, its_path, is_over};
 ghost use Rattle.orc_paths.specs.Paths.{standing, has_left};
 ghost use Rattle.orc_tables.specs.Steps.{group_at};
-ghost use Rattle.orc_ledger.specs.Calls.{Drops, Closes, Resumes, AreCancelled, IsRefused};
-ghost use Rattle.orc_ledger.specs.Chronicles.{chronicle_with};
+ghost use Rattle.orc_records.specs.Calls.{Drops, Closes, Resumes, AreCancelled, IsRefused};
+ghost use Rattle.orc_chronicle.specs.Chronicles.{chronicle_with};
 
-use crate::chronicle::Chronicle;
-use crate::ledger::{Ledger, LedgerFault, Program, write};
+use crate::ledger::{Ledger, write};
+use orc_chronicle::{Chronicle, Program};
 use orc_names::Bound;
+use orc_records::LedgerFault;
 use orc_rules::entry::Entry;
 use orc_rules::value::Value;
 use orc_tables::{

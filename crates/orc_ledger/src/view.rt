@@ -2,9 +2,10 @@
 
 ghost use Rattle.std.specs.Prelude.{◌≡◌};
 ghost use Rattle.orc_rules.specs.Nodes.{code, definitions};
-ghost use Rattle.orc_ledger.specs.Doing.{what_of};
+ghost use Rattle.orc_records.specs.Doing.{what_of};
 
-use crate::ledger::{Ledger, Program};
+use crate::ledger::Ledger;
+use orc_chronicle::Program;
 use orc_graph::Graph;
 use orc_paths::{What, stand_at, taken_from};
 use orc_tables::{Standing, Token};

@@ -3,7 +3,7 @@
 ghost use Rattle.std.specs.Prelude.{◌≡◌, ◌≤◌, true, false};
 ghost use Rattle.orc_rules.specs.declared.limits.TheConstants.{MOST_ENTRIES};
 ghost use Rattle.orc_rules.specs.Nodes.{definitions, source};
-ghost use Rattle.orc_ledger.specs.Parts.{call_of};
+ghost use Rattle.orc_records.specs.Parts.{call_of};
 
 use orc_graph::Graph;
 use orc_journal::write_journal;

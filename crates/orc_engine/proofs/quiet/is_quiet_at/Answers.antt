@@ -4,7 +4,7 @@ use Rattle.orc_rules.specs.Nodes.{code, source}
 use Rattle.orc_rules.specs.Journal.{Journal, begin}
 use Rattle.orc_checker.specs.Checker.{Spells}
 use Rattle.orc_outcome.specs.Outcome.{context}
-use Rattle.orc_ledger.proofs.Keeping.{journal_one}
+use Rattle.orc_records.proofs.Keeping.{journal_one}
 use Rattle.orc_engine.proofs.Reading.{spelt-more}
 use Rattle.orc_engine.proofs.quiet.is_quiet_at.Goals as goal
 

@@ -3,7 +3,7 @@ use Rattle.orc_rules.specs.Nodes.{source}
 use Rattle.orc_rules.specs.Named.{AreNamed, HasNames}
 use Rattle.orc_rules.proofs.Named.{calls_are_named}
 use Rattle.orc_outcome.specs.Outcome.{context, EndsAt}
-use Rattle.orc_ledger.specs.Whole.{IsWhole}
+use Rattle.orc_records.specs.Whole.{IsWhole}
 use Rattle.orc_engine.specs.Faults.{IsOwn}
 use Rattle.orc_engine.proofs.telling.tell.Goals as goal
 

@@ -1,4 +1,4 @@
-use Rattle.orc_ledger.proofs.Owed.{not-none}
+use Rattle.orc_records.proofs.Owed.{not-none}
 use Rattle.orc_engine.proofs.desk.Desk.answer.Goals as goal
 
 pub returns-in-Err-Gone-clause-stops : goal.returns-in-Err-Gone-clause-stops

@@ -1,10 +1,10 @@
 use Rattle.std.proofs.Common.{sym, ap, subst, ◌∙◌, arith, inl, inr}
 use Rattle.orc_rules.specs.Timed.{IsIn}
 use Rattle.orc_rules.specs.Nodes.{code}
-use Rattle.orc_ledger.specs.Records.{Records}
+use Rattle.orc_records.specs.Records.{Records}
 use Rattle.orc_engine.specs.Stops.{Advances}
 use Rattle.orc_engine.proofs.Further.{further-still}
-use Rattle.orc_ledger.specs.Halting.{IsHinderedAt}
+use Rattle.orc_records.specs.Halting.{IsHinderedAt}
 use Rattle.orc_engine.proofs.Stopping.{halted-further, unhalted}
 use Rattle.orc_engine.proofs.desk.Desk.close_from.Goals as goal
 use Rattle.orc_engine.proofs.desk.Desk.close_from.Goals.{in-Lost+in_ok-wake-in-Lost, in-Closed}

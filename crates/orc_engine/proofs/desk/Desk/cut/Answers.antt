@@ -4,10 +4,10 @@ use Rattle.orc_rules.specs.Nodes.{source}
 use Rattle.orc_rules.specs.Journal.{Place, Journal, begin, moment}
 use Rattle.orc_rules.specs.Timed.{IsQuiet}
 use Rattle.orc_outcome.specs.Outcome as outcome
-use Rattle.orc_ledger.specs.Records.{context}
-use Rattle.orc_ledger.specs.Answers.{IsAt}
-use Rattle.orc_ledger.specs.Spoken.{IsRight}
-use Rattle.orc_ledger.specs.declared.next.Next.TheVariants.{Ticks}
+use Rattle.orc_records.specs.Records.{context}
+use Rattle.orc_records.specs.Answers.{IsAt}
+use Rattle.orc_records.specs.Spoken.{IsRight}
+use Rattle.orc_records.specs.declared.results.Next.TheVariants.{Ticks}
 use Rattle.orc_engine.proofs.desk.Desk.cut.Goals as goal
 
 pub returns-in-Ticks-clause-ended : goal.returns-in-Ticks-clause-ended

@@ -1,6 +1,6 @@
 use Rattle.std.proofs.Common.{sym, subst}
-use Rattle.orc_ledger.specs.Spoken.{IsRight}
-use Rattle.orc_ledger.specs.declared.next.Next.TheVariants.{Ticks}
+use Rattle.orc_records.specs.Spoken.{IsRight}
+use Rattle.orc_records.specs.declared.results.Next.TheVariants.{Ticks}
 use Rattle.orc_engine.proofs.desk.Desk.pass_time.Goals as goal
 
 pub tick-requires : goal.tick-requires

@@ -3,8 +3,8 @@ use Rattle.orc_rules.specs.declared.param.Param.TheVariants as is
 use Rattle.orc_rules.specs.Nodes.{Listing, code}
 use Rattle.orc_names.specs.declared.names.Bound.TheVariants as bound
 use Rattle.orc_names.proofs.Scopes.{close-given}
-use Rattle.orc_ledger.specs.Records.{its_env}
-use Rattle.orc_ledger.proofs.Advancing.{stands-param}
+use Rattle.orc_records.specs.Records.{its_env}
+use Rattle.orc_records.proofs.Advancing.{stands-param}
 use Rattle.orc_ledger.proofs.ledger.Ledger.advance.Goals as goal
 
 pub move_value-requires-in-Is-clause-form : goal.move_value-requires-in-Is-clause-form

@@ -5,12 +5,12 @@ use Rattle.orc_rules.specs.Term.{site, values_of}
 use Rattle.orc_names.specs.Scopes.{env_of, close}
 use Rattle.orc_names.proofs.Scopes.{close-site}
 use Rattle.orc_tables.specs.Tokens.{live}
-use Rattle.orc_ledger.specs.Records.{Records, its_env, its_path}
+use Rattle.orc_records.specs.Records.{Records, its_env, its_path}
 use Rattle.orc_paths.specs.Paths.{standing}
 use Rattle.orc_paths.specs.Doing.{closed, what_by}
-use Rattle.orc_ledger.specs.Doing.{what_of}
+use Rattle.orc_records.specs.Doing.{what_of}
 use Rattle.orc_paths.specs.declared.what.What.TheVariants.{Call}
-use Rattle.orc_ledger.proofs.Asked.{taken-not, site-only, site-called}
+use Rattle.orc_records.proofs.Asked.{taken-not, site-only, site-called}
 use Rattle.orc_ledger.proofs.ledger.Ledger.ask.Goals as goal
 
 pub unreachable-requires : goal.unreachable-requires

@@ -5,17 +5,17 @@ use Rattle.orc_names.specs.declared.names.Bound.TheVariants.{Void}
 use Rattle.orc_names.specs.declared.names.Scope.{Scope}
 use Rattle.orc_rules.specs.Journal.{Place}
 use Rattle.orc_calls.specs.Counting.{AreCounted}
-use Rattle.orc_ledger.specs.Kept.{Kept}
+use Rattle.orc_records.specs.Kept.{Kept}
 use Rattle.orc_tables.specs.Parking.{Parked, is_set}
-use Rattle.orc_ledger.specs.Begun.{begun}
+use Rattle.orc_records.specs.Begun.{begun}
 use Rattle.orc_tables.specs.Tokens.{live}
 use Rattle.orc_tables.specs.declared.records.Standing.TheVariants.{At}
 use Rattle.orc_tables.specs.declared.records.Token.{Token}
 use Rattle.orc_tables.specs.declared.records.Call.{Call}
 use Rattle.orc_tables.specs.declared.records.Step.{Step}
 use Rattle.orc_tables.specs.declared.records.Group.{Group}
-use Rattle.orc_ledger.proofs.Begun.{begun-lawful, begun-grouped}
-use Rattle.orc_ledger.proofs.Brought.{begun-brought}
+use Rattle.orc_records.proofs.Begun.{begun-lawful, begun-grouped}
+use Rattle.orc_records.proofs.Brought.{begun-brought}
 use Rattle.orc_ledger.proofs.ledger.Ledger.begin.Goals as goal
 
 -- records made of lists that are those of a new run

@@ -10,25 +10,25 @@ use Rattle.orc_tables.specs.Inside.{stands_inside, side_inside}
 use Rattle.orc_tables.specs.Tokens.{live, IsHeld}
 use Rattle.orc_paths.specs.Spelling.{Path, aiding}
 use Rattle.orc_paths.specs.Taking.{taker}
-use Rattle.orc_ledger.specs.Records.{Records, its_env, its_path}
+use Rattle.orc_records.specs.Records.{Records, its_env, its_path}
 use Rattle.orc_paths.specs.Paths.{standing}
 use Rattle.orc_tables.specs.Steps.{group_at}
-use Rattle.orc_ledger.specs.Calls.{Drops, AreCancelled}
+use Rattle.orc_records.specs.Calls.{Drops, AreCancelled}
 use Rattle.orc_tables.specs.declared.records.Token.{Token}
 use Rattle.orc_tables.specs.declared.records.Call.{Call}
 use Rattle.orc_tables.specs.declared.records.Group.{Group}
 use Rattle.orc_tables.proofs.Weight.{weight-but}
 use Rattle.orc_tables.proofs.Slots.{live-in}
-use Rattle.orc_ledger.proofs.AtRest.{rest-dropped}
-use Rattle.orc_ledger.proofs.Binding.{bind-lawful, taken-unbound}
+use Rattle.orc_records.proofs.AtRest.{rest-dropped}
+use Rattle.orc_records.proofs.Binding.{bind-lawful, taken-unbound}
 use Rattle.orc_tables.proofs.Flags.{stay-but}
-use Rattle.orc_ledger.proofs.Calling.{drops-told}
-use Rattle.orc_ledger.proofs.Keeping.{counted-kept, cancels_none}
-use Rattle.orc_ledger.proofs.Grouped.{dropped-grouped}
-use Rattle.orc_ledger.proofs.Dropped.{drops}
-use Rattle.orc_ledger.proofs.Subtree.{side-cancelled, slots-listed, numbers-listed, groups-listed}
+use Rattle.orc_records.proofs.Calling.{drops-told}
+use Rattle.orc_records.proofs.Keeping.{counted-kept, cancels_none}
+use Rattle.orc_records.proofs.Grouped.{dropped-grouped}
+use Rattle.orc_records.proofs.Dropped.{drops}
+use Rattle.orc_records.proofs.Subtree.{side-cancelled, slots-listed, numbers-listed, groups-listed}
 use Rattle.orc_tables.specs.Same.{is_this}
-use Rattle.orc_ledger.proofs.Brought.{dropped-brought}
+use Rattle.orc_records.proofs.Brought.{dropped-brought}
 use Rattle.orc_ledger.proofs.ledger.Ledger.bind.Goals as goal
 
 pub invariant_of-self-2 : goal.invariant_of-self-2

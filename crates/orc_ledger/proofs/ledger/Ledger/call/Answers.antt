@@ -4,15 +4,15 @@ use Rattle.orc_rules.specs.Nodes.{code, definitions}
 use Rattle.orc_rules.specs.Sites.{find}
 use Rattle.orc_rules.specs.Timed.{nth_of}
 use Rattle.orc_tables.specs.Same.{weight}
-use Rattle.orc_ledger.specs.Records.{Records}
-use Rattle.orc_ledger.specs.Calls.{Exchanges}
+use Rattle.orc_records.specs.Records.{Records}
+use Rattle.orc_records.specs.Calls.{Exchanges}
 use Rattle.orc_paths.specs.Doing.{IsCall}
-use Rattle.orc_ledger.specs.Doing.{term_of}
-use Rattle.orc_ledger.specs.Requests.{IsMade}
+use Rattle.orc_records.specs.Doing.{term_of}
+use Rattle.orc_records.specs.Requests.{IsMade}
 use Rattle.orc_tables.specs.Tokens.{live, IsHeld}
 use Rattle.orc_tables.specs.declared.records.Call.{Call}
-use Rattle.orc_ledger.proofs.AtRest.{rest-kept, same-terms}
-use Rattle.orc_ledger.proofs.Asked.{found-there, nth-there, called-kept}
+use Rattle.orc_records.proofs.AtRest.{rest-kept, same-terms}
+use Rattle.orc_records.proofs.Asked.{found-there, nth-there, called-kept}
 use Rattle.orc_tables.proofs.Slots.{live-in, removed}
 use Rattle.orc_ledger.proofs.ledger.Ledger.call.Goals as goal
 

@@ -4,24 +4,24 @@ use Rattle.orc_rules.specs.declared.entry.Entry.TheVariants.{Seq}
 use Rattle.orc_rules.specs.Timed.{IsIn}
 use Rattle.orc_rules.specs.Nodes.{code, definitions}
 use Rattle.orc_tables.specs.Same.{weight}
-use Rattle.orc_ledger.specs.Records.{Records}
+use Rattle.orc_records.specs.Records.{Records}
 use Rattle.orc_tables.specs.Steps.{group_at, depth_at}
 use Rattle.orc_tables.specs.Tokens.{live, IsHeld}
-use Rattle.orc_ledger.specs.Calls.{born, IsFed}
+use Rattle.orc_records.specs.Calls.{born, IsFed}
 use Rattle.orc_tables.specs.declared.records.Token.{Token}
 use Rattle.orc_tables.specs.declared.records.Entered.TheVariants.{Feed}
 use Rattle.orc_tables.specs.declared.records.Step.{Step}
-use Rattle.orc_ledger.proofs.AtRest.{rest-kept, same-terms}
+use Rattle.orc_records.proofs.AtRest.{rest-kept, same-terms}
 use Rattle.orc_tables.proofs.Slots.{live-in, replaced, set-there}
-use Rattle.orc_ledger.proofs.Calling.{turns-told}
-use Rattle.orc_ledger.proofs.Keeping.{counted-kept}
-use Rattle.orc_ledger.proofs.Made.{turns, later_mark}
-use Rattle.orc_ledger.proofs.Leaves.{feed-lawful}
-use Rattle.orc_ledger.proofs.Grouped.{fed-grouped}
+use Rattle.orc_records.proofs.Calling.{turns-told}
+use Rattle.orc_records.proofs.Keeping.{counted-kept}
+use Rattle.orc_records.proofs.Made.{turns, later_mark}
+use Rattle.orc_records.proofs.Leaves.{feed-lawful}
+use Rattle.orc_records.proofs.Grouped.{fed-grouped}
 use Rattle.orc_tables.specs.Same.{is_this}
-use Rattle.orc_ledger.proofs.Nests.{group-end}
-use Rattle.orc_ledger.proofs.Sizes.{turned-members}
-use Rattle.orc_ledger.proofs.Brought.{turned-deep}
+use Rattle.orc_records.proofs.Nests.{group-end}
+use Rattle.orc_records.proofs.Sizes.{turned-members}
+use Rattle.orc_records.proofs.Brought.{turned-deep}
 use Rattle.orc_ledger.proofs.ledger.Ledger.feed.Goals as goal
 
 pub invariant_of-self-2 : goal.invariant_of-self-2

@@ -1,9 +1,9 @@
 use Rattle.std.proofs.Common.{◌≡◌, ◌≤◌, ◌-◌, sym, ap, ◌∙◌, subst, arith, length}
 use Rattle.orc_graft.specs.Moved.{AreLocal}
 use Rattle.orc_tables.specs.Tokens.{live}
-use Rattle.orc_ledger.specs.Records.{Records}
-use Rattle.orc_ledger.specs.Parts.{IsOver}
-use Rattle.orc_ledger.proofs.Apart.{over}
+use Rattle.orc_records.specs.Records.{Records}
+use Rattle.orc_records.specs.Parts.{IsOver}
+use Rattle.orc_records.proofs.Apart.{over}
 use Rattle.orc_ledger.proofs.ledger.Ledger.into_part.Goals as goal
 
 pub invariant_of-result : goal.invariant_of-result

@@ -4,27 +4,27 @@ use Rattle.orc_rules.specs.declared.entry.Entry.TheVariants.{Other}
 use Rattle.orc_rules.specs.Timed.{IsIn}
 use Rattle.orc_rules.specs.Nodes.{code, definitions}
 use Rattle.orc_tables.specs.Same.{weight, None}
-use Rattle.orc_ledger.specs.Records.{Records}
+use Rattle.orc_records.specs.Records.{Records}
 use Rattle.orc_tables.specs.Steps.{depth_at}
 use Rattle.orc_tables.specs.Tokens.{live, IsHeld}
-use Rattle.orc_ledger.specs.Calls.{born, IsFree, IsTried, HasRoom}
+use Rattle.orc_records.specs.Calls.{born, IsFree, IsTried, HasRoom}
 use Rattle.orc_tables.specs.declared.records.Token.{Token}
 use Rattle.orc_tables.specs.declared.records.Entered.TheVariants.{Try}
 use Rattle.orc_tables.specs.declared.records.Step.{Step}
 use Rattle.orc_tables.specs.declared.records.Side.TheVariants.{Left}
 use Rattle.orc_tables.specs.declared.records.Group.{Group}
-use Rattle.orc_ledger.proofs.AtRest.{rest-kept, rest-same, same-terms}
+use Rattle.orc_records.proofs.AtRest.{rest-kept, rest-same, same-terms}
 use Rattle.orc_tables.proofs.Slots.{live-in, replaced, set-there}
-use Rattle.orc_ledger.proofs.Calling.{turns-told}
-use Rattle.orc_ledger.proofs.Keeping.{counted-kept}
-use Rattle.orc_ledger.proofs.Made.{turns, later_mark, step_in}
-use Rattle.orc_ledger.proofs.Leaves.{try-lawful}
-use Rattle.orc_ledger.proofs.Grouped.{tried-grouped}
+use Rattle.orc_records.proofs.Calling.{turns-told}
+use Rattle.orc_records.proofs.Keeping.{counted-kept}
+use Rattle.orc_records.proofs.Made.{turns, later_mark, step_in}
+use Rattle.orc_records.proofs.Leaves.{try-lawful}
+use Rattle.orc_records.proofs.Grouped.{tried-grouped}
 use Rattle.orc_tables.specs.Same.{is_this}
 use Rattle.orc_tables.specs.OpenGroups.{IsOpen, size_of}
-use Rattle.orc_ledger.proofs.Nests.{group-kept, group-end}
-use Rattle.orc_ledger.proofs.Sizes.{turned-members, open-new, size-few, kept-still}
-use Rattle.orc_ledger.proofs.Brought.{turned-deep}
+use Rattle.orc_records.proofs.Nests.{group-kept, group-end}
+use Rattle.orc_records.proofs.Sizes.{turned-members, open-new, size-few, kept-still}
+use Rattle.orc_records.proofs.Brought.{turned-deep}
 use Rattle.orc_ledger.proofs.ledger.Ledger.other.Goals as goal
 
 pub invariant_of-self-2 : goal.invariant_of-self-2

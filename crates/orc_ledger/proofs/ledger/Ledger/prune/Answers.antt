@@ -8,29 +8,29 @@ use Rattle.orc_names.specs.declared.names.Bound.TheVariants.{Cell}
 use Rattle.orc_names.specs.declared.names.Scope.{Scope}
 use Rattle.orc_names.specs.Scopes.{current}
 use Rattle.orc_tables.specs.Same.{weight, None}
-use Rattle.orc_ledger.specs.Records.{Records}
+use Rattle.orc_records.specs.Records.{Records}
 use Rattle.orc_tables.specs.Steps.{group_at}
 use Rattle.orc_tables.specs.Tokens.{live, IsHeld}
-use Rattle.orc_ledger.specs.Calls.{born, IsFree, IsOpened, HasRoom}
+use Rattle.orc_records.specs.Calls.{born, IsFree, IsOpened, HasRoom}
 use Rattle.orc_tables.specs.declared.records.Token.{Token}
 use Rattle.orc_tables.specs.declared.records.Entered.TheVariants.{Aid}
 use Rattle.orc_tables.specs.declared.records.Step.{Step}
 use Rattle.orc_tables.specs.declared.records.Side.TheVariants.{Right}
 use Rattle.orc_tables.specs.declared.records.Group.{Group}
-use Rattle.orc_ledger.proofs.AtRest.{rest-kept, rest-same, turns-terms}
+use Rattle.orc_records.proofs.AtRest.{rest-kept, rest-same, turns-terms}
 use Rattle.orc_tables.proofs.Flags.{stay-on, stay-same}
 use Rattle.orc_tables.proofs.Slots.{live-in, replaced, set-there}
-use Rattle.orc_ledger.proofs.Calling.{turns-told}
-use Rattle.orc_ledger.proofs.Keeping.{counted-kept}
-use Rattle.orc_ledger.proofs.Made.{turns, later_mark, step_in}
-use Rattle.orc_ledger.proofs.Leaves.{open-lawful, current-push}
-use Rattle.orc_ledger.proofs.Grouped.{opened-grouped}
+use Rattle.orc_records.proofs.Calling.{turns-told}
+use Rattle.orc_records.proofs.Keeping.{counted-kept}
+use Rattle.orc_records.proofs.Made.{turns, later_mark, step_in}
+use Rattle.orc_records.proofs.Leaves.{open-lawful, current-push}
+use Rattle.orc_records.proofs.Grouped.{opened-grouped}
 use Rattle.orc_tables.specs.Same.{is_this}
 use Rattle.orc_tables.specs.OpenGroups.{IsOpen, size_of}
-use Rattle.orc_ledger.proofs.Nests.{group-kept, group-end}
-use Rattle.orc_ledger.proofs.Sizes.{turned-members, open-token, open-more, open-new, size-few, kept-still}
+use Rattle.orc_records.proofs.Nests.{group-kept, group-end}
+use Rattle.orc_records.proofs.Sizes.{turned-members, open-token, open-more, open-new, size-few, kept-still}
 use Rattle.orc_tables.proofs.Weight.{one-most}
-use Rattle.orc_ledger.proofs.Brought.{turned-deep}
+use Rattle.orc_records.proofs.Brought.{turned-deep}
 use Rattle.orc_ledger.proofs.ledger.Ledger.prune.Goals as goal
 
 pub invariant_of-self-2 : goal.invariant_of-self-2

@@ -7,22 +7,22 @@ use Rattle.orc_rules.specs.declared.param.Param.TheVariants as is_
 use Rattle.orc_tables.specs.Same.{weight}
 use Rattle.orc_paths.specs.Spelling.{whole}
 use Rattle.orc_paths.specs.Taking.{taker, crossed}
-use Rattle.orc_ledger.specs.Records.{Records, its_env, its_path}
+use Rattle.orc_records.specs.Records.{Records, its_env, its_path}
 use Rattle.orc_paths.specs.Paths.{standing}
 use Rattle.orc_tables.specs.Tokens.{live, IsHeld}
-use Rattle.orc_ledger.specs.Calls.{Crosses}
+use Rattle.orc_records.specs.Calls.{Crosses}
 use Rattle.orc_paths.specs.Taking.{Publishes}
 use Rattle.orc_tables.specs.declared.records.Token.{Token}
-use Rattle.orc_ledger.proofs.AtRest.{rest-kept, same-terms}
+use Rattle.orc_records.proofs.AtRest.{rest-kept, same-terms}
 use Rattle.orc_tables.proofs.Slots.{live-in, removed}
-use Rattle.orc_ledger.proofs.Calling.{crosses-told}
-use Rattle.orc_ledger.proofs.Keeping.{counted-kept}
-use Rattle.orc_ledger.proofs.Made.{crosses, step_in}
-use Rattle.orc_ledger.proofs.Sending.{publish-lawful}
-use Rattle.orc_ledger.proofs.Grouped.{published-grouped}
+use Rattle.orc_records.proofs.Calling.{crosses-told}
+use Rattle.orc_records.proofs.Keeping.{counted-kept}
+use Rattle.orc_records.proofs.Made.{crosses, step_in}
+use Rattle.orc_records.proofs.Sending.{publish-lawful}
+use Rattle.orc_records.proofs.Grouped.{published-grouped}
 use Rattle.orc_tables.specs.Same.{is_this}
-use Rattle.orc_ledger.proofs.Sizes.{crossed-members}
-use Rattle.orc_ledger.proofs.Brought.{crossed-brought}
+use Rattle.orc_records.proofs.Sizes.{crossed-members}
+use Rattle.orc_records.proofs.Brought.{crossed-brought}
 use Rattle.orc_ledger.proofs.ledger.Ledger.publish.Goals as goal
 
 pub leave_others-requires-clause-within : goal.leave_others-requires-clause-within

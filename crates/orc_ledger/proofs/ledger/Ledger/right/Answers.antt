@@ -4,24 +4,24 @@ use Rattle.orc_rules.specs.Timed.{IsIn}
 use Rattle.orc_rules.specs.Nodes.{code, definitions}
 use Rattle.orc_tables.specs.Same.{weight}
 use Rattle.orc_tables.specs.Tokens.{live}
-use Rattle.orc_ledger.specs.Records.{Records}
+use Rattle.orc_records.specs.Records.{Records}
 use Rattle.orc_paths.specs.Paths.{has_left}
-use Rattle.orc_ledger.specs.Calls.{Resumes}
-use Rattle.orc_ledger.specs.Next.{members, numbers_of}
+use Rattle.orc_records.specs.Calls.{Resumes}
+use Rattle.orc_records.specs.Next.{members, numbers_of}
 use Rattle.orc_tables.specs.declared.records.Standing.TheVariants.{At}
 use Rattle.orc_tables.specs.declared.records.Token.{Token}
-use Rattle.orc_ledger.proofs.AtRest.{rest-kept, same-terms}
+use Rattle.orc_records.proofs.AtRest.{rest-kept, same-terms}
 use Rattle.orc_tables.proofs.Flags.{stay-on, stay-same}
-use Rattle.orc_ledger.proofs.Emptied.{left-empty}
-use Rattle.orc_ledger.proofs.Resuming.{right-lawful}
-use Rattle.orc_ledger.proofs.Calling.{resumes-told}
-use Rattle.orc_ledger.proofs.Keeping.{counted-kept}
-use Rattle.orc_ledger.proofs.Grouped.{resumed-grouped}
-use Rattle.orc_ledger.proofs.Closed.{mark-later}
+use Rattle.orc_records.proofs.Emptied.{left-empty}
+use Rattle.orc_records.proofs.Resuming.{right-lawful}
+use Rattle.orc_records.proofs.Calling.{resumes-told}
+use Rattle.orc_records.proofs.Keeping.{counted-kept}
+use Rattle.orc_records.proofs.Grouped.{resumed-grouped}
+use Rattle.orc_records.proofs.Closed.{mark-later}
 use Rattle.orc_tables.specs.OpenGroups.{size_of}
-use Rattle.orc_ledger.proofs.Sizes.{resumed-members}
+use Rattle.orc_records.proofs.Sizes.{resumed-members}
 use Rattle.orc_tables.proofs.Slots.{live-in}
-use Rattle.orc_ledger.proofs.Brought.{resumed-brought}
+use Rattle.orc_records.proofs.Brought.{resumed-brought}
 use Rattle.orc_ledger.proofs.ledger.Ledger.right.Goals as goal
 
 pub add-slot-requires-clause-serial : goal.add-slot-requires-clause-serial

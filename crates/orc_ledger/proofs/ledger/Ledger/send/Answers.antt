@@ -11,24 +11,24 @@ use Rattle.orc_names.specs.declared.names.Scope.{Scope}
 use Rattle.orc_tables.specs.Same.{weight}
 use Rattle.orc_paths.specs.Spelling.{feeding}
 use Rattle.orc_paths.specs.Taking.{taker, crossed, reach}
-use Rattle.orc_ledger.specs.Records.{Records, its_env, its_path}
+use Rattle.orc_records.specs.Records.{Records, its_env, its_path}
 use Rattle.orc_paths.specs.Paths.{standing}
 use Rattle.orc_tables.specs.Tokens.{live, IsHeld}
-use Rattle.orc_ledger.specs.Calls.{Crosses, HasRoom}
+use Rattle.orc_records.specs.Calls.{Crosses, HasRoom}
 use Rattle.orc_paths.specs.Taking.{Publishes}
 use Rattle.orc_tables.specs.declared.records.Standing.TheVariants.{At}
 use Rattle.orc_tables.specs.declared.records.Token.{Token}
-use Rattle.orc_ledger.proofs.AtRest.{rest-kept, crosses-terms}
+use Rattle.orc_records.proofs.AtRest.{rest-kept, crosses-terms}
 use Rattle.orc_tables.proofs.Slots.{live-in, replaced, set-there}
-use Rattle.orc_ledger.proofs.Calling.{crosses-told}
-use Rattle.orc_ledger.proofs.Keeping.{counted-kept}
-use Rattle.orc_ledger.proofs.Made.{crosses, step_in, later_mark}
-use Rattle.orc_ledger.proofs.Sending.{send-lawful}
-use Rattle.orc_ledger.proofs.Grouped.{sent-grouped}
+use Rattle.orc_records.proofs.Calling.{crosses-told}
+use Rattle.orc_records.proofs.Keeping.{counted-kept}
+use Rattle.orc_records.proofs.Made.{crosses, step_in, later_mark}
+use Rattle.orc_records.proofs.Sending.{send-lawful}
+use Rattle.orc_records.proofs.Grouped.{sent-grouped}
 use Rattle.orc_tables.specs.Same.{is_this}
 use Rattle.orc_tables.specs.OpenGroups.{IsOpen}
-use Rattle.orc_ledger.proofs.Sizes.{crossed-members, open-reach, size-few}
-use Rattle.orc_ledger.proofs.Brought.{crossed-brought}
+use Rattle.orc_records.proofs.Sizes.{crossed-members, open-reach, size-few}
+use Rattle.orc_records.proofs.Brought.{crossed-brought}
 use Rattle.orc_ledger.proofs.ledger.Ledger.send.Goals as goal
 
 pub leave_others-requires-clause-within : goal.leave_others-requires-clause-within

@@ -7,10 +7,10 @@ use Rattle.orc_tables.specs.Tokens.{live, IsHeld}
 use Rattle.orc_tables.specs.OpenGroups.{size_of}
 use Rattle.orc_tables.specs.Steps.{group_at}
 use Rattle.orc_tables.proofs.Slots.{live-in, removed}
-use Rattle.orc_ledger.specs.Records.{Records}
-use Rattle.orc_ledger.specs.Parts.{Apart, StandsFor, TakesIn}
-use Rattle.orc_ledger.proofs.AtRest.{rest-kept, same-terms}
-use Rattle.orc_ledger.proofs.Taken.{has_begun, taken-kept}
+use Rattle.orc_records.specs.Records.{Records}
+use Rattle.orc_records.specs.Parts.{Apart, StandsFor, TakesIn}
+use Rattle.orc_records.proofs.AtRest.{rest-kept, same-terms}
+use Rattle.orc_records.proofs.Taken.{has_begun, taken-kept}
 use Rattle.orc_ledger.proofs.ledger.Ledger.take_in.Goals as goal
 
 pub invariant_of-self-2 : goal.invariant_of-self-2

@@ -5,11 +5,11 @@ use Rattle.orc_rules.specs.Nodes.{Listing, code, param_of}
 use Rattle.orc_rules.specs.Term.{call, values_of}
 use Rattle.orc_names.specs.Scopes.{env_of}
 use Rattle.orc_tables.specs.Tokens.{live}
-use Rattle.orc_ledger.specs.Records.{Records, its_env}
-use Rattle.orc_ledger.specs.Parts.{StandsFor}
+use Rattle.orc_records.specs.Records.{Records, its_env}
+use Rattle.orc_records.specs.Parts.{StandsFor}
 use Rattle.orc_paths.specs.Paths.{standing}
 use Rattle.orc_paths.specs.Doing.{closed}
-use Rattle.orc_ledger.proofs.Apart.{called, scanned}
+use Rattle.orc_records.proofs.Apart.{called, scanned}
 use Rattle.orc_ledger.proofs.ledger.Ledger.task.Goals as goal
 
 pub put_values-requires-clause-values : goal.put_values-requires-clause-values
