@@ -14,11 +14,11 @@ use Rattle.orc_names.specs.declared.names.Scope.{Scope}
 use Rattle.orc_names.specs.Scopes.{close, close_param, env_of}
 use Rattle.orc_names.specs.Names.{AreOrdered, Means}
 use Rattle.orc_names.proofs.Scopes.{close-of-param}
-use Rattle.orc_checker.specs.declared.arena.Tip.{Tip}
-use Rattle.orc_checker.specs.declared.arena.Tip.TheVariants.{Gone, Ended, Token, Bears, Waits}
-use Rattle.orc_checker.specs.declared.arena.Kind.TheVariants.{Leaf}
-use Rattle.orc_checker.specs.Arena.{living_kind, of_tip}
-use Rattle.orc_checker.specs.Bearers.{Carries, BearsOther, BearsValue}
+use Rattle.orc_nodes.specs.declared.arena.Tip.{Tip}
+use Rattle.orc_nodes.specs.declared.arena.Tip.TheVariants.{Gone, Ended, Token, Bears, Waits}
+use Rattle.orc_nodes.specs.declared.arena.Kind.TheVariants.{Leaf}
+use Rattle.orc_nodes.specs.Arena.{living_kind, of_tip}
+use Rattle.orc_nodes.specs.Bearers.{Carries, BearsOther, BearsValue}
 use Rattle.orc_checker.proofs.Refusing.{sort, sort_under, operand_node}
 
 -- a token on an operand that means a value stands on the value

@@ -1,24 +1,18 @@
 -- A token's node changes: what the state spells afterwards.
 use Rattle.std.proofs.Common.{◌≡◌, ◌≤◌, ◌+◌, ℕ, List, [], ◌∷◌, length, Some, refl, sym, ap, ◌∙◌, subst, arith}
 use Rattle.std.specs.Prelude.{slice_get}
-use Rattle.orc_checker.specs.declared.arena.Node.{Node}
-use Rattle.orc_checker.specs.declared.arena.Tip.{Tip}
-use Rattle.orc_checker.specs.declared.arena.Kind.TheVariants.{Leaf}
+use Rattle.orc_nodes.specs.declared.arena.Node.{Node}
+use Rattle.orc_nodes.specs.declared.arena.Tip.{Tip}
+use Rattle.orc_nodes.specs.declared.arena.Kind.TheVariants.{Leaf}
 use Rattle.orc_rules.specs.Term.{Term}
-use Rattle.orc_checker.specs.Arena.{Tree, leaf, one, two, place, count, hits, at, Holds, living, living_kind, StandOnce, spelled, IsTopped, Frame, on_one, on_left, on_right, plug}
+use Rattle.orc_nodes.specs.Arena.{Tree, leaf, one, two, place, count, hits, at, Holds, living, living_kind, StandOnce, spelled, IsTopped, Frame, on_one, on_left, on_right, plug}
 use Rattle.orc_names.specs.Scopes.{env_of}
-use Rattle.orc_checker.specs.Around.{above}
-use Rattle.orc_checker.specs.Rising.{Stands}
+use Rattle.orc_nodes.specs.Around.{above}
+use Rattle.orc_nodes.specs.Rising.{Stands}
 use Rattle.orc_checker.specs.Checker.{State, Draws}
 use Rattle.orc_rules.specs.Marked.{Marked}
-use Rattle.orc_checker.proofs.Trees.{holds-out, holds_replaced, once_replaced, spot, alone, hit, topped-plug}
+use Rattle.orc_nodes.proofs.Trees.{place-plug, holds-out, holds_replaced, once_replaced, spot, alone, hit, topped-plug}
 use Rattle.orc_checker.proofs.Spelling.{spelled-kept}
-
-pub place-plug : (k : List Frame) (t t' : Tree) → place t ≡ place t' → place (plug k t) ≡ place (plug k t')
-place-plug [] t t' e = e
-place-plug (on_one i s ∷ k) t t' e = place-plug k (one i s t) (one i s t') refl
-place-plug (on_left i d u ∷ k) t t' e = place-plug k (two i d t u) (two i d t' u) refl
-place-plug (on_right i d u ∷ k) t t' e = place-plug k (two i d u t) (two i d u t') refl
 
 -- where a node without parts stands
 pub record Found (nodes : List Node) (n p i : ℕ) (k : Tip) (q : ℕ) (t : Tree) : Type 0 where

@@ -13,19 +13,20 @@ use Rattle.orc_rules.specs.Idle.{has_halted}
 use Rattle.orc_rules.specs.Marked.{token, Replaces}
 use Rattle.orc_rules.specs.Timed.{Context}
 use Rattle.orc_names.specs.declared.names.Scope.{Scope}
-use Rattle.orc_checker.specs.declared.arena.Tip.TheVariants.{Token}
-use Rattle.orc_checker.specs.declared.arena.Kind.TheVariants.{Leaf}
-use Rattle.orc_checker.specs.Arena.{leaf, at, spelled}
+use Rattle.orc_nodes.specs.declared.arena.Tip.TheVariants.{Token}
+use Rattle.orc_nodes.specs.declared.arena.Kind.TheVariants.{Leaf}
+use Rattle.orc_nodes.specs.Arena.{leaf, at, spelled}
 use Rattle.orc_names.specs.Scopes.{Env, env_of, close, close_param}
 use Rattle.orc_checker.specs.Checker.{State, Follows, AreCells}
 use Rattle.orc_names.specs.Names.{AreOrdered}
-use Rattle.orc_checker.specs.Halting.{halt_flag}
-use Rattle.orc_checker.specs.Settling.{Settles}
+use Rattle.orc_nodes.specs.Halting.{halt_flag}
+use Rattle.orc_nodes.specs.Settling.{Settles}
 use Rattle.orc_names.specs.Parameters.{Adds}
 use Rattle.orc_checker.proofs.Flagging.{reflag_leaf_settled}
 use Rattle.orc_names.proofs.Scopes.{close-call, env-kept}
 use Rattle.orc_checker.proofs.Opening.{keeps_free}
-use Rattle.orc_checker.proofs.Moves.{node, written, turn, scope_there}
+use Rattle.orc_nodes.proofs.Trees.{node}
+use Rattle.orc_checker.proofs.Moves.{written, turn, scope_there}
 
 -- a definition of the code is one of the program
 pub defined : (l : Listing) (ds : List Declared) (e : ℕ) (d : Declared) → map routine_of ds ≡ l.routines → slice_get ds e ≡ Some d → slice_get (definitions l) e ≡ Some (definition_of l (routine_of d))

@@ -4,9 +4,9 @@ use Rattle.std.proofs.lemmas.Bool.{ne_eqb, eqb-true}
 use Rattle.std.specs.Prelude.{slice_get, slice_set, ◌&&◌}
 use Rattle.orc_names.specs.declared.names.Bound.{Bound}
 use Rattle.orc_names.specs.declared.names.Bound.TheVariants.{Is, Cell, Void}
-use Rattle.orc_checker.specs.declared.arena.Single.TheVariants.{Feeds, Entered, Passed}
-use Rattle.orc_checker.specs.declared.arena.Double.TheVariants.{Both, Side}
-use Rattle.orc_checker.specs.declared.arena.Kind.TheVariants.{One}
+use Rattle.orc_nodes.specs.declared.arena.Single.TheVariants.{Feeds, Entered, Passed}
+use Rattle.orc_nodes.specs.declared.arena.Double.TheVariants.{Both, Side}
+use Rattle.orc_nodes.specs.declared.arena.Kind.TheVariants.{One}
 use Rattle.orc_rules.specs.Term.{Term, pending_of, fill}
 use Rattle.orc_rules.specs.Marked.{Marked, ended, token, in_call, in_par, in_seq, in_opened, in_other, erase, fill_marked, Replaces, here}
 use Rattle.orc_rules.specs.Timed.{IsIn, IsRising, AreDropped}
@@ -15,23 +15,21 @@ use Rattle.orc_rules.specs.Idle.{calls_of, has_halted}
 use Rattle.orc_rules.specs.Numbered.{Name, call, cell, once, times}
 use Rattle.orc_rules.proofs.Numbered.{once_same, times_replaced, times_filled}
 use Rattle.orc_rules.proofs.Counts.{pending_by_marks}
-use Rattle.orc_checker.specs.Arena.{Tree, one, two, place, hits, Holds, StandOnce, IsTopped, spelled, Frame, on_one, on_left, on_right, plug}
+use Rattle.orc_nodes.specs.Arena.{Tree, one, two, place, hits, Holds, StandOnce, IsTopped, spelled, Frame, on_one, on_left, on_right, plug}
 use Rattle.orc_names.specs.Scopes.{Env, env_of, given, current}
-use Rattle.orc_checker.specs.Around.{above}
-use Rattle.orc_checker.specs.Settling.{HasFlags}
-use Rattle.orc_checker.specs.Rising.{under}
-use Rattle.orc_checker.specs.Dropping.{occurs, DoRise}
+use Rattle.orc_nodes.specs.Around.{above}
+use Rattle.orc_nodes.specs.Settling.{HasFlags}
+use Rattle.orc_nodes.specs.Rising.{under}
+use Rattle.orc_nodes.specs.Dropping.{occurs, DoRise}
 use Rattle.orc_checker.specs.Checker.{State, Draws}
 use Rattle.orc_names.specs.Parameters.{AreOwn}
-use Rattle.orc_checker.proofs.Trees.{hit, hits-both, topped-plug}
-use Rattle.orc_checker.proofs.Lists.{get-set_same, get-set_other}
-use Rattle.orc_checker.proofs.Change.{place-plug}
-use Rattle.orc_checker.proofs.Moves.{node}
+use Rattle.orc_nodes.proofs.Trees.{hit, hits-both, topped-plug, place-plug, node}
+use Rattle.orc_nodes.proofs.Lists.{get-set_same, get-set_other}
 use Rattle.orc_checker.proofs.Filled.{spelled-fill}
 use Rattle.orc_names.proofs.Filling.{filled, fill_env, env_of-fill}
 use Rattle.orc_checker.proofs.Binding.{Stays, stays_around, replaces_in}
 use Rattle.orc_names.proofs.Inside.{Confined}
-use Rattle.orc_checker.proofs.Leaving.{Drops, pruned_holds, pruned_once}
+use Rattle.orc_nodes.proofs.Leaving.{Drops, pruned_holds, pruned_once}
 
 bound_or : Bound → Option Bound → Bound
 bound_or d (Some z) = z

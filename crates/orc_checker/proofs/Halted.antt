@@ -9,27 +9,27 @@ use Rattle.orc_rules.specs.Timed.{Context}
 use Rattle.orc_rules.specs.Journal.{Place}
 use Rattle.orc_rules.specs.Refusal.{Stands}
 use Rattle.orc_names.specs.Scopes.{Env, env_of}
-use Rattle.orc_checker.specs.declared.arena.Node.{Node}
-use Rattle.orc_checker.specs.declared.arena.Kind.{Kind}
-use Rattle.orc_checker.specs.declared.arena.Kind.TheVariants.{Leaf, One, Two}
-use Rattle.orc_checker.specs.declared.arena.Tip.{Tip}
-use Rattle.orc_checker.specs.declared.arena.Tip.TheVariants.{Gone, Ended, Token, Bears, Waits}
-use Rattle.orc_checker.specs.declared.arena.Single.TheVariants.{Feeds, Entered, Passed}
-use Rattle.orc_checker.specs.declared.arena.Double.TheVariants.{Both, Side}
+use Rattle.orc_nodes.specs.declared.arena.Node.{Node}
+use Rattle.orc_nodes.specs.declared.arena.Kind.{Kind}
+use Rattle.orc_nodes.specs.declared.arena.Kind.TheVariants.{Leaf, One, Two}
+use Rattle.orc_nodes.specs.declared.arena.Tip.{Tip}
+use Rattle.orc_nodes.specs.declared.arena.Tip.TheVariants.{Gone, Ended, Token, Bears, Waits}
+use Rattle.orc_nodes.specs.declared.arena.Single.TheVariants.{Feeds, Entered, Passed}
+use Rattle.orc_nodes.specs.declared.arena.Double.TheVariants.{Both, Side}
 use Rattle.orc_checker.specs.declared.sides.Side.TheVariants.{Right, Left}
-use Rattle.orc_checker.specs.Arena.{Tree, leaf, one, two, place, at, Holds, of_tip, spelled}
+use Rattle.orc_nodes.specs.Arena.{Tree, leaf, one, two, place, at, Holds, of_tip, spelled}
 use Rattle.orc_checker.specs.Checker.{State, Spells}
-use Rattle.orc_checker.specs.Halting.{AreHalts}
+use Rattle.orc_nodes.specs.Halting.{AreHalts}
 use Rattle.orc_checker.specs.Over.{side_of, FindsSide, LeftIs, RightIs, RunsOn}
-use Rattle.orc_checker.specs.Rising.{nowhere}
-use Rattle.orc_checker.specs.Settling.{flag, Flagged, kind_at, parent_at, HasFlags}
-use Rattle.orc_checker.specs.Sides.{has_ended, is_set, is_side, is_side_at, HasEnded}
-use Rattle.orc_checker.proofs.Hints.{there_or_not}
-use Rattle.orc_checker.proofs.KeptSides.{ended_parts}
+use Rattle.orc_nodes.specs.Rising.{nowhere}
+use Rattle.orc_nodes.specs.Settling.{flag, Flagged, kind_at, parent_at, HasFlags}
+use Rattle.orc_nodes.specs.Sides.{has_ended, is_set, is_side, is_side_at, HasEnded}
+use Rattle.orc_nodes.proofs.Hints.{there_or_not}
+use Rattle.orc_nodes.proofs.KeptSides.{ended_parts}
 use Rattle.orc_checker.proofs.Moving.{flag_of_set, side_runs}
 use Rattle.orc_checker.proofs.Offered.{left_is, right_is}
 use Rattle.orc_checker.proofs.Parts.{IsPart, part_of}
-use Rattle.orc_checker.proofs.Settling.{flag_says}
+use Rattle.orc_nodes.proofs.Settling.{flag_says}
 
 -- where no side has halted, none in the marked term has
 module _ (code : ℕ → Term) (env : ℕ → Env) (halts : List Bool) (are : AreHalts code halts) (nodes : List Node) (flags : List Bool) (len : length flags ≡ length nodes) (none : HasEnded nodes flags None) where

@@ -6,27 +6,28 @@ use Rattle.orc_rules.specs.declared.param.Param.TheVariants as is
 use Rattle.orc_names.specs.declared.names.Bound.{Bound}
 use Rattle.orc_names.specs.declared.names.Bound.TheVariants.{Cell}
 use Rattle.orc_names.specs.declared.names.Scope.{Scope}
-use Rattle.orc_checker.specs.declared.arena.Tip.TheVariants.{Token}
-use Rattle.orc_checker.specs.declared.arena.Double.TheVariants.{Side}
-use Rattle.orc_checker.specs.declared.arena.Kind.TheVariants.{Leaf, Two}
+use Rattle.orc_nodes.specs.declared.arena.Tip.TheVariants.{Token}
+use Rattle.orc_nodes.specs.declared.arena.Double.TheVariants.{Side}
+use Rattle.orc_nodes.specs.declared.arena.Kind.TheVariants.{Leaf, Two}
 use Rattle.orc_rules.specs.Term.{Term, prune, put}
 use Rattle.orc_rules.specs.Marked.{token, in_opened, Replaces}
 use Rattle.orc_rules.specs.Timed.{Context}
 use Rattle.orc_rules.specs.Journal.{Place, next}
-use Rattle.orc_checker.specs.Arena.{leaf, two, at, spelled}
+use Rattle.orc_nodes.specs.Arena.{leaf, two, at, spelled}
 use Rattle.orc_names.specs.Scopes.{Env, current, env_of, close, without}
 use Rattle.orc_checker.specs.Checker.{State, Enters, AreCells, numbers}
 use Rattle.orc_names.specs.Parameters.{AreOwn}
 use Rattle.orc_names.proofs.Parameters.{ordered_push}
 use Rattle.orc_names.specs.Names.{AreOrdered}
 use Rattle.orc_checker.specs.Calls.{Rest, Keeps}
-use Rattle.orc_checker.specs.Halting.{halt_flag}
-use Rattle.orc_checker.specs.Settling.{Settles}
+use Rattle.orc_nodes.specs.Halting.{halt_flag}
+use Rattle.orc_nodes.specs.Settling.{Settles}
 use Rattle.orc_checker.proofs.Flagging.{reflag_two_settled}
 use Rattle.orc_rules.specs.Idle.{has_halted}
 use Rattle.orc_names.proofs.Closing.{close-prune, close-more}
 use Rattle.orc_checker.proofs.Growth.{env-kept, env-new, current-push, env-current}
-use Rattle.orc_checker.proofs.Moves.{node, over_two, turn, scope_there}
+use Rattle.orc_nodes.proofs.Trees.{node}
+use Rattle.orc_checker.proofs.Moves.{over_two, turn, scope_there}
 
 -- what is kept besides the term stays where no cancel comes due
 pub keeps_free : (x : Context) (p : Place) (r r' : Rest) → Keeps x p.now p.calls p.to_cancel r → r.to_cancel ≡ [] → r' ≡ r → Keeps x p.now p.calls [] r'

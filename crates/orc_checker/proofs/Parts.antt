@@ -6,14 +6,14 @@ use Rattle.orc_rules.specs.Journal.{Place}
 use Rattle.orc_rules.specs.Refusal.{Stands, HasToken, HasCall, HasCell, HasOther}
 use Rattle.orc_rules.specs.Timed.{Context}
 use Rattle.orc_names.specs.Scopes.{Env, env_of}
-use Rattle.orc_checker.specs.declared.arena.Node.{Node}
-use Rattle.orc_checker.specs.declared.arena.Kind.TheVariants.{Leaf, One, Two}
-use Rattle.orc_checker.specs.declared.arena.Tip.{Tip}
-use Rattle.orc_checker.specs.declared.arena.Tip.TheVariants.{Gone, Ended, Token, Bears, Waits}
-use Rattle.orc_checker.specs.declared.arena.Single.TheVariants.{Feeds, Entered, Passed}
-use Rattle.orc_checker.specs.declared.arena.Double.TheVariants.{Both, Side}
-use Rattle.orc_checker.specs.Arena.{Tree, leaf, one, two, place, at, Holds, of_tip, spelled}
-use Rattle.orc_checker.specs.Bearers.{Carries}
+use Rattle.orc_nodes.specs.declared.arena.Node.{Node}
+use Rattle.orc_nodes.specs.declared.arena.Kind.TheVariants.{Leaf, One, Two}
+use Rattle.orc_nodes.specs.declared.arena.Tip.{Tip}
+use Rattle.orc_nodes.specs.declared.arena.Tip.TheVariants.{Gone, Ended, Token, Bears, Waits}
+use Rattle.orc_nodes.specs.declared.arena.Single.TheVariants.{Feeds, Entered, Passed}
+use Rattle.orc_nodes.specs.declared.arena.Double.TheVariants.{Both, Side}
+use Rattle.orc_nodes.specs.Arena.{Tree, leaf, one, two, place, at, Holds, of_tip, spelled}
+use Rattle.orc_nodes.specs.Bearers.{Carries}
 use Rattle.orc_checker.specs.Checker.{State, Spells}
 use Rattle.orc_checker.specs.Refusing.{NoToken, NoCall, NoPruning, NoOtherwise}
 

@@ -3,15 +3,15 @@ use Rattle.std.specs.Prelude.{◌≡◌, ◌⊎◌, ℕ, zero, suc, List, Bool, 
 use Rattle.orc_rules.specs.Numbered.{Name, mark, call, cell}
 use Rattle.orc_names.specs.declared.names.Bound.{Bound}
 use Rattle.orc_names.specs.declared.names.Bound.TheVariants.{Cell}
-use Rattle.orc_checker.specs.declared.arena.Node.{Node}
-use Rattle.orc_checker.specs.declared.arena.Kind.{Kind}
-use Rattle.orc_checker.specs.declared.arena.Kind.TheVariants.{Leaf, One, Two}
-use Rattle.orc_checker.specs.declared.arena.Tip.{Tip}
-use Rattle.orc_checker.specs.declared.arena.Tip.TheVariants.{Token, Bears, Waits}
-use Rattle.orc_checker.specs.declared.arena.Single.TheVariants.{Entered}
-use Rattle.orc_checker.specs.declared.arena.Double.TheVariants.{Side}
+use Rattle.orc_nodes.specs.declared.arena.Node.{Node}
+use Rattle.orc_nodes.specs.declared.arena.Kind.{Kind}
+use Rattle.orc_nodes.specs.declared.arena.Kind.TheVariants.{Leaf, One, Two}
+use Rattle.orc_nodes.specs.declared.arena.Tip.{Tip}
+use Rattle.orc_nodes.specs.declared.arena.Tip.TheVariants.{Token, Bears, Waits}
+use Rattle.orc_nodes.specs.declared.arena.Single.TheVariants.{Entered}
+use Rattle.orc_nodes.specs.declared.arena.Double.TheVariants.{Side}
 use Rattle.orc_checker.specs.declared.rest.Called.{Called}
-use Rattle.orc_checker.specs.Settling.{kind_at}
+use Rattle.orc_nodes.specs.Settling.{kind_at}
 
 -- the name of a node, by which entries call it
 abbrev pub name_of : Kind → Option Name

@@ -1,13 +1,6 @@
-pub mod Arena
-pub mod Around
-pub mod Bearers
 pub mod Calls
 pub mod Checker
-pub mod Dropping
 pub mod DueTimes
-pub mod Grafting
-pub mod Halting
-pub mod Hints
 pub mod Index
 pub mod Kept
 pub mod Labelling
@@ -15,10 +8,5 @@ pub mod NextDue
 pub mod Offers
 pub mod Over
 pub mod Parameters
-pub mod Ranks
 pub mod Refusing
-pub mod Rising
-pub mod Settling
-pub mod Sides
-pub mod Slots
 pub mod Stillness

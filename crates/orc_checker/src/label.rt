@@ -7,9 +7,9 @@ ghost use Rattle.orc_rules.specs.Timed.{Context};
 ghost use Rattle.orc_checker.specs.Checker.{Spells};
 ghost use Rattle.orc_checker.specs.Labelling.{cell_above, AreAround, IsLabel, Shows, StandsInside};
 
-use crate::arena::{Double, Kind};
 use crate::marked::Marked;
-use crate::nodes::Nodes;
+use orc_nodes::arena::{Double, Kind};
+use orc_nodes::nodes::Nodes;
 use orc_rules::answers::Answers;
 use orc_rules::entry::{Entry, Label, RuleFault};
 use orc_rules::program::Program;

@@ -7,10 +7,10 @@ ghost use Rattle.orc_checker.specs.Checker.{Enters};
 ghost use Rattle.orc_checker.specs.Refusing.{IsRightlyRefused};
 ghost use Rattle.orc_rules.specs.declared.entry.Entry.TheVariants as entry;
 
-use crate::arena::{Double, Kind, Node, Single, Tip};
-use crate::flags::push_flag;
 use crate::marked::{Marked, expect_after, token_node};
-use crate::room::{fits, push_within, reserve_numbered};
+use orc_nodes::arena::{Double, Kind, Node, Single, Tip};
+use orc_nodes::flags::push_flag;
+use orc_nodes::room::{fits, push_within, reserve_numbered};
 use orc_rules::entry::RuleFault;
 use orc_rules::program::{Program, TermNode};
 

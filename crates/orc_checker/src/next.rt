@@ -12,12 +12,12 @@ ghost use Rattle.orc_checker.specs.Checker.{Spells};
 ghost use Rattle.orc_checker.specs.Offers.{AddsValues, Allows, AwaitsAt, IsOperandAt, IsPublished, Offers};
 ghost use Rattle.orc_checker.specs.Stillness.{params_in};
 
-use crate::arena::Tip;
 use crate::marked::Marked;
 use crate::routines::definition;
 use crate::void::has_void;
-use crate::walk::{Taker, way_up};
 use orc_names::{Bound, Scope, meaning};
+use orc_nodes::arena::Tip;
+use orc_nodes::walk::{Taker, way_up};
 use orc_rules::param::Operand;
 use orc_rules::program::{Program, TermNode};
 use orc_rules::value::{Args, Value};

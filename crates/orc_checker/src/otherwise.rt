@@ -2,23 +2,23 @@
 
 ghost use Rattle.std.specs.Prelude.{◌≡◌, ℕ, [], IfOk, IfErr, IfSome, IfNone, OnErr};
 ghost use Rattle.orc_rules.specs.Term.{Term};
-ghost use Rattle.orc_checker.specs.Arena.{at};
+ghost use Rattle.orc_nodes.specs.Arena.{at};
 ghost use Rattle.orc_checker.specs.Checker.{Enters};
-ghost use Rattle.orc_checker.specs.Dropping.{AreNodesOf};
+ghost use Rattle.orc_nodes.specs.Dropping.{AreNodesOf};
 ghost use Rattle.orc_checker.specs.Refusing.{IsRightlyRefused, Lacks, NoOtherwise};
-ghost use Rattle.orc_checker.specs.declared.arena.Kind.TheVariants.{One as AtOne};
-ghost use Rattle.orc_checker.specs.declared.arena.Single.TheVariants.{Entered as IsEntered};
+ghost use Rattle.orc_nodes.specs.declared.arena.Kind.TheVariants.{One as AtOne};
+ghost use Rattle.orc_nodes.specs.declared.arena.Single.TheVariants.{Entered as IsEntered};
 ghost use Rattle.orc_rules.specs.declared.entry.Entry.TheVariants as entry;
 ghost use Rattle.orc_rules.specs.declared.entry.RuleFault.TheVariants as reason;
 ghost use Rattle.orc_rules.specs.Sites.{Table};
 ghost use Rattle.orc_rules.specs.Nodes.{Listing};
 
-use crate::arena::{Kind, Node, Tip};
-use crate::flags::settle;
 use crate::lookup::{node_by, otherwise_with};
 use crate::marked::Marked;
-use crate::room::{push_within, reserve};
-use crate::side::{drop_nodes, nodes_of};
+use orc_nodes::arena::{Kind, Node, Tip};
+use orc_nodes::flags::settle;
+use orc_nodes::room::{push_within, reserve};
+use orc_nodes::side::{drop_nodes, nodes_of};
 use orc_rules::entry::RuleFault;
 
 /// Where an entered otherwise stands: its node with the one above it and that of its left side, and its right side: the program's node in a scope.

@@ -4,12 +4,12 @@ ghost use Rattle.std.specs.Prelude.{◌≡◌, ℕ, List, IfSome, IfNone};
 ghost use Rattle.std.specs.Bool.{Decides};
 ghost use Rattle.orc_checker.specs.NextDue.{AreNoted, IsDueOf, IsDueAt, IsNext};
 
-use crate::arena::{Kind, Tip};
 use crate::due::Due;
 use crate::kept::Kept;
-use crate::nodes::Nodes;
 use crate::rest::Rest;
 use orc_calls::due_time;
+use orc_nodes::arena::{Kind, Tip};
+use orc_nodes::nodes::Nodes;
 
 /// When the call of that number is due.
 fn due_of(calls: &Vec<Kept>, call: u64) -> Option<u64>

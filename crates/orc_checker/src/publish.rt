@@ -7,10 +7,10 @@ ghost use Rattle.orc_checker.specs.Checker.{Enters};
 ghost use Rattle.orc_checker.specs.Refusing.{IsRightlyRefused};
 ghost use Rattle.orc_rules.specs.declared.entry.Entry.TheVariants as entry;
 
-use crate::arena::{Kind, Node, Tip};
-use crate::flags::settle;
 use crate::marked::Marked;
-use crate::walk::{Taker, rise, way_up};
+use orc_nodes::arena::{Kind, Node, Tip};
+use orc_nodes::flags::settle;
+use orc_nodes::walk::{Taker, rise, way_up};
 use orc_rules::entry::RuleFault;
 use orc_rules::program::Program;
 use orc_rules::value::Value;

@@ -9,9 +9,9 @@ ghost use Rattle.orc_rules.specs.Pending.{IsNextDue};
 ghost use Rattle.orc_rules.specs.Timed.{Context, IsQuiet};
 ghost use Rattle.orc_checker.specs.Checker.{Spells};
 
-use crate::candidates::ended_side;
 use crate::marked::Marked;
 use crate::stillness::can_some_move;
+use orc_nodes::candidates::ended_side;
 use orc_rules::laws::{program_is_source, tests_are_right};
 use orc_rules::program::Program;
 

@@ -2,16 +2,16 @@
 
 ghost use Rattle.std.specs.Prelude.{◌≡◌, ℕ, List, IfSome, IfNone};
 ghost use Rattle.orc_rules.specs.Nodes.{param_of};
-ghost use Rattle.orc_checker.specs.Arena.{Frame, Tree};
+ghost use Rattle.orc_nodes.specs.Arena.{Frame, Tree};
 ghost use Rattle.orc_names.specs.Scopes.{close_param, env_of};
 ghost use Rattle.orc_names.specs.Names.{AreOrdered};
-ghost use Rattle.orc_checker.specs.Rising.{takes, Stands};
+ghost use Rattle.orc_nodes.specs.Rising.{takes, Stands};
 
 use crate::kept::Kept;
 use crate::marked::Marked;
-use crate::slot::Slot;
-use crate::walk::{Taker, way_up};
 use orc_names::{Bound, meaning};
+use orc_nodes::slot::Slot;
+use orc_nodes::walk::{Taker, way_up};
 use orc_rules::param::{Operand, Param};
 
 impl Marked {

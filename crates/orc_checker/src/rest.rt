@@ -8,8 +8,8 @@ ghost use Rattle.orc_checker.specs.Index.{call_place};
 ghost use Rattle.orc_rules.specs.declared.entry.RuleFault.TheVariants as reason;
 
 use crate::kept::Kept;
-use crate::room::push_within;
 use orc_calls::{Counts, check_due};
+use orc_nodes::room::push_within;
 use orc_rules::answers::Answers;
 use orc_rules::entry::RuleFault;
 use orc_rules::value::{Answer, Args, Found};

@@ -12,11 +12,11 @@ ghost use Rattle.orc_checker.specs.Refusing.{IsRightlyRefused};
 ghost use Rattle.orc_rules.specs.declared.entry.Entry.TheVariants as entry;
 ghost use Rattle.orc_rules.specs.declared.entry.RuleFault.TheVariants as reason;
 
-use crate::arena::{Kind, Node, Tip};
-use crate::flags::settle;
 use crate::marked::Marked;
-use crate::room::{fits, push_within};
 use orc_names::{Bound, Scope, meaning};
+use orc_nodes::arena::{Kind, Node, Tip};
+use orc_nodes::flags::settle;
+use orc_nodes::room::{fits, push_within};
 use orc_rules::entry::RuleFault;
 use orc_rules::param::Operand;
 use orc_rules::program::{Definition, Program, TermNode};

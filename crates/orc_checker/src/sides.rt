@@ -7,10 +7,10 @@ ghost use Rattle.orc_rules.specs.Timed.{Context};
 ghost use Rattle.orc_checker.specs.Checker.{Spells};
 ghost use Rattle.orc_checker.specs.Over.{side_of, FindsSide, LeftIs, PendsUntil, RightIs};
 
-use crate::arena::{Double, Kind, Single};
-use crate::candidates::ended_side;
 use crate::marked::Marked;
 use orc_calls::due_time;
+use orc_nodes::arena::{Double, Kind, Single};
+use orc_nodes::candidates::ended_side;
 use orc_rules::laws::program_is_source;
 use orc_rules::value::{Answer, Found};
 

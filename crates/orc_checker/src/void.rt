@@ -13,10 +13,10 @@ ghost use Rattle.orc_names.specs.Names.{AreOrdered};
 ghost use Rattle.orc_checker.specs.Stillness.{params_in};
 ghost use Rattle.orc_rules.specs.declared.entry.Entry.TheVariants as entry;
 
-use crate::arena::{Kind, Node, Tip};
-use crate::flags::settle;
 use crate::marked::{Marked, Spot};
 use orc_names::{Bound, Scope, meaning};
+use orc_nodes::arena::{Kind, Node, Tip};
+use orc_nodes::flags::settle;
 use orc_rules::entry::RuleFault;
 use orc_rules::param::Operand;
 use orc_rules::program::{Program, TermNode};

@@ -2,9 +2,9 @@
 
 use crate::ended::Ended;
 use orc_checker::Marked;
-use orc_checker::arena::{Kind, Tip};
 use orc_journal::Journal;
 use orc_names::{Bound, meaning};
+use orc_nodes::arena::{Kind, Tip};
 use orc_rules::entry::Entry;
 use orc_rules::param::{Operand, Param};
 use orc_rules::program::{Program, TermNode};

@@ -9,8 +9,8 @@ ghost use Rattle.orc_checker.specs.Checker.{Spells};
 ghost use Rattle.orc_moves.specs.Allowed.{AreTaken};
 
 use crate::moves::{return_entry, side_entry, token_entry};
-use orc_checker::arena::{Kind, Tip};
 use orc_checker::{Marked, Side};
+use orc_nodes::arena::{Kind, Tip};
 use orc_rules::answers::Answers;
 use orc_rules::entry::Entry;
 use orc_rules::param::{Operand, Param};

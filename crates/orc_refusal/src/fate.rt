@@ -2,8 +2,8 @@
 
 use crate::named::{Named, named_by, place_of, stands_at};
 use orc_checker::Marked;
-use orc_checker::arena::{Kind, Single};
 use orc_moves::numbers_of;
+use orc_nodes::arena::{Kind, Single};
 use orc_page::Page;
 use orc_rules::entry::Entry;
 

@@ -1,7 +1,7 @@
 //! What an entry names, and where that stands.
 
 use orc_checker::Marked;
-use orc_checker::arena::{Double, Kind, Single, Tip};
+use orc_nodes::arena::{Double, Kind, Single, Tip};
 use orc_rules::entry::Entry;
 use orc_verdict::mark_named;
 

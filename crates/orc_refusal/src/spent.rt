@@ -1,7 +1,7 @@
 //! The parts of a marked term in which nothing is left to tell.
 
 use orc_checker::Marked;
-use orc_checker::arena::{Kind, Tip};
+use orc_nodes::arena::{Kind, Tip};
 use std::alloc::{AllocError, Global};
 
 /// For each node of a marked term whether a token stands in it, where it has halted.

@@ -3,7 +3,7 @@
 use crate::sign::Sign;
 use crate::strip::{Note, Side, Strip};
 use crate::task::Task;
-use orc_checker::arena::{Double, Kind, Single, Tip};
+use orc_nodes::arena::{Double, Kind, Single, Tip};
 use orc_rules::entry::Entry;
 use orc_rules::limits::MOST_ARGUMENTS;
 use orc_rules::param::{Operand, Param};

@@ -3,7 +3,7 @@
 use crate::named::{Named, place_of};
 use crate::spent::Spent;
 use orc_checker::Marked;
-use orc_checker::arena::{Double, Kind, Node, Single};
+use orc_nodes::arena::{Double, Kind, Node, Single};
 use orc_rules::entry::{Entry, RuleFault};
 use std::alloc::{AllocError, Global};
 

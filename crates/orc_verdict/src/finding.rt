@@ -4,8 +4,8 @@ ghost use Rattle.std.specs.Prelude.{◌≡◌, true, false, Some, IfSome, IfNone
 ghost use Rattle.orc_verdict.specs.Finding.{name_at as name_shown, is_leaf, is_one, Has, HasNone, LacksAt};
 
 use orc_checker::Marked;
-use orc_checker::arena::{Double, Kind, Single, Tip};
-use orc_checker::slot::Slot;
+use orc_nodes::arena::{Double, Kind, Single, Tip};
+use orc_nodes::slot::Slot;
 
 /// What an entry names: the mark of a token or of an otherwise, a call, or a cell.
 #[derive(Clone, Copy, PartialEq, Eq)]

@@ -11,7 +11,7 @@ use crate::finding::{Name, find, is_leaf, is_one};
 use crate::standing::{args_named, fits_standing, mark_named, standing_of};
 use crate::ticks::can_tick;
 use orc_checker::Marked;
-use orc_checker::arena::Kind;
+use orc_nodes::arena::Kind;
 use orc_rules::answers::Answers;
 use orc_rules::entry::{Entry, RuleFault};
 use orc_rules::laws::journal_is_numbered;

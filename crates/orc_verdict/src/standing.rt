@@ -8,8 +8,8 @@ ghost use Rattle.orc_names.specs.Names.{AreOrdered};
 ghost use Rattle.orc_verdict.specs.Standing.{are_these as these, summary, under, mark_of, args_of, is_sent, is_bound, is_whole, is_value, is_void, is_call, fits_as};
 
 use orc_checker::Marked;
-use orc_checker::arena::{Kind, Tip};
-use orc_checker::walk::Taker;
+use orc_nodes::arena::{Kind, Tip};
+use orc_nodes::walk::Taker;
 use orc_rules::builtin::is_same;
 use orc_rules::entry::Entry;
 use orc_rules::param::{Operand, Param};

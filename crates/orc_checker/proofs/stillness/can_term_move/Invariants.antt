@@ -1,6 +1,6 @@
 use Rattle.std.proofs.Common.{◌≡◌, length}
 use Rattle.orc_rules.specs.Nodes.{code, definitions}
-use Rattle.orc_checker.specs.Halting.{AreHalts}
+use Rattle.orc_nodes.specs.Halting.{AreHalts}
 use Rattle.orc_names.specs.Names.{AreOrdered}
 use Rattle.orc_checker.specs.Stillness.{term_moves}
 use Rattle.orc_checker.proofs.Waking.{AreCleared, Looks}

@@ -7,7 +7,7 @@ use Rattle.orc_names.specs.Scopes.{close, env_of}
 use Rattle.orc_checker.specs.Stillness.{term_moves}
 use Rattle.orc_names.proofs.Closing.{close-stop, close-par, close-seq, close-other, close-prune}
 use Rattle.orc_names.proofs.Scopes.{close-of-param, close-site, close-call}
-use Rattle.orc_checker.proofs.Settling.{close_halted}
+use Rattle.orc_nodes.proofs.Settling.{close_halted}
 use Rattle.orc_checker.proofs.Waking.{wakes_itself, wakes_one, wakes_two, parts_total}
 use Rattle.orc_checker.proofs.stillness.wakes.Goals as goal
 

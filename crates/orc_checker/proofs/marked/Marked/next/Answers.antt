@@ -3,9 +3,9 @@ use Rattle.orc_rules.specs.Nodes.{code, definitions}
 use Rattle.orc_rules.specs.Marked.{token}
 use Rattle.orc_names.specs.Names.{AreOrdered}
 use Rattle.orc_names.specs.Scopes.{close, env_of}
-use Rattle.orc_checker.specs.declared.arena.Kind.TheVariants.{Leaf}
-use Rattle.orc_checker.specs.Arena.{living_kind, of_tip}
-use Rattle.orc_checker.specs.Bearers.{Carries}
+use Rattle.orc_nodes.specs.declared.arena.Kind.TheVariants.{Leaf}
+use Rattle.orc_nodes.specs.Arena.{living_kind, of_tip}
+use Rattle.orc_nodes.specs.Bearers.{Carries}
 use Rattle.orc_checker.specs.Checker.{State}
 use Rattle.orc_checker.specs.Offers.{Allows}
 use Rattle.orc_checker.proofs.Offered.{if_some, offers_allowed, offers_published, token_stands}

@@ -1,0 +1,13 @@
+pub mod Climbing
+pub mod Dropping
+pub mod Feeding
+pub mod Hints
+pub mod KeptSides
+pub mod Leaving
+pub mod Lists
+pub mod Paths
+pub mod Ranking
+pub mod Rising
+pub mod Settling
+pub mod Sorting
+pub mod Trees

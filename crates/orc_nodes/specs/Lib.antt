@@ -1,0 +1,12 @@
+pub mod Arena
+pub mod Around
+pub mod Bearers
+pub mod Dropping
+pub mod Grafting
+pub mod Halting
+pub mod Hints
+pub mod Ranks
+pub mod Rising
+pub mod Settling
+pub mod Sides
+pub mod Slots
