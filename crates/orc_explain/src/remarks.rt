@@ -3,6 +3,7 @@
 use crate::replay::{Loss, Made};
 use crate::rules::{Rule, Rules};
 use crate::scene::{Scene, begin, name_of};
+use crate::words::said_of;
 use orc_page::Page;
 use orc_rules::builtin::is_same;
 use orc_rules::entry::Entry;
@@ -125,6 +126,15 @@ const SITES: [(&[u8], Taken); 7] = [
     (b"Ift", Taken::Truth),
     (b"Iff", Taken::Truth),
     (b"Rwait", Taken::Time),
+];
+
+/// Why a call of a built-in site halts that has the arguments that it takes.
+const HALTS: [(&[u8], &str); 5] = [
+    (b"Add", "the sum is out of range"),
+    (b"Sub", "the difference is out of range"),
+    (b"Ift", "`Ift` goes on where it is given `true`"),
+    (b"Iff", "`Iff` goes on where it is given `false`"),
+    (b"Rwait", "the time is negative"),
 ];
 
 // What a built-in site takes, where the arguments are something else.
@@ -401,7 +411,7 @@ impl Scene<'_, '_> {
         self.rest(page, groups.list.len() as u64, shown);
     }
 
-    // Why a call halted that its site could answer: its line of the script says so, or it is `Ift` or `Iff`.
+    // Why a call halted that its site could answer: its line of the script says so, or the built-in site does.
     fn halting(&self, page: &mut Page, entry: usize, rules: &Rules) {
         if let Some(Entry::Call(_, _, site, args)) = self.journal.get(entry) {
             let name = name_of(self.ended.answers, site);
@@ -409,14 +419,7 @@ impl Scene<'_, '_> {
                 Some(place) => {
                     page.say_number("line ", rules.number(place), " of the script says halt");
                 }
-                None => {
-                    page.say_word("`", name, "` goes on where it is given `");
-                    page.say(if name == b"Iff".as_slice() {
-                        "false`"
-                    } else {
-                        "true`"
-                    });
-                }
+                None => page.say(said_of(name, HALTS.as_slice()).unwrap_or("its site says halt")),
             }
         }
     }
