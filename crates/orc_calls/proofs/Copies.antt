@@ -1,8 +1,7 @@
 -- A map that counts, once more.
-use Rattle.std.proofs.Common.{◌≡◌, ℕ, List, [], ◌∷◌, map, refl, ap}
+use Rattle.std.proofs.Common.{◌≡◌, ℕ, List, [], ◌∷◌, map, refl}
 use Rattle.std.specs.Global.{Vec}
 use Rattle.std.specs.List.{AllZip}
-use Rattle.std.specs.Map.{values_of}
 use Rattle.std.specs.Prelude.{vec_len}
 use Rattle.std.proofs.lemmas.List.Elements.{same_from_all_zip}
 use Rattle.orc_calls.specs.Counting.{entry_of}
@@ -18,9 +17,3 @@ same_entries (e ∷ es) [] z = absurd z
 same_entries (e ∷ es) (f ∷ fs) z =
     let rest = same_entries es fs z.1 in
     λ i. (same_from_all_zip (λ x y. y ≡ x) e.0.items f.0.items z.0.0.0 (λ x y h. h) i, z.0.1 i) ∷ rest i
-
-pub same_values : (es fs : List (Vec ℕ × ℕ)) → AllZip IsSame es fs → values_of fs ≡ values_of es
-same_values [] [] z = refl
-same_values [] (f ∷ fs) z = absurd z
-same_values (e ∷ es) [] z = absurd z
-same_values (e ∷ es) (f ∷ fs) z = λ i. z.0.1 i ∷ same_values es fs z.1 i

@@ -1,17 +1,14 @@
 -- The keys of calls, and the map that counts by them.
-use Rattle.std.proofs.Common.{◌≡◌, ℕ, suc, Bool, true, false, cond, nat_eq, List, [], ◌∷◌, ◌++◌, map, Some, refl, sym, ap, subst, ◌∙◌, ℤ, pos, negsuc, eqb-true, arith}
+use Rattle.std.proofs.Common.{◌≡◌, ◌≤◌, ℕ, suc, Bool, true, false, cond, nat_eq, List, [], ◌∷◌, ◌++◌, map, Option, Some, refl, sym, ap, subst, ◌∙◌, ℤ, pos, negsuc, eqb-true, arith}
 use Rattle.std.specs.Prelude.{◌&&◌, bytes_eq, unwrap_or}
 use Rattle.std.specs.Bool.{one_answer}
 use Rattle.std.specs.Global.{Vec}
-use Rattle.std.specs.Map.{lookup}
-use Rattle.std.specs.BTreeMap.{insert_entry}
-use Rattle.std.specs.declared.cmp.Ordering.{Ordering}
-use Rattle.std.specs.declared.cmp.Ordering.TheVariants.{Less, Equal, Greater}
-use Rattle.std.specs.Ordering.{is_eq, int_eq, nat_cmp}
-use Rattle.std.specs.Cmp.Lexicographic.{slice_cmp, bytes_decides}
+use Rattle.std.specs.Map.{lookup, KeepsOthers}
+use Rattle.std.specs.HashMap.{HashMap, UpdatesBy}
+use Rattle.std.specs.Ordering.{int_eq}
+use Rattle.std.specs.Cmp.Lexicographic.{bytes_decides}
+use Rattle.std.proofs.lemmas.Cmp.{nat_list_eq_equiv}
 use Rattle.std.proofs.lemmas.Bool.Decides.{Decides-int_eq, Decides-eqb}
-use Rattle.std.proofs.lemmas.Map.Lookups.{exact_bytes}
-use Rattle.std.proofs.lemmas.Map.Text.{is_eq-slice_cmp}
 use Rattle.std.proofs.Math.Bool.{and_assoc}
 use Rattle.orc_rules.specs.declared.value.Value.{Value}
 use Rattle.orc_rules.specs.declared.value.Value.TheVariants.{Number, Truth, Signal}
@@ -64,41 +61,51 @@ pub words-more : (vs : List Value) (v : Value) → words_of (vs ++ v ∷ []) ≡
 words-more [] v = refl
 words-more (w ∷ vs) v = ap (λ z. kind_of w ∷ amount_of w ∷ z) (words-more vs v)
 
-abbrev pub order : Vec ℕ → Vec ℕ → Ordering
-order k l = slice_cmp nat_cmp k.items l.items
-
 -- what stands at a list of numbers
-pub lookup-seen : (q : List ℕ) (es : List (Vec ℕ × ℕ)) → lookup (λ k. is_eq (slice_cmp nat_cmp q k.items)) es ≡ lookup (bytes_eq q) (map entry_of es)
+lookup-seen : (q : List ℕ) (es : List (Vec ℕ × ℕ)) → lookup (λ k. bytes_eq q k.items) es ≡ lookup (bytes_eq q) (map entry_of es)
 lookup-seen q [] = refl
-lookup-seen q (e ∷ es) = λ j. cond (is_eq-slice_cmp q (e.0.items) j) (Some e.1) (lookup-seen q es j)
+lookup-seen q (e ∷ es) = λ j. cond (bytes_eq q (e.0.items)) (Some e.1) (lookup-seen q es j)
 
-lookup-insert : (q : List ℕ) (es : List (Vec ℕ × ℕ)) (k : Vec ℕ) (v : ℕ) → lookup (bytes_eq q) (map entry_of (insert_entry order es k v)) ≡ cond (bytes_eq q k.items) (Some v) (lookup (bytes_eq q) (map entry_of es))
-lookup-insert q [] k v = refl
-lookup-insert q (e ∷ es) k v = go (lookup-insert q es k v) (order k e.0) refl
+-- what a look at a call's key finds is which call is next
+pub nth_seen : (q : List ℕ) (es : List (Vec ℕ × ℕ)) (o : Option ℕ) (m : ℕ) (args : List Value) → o ≡ lookup (λ k. bytes_eq q k.items) es → q ≡ key m args → unwrap_or o 1 ≡ nth_in (map entry_of es) m args
+nth_seen q es o m args found is = ap (λ z. unwrap_or z 1) (found ∙ lookup-seen q es ∙ ap (λ z. lookup (bytes_eq z) (map entry_of es)) is)
+
+-- fs are es with v at the key k
+abbrev pub Puts : List ℕ → ℕ → List (Vec ℕ × ℕ) → List (Vec ℕ × ℕ) → Type 0
+Puts k v es fs = (q : List ℕ) → lookup (bytes_eq q) (map entry_of fs) ≡ cond (bytes_eq q k) (Some v) (lookup (bytes_eq q) (map entry_of es))
+
+-- two keys as the map compares them
+abbrev same_words : Vec ℕ → Vec ℕ → Bool
+same_words x y = bytes_eq x.items y.items
+
+-- at another list of numbers the same stands after a change at k
+other_entries : (k : List ℕ) (es fs : List (Vec ℕ × ℕ)) → KeepsOthers same_words (λ x. bytes_eq k x.items) es fs → (q : List ℕ) → bytes_eq q k ≡ false → lookup (λ x. bytes_eq q x.items) fs ≡ lookup (λ x. bytes_eq q x.items) es
+unfolding KeepsOthers
+other_entries k es fs keeps q e = keeps (λ x. bytes_eq q x.items) (λ x y. nat_list_eq_equiv.congr q x.items y.items) (λ x h. subst (λ z. bytes_eq q z ≡ false) ((bytes_decides k x.items).0 h) e)
+
+-- after a change at k v stands there
+pub puts : {S : Type 0} (k : List ℕ) (v : ℕ) (m n : HashMap (Vec ℕ) ℕ S) → UpdatesBy same_words (λ x. bytes_eq k x.items) m n (Some v) → Puts k v m.entries n.entries
+puts k v m n u q = go (bytes_eq q k) refl
   where
-    go : lookup (bytes_eq q) (map entry_of (insert_entry order es k v)) ≡ cond (bytes_eq q k.items) (Some v) (lookup (bytes_eq q) (map entry_of es)) → (o : Ordering) → order k e.0 ≡ o → lookup (bytes_eq q) (map entry_of (insert_entry order (e ∷ es) k v)) ≡ cond (bytes_eq q k.items) (Some v) (lookup (bytes_eq q) (map entry_of (e ∷ es)))
-    go before Less is = rw is refl
-    go before Equal is = rw is (rw (exact_bytes k.items (e.0.items) is) (same (bytes_eq q (e.0.items))))
-      where
-        same : (b : Bool) → cond b (Some v) (lookup (bytes_eq q) (map entry_of es)) ≡ cond b (Some v) (cond b (Some e.1) (lookup (bytes_eq q) (map entry_of es)))
-        same true = refl
-        same false = refl
-    go before Greater is = rw is (apart (bytes_eq q (e.0.items)) refl)
-      where
-        apart : (b : Bool) → bytes_eq q (e.0.items) ≡ b → cond (bytes_eq q (e.0.items)) (Some e.1) (lookup (bytes_eq q) (map entry_of (insert_entry order es k v))) ≡ cond (bytes_eq q k.items) (Some v) (cond (bytes_eq q (e.0.items)) (Some e.1) (lookup (bytes_eq q) (map entry_of es)))
-        apart false h = rw h before
-        apart true h = rw h (other (bytes_eq q k.items) refl)
-          where
-            other : (c : Bool) → bytes_eq q k.items ≡ c → Some e.1 ≡ cond (bytes_eq q k.items) (Some v) (Some e.1)
-            other false i = rw i refl
-            other true i =
-                let same = sym ((bytes_decides q k.items).0 i) ∙ (bytes_decides q (e.0.items)).0 h in
-                absurd (cc (sym (ap is_eq is) ∙ is_eq-slice_cmp k.items (e.0.items) ∙ (bytes_decides k.items (e.0.items)).1 same))
+    go : (b : Bool) → bytes_eq q k ≡ b → lookup (bytes_eq q) (map entry_of n.entries) ≡ cond (bytes_eq q k) (Some v) (lookup (bytes_eq q) (map entry_of m.entries))
+    go true e = rw e (sym (lookup-seen q n.entries) ∙ ap (λ z. lookup (λ x. bytes_eq z x.items) n.entries) ((bytes_decides q k).0 e) ∙ u.1)
+    go false e = rw e (sym (lookup-seen q n.entries) ∙ other_entries k m.entries n.entries u.3 q e ∙ lookup-seen q m.entries)
+
+-- each count is from 1 on
+abbrev pub AreFromOne : List (Vec ℕ × ℕ) → Type 0
+AreFromOne es = (q : List ℕ) → 1 ≤ unwrap_or (lookup (bytes_eq q) (map entry_of es)) 1
+
+pub from_one : (k : List ℕ) (v : ℕ) (es fs : List (Vec ℕ × ℕ)) → Puts k v es fs → 1 ≤ v → AreFromOne es → AreFromOne fs
+from_one k v es fs put one ones q = subst (λ z. 1 ≤ unwrap_or z 1) (sym (put q)) (go (bytes_eq q k))
+  where
+    go : (b : Bool) → 1 ≤ unwrap_or (cond b (Some v) (lookup (bytes_eq q) (map entry_of es))) 1
+    go true = one
+    go false = ones q
 
 -- a call is counted by its key
-pub counts_one : (m : ℕ) (args : List Value) (es : List (Vec ℕ × ℕ)) (k : Vec ℕ) (v : ℕ) → k.items ≡ key m args → v ≡ suc (nth_in (map entry_of es) m args) → CountsOne m args (map entry_of es) (map entry_of (insert_entry order es k v))
-counts_one m args es k v is next n others =
-    ap (λ z. unwrap_or z 1) (lookup-insert (key n others) es k v ∙ ap (λ z. cond (bytes_eq (key n others) z) (Some v) (lookup (bytes_eq (key n others)) (map entry_of es))) is)
+pub counts_one : (m : ℕ) (args : List Value) (k : List ℕ) (v : ℕ) (es fs : List (Vec ℕ × ℕ)) → Puts k v es fs → k ≡ key m args → v ≡ suc (nth_in (map entry_of es) m args) → CountsOne m args (map entry_of es) (map entry_of fs)
+counts_one m args k v es fs put is next n others =
+    ap (λ z. unwrap_or z 1) (put (key n others) ∙ ap (λ z. cond (bytes_eq (key n others) z) (Some v) (lookup (bytes_eq (key n others)) (map entry_of es))) is)
     ∙ go (bytes_eq (key n others) (key m args)) refl
     ∙ ap (λ z. cond z (suc (nth_in (map entry_of es) n others)) (nth_in (map entry_of es) n others)) (keys_are n m others args)
   where

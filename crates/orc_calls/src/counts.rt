@@ -7,28 +7,37 @@ use crate::key::Key;
 use orc_rules::answers::Answers;
 use orc_rules::value::{Args, Found};
 use std::alloc::{AllocError, Global};
-use std::collections::BTreeMap;
+use std::collections::HashMap;
+use std::hash::{BuildHasherDefault, FoldHasher};
 use std::marker::Model;
 
 /// Which call the next one is of a site with the same arguments, from 1, by their key; 1 where there is no such key. Only the calls of sites
 /// that scripts answer are counted, since no other site's answers depend on it. Which calls of a run are counted is `AreCounted`.
 #[derive(Drop)]
 pub struct Counts {
-    next: BTreeMap<Vec<u64>, u64>,
+    next: HashMap<Vec<u64>, u64, BuildHasherDefault<FoldHasher>>,
     alloc: Global,
 }
 
 impl Model for Counts {
-    ghost use Rattle.std.specs.Prelude.{ℕ, ◌≤◌, List, map};
-    ghost use Rattle.std.specs.List.{All};
-    ghost use Rattle.std.specs.Map.{values_of};
+    ghost use Rattle.std.specs.Prelude.{ℕ, ◌≤◌, List, map, bytes_eq, unwrap_or};
+    ghost use Rattle.std.specs.Map.{lookup};
     ghost use Rattle.orc_calls.specs.Counting.{entry_of};
 
     ghost Value = { List (List ℕ × ℕ) };
 
     ghost view = { λ c. map entry_of c.next.entries };
 
-    ghost invariant = { λ c. All (λ n. 1 ≤ n) (values_of c.next.entries) };
+    ghost invariant = { λ c. (words : List ℕ) → 1 ≤ unwrap_or (lookup (bytes_eq words) (map entry_of c.next.entries)) 1 };
+}
+
+/// The next call of a site with the same arguments.
+#[derive(Clone, Copy)]
+pub struct NextCall {
+    /// Which call of the site with these arguments it is, from 1; 1 where no script answers the site.
+    pub nth: u64,
+    /// What the table of sites says of it.
+    pub found: Found,
 }
 
 impl Counts {
@@ -37,7 +46,7 @@ impl Counts {
         ensures { result ≡ [] }
     {
         Counts {
-            next: BTreeMap::new(alloc),
+            next: HashMap::new(alloc),
             alloc,
         }
     }
@@ -53,10 +62,10 @@ impl Counts {
         })
     }
 
-    /// Which call of a site with these arguments the next one is, from 1; 1 for a site whose calls aren't counted.
+    // Which call of a site with these arguments the next one is, from 1; 1 for a site whose calls aren't counted.
     // Not inlined: the key's room would be cleared at each call of a site, counted or not.
     #[inline(never)]
-    pub fn nth(&self, site: u32, args: &Args) -> u64
+    fn nth(&self, site: u32, args: &Args) -> u64
         ensures nth { result ≡ nth_in self.now site args.now }
         ensures from_1 { 1 ≤ result }
     {
@@ -67,26 +76,21 @@ impl Counts {
         }
     }
 
-    /// Which call of a site with these arguments the next one is, from 1, where a script answers the site; else 1.
-    pub fn next_nth(&self, answers: &Answers, site: u32, args: &Args) -> u64
-        ensures nth { NextNth answers.now.sites self.now site args.now result }
-        ensures from_1 { 1 ≤ result }
+    /// The next call of a site with these arguments: which one it is and what the table of sites says of it. The counts are looked into once
+    /// where a script answers the site, and else not at all.
+    pub fn next_call(&self, answers: &Answers, site: u32, args: &Args) -> NextCall
+        ensures nth { NextNth answers.now.sites self.now site args.now result.nth }
+        ensures from_1 { 1 ≤ result.nth }
+        ensures found { NextFound answers.now.sites self.now site args.now result.found }
     {
-        if answers.is_scripted(site) {
+        let nth = if answers.is_scripted(site) {
             self.nth(site, args)
         } else {
             1
-        }
-    }
-
-    /// What the table of sites says of the next call of a site with these arguments.
-    pub fn found(&self, answers: &Answers, site: u32, args: &Args) -> Found
-        ensures { NextFound answers.now.sites self.now site args.now result }
-    {
-        if answers.is_scripted(site) {
-            answers.find(site, args, self.nth(site, args))
-        } else {
-            answers.find(site, args, 1)
+        };
+        NextCall {
+            nth,
+            found: answers.find(site, args, nth),
         }
     }
 
@@ -108,13 +112,17 @@ impl Counts {
         ensures added { OnOk result (CountsOne site args.now self.old self.new) }
         ensures refused { OnErr result (self.new ≡ self.old) }
     {
-        let Some(next) = self.nth(site, args).checked_add(1) else {
-            // No memory holds 2^64 calls.
-            return Err(AllocError);
-        };
         let key = Key::of(site, args);
+        if let Some(next) = self.next.get_mut(key.as_slice()) {
+            let Some(more) = next.checked_add(1) else {
+                // No memory holds 2^64 calls.
+                return Err(AllocError);
+            };
+            *next = more;
+            return Ok(());
+        }
         let words = Vec::from_slice(self.alloc, key.as_slice())?;
-        self.next.insert(words, next)?;
+        self.next.insert(words, 2)?;
         Ok(())
     }
 }

@@ -5,5 +5,5 @@ mod counts;
 mod due;
 mod key;
 
-pub use counts::Counts;
+pub use counts::{Counts, NextCall};
 pub use due::{check_due, due_time};

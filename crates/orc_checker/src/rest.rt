@@ -87,7 +87,7 @@ impl Rest {
     pub(crate) fn found(&self, answers: &Answers, site: u32, args: &Args) -> Found
         ensures { NextFound answers.now.sites self.now.counts site args.now result }
     {
-        self.counts.found(answers, site, args)
+        self.counts.next_call(answers, site, args).found
     }
 
     /// Adds a call of a site with these arguments, and counts it. Where a growth is refused nothing changes.

@@ -254,7 +254,7 @@ impl<'a> Story<'a> {
 
     // The due time of a call that is made now.
     fn due(&mut self, answers: &Answers, site: u32, args: &Args) -> Option<u64> {
-        let found = self.counts.found(answers, site, args);
+        let found = self.counts.next_call(answers, site, args).found;
         let refused = self.counts.add(answers, site, args).is_err();
         self.heed(refused);
         due_time(found, self.now)

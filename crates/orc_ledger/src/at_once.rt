@@ -92,12 +92,15 @@ impl<P: Program> Ledger<P> {
     {
         self.within(0, 0, 0)?;
         let site = self.ask(graph, token, args);
-        let found = self.counts.found(answers, site, args);
-        let answer = match answer_at_once(found) {
+        let call = self.next_call(answers, token, site, args);
+        let answer = match answer_at_once(call.found) {
             Some(answer) if self.limit - self.entries >= 2 => answer,
-            _ => return Ok(Called::Pends(self.call(graph, answers, slot, token, args)?)),
+            _ => {
+                self.pend(answers, slot, token, site, args, call)?;
+                return Ok(Called::Pends(call));
+            }
         };
-        let number = self.calls.next_number();
+        let number = call.number;
         match self.calls.reserve_number() {
             Ok(()) => {}
             Err(_) => return Err(LedgerFault::Memory),

@@ -1,6 +1,6 @@
 //! Calls of sites: a token makes one, and it pends; what it asks.
 
-ghost use Rattle.std.specs.Prelude.{◌≡◌, ◌++◌, ◌∷◌, [], ℕ, true, Some, IfOk, IfErr, MatchOption, OnOk, OnErr};
+ghost use Rattle.std.specs.Prelude.{◌≡◌, ◌<◌, ◌++◌, ◌∷◌, [], ℕ, true, Some, IfOk, IfErr, MatchOption, OnOk, OnErr};
 ghost use Rattle.orc_rules.specs.Nodes.{code, definitions};
 ghost use Rattle.orc_rules.specs.declared.entry.Entry.TheVariants.{Call as Calls};
 ghost use Rattle.orc_calls.specs.Counting.{CountsCall};
@@ -10,7 +10,7 @@ ghost use Rattle.orc_chronicle.specs.Chronicles.{chronicle_with};
 ghost use Rattle.orc_tables.specs.PendingCalls.{has_number};
 ghost use Rattle.orc_paths.specs.Doing.{IsCall};
 ghost use Rattle.orc_records.specs.Doing.{term_of, what_of};
-ghost use Rattle.orc_records.specs.Requests.{IsAsked, IsMade};
+ghost use Rattle.orc_records.specs.Requests.{IsAsked, IsMade, IsNextCall};
 ghost use Rattle.orc_tables.specs.Same.{weight};
 ghost use Rattle.orc_tables.specs.Tokens.{IsHeld};
 
@@ -77,6 +77,61 @@ impl<P: Program> Ledger<P> {
         site
     }
 
+    // The call that a token makes next of a site with these arguments, by one look into the counts.
+    pub(crate) fn next_call(&self, answers: &Answers, token: Token, site: u32, args: &Args) -> Call
+        requires { answers.now.sites ≡ P.sites }
+        ensures { IsNextCall P.listing P.sites self.now token site args.now result }
+    {
+        let next = self.counts.next_call(answers, site, args);
+        Call {
+            number: self.calls.next_number(),
+            found: next.found,
+            made_at: self.time,
+            step: token.step,
+            row: self.journal.len(),
+            nth: next.nth,
+        }
+    }
+
+    // Enters the call that a token makes next: it pends where the token was. Where memory is refused nothing changes.
+    pub(crate) fn pend(
+        &mut self,
+        answers: &Answers,
+        slot: usize,
+        token: Token,
+        site: u32,
+        args: &Args,
+        call: Call,
+    ) -> Result<(), LedgerFault>
+        requires answers { answers.now.sites ≡ P.sites }
+        requires held { IsHeld self.old.slots slot token }
+        requires asks { IsCall site args.now (term_of (code P.listing) self.old token) }
+        requires room { self.old.entries < self.old.limit }
+        requires next { IsNextCall P.listing P.sites self.old token site args.now call }
+        ensures done { OnOk result (IsMade P.listing P.sites self.old token call self.new) }
+        ensures refused { OnErr result (self.new ≡ self.old) }
+        ensures why { IfErr result (λ fault. fault ≡ LedgerFault.Memory) }
+    {
+        match self.calls.reserve(call) {
+            Ok(()) => {}
+            Err(_) => return Err(LedgerFault::Memory),
+        }
+        write_call(
+            &mut self.journal,
+            &mut self.counts,
+            answers,
+            token.serial,
+            call.number,
+            site,
+            args,
+        )?;
+        self.entries += 1;
+        self.tokens.remove(slot);
+        let group = group_at(&self.steps, call.step);
+        self.calls.add(call, group);
+        Ok(())
+    }
+
     /// A call of a site with values: it pends where the token was. Gives its record. `args` is lent for the arguments: they stand in it then, and
     /// what it held is lost.
     pub fn call(
@@ -98,31 +153,8 @@ impl<P: Program> Ledger<P> {
     {
         self.within(0, 0, 0)?;
         let site = self.ask(graph, token, args);
-        let call = Call {
-            number: self.calls.next_number(),
-            found: self.counts.found(answers, site, args),
-            made_at: self.time,
-            step: token.step,
-            row: self.journal.len(),
-            nth: self.counts.next_nth(answers, site, args),
-        };
-        match self.calls.reserve(call) {
-            Ok(()) => {}
-            Err(_) => return Err(LedgerFault::Memory),
-        }
-        write_call(
-            &mut self.journal,
-            &mut self.counts,
-            answers,
-            token.serial,
-            call.number,
-            site,
-            args,
-        )?;
-        self.entries += 1;
-        self.tokens.remove(slot);
-        let group = group_at(&self.steps, call.step);
-        self.calls.add(call, group);
+        let call = self.next_call(answers, token, site, args);
+        self.pend(answers, slot, token, site, args, call)?;
         Ok(call)
     }
 

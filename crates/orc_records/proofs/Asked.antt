@@ -7,7 +7,8 @@ use Rattle.orc_rules.specs.declared.param.Param.{Param}
 use Rattle.orc_rules.specs.declared.param.Param.TheVariants as is
 use Rattle.orc_rules.specs.Term.{Term, Definition, site, values_of}
 use Rattle.orc_rules.specs.Idle.{has_void}
-use Rattle.orc_rules.specs.Nodes.{Listing, code, param_of, unfold_node}
+use Rattle.orc_rules.specs.Nodes.{Listing, code, source, param_of, unfold_node}
+use Rattle.orc_rules.specs.Journal.{Place, begin}
 use Rattle.orc_rules.specs.Sites.{Site, find, is_scripted}
 use Rattle.orc_rules.specs.Timed.{IsIn, nth_of}
 use Rattle.orc_rules.specs.declared.value.Found.{Found}
@@ -21,7 +22,8 @@ use Rattle.orc_graph.specs.Graph.{term_node}
 use Rattle.orc_paths.specs.Spelling.{Path, whole, feeding, aiding, trying}
 use Rattle.orc_records.specs.Calls.{Exchanges}
 use Rattle.orc_records.specs.Kept.{Kept}
-use Rattle.orc_records.specs.Records.{Records}
+use Rattle.orc_records.specs.Records.{Records, Lawful, context}
+use Rattle.orc_records.specs.Requests.{IsNextCall}
 use Rattle.orc_tables.specs.Steps.{group_at}
 use Rattle.orc_tables.specs.Same.{is_this}
 use Rattle.orc_paths.specs.Doing.{IsCall, closed, taken, of_param, what_site, what_def, what_by}
@@ -32,7 +34,7 @@ use Rattle.orc_tables.specs.declared.records.Call.{Call as Asked}
 use Rattle.orc_records.proofs.Asking.{call-lawful}
 use Rattle.orc_records.proofs.Calling.{calls-told}
 use Rattle.orc_records.proofs.Grouped.{called-grouped}
-use Rattle.orc_records.proofs.Keeping.{counted-call}
+use Rattle.orc_records.proofs.Keeping.{counted-call, journal_one}
 use Rattle.orc_records.proofs.Brought.{exchanged-brought}
 use Rattle.orc_records.proofs.Sizes.{exchanged-members}
 use Rattle.orc_paths.proofs.Forms.{at-stop, at-param, at-call, at-par, at-seq, at-prune, at-other}
@@ -78,14 +80,28 @@ module _ (defs : List Definition) (p : Path) where
     pub site-called : (t : Term) (m : ℕ) (ops : List Operand) → t ≡ site m (map param_of ops) → what_by defs p (close env t) ≡ Call → (vs : List Value) × (values_of (closed env ops) ≡ Some vs)
     site-called t m ops form h = site-values (closed env ops) (sym (ap (λ u. what_by defs p (close env u)) form ∙ ap (what_by defs p) (close-site env m (map param_of ops))) ∙ h)
 
+-- ---- the call that is made next, by where the records say that the journal has led
+module _ (l : Listing) (sites : List Site) (s : Records) (L : Lawful l sites s) (t : Token) (m : ℕ) (args : List Value) (c : Asked) (next : IsNextCall l sites s t m args c) where
+  there : next.place ≡ L.place
+  there = journal_one (context l sites) (source l) [] (begin (source l)) next.place L.place s.journal refl next.at L.leads
+
+  pub word-there : c.found ≡ find sites m args (nth_of m args L.place.calls)
+  word-there = next.found ∙ ap (λ (p : Place). find sites m args (nth_of m args p.calls)) there
+
+  pub which-there : is_scripted sites m ≡ true → c.nth ≡ nth_of m args L.place.calls
+  which-there scripted = next.nth scripted ∙ ap (λ (p : Place). nth_of m args p.calls) there
+
 -- ---- a call that is made
 module _ (l : Listing) (sites : List Site) (counts : List (List ℕ × ℕ)) (sizes : List ℕ) (s : Records) (K : Kept l sites counts sizes s) (table : List Site) (its : table ≡ sites) (m : ℕ) (args : List Value) where
   -- the table's word is that of the calls that the journal has
-  pub found-there : (found : Found) → NextFound table counts m args found → found ≡ find sites m args (nth_of m args K.lawful.place.calls)
+  found-there : (found : Found) → NextFound table counts m args found → found ≡ find sites m args (nth_of m args K.lawful.place.calls)
   found-there found next = subst (λ z. NextFound z counts m args found) its next K.lawful.place.calls K.counted
 
-  pub nth-there : (n : ℕ) → NextNth table counts m args n → is_scripted sites m ≡ true → n ≡ nth_of m args K.lawful.place.calls
+  nth-there : (n : ℕ) → NextNth table counts m args n → is_scripted sites m ≡ true → n ≡ nth_of m args K.lawful.place.calls
   nth-there n next = subst (λ z. NextNth z counts m args n) its next K.lawful.place.calls K.counted
+
+  pub next-there : (t : Token) (c : Asked) → c.number ≡ s.made + 1 → c.step ≡ t.step → c.made_at ≡ s.now → c.row ≡ length s.journal → NextFound table counts m args c.found → NextNth table counts m args c.nth → IsNextCall l sites s t m args c
+  next-there t c number step at row word which = record { number = number; step = step; made_at = at; place = K.lawful.place; at = K.lawful.leads; found = found-there c.found word; nth = nth-there c.nth which; row = row }
 
   pub called-kept : (t : Token) → IsIn t s.tokens → IsCall m args (term_of (code l) s t) → s.entries < s.limit → (c : Asked) → c.number ≡ s.made + 1 → c.found ≡ find sites m args (nth_of m args K.lawful.place.calls) → (is_scripted sites m ≡ true → c.nth ≡ nth_of m args K.lawful.place.calls)
       → (s' : Records) → c.step ≡ t.step → c.made_at ≡ s.now → c.row ≡ length s.journal → Exchanges s s' (t ∷ []) [] [] (c ∷ []) 1 (entry.Call t.serial c.number m args) → (counts' : List (List ℕ × ℕ)) → CountsCall table m args counts counts' → Kept l sites counts' sizes s'

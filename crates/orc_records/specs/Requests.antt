@@ -15,6 +15,18 @@ use Rattle.orc_tables.specs.declared.records.Token.{Token}
 use Rattle.orc_tables.specs.declared.records.Call.{Call}
 use Rattle.orc_records.specs.declared.results.Request.{Request}
 
+-- c is the call that token t makes next, of site m with these arguments
+pub record IsNextCall (l : Listing) (sites : List Site) (s : Records) (t : Token) (m : ℕ) (args : List Value) (c : Call) : Type 0 where
+  pub number : c.number ≡ s.made + 1
+  pub step : c.step ≡ t.step
+  pub made_at : c.made_at ≡ s.now
+  -- the table's word, by the calls that the journal has
+  pub place : Place
+  pub at : IsAt l sites s place
+  pub found : c.found ≡ find sites m args (nth_of m args place.calls)
+  pub nth : is_scripted sites m ≡ true → c.nth ≡ nth_of m args place.calls
+  pub row : c.row ≡ length s.journal
+
 -- token t makes call c, which pends in its place
 pub record IsMade (l : Listing) (sites : List Site) (s : Records) (t : Token) (c : Call) (s' : Records) : Type 0 where
   pub site : ℕ

@@ -1,23 +1,63 @@
-use Rattle.std.specs.List.{All}
-use Rattle.std.specs.Map.{values_of}
-use Rattle.std.proofs.lemmas.Map.Views.{All-values-insert_entry}
-use Rattle.std.proofs.Common.{◌≡◌, ◌≤◌, ◌∙◌, sym, ap, subst, suc, map, arith}
-use Rattle.orc_calls.specs.Counting.{entry_of, nth_in, CountsOne}
-use Rattle.orc_calls.proofs.Keys.{order, counts_one}
+use Rattle.std.proofs.Common.{rules, ◌≡◌, ◌∙◌, None, Some, sym, ap, subst, suc, map, arith}
+use Rattle.std.specs.Prelude.{bytes_eq}
+use Rattle.std.specs.Option.{option_copied_mut}
+use Rattle.std.proofs.lemmas.Map.Steps.{set_value_same}
+use Rattle.orc_calls.specs.Counting.{entry_of, key, nth_in, CountsOne}
+use Rattle.orc_calls.proofs.Keys.{nth_seen, AreFromOne, puts, from_one, counts_one}
 use Rattle.orc_calls.proofs.counts.Counts.add_one.Goals as goal
 
+-- there is no room for another call
+pub invariant_of-self : goal.invariant_of-self
+invariant_of-self c =
+    let same = (c.get_mut.follows.holds c.in-Some.next.now).0 ∙ set_value_same (λ x. bytes_eq c.as_slice.result.now x.items) c.self.inside.next.entries c.in-Some.next.now (sym c.in-Some.ensures.value) in
+    subst AreFromOne (sym same) c.self.invariant
+
+pub returns-in_default-checked_add-clause-refused : goal.returns-in_default-checked_add-clause-refused
+returns-in_default-checked_add-clause-refused c =
+    let same = (c.get_mut.follows.holds c.in-Some.next.now).0 ∙ set_value_same (λ x. bytes_eq c.as_slice.result.now x.items) c.self.inside.next.entries c.in-Some.next.now (sym c.in-Some.ensures.value) in
+    ap (map entry_of) same ∙ c.self.view_is
+
+-- the key is there
+pub invariant_of-self-in-Some : goal.invariant_of-self-in-Some
+invariant_of-self-in-Some c =
+    let m = c.self.inside.next in
+    let v = c.in-Some-checked_add.more in
+    let put = puts c.as_slice.result.now v m (c.get_mut.follows.lender v) ((c.get_mut.follows.holds v).3 (search rules)) in
+    from_one c.as_slice.result.now v m.entries (c.get_mut.follows.lender v).entries put (search rules) c.self.invariant
+
+pub returns-in-Some-clause-added : goal.returns-in-Some-clause-added
+returns-in-Some-clause-added c =
+    let site = c.args.site in
+    let args = c.args.args.now in
+    let k = c.as_slice.result.now in
+    let m = c.self.inside.next in
+    let v = c.in-Some-checked_add.more in
+    let n = c.get_mut.follows.lender v in
+    let put = puts k v m n ((c.get_mut.follows.holds v).3 (search rules)) in
+    let is : k ≡ key site args = c.as_slice.ensures ∙ c.of-key.ensures in
+    let here : c.in-Some.next.now ≡ nth_in (map entry_of m.entries) site args = nth_seen k m.entries (Some c.in-Some.next.now) site args c.in-Some.ensures.value is in
+    let next : v ≡ suc (nth_in (map entry_of m.entries) site args) = omega (arith, c.in-Some-checked_add.ensures, here) in
+    subst (λ z. CountsOne site args z (map entry_of n.entries)) c.self.view_is (counts_one site args k v m.entries n.entries put is next)
+
+-- the key is new
 pub invariant_of-self-2 : goal.invariant_of-self-2
 invariant_of-self-2 c =
-    subst (λ z. All (λ n. 1 ≤ n) (values_of z)) (sym c.in_ok-insert.ensures.entries) (All-values-insert_entry order c.in_ok-words.words c.in-Some.next (λ n. 1 ≤ n) c.self.inside.next.entries c.self.invariant (omega (arith, c.in-Some.ensures)))
+    let words = c.in_ok-words.words in
+    let m = c.get_mut.follows.lender-at-none in
+    let n = c.insert.new.self in
+    let put = puts words.items 2 m n c.in_ok-insert.ensures.updates in
+    from_one words.items 2 m.entries n.entries put (omega arith) (subst (λ z. AreFromOne z.entries) (sym c.get_mut.follows.holds-at-none) c.self.invariant)
 
 pub returns-clause-added : goal.returns-clause-added
 returns-clause-added c =
-    let m = c.args.site in
+    let site = c.args.site in
     let args = c.args.args.now in
-    let old = c.self.inside.next.entries in
-    let new = map entry_of c.insert.new.self.entries in
-    let next : c.in-Some.next ≡ suc c.nth.result = omega (arith, c.in-Some.ensures) in
-    subst (λ z. CountsOne m args z new) c.self.view_is
-    (subst (λ z. CountsOne m args (map entry_of old) (map entry_of z)) (sym c.in_ok-insert.ensures.entries)
-    (counts_one m args old c.in_ok-words.words c.in-Some.next (c.in_ok-words.ensures.items ∙ c.as_slice.ensures ∙ c.of-key.ensures)
-    (next ∙ ap suc (c.nth.ensures.nth ∙ ap (λ z. nth_in z m args) (sym c.self.view_is)))))
+    let old = c.self.inside.next in
+    let words = c.in_ok-words.words in
+    let m = c.get_mut.follows.lender-at-none in
+    let n = c.insert.new.self in
+    let put = puts words.items 2 m n c.in_ok-insert.ensures.updates in
+    let is : words.items ≡ key site args = c.in_ok-words.ensures.items ∙ c.as_slice-2.ensures ∙ c.of-key.ensures in
+    let here : 1 ≡ nth_in (map entry_of old.entries) site args = nth_seen c.as_slice.result.now old.entries None site args (ap option_copied_mut (sym c.in_default.is) ∙ c.get_mut.ensures.value) (c.as_slice.ensures ∙ c.of-key.ensures) in
+    let next : 2 ≡ suc (nth_in (map entry_of m.entries) site args) = ap suc (here ∙ sym (ap (λ z. nth_in (map entry_of z.entries) site args) c.get_mut.follows.holds-at-none)) in
+    subst (λ z. CountsOne site args z (map entry_of n.entries)) (ap (λ z. map entry_of z.entries) c.get_mut.follows.holds-at-none ∙ c.self.view_is) (counts_one site args words.items 2 m.entries n.entries put is next)

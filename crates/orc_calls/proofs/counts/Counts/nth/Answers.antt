@@ -1,16 +1,26 @@
-use Rattle.std.proofs.Common.{◌∙◌, sym, ap}
-use Rattle.std.specs.Prelude.{bytes_eq, unwrap_or}
+use Rattle.std.proofs.Common.{◌≤◌, None, Some, ◌∙◌, sym, ap, subst}
 use Rattle.std.specs.Option.{option_copied}
-use Rattle.std.specs.Map.{lookup}
-use Rattle.orc_calls.proofs.Keys.{lookup-seen}
+use Rattle.orc_calls.specs.Counting.{key, nth_in}
+use Rattle.orc_calls.proofs.Keys.{nth_seen}
 use Rattle.orc_calls.proofs.counts.Counts.nth.Goals as goal
 
 pub returns-in-Some-clause-nth : goal.returns-in-Some-clause-nth
 returns-in-Some-clause-nth c =
-    ap (λ z. unwrap_or z 1)
-    (ap option_copied (sym c.in-Some.is) ∙ c.get.ensures.value ∙ lookup-seen c.as_slice.result.now c.self.inside.next.entries ∙ (λ j. lookup (bytes_eq ((c.as_slice.ensures ∙ c.of-key.ensures) j)) (c.self.view_is j)))
+    let site = c.args.site in
+    let args = c.args.args.now in
+    nth_seen c.as_slice.result.now c.self.inside.next.entries (Some c.in-Some.next.now) site args (ap option_copied (sym c.in-Some.is) ∙ c.get.ensures.value) (c.as_slice.ensures ∙ c.of-key.ensures)
+    ∙ ap (λ z. nth_in z site args) c.self.view_is
+
+pub returns-in-Some-clause-from_1 : goal.returns-in-Some-clause-from_1
+returns-in-Some-clause-from_1 c =
+    let site = c.args.site in
+    let args = c.args.args.now in
+    let next = nth_seen c.as_slice.result.now c.self.inside.next.entries (Some c.in-Some.next.now) site args (ap option_copied (sym c.in-Some.is) ∙ c.get.ensures.value) (c.as_slice.ensures ∙ c.of-key.ensures) in
+    subst (λ n. 1 ≤ n) (sym next) (c.self.invariant (key site args))
 
 pub returns-in-None-clause-nth : goal.returns-in-None-clause-nth
 returns-in-None-clause-nth c =
-    ap (λ z. unwrap_or z 1)
-    (ap option_copied (sym c.in-None.is) ∙ c.get.ensures.value ∙ lookup-seen c.as_slice.result.now c.self.inside.next.entries ∙ (λ j. lookup (bytes_eq ((c.as_slice.ensures ∙ c.of-key.ensures) j)) (c.self.view_is j)))
+    let site = c.args.site in
+    let args = c.args.args.now in
+    nth_seen c.as_slice.result.now c.self.inside.next.entries None site args (ap option_copied (sym c.in-None.is) ∙ c.get.ensures.value) (c.as_slice.ensures ∙ c.of-key.ensures)
+    ∙ ap (λ z. nth_in z site args) c.self.view_is

@@ -12,13 +12,13 @@ use Rattle.orc_paths.specs.Doing.{IsCall}
 use Rattle.orc_records.specs.Doing.{term_of}
 use Rattle.orc_tables.specs.Same.{is_this}
 use Rattle.orc_tables.specs.OpenGroups.{size_of}
-use Rattle.orc_records.specs.Requests.{IsMade}
+use Rattle.orc_records.specs.Requests.{IsMade, IsNextCall}
 use Rattle.orc_tables.specs.Tokens.{live, IsHeld}
 use Rattle.orc_tables.specs.declared.records.Standing.TheVariants.{On}
 use Rattle.orc_tables.specs.declared.records.Token.{Token}
 use Rattle.orc_records.proofs.AtOnce.{nobody, made, between, made-between, given_kept, halted_kept}
 use Rattle.orc_records.proofs.AtRest.{rest-kept, same-terms}
-use Rattle.orc_records.proofs.Asked.{found-there, called-kept}
+use Rattle.orc_records.proofs.Asked.{word-there, called-kept}
 use Rattle.orc_records.proofs.Keeping.{from_one}
 use Rattle.orc_tables.proofs.Slots.{live-in, removed, replaced, set-there}
 use Rattle.orc_ledger.proofs.ledger.Ledger.call_through.Goals as goal
@@ -47,9 +47,10 @@ invariant_of-self-in-Value g c =
     let args = c.ask-site.new.args in
     let v = c.in-Value.value in
     let asks : IsCall m args (term_of (code l) s a.token) = rw (← c.self.view_is) at c.ask-site.ensures in
+    let next : IsNextCall l sites s a.token m args c.next_call-call.result = rw (← c.self.view_is) at c.next_call-call.ensures in
     let nth = nth_of m args K.lawful.place.calls in
-    let says : c.found-found.result ≡ After (Gives v) 0 = c.in-Some.ensures ∙ ap (λ z. After z 0) c.in-Value.is in
-    let found : After (Gives v) 0 ≡ find sites m args nth = sym says ∙ found-there l sites b.counts b.groups.sizes s K a.answers.now.sites c.requires.answers m args c.found-found.result c.found-found.ensures in
+    let says : c.next_call-call.result.found ≡ After (Gives v) 0 = c.in-Some.ensures ∙ ap (λ z. After z 0) c.in-Value.is in
+    let found : After (Gives v) 0 ≡ find sites m args nth = sym says ∙ word-there l sites s K.lawful a.token m args c.next_call-call.result next in
     let k = made s a.slot a.token m args (Gives v) nth in
     let s1 = between s a.slot a.token m args (Gives v) nth in
     let making = made-between s a.slot a.token m args (Gives v) nth refl held in
@@ -59,7 +60,7 @@ invariant_of-self-in-Value g c =
     let s' : Records = record { limit = b.limit; journal = c.write_answered.new.journal.entries; entries = b.entries + 2; next_mark = b.next_mark + 1; now = b.time; made = c.pass_number.new.self.made; tokens = live c.replace.new.self.items; slots = c.replace.new.self.items; calls = c.pass_number.new.self.items; scopes = b.scopes.items; steps = b.steps.items; groups = b.groups.items; cells = b.cells.items } in
     let answering : Exchanges s1 s' [] (u ∷ []) (k ∷ []) [] 0 (Return (s.made + 1) s.next_mark v) = record {
       limit = refl;
-      journal = ap (λ j. j.entries) c.in_ok-write_answered-in-Value.ensures.added ∙ ap (λ n. (s.journal ++ Call a.token.serial n m args ∷ []) ++ Return n s.next_mark v ∷ []) c.next_number-number.ensures;
+      journal = ap (λ j. j.entries) c.in_ok-write_answered-in-Value.ensures.added ∙ ap (λ n. (s.journal ++ Call a.token.serial n m args ∷ []) ++ Return n s.next_mark v ∷ []) next.number;
       entries = omega arith;
       mark = refl;
       now = refl;
@@ -90,9 +91,10 @@ invariant_of-self-in-Halt g c =
     let m = c.ask-site.result in
     let args = c.ask-site.new.args in
     let asks : IsCall m args (term_of (code l) s a.token) = rw (← c.self.view_is) at c.ask-site.ensures in
+    let next : IsNextCall l sites s a.token m args c.next_call-call.result = rw (← c.self.view_is) at c.next_call-call.ensures in
     let nth = nth_of m args K.lawful.place.calls in
-    let says : c.found-found.result ≡ After Halt 0 = c.in-Some.ensures ∙ ap (λ z. After z 0) c.in-Halt.is in
-    let found : After Halt 0 ≡ find sites m args nth = sym says ∙ found-there l sites b.counts b.groups.sizes s K a.answers.now.sites c.requires.answers m args c.found-found.result c.found-found.ensures in
+    let says : c.next_call-call.result.found ≡ After Halt 0 = c.in-Some.ensures ∙ ap (λ z. After z 0) c.in-Halt.is in
+    let found : After Halt 0 ≡ find sites m args nth = sym says ∙ word-there l sites s K.lawful a.token m args c.next_call-call.result next in
     let k = made s a.slot a.token m args Halt nth in
     let s1 = between s a.slot a.token m args Halt nth in
     let making = made-between s a.slot a.token m args Halt nth refl held in
@@ -101,7 +103,7 @@ invariant_of-self-in-Halt g c =
     let s' : Records = record { limit = b.limit; journal = c.write_answered-in-Halt.new.journal.entries; entries = b.entries + 2; next_mark = b.next_mark; now = b.time; made = c.pass_number-in-Halt.new.self.made; tokens = live c.remove.new.self.items; slots = c.remove.new.self.items; calls = c.pass_number-in-Halt.new.self.items; scopes = b.scopes.items; steps = b.steps.items; groups = c.leave.new.self.items; cells = b.cells.items } in
     let answering : Exchanges s1 s' [] [] (k ∷ []) [] 0 (ReturnHalt (s.made + 1)) = record {
       limit = refl;
-      journal = ap (λ j. j.entries) c.in_ok-write_answered-in-Halt.ensures.added ∙ ap (λ n. (s.journal ++ Call a.token.serial n m args ∷ []) ++ ReturnHalt n ∷ []) c.next_number-number.ensures;
+      journal = ap (λ j. j.entries) c.in_ok-write_answered-in-Halt.ensures.added ∙ ap (λ n. (s.journal ++ Call a.token.serial n m args ∷ []) ++ ReturnHalt n ∷ []) next.number;
       entries = omega arith;
       mark = omega arith;
       now = refl;
@@ -133,9 +135,10 @@ returns-in_ok-write_answered-in-Value-clause-done g c =
     let args = c.ask-site.new.args in
     let v = c.in-Value.value in
     let asks : IsCall m args (term_of (code l) s a.token) = rw (← c.self.view_is) at c.ask-site.ensures in
+    let next : IsNextCall l sites s a.token m args c.next_call-call.result = rw (← c.self.view_is) at c.next_call-call.ensures in
     let nth = nth_of m args K.lawful.place.calls in
-    let says : c.found-found.result ≡ After (Gives v) 0 = c.in-Some.ensures ∙ ap (λ z. After z 0) c.in-Value.is in
-    let found : After (Gives v) 0 ≡ find sites m args nth = sym says ∙ found-there l sites b.counts b.groups.sizes s K a.answers.now.sites c.requires.answers m args c.found-found.result c.found-found.ensures in
+    let says : c.next_call-call.result.found ≡ After (Gives v) 0 = c.in-Some.ensures ∙ ap (λ z. After z 0) c.in-Value.is in
+    let found : After (Gives v) 0 ≡ find sites m args nth = sym says ∙ word-there l sites s K.lawful a.token m args c.next_call-call.result next in
     let k = made s a.slot a.token m args (Gives v) nth in
     let s1 = between s a.slot a.token m args (Gives v) nth in
     let making = made-between s a.slot a.token m args (Gives v) nth refl held in
@@ -143,7 +146,7 @@ returns-in_ok-write_answered-in-Value-clause-done g c =
     let s' : Records = record { limit = b.limit; journal = c.write_answered.new.journal.entries; entries = b.entries + 2; next_mark = b.next_mark + 1; now = b.time; made = c.pass_number.new.self.made; tokens = live c.replace.new.self.items; slots = c.replace.new.self.items; calls = c.pass_number.new.self.items; scopes = b.scopes.items; steps = b.steps.items; groups = b.groups.items; cells = b.cells.items } in
     let answering : Exchanges s1 s' [] (u ∷ []) (k ∷ []) [] 0 (Return (s.made + 1) s.next_mark v) = record {
       limit = refl;
-      journal = ap (λ j. j.entries) c.in_ok-write_answered-in-Value.ensures.added ∙ ap (λ n. (s.journal ++ Call a.token.serial n m args ∷ []) ++ Return n s.next_mark v ∷ []) c.next_number-number.ensures;
+      journal = ap (λ j. j.entries) c.in_ok-write_answered-in-Value.ensures.added ∙ ap (λ n. (s.journal ++ Call a.token.serial n m args ∷ []) ++ Return n s.next_mark v ∷ []) next.number;
       entries = omega arith;
       mark = refl;
       now = refl;
@@ -171,16 +174,17 @@ returns-in_ok-write_answered-in-Halt-clause-done g c =
     let m = c.ask-site.result in
     let args = c.ask-site.new.args in
     let asks : IsCall m args (term_of (code l) s a.token) = rw (← c.self.view_is) at c.ask-site.ensures in
+    let next : IsNextCall l sites s a.token m args c.next_call-call.result = rw (← c.self.view_is) at c.next_call-call.ensures in
     let nth = nth_of m args K.lawful.place.calls in
-    let says : c.found-found.result ≡ After Halt 0 = c.in-Some.ensures ∙ ap (λ z. After z 0) c.in-Halt.is in
-    let found : After Halt 0 ≡ find sites m args nth = sym says ∙ found-there l sites b.counts b.groups.sizes s K a.answers.now.sites c.requires.answers m args c.found-found.result c.found-found.ensures in
+    let says : c.next_call-call.result.found ≡ After Halt 0 = c.in-Some.ensures ∙ ap (λ z. After z 0) c.in-Halt.is in
+    let found : After Halt 0 ≡ find sites m args nth = sym says ∙ word-there l sites s K.lawful a.token m args c.next_call-call.result next in
     let k = made s a.slot a.token m args Halt nth in
     let s1 = between s a.slot a.token m args Halt nth in
     let making = made-between s a.slot a.token m args Halt nth refl held in
     let s' : Records = record { limit = b.limit; journal = c.write_answered-in-Halt.new.journal.entries; entries = b.entries + 2; next_mark = b.next_mark; now = b.time; made = c.pass_number-in-Halt.new.self.made; tokens = live c.remove.new.self.items; slots = c.remove.new.self.items; calls = c.pass_number-in-Halt.new.self.items; scopes = b.scopes.items; steps = b.steps.items; groups = c.leave.new.self.items; cells = b.cells.items } in
     let answering : Exchanges s1 s' [] [] (k ∷ []) [] 0 (ReturnHalt (s.made + 1)) = record {
       limit = refl;
-      journal = ap (λ j. j.entries) c.in_ok-write_answered-in-Halt.ensures.added ∙ ap (λ n. (s.journal ++ Call a.token.serial n m args ∷ []) ++ ReturnHalt n ∷ []) c.next_number-number.ensures;
+      journal = ap (λ j. j.entries) c.in_ok-write_answered-in-Halt.ensures.added ∙ ap (λ n. (s.journal ++ Call a.token.serial n m args ∷ []) ++ ReturnHalt n ∷ []) next.number;
       entries = omega arith;
       mark = omega arith;
       now = refl;

@@ -1,20 +1,17 @@
-use Rattle.std.proofs.Common.{◌≡◌, ◌<◌, ◌+◌, [], ◌∷◌, refl, ap, arith, ◌∙◌}
+use Rattle.std.proofs.Common.{◌<◌, ◌+◌, [], ◌∷◌, refl, ap, arith, ◌∙◌}
 use Rattle.orc_rules.specs.declared.entry.Entry.TheVariants as entry
 use Rattle.orc_rules.specs.Nodes.{code, definitions}
-use Rattle.orc_rules.specs.Sites.{find}
-use Rattle.orc_rules.specs.Timed.{nth_of}
 use Rattle.orc_tables.specs.Same.{weight}
 use Rattle.orc_records.specs.Records.{Records}
 use Rattle.orc_records.specs.Calls.{Exchanges}
 use Rattle.orc_paths.specs.Doing.{IsCall}
 use Rattle.orc_records.specs.Doing.{term_of}
-use Rattle.orc_records.specs.Requests.{IsMade}
+use Rattle.orc_records.specs.Requests.{IsMade, IsNextCall}
 use Rattle.orc_tables.specs.Tokens.{live, IsHeld}
-use Rattle.orc_tables.specs.declared.records.Call.{Call}
 use Rattle.orc_records.proofs.AtRest.{rest-kept, same-terms}
-use Rattle.orc_records.proofs.Asked.{found-there, nth-there, called-kept}
+use Rattle.orc_records.proofs.Asked.{word-there, which-there, called-kept}
 use Rattle.orc_tables.proofs.Slots.{live-in, removed}
-use Rattle.orc_ledger.proofs.ledger.Ledger.call.Goals as goal
+use Rattle.orc_ledger.proofs.ledger.Ledger.pend.Goals as goal
 
 pub invariant_of-self-2 : goal.invariant_of-self-2
 invariant_of-self-2 g c =
@@ -25,12 +22,13 @@ invariant_of-self-2 g c =
     let K = c.self.invariant.kept in
     let s : Records = record { limit = b.limit; journal = b.journal.entries; entries = b.entries; next_mark = b.next_mark; now = b.time; made = b.calls.made; tokens = live b.tokens.items; slots = b.tokens.items; calls = b.calls.items; scopes = b.scopes.items; steps = b.steps.items; groups = b.groups.items; cells = b.cells.items } in
     let held : IsHeld s.slots a.slot a.token = rw (← c.self.view_is) at c.requires.held in
-    let m = c.ask-site.result in
-    let args = c.ask-site.new.args in
-    let asks : IsCall m args (term_of (code l) s a.token) = rw (← c.self.view_is) at c.ask-site.ensures in
-    let made : Call = record { number = c.next_number.result; found = c.found.result; made_at = b.time; step = a.token.step; row = c.len.result; nth = c.next_nth.result } in
-    let found : made.found ≡ find sites m args (nth_of m args K.lawful.place.calls) = found-there l sites b.counts b.groups.sizes s K a.answers.now.sites c.requires.answers m args made.found c.found.ensures in
-    let which = nth-there l sites b.counts b.groups.sizes s K a.answers.now.sites c.requires.answers m args made.nth c.next_nth.ensures.nth in
+    let m = a.site in
+    let args = a.args.now in
+    let asks : IsCall m args (term_of (code l) s a.token) = rw (← c.self.view_is) at c.requires.asks in
+    let made = a.call in
+    let next : IsNextCall l sites s a.token m args made = rw (← c.self.view_is) at c.requires.next in
+    let found = word-there l sites s K.lawful a.token m args made next in
+    let which = which-there l sites s K.lawful a.token m args made next in
     let e = entry.Call a.token.serial made.number m args in
     let s' : Records = record { limit = b.limit; journal = c.write_call.new.journal.entries; entries = b.entries + 1; next_mark = b.next_mark; now = b.time; made = c.add.new.self.made; tokens = live c.remove.new.self.items; slots = c.remove.new.self.items; calls = c.add.new.self.items; scopes = b.scopes.items; steps = b.steps.items; groups = b.groups.items; cells = b.cells.items } in
     let T : Exchanges s s' (a.token ∷ []) [] [] (made ∷ []) 1 e = record {
@@ -47,8 +45,8 @@ invariant_of-self-2 g c =
       steps = refl;
       cells = refl;
     } in
-    let room : s.entries < s.limit = rw (← c.self.view_is) at c.in_ok-within.ensures.room in
-    record { kept = called-kept l sites b.counts b.groups.sizes s K a.answers.now.sites c.requires.answers m args a.token (live-in s.slots a.slot a.token held) asks room made c.next_number.ensures found which s' refl refl c.len.ensures.entries T c.write_call.new.counts c.in_ok-write_call.ensures.counted; rest = rest-kept (code l) (definitions l) s s' b.tokens c.remove.new.self refl refl c.self.invariant.rest (live-in b.tokens.items) (c.remove.ensures.parked) (same-terms (code l) s s' refl refl); version = ap (λ j. j.version) c.in_ok-write_call.ensures.added ∙ c.self.invariant.version; limited = c.self.invariant.limited }
+    let room : s.entries < s.limit = rw (← c.self.view_is) at c.requires.room in
+    record { kept = called-kept l sites b.counts b.groups.sizes s K a.answers.now.sites c.requires.answers m args a.token (live-in s.slots a.slot a.token held) asks room made next.number found which s' next.step next.made_at next.row T c.write_call.new.counts c.in_ok-write_call.ensures.counted; rest = rest-kept (code l) (definitions l) s s' b.tokens c.remove.new.self refl refl c.self.invariant.rest (live-in b.tokens.items) (c.remove.ensures.parked) (same-terms (code l) s s' refl refl); version = ap (λ j. j.version) c.in_ok-write_call.ensures.added ∙ c.self.invariant.version; limited = c.self.invariant.limited }
 
 pub returns-clause-done : goal.returns-clause-done
 returns-clause-done g c =
@@ -59,12 +57,11 @@ returns-clause-done g c =
     let K = c.self.invariant.kept in
     let s : Records = record { limit = b.limit; journal = b.journal.entries; entries = b.entries; next_mark = b.next_mark; now = b.time; made = b.calls.made; tokens = live b.tokens.items; slots = b.tokens.items; calls = b.calls.items; scopes = b.scopes.items; steps = b.steps.items; groups = b.groups.items; cells = b.cells.items } in
     let held : IsHeld s.slots a.slot a.token = rw (← c.self.view_is) at c.requires.held in
-    let m = c.ask-site.result in
-    let args = c.ask-site.new.args in
-    let asks : IsCall m args (term_of (code l) s a.token) = rw (← c.self.view_is) at c.ask-site.ensures in
-    let made : Call = record { number = c.next_number.result; found = c.found.result; made_at = b.time; step = a.token.step; row = c.len.result; nth = c.next_nth.result } in
-    let found : made.found ≡ find sites m args (nth_of m args K.lawful.place.calls) = found-there l sites b.counts b.groups.sizes s K a.answers.now.sites c.requires.answers m args made.found c.found.ensures in
-    let which = nth-there l sites b.counts b.groups.sizes s K a.answers.now.sites c.requires.answers m args made.nth c.next_nth.ensures.nth in
+    let m = a.site in
+    let args = a.args.now in
+    let asks : IsCall m args (term_of (code l) s a.token) = rw (← c.self.view_is) at c.requires.asks in
+    let made = a.call in
+    let next : IsNextCall l sites s a.token m args made = rw (← c.self.view_is) at c.requires.next in
     let e = entry.Call a.token.serial made.number m args in
     let s' : Records = record { limit = b.limit; journal = c.write_call.new.journal.entries; entries = b.entries + 1; next_mark = b.next_mark; now = b.time; made = c.add.new.self.made; tokens = live c.remove.new.self.items; slots = c.remove.new.self.items; calls = c.add.new.self.items; scopes = b.scopes.items; steps = b.steps.items; groups = b.groups.items; cells = b.cells.items } in
     let T : Exchanges s s' (a.token ∷ []) [] [] (made ∷ []) 1 e = record {
@@ -81,5 +78,5 @@ returns-clause-done g c =
       steps = refl;
       cells = refl;
     } in
-    let is_made : IsMade l sites s a.token made s' = record { site = m; args = args; asks = asks; number = c.next_number.ensures; step = refl; made_at = refl; place = K.lawful.place; at = K.lawful.leads; found = found; nth = which; row = c.len.ensures.entries; exchanges = T } in
+    let is_made : IsMade l sites s a.token made s' = record { site = m; args = args; asks = asks; number = next.number; step = next.step; made_at = next.made_at; place = next.place; at = next.at; found = next.found; nth = next.nth; row = next.row; exchanges = T } in
     rw (← c.self.view_is) is_made
