@@ -20,7 +20,7 @@ use orc_records::{Called, Halted, LedgerFault};
 use orc_rules::answers::Answers;
 use orc_rules::entry::Entry;
 use orc_rules::value::{Answer, Args, Found};
-use orc_tables::{Call, Standing, Token, group_at};
+use orc_tables::{Call, Standing, Token};
 
 // The answer that the table gives at once, if it does.
 fn answer_at_once(found: Found) -> Option<Answer>
@@ -105,7 +105,7 @@ impl<P: Program> Ledger<P> {
             Ok(()) => {}
             Err(_) => return Err(LedgerFault::Memory),
         }
-        let group = group_at(&self.steps, token.step);
+        let group = self.steps.group_at(token.step);
         match answer {
             Answer::Value(value) => {
                 let mark = self.next_mark;

@@ -13,7 +13,7 @@ use orc_chronicle::Program;
 use orc_records::{LedgerFault, ReturnFault};
 use orc_rules::entry::Entry;
 use orc_rules::value::{Answer, Value};
-use orc_tables::{Call, Standing, Token, group_at};
+use orc_tables::{Call, Standing, Token};
 
 impl<P: Program> Ledger<P> {
     /// A call that pends is answered, where the table of sites gives this answer and it is due now. With a value a token comes in its place,
@@ -60,7 +60,7 @@ impl<P: Program> Ledger<P> {
         self.entries += 1;
         self.next_mark = mark + 1;
         self.calls.take(call.number);
-        let group = group_at(&self.steps, call.step);
+        let group = self.steps.group_at(call.step);
         let slot = self.tokens.add(
             Token {
                 serial: mark,
@@ -80,7 +80,7 @@ impl<P: Program> Ledger<P> {
         ensures done { IfOk result (λ _. IsReturned self.old call Halt None self.new) }
         ensures refused { OnErr result (self.new ≡ self.old) }
     {
-        let group = group_at(&self.steps, call.step);
+        let group = self.steps.group_at(call.step);
         write(&mut self.journal, &Entry::ReturnHalt(call.number))?;
         self.entries += 1;
         self.calls.take(call.number);

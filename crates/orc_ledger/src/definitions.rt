@@ -16,7 +16,7 @@ use orc_names::Scope;
 use orc_paths::parameter_scopes;
 use orc_records::LedgerFault;
 use orc_rules::entry::Entry;
-use orc_tables::{Standing, Token, group_at};
+use orc_tables::{Standing, Token};
 
 // Makes room for so many more scopes.
 fn reserve_scopes(scopes: &mut Vec<Scope>, count: usize) -> Result<(), LedgerFault>
@@ -74,7 +74,7 @@ impl<P: Program> Ledger<P> {
             return Ok(false);
         };
         reserve_scopes(&mut self.scopes, added.len())?;
-        let group = group_at(&self.steps, token.step);
+        let group = self.steps.group_at(token.step);
         let mark = self.next_mark;
         write(&mut self.journal, &Entry::Def(token.serial, mark))?;
         self.entries += 1;

@@ -12,7 +12,7 @@ use crate::ledger::Ledger;
 use orc_chronicle::Program;
 use orc_paths::{has_left, left_at};
 use orc_records::{HaltFault, Halted, LedgerFault};
-use orc_tables::{Call, Group, Side, Token, group_at};
+use orc_tables::{Call, Group, Side, Token};
 
 impl<P: Program> Ledger<P> {
     // The open group with this number.
@@ -26,7 +26,7 @@ impl<P: Program> Ledger<P> {
     fn parent_of(&self, group: Group) -> u32
         ensures { result ≡ group_at self.now.steps group.outer }
     {
-        group_at(&self.steps, group.outer)
+        self.steps.group_at(group.outer)
     }
 
     // Whether a publication has left the otherwise of a group.
@@ -77,13 +77,13 @@ impl<P: Program> Ledger<P> {
     pub fn group_of_call(&self, call: &Call) -> u32
         ensures { result ≡ group_at self.now.steps call.now.step }
     {
-        group_at(&self.steps, call.step)
+        self.steps.group_at(call.step)
     }
 
     /// The group in which a token stands.
     pub fn group_of_token(&self, token: &Token) -> u32
         ensures { result ≡ group_at self.now.steps token.now.step }
     {
-        group_at(&self.steps, token.step)
+        self.steps.group_at(token.step)
     }
 }

@@ -22,7 +22,7 @@ use orc_rules::answers::Answers;
 use orc_rules::entry::Entry;
 use orc_rules::limits::{MOST_FRAMES, MOST_GROUPS, MOST_TOKENS};
 use orc_rules::value::Value;
-use orc_tables::{Crowd, Groups, Pending, Standing, Step, Token, Tokens, push_within, reserve};
+use orc_tables::{Crowd, Groups, Pending, Standing, Steps, Token, Tokens, push_within, reserve};
 use std::alloc::{AllocError, Global};
 use std::marker::{Model, PhantomData};
 
@@ -37,7 +37,7 @@ pub struct Ledger<P: Program> {
     pub(crate) calls: Pending,
     pub(crate) counts: Counts,
     pub(crate) scopes: Vec<Scope>,
-    pub(crate) steps: Vec<Step>,
+    pub(crate) steps: Steps,
     pub(crate) groups: Groups,
     pub(crate) cells: Vec<Bound>,
     // Lent to a bind.
@@ -140,7 +140,7 @@ impl<P: Program> Ledger<P> {
             calls,
             counts: Counts::new(alloc),
             scopes: Vec::new(alloc),
-            steps: Vec::new(alloc),
+            steps: Steps::new(alloc),
             groups,
             cells,
             crowd: Crowd::new(alloc),

@@ -17,7 +17,7 @@ use orc_names::{Bound, Scope};
 use orc_records::LedgerFault;
 use orc_rules::entry::Entry;
 use orc_rules::limits::MOST_FRAMES;
-use orc_tables::{Entered, Side, Standing, Step, Token, depth_at, group_at, push_within, reserve};
+use orc_tables::{Entered, Side, Standing, Step, Token, push_within, reserve};
 
 impl<P: Program> Ledger<P> {
     /// `stop`: the token goes.
@@ -29,7 +29,7 @@ impl<P: Program> Ledger<P> {
         ensures why { IfErr result (λ fault. IsRefused self.old 0 0 0 fault) }
     {
         self.within(0, 0, 0)?;
-        let group = group_at(&self.steps, token.step);
+        let group = self.steps.group_at(token.step);
         write(&mut self.journal, &Entry::End(token.serial))?;
         self.entries += 1;
         self.tokens.remove(slot);
@@ -46,7 +46,7 @@ impl<P: Program> Ledger<P> {
         ensures why { IfErr result (λ fault. IsRefused self.old 0 0 0 fault) }
     {
         self.within(0, 0, 0)?;
-        let group = group_at(&self.steps, token.step);
+        let group = self.steps.group_at(token.step);
         write(&mut self.journal, &Entry::Void(token.serial))?;
         self.entries += 1;
         self.tokens.remove(slot);
@@ -73,7 +73,7 @@ impl<P: Program> Ledger<P> {
     {
         self.within(1, 0, 0)?;
         self.tokens.reserve()?;
-        let group = group_at(&self.steps, token.step);
+        let group = self.steps.group_at(token.step);
         let mark = self.next_mark;
         write(
             &mut self.journal,
@@ -119,28 +119,25 @@ impl<P: Program> Ledger<P> {
         ensures refused { OnErr result (self.new ≡ self.old) }
         ensures why { IfErr result (λ fault. IsRefused self.old 0 0 (depth_at self.old.steps token.step + 1) fault) }
     {
-        let group = group_at(&self.steps, token.step);
-        let depth = depth_at(&self.steps, token.step);
+        let group = self.steps.group_at(token.step);
+        let depth = self.steps.depth_at(token.step);
         if depth as usize >= MOST_FRAMES {
             return Err(LedgerFault::Full);
         }
         self.within(0, 0, depth + 1)?;
-        reserve(&mut self.steps)?;
+        self.steps.reserve()?;
         let mark = self.next_mark;
         write(&mut self.journal, &Entry::Seq(token.serial, mark))?;
         self.entries += 1;
         self.next_mark = mark + 1;
         let step = self.steps.len() + 1;
-        push_within(
-            &mut self.steps,
-            Step {
-                entered: Entered::Feed(name, right, scope),
-                outer: token.step,
-                group,
-                depth: depth + 1,
-                published: false,
-            },
-        );
+        self.steps.push(Step {
+            entered: Entered::Feed(name, right, scope),
+            outer: token.step,
+            group,
+            depth: depth + 1,
+            published: false,
+        });
         self.tokens.replace(
             slot,
             Token {
@@ -170,15 +167,15 @@ impl<P: Program> Ledger<P> {
         ensures why { IfErr result (λ fault. IsRefused self.old 0 1 0 fault) }
     {
         self.within(0, 1, 0)?;
-        reserve(&mut self.steps)?;
+        self.steps.reserve()?;
         self.groups.reserve()?;
-        let depth = depth_at(&self.steps, token.step);
+        let depth = self.steps.depth_at(token.step);
         let mark = self.next_mark;
         write(&mut self.journal, &Entry::Other(token.serial, mark))?;
         self.entries += 1;
         self.next_mark = mark + 1;
         let step = self.steps.len() + 1;
-        let parent = group_at(&self.steps, token.step);
+        let parent = self.steps.group_at(token.step);
         // Its parent loses the token and gets the group: it has as many members as before.
         let number = self.groups.open(
             Side::Left(token.serial, right, scope),
@@ -187,16 +184,13 @@ impl<P: Program> Ledger<P> {
             parent,
         );
         self.groups.join(number);
-        push_within(
-            &mut self.steps,
-            Step {
-                entered: Entered::Try(token.serial),
-                outer: token.step,
-                group: number,
-                depth,
-                published: false,
-            },
-        );
+        self.steps.push(Step {
+            entered: Entered::Try(token.serial),
+            outer: token.step,
+            group: number,
+            depth,
+            published: false,
+        });
         self.tokens.replace(
             slot,
             Token {
@@ -231,10 +225,10 @@ impl<P: Program> Ledger<P> {
         self.within(1, 1, 0)?;
         self.tokens.reserve()?;
         reserve(&mut self.scopes)?;
-        reserve(&mut self.steps)?;
+        self.steps.reserve()?;
         reserve(&mut self.cells)?;
         self.groups.reserve()?;
-        let parent = group_at(&self.steps, token.step);
+        let parent = self.steps.group_at(token.step);
         let mark = self.next_mark;
         let cell = self.cells.len() as u64;
         write(
@@ -258,16 +252,13 @@ impl<P: Program> Ledger<P> {
                 outer: scope,
             },
         );
-        push_within(
-            &mut self.steps,
-            Step {
-                entered: Entered::Aid(cell),
-                outer: token.step,
-                group: number,
-                depth: 0,
-                published: false,
-            },
-        );
+        self.steps.push(Step {
+            entered: Entered::Aid(cell),
+            outer: token.step,
+            group: number,
+            depth: 0,
+            published: false,
+        });
         push_within(&mut self.cells, Bound::Cell(cell));
         self.tokens.replace(
             slot,

@@ -24,14 +24,14 @@ use orc_paths::{Taker, What, call_with, find_taker};
 use orc_records::{LedgerFault, Moved};
 use orc_rules::param::Operand;
 use orc_rules::value::Value;
-use orc_tables::{Standing, Token, group_at};
+use orc_tables::{Standing, Token};
 
 impl<P: Program> Ledger<P> {
     // The group of a token that took this step last.
     fn group_of(&self, step: usize) -> u32
         ensures { result ≡ group_at self.now.steps step }
     {
-        group_at(&self.steps, step)
+        self.steps.group_at(step)
     }
 
     // What takes a value that the token publishes.

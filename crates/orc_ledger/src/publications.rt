@@ -21,7 +21,7 @@ use orc_paths::leave_others;
 use orc_records::LedgerFault;
 use orc_rules::entry::Entry;
 use orc_rules::value::Value;
-use orc_tables::{Standing, Token, group_at, push_within, reserve};
+use orc_tables::{Standing, Token, push_within, reserve};
 
 impl<P: Program> Ledger<P> {
     /// A publication of the program: nothing round the token takes it.
@@ -34,7 +34,7 @@ impl<P: Program> Ledger<P> {
         ensures why { IfErr result (λ fault. IsRefused self.old 0 0 0 fault) }
     {
         self.within(0, 0, 0)?;
-        let group = group_at(&self.steps, token.step);
+        let group = self.steps.group_at(token.step);
         write(&mut self.journal, &Entry::Publish(token.serial, value))?;
         self.entries += 1;
         leave_others(&mut self.steps, token.step);
@@ -66,8 +66,8 @@ impl<P: Program> Ledger<P> {
     {
         self.within(0, 0, 0)?;
         reserve(&mut self.scopes)?;
-        let left = group_at(&self.steps, token.step);
-        let joined = group_at(&self.steps, outer);
+        let left = self.steps.group_at(token.step);
+        let joined = self.steps.group_at(outer);
         let mark = self.next_mark;
         write(&mut self.journal, &Entry::Send(token.serial, mark, value))?;
         self.entries += 1;

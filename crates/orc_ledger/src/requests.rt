@@ -23,7 +23,7 @@ use orc_records::{LedgerFault, Request};
 use orc_rules::answers::Answers;
 use orc_rules::entry::Entry;
 use orc_rules::value::Args;
-use orc_tables::{Call, Standing, Token, group_at};
+use orc_tables::{Call, Standing, Token};
 
 // Writes a call and counts it. Where memory is refused nothing changes.
 fn write_call<P: Program>(
@@ -127,7 +127,7 @@ impl<P: Program> Ledger<P> {
         )?;
         self.entries += 1;
         self.tokens.remove(slot);
-        let group = group_at(&self.steps, call.step);
+        let group = self.steps.group_at(call.step);
         self.calls.add(call, group);
         Ok(())
     }

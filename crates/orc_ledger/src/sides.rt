@@ -25,8 +25,8 @@ use orc_records::LedgerFault;
 use orc_rules::entry::Entry;
 use orc_rules::value::Value;
 use orc_tables::{
-    Group, Standing, Token, group_at, leave_calls, leave_groups, leave_tokens, list_side,
-    side_group, take_out,
+    Group, Standing, Token, leave_calls, leave_groups, leave_tokens, list_side, side_group,
+    take_out,
 };
 
 // A cell becomes something.
@@ -168,7 +168,7 @@ impl<P: Program> Ledger<P> {
         write(&mut self.journal, &Entry::Right(number, mark))?;
         self.entries += 1;
         self.next_mark = mark + 1;
-        let parent = group_at(&self.steps, group.outer);
+        let parent = self.steps.group_at(group.outer);
         // Its parent loses the group and gets the token: it has as many members as before.
         let _left = self.groups.take(group.number);
         let slot = self.tokens.add(

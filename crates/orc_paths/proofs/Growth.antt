@@ -1,5 +1,5 @@
 -- What comes changes no path and no name that is there.
-use Rattle.std.proofs.Common.{◌≡◌, ◌≤◌, ◌<◌, ℕ, zero, suc, ◌+◌, List, [], ◌∷◌, ◌++◌, refl, sym, ap, ◌∙◌, arith, length, length-append, get_or, Bool, true, false, cond, Option, Some, None as Nothing}
+use Rattle.std.proofs.Common.{◌≡◌, ◌≤◌, ◌<◌, ℕ, zero, suc, ◌+◌, List, drop, [], ◌∷◌, ◌++◌, refl, sym, ap, ◌∙◌, arith, length, length-append, get_or, Bool, true, false, cond, Option, Some, None as Nothing}
 use Rattle.std.specs.Prelude.{◌&&◌, ◌||◌, slice_get}
 use Rattle.std.proofs.lemmas.Bool.{ltb-false}
 use Rattle.std.proofs.lemmas.List.{get_or_append_left}
@@ -8,7 +8,7 @@ use Rattle.orc_rules.specs.Term.{Term}
 use Rattle.orc_names.specs.Scopes.{Env, close, without}
 use Rattle.orc_tables.specs.Same.{weight, only, None}
 use Rattle.orc_paths.specs.Spelling.{Path, whole, feeding, seen}
-use Rattle.orc_paths.specs.Paths.{standing, inwards, paths_from, path, is_number, has_left, is_out, entered_out, step_out, tries}
+use Rattle.orc_paths.specs.Paths.{standing, inwards, paths_from, path, is_number, has_left, is_out, entered_out, step_out, tries, is_left}
 use Rattle.orc_tables.specs.Steps.{step_at}
 use Rattle.orc_tables.specs.declared.records.Standing.{Standing}
 use Rattle.orc_tables.specs.declared.records.Standing.TheVariants.{At, On}
@@ -146,3 +146,9 @@ module _ (code : ℕ → Term) (env : ℕ → Env) where
 -- what a publication that comes later leaves is passed over too
 pub seen-same : (left left' : ℕ → Bool) → ((n : ℕ) → left' n ≡ left n) → (p : Path) → seen left' p ≡ seen left p
 seen-same left left' h p = ap (λ (z : ℕ → Bool). seen z p) (λ i n. h n i)
+
+-- whether it was left, from one step on
+pub left-next : (ss : List Step) (k n : ℕ) → k < length ss → has_left (drop k ss) n ≡ (is_left n (slice_get ss k) || has_left (drop (suc k) ss) n)
+left-next [] k n lt = absurd (omega (arith, lt))
+left-next (s ∷ ss) zero n lt = refl
+left-next (s ∷ ss) (suc k) n lt = left-next ss k n (omega (arith, lt))

@@ -10,5 +10,6 @@ pub mod Meaning
 pub mod Outwards
 pub mod Settling
 pub mod Still
+pub mod Taken
 pub mod Values
 pub mod Waiting

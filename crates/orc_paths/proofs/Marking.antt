@@ -1,16 +1,19 @@
 -- The otherwises on a publication's way get their marks, one after another.
-use Rattle.std.proofs.Common.{◌≡◌, ◌≤◌, ◌<◌, ◌-◌, ℕ, zero, suc, List, [], ◌∷◌, ◌++◌, append-nil, append_assoc, refl, sym, ap, ◌∙◌, subst, arith, length, map, Bool, true, false, cond, nat_eq, eq-eqb, Option, Some, None as Nothing, ◌+◌}
+use Rattle.std.proofs.Common.{◌≡◌, ◌≤◌, ◌<◌, ◌-◌, ℕ, zero, suc, List, [], ◌∷◌, ◌++◌, append-nil, append_assoc, refl, sym, ap, ◌∙◌, subst, arith, length, map, Bool, true, false, cond, nat_eq, eq-eqb, Option, Some, None as Nothing}
 use Rattle.std.specs.Prelude.{slice_get, slice_set, ◌||◌, ◌&&◌}
 use Rattle.std.proofs.lemmas.Bool.{eqb-true}
 use Rattle.orc_rules.specs.Term.{Term}
 use Rattle.orc_names.specs.Scopes.{Env}
 use Rattle.orc_paths.specs.Spelling.{trying, seen}
 use Rattle.orc_paths.specs.Paths.{path, inwards, has_left, is_number}
-use Rattle.orc_paths.specs.Taking.{crossed, AreOutwards, Publishes, left_all, bare}
+use Rattle.orc_paths.specs.Taking.{crossed, Publishes, left_all, bare}
+use Rattle.orc_tables.specs.Steps.{AreOutwards, is_try, marked, past_left, left_among, left_from}
 use Rattle.orc_tables.specs.declared.records.Entered.{Entered}
 use Rattle.orc_tables.specs.declared.records.Entered.TheVariants.{Feed, Aid, Try}
 use Rattle.orc_tables.specs.declared.records.Step.{Step}
+use Rattle.orc_tables.proofs.Placed.{or-got}
 use Rattle.orc_paths.proofs.Growth.{path-unfold, path-none}
+use Rattle.orc_paths.proofs.Taken.{entered-try}
 use Rattle.orc_rules.specs.Nodes.{code}
 
 rest_of : {X : Type 0} → List X → List X
@@ -173,15 +176,35 @@ ends-out old from now at o z code env =
     let e : crossed (seen (has_left old) (path code env old from)) ≡ o.done = o.way code env ∙ ap (λ w. o.done ++ w) (ap (λ i. crossed (seen (has_left old) (path code env old i))) z ∙ ap (λ w. crossed (seen (has_left old) w)) (path-none code env old)) ∙ append-nil o.done in
     record { left = λ m. o.left m ∙ ap (λ w. left_all w (has_left old) m) (sym e); alike = o.alike }
 
--- writing what was there changes nothing
-pub set-same : (ss : List Step) (k : ℕ) (x : Step) → slice_get ss k ≡ Some x → slice_set ss k x ≡ ss
-set-same [] k x h = cc h
-set-same (z ∷ ss) zero x h = ap (λ w. w ∷ ss) (sym (ap (step_or z) h))
-  where
-    step_or : Step → Option Step → Step
-    step_or d (Some w) = w
-    step_or d Nothing = d
-set-same (z ∷ ss) (suc k) x h = ap (λ w. z ∷ w) (set-same ss k x h)
-
 pub in_now : (old : List Step) (from : ℕ) (now : List Step) (at : ℕ) → IsOn old from now at → (at ≡ 0 → ⊥) → at - 1 < length now
 in_now old from now at o off = omega (arith, o.within, off, bare-length old now o.alike)
+
+module _ (old : List Step) (from : ℕ) (outwards : AreOutwards old) where
+  marks-among : (n : ℕ) (now : List Step) (at : ℕ) → at ≤ n → IsOn old from now at → (code : ℕ → Term) (env : ℕ → Env) → Publishes (crossed (seen (has_left old) (path code env old from))) old (left_among n now at)
+  marks-among zero now at le o code env = ends-out old from now at o (omega (arith, le)) code env
+  marks-among (suc n) now zero le o code env = ends-out old from now zero o refl code env
+  marks-among (suc n) now (suc k) le o code env = go (slice_get now k) refl (λ rest i less p. marks-among n rest i less p code env)
+    where
+      off : suc k ≡ 0 → ⊥
+      off e = cc e
+
+      before : suc k - 1 ≡ k
+      before = omega arith
+
+      go : (x : Option Step) → slice_get now k ≡ x → ((rest : List Step) (i : ℕ) → i ≤ n → IsOn old from rest i → Publishes (crossed (seen (has_left old) (path code env old from))) old (left_among n rest i)) → Publishes (crossed (seen (has_left old) (path code env old from))) old (past_left (λ rest j. left_among n rest j) now (suc k) x)
+      go Nothing e next = cc (sym e ∙ or-got now k (record { entered = Aid 0; outer = 0; group = 0; depth = 0; published = false }) (omega (arith, in_now old from now (suc k) o off, before)))
+      go (Some x) e next = on (is_try x.entered) refl
+        where
+          h : slice_get now (suc k - 1) ≡ Some x
+          h = ap (slice_get now) before ∙ e
+
+          on : (b : Bool) → is_try x.entered ≡ b → Publishes (crossed (seen (has_left old) (path code env old from))) old (cond b (left_among n (slice_set now k (marked x)) x.outer) now)
+          on true f =
+              let t = entered-try x.entered f in
+              next (slice_set now k (marked x)) x.outer (omega (arith, smaller old from outwards now (suc k) o off x h, le))
+              (subst (λ j. IsOn old from (slice_set now j (marked x)) x.outer) before (marks-on old from outwards now (suc k) o off x h t.0 (marked x) t.1 refl refl refl refl refl))
+          on false f = ends-here old from outwards now (suc k) o off x h (λ m e. cc (sym f ∙ ap is_try e)) code env
+
+-- a publication gives their marks to the otherwises that it leaves
+pub publishes : (ss : List Step) (from : ℕ) → AreOutwards ss → from ≤ length ss → (code : ℕ → Term) (env : ℕ → Env) → Publishes (crossed (seen (has_left ss) (path code env ss from))) ss (left_from ss from)
+publishes ss from outwards within = marks-among ss from outwards from ss from (omega arith) (record { alike = refl; within = within; done = []; way = λ code env. refl; left = λ m. refl })

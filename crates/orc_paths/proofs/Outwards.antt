@@ -5,7 +5,8 @@ use Rattle.orc_rules.specs.Term.{Term}
 use Rattle.orc_names.specs.Scopes.{Env, close, without}
 use Rattle.orc_paths.specs.Spelling.{Path, whole, feeding, aiding, trying, seen}
 use Rattle.orc_paths.specs.Paths.{path, inwards}
-use Rattle.orc_paths.specs.Taking.{taker, AreOutwards}
+use Rattle.orc_paths.specs.Taking.{taker}
+use Rattle.orc_tables.specs.Steps.{AreOutwards}
 use Rattle.orc_tables.specs.declared.records.Entered.TheVariants.{Feed, Aid, Try}
 use Rattle.orc_tables.specs.declared.records.Step.{Step}
 use Rattle.orc_paths.proofs.Growth.{path-unfold, path-none}

@@ -8,7 +8,6 @@ use Rattle.orc_rules.specs.Term.{Term, stop, param, site, call, par, seq, prune,
 use Rattle.orc_rules.specs.Idle.{has_void}
 use Rattle.orc_paths.specs.Spelling.{Path, whole, feeding, aiding, trying}
 use Rattle.orc_paths.specs.Doing.{taken, what_site, what_by}
-use Rattle.orc_paths.specs.declared.what.What.TheVariants.{Void}
 use Rattle.orc_paths.proofs.Kept.{fill_path}
 
 -- what takes a value doesn't depend on what the names stand for, nor on what has been left

@@ -1,5 +1,5 @@
 -- The path of each step: what is round a token that took it last.
-use Rattle.std.specs.Prelude.{ℕ, ◌+◌, List, [], ◌∷◌, ◌++◌, Bool, false, cond, nat_eq, nat_lt, not, ◌&&◌, ◌||◌, slice_index_or}
+use Rattle.std.specs.Prelude.{ℕ, List, [], ◌∷◌, ◌++◌, Bool, false, cond, nat_eq, nat_lt, not, ◌&&◌, ◌||◌, slice_index_or, Option, Some, None}
 use Rattle.orc_rules.specs.declared.param.Param.TheVariants.{Is}
 use Rattle.orc_rules.specs.Term.{Term, param}
 use Rattle.orc_names.specs.Scopes.{Env, close, without}
@@ -36,6 +36,11 @@ abbrev pub is_number : ℕ → Entered → Bool
 is_number n (Feed x g scope) = false
 is_number n (Aid c) = false
 is_number n (Try m) = nat_eq n m
+
+-- this step enters otherwise n, and a publication has left it there
+abbrev pub is_left : ℕ → Option Step → Bool
+is_left n (Some s) = s.published && is_number n s.entered
+is_left n None = false
 
 -- a publication has left otherwise n
 abbrev pub has_left : List Step → ℕ → Bool

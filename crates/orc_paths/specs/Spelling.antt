@@ -1,5 +1,5 @@
 -- What a marked term has: its tokens, its pending calls and its open sides, each with its path.
-use Rattle.std.specs.Prelude.{ℕ, ◌+◌, List, [], ◌∷◌, ◌++◌, Bool, true, false, cond, nat_eq}
+use Rattle.std.specs.Prelude.{ℕ, List, [], ◌∷◌, ◌++◌, Bool, true, false, cond, nat_eq}
 use Rattle.orc_rules.specs.Term.{Term}
 use Rattle.orc_rules.specs.Marked.{Marked, ended, token, in_call, in_par, in_seq, in_opened, in_other}
 

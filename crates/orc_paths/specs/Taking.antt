@@ -1,5 +1,5 @@
 -- What takes a publication.
-use Rattle.std.specs.Prelude.{ℕ, ◌≡◌, ◌≤◌, List, [], ◌∷◌, Bool, true, false, cond, nat_eq, map, zero, suc, Option, Some, None, slice_get}
+use Rattle.std.specs.Prelude.{ℕ, ◌≡◌, List, [], ◌∷◌, Bool, true, false, cond, nat_eq, map, zero, suc, Option, Some, None, slice_get}
 use Rattle.orc_rules.specs.Term.{Term}
 use Rattle.orc_paths.specs.Spelling.{Path, whole, feeding, aiding, trying, seen}
 use Rattle.orc_paths.specs.Paths.{has_left, path}
@@ -21,9 +21,6 @@ taker (trying n p) = taker p
 abbrev pub crossed : Path → List ℕ
 crossed (trying n p) = n ∷ crossed p
 crossed _ = []
-
-abbrev pub AreOutwards : List Step → Type 0
-AreOutwards steps = (k : ℕ) (p : Step) → slice_get steps k ≡ Some p → p.outer ≤ k
 
 abbrev pub Takes : (ℕ → Term) → (ℕ → Env) → (ℕ → Bool) → List Step → ℕ → Taker → Type 0
 Takes code env left steps from by.Whole = taker (seen left (path code env steps from)) ≡ whole

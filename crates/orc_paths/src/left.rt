@@ -2,11 +2,11 @@
 
 ghost use Rattle.std.specs.Prelude.{◌≡◌, ◌≤◌, false, Some, IfSome, IfNone};
 ghost use Rattle.orc_tables.specs.Same.{weight};
-ghost use Rattle.orc_paths.specs.Paths.{is_number, has_left, tries};
+ghost use Rattle.orc_paths.specs.Paths.{is_number, is_left, has_left, tries};
 ghost use Rattle.orc_tables.specs.Steps.{step_at};
 ghost use Rattle.orc_tables.specs.declared.records.Step.{Step as Entering};
 
-use orc_tables::{Entered, Step, step_at};
+use orc_tables::{Entered, Steps};
 
 fn is_number(entered: Entered, number: u64) -> bool
     ensures { result ≡ is_number number entered }
@@ -18,12 +18,12 @@ fn is_number(entered: Entered, number: u64) -> bool
 }
 
 /// Whether a publication has left an otherwise, if this is the step that enters it.
-pub fn left_at(steps: &Vec<Step>, step: usize, number: u64) -> Option<bool>
+pub fn left_at(steps: &Steps, step: usize, number: u64) -> Option<bool>
     requires { weight (tries number) steps.now.items ≤ 1 }
     ensures left { IfSome result (λ left. left ≡ has_left steps.now.items number) }
     ensures other { IfNone result ((p : Entering) → step_at steps.now.items step ≡ Some p → is_number number p.entered ≡ false) }
 {
-    let step = step_at(steps, step)?;
+    let step = steps.at(step)?;
     if is_number(step.entered, number) {
         Some(step.published)
     } else {
@@ -31,14 +31,23 @@ pub fn left_at(steps: &Vec<Step>, step: usize, number: u64) -> Option<bool>
     }
 }
 
+// Whether this step enters the otherwise, and a publication has left it there.
+fn is_left(steps: &Steps, step: usize, number: u64) -> bool
+    ensures { result ≡ is_left number (step_at steps.now.items step) }
+{
+    match steps.at(step) {
+        Some(step) => step.published && is_number(step.entered, number),
+        None => false,
+    }
+}
+
 /// Whether a publication has left an otherwise. It looks at each step.
-pub fn has_left(steps: &Vec<Step>, number: u64) -> bool
+pub fn has_left(steps: &Steps, number: u64) -> bool
     ensures { result ≡ has_left steps.now.items number }
 {
     let mut at = 0;
     while at < steps.len() {
-        let step = steps[at];
-        if step.published && is_number(step.entered, number) {
+        if is_left(steps, at + 1, number) {
             return true;
         }
         at += 1;

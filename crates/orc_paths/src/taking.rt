@@ -5,9 +5,10 @@ ghost use Rattle.orc_rules.specs.Term.{Term};
 ghost use Rattle.orc_names.specs.Scopes.{Env};
 ghost use Rattle.orc_paths.specs.Paths.{path, has_left};
 ghost use Rattle.orc_paths.specs.Spelling.{seen};
-ghost use Rattle.orc_paths.specs.Taking.{GoesTo, IsOnWay, IsEntered, AreOutwards, crossed, Publishes};
+ghost use Rattle.orc_paths.specs.Taking.{GoesTo, IsOnWay, IsEntered, crossed, Publishes};
+ghost use Rattle.orc_tables.specs.Steps.{AreOutwards};
 
-use orc_tables::{Entered, Step};
+use orc_tables::{Entered, Steps};
 
 /// What takes a publication: nothing; a `>x>`, with its name, the node and scope of its right side and the step round it; the right side of
 /// a cell, with the step round it.
@@ -19,40 +20,29 @@ pub enum Taker {
 }
 
 /// What takes a publication from a step.
-pub fn find_taker(steps: &[Step], from: usize) -> Taker
-    requires within { from ≤ length steps.now }
-    requires outwards { AreOutwards steps.now }
-    ensures takes { GoesTo steps.now from result }
-    ensures way { IsOnWay steps.now from result }
-    ensures entered { IsEntered steps.now result }
+pub fn find_taker(steps: &Steps, from: usize) -> Taker
+    requires within { from ≤ length steps.now.items }
+    requires outwards { AreOutwards steps.now.items }
+    ensures takes { GoesTo steps.now.items from result }
+    ensures way { IsOnWay steps.now.items from result }
+    ensures entered { IsEntered steps.now.items result }
 {
-    let mut at = from;
-    while at != 0 {
-        let step = steps[at - 1];
-        match step.entered {
-            Entered::Feed(name, node, scope) => return Taker::Feed(name, node, scope, step.outer),
-            Entered::Aid(cell) => return Taker::Aid(cell, step.outer),
-            Entered::Try(_) => at = step.outer,
-        }
+    match steps.at(steps.taker(from)) {
+        Some(step) => match step.entered {
+            Entered::Feed(name, node, scope) => Taker::Feed(name, node, scope, step.outer),
+            Entered::Aid(cell) => Taker::Aid(cell, step.outer),
+            // No step that takes a publication enters an otherwise.
+            Entered::Try(_) => Taker::Whole,
+        },
+        None => Taker::Whole,
     }
-    Taker::Whole
 }
 
 /// The otherwises that a publication from a step leaves get their marks.
-pub fn leave_others(steps: &mut Vec<Step>, from: usize)
+pub fn leave_others(steps: &mut Steps, from: usize)
     requires within { from ≤ length steps.old.items }
     requires outwards { AreOutwards steps.old.items }
     ensures { (code : ℕ → Term) (env : ℕ → Env) → Publishes (crossed (seen (has_left steps.old.items) (path code env steps.old.items from))) steps.old.items steps.new.items }
 {
-    let mut at = from;
-    while at != 0 {
-        let step = &mut steps[at - 1];
-        match step.entered {
-            Entered::Try(_) => {
-                step.published = true;
-                at = step.outer;
-            }
-            _ => return,
-        }
-    }
+    steps.leave(from);
 }

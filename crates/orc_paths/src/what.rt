@@ -7,7 +7,7 @@ ghost use Rattle.orc_names.specs.Scopes.{Env, env_of, close, close_param};
 ghost use Rattle.orc_names.specs.Names.{AreOrdered};
 ghost use Rattle.orc_paths.specs.Spelling.{seen};
 ghost use Rattle.orc_paths.specs.Paths.{path, has_left};
-ghost use Rattle.orc_paths.specs.Taking.{AreOutwards};
+ghost use Rattle.orc_tables.specs.Steps.{AreOutwards};
 ghost use Rattle.orc_paths.specs.Doing.{taken, of_param, what_by, scan, closed};
 
 use crate::taking::{Taker, find_taker};
@@ -15,7 +15,7 @@ use orc_graph::{Graph, Node};
 use orc_names::{Bound, Scope, meaning};
 use orc_rules::param::Operand;
 use orc_rules::value::Value;
-use orc_tables::Step;
+use orc_tables::Steps;
 
 /// What a token can do next: a move of marks, an entry of its own, or to wait for a cell (0: for nothing that ever comes).
 #[derive(Clone, Copy)]
@@ -35,9 +35,9 @@ pub enum What {
 }
 
 /// What a token does that publishes this value from a step, by what takes it; past the last step nothing does.
-pub fn taken_from(steps: &[Step], from: usize, value: Value) -> What
-    requires { AreOutwards steps.now }
-    ensures { (code : ℕ → Term) (env : ℕ → Env) (left : ℕ → Bool) → result ≡ taken value (seen left (path code env steps.now from)) }
+pub fn taken_from(steps: &Steps, from: usize, value: Value) -> What
+    requires { AreOutwards steps.now.items }
+    ensures { (code : ℕ → Term) (env : ℕ → Env) (left : ℕ → Bool) → result ≡ taken value (seen left (path code env steps.now.items from)) }
 {
     if from > steps.len() {
         return What::Publish(value);
@@ -84,14 +84,14 @@ pub fn call_with(
 fn stand_on(
     scopes: &[Scope],
     cells: &[Bound],
-    steps: &[Step],
+    steps: &Steps,
     operand: Operand,
     scope: usize,
     from: usize,
 ) -> What
     requires ordered { AreOrdered scopes.now }
-    requires outwards { AreOutwards steps.now }
-    ensures { (code : ℕ → Term) (env : ℕ → Env) (left : ℕ → Bool) → result ≡ of_param (seen left (path code env steps.now from)) (close_param (env_of cells.now scopes.now scope) (param_of operand)) }
+    requires outwards { AreOutwards steps.now.items }
+    ensures { (code : ℕ → Term) (env : ℕ → Env) (left : ℕ → Bool) → result ≡ of_param (seen left (path code env steps.now.items from)) (close_param (env_of cells.now scopes.now scope) (param_of operand)) }
 {
     match meaning(scopes, cells, operand, scope) {
         Some(Bound::Is(value)) => taken_from(steps, from, value),
@@ -106,14 +106,14 @@ pub fn stand_at(
     graph: &Graph,
     scopes: &[Scope],
     cells: &[Bound],
-    steps: &[Step],
+    steps: &Steps,
     node: usize,
     scope: usize,
     from: usize,
 ) -> What
     requires ordered { AreOrdered scopes.now }
-    requires outwards { AreOutwards steps.now }
-    ensures { result ≡ what_by (definitions graph.now) (seen (has_left steps.now) (path (code graph.now) (env_of cells.now scopes.now) steps.now from)) (close (env_of cells.now scopes.now scope) (code graph.now node)) }
+    requires outwards { AreOutwards steps.now.items }
+    ensures { result ≡ what_by (definitions graph.now) (seen (has_left steps.now.items) (path (code graph.now) (env_of cells.now scopes.now) steps.now.items from)) (close (env_of cells.now scopes.now scope) (code graph.now node)) }
 {
     match graph.node(node) {
         Node::Stop => What::Halt,

@@ -16,13 +16,12 @@ use Rattle.orc_names.specs.declared.names.Bound.{Bound}
 use Rattle.orc_names.specs.Scopes.{Env}
 use Rattle.orc_tables.specs.Same.{weight, only, but, is_this}
 use Rattle.orc_paths.specs.Spelling.{inside, whole}
-use Rattle.orc_paths.specs.Taking.{AreOutwards}
 use Rattle.orc_records.specs.Records.{Records, Lawful, its_env, raw_path, side_out, token_out, call_out, group_out, token_row}
 use Rattle.orc_paths.specs.Paths.{path, inwards, is_out}
 use Rattle.orc_records.specs.Calls.{Drops, AreCancelled, token_goes, call_goes, group_goes, is_inside}
 use Rattle.orc_tables.specs.PendingCalls.{has_number}
 use Rattle.orc_tables.specs.Inside.{aids, is_on, is_among, stands_inside, side_inside, numbers_inside}
-use Rattle.orc_tables.specs.Steps.{step_at}
+use Rattle.orc_tables.specs.Steps.{step_at, AreOutwards}
 use Rattle.orc_tables.specs.declared.records.Token.{Token}
 use Rattle.orc_tables.specs.declared.records.Call.{Call}
 use Rattle.orc_tables.specs.declared.records.Entered.{Entered}

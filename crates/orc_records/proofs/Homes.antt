@@ -5,7 +5,7 @@ use Rattle.orc_rules.specs.Term.{Term}
 use Rattle.orc_names.specs.Scopes.{Env}
 use Rattle.orc_paths.specs.Spelling.{Path, inside}
 use Rattle.orc_paths.specs.Paths.{path, inwards}
-use Rattle.orc_paths.specs.Taking.{AreOutwards}
+use Rattle.orc_tables.specs.Steps.{AreOutwards}
 use Rattle.orc_records.specs.Homes.{home, home_by, AreHomes, Nest, AreNests, IsSubtree}
 use Rattle.orc_tables.specs.Inside.{aids}
 use Rattle.orc_tables.specs.declared.records.Entered.{Entered}

@@ -8,4 +8,5 @@ pub mod Notes
 pub mod Placed
 pub mod Ripe
 pub mod Slots
+pub mod Takers
 pub mod Weight

@@ -1,6 +1,18 @@
--- Steps inwards, and the group and the depth of a token that took one last.
-use Rattle.std.specs.Prelude.{ℕ, zero, suc, List, Option, Some, None, slice_get}
+-- Steps inwards: the group and the depth of a token that took one last, what takes its publications, and which otherwises these leave.
+use Rattle.std.specs.Prelude.{◌≡◌, ◌≤◌, ◌<◌, ℕ, zero, suc, List, Bool, true, false, cond, Option, Some, None, slice_get, slice_set, length}
+use Rattle.orc_tables.specs.declared.records.Entered.{Entered}
+use Rattle.orc_tables.specs.declared.records.Entered.TheVariants.{Feed, Aid, Try}
 use Rattle.orc_tables.specs.declared.records.Step.{Step}
+
+-- what callers see of a table of steps: the steps, and room for so many more
+pub record StepTable : Type 0 where
+  pub items : List Step
+  pub room : ℕ
+  pub taker_room : ℕ
+
+-- there is room for one more
+abbrev pub HasRoom : StepTable → Type 0
+HasRoom s = (1 ≤ s.room) × (1 ≤ s.taker_room)
 
 -- step i; there is no step 0
 abbrev pub step_at : List Step → ℕ → Option Step
@@ -23,3 +35,63 @@ group_at ss (suc k) = group_of (slice_get ss k)
 abbrev pub depth_at : List Step → ℕ → ℕ
 depth_at ss zero = 0
 depth_at ss (suc k) = depth_of (slice_get ss k)
+
+-- each step comes after the one round it
+abbrev pub AreOutwards : List Step → Type 0
+AreOutwards steps = (k : ℕ) (p : Step) → slice_get steps k ≡ Some p → p.outer ≤ k
+
+-- ---- what takes a publication
+abbrev pub is_try : Entered → Bool
+is_try (Feed x g scope) = false
+is_try (Aid c) = false
+is_try (Try n) = true
+
+abbrev pub past_try : (ℕ → ℕ) → ℕ → Option Step → ℕ
+past_try outwards i None = i
+past_try outwards i (Some p) = cond (is_try p.entered) (outwards p.outer) i
+
+-- the nearest step that is no otherwise, past at most so many, from step i on outwards
+abbrev pub taker_among : ℕ → List Step → ℕ → ℕ
+taker_among zero ss i = i
+taker_among (suc n) ss i = past_try (λ j. taker_among n ss j) i (step_at ss i)
+
+abbrev pub taker_at : List Step → ℕ → ℕ
+taker_at ss i = taker_among i ss i
+
+-- ---- which otherwises a publication leaves
+abbrev pub marked : Step → Step
+marked p = record { entered = p.entered; outer = p.outer; group = p.group; depth = p.depth; published = true }
+
+-- step i gets its mark
+abbrev pub mark_at : List Step → ℕ → Step → List Step
+mark_at ss zero p = ss
+mark_at ss (suc k) p = slice_set ss k (marked p)
+
+abbrev pub past_left : (List Step → ℕ → List Step) → List Step → ℕ → Option Step → List Step
+past_left outwards ss i None = ss
+past_left outwards ss i (Some p) = cond (is_try p.entered) (outwards (mark_at ss i p) p.outer) ss
+
+-- so many otherwises at most, from step i on outwards, get their marks
+abbrev pub left_among : ℕ → List Step → ℕ → List Step
+left_among zero ss i = ss
+left_among (suc n) ss i = past_left (λ rest j. left_among n rest j) ss i (step_at ss i)
+
+-- the steps once a publication has gone from step i to what takes it
+abbrev pub left_from : List Step → ℕ → List Step
+left_from ss i = left_among i ss i
+
+-- ---- what a table of steps keeps
+-- step i isn't an otherwise without its mark
+abbrev pub IsMarked : List Step → ℕ → Type 0
+IsMarked ss i = (p : Step) → step_at ss i ≡ Some p → is_try p.entered ≡ true → p.published ≡ true
+
+-- round an otherwise that has its mark stands none without
+abbrev pub AreMarked : List Step → Type 0
+AreMarked ss = (k : ℕ) (p : Step) → slice_get ss k ≡ Some p → is_try p.entered ≡ true → p.published ≡ true → IsMarked ss p.outer
+
+-- the taker of each step is noted
+pub record AreLinked (ss : List Step) (takers : List ℕ) : Type 0 where
+  pub outwards : AreOutwards ss
+  pub count : length takers ≡ length ss
+  pub noted : (k : ℕ) → k < length ss → slice_get takers k ≡ Some (taker_at ss (suc k))
+  pub marks : AreMarked ss

@@ -20,5 +20,5 @@ pub use leaving::{leave_calls, leave_groups, leave_tokens, list_side, side_group
 pub use memory::{push_within, reserve};
 pub use pending::Pending;
 pub use records::{Call, Entered, Group, Side, Standing, Step, Token};
-pub use steps::{depth_at, group_at, step_at};
+pub use steps::Steps;
 pub use tokens::Tokens;

@@ -17,8 +17,8 @@ use crate::chains::Chains;
 use crate::dues::Dues;
 use crate::groups::Groups;
 use crate::memory::push_within;
-use crate::records::{Call, Step};
-use crate::steps::{group_at, is_inside};
+use crate::records::Call;
+use crate::steps::Steps;
 use orc_calls::due_time;
 use std::alloc::{AllocError, Global};
 use std::marker::Model;
@@ -167,7 +167,7 @@ fn drop_inside(
     dues: &mut Dues,
     chains: &mut Chains,
     groups: &mut Groups,
-    steps: &Vec<Step>,
+    steps: &Steps,
     cell: u64,
 )
     requires placed { ArePlaced items.old.items places.old.items }
@@ -182,10 +182,10 @@ fn drop_inside(
     let mut i = 0;
     while i < items.len() {
         let step = items[i].step;
-        if is_inside(steps, step, cell) {
+        if steps.is_inside(step, cell) {
             let gone = remove_at(items, places, chains, i);
             forget(dues, gone);
-            groups.leave(group_at(steps, gone.step));
+            groups.leave(steps.group_at(gone.step));
         } else {
             i += 1;
         }
@@ -385,7 +385,7 @@ impl Pending {
     }
 
     /// The calls inside the right side of a cell go, and leave their groups.
-    pub(crate) fn drop_inside(&mut self, groups: &mut Groups, steps: &Vec<Step>, cell: u64)
+    pub(crate) fn drop_inside(&mut self, groups: &mut Groups, steps: &Steps, cell: u64)
         ensures made { self.new.made ≡ self.old.made }
         ensures rest { (w : Its → ℕ) → weight w self.new.items ≡ weight (but (λ (k : Its). stands_inside cell steps.now.items k.step) w) self.old.items }
         ensures groups { groups.new.items ≡ groups.old.items }
@@ -406,7 +406,7 @@ impl Pending {
     pub(crate) fn drop_listed(
         &mut self,
         groups: &mut Groups,
-        steps: &Vec<Step>,
+        steps: &Steps,
         cell: u64,
         numbers: &Vec<u64>,
     )
@@ -418,7 +418,7 @@ impl Pending {
     {
         for number in numbers {
             if let Some(gone) = self.take(*number) {
-                groups.leave(group_at(steps, gone.step));
+                groups.leave(steps.group_at(gone.step));
             }
         }
     }

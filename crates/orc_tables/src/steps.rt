@@ -1,47 +1,42 @@
-//! Steps inwards: the group and the depth of a token that took one last, and whether it stands inside the right side of a cell.
+//! Steps inwards: the group and the depth of a token that took one last, what takes its publications, and whether it stands inside the right side
+//! of a cell.
 
-ghost use Rattle.std.specs.Prelude.{◌≡◌};
-ghost use Rattle.orc_tables.specs.Steps.{step_at, group_at, depth_at};
+ghost use Rattle.std.specs.Prelude.{◌≡◌, ◌≤◌, ◌<◌, ◌^◌, ◌++◌, ◌∷◌, [], false, length, OnOk};
+ghost use Rattle.orc_tables.specs.Steps.{step_at, group_at, depth_at, taker_at, left_from, HasRoom};
 ghost use Rattle.orc_tables.specs.Inside.{aids, stands_inside, side_inside};
 
+use crate::memory::{push_within, reserve};
 use crate::records::{Entered, Side, Step};
+use std::alloc::{AllocError, Global};
+use std::marker::Model;
 
-/// The group of a token that took this step last.
-#[inline(always)]
-pub fn group_at(steps: &Vec<Step>, step: usize) -> u32
-    ensures { result ≡ group_at steps.now.items step }
-{
-    if step == 0 {
-        return 0;
-    }
-    match steps.get(step - 1) {
-        Some(last) => last.group,
-        None => 0,
-    }
+/// The steps of a run, from 1 on; 0 is the program. What takes a publication from a step is known at once, and an otherwise that a publication has
+/// left isn't passed again, however many are round a token.
+#[derive(Drop)]
+pub struct Steps {
+    items: Vec<Step>,
+    // Of each step the nearest, from it on outwards, that is no otherwise; 0 where there is none.
+    takers: Vec<usize>,
 }
 
-/// How many left sides of a `>x>` are round such a token, out to the innermost right side of a cell.
-#[inline(always)]
-pub fn depth_at(steps: &Vec<Step>, step: usize) -> u32
-    ensures { result ≡ depth_at steps.now.items step }
-{
-    if step == 0 {
-        return 0;
-    }
-    match steps.get(step - 1) {
-        Some(last) => last.depth,
-        None => 0,
-    }
+impl Model for Steps {
+    ghost use Rattle.std.specs.Prelude.{◌-◌, vec_len, vec_capacity};
+    ghost use Rattle.orc_tables.specs.Steps.{StepTable, AreLinked};
+
+    ghost Value = { StepTable };
+
+    ghost view = { λ s. record { items = s.items.items; room = vec_capacity s.items - vec_len s.items; taker_room = vec_capacity s.takers - vec_len s.takers } };
+
+    ghost invariant = { λ s. AreLinked s.items.items s.takers.items };
 }
 
-/// The step with this number; there is no step 0.
-pub fn step_at(steps: &Vec<Step>, step: usize) -> Option<Step>
-    ensures { result ≡ step_at steps.now.items step }
+fn is_try(entered: Entered) -> bool
+    ensures { result ≡ Rattle.orc_tables.specs.Steps.is_try entered }
 {
-    if step == 0 {
-        return None;
+    match entered {
+        Entered::Try(_) => true,
+        _ => false,
     }
-    steps.get(step - 1).copied()
 }
 
 fn is_aid(entered: Entered, cell: u64) -> bool
@@ -53,32 +48,148 @@ fn is_aid(entered: Entered, cell: u64) -> bool
     }
 }
 
-// Whether a step is inside the right side of a cell.
-pub(crate) fn is_inside(steps: &Vec<Step>, from: usize, cell: u64) -> bool
-    ensures { result ≡ stands_inside cell steps.now.items from }
-{
-    let mut at = from;
-    let mut left = from;
-    while left > 0 {
-        let step = match step_at(steps, at) {
-            Some(step) => step,
-            None => return false,
-        };
-        if is_aid(step.entered, cell) {
-            return true;
+impl Steps {
+    /// No steps.
+    pub fn new(alloc: Global) -> Steps
+        ensures { result.items ≡ [] }
+    {
+        Steps {
+            items: Vec::new(alloc),
+            takers: Vec::new(alloc),
         }
-        at = step.outer;
-        left -= 1;
     }
-    false
-}
 
-// Whether a side is, that side's own included.
-pub(crate) fn is_side_inside(steps: &Vec<Step>, outer: usize, side: Side, cell: u64) -> bool
-    ensures { result ≡ side_inside cell steps.now.items outer side }
-{
-    match side {
-        Side::Right(other) => cell == other || is_inside(steps, outer, cell),
-        Side::Left(_, _, _) => is_inside(steps, outer, cell),
+    /// How many steps there are.
+    pub fn len(&self) -> usize
+        ensures count { result ≡ length self.now.items }
+        ensures fits { result < 2 ^ 63 }
+    {
+        self.items.len()
+    }
+
+    /// The step with this number; there is no step 0.
+    #[inline(always)]
+    pub fn at(&self, step: usize) -> Option<Step>
+        ensures { result ≡ step_at self.now.items step }
+    {
+        if step == 0 {
+            return None;
+        }
+        self.items.get(step - 1).copied()
+    }
+
+    /// The group of a token that took this step last.
+    #[inline(always)]
+    pub fn group_at(&self, step: usize) -> u32
+        ensures { result ≡ group_at self.now.items step }
+    {
+        if step == 0 {
+            return 0;
+        }
+        match self.items.get(step - 1) {
+            Some(last) => last.group,
+            None => 0,
+        }
+    }
+
+    /// How many left sides of a `>x>` are round such a token, out to the innermost right side of a cell.
+    #[inline(always)]
+    pub fn depth_at(&self, step: usize) -> u32
+        ensures { result ≡ depth_at self.now.items step }
+    {
+        if step == 0 {
+            return 0;
+        }
+        match self.items.get(step - 1) {
+            Some(last) => last.depth,
+            None => 0,
+        }
+    }
+
+    /// The nearest step, from this one on outwards, that is no otherwise, and so takes a publication from it; 0 where there is none.
+    #[inline(always)]
+    pub fn taker(&self, from: usize) -> usize
+        requires { from ≤ length self.now.items }
+        ensures { result ≡ taker_at self.now.items from }
+    {
+        if from == 0 {
+            return 0;
+        }
+        self.takers[from - 1]
+    }
+
+    /// Makes room for one more step. The error is refused memory.
+    #[inline(always)]
+    pub fn reserve(&mut self) -> Result<(), AllocError>
+        ensures items { self.new.items ≡ self.old.items }
+        ensures room { OnOk result (HasRoom self.new) }
+    {
+        reserve(&mut self.items)?;
+        reserve(&mut self.takers)
+    }
+
+    /// One more step, which no publication has left, where there is room.
+    #[inline(always)]
+    pub fn push(&mut self, step: Step)
+        requires room { HasRoom self.old }
+        requires within { step.outer ≤ length self.old.items }
+        requires unmarked { step.published ≡ false }
+        ensures items { self.new.items ≡ self.old.items ++ step ∷ [] }
+    {
+        let taker = if is_try(step.entered) {
+            self.taker(step.outer)
+        } else {
+            self.items.len() + 1
+        };
+        push_within(&mut self.takers, taker);
+        push_within(&mut self.items, step);
+    }
+
+    /// A publication goes outwards from a step to what takes it: the otherwises on its way get their marks. It passes no otherwise that has its
+    /// mark, since those round it have theirs.
+    pub fn leave(&mut self, from: usize)
+        requires { from ≤ length self.old.items }
+        ensures { self.new.items ≡ left_from self.old.items from }
+    {
+        let mut at = from;
+        while at != 0 {
+            let mut step = self.items[at - 1];
+            if !is_try(step.entered) || step.published {
+                return;
+            }
+            step.published = true;
+            self.items[at - 1] = step;
+            at = step.outer;
+        }
+    }
+
+    // Whether a step is inside the right side of a cell.
+    pub(crate) fn is_inside(&self, from: usize, cell: u64) -> bool
+        ensures { result ≡ stands_inside cell self.now.items from }
+    {
+        let mut at = from;
+        let mut left = from;
+        while left > 0 {
+            let last = match self.at(at) {
+                Some(last) => last,
+                None => return false,
+            };
+            if is_aid(last.entered, cell) {
+                return true;
+            }
+            at = last.outer;
+            left -= 1;
+        }
+        false
+    }
+
+    // Whether a side is, that side's own included.
+    pub(crate) fn is_side_inside(&self, outer: usize, side: Side, cell: u64) -> bool
+        ensures { result ≡ side_inside cell self.now.items outer side }
+    {
+        match side {
+            Side::Right(other) => cell == other || self.is_inside(outer, cell),
+            Side::Left(_, _, _) => self.is_inside(outer, cell),
+        }
     }
 }

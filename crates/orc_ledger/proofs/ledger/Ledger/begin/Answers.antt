@@ -45,7 +45,7 @@ invariant_of-result g c =
           subst (λ n. Kept l sites n sizes (record { limit = a.limit; journal = c.new.result.entries; entries = 0; next_mark = 2; now = 0; made = c.in_ok-calls.calls.made; tokens = live c.in_ok-tokens.tokens.items; slots = c.in_ok-tokens.tokens.items; calls = c.in_ok-calls.calls.items; scopes = c.new-3.result.items; steps = c.new-4.result.items; groups = c.join.new.self.items; cells = c.push_within.new.items.items }))
           (sym c.new-2.ensures)
           (subst (Kept l sites [] sizes) (same a.limit a.root c.in_ok-calls.calls.made c.new.result.entries c.in_ok-tokens.tokens.items c.in_ok-calls.calls.items c.new-3.result.items c.new-4.result.items c.join.new.self.items c.push_within.new.items.items
-          c.in_ok-calls.ensures.made (ap (λ z. z.entries) c.new.ensures) c.in_ok-tokens.ensures.items c.in_ok-calls.ensures.items c.new-3.ensures.items c.new-4.ensures.items (c.join.ensures.items ∙ c.in_ok-groups.ensures.items) cells)
+          c.in_ok-calls.ensures.made (ap (λ z. z.entries) c.new.ensures) c.in_ok-tokens.ensures.items c.in_ok-calls.ensures.items c.new-3.ensures.items c.new-4.ensures (c.join.ensures.items ∙ c.in_ok-groups.ensures.items) cells)
           (subst (λ z. Kept l sites [] sizes (begun a.limit z)) (sym c.requires.root) kept));
       rest = λ k t h. absurd (cc (sym (ap (λ (q : Parked). is_set q.flags k) c.in_ok-tokens.ensures.parked) ∙ h.1));
       version = ap (λ j. j.version) c.new.ensures;

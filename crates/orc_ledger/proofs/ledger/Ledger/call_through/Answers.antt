@@ -29,6 +29,11 @@ replace-requires-clause-serial g c =
     let s : Records = record { limit = b.limit; journal = b.journal.entries; entries = b.entries; next_mark = b.next_mark; now = b.time; made = b.calls.made; tokens = live b.tokens.items; slots = b.tokens.items; calls = b.calls.items; scopes = b.scopes.items; steps = b.steps.items; groups = b.groups.items; cells = b.cells.items } in
     from_one g.P.Program.listing g.P.Program.sites s c.self.invariant.kept.lawful
 
+pub replace-requires-clause-held : goal.replace-requires-clause-held
+replace-requires-clause-held g c =
+    let held : (t : Token) × IsHeld c.self.inside.tokens.items c.args.slot t = (c.args.token, rw (← c.self.view_is) at c.requires.held) in
+    held
+
 pub remove-requires : goal.remove-requires
 remove-requires g c =
     let held : (t : Token) × IsHeld c.self.inside.tokens.items c.args.slot t = (c.args.token, rw (← c.self.view_is) at c.requires.held) in

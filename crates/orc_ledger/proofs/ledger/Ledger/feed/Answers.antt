@@ -22,6 +22,7 @@ use Rattle.orc_tables.specs.Same.{is_this}
 use Rattle.orc_records.proofs.Nests.{group-end}
 use Rattle.orc_records.proofs.Sizes.{turned-members}
 use Rattle.orc_records.proofs.Brought.{turned-deep}
+use Rattle.orc_records.proofs.Advancing.{step-within}
 use Rattle.orc_ledger.proofs.ledger.Ledger.feed.Goals as goal
 
 pub invariant_of-self-2 : goal.invariant_of-self-2
@@ -37,13 +38,13 @@ invariant_of-self-2 g c =
     let held : IsHeld s.slots a.slot a.token = rw (← c.self.view_is) at c.requires.held in
     let i : IsIn a.token s.tokens = live-in s.slots a.slot a.token held in
     let room : s.entries < s.limit = rw (← c.self.view_is) at c.in_ok-within.ensures.room in
-    let s' : Records = record { limit = b.limit; journal = c.write.new.journal.entries; entries = b.entries + 1; next_mark = b.next_mark + 1; now = b.time; made = b.calls.made; tokens = live c.replace.new.self.items; slots = c.replace.new.self.items; calls = b.calls.items; scopes = b.scopes.items; steps = c.push_within.new.items.items; groups = b.groups.items; cells = b.cells.items } in
+    let s' : Records = record { limit = b.limit; journal = c.write.new.journal.entries; entries = b.entries + 1; next_mark = b.next_mark + 1; now = b.time; made = b.calls.made; tokens = live c.replace.new.self.items; slots = c.replace.new.self.items; calls = b.calls.items; scopes = b.scopes.items; steps = c.push.new.self.items; groups = b.groups.items; cells = b.cells.items } in
     let journal : s'.journal ≡ s.journal ++ Seq a.token.serial b.next_mark ∷ [] = ap (λ j. j.entries) c.in_ok-write.ensures.added in
     let step : Step = record { entered = Feed a.name a.right a.scope; outer = a.token.step; group = group_at s.steps a.token.step; depth = depth_at s.steps a.token.step + 1; published = false } in
     let made : Step = record { entered = Feed a.name a.right a.scope; outer = a.token.step; group = c.group_at-group.result; depth = c.depth_at-depth.result + 1; published = false } in
     let same : made ≡ step = λ i. record { entered = Feed a.name a.right a.scope; outer = a.token.step; group = c.group_at-group.ensures i; depth = c.depth_at-depth.ensures i + 1; published = false } in
-    let steps : c.push_within.new.items.items ≡ s.steps ++ step ∷ [] = c.push_within.ensures.items ∙ ap (λ (z : List Step). z ++ made ∷ []) c.in_ok-reserve.ensures.items ∙ ap (λ z. s.steps ++ z ∷ []) same in
-    let count : c.len-step.result + 1 ≡ length s.steps + 1 = omega (arith, c.len-step.ensures, ap length c.in_ok-reserve.ensures.items) in
+    let steps : c.push.new.self.items ≡ s.steps ++ step ∷ [] = c.push.ensures.items ∙ ap (λ (z : List Step). z ++ made ∷ []) c.in_ok-reserve.ensures.items ∙ ap (λ z. s.steps ++ z ∷ []) same in
+    let count : c.len-step.result + 1 ≡ length s.steps + 1 = omega (arith, c.len-step.ensures.count, ap length c.in_ok-reserve.ensures.items) in
     let first : Token = born s a.token s.next_mark a.left a.scope (length s.steps + 1) in
     let slots : c.replace.new.self.items ≡ slice_set s.slots a.slot first = c.replace.ensures.items ∙ ap (λ (n : ℕ). slice_set s.slots a.slot (born s a.token s.next_mark a.left a.scope n)) count in
     let tokens : (w : Token → ℕ) → weight w s'.tokens + w a.token ≡ weight w s.tokens + weight w (first ∷ []) = λ w. omega (arith, ap (λ z. weight w (live z)) slots, replaced w s.slots a.slot a.token first held (later_mark l sites s L a.token i)) in
@@ -76,13 +77,13 @@ returns-clause-done g c =
     let held : IsHeld s.slots a.slot a.token = rw (← c.self.view_is) at c.requires.held in
     let i : IsIn a.token s.tokens = live-in s.slots a.slot a.token held in
     let room : s.entries < s.limit = rw (← c.self.view_is) at c.in_ok-within.ensures.room in
-    let s' : Records = record { limit = b.limit; journal = c.write.new.journal.entries; entries = b.entries + 1; next_mark = b.next_mark + 1; now = b.time; made = b.calls.made; tokens = live c.replace.new.self.items; slots = c.replace.new.self.items; calls = b.calls.items; scopes = b.scopes.items; steps = c.push_within.new.items.items; groups = b.groups.items; cells = b.cells.items } in
+    let s' : Records = record { limit = b.limit; journal = c.write.new.journal.entries; entries = b.entries + 1; next_mark = b.next_mark + 1; now = b.time; made = b.calls.made; tokens = live c.replace.new.self.items; slots = c.replace.new.self.items; calls = b.calls.items; scopes = b.scopes.items; steps = c.push.new.self.items; groups = b.groups.items; cells = b.cells.items } in
     let journal : s'.journal ≡ s.journal ++ Seq a.token.serial b.next_mark ∷ [] = ap (λ j. j.entries) c.in_ok-write.ensures.added in
     let step : Step = record { entered = Feed a.name a.right a.scope; outer = a.token.step; group = group_at s.steps a.token.step; depth = depth_at s.steps a.token.step + 1; published = false } in
     let made : Step = record { entered = Feed a.name a.right a.scope; outer = a.token.step; group = c.group_at-group.result; depth = c.depth_at-depth.result + 1; published = false } in
     let same : made ≡ step = λ i. record { entered = Feed a.name a.right a.scope; outer = a.token.step; group = c.group_at-group.ensures i; depth = c.depth_at-depth.ensures i + 1; published = false } in
-    let steps : c.push_within.new.items.items ≡ s.steps ++ step ∷ [] = c.push_within.ensures.items ∙ ap (λ (z : List Step). z ++ made ∷ []) c.in_ok-reserve.ensures.items ∙ ap (λ z. s.steps ++ z ∷ []) same in
-    let count : c.len-step.result + 1 ≡ length s.steps + 1 = omega (arith, c.len-step.ensures, ap length c.in_ok-reserve.ensures.items) in
+    let steps : c.push.new.self.items ≡ s.steps ++ step ∷ [] = c.push.ensures.items ∙ ap (λ (z : List Step). z ++ made ∷ []) c.in_ok-reserve.ensures.items ∙ ap (λ z. s.steps ++ z ∷ []) same in
+    let count : c.len-step.result + 1 ≡ length s.steps + 1 = omega (arith, c.len-step.ensures.count, ap length c.in_ok-reserve.ensures.items) in
     let first : Token = born s a.token s.next_mark a.left a.scope (length s.steps + 1) in
     let slots : c.replace.new.self.items ≡ slice_set s.slots a.slot first = c.replace.ensures.items ∙ ap (λ (n : ℕ). slice_set s.slots a.slot (born s a.token s.next_mark a.left a.scope n)) count in
     let tokens : (w : Token → ℕ) → weight w s'.tokens + w a.token ≡ weight w s.tokens + weight w (first ∷ []) = λ w. omega (arith, ap (λ z. weight w (live z)) slots, replaced w s.slots a.slot a.token first held (later_mark l sites s L a.token i)) in
@@ -115,7 +116,15 @@ returns-clause-left g c =
     let G = c.self.invariant.kept.grouped in
     let held : IsHeld s.slots a.slot a.token = rw (← c.self.view_is) at c.requires.held in
     let i : IsIn a.token s.tokens = live-in s.slots a.slot a.token held in
-    let count : c.len-step.result + 1 ≡ length s.steps + 1 = omega (arith, c.len-step.ensures, ap length c.in_ok-reserve.ensures.items) in
+    let count : c.len-step.result + 1 ≡ length s.steps + 1 = omega (arith, c.len-step.ensures.count, ap length c.in_ok-reserve.ensures.items) in
     let first : Token = born s a.token s.next_mark a.left a.scope (length s.steps + 1) in
     let slots : c.replace.new.self.items ≡ slice_set s.slots a.slot first = c.replace.ensures.items ∙ ap (λ (n : ℕ). slice_set s.slots a.slot (born s a.token s.next_mark a.left a.scope n)) count in
     rw (← c.self.view_is) (ap (λ z. slice_get z a.slot) slots ∙ set-there s.slots a.slot a.token first held.0, later_mark l sites s L a.token i)
+
+pub push-requires-clause-within : goal.push-requires-clause-within
+push-requires-clause-within g c =
+    let b = c.self.inside in
+    let a = c.args in
+    let s : Records = record { limit = b.limit; journal = b.journal.entries; entries = b.entries; next_mark = b.next_mark; now = b.time; made = b.calls.made; tokens = live b.tokens.items; slots = b.tokens.items; calls = b.calls.items; scopes = b.scopes.items; steps = b.steps.items; groups = b.groups.items; cells = b.cells.items } in
+    let held : IsHeld s.slots a.slot a.token = rw (← c.self.view_is) at c.requires.held in
+    omega (arith, step-within s c.self.invariant.kept.lawful.sound a.token (live-in s.slots a.slot a.token held), ap length c.in_ok-reserve.ensures.items)

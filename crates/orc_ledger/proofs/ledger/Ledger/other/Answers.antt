@@ -25,6 +25,7 @@ use Rattle.orc_tables.specs.OpenGroups.{IsOpen, size_of}
 use Rattle.orc_records.proofs.Nests.{group-kept, group-end}
 use Rattle.orc_records.proofs.Sizes.{turned-members, open-new, size-few, kept-still}
 use Rattle.orc_records.proofs.Brought.{turned-deep}
+use Rattle.orc_records.proofs.Advancing.{step-within}
 use Rattle.orc_ledger.proofs.ledger.Ledger.other.Goals as goal
 
 pub invariant_of-self-2 : goal.invariant_of-self-2
@@ -43,16 +44,16 @@ invariant_of-self-2 g c =
     let groups_so : c.reserve-2.new.self.items ≡ s.groups = c.in_ok-reserve-2.ensures.items in
     let free : IsFree s number = (c.open-number.ensures.free.0, subst (None (λ (h : Group). nat_eq number h.number)) groups_so c.open-number.ensures.free.1) in
     let room : s.entries < s.limit = rw (← c.self.view_is) at c.in_ok-within.ensures.room in
-    let s' : Records = record { limit = b.limit; journal = c.write.new.journal.entries; entries = b.entries + 1; next_mark = b.next_mark + 1; now = b.time; made = b.calls.made; tokens = live c.replace.new.self.items; slots = c.replace.new.self.items; calls = b.calls.items; scopes = b.scopes.items; steps = c.push_within.new.items.items; groups = c.join.new.self.items; cells = b.cells.items } in
+    let s' : Records = record { limit = b.limit; journal = c.write.new.journal.entries; entries = b.entries + 1; next_mark = b.next_mark + 1; now = b.time; made = b.calls.made; tokens = live c.replace.new.self.items; slots = c.replace.new.self.items; calls = b.calls.items; scopes = b.scopes.items; steps = c.push.new.self.items; groups = c.join.new.self.items; cells = b.cells.items } in
     let journal : s'.journal ≡ s.journal ++ Other a.token.serial b.next_mark ∷ [] = ap (λ j. j.entries) c.in_ok-write.ensures.added in
     let step : Step = record { entered = Try a.token.serial; outer = a.token.step; group = number; depth = depth_at s.steps a.token.step; published = false } in
     let made : Step = record { entered = Try a.token.serial; outer = a.token.step; group = number; depth = c.depth_at-depth.result; published = false } in
     let deep : c.depth_at-depth.result ≡ depth_at s.steps a.token.step = c.depth_at-depth.ensures ∙ ap (λ z. depth_at z a.token.step) c.in_ok-reserve.ensures.items in
     let same : made ≡ step = λ i. record { entered = Try a.token.serial; outer = a.token.step; group = number; depth = deep i; published = false } in
-    let steps : c.push_within.new.items.items ≡ s.steps ++ step ∷ [] = c.push_within.ensures.items ∙ ap (λ (z : List Step). z ++ made ∷ []) c.in_ok-reserve.ensures.items ∙ ap (λ z. s.steps ++ z ∷ []) same in
+    let steps : c.push.new.self.items ≡ s.steps ++ step ∷ [] = c.push.ensures.items ∙ ap (λ (z : List Step). z ++ made ∷ []) c.in_ok-reserve.ensures.items ∙ ap (λ z. s.steps ++ z ∷ []) same in
     let group : Group = record { side = Left a.token.serial a.right a.scope; outer = a.token.step; number = number } in
     let groups : c.join.new.self.items ≡ s.groups ++ group ∷ [] = c.join.ensures.items ∙ c.open-number.ensures.items ∙ ap (λ (z : List Group). z ++ group ∷ []) groups_so in
-    let count : c.len-step.result + 1 ≡ length s.steps + 1 = omega (arith, c.len-step.ensures, ap length c.in_ok-reserve.ensures.items) in
+    let count : c.len-step.result + 1 ≡ length s.steps + 1 = omega (arith, c.len-step.ensures.count, ap length c.in_ok-reserve.ensures.items) in
     let first : Token = born s a.token s.next_mark a.left a.scope (length s.steps + 1) in
     let slots : c.replace.new.self.items ≡ slice_set s.slots a.slot first = c.replace.ensures.items ∙ ap (λ (n : ℕ). slice_set s.slots a.slot (born s a.token s.next_mark a.left a.scope n)) count in
     let tokens : (w : Token → ℕ) → weight w s'.tokens + w a.token ≡ weight w s.tokens + weight w (first ∷ []) = λ w. omega (arith, ap (λ z. weight w (live z)) slots, replaced w s.slots a.slot a.token first held (later_mark l sites s L a.token i)) in
@@ -88,16 +89,16 @@ returns-clause-done g c =
     let groups_so : c.reserve-2.new.self.items ≡ s.groups = c.in_ok-reserve-2.ensures.items in
     let free : IsFree s number = (c.open-number.ensures.free.0, subst (None (λ (h : Group). nat_eq number h.number)) groups_so c.open-number.ensures.free.1) in
     let room : s.entries < s.limit = rw (← c.self.view_is) at c.in_ok-within.ensures.room in
-    let s' : Records = record { limit = b.limit; journal = c.write.new.journal.entries; entries = b.entries + 1; next_mark = b.next_mark + 1; now = b.time; made = b.calls.made; tokens = live c.replace.new.self.items; slots = c.replace.new.self.items; calls = b.calls.items; scopes = b.scopes.items; steps = c.push_within.new.items.items; groups = c.join.new.self.items; cells = b.cells.items } in
+    let s' : Records = record { limit = b.limit; journal = c.write.new.journal.entries; entries = b.entries + 1; next_mark = b.next_mark + 1; now = b.time; made = b.calls.made; tokens = live c.replace.new.self.items; slots = c.replace.new.self.items; calls = b.calls.items; scopes = b.scopes.items; steps = c.push.new.self.items; groups = c.join.new.self.items; cells = b.cells.items } in
     let journal : s'.journal ≡ s.journal ++ Other a.token.serial b.next_mark ∷ [] = ap (λ j. j.entries) c.in_ok-write.ensures.added in
     let step : Step = record { entered = Try a.token.serial; outer = a.token.step; group = number; depth = depth_at s.steps a.token.step; published = false } in
     let made : Step = record { entered = Try a.token.serial; outer = a.token.step; group = number; depth = c.depth_at-depth.result; published = false } in
     let deep : c.depth_at-depth.result ≡ depth_at s.steps a.token.step = c.depth_at-depth.ensures ∙ ap (λ z. depth_at z a.token.step) c.in_ok-reserve.ensures.items in
     let same : made ≡ step = λ i. record { entered = Try a.token.serial; outer = a.token.step; group = number; depth = deep i; published = false } in
-    let steps : c.push_within.new.items.items ≡ s.steps ++ step ∷ [] = c.push_within.ensures.items ∙ ap (λ (z : List Step). z ++ made ∷ []) c.in_ok-reserve.ensures.items ∙ ap (λ z. s.steps ++ z ∷ []) same in
+    let steps : c.push.new.self.items ≡ s.steps ++ step ∷ [] = c.push.ensures.items ∙ ap (λ (z : List Step). z ++ made ∷ []) c.in_ok-reserve.ensures.items ∙ ap (λ z. s.steps ++ z ∷ []) same in
     let group : Group = record { side = Left a.token.serial a.right a.scope; outer = a.token.step; number = number } in
     let groups : c.join.new.self.items ≡ s.groups ++ group ∷ [] = c.join.ensures.items ∙ c.open-number.ensures.items ∙ ap (λ (z : List Group). z ++ group ∷ []) groups_so in
-    let count : c.len-step.result + 1 ≡ length s.steps + 1 = omega (arith, c.len-step.ensures, ap length c.in_ok-reserve.ensures.items) in
+    let count : c.len-step.result + 1 ≡ length s.steps + 1 = omega (arith, c.len-step.ensures.count, ap length c.in_ok-reserve.ensures.items) in
     let first : Token = born s a.token s.next_mark a.left a.scope (length s.steps + 1) in
     let slots : c.replace.new.self.items ≡ slice_set s.slots a.slot first = c.replace.ensures.items ∙ ap (λ (n : ℕ). slice_set s.slots a.slot (born s a.token s.next_mark a.left a.scope n)) count in
     let tokens : (w : Token → ℕ) → weight w s'.tokens + w a.token ≡ weight w s.tokens + weight w (first ∷ []) = λ w. omega (arith, ap (λ z. weight w (live z)) slots, replaced w s.slots a.slot a.token first held (later_mark l sites s L a.token i)) in
@@ -130,7 +131,7 @@ returns-clause-left g c =
     let G = c.self.invariant.kept.grouped in
     let held : IsHeld s.slots a.slot a.token = rw (← c.self.view_is) at c.requires.held in
     let i : IsIn a.token s.tokens = live-in s.slots a.slot a.token held in
-    let count : c.len-step.result + 1 ≡ length s.steps + 1 = omega (arith, c.len-step.ensures, ap length c.in_ok-reserve.ensures.items) in
+    let count : c.len-step.result + 1 ≡ length s.steps + 1 = omega (arith, c.len-step.ensures.count, ap length c.in_ok-reserve.ensures.items) in
     let first : Token = born s a.token s.next_mark a.left a.scope (length s.steps + 1) in
     let slots : c.replace.new.self.items ≡ slice_set s.slots a.slot first = c.replace.ensures.items ∙ ap (λ (n : ℕ). slice_set s.slots a.slot (born s a.token s.next_mark a.left a.scope n)) count in
     rw (← c.self.view_is) (ap (λ z. slice_get z a.slot) slots ∙ set-there s.slots a.slot a.token first held.0, later_mark l sites s L a.token i)
@@ -197,3 +198,11 @@ replace-requires-clause-held g c =
     let held : IsHeld s.slots a.slot a.token = rw (← c.self.view_is) at c.requires.held in
     let i : IsIn a.token s.tokens = live-in s.slots a.slot a.token held in
     (a.token, held)
+
+pub push-requires-clause-within : goal.push-requires-clause-within
+push-requires-clause-within g c =
+    let b = c.self.inside in
+    let a = c.args in
+    let s : Records = record { limit = b.limit; journal = b.journal.entries; entries = b.entries; next_mark = b.next_mark; now = b.time; made = b.calls.made; tokens = live b.tokens.items; slots = b.tokens.items; calls = b.calls.items; scopes = b.scopes.items; steps = b.steps.items; groups = b.groups.items; cells = b.cells.items } in
+    let held : IsHeld s.slots a.slot a.token = rw (← c.self.view_is) at c.requires.held in
+    omega (arith, step-within s c.self.invariant.kept.lawful.sound a.token (live-in s.slots a.slot a.token held), ap length c.in_ok-reserve.ensures.items)

@@ -31,6 +31,7 @@ use Rattle.orc_records.proofs.Nests.{group-kept, group-end}
 use Rattle.orc_records.proofs.Sizes.{turned-members, open-token, open-more, open-new, size-few, kept-still}
 use Rattle.orc_tables.proofs.Weight.{one-most}
 use Rattle.orc_records.proofs.Brought.{turned-deep}
+use Rattle.orc_records.proofs.Advancing.{step-within}
 use Rattle.orc_ledger.proofs.ledger.Ledger.prune.Goals as goal
 
 pub invariant_of-self-2 : goal.invariant_of-self-2
@@ -49,19 +50,19 @@ invariant_of-self-2 g c =
     let groups_so : c.reserve-5.new.self.items ≡ s.groups = c.in_ok-reserve-5.ensures.items in
     let free : IsFree s number = (c.open-number.ensures.free.0, subst (None (λ (h : Group). nat_eq number h.number)) groups_so c.open-number.ensures.free.1) in
     let room : s.entries < s.limit = rw (← c.self.view_is) at c.in_ok-within.ensures.room in
-    let s' : Records = record { limit = b.limit; journal = c.write.new.journal.entries; entries = b.entries + 1; next_mark = b.next_mark + 2; now = b.time; made = b.calls.made; tokens = live c.add-other.new.self.items; slots = c.add-other.new.self.items; calls = b.calls.items; scopes = c.push_within.new.items.items; steps = c.push_within-2.new.items.items; groups = c.join-2.new.self.items; cells = c.push_within-3.new.items.items } in
+    let s' : Records = record { limit = b.limit; journal = c.write.new.journal.entries; entries = b.entries + 1; next_mark = b.next_mark + 2; now = b.time; made = b.calls.made; tokens = live c.add-other.new.self.items; slots = c.add-other.new.self.items; calls = b.calls.items; scopes = c.push_within.new.items.items; steps = c.push.new.self.items; groups = c.join-2.new.self.items; cells = c.push_within-2.new.items.items } in
     let journal : s'.journal ≡ s.journal ++ Open a.token.serial c.len-cell.result b.next_mark (b.next_mark + 1) ∷ [] = ap (λ j. j.entries) c.in_ok-write.ensures.added in
     let cell : c.len-cell.result ≡ length s.cells = omega (arith, c.len-cell.ensures, ap length c.in_ok-reserve-4.ensures.items) in
     let inner : c.len-inner.result + 1 ≡ length s.scopes + 1 = omega (arith, c.len-inner.ensures, ap length c.in_ok-reserve-2.ensures.items) in
-    let count : c.len-step.result + 1 ≡ length s.steps + 1 = omega (arith, c.len-step.ensures, ap length c.in_ok-reserve-3.ensures.items) in
+    let count : c.len-step.result + 1 ≡ length s.steps + 1 = omega (arith, c.len-step.ensures.count, ap length c.in_ok-reserve-3.ensures.items) in
     let entry : s'.journal ≡ s.journal ++ Open a.token.serial (length s.cells) b.next_mark (b.next_mark + 1) ∷ [] = journal ∙ ap (λ (n : ℕ). s.journal ++ Open a.token.serial n b.next_mark (b.next_mark + 1) ∷ []) cell in
     let name : Scope = record { name = a.name; bound = Cell (length s.cells); outer = a.scope } in
     let scopes : c.push_within.new.items.items ≡ s.scopes ++ name ∷ [] = c.push_within.ensures.items ∙ ap (λ (z : List Scope). z ++ record { name = a.name; bound = Cell c.len-cell.result; outer = a.scope } ∷ []) c.in_ok-reserve-2.ensures.items ∙ ap (λ (n : ℕ). s.scopes ++ record { name = a.name; bound = Cell n; outer = a.scope } ∷ []) cell in
     let step : Step = record { entered = Aid (length s.cells); outer = a.token.step; group = number; depth = 0; published = false } in
-    let steps : c.push_within-2.new.items.items ≡ s.steps ++ step ∷ [] = c.push_within-2.ensures.items ∙ ap (λ (z : List Step). z ++ record { entered = Aid c.len-cell.result; outer = a.token.step; group = number; depth = 0; published = false } ∷ []) c.in_ok-reserve-3.ensures.items ∙ ap (λ (n : ℕ). s.steps ++ record { entered = Aid n; outer = a.token.step; group = number; depth = 0; published = false } ∷ []) cell in
+    let steps : c.push.new.self.items ≡ s.steps ++ step ∷ [] = c.push.ensures.items ∙ ap (λ (z : List Step). z ++ record { entered = Aid c.len-cell.result; outer = a.token.step; group = number; depth = 0; published = false } ∷ []) c.in_ok-reserve-3.ensures.items ∙ ap (λ (n : ℕ). s.steps ++ record { entered = Aid n; outer = a.token.step; group = number; depth = 0; published = false } ∷ []) cell in
     let group : Group = record { side = Right (length s.cells); outer = a.token.step; number = number } in
     let groups : c.join-2.new.self.items ≡ s.groups ++ group ∷ [] = c.join-2.ensures.items ∙ c.join.ensures.items ∙ c.open-number.ensures.items ∙ ap (λ (z : List Group). z ++ record { side = Right c.len-cell.result; outer = a.token.step; number = number } ∷ []) groups_so ∙ ap (λ (n : ℕ). s.groups ++ record { side = Right n; outer = a.token.step; number = number } ∷ []) cell in
-    let cells : c.push_within-3.new.items.items ≡ s.cells ++ Cell (length s.cells) ∷ [] = c.push_within-3.ensures.items ∙ ap (λ (z : List Bound). z ++ Cell c.len-cell.result ∷ []) c.in_ok-reserve-4.ensures.items ∙ ap (λ (n : ℕ). s.cells ++ Cell n ∷ []) cell in
+    let cells : c.push_within-2.new.items.items ≡ s.cells ++ Cell (length s.cells) ∷ [] = c.push_within-2.ensures.items ∙ ap (λ (z : List Bound). z ++ Cell c.len-cell.result ∷ []) c.in_ok-reserve-4.ensures.items ∙ ap (λ (n : ℕ). s.cells ++ Cell n ∷ []) cell in
     let first : Token = born s a.token s.next_mark a.left (length s.scopes + 1) a.token.step in
     let second : Token = born s a.token (s.next_mark + 1) a.right a.scope (length s.steps + 1) in
     let slots : c.replace.new.self.items ≡ slice_set s.slots a.slot first = c.replace.ensures.items ∙ ap (λ z. slice_set z a.slot (born s a.token s.next_mark a.left (c.len-inner.result + 1) a.token.step)) c.in_ok-reserve.ensures.items ∙ ap (λ (n : ℕ). slice_set s.slots a.slot (born s a.token s.next_mark a.left n a.token.step)) inner in
@@ -98,19 +99,19 @@ returns-clause-done g c =
     let groups_so : c.reserve-5.new.self.items ≡ s.groups = c.in_ok-reserve-5.ensures.items in
     let free : IsFree s number = (c.open-number.ensures.free.0, subst (None (λ (h : Group). nat_eq number h.number)) groups_so c.open-number.ensures.free.1) in
     let room : s.entries < s.limit = rw (← c.self.view_is) at c.in_ok-within.ensures.room in
-    let s' : Records = record { limit = b.limit; journal = c.write.new.journal.entries; entries = b.entries + 1; next_mark = b.next_mark + 2; now = b.time; made = b.calls.made; tokens = live c.add-other.new.self.items; slots = c.add-other.new.self.items; calls = b.calls.items; scopes = c.push_within.new.items.items; steps = c.push_within-2.new.items.items; groups = c.join-2.new.self.items; cells = c.push_within-3.new.items.items } in
+    let s' : Records = record { limit = b.limit; journal = c.write.new.journal.entries; entries = b.entries + 1; next_mark = b.next_mark + 2; now = b.time; made = b.calls.made; tokens = live c.add-other.new.self.items; slots = c.add-other.new.self.items; calls = b.calls.items; scopes = c.push_within.new.items.items; steps = c.push.new.self.items; groups = c.join-2.new.self.items; cells = c.push_within-2.new.items.items } in
     let journal : s'.journal ≡ s.journal ++ Open a.token.serial c.len-cell.result b.next_mark (b.next_mark + 1) ∷ [] = ap (λ j. j.entries) c.in_ok-write.ensures.added in
     let cell : c.len-cell.result ≡ length s.cells = omega (arith, c.len-cell.ensures, ap length c.in_ok-reserve-4.ensures.items) in
     let inner : c.len-inner.result + 1 ≡ length s.scopes + 1 = omega (arith, c.len-inner.ensures, ap length c.in_ok-reserve-2.ensures.items) in
-    let count : c.len-step.result + 1 ≡ length s.steps + 1 = omega (arith, c.len-step.ensures, ap length c.in_ok-reserve-3.ensures.items) in
+    let count : c.len-step.result + 1 ≡ length s.steps + 1 = omega (arith, c.len-step.ensures.count, ap length c.in_ok-reserve-3.ensures.items) in
     let entry : s'.journal ≡ s.journal ++ Open a.token.serial (length s.cells) b.next_mark (b.next_mark + 1) ∷ [] = journal ∙ ap (λ (n : ℕ). s.journal ++ Open a.token.serial n b.next_mark (b.next_mark + 1) ∷ []) cell in
     let name : Scope = record { name = a.name; bound = Cell (length s.cells); outer = a.scope } in
     let scopes : c.push_within.new.items.items ≡ s.scopes ++ name ∷ [] = c.push_within.ensures.items ∙ ap (λ (z : List Scope). z ++ record { name = a.name; bound = Cell c.len-cell.result; outer = a.scope } ∷ []) c.in_ok-reserve-2.ensures.items ∙ ap (λ (n : ℕ). s.scopes ++ record { name = a.name; bound = Cell n; outer = a.scope } ∷ []) cell in
     let step : Step = record { entered = Aid (length s.cells); outer = a.token.step; group = number; depth = 0; published = false } in
-    let steps : c.push_within-2.new.items.items ≡ s.steps ++ step ∷ [] = c.push_within-2.ensures.items ∙ ap (λ (z : List Step). z ++ record { entered = Aid c.len-cell.result; outer = a.token.step; group = number; depth = 0; published = false } ∷ []) c.in_ok-reserve-3.ensures.items ∙ ap (λ (n : ℕ). s.steps ++ record { entered = Aid n; outer = a.token.step; group = number; depth = 0; published = false } ∷ []) cell in
+    let steps : c.push.new.self.items ≡ s.steps ++ step ∷ [] = c.push.ensures.items ∙ ap (λ (z : List Step). z ++ record { entered = Aid c.len-cell.result; outer = a.token.step; group = number; depth = 0; published = false } ∷ []) c.in_ok-reserve-3.ensures.items ∙ ap (λ (n : ℕ). s.steps ++ record { entered = Aid n; outer = a.token.step; group = number; depth = 0; published = false } ∷ []) cell in
     let group : Group = record { side = Right (length s.cells); outer = a.token.step; number = number } in
     let groups : c.join-2.new.self.items ≡ s.groups ++ group ∷ [] = c.join-2.ensures.items ∙ c.join.ensures.items ∙ c.open-number.ensures.items ∙ ap (λ (z : List Group). z ++ record { side = Right c.len-cell.result; outer = a.token.step; number = number } ∷ []) groups_so ∙ ap (λ (n : ℕ). s.groups ++ record { side = Right n; outer = a.token.step; number = number } ∷ []) cell in
-    let cells : c.push_within-3.new.items.items ≡ s.cells ++ Cell (length s.cells) ∷ [] = c.push_within-3.ensures.items ∙ ap (λ (z : List Bound). z ++ Cell c.len-cell.result ∷ []) c.in_ok-reserve-4.ensures.items ∙ ap (λ (n : ℕ). s.cells ++ Cell n ∷ []) cell in
+    let cells : c.push_within-2.new.items.items ≡ s.cells ++ Cell (length s.cells) ∷ [] = c.push_within-2.ensures.items ∙ ap (λ (z : List Bound). z ++ Cell c.len-cell.result ∷ []) c.in_ok-reserve-4.ensures.items ∙ ap (λ (n : ℕ). s.cells ++ Cell n ∷ []) cell in
     let first : Token = born s a.token s.next_mark a.left (length s.scopes + 1) a.token.step in
     let second : Token = born s a.token (s.next_mark + 1) a.right a.scope (length s.steps + 1) in
     let slots : c.replace.new.self.items ≡ slice_set s.slots a.slot first = c.replace.ensures.items ∙ ap (λ z. slice_set z a.slot (born s a.token s.next_mark a.left (c.len-inner.result + 1) a.token.step)) c.in_ok-reserve.ensures.items ∙ ap (λ (n : ℕ). slice_set s.slots a.slot (born s a.token s.next_mark a.left n a.token.step)) inner in
@@ -146,7 +147,7 @@ returns-clause-left g c =
     let i : IsIn a.token s.tokens = live-in s.slots a.slot a.token held in
     let cell : c.len-cell.result ≡ length s.cells = omega (arith, c.len-cell.ensures, ap length c.in_ok-reserve-4.ensures.items) in
     let inner : c.len-inner.result + 1 ≡ length s.scopes + 1 = omega (arith, c.len-inner.ensures, ap length c.in_ok-reserve-2.ensures.items) in
-    let count : c.len-step.result + 1 ≡ length s.steps + 1 = omega (arith, c.len-step.ensures, ap length c.in_ok-reserve-3.ensures.items) in
+    let count : c.len-step.result + 1 ≡ length s.steps + 1 = omega (arith, c.len-step.ensures.count, ap length c.in_ok-reserve-3.ensures.items) in
     let first : Token = born s a.token s.next_mark a.left (length s.scopes + 1) a.token.step in
     let second : Token = born s a.token (s.next_mark + 1) a.right a.scope (length s.steps + 1) in
     let slots : c.replace.new.self.items ≡ slice_set s.slots a.slot first = c.replace.ensures.items ∙ ap (λ z. slice_set z a.slot (born s a.token s.next_mark a.left (c.len-inner.result + 1) a.token.step)) c.in_ok-reserve.ensures.items ∙ ap (λ (n : ℕ). slice_set s.slots a.slot (born s a.token s.next_mark a.left n a.token.step)) inner in
@@ -166,7 +167,7 @@ returns-clause-right g c =
     let i : IsIn a.token s.tokens = live-in s.slots a.slot a.token held in
     let cell : c.len-cell.result ≡ length s.cells = omega (arith, c.len-cell.ensures, ap length c.in_ok-reserve-4.ensures.items) in
     let inner : c.len-inner.result + 1 ≡ length s.scopes + 1 = omega (arith, c.len-inner.ensures, ap length c.in_ok-reserve-2.ensures.items) in
-    let count : c.len-step.result + 1 ≡ length s.steps + 1 = omega (arith, c.len-step.ensures, ap length c.in_ok-reserve-3.ensures.items) in
+    let count : c.len-step.result + 1 ≡ length s.steps + 1 = omega (arith, c.len-step.ensures.count, ap length c.in_ok-reserve-3.ensures.items) in
     let first : Token = born s a.token s.next_mark a.left (length s.scopes + 1) a.token.step in
     let second : Token = born s a.token (s.next_mark + 1) a.right a.scope (length s.steps + 1) in
     let slots : c.replace.new.self.items ≡ slice_set s.slots a.slot first = c.replace.ensures.items ∙ ap (λ z. slice_set z a.slot (born s a.token s.next_mark a.left (c.len-inner.result + 1) a.token.step)) c.in_ok-reserve.ensures.items ∙ ap (λ (n : ℕ). slice_set s.slots a.slot (born s a.token s.next_mark a.left n a.token.step)) inner in
@@ -267,3 +268,11 @@ replace-requires-clause-held g c =
     let held : IsHeld s.slots a.slot a.token = rw (← c.self.view_is) at c.requires.held in
     let i : IsIn a.token s.tokens = live-in s.slots a.slot a.token held in
     (a.token, rw c.in_ok-reserve.ensures.items held)
+
+pub push-requires-clause-within : goal.push-requires-clause-within
+push-requires-clause-within g c =
+    let b = c.self.inside in
+    let a = c.args in
+    let s : Records = record { limit = b.limit; journal = b.journal.entries; entries = b.entries; next_mark = b.next_mark; now = b.time; made = b.calls.made; tokens = live b.tokens.items; slots = b.tokens.items; calls = b.calls.items; scopes = b.scopes.items; steps = b.steps.items; groups = b.groups.items; cells = b.cells.items } in
+    let held : IsHeld s.slots a.slot a.token = rw (← c.self.view_is) at c.requires.held in
+    omega (arith, step-within s c.self.invariant.kept.lawful.sound a.token (live-in s.slots a.slot a.token held), ap length c.in_ok-reserve-3.ensures.items)

@@ -1,10 +1,9 @@
-use Rattle.std.proofs.Common.{List, ap, subst, arith, length}
+use Rattle.std.proofs.Common.{arith}
 use Rattle.orc_rules.specs.Nodes.{code}
 use Rattle.orc_records.specs.Records.{Records, its_env}
 use Rattle.orc_paths.specs.Paths.{has_left}
 use Rattle.orc_tables.specs.Tokens.{live, IsHeld}
 use Rattle.orc_paths.specs.Taking.{Takes, IsOnWay, IsEntered}
-use Rattle.orc_tables.specs.declared.records.Step.{Step}
 use Rattle.orc_tables.proofs.Slots.{live-in}
 use Rattle.orc_records.proofs.Advancing.{step-within, is-there}
 use Rattle.orc_ledger.proofs.ledger.Ledger.taker_of.Goals as goal
@@ -17,7 +16,7 @@ find_taker-requires-clause-within g c =
     let cd = code l in
     let s : Records = record { limit = b.limit; journal = b.journal.entries; entries = b.entries; next_mark = b.next_mark; now = b.time; made = b.calls.made; tokens = live b.tokens.items; slots = b.tokens.items; calls = b.calls.items; scopes = b.scopes.items; steps = b.steps.items; groups = b.groups.items; cells = b.cells.items } in
     let held : IsHeld s.slots c.requires.0 a.token = rw (← c.self.view_is) at c.requires.1 in
-    omega (arith, step-within s c.self.invariant.kept.lawful.sound a.token (live-in s.slots c.requires.0 a.token held), ap length c.deref.ensures.value)
+    omega (arith, step-within s c.self.invariant.kept.lawful.sound a.token (live-in s.slots c.requires.0 a.token held))
 
 pub returns-clause-takes : goal.returns-clause-takes
 returns-clause-takes g c =
@@ -26,7 +25,7 @@ returns-clause-takes g c =
     let l = g.P.Program.listing in
     let cd = code l in
     let s : Records = record { limit = b.limit; journal = b.journal.entries; entries = b.entries; next_mark = b.next_mark; now = b.time; made = b.calls.made; tokens = live b.tokens.items; slots = b.tokens.items; calls = b.calls.items; scopes = b.scopes.items; steps = b.steps.items; groups = b.groups.items; cells = b.cells.items } in
-    let went : Takes cd (its_env cd s) (has_left s.steps) s.steps a.token.step c.find_taker.result = subst (λ (ss : List Step). Takes cd (its_env cd s) (has_left s.steps) ss a.token.step c.find_taker.result) c.deref.ensures.value (c.find_taker.ensures.takes cd (its_env cd s) (has_left s.steps)) in
+    let went : Takes cd (its_env cd s) (has_left s.steps) s.steps a.token.step c.find_taker.result = c.find_taker.ensures.takes cd (its_env cd s) (has_left s.steps) in
     rw (← c.self.view_is) went
 
 pub returns-clause-way : goal.returns-clause-way
@@ -36,7 +35,7 @@ returns-clause-way g c =
     let l = g.P.Program.listing in
     let cd = code l in
     let s : Records = record { limit = b.limit; journal = b.journal.entries; entries = b.entries; next_mark = b.next_mark; now = b.time; made = b.calls.made; tokens = live b.tokens.items; slots = b.tokens.items; calls = b.calls.items; scopes = b.scopes.items; steps = b.steps.items; groups = b.groups.items; cells = b.cells.items } in
-    let went : IsOnWay s.steps a.token.step c.find_taker.result = subst (λ (ss : List Step). IsOnWay ss a.token.step c.find_taker.result) c.deref.ensures.value c.find_taker.ensures.way in
+    let went : IsOnWay s.steps a.token.step c.find_taker.result = c.find_taker.ensures.way in
     rw (← c.self.view_is) went
 
 pub returns-clause-there : goal.returns-clause-there
@@ -46,5 +45,5 @@ returns-clause-there g c =
     let l = g.P.Program.listing in
     let cd = code l in
     let s : Records = record { limit = b.limit; journal = b.journal.entries; entries = b.entries; next_mark = b.next_mark; now = b.time; made = b.calls.made; tokens = live b.tokens.items; slots = b.tokens.items; calls = b.calls.items; scopes = b.scopes.items; steps = b.steps.items; groups = b.groups.items; cells = b.cells.items } in
-    let entered : IsEntered s.steps c.find_taker.result = subst (λ (ss : List Step). IsEntered ss c.find_taker.result) c.deref.ensures.value c.find_taker.ensures.entered in
+    let entered : IsEntered s.steps c.find_taker.result = c.find_taker.ensures.entered in
     rw (← c.self.view_is) (is-there s c.self.invariant.kept.lawful.sound c.find_taker.result entered)
