@@ -80,6 +80,9 @@ impl<P: Program> Ledger<P> {
     pub fn empty_group(&self) -> Option<u32>
         ensures { MatchOption result (empty_groups (numbers_of self.now) self.now ≡ 0) (λ number. (members (numbers_of self.now) self.now number ≡ 0) × ((g : Its) × IsGroup self.now number g)) }
     {
+        if self.groups.empty() == 0 {
+            return None;
+        }
         for group in self.groups.items() {
             if self.is_empty(group.number) {
                 return Some(group.number);

@@ -1,6 +1,7 @@
 pub mod Chained
 pub mod Crowded
 pub mod Drained
+pub mod Emptied
 pub mod Flags
 pub mod Leading
 pub mod Listed

@@ -1,5 +1,5 @@
 -- The table of the open groups: each is found by its number, and each number says how many members it has.
-use Rattle.std.specs.Prelude.{◌≡◌, ◌≤◌, ◌<◌, ◌+◌, ◌⊎◌, ℕ, List, length, Some, slice_get, slice_index_or}
+use Rattle.std.specs.Prelude.{◌≡◌, ◌≤◌, ◌<◌, ◌+◌, ◌⊎◌, ℕ, zero, suc, List, length, Some, slice_get, slice_index_or}
 use Rattle.orc_rules.specs.declared.limits.TheConstants.{MOST_GROUPS}
 use Rattle.orc_tables.specs.Same.{weight, is_this}
 use Rattle.orc_tables.specs.Steps.{group_at}
@@ -52,3 +52,11 @@ size_of sizes i = slice_index_or sizes i 0
 -- as many members have left each group as these were more before than after
 abbrev pub HaveLeft : List ℕ → List ℕ → (ℕ → ℕ) → (ℕ → ℕ) → Type 0
 HaveLeft sizes sizes' before after = (i : ℕ) → before i ≤ size_of sizes i → size_of sizes' i + before i ≡ size_of sizes i + after i
+
+abbrev pub is_none : ℕ → ℕ
+is_none zero = 1
+is_none (suc k) = 0
+
+-- how many groups have no members
+abbrev pub empty_in : List ℕ → List Group → ℕ
+empty_in sizes gs = weight (λ (g : Group). is_none (size_of sizes g.number)) gs

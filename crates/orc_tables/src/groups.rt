@@ -1,11 +1,11 @@
 //! The open groups, each found by its number, and how many members each group has.
 
-ghost use Rattle.std.specs.Prelude.{◌≡◌, [], ◌∷◌, ◌++◌, ◌+◌, ◌-◌, ◌^◌, ◌≤◌, ◌<◌, ℕ, Some, length, nat_eq, IfNone, IfOk, OnOk, OnErr, MatchOption, slice_get, slice_set, vec_len, vec_capacity};
+ghost use Rattle.std.specs.Prelude.{◌≡◌, [], ◌∷◌, ◌++◌, ◌+◌, ◌-◌, ◌^◌, ◌≤◌, ◌<◌, ℕ, Some, cond, length, nat_eq, IfNone, IfOk, OnOk, OnErr, MatchOption, slice_get, slice_set, vec_len, vec_capacity};
 ghost use Rattle.orc_rules.specs.Timed.{IsIn};
 ghost use Rattle.orc_rules.specs.declared.limits.TheConstants.{MOST_GROUPS};
 ghost use Rattle.orc_tables.specs.Same.{weight, None};
 ghost use Rattle.orc_tables.specs.Same.{is_this};
-ghost use Rattle.orc_tables.specs.OpenGroups.{IsOpen, LeadTo, size_of};
+ghost use Rattle.orc_tables.specs.OpenGroups.{IsOpen, LeadTo, is_named, is_none, empty_in, size_of};
 ghost use Rattle.orc_tables.specs.declared.records.Group.{Group as Its};
 
 use crate::chains::Chains;
@@ -27,6 +27,8 @@ pub struct Groups {
     free: Vec<u32>,
     // The places in `items` by parent.
     chains: Chains,
+    // How many of the open groups have no members.
+    empty: usize,
 }
 
 // Written out, so that a caller's proof sees one call and not the drop of each field.
@@ -39,19 +41,20 @@ impl Drop for Groups {
             hints: _,
             free: _,
             chains: _,
+            empty: _,
         } = self;
     }
 }
 
 impl Model for Groups {
     ghost use Rattle.std.specs.Prelude.{◌≡◌, ◌-◌, ◌+◌, ◌≤◌, min, length, vec_len, vec_capacity};
-    ghost use Rattle.orc_tables.specs.OpenGroups.{GroupTable, AreNumbered};
+    ghost use Rattle.orc_tables.specs.OpenGroups.{GroupTable, AreNumbered, empty_in};
 
     ghost Value = { GroupTable };
 
     ghost view = { λ g. record { items = g.items.items; sizes = g.sizes.items; room = min (vec_capacity g.items - vec_len g.items) (vec_len g.free) } };
 
-    ghost invariant = { λ g. AreNumbered g.items.items g.places.items g.free.items × (length g.sizes.items ≡ length g.places.items) × (length g.places.items ≤ vec_capacity g.free + 1) };
+    ghost invariant = { λ g. AreNumbered g.items.items g.places.items g.free.items × (length g.sizes.items ≡ length g.places.items) × (length g.places.items ≤ vec_capacity g.free + 1) × (g.empty ≡ empty_in g.sizes.items g.items.items) };
 }
 
 // How many members a number has.
@@ -71,6 +74,16 @@ fn set_size(sizes: &mut Vec<u32>, number: u32, size: u32)
 {
     if let Some(slot) = sizes.get_mut(number as usize) {
         *slot = size;
+    }
+}
+
+// 1 for a number without members, else 0.
+fn none_at(sizes: &Vec<u32>, number: u32) -> usize
+    ensures { result ≡ is_none (size_of sizes.now.items number) }
+{
+    match size_at(sizes, number) {
+        0 => 1,
+        _ => 0,
     }
 }
 
@@ -105,6 +118,34 @@ fn place_of(items: &Vec<Group>, places: &Vec<usize>, number: u32) -> Option<usiz
         Some(place)
     } else {
         None
+    }
+}
+
+// How many groups have this number: 1 or none.
+#[cold]
+#[inline(never)]
+fn count_at(items: &Vec<Group>, places: &Vec<usize>, number: u32) -> usize
+    requires lead { LeadTo items.now.items places.now.items }
+    requires once { weight (is_named number) items.now.items ≤ 1 }
+    ensures { result ≡ weight (is_named number) items.now.items }
+{
+    match place_of(items, places, number) {
+        Some(_) => 1,
+        None => 0,
+    }
+}
+
+// The same where it is asked, else 0.
+#[inline(always)]
+fn count_if(asked: bool, items: &Vec<Group>, places: &Vec<usize>, number: u32) -> usize
+    requires lead { LeadTo items.now.items places.now.items }
+    requires once { weight (is_named number) items.now.items ≤ 1 }
+    ensures { result ≡ cond asked (weight (is_named number) items.now.items) 0 }
+{
+    if asked {
+        count_at(items, places, number)
+    } else {
+        0
     }
 }
 
@@ -202,6 +243,7 @@ impl Groups {
             hints,
             free: Vec::new(alloc),
             chains,
+            empty: 0,
         })
     }
 
@@ -210,6 +252,14 @@ impl Groups {
         ensures { result ≡ length self.now.items }
     {
         self.items.len()
+    }
+
+    /// How many of the open groups have no members.
+    #[inline(always)]
+    pub fn empty(&self) -> usize
+        ensures { result ≡ empty_in self.now.sizes self.now.items }
+    {
+        self.empty
     }
 
     /// The open groups, in no order.
@@ -292,6 +342,7 @@ impl Groups {
             },
         );
         self.chains.put(place, parent);
+        self.empty += none_at(&self.sizes, number);
         number
     }
 
@@ -306,6 +357,8 @@ impl Groups {
     {
         let size = size_at(&self.sizes, number);
         set_size(&mut self.sizes, number, size + 1);
+        // It has its first member.
+        self.empty -= count_if(size == 0, &self.items, &self.places, number);
     }
 
     /// One member less, where there is one.
@@ -317,6 +370,8 @@ impl Groups {
     {
         let size = size_at(&self.sizes, number);
         set_size(&mut self.sizes, number, size.saturating_sub(1));
+        // Its last one has left.
+        self.empty += count_if(size == 1, &self.items, &self.places, number);
     }
 
     /// The group at this place goes, and the last one takes its place.
@@ -329,6 +384,7 @@ impl Groups {
     {
         let group = remove_at(&mut self.items, &mut self.places, &mut self.chains, place);
         push_within(&mut self.free, group.number);
+        self.empty -= none_at(&self.sizes, group.number);
         group
     }
 

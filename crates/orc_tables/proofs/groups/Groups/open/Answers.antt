@@ -1,9 +1,10 @@
 use Rattle.std.proofs.Common.{◌≡◌, ◌++◌, ◌∷◌, [], length, sym, ap, ◌∙◌, subst, arith, length-set}
 use Rattle.std.specs.Prelude.{slice_set}
 use Rattle.orc_tables.specs.Same.{weight}
-use Rattle.orc_tables.specs.OpenGroups.{GroupTable, AreNumbered, is_named}
+use Rattle.orc_tables.specs.OpenGroups.{GroupTable, AreNumbered, is_named, empty_in, size_of}
 use Rattle.orc_tables.specs.declared.records.Group.{Group}
 use Rattle.orc_tables.proofs.Leading.{opened-numbered, free-number}
+use Rattle.orc_tables.proofs.Emptied.{empty-more, empty-few, none-most}
 use Rattle.orc_tables.proofs.groups.Groups.open.Goals as goal
 
 pub invariant_of-self : goal.invariant_of-self
@@ -18,7 +19,13 @@ invariant_of-self c =
       subst (λ z. AreNumbered z c.set_place.new.places.items c.take_free-number.new.free.items) (sym items) (subst (λ z. AreNumbered (b.items.items ++ g ∷ []) z c.take_free-number.new.free.items) (sym places) N),
       omega (arith, len, c.self.invariant.1),
       omega (arith, len, c.self.invariant.2, c.take_free-number.ensures.capacity),
+      omega (arith, ap (empty_in b.sizes.items) items, empty-more b.sizes.items b.items.items g, c.none_at.ensures, c.self.invariant.3),
     )
+
+pub overflow_add-self : goal.overflow_add-self
+overflow_add-self c =
+    let b = c.self.inside in
+    omega (arith, empty-few b.sizes.items b.items.items b.places.items b.free.items c.self.invariant.0, c.none_at.ensures, none-most (size_of b.sizes.items c.take_free-number.result), c.self.invariant.3)
 
 pub returns-clause-free : goal.returns-clause-free
 returns-clause-free c =

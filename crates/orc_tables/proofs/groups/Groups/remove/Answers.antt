@@ -1,5 +1,6 @@
 use Rattle.std.proofs.Common.{◌≡◌, ◌+◌, length, sym, subst, arith}
-use Rattle.orc_tables.specs.OpenGroups.{AreNumbered}
+use Rattle.orc_tables.specs.OpenGroups.{AreNumbered, is_none, size_of}
+use Rattle.orc_tables.specs.declared.records.Group.{Group}
 use Rattle.orc_tables.proofs.Leading.{gone-numbered}
 use Rattle.orc_tables.proofs.groups.Groups.remove.Goals as goal
 
@@ -12,4 +13,10 @@ invariant_of-self c =
       subst (λ z. AreNumbered r.new.items.items r.new.places.items z) (sym c.push_within.ensures.items) N,
       omega (arith, r.ensures.size, c.self.invariant.1),
       omega (arith, r.ensures.size, c.self.invariant.2, c.push_within.ensures.capacity),
+      omega (arith, r.ensures.rest (λ (g : Group). is_none (size_of b.sizes.items g.number)), c.none_at.ensures, c.self.invariant.3),
     )
+
+pub overflow_sub-self : goal.overflow_sub-self
+overflow_sub-self c =
+    let b = c.self.inside in
+    omega (arith, c.remove_at-group.ensures.rest (λ (g : Group). is_none (size_of b.sizes.items g.number)), c.none_at.ensures, c.self.invariant.3)

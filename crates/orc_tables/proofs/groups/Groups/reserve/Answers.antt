@@ -1,6 +1,7 @@
 use Rattle.std.proofs.Common.{◌≡◌, ◌≤◌, ◌++◌, ◌∷◌, [], length, sym, ap, ◌∙◌, subst, arith, length-append}
-use Rattle.orc_tables.specs.OpenGroups.{GroupTable, AreNumbered}
+use Rattle.orc_tables.specs.OpenGroups.{GroupTable, AreNumbered, empty_in, size_of}
 use Rattle.orc_tables.proofs.Leading.{grown-numbered}
+use Rattle.orc_tables.proofs.Emptied.{empty-same, size-grown}
 use Rattle.orc_tables.proofs.groups.Groups.reserve.Goals as goal
 
 pub invariant_of-self-in-Continue-branch-2 : goal.invariant_of-self-in-Continue-branch-2
@@ -15,4 +16,5 @@ invariant_of-self-in-Continue-branch-2 c =
       subst (λ z. AreNumbered z c.add_number.new.places.items c.add_number.new.free.items) (sym c.in_ok-reserve.ensures.items) (subst (λ z. AreNumbered b.items.items z c.add_number.new.free.items) (sym a.places) (subst (λ z. AreNumbered b.items.items (b.places.items ++ 0 ∷ []) z) (sym number) grown)),
       omega (arith, ap length a.sizes, ap length a.places, length-append b.sizes.items (0 ∷ []), length-append b.places.items (0 ∷ []), c.self.invariant.1),
       omega (arith, a.room, c.add_number.new.places.ok.0),
+      c.self.invariant.3 ∙ sym (empty-same b.sizes.items c.add_number.new.sizes.items b.items.items (λ i. ap (λ z. size_of z i) a.sizes ∙ size-grown b.sizes.items i)) ∙ ap (empty_in c.add_number.new.sizes.items) (sym c.in_ok-reserve.ensures.items),
     )
