@@ -2,7 +2,7 @@
 #![tactic(auto)]
 
 use orc_rules::limits::LONGEST_JOURNAL;
-use orc_run::{Failure, Files, ReadFault, command};
+use orc_run::{Failure, Files, ReadFault, Unread, command};
 use std::io::{ErrorKind, Read};
 use std::process::ExitCode;
 use std::{env, fs, io, rt};
@@ -23,10 +23,16 @@ fn read_front<R: rt::Files + AllocGlobal>(rt: &R, path: &str) -> io::Result<Vec<
     Ok(bytes)
 }
 
+// A folder can be opened too, and only its read tells what it is.
 fn fault_of(error: io::Error) -> ReadFault {
     match error.kind() {
         ErrorKind::OutOfMemory => ReadFault::Memory,
-        _ => ReadFault::Failed,
+        ErrorKind::NotFound | ErrorKind::NotADirectory | ErrorKind::InvalidFilename => {
+            ReadFault::Failed(Unread::Missing)
+        }
+        ErrorKind::IsADirectory => ReadFault::Failed(Unread::Folder),
+        ErrorKind::PermissionDenied => ReadFault::Failed(Unread::Forbidden),
+        _ => ReadFault::Failed(Unread::Other),
     }
 }
 

@@ -33,6 +33,19 @@ pub enum Fault {
     Write,
 }
 
+/// Why a file could not be read.
+#[derive(Clone, Copy, Debug, PartialEq, Eq)]
+pub enum Unread {
+    /// There is no such file.
+    Missing,
+    /// It is a folder.
+    Folder,
+    /// Its rights, or those of a folder on the way, forbid it.
+    Forbidden,
+    /// Anything else, as a device that fails.
+    Other,
+}
+
 // A fault of the engine.
 fn say_broken(page: &mut Page) {
     page.note(
@@ -62,12 +75,52 @@ fn say_fault(page: &mut Page, alloc: Global, subject: &Subject, fault: Fault) {
     }
 }
 
-/// The text that explains a file that could not be read, below its own line. The error is refused memory.
-pub fn explain_unread(alloc: Global, path: &str) -> Result<String, AllocError> {
-    let mut page = Page::new(alloc);
+// A line that begins with a file's name.
+fn say_of(page: &mut Page, name: &str, words: &str) {
     page.note("");
-    page.path(path);
-    page.say(" isn't there, is a folder, or may not be read\n");
+    page.path(name);
+    page.say(words);
+}
+
+// There is no file of this name. In a name that doesn't begin at the root, it isn't seen where the file was looked for.
+fn say_missing(page: &mut Page, name: &str) {
+    page.note("there is no file ");
+    page.path(name);
+    page.say("\n");
+    if !name.starts_with("/") {
+        page.help(
+            "a name that doesn't begin with `/` is looked for in the folder in which orc was started",
+        );
+    }
+}
+
+fn say_unread(page: &mut Page, name: &str, why: Unread) {
+    match why {
+        Unread::Missing if name.is_empty() => {
+            page.note("the name of the file is empty\n");
+            page.help("`\"$F\"` is empty where the shell's variable F has no value");
+        }
+        Unread::Missing => say_missing(page, name),
+        Unread::Folder => {
+            say_of(page, name, " is a folder\n");
+            page.help("name a file in it");
+        }
+        Unread::Forbidden => {
+            say_of(page, name, " may not be read by this user\n");
+            page.help("`ls -ld` shows the rights of a file, and of the folders on the way to it");
+        }
+        Unread::Other => say_of(
+            page,
+            name,
+            " could not be read: a closed input, a device that fails, or links that lead in a circle\n",
+        ),
+    }
+}
+
+/// The text that explains why the file of this name could not be read, below its own line. The error is refused memory.
+pub fn explain_unread(alloc: Global, name: &str, why: Unread) -> Result<String, AllocError> {
+    let mut page = Page::new(alloc);
+    say_unread(&mut page, name, why);
     page.finish()
 }
 

@@ -1,6 +1,6 @@
 //! Files and streams in memory, and a command line over them.
 
-use orc_run::{Files, Options, ReadFault, Summary, command, run_text};
+use orc_run::{Files, Options, ReadFault, Summary, Unread, command, run_text};
 use std::alloc::Global;
 use std::io;
 use std::io::{Empty, Read, Write};
@@ -32,7 +32,7 @@ impl<'a> Files for MemoryFiles<'a> {
                 return Ok(*bytes);
             }
         }
-        Err(ReadFault::Failed)
+        Err(ReadFault::Failed(Unread::Missing))
     }
 }
 

@@ -4,7 +4,7 @@ use crate::harness::{
     FailingFiles, IdleWriter, MemoryFiles, ShortReader, ShortWriter, checked, orc, orc_into,
 };
 use orc_journal::JournalFault;
-use orc_run::{ReadFault, RunFault, Unchecked, check_read, command};
+use orc_run::{ReadFault, RunFault, Unchecked, Unread, check_read, command};
 use std::alloc::Global;
 use std::sync::Wait;
 use std::test::Fail;
@@ -139,7 +139,7 @@ fn blames_the_first_file_that_is_not_read(rt: HostRuntime) -> Result<(), Fail> {
     ];
     for (words, good, line) in rows {
         for (fault, expected, said) in [
-            (ReadFault::Failed, 6, line),
+            (ReadFault::Failed(Unread::Forbidden), 6, line),
             (ReadFault::Memory, 5, "orc: memory\n"),
         ] {
             let mut files = FailingFiles { alloc, good, fault };

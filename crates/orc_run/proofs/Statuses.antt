@@ -208,7 +208,7 @@ module _ (n : ℕ) (not_one : n ≢ 1) (not_five : n ≢ 5) (not_six : n ≢ 6) 
 
   not_read : (f : ReadFault) → read_status_of f ≢ n
   not_read read.Memory h = not_five (sym h)
-  not_read read.Failed h = not_six (sym h)
+  not_read (read.Failed why) h = not_six (sym h)
 
   not_failed : (f : Failure) → failure_status f ≢ n
   not_failed (failure.Unread path f) h = not_read f h

@@ -17,7 +17,7 @@ failure_status failure.Rows = 1
 -- the line on standard error, without its LF
 abbrev pub failure_line : Failure → List ℕ
 failure_line (failure.Unread path read.Memory) = codes "orc: memory"
-failure_line (failure.Unread path read.Failed) = codes "orc: read " ++ path.now
+failure_line (failure.Unread path (read.Failed why)) = codes "orc: read " ++ path.now
 failure_line (failure.Fault f) = line f
 failure_line failure.Rows = codes "orc: draw: over " ++ (decimal MOST_ROWS ++ codes " rows")
 

@@ -16,6 +16,7 @@ use crate::output::WriteFault;
 use crate::printing::print_text;
 use crate::running::run_text;
 use clap::error::ErrorKind;
+use orc_explain::Unread;
 use orc_page::{Document, Subject};
 use orc_words::{Asked, Job, Options, Ranges, read_words};
 use std::alloc::Global;
@@ -138,7 +139,10 @@ fn check_file<'a, F: Files, W: Write>(
         return match check_read(alloc, source.as_slice(), answers.as_slice(), reader, out) {
             Ok(()) => Ok(0),
             Err(Unchecked::Fault(fault)) => Err(Failure::Fault(fault)),
-            Err(Unchecked::Unread) => Err(Failure::Unread(journal, ReadFault::Failed)),
+            // No explanation is asked for, and nothing else tells the cause.
+            Err(Unchecked::Unread) => {
+                Err(Failure::Unread(journal, ReadFault::Failed(Unread::Other)))
+            }
         };
     }
     let lines = read(journal, files)?;

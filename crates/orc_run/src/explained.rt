@@ -135,7 +135,7 @@ impl Explained {
         }
     }
 
-    /// Explains that a file was not read, in the same way; of other failures nothing.
+    /// Explains why a file was not read, in the same way; of other failures nothing.
     pub fn unread(&mut self, alloc: Global, failure: &Failure<'_>)
         ensures { self.old ≡ Unasked → self.new ≡ Unasked }
     {
@@ -144,7 +144,9 @@ impl Explained {
         }
         match *failure {
             Failure::Unread(_, ReadFault::Memory) => self.tell(explain_refused(alloc)),
-            Failure::Unread(path, ReadFault::Failed) => self.tell(explain_unread(alloc, path)),
+            Failure::Unread(path, ReadFault::Failed(why)) => {
+                self.tell(explain_unread(alloc, path, why));
+            }
             Failure::Fault(_) | Failure::Rows => {}
         }
     }

@@ -28,7 +28,7 @@ impl fmt::Display for Failure<'_> {
     fn fmt<W: fmt::Write>(&self, f: &mut fmt::Formatter<W>) -> fmt::Result {
         match *self {
             Failure::Unread(_, ReadFault::Memory) => write!(f, "orc: memory"),
-            Failure::Unread(path, ReadFault::Failed) => write!(f, "orc: read {path}"),
+            Failure::Unread(path, ReadFault::Failed(_)) => write!(f, "orc: read {path}"),
             Failure::Fault(fault) => write!(f, "{fault}"),
             Failure::Rows => write!(f, "orc: draw: over {MOST_ROWS} rows"),
         }

@@ -7,6 +7,7 @@ ghost use Rattle.std.specs.Io.KnownBytes.{Keeps};
 ghost use Rattle.orc_run.specs.Inputs.{IsHeld};
 ghost use Rattle.orc_run.specs.Status.{read_status_of};
 
+use orc_explain::Unread;
 use std::io::Read;
 
 /// Why a file could not be read.
@@ -14,8 +15,8 @@ use std::io::Read;
 pub enum ReadFault {
     /// Memory for its bytes was refused.
     Memory,
-    /// The file could not be read.
-    Failed,
+    /// The file could not be read, for this reason.
+    Failed(Unread),
 }
 
 /// Where a command line's files are read from.
@@ -44,7 +45,7 @@ impl ReadFault {
     {
         match self {
             ReadFault::Memory => 5,
-            ReadFault::Failed => 6,
+            ReadFault::Failed(_) => 6,
         }
     }
 }

@@ -21,6 +21,7 @@ pub use failures::{Failure, report};
 pub use faults::RunFault;
 pub use inputs::{Files, ReadFault};
 pub use judging::{Unchecked, check_read, check_text};
+pub use orc_explain::Unread;
 pub use orc_outcome::{End, Summary};
 pub use orc_words::Options;
 pub use output::{WriteFault, write_text};
