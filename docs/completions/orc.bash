@@ -15,7 +15,7 @@ _orc() {
     case ${COMP_WORDS[1]} in
     run) options='--script --workers --limit --journal --explain --help -h' ;;
     check) options='--script --explain --help -h' ;;
-    draw) options='--script --text --width --all --theme --help -h' ;;
+    draw) options='--script --text --width --all --theme --explain --help -h' ;;
     print) options='--explain --help -h' ;;
     help) mapfile -t COMPREPLY < <(compgen -W 'run check draw print' -- "$word"); return ;;
     esac

@@ -11,7 +11,7 @@ complete -c orc -n '__fish_seen_subcommand_from run check draw' -l script -r -F 
 complete -c orc -n '__fish_seen_subcommand_from run' -l workers -x -d 'The number of workers'
 complete -c orc -n '__fish_seen_subcommand_from run' -l limit -x -d 'The greatest number of entries'
 complete -c orc -n '__fish_seen_subcommand_from run' -l journal -d 'Write the journal'
-complete -c orc -n '__fish_seen_subcommand_from run check print' -l explain -d 'Explain what went wrong'
+complete -c orc -n '__fish_seen_subcommand_from run check draw print' -l explain -d 'Explain what went wrong'
 complete -c orc -n '__fish_seen_subcommand_from draw' -l text -d 'Draw with letters'
 complete -c orc -n '__fish_seen_subcommand_from draw' -l width -x -d 'About how many columns wide'
 complete -c orc -n '__fish_seen_subcommand_from draw' -l all -d 'Give each call of a built-in site a row too'

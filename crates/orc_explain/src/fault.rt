@@ -124,6 +124,15 @@ pub fn explain_unread(alloc: Global, name: &str, why: Unread) -> Result<String, 
     page.finish()
 }
 
+/// The text that says how a picture gets fewer rows, below the line that says that it would have too many. The error is refused memory.
+pub fn explain_rows(alloc: Global) -> Result<String, AllocError> {
+    let mut page = Page::new(alloc);
+    page.help(
+        "draw the journal of a run with a smaller --limit; without --all there are fewer rows",
+    );
+    page.finish()
+}
+
 /// The text that explains that memory was refused for the command line or a file, below its own line. The error is refused memory.
 pub fn explain_refused(alloc: Global) -> Result<String, AllocError> {
     let mut page = Page::new(alloc);

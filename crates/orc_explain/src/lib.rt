@@ -32,4 +32,4 @@ mod words;
 
 pub use ended::Ended;
 pub use ends::{explain_end, explain_refusal};
-pub use fault::{Fault, Unread, explain, explain_refused, explain_unread};
+pub use fault::{Fault, Unread, explain, explain_refused, explain_rows, explain_unread};

@@ -7,7 +7,7 @@ ghost use Rattle.orc_run.specs.Inputs.{IsHeld, IsRead};
 ghost use Rattle.orc_run.specs.Commands.{HasDrawn, HasEnded, HasJudged, HasPrinted, HasRun, IsDone, IsUnread, LeavesUndone, WasCut};
 
 use crate::drawing::{Undrawn, draw_text};
-use crate::explained::{Explained, subject_of};
+use crate::explained::{Explained, subject_of, subject_with_journal};
 use crate::failures::{Failure, report};
 use crate::faults::RunFault;
 use crate::inputs::{Files, ReadFault};
@@ -17,7 +17,6 @@ use crate::printing::print_text;
 use crate::running::run_text;
 use clap::error::ErrorKind;
 use orc_explain::Unread;
-use orc_page::{Document, Subject};
 use orc_words::{Asked, Job, Options, Ranges, read_words};
 use std::alloc::Global;
 use std::convert::AsStr;
@@ -156,11 +155,15 @@ fn check_file<'a, F: Files, W: Write>(
     ) {
         Ok(()) => Ok(0),
         Err(fault) => {
-            let mut subject = subject_of(file, source.as_slice(), script, answers.as_slice());
-            subject.journal = Some(Document {
-                name: journal,
-                text: lines.as_slice(),
-            });
+            let lines = lines.as_slice();
+            let subject = subject_with_journal(
+                file,
+                source.as_slice(),
+                script,
+                answers.as_slice(),
+                journal,
+                lines,
+            );
             explained.fault(alloc, &subject, fault);
             Err(Failure::Fault(fault))
         }
@@ -182,24 +185,37 @@ fn draw_file<'a, F: Files, W: Write>(
     options: orc_draw::Options,
     files: &mut F,
     out: &mut W,
+    explained: &mut Explained,
 ) -> Result<u8, Failure<'a>>
     ensures done { IfOk result (HasDrawn (F.holds files.old) file.now journal.now (option_map (λ p. p.now) script.entry) (W.contents out.old) (W.contents out.new)) }
     ensures undone { IfErr result (λ f. LeavesUndone f (W.contents out.old) (W.contents out.new)) }
 {
     let source = read(file, files)?;
     let text = read(journal, files)?;
-    let script = read_script(alloc, script, files)?;
+    let answers = read_script(alloc, script, files)?;
     match draw_text(
         alloc,
         name_of(file),
         source.as_slice(),
-        script.as_slice(),
+        answers.as_slice(),
         text.as_slice(),
         options,
         out,
     ) {
         Ok(()) => Ok(0),
-        Err(Undrawn::Fault(fault)) => Err(Failure::Fault(fault)),
+        Err(Undrawn::Fault(fault)) => {
+            let text = text.as_slice();
+            let subject = subject_with_journal(
+                file,
+                source.as_slice(),
+                script,
+                answers.as_slice(),
+                journal,
+                text,
+            );
+            explained.fault(alloc, &subject, fault);
+            Err(Failure::Fault(fault))
+        }
         Err(Undrawn::Rows) => Err(Failure::Rows),
     }
 }
@@ -220,7 +236,7 @@ fn print_file<'a, F: Files, W: Write>(
     match print_text(alloc, source.as_slice(), out) {
         Ok(()) => Ok(0),
         Err(fault) => {
-            let subject = Subject::of_source(file, source.as_slice());
+            let subject = subject_of(file, source.as_slice(), None, b"");
             explained.fault(alloc, &subject, fault);
             Err(Failure::Fault(fault))
         }
@@ -255,7 +271,7 @@ fn do_job<'a, R: Threads + Wait + Sync, F: Files, W: Write>(
             journal,
             script,
             options,
-        } => draw_file(alloc, file, journal, script, options, files, out),
+        } => draw_file(alloc, file, journal, script, options, files, out, explained),
         Job::Print { file } => print_file(alloc, file, files, out, explained),
     }
 }
@@ -304,7 +320,7 @@ where
             status
         }
         Err(failure) => {
-            explained.unread(alloc, &failure);
+            explained.failure(alloc, &failure);
             let _ = report(err, &failure, &explained);
             failure.status()
         }

@@ -11,7 +11,7 @@ use crate::faults::RunFault;
 use crate::inputs::ReadFault;
 use crate::output::{WriteFault, write_text};
 use orc_engine::EngineFault;
-use orc_explain::{Fault, explain, explain_refused, explain_unread};
+use orc_explain::{Fault, explain, explain_refused, explain_rows, explain_unread};
 use orc_outcome::Summary;
 use orc_page::{Document, Subject};
 use orc_refusal::explain_refusal;
@@ -135,8 +135,9 @@ impl Explained {
         }
     }
 
-    /// Explains why a file was not read, in the same way; of other failures nothing.
-    pub fn unread(&mut self, alloc: Global, failure: &Failure<'_>)
+    /// Explains in the same way why a file was not read, and what helps where a picture would have too many rows. Faults are explained where
+    /// they are found.
+    pub fn failure(&mut self, alloc: Global, failure: &Failure<'_>)
         ensures { self.old ≡ Unasked → self.new ≡ Unasked }
     {
         if !self.is_asked() {
@@ -147,12 +148,13 @@ impl Explained {
             Failure::Unread(path, ReadFault::Failed(why)) => {
                 self.tell(explain_unread(alloc, path, why));
             }
-            Failure::Fault(_) | Failure::Rows => {}
+            Failure::Rows => self.tell(explain_rows(alloc)),
+            Failure::Fault(_) => {}
         }
     }
 }
 
-/// The files of a command line, as they are named and read.
+/// The files of a command line without a journal, as they are named and read.
 pub fn subject_of<'a>(
     file: &'a str,
     source: &'a [u8],
@@ -166,5 +168,22 @@ pub fn subject_of<'a>(
             text: answers,
         });
     }
+    subject
+}
+
+/// The same of a command line that names a journal.
+pub fn subject_with_journal<'a>(
+    file: &'a str,
+    source: &'a [u8],
+    script: Option<&'a str>,
+    answers: &'a [u8],
+    journal: &'a str,
+    text: &'a [u8],
+) -> Subject<'a> {
+    let mut subject = subject_of(file, source, script, answers);
+    subject.journal = Some(Document {
+        name: journal,
+        text,
+    });
     subject
 }

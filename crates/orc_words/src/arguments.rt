@@ -180,7 +180,8 @@ fn draw_command<'a>(alloc: Global) -> Result<Command<'a>, AllocError> {
         .arg(text_flag(alloc))?
         .arg(width_argument(alloc)?)?
         .arg(all_flag(alloc))?
-        .arg(theme_argument(alloc))
+        .arg(theme_argument(alloc))?
+        .arg(explain_flag(alloc, EXPLAIN))
 }
 
 fn print_command<'a>(alloc: Global) -> Result<Command<'a>, AllocError> {
@@ -247,14 +248,6 @@ fn job_of<'a>(name: &str, given: &ArgMatches<'a>) -> Option<Job<'a>> {
     }
 }
 
-// Whether what goes wrong is to be explained: pictures have no such option.
-fn is_explained(name: &str, given: &ArgMatches) -> bool {
-    match name {
-        "run" | "check" | "print" => given.get_flag("explain"),
-        _ => false,
-    }
-}
-
 /// Reads a command line, whose first word is the program's name. An error asks for help or for the version, or refuses
 /// it.
 pub fn read_words<'a, S: AsStr>(
@@ -266,7 +259,7 @@ pub fn read_words<'a, S: AsStr>(
     let matches = command.try_get_matches_from_mut(words)?;
     if let Some((name, given)) = matches.subcommand() {
         if let Some(job) = job_of(name, given) {
-            let explain = is_explained(name, given);
+            let explain = given.get_flag("explain");
             return Ok(Asked { job, explain });
         }
     }
