@@ -2,25 +2,35 @@
 #![tactic(auto)]
 
 use orc_rules::limits::LONGEST_JOURNAL;
-use orc_run::{Failure, Files, ReadFault, Unread, command};
-use std::io::{ErrorKind, Read};
+use orc_run::{Failure, Files, ReadFault, STANDARD_INPUT, Unread, command};
+use std::io::{ErrorKind, Read, Stdin};
 use std::process::ExitCode;
 use std::{env, fs, io, rt};
 
 /// A byte more than the longest text that any command takes, in bytes: so much of a file tells that it is too long.
 const MOST: u64 = LONGEST_JOURNAL as u64 + 1;
 
+/// A file of the system, or standard input.
+#[derive(Drop)]
+enum Input<F> {
+    File(F),
+    Standard(Stdin),
+}
+
+impl<F: Read> Read for Input<F> {
+    fn read(&mut self, room: &mut [u8]) -> io::Result<usize> {
+        match self {
+            Input::File(file) => file.read(room),
+            Input::Standard(stdin) => stdin.read(room),
+        }
+    }
+}
+
 /// The files of the system.
 #[derive(Drop)]
 struct SystemFiles<'a, R> {
     rt: &'a R,
-}
-
-/// The first bytes of a file, `MOST` at most: a device may have no end.
-fn read_front<R: rt::Files + AllocGlobal>(rt: &R, path: &str) -> io::Result<Vec<u8>> {
-    let mut bytes = Vec::new(rt.alloc());
-    fs::open(rt, path)?.take(MOST).read_to_end(&mut bytes)?;
-    Ok(bytes)
+    stdin: Stdin,
 }
 
 // A folder can be opened too, and only its read tells what it is.
@@ -36,15 +46,31 @@ fn fault_of(error: io::Error) -> ReadFault {
     }
 }
 
-impl<R: rt::Files + AllocGlobal> Files for SystemFiles<'_, R> {
-    type Reader = R::File;
-
-    fn read(&mut self, path: &str) -> Result<Vec<u8>, ReadFault> {
-        read_front(self.rt, path).map_err(fault_of)
+impl<R: rt::Files + AllocGlobal> SystemFiles<'_, R> {
+    fn open_input(&self, path: &str) -> io::Result<Input<R::File>> {
+        if path == STANDARD_INPUT {
+            return Ok(Input::Standard(self.stdin));
+        }
+        Ok(Input::File(fs::open(self.rt, path)?))
     }
 
-    fn open(&mut self, path: &str) -> Result<R::File, ReadFault> {
-        fs::open(self.rt, path).map_err(fault_of)
+    // The first bytes of a file, `MOST` at most: a device may have no end.
+    fn read_front(&self, path: &str) -> io::Result<Vec<u8>> {
+        let mut bytes = Vec::new(self.rt.alloc());
+        self.open_input(path)?.take(MOST).read_to_end(&mut bytes)?;
+        Ok(bytes)
+    }
+}
+
+impl<R: rt::Files + AllocGlobal> Files for SystemFiles<'_, R> {
+    type Reader = Input<R::File>;
+
+    fn read(&mut self, path: &str) -> Result<Vec<u8>, ReadFault> {
+        self.read_front(path).map_err(fault_of)
+    }
+
+    fn open(&mut self, path: &str) -> Result<Input<R::File>, ReadFault> {
+        self.open_input(path).map_err(fault_of)
     }
 }
 
@@ -69,7 +95,10 @@ fn main(rt: HostRuntime) -> ExitCode {
     let Ok(words) = args.collect::<Vec<String>>(alloc) else {
         return refused(&rt);
     };
-    let mut files = SystemFiles { rt: &rt };
+    let mut files = SystemFiles {
+        rt: &rt,
+        stdin: rt.stdin(),
+    };
     let mut out = rt.stdout();
     let mut err = rt.stderr();
     ExitCode::from(command(&rt, alloc, words.as_slice(), &mut files, &mut out, &mut err))

@@ -5,7 +5,7 @@ use std::test::Fail;
 
 #[test]
 fn refuses_command_lines(rt: HostRuntime) -> Result<(), Fail> {
-    let rows: [(&[&str], &str); 19] = [
+    let rows: [(&[&str], &str); 21] = [
         (&["orc"], "Run programs of the Orc calculus"),
         (&["orc", "rnu", "a.orc"], "error: "),
         (&["orc", "--lmit", "5"], "error: "),
@@ -20,6 +20,14 @@ fn refuses_command_lines(rt: HostRuntime) -> Result<(), Fail> {
         (&["orc", "run", "a.orc", "--limit", ""], "error: "),
         (&["orc", "run", "a.orc", "--workers", "17"], "error: "),
         (&["orc", "draw", "a.orc"], "error: "),
+        (
+            &["orc", "check", "-", "-"],
+            "error: '-' stands for more than one file",
+        ),
+        (
+            &["orc", "run", "-", "--script", "-"],
+            "error: '-' stands for more than one file",
+        ),
         (
             &[
                 "orc",

@@ -10,7 +10,7 @@ use crate::drawing::{Undrawn, draw_text};
 use crate::explained::{Explained, subject_of, subject_with_journal};
 use crate::failures::{Failure, report};
 use crate::faults::RunFault;
-use crate::inputs::{Files, ReadFault};
+use crate::inputs::{Files, ReadFault, title_of};
 use crate::judging::{Unchecked, check_read, check_text};
 use crate::output::WriteFault;
 use crate::printing::print_text;
@@ -172,7 +172,8 @@ fn check_file<'a, F: Files, W: Write>(
 
 // What a picture of this file's program is called.
 fn name_of(path: &str) -> &str {
-    Path::new(path).file_name().unwrap_or(path)
+    let title = title_of(path);
+    Path::new(title).file_name().unwrap_or(title)
 }
 
 // Draws the journal of a file.

@@ -8,7 +8,7 @@ ghost use Rattle.orc_run.specs.declared.explained.Explained.TheVariants.{Nothing
 use crate::ending::explain_run;
 use crate::failures::Failure;
 use crate::faults::RunFault;
-use crate::inputs::ReadFault;
+use crate::inputs::{ReadFault, title_of};
 use crate::output::{WriteFault, write_text};
 use orc_engine::EngineFault;
 use orc_explain::{Fault, explain, explain_refused, explain_rows, explain_unread};
@@ -146,7 +146,7 @@ impl Explained {
         match *failure {
             Failure::Unread(_, ReadFault::Memory) => self.tell(explain_refused(alloc)),
             Failure::Unread(path, ReadFault::Failed(why)) => {
-                self.tell(explain_unread(alloc, path, why));
+                self.tell(explain_unread(alloc, title_of(path), why));
             }
             Failure::Rows => self.tell(explain_rows(alloc)),
             Failure::Fault(_) => {}
@@ -161,10 +161,10 @@ pub fn subject_of<'a>(
     script: Option<&'a str>,
     answers: &'a [u8],
 ) -> Subject<'a> {
-    let mut subject = Subject::of_source(file, source);
-    if let Some(name) = script {
+    let mut subject = Subject::of_source(title_of(file), source);
+    if let Some(path) = script {
         subject.script = Some(Document {
-            name,
+            name: title_of(path),
             text: answers,
         });
     }
@@ -182,7 +182,7 @@ pub fn subject_with_journal<'a>(
 ) -> Subject<'a> {
     let mut subject = subject_of(file, source, script, answers);
     subject.journal = Some(Document {
-        name: journal,
+        name: title_of(journal),
         text,
     });
     subject

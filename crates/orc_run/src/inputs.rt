@@ -8,7 +8,17 @@ ghost use Rattle.orc_run.specs.Inputs.{IsHeld};
 ghost use Rattle.orc_run.specs.Status.{read_status_of};
 
 use orc_explain::Unread;
+use orc_words::STANDARD_INPUT;
 use std::io::Read;
+
+/// What a file is called where something is told of it.
+pub(crate) fn title_of(path: &str) -> &str {
+    if path == STANDARD_INPUT {
+        "standard input"
+    } else {
+        path
+    }
+}
 
 /// Why a file could not be read.
 #[derive(Clone, Copy, Debug, PartialEq, Eq)]

@@ -61,14 +61,14 @@ fn file_argument<'a>(alloc: Global) -> Arg<'a> {
     Arg::new(alloc, "file")
         .value_name("FILE")
         .required(true)
-        .help("The program's source text")
+        .help("The program's source text; - is standard input")
 }
 
 fn script_argument<'a>(alloc: Global) -> Arg<'a> {
     Arg::new(alloc, "script")
         .long("script")
         .value_name("F")
-        .help("The answers of the program's own sites [default: none]")
+        .help("The answers of the program's own sites; - is standard input [default: none]")
 }
 
 fn workers_argument<'a>(alloc: Global, ranges: &'a Ranges) -> Arg<'a> {
@@ -112,7 +112,7 @@ fn journal_argument<'a>(alloc: Global) -> Arg<'a> {
     Arg::new(alloc, "journal")
         .value_name("JOURNAL")
         .required(true)
-        .help("The journal's text")
+        .help("The journal's text; - is standard input")
 }
 
 fn text_flag<'a>(alloc: Global) -> Arg<'a> {
@@ -248,6 +248,9 @@ fn job_of<'a>(name: &str, given: &ArgMatches<'a>) -> Option<Job<'a>> {
     }
 }
 
+/// Why a command line is refused that names standard input for two files.
+const SHARED: &str = "'-' stands for more than one file, and standard input can be read only once";
+
 /// Reads a command line, whose first word is the program's name. An error asks for help or for the version, or refuses
 /// it.
 pub fn read_words<'a, S: AsStr>(
@@ -259,6 +262,9 @@ pub fn read_words<'a, S: AsStr>(
     let matches = command.try_get_matches_from_mut(words)?;
     if let Some((name, given)) = matches.subcommand() {
         if let Some(job) = job_of(name, given) {
+            if job.shares_input() {
+                return Err(command.error(ErrorKind::ArgumentConflict, SHARED)?);
+            }
             let explain = given.get_flag("explain");
             return Ok(Asked { job, explain });
         }

@@ -1,5 +1,8 @@
 //! What a command line asks for.
 
+/// What stands for standard input where a file is named. A file of this name is `./-`.
+pub const STANDARD_INPUT: &str = "-";
+
 /// A job, and whether what went wrong is to be explained.
 #[derive(Clone, Copy, Debug)]
 pub struct Asked<'a> {
@@ -29,6 +32,37 @@ pub enum Job<'a> {
     Print {
         file: &'a str,
     },
+}
+
+impl<'a> Job<'a> {
+    // The paths of the program, the journal and the script.
+    fn paths(&self) -> [Option<&'a str>; 3] {
+        match *self {
+            Job::Run { file, script, .. } => [Some(file), None, script],
+            Job::Check {
+                file,
+                journal,
+                script,
+            }
+            | Job::Draw {
+                file,
+                journal,
+                script,
+                ..
+            } => [Some(file), Some(journal), script],
+            Job::Print { file } => [Some(file), None, None],
+        }
+    }
+
+    /// Whether standard input is named for more than one file. It can be read only once.
+    pub(crate) fn shares_input(&self) -> bool {
+        let paths = self.paths();
+        paths
+            .iter()
+            .filter(|path| **path == Some(STANDARD_INPUT))
+            .count()
+            > 1
+    }
 }
 
 /// How a program is run.
