@@ -17,6 +17,7 @@ use crate::printing::print_text;
 use crate::running::run_text;
 use clap::error::ErrorKind;
 use orc_explain::Unread;
+use orc_page::Subject;
 use orc_words::{Asked, Job, Options, Ranges, read_words};
 use std::alloc::Global;
 use std::convert::AsStr;
@@ -237,7 +238,7 @@ fn print_file<'a, F: Files, W: Write>(
     match print_text(alloc, source.as_slice(), out) {
         Ok(()) => Ok(0),
         Err(fault) => {
-            let subject = subject_of(file, source.as_slice(), None, b"");
+            let subject = Subject::of_source(title_of(file), source.as_slice());
             explained.fault(alloc, &subject, fault);
             Err(Failure::Fault(fault))
         }
