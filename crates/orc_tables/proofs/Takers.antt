@@ -242,6 +242,10 @@ linked-out takers (suc n) ss at le L = go at le L (step_at ss at) refl (λ rest 
 pub linked-left : (ss : List Step) (takers : List ℕ) (from : ℕ) → AreLinked ss takers → AreLinked (left_from ss from) takers
 linked-left ss takers from L = linked-out takers from ss from (omega arith) (record { outwards = L.outwards; count = L.count; noted = L.noted; marks = marked-but ss from L.marks })
 
+-- the step that is read there
+pub step-there : (ss : List Step) (at : ℕ) (x : Step) → at ≤ length ss → (at ≡ 0 → ⊥) → x ≡ get_or ss (at - 1) x → slice_get ss (at - 1) ≡ Some x
+step-there ss at x within off is = there ss (at - 1) x (omega (arith, within, off)) ∙ ap Some (sym is)
+
 -- ---- one step of the way, from step `at`
 module _ (ss : List Step) (at : ℕ) (off : at ≡ 0 → ⊥) (x : Step) (h : slice_get ss (at - 1) ≡ Some x) where
   number : at ≡ suc (at - 1)

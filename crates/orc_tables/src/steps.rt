@@ -2,7 +2,7 @@
 //! of a cell.
 
 ghost use Rattle.std.specs.Prelude.{◌≡◌, ◌≤◌, ◌<◌, ◌^◌, ◌++◌, ◌∷◌, [], false, length, OnOk};
-ghost use Rattle.orc_tables.specs.Steps.{step_at, group_at, depth_at, taker_at, left_from, HasRoom};
+ghost use Rattle.orc_tables.specs.Steps.{step_at, group_at, depth_at, taker_at, left_from, is_try as tries, HasRoom};
 ghost use Rattle.orc_tables.specs.Inside.{aids, stands_inside, side_inside};
 
 use crate::memory::{push_within, reserve};
@@ -31,7 +31,7 @@ impl Model for Steps {
 }
 
 fn is_try(entered: Entered) -> bool
-    ensures { result ≡ Rattle.orc_tables.specs.Steps.is_try entered }
+    ensures { result ≡ tries entered }
 {
     match entered {
         Entered::Try(_) => true,

@@ -1,10 +1,8 @@
-use Rattle.std.proofs.Common.{◌≡◌, ◌-◌, ◌∙◌, ◌<◌, List, arith, sym, ap, Some}
-use Rattle.std.specs.Prelude.{slice_get}
+use Rattle.std.proofs.Common.{◌-◌, ◌∙◌, ◌<◌, List, arith, sym, ap}
 use Rattle.std.proofs.lemmas.List.{length-set}
 use Rattle.orc_tables.specs.declared.records.Step.{Step}
 use Rattle.orc_tables.specs.Steps.{StepTable, IsMarked, marked, left_from}
-use Rattle.orc_tables.proofs.Placed.{there}
-use Rattle.orc_tables.proofs.Takers.{marked-all, left-idle, linked-end, way-ends, way-linked, way-falls, way-rest}
+use Rattle.orc_tables.proofs.Takers.{marked-all, left-idle, linked-end, way-ends, way-linked, way-falls, way-rest, step-there}
 use Rattle.orc_tables.proofs.steps.Steps.leave.Goals.{then-not-is_try-via-then-not-is_try, then-not-is_try-via-else-not-is_try+then-step}
 use Rattle.orc_tables.proofs.steps.Steps.leave.Goals as goal
 
@@ -13,7 +11,7 @@ invariant_of-self-then-not-is_try c =
     let now : List Step = c.loop-at.self-inside.items.items in
     let at = c.loop-at.at in
     let x : Step = c.index-step.result.now in
-    let h : slice_get now (at - 1) ≡ Some x = there now (at - 1) x (omega (arith, c.loop-at.invariant.within, c.loop-at-test.true)) ∙ ap Some (sym c.index-step.ensures) in
+    let h = step-there now at x c.loop-at.invariant.within c.loop-at-test.true c.index-step.ensures in
     let here : IsMarked now at = way-ends now at c.loop-at-test.true x h (λ tries. elim c.then-not-is_try.branch [
       | then-not-is_try-via-then-not-is_try w ↦ cc (sym tries ∙ sym (w.if-not-is_try.ensures))
       | then-not-is_try-via-else-not-is_try+then-step w ↦ w.if-step.true
@@ -25,7 +23,7 @@ returns-then-not-is_try c =
     let now : List Step = c.loop-at.self-inside.items.items in
     let at = c.loop-at.at in
     let x : Step = c.index-step.result.now in
-    let h : slice_get now (at - 1) ≡ Some x = there now (at - 1) x (omega (arith, c.loop-at.invariant.within, c.loop-at-test.true)) ∙ ap Some (sym c.index-step.ensures) in
+    let h = step-there now at x c.loop-at.invariant.within c.loop-at-test.true c.index-step.ensures in
     let here : IsMarked now at = way-ends now at c.loop-at-test.true x h (λ tries. elim c.then-not-is_try.branch [
       | then-not-is_try-via-then-not-is_try w ↦ cc (sym tries ∙ sym (w.if-not-is_try.ensures))
       | then-not-is_try-via-else-not-is_try+then-step w ↦ w.if-step.true
@@ -37,7 +35,7 @@ loop-at-smaller c =
     let now : List Step = c.loop-at.self-inside.items.items in
     let at = c.loop-at.at in
     let x : Step = c.index-step.result.now in
-    let h : slice_get now (at - 1) ≡ Some x = there now (at - 1) x (omega (arith, c.loop-at.invariant.within, c.loop-at-test.true)) ∙ ap Some (sym c.index-step.ensures) in
+    let h = step-there now at x c.loop-at.invariant.within c.loop-at-test.true c.index-step.ensures in
     way-falls now at c.loop-at-test.true x h c.loop-at.self-inside.takers.items c.loop-at.invariant.links
 
 pub loop-at-preserved : goal.loop-at-preserved
@@ -45,7 +43,7 @@ loop-at-preserved c =
     let now : List Step = c.loop-at.self-inside.items.items in
     let at = c.loop-at.at in
     let x : Step = c.index-step.result.now in
-    let h : slice_get now (at - 1) ≡ Some x = there now (at - 1) x (omega (arith, c.loop-at.invariant.within, c.loop-at-test.true)) ∙ ap Some (sym c.index-step.ensures) in
+    let h = step-there now at x c.loop-at.invariant.within c.loop-at-test.true c.index-step.ensures in
     let falls : x.outer < at = way-falls now at c.loop-at-test.true x h c.loop-at.self-inside.takers.items c.loop-at.invariant.links in
     record {
       links = way-linked now at c.loop-at-test.true x h c.loop-at.self-inside.takers.items c.loop-at.invariant.links;
