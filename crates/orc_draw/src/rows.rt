@@ -1,5 +1,8 @@
 //! The rows of a picture: each shown span with its label, in a tree.
 
+ghost use Rattle.std.specs.Prelude.{◌≤◌, length, IfOk};
+ghost use Rattle.orc_rules.specs.declared.limits.TheConstants.{MOST_ROWS};
+
 use crate::fault::DrawFault;
 use crate::labels::Texts;
 use crate::story::{End, Kind, Span};
@@ -118,8 +121,10 @@ impl Tree {
 }
 
 impl Rows {
-    /// The rows of a story's spans. A fault is refused memory, or that there are too many.
-    pub(crate) fn new(alloc: Global, spans: &[Span], texts: &Texts) -> Result<Rows, DrawFault> {
+    /// The rows of a story's spans, `MOST_ROWS` at most. A fault is refused memory, or that there are more.
+    pub(crate) fn new(alloc: Global, spans: &[Span], texts: &Texts) -> Result<Rows, DrawFault>
+        ensures few { IfOk result (λ r. length r.rows.items ≤ MOST_ROWS) }
+    {
         let kept = kept_spans(alloc, spans)?;
         let tree = Tree::new(alloc, spans)?;
         let mut rows = Rows {
@@ -145,7 +150,10 @@ impl Rows {
         kept: &[bool],
         tree: &Tree,
         texts: &Texts,
-    ) -> Result<(), DrawFault> {
+    ) -> Result<(), DrawFault>
+        requires few { length self.old.rows.items ≤ MOST_ROWS }
+        ensures few { length self.new.rows.items ≤ MOST_ROWS }
+    {
         for _span in spans {
             let Some(Ahead { span, depth }) = ahead.pop() else {
                 return Ok(());
@@ -172,7 +180,10 @@ impl Rows {
         place: usize,
         depth: u64,
         texts: &Texts,
-    ) -> Result<bool, DrawFault> {
+    ) -> Result<bool, DrawFault>
+        requires few { length self.old.rows.items ≤ MOST_ROWS }
+        ensures few { length self.new.rows.items ≤ MOST_ROWS }
+    {
         let Some(span) = spans.get(place) else {
             return Ok(false);
         };
