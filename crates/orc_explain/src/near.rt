@@ -1,5 +1,7 @@
 //! The name that may have been meant.
 
+ghost use Rattle.std.specs.Prelude.{◌≤◌};
+
 use std::alloc::{AllocError, Global};
 use strsim::osa_distance;
 
@@ -40,7 +42,10 @@ fn edits(alloc: Global, a: &[u8], b: &[u8]) -> Result<Option<usize>, AllocError>
 }
 
 impl<'n> Near<'n> {
-    pub(crate) fn new(alloc: Global, name: &'n [u8]) -> Near<'n> {
+    /// Nothing yet for this name. What is taken is two edits away at most.
+    pub(crate) fn new(alloc: Global, name: &'n [u8]) -> Near<'n>
+        ensures { result.most ≤ 2 }
+    {
         let most = match name.len() {
             0 | 1 => 0,
             LONG..=LONGEST => 2,
@@ -56,7 +61,9 @@ impl<'n> Near<'n> {
     }
 
     /// Whether one more name is nearer than those before, and near enough. One that differs in capitals alone is the nearest.
-    pub(crate) fn takes(&mut self, candidate: &[u8]) -> bool {
+    pub(crate) fn takes(&mut self, candidate: &[u8]) -> bool
+        ensures { self.new.most ≤ self.old.most }
+    {
         if !self.is_open || candidate == self.name {
             return false;
         }
@@ -71,7 +78,9 @@ impl<'n> Near<'n> {
     }
 
     // Whether few edits lead to a name. From then on only fewer do.
-    fn is_few_edits_to(&mut self, candidate: &[u8]) -> bool {
+    fn is_few_edits_to(&mut self, candidate: &[u8]) -> bool
+        ensures { self.new.most ≤ self.old.most }
+    {
         match edits(self.alloc, self.name, candidate) {
             Ok(Some(edits)) if edits <= self.most => {
                 self.most = edits.saturating_sub(1);

@@ -1,5 +1,7 @@
 //! The two lines of a term: itself, and its marks below.
 
+ghost use Rattle.std.specs.Prelude.{◌≤◌, ◌+◌};
+
 use crate::strip::{Stretch, Strip};
 use crate::way::Label;
 use orc_page::Page;
@@ -31,7 +33,10 @@ struct Window {
 }
 
 impl Strip<'_, '_> {
-    fn window(&self) -> Window {
+    // The columns that are shown, 76 at most: all, or some round what is named.
+    fn window(&self) -> Window
+        ensures { result.end ≤ result.first + 76 }
+    {
         let len = self.page.len();
         let is_inner = self.way.is_inner();
         if len <= LONGEST && !self.is_cut {

@@ -285,7 +285,7 @@ fn do_job<'a, R: Threads + Wait + Sync, F: Files, W: Write>(
 /// take changes no status. Where the status says that a file's text, the command line or the engine was at
 /// fault, nothing was written to standard output. Where it says that a run ended quiet, or was cut by its limit or one of the
 /// engine's, the whole text of a run that ended so was.
-#[tactic(auto, using(crate::proofs::Statuses::kept, crate::proofs::Statuses::untouched, crate::proofs::Statuses::faultless, crate::proofs::Statuses::ended_quiet, crate::proofs::Statuses::ended_cut, crate::proofs::Statuses::not_quiet, crate::proofs::Statuses::not_cut))]
+#[tactic(auto, using(crate::proofs::Statuses::kept, crate::proofs::Statuses::untouched, crate::proofs::Statuses::faultless, crate::proofs::Statuses::ended_quiet, crate::proofs::Statuses::not_quiet, crate::proofs::Statuses::not_cut))]
 pub fn command<R, S, F, W, V>(
     rt: &R,
     alloc: Global,

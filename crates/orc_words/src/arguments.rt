@@ -1,5 +1,8 @@
 //! What a command line may say.
 
+ghost use Rattle.std.specs.Prelude.{◌≡◌, IfOk, false};
+ghost use Rattle.orc_words.specs.Inputs.{shares};
+
 use crate::job::{Asked, Job, Options};
 use clap::error::ErrorKind;
 use clap::{Arg, ArgAction, ArgMatches, Command, Error, value_parser};
@@ -251,13 +254,15 @@ fn job_of<'a>(name: &str, given: &ArgMatches<'a>) -> Option<Job<'a>> {
 /// Why a command line is refused that names standard input for two files.
 const SHARED: &str = "'-' stands for more than one file, and standard input can be read only once";
 
-/// Reads a command line, whose first word is the program's name. An error asks for help or for the version, or refuses
-/// it.
+/// Reads a command line, whose first word is the program's name. One that is taken names standard input for one file at most. An error asks for
+/// help or for the version, or refuses it.
 pub fn read_words<'a, S: AsStr>(
     alloc: Global,
     words: &'a [S],
     ranges: &'a Ranges,
-) -> Result<Asked<'a>, Error> {
+) -> Result<Asked<'a>, Error>
+    ensures once { IfOk result (λ asked. shares asked.job ≡ false) }
+{
     let mut command = orc_command(alloc, ranges)?;
     let matches = command.try_get_matches_from_mut(words)?;
     if let Some((name, given)) = matches.subcommand() {

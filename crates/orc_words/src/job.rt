@@ -1,5 +1,8 @@
 //! What a command line asks for.
 
+ghost use Rattle.std.specs.Prelude.{◌≡◌, option_map};
+ghost use Rattle.orc_words.specs.Inputs.{names_input, may_name_input, two_of, shares};
+
 /// What stands for standard input where a file is named. A file of this name is `./-`.
 pub const STANDARD_INPUT: &str = "-";
 
@@ -34,11 +37,34 @@ pub enum Job<'a> {
     },
 }
 
-impl<'a> Job<'a> {
-    // The paths of the program, the journal and the script.
-    fn paths(&self) -> [Option<&'a str>; 3] {
+fn is_input(path: &str) -> bool
+    ensures { result ≡ names_input path.now }
+{
+    path == STANDARD_INPUT
+}
+
+fn may_be_input(path: Option<&str>) -> bool
+    ensures { result ≡ may_name_input (option_map (λ p. p.now) path.entry) }
+{
+    match path {
+        Some(path) => is_input(path),
+        None => false,
+    }
+}
+
+fn are_two(a: bool, b: bool, c: bool) -> bool
+    ensures { result ≡ two_of a b c }
+{
+    a && b || (a || b) && c
+}
+
+impl Job<'_> {
+    /// Whether standard input is named for more than one file. It can be read only once.
+    pub(crate) fn shares_input(&self) -> bool
+        ensures { result ≡ shares self.now }
+    {
         match *self {
-            Job::Run { file, script, .. } => [Some(file), None, script],
+            Job::Run { file, script, .. } => is_input(file) && may_be_input(script),
             Job::Check {
                 file,
                 journal,
@@ -49,19 +75,9 @@ impl<'a> Job<'a> {
                 journal,
                 script,
                 ..
-            } => [Some(file), Some(journal), script],
-            Job::Print { file } => [Some(file), None, None],
+            } => are_two(is_input(file), is_input(journal), may_be_input(script)),
+            Job::Print { .. } => false,
         }
-    }
-
-    /// Whether standard input is named for more than one file. It can be read only once.
-    pub(crate) fn shares_input(&self) -> bool {
-        let paths = self.paths();
-        paths
-            .iter()
-            .filter(|path| **path == Some(STANDARD_INPUT))
-            .count()
-            > 1
     }
 }
 
