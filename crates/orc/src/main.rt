@@ -26,11 +26,11 @@ impl<F: Read> Read for Input<F> {
     }
 }
 
-/// The files of the system.
+/// The files of the system, and standard input or why it can't be read.
 #[derive(Drop)]
 struct SystemFiles<'a, R> {
     rt: &'a R,
-    stdin: Stdin,
+    stdin: Result<Stdin, ReadFault>,
 }
 
 // A folder can be opened too, and only its read tells what it is.
@@ -46,31 +46,45 @@ fn fault_of(error: io::Error) -> ReadFault {
     }
 }
 
-impl<R: rt::Files + AllocGlobal> SystemFiles<'_, R> {
-    fn open_input(&self, path: &str) -> io::Result<Input<R::File>> {
-        if path == STANDARD_INPUT {
-            return Ok(Input::Standard(self.stdin));
-        }
-        Ok(Input::File(fs::open(self.rt, path)?))
+// Standard input, if it can be read. Where it is closed the system gives its number to the next file that is opened, which would then be read
+// in its place; so this is asked before.
+fn standard_input(mut stdin: Stdin) -> Result<Stdin, ReadFault> {
+    match stdin.read(&mut []) {
+        Ok(_) => Ok(stdin),
+        Err(error) => Err(fault_of(error)),
     }
+}
 
-    // The first bytes of a file, `MOST` at most: a device may have no end.
-    fn read_front(&self, path: &str) -> io::Result<Vec<u8>> {
-        let mut bytes = Vec::new(self.rt.alloc());
-        self.open_input(path)?.take(MOST).read_to_end(&mut bytes)?;
-        Ok(bytes)
+impl<R: rt::Files + AllocGlobal> SystemFiles<'_, R> {
+    fn open_input(&self, path: &str) -> Result<Input<R::File>, ReadFault> {
+        if path == STANDARD_INPUT {
+            return match self.stdin {
+                Ok(stdin) => Ok(Input::Standard(stdin)),
+                Err(fault) => Err(fault),
+            };
+        }
+        match fs::open(self.rt, path) {
+            Ok(file) => Ok(Input::File(file)),
+            Err(error) => Err(fault_of(error)),
+        }
     }
 }
 
 impl<R: rt::Files + AllocGlobal> Files for SystemFiles<'_, R> {
     type Reader = Input<R::File>;
 
+    // The first bytes of a file, `MOST` at most: a device may have no end.
     fn read(&mut self, path: &str) -> Result<Vec<u8>, ReadFault> {
-        self.read_front(path).map_err(fault_of)
+        let mut bytes = Vec::new(self.rt.alloc());
+        let mut front = self.open_input(path)?.take(MOST);
+        match front.read_to_end(&mut bytes) {
+            Ok(_) => Ok(bytes),
+            Err(error) => Err(fault_of(error)),
+        }
     }
 
     fn open(&mut self, path: &str) -> Result<Input<R::File>, ReadFault> {
-        self.open_input(path).map_err(fault_of)
+        self.open_input(path)
     }
 }
 
@@ -97,7 +111,7 @@ fn main(rt: HostRuntime) -> ExitCode {
     };
     let mut files = SystemFiles {
         rt: &rt,
-        stdin: rt.stdin(),
+        stdin: standard_input(rt.stdin()),
     };
     let mut out = rt.stdout();
     let mut err = rt.stderr();
