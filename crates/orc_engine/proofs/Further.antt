@@ -186,6 +186,6 @@ stays s s' e = record { limit = ap (λ (z : Records). z.limit) e; far = omega (a
 
 -- a call of a site that is made, or made and answered
 pub called-further : (l : Listing) (sites : List Site) (s : Records) (slot : ℕ) (t : Token) (c : Called) (s' : Records) → IsCalled l sites s slot t c s' → Advances s s'
-called-further l sites s slot t (called.Pends c) s' h = exchanged _ _ _ _ _ _ _ _ h.exchanges
+called-further l sites s slot t (called.Pends k) s' (c, number, made) = exchanged _ _ _ _ _ _ _ _ made.exchanges
 called-further l sites s slot t called.Answered s' (c, v, between, found, made, answered) = further-still s between s' (exchanged _ _ _ _ _ _ _ _ made.exchanges) (exchanged _ _ _ _ _ _ _ _ answered.0)
 called-further l sites s slot t (called.Halted g) s' (c, between, found, group, made, answered) = further-still s between s' (exchanged _ _ _ _ _ _ _ _ made.exchanges) (exchanged _ _ _ _ _ _ _ _ answered)

@@ -97,7 +97,7 @@ impl<P: Program> Ledger<P> {
             Some(answer) if self.limit - self.entries >= 2 => answer,
             _ => {
                 self.pend(answers, slot, token, site, args, call)?;
-                return Ok(Called::Pends(call));
+                return Ok(Called::Pends(call.number));
             }
         };
         let number = call.number;

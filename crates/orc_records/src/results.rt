@@ -1,7 +1,6 @@
 //! What the calls of a ledger answer.
 
 use orc_rules::value::Args;
-use orc_tables::Call;
 
 /// What a move of a token has done.
 #[derive(Clone, Copy, Debug, PartialEq, Eq)]
@@ -25,8 +24,8 @@ pub enum Moved {
 /// What became of a call of a site.
 #[derive(Clone, Copy)]
 pub enum Called {
-    /// It pends.
-    Pends(Call),
+    /// It pends, with this number.
+    Pends(u64),
     /// It was answered at once: a token on the answer stands in the slot of the one that made it.
     Answered,
     /// It halted at once, in this group, which may have no member any more.
