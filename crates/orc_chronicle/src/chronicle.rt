@@ -177,9 +177,8 @@ impl<P: Program> Chronicle<P> {
         self.held.len()
     }
 
-    /// Holds the entries no more, if there is memory for what is still to be known of them. Then there is room for so many that come, if there is memory
-    /// for it.
-    pub fn forget(&mut self, answers: &Answers, room: usize)
+    /// Holds the entries no more, if there is memory for what is still to be known of them. What they took is for those that come.
+    pub fn forget(&mut self, answers: &Answers)
         requires answers { answers.now.sites ≡ P.sites }
         requires keeps { P.keeps ≡ false }
         ensures version { self.new.version ≡ self.old.version }
@@ -197,12 +196,9 @@ impl<P: Program> Chronicle<P> {
             Err(_) => return,
         }
         self.is_local = self.is_local && self.held.are_local(answers);
-        let mut held = Journal::new(self.alloc, self.held.version());
-        // Where memory for it is refused now, it is asked for as entries come.
-        let _ = held.reserve(room);
         self.past = past_with(&self.past, &self.held);
         self.forgotten += len;
-        self.held = held;
+        self.held.clear();
     }
 
     /// Puts a part's entries behind under these numbers, and gives its calls of sites, so many as were `made`, the next numbers. Where memory is refused

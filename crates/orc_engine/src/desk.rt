@@ -312,7 +312,7 @@ impl<P: Naming> Desk<P> {
         ensures ready { self.new.ready ≡ self.old.ready }
     {
         if !self.keeps && self.ledger.held_len() >= MOST_HELD {
-            self.ledger.forget(answers, MOST_HELD);
+            self.ledger.forget(answers);
         }
     }
 

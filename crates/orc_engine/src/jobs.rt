@@ -124,7 +124,7 @@ fn run_apart<Q: Naming, P: Naming>(
     let mut ledger = desk.into_ledger();
     if !keeps {
         // What is taken in is then what it publishes, and no entry.
-        ledger.forget(answers, 0);
+        ledger.forget(answers);
     }
     match ledger.into_part::<P>(answers, task) {
         Some(part) => Came::Over(part),

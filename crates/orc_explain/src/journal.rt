@@ -1,10 +1,10 @@
 //! Faults of a journal's text (J).
 
-use crate::near::Near;
 use crate::syntax::say_refused;
 use crate::words::said_of;
 use orc_journal::JournalFault;
 use orc_lex::token::Span;
+use orc_near::Near;
 use orc_page::{Document, Page, Subject};
 use orc_rules::limits::{LONGEST_JOURNAL, MOST_ENTRIES};
 use orc_site::read_script;
@@ -154,7 +154,7 @@ fn near_word(page: &mut Page, alloc: Global, word: &[u8]) -> &'static [u8] {
             meant = *other;
         }
     }
-    if near.is_refused {
+    if near.is_refused() {
         page.refuse();
     }
     meant

@@ -6,8 +6,8 @@
 //! time in proportion to the texts.
 //!
 //! `explain_end` takes a run that has ended, with its journal, and says how: which calls never return and who waits for them, or what could go
-//! on; or, where it has halted, what looks like a mistake. The journal is replayed twice at once, by the checker's marked term, which knows what can come next, and on the program's sketch, which
-//! knows where it stands. That takes time in proportion to the journal.
+//! on; or, where it has halted, what looks like a mistake. The journal is replayed twice at once, by the checker's marked term, which knows
+//! what can come next, and on the program's sketch, which knows where it stands. That takes time in proportion to the journal.
 #![tactic(auto)]
 
 mod bindings;
@@ -17,7 +17,6 @@ mod fault;
 mod hint;
 mod journal;
 mod moves;
-mod near;
 mod remarks;
 mod replay;
 mod rules;

@@ -2,11 +2,11 @@
 
 use crate::bindings::{Binder, Binding, Bindings};
 use crate::hint::{Hint, say_hint};
-use crate::near::Near;
 use crate::syntax::say_refused;
 use crate::tokens::span_at;
 use crate::wanted::NO_IF;
 use crate::words::{RESERVED, is_one_of, said_of};
+use orc_near::Near;
 use orc_page::{Document, Page, Subject};
 use orc_rules::answers::Answers;
 use orc_rules::limits::{MOST_ARGUMENTS, MOST_NODES};
@@ -219,7 +219,7 @@ fn say_near(page: &mut Page, alloc: Global, ast: &Ast, bindings: &Bindings, name
     let variable = near_variable(&mut near, bindings);
     let definition = near_definition(&mut near, ast);
     let word = near_word(&mut near);
-    if near.is_refused {
+    if near.is_refused() {
         page.refuse();
     }
     match word.or(text_of(definition.or(variable))) {
@@ -367,7 +367,7 @@ fn say_near_site(
     let mut near = Near::new(alloc, name);
     let definition = near_definition(&mut near, ast);
     let site = near_site(&mut near, answers);
-    if near.is_refused {
+    if near.is_refused() {
         page.refuse();
     }
     match site.or(text_of(definition)) {

@@ -299,14 +299,14 @@ impl<P: Program> Ledger<P> {
         self.journal.held_len()
     }
 
-    /// The entries of the journal that are there are held no more, if there is memory for what is still to be known of them: what they publish. Then there is
-    /// room for so many that come, if there is memory for it. All that clauses say of the journal stays.
-    pub fn forget(&mut self, answers: &Answers, room: usize)
+    /// The entries of the journal that are there are held no more, if there is memory for what is still to be known of them: what they publish. What they
+    /// took is for those that come. All that clauses say of the journal stays.
+    pub fn forget(&mut self, answers: &Answers)
         requires keeps { P.keeps ≡ false }
         requires answers { answers.now.sites ≡ P.sites }
         ensures { self.new ≡ self.old }
     {
-        self.journal.forget(answers, room);
+        self.journal.forget(answers);
     }
 
     /// Whether one more entry, so many more tokens and groups, and a token with so many left sides of a `>x>` round it, are within the limits.

@@ -1,20 +1,9 @@
 //! The two lines of a term: itself, and its marks below.
 
-ghost use Rattle.std.specs.Prelude.{◌≤◌, ◌+◌};
-
 use crate::strip::{Stretch, Strip};
 use crate::way::Label;
-use orc_page::Page;
+use orc_page::{Page, Window};
 use std::alloc::{AllocError, Global};
-
-/// A longer line isn't shown whole, in columns.
-const LONGEST: usize = 76;
-
-/// What is shown of a longer line.
-const SHOWN: usize = 70;
-
-/// What is shown of it before what is named, at most.
-const BEFORE: usize = 34;
 
 /// The columns behind a line in which numbers have room.
 const BEHIND: usize = 32;
@@ -22,42 +11,11 @@ const BEHIND: usize = 32;
 /// What stands before a line whose front isn't shown.
 const CUT: &str = ".. ";
 
-/// The part of a term's line that is shown.
-#[derive(Clone, Copy)]
-struct Window {
-    first: usize,
-    end: usize,
-    /// Whether something stands before it, and behind it.
-    is_front_cut: bool,
-    is_end_cut: bool,
-}
-
 impl Strip<'_, '_> {
-    // The columns that are shown, 76 at most: all, or some round what is named.
-    fn window(&self) -> Window
-        ensures { result.end ≤ result.first + 76 }
-    {
-        let len = self.page.len();
-        let is_inner = self.way.is_inner();
-        if len <= LONGEST && !self.is_cut {
-            return Window {
-                first: 0,
-                end: len,
-                is_front_cut: is_inner,
-                is_end_cut: is_inner,
-            };
-        }
-        let first = match self.named {
-            Some(named) => named.start.saturating_sub(BEFORE),
-            None => 0,
-        };
-        let end = first.saturating_add(SHOWN).min(len);
-        Window {
-            first,
-            end,
-            is_front_cut: first > 0 || is_inner,
-            is_end_cut: end < len || self.is_cut || is_inner,
-        }
+    // The columns that are shown: all, or some round what is named.
+    fn window(&self) -> Window {
+        let named = self.named.map(|named| named.start);
+        Window::of(self.page.len(), named, self.is_cut, self.way.is_inner())
     }
 
     // What is named, where it is shown.

@@ -55,7 +55,7 @@ fn run_apart<Q: Naming, P: Naming>(
             Err(_) => return None,
         }
         if !keeps {
-            ledger.forget(answers, 0);
+            ledger.forget(answers);
         }
     }
     ledger.into_part::<P>(answers, task)

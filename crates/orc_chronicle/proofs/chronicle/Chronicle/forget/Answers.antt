@@ -22,8 +22,8 @@ invariant_of-self-2 g c =
       ];
       whole = λ kept. absurd (cc (sym kept ∙ c.requires.keeps));
       few = omega (arith, c.if-len-self.false, old.few);
-      room = omega (arith, ap (λ j. length j.entries) (c.reserve.ensures ∙ c.new-held.ensures));
+      room = omega (arith, ap (λ j. length j.entries) c.clear.ensures);
     }
 
 pub returns-clause-version : goal.returns-clause-version
-returns-clause-version g c = ap (λ j. j.version) (c.reserve.ensures ∙ c.new-held.ensures) ∙ c.version.ensures ∙ ap (λ j. j.version) c.self.view_is
+returns-clause-version g c = ap (λ j. j.version) c.clear.ensures ∙ ap (λ j. j.version) c.self.view_is

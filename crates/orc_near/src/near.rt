@@ -3,6 +3,7 @@
 ghost use Rattle.std.specs.Prelude.{◌≤◌};
 
 use std::alloc::{AllocError, Global};
+use std::marker::Model;
 use strsim::osa_distance;
 
 /// Longer names are compared with nothing.
@@ -12,16 +13,24 @@ const LONGEST: usize = 64;
 const LONG: usize = 6;
 
 /// The search for the nearest of some names.
-#[derive(Clone, Copy)]
-pub(crate) struct Near<'n> {
+#[derive(Drop)]
+pub struct Near<'n> {
     alloc: Global,
     name: &'n [u8],
     // The most edits of a name that is to be taken.
     most: usize,
     // Whether a name that differs in capitals alone may still be taken.
     is_open: bool,
-    /// Whether memory was refused: then none is taken any more.
-    pub is_refused: bool,
+    is_refused: bool,
+}
+
+impl<'n> Model for Near<'n> {
+    ghost use Rattle.std.specs.Prelude.{ℕ};
+
+    // The most edits of a name that is still to be taken.
+    ghost Value = { ℕ };
+
+    ghost view = { λ n. n.most };
 }
 
 // Whether two names differ in capitals alone.
@@ -42,9 +51,10 @@ fn edits(alloc: Global, a: &[u8], b: &[u8]) -> Result<Option<usize>, AllocError>
 }
 
 impl<'n> Near<'n> {
-    /// Nothing yet for this name. What is taken is two edits away at most.
-    pub(crate) fn new(alloc: Global, name: &'n [u8]) -> Near<'n>
-        ensures { result.most ≤ 2 }
+    /// Nothing yet for this name. What is taken is two edits away at most, or one where the name has under six bytes, and none where it has one. Nothing
+    /// is near a name of over 64 bytes.
+    pub fn new(alloc: Global, name: &'n [u8]) -> Near<'n>
+        ensures { result ≤ 2 }
     {
         let most = match name.len() {
             0 | 1 => 0,
@@ -60,9 +70,14 @@ impl<'n> Near<'n> {
         }
     }
 
+    /// Whether memory was refused: then none is taken any more.
+    pub fn is_refused(&self) -> bool {
+        self.is_refused
+    }
+
     /// Whether one more name is nearer than those before, and near enough. One that differs in capitals alone is the nearest.
-    pub(crate) fn takes(&mut self, candidate: &[u8]) -> bool
-        ensures { self.new.most ≤ self.old.most }
+    pub fn takes(&mut self, candidate: &[u8]) -> bool
+        ensures { self.new ≤ self.old }
     {
         if !self.is_open || candidate == self.name {
             return false;
@@ -79,7 +94,7 @@ impl<'n> Near<'n> {
 
     // Whether few edits lead to a name. From then on only fewer do.
     fn is_few_edits_to(&mut self, candidate: &[u8]) -> bool
-        ensures { self.new.most ≤ self.old.most }
+        ensures { self.new ≤ self.old }
     {
         match edits(self.alloc, self.name, candidate) {
             Ok(Some(edits)) if edits <= self.most => {
