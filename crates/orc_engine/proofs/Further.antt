@@ -1,5 +1,5 @@
 -- Each move of a token brings a run further, but where the token calls a site or waits.
-use Rattle.std.proofs.Common.{◌≡◌, ◌≤◌, ℕ, List, refl, ap, subst, ◌∙◌, arith, Bool, true, false}
+use Rattle.std.proofs.Common.{◌≡◌, ◌≤◌, ℕ, List, [], refl, ap, subst, ◌∙◌, arith, Bool, true, false}
 use Rattle.orc_rules.specs.declared.entry.Entry.{Entry}
 use Rattle.orc_rules.specs.Nodes.{Listing, code, definitions, source}
 use Rattle.orc_rules.specs.Program.{IsProgram}
@@ -22,9 +22,11 @@ use Rattle.orc_records.specs.AtOnce.{IsCalled}
 use Rattle.orc_records.specs.Calls.{Turns, Crosses, Drops, Exchanges, Resumes, Closes, group_goes}
 use Rattle.orc_records.specs.Doing.{what_of}
 use Rattle.orc_records.specs.Moves.{Does, Moves, CallsFit}
+use Rattle.orc_records.specs.Passing.{Enters}
 use Rattle.orc_records.specs.declared.results.Called.{Called}
 use Rattle.orc_records.specs.declared.results.Called.TheVariants as called
 use Rattle.orc_records.specs.declared.results.Moved.TheVariants as moved
+use Rattle.orc_records.specs.declared.results.Passed.TheVariants as passed
 use Rattle.orc_engine.specs.Stops.{Goes, Advances, open_groups}
 
 abbrev one : Group → ℕ
@@ -187,5 +189,21 @@ stays s s' e = record { limit = ap (λ (z : Records). z.limit) e; far = omega (a
 -- a call of a site that is made, or made and answered
 pub called-further : (l : Listing) (sites : List Site) (s : Records) (slot : ℕ) (t : Token) (c : Called) (s' : Records) → IsCalled l sites s slot t c s' → Advances s s'
 called-further l sites s slot t (called.Pends k) s' (c, number, made) = exchanged _ _ _ _ _ _ _ _ made.exchanges
-called-further l sites s slot t called.Answered s' (c, v, between, found, made, answered) = further-still s between s' (exchanged _ _ _ _ _ _ _ _ made.exchanges) (exchanged _ _ _ _ _ _ _ _ answered.0)
+called-further l sites s slot t (called.Answered v) s' (c, between, found, made, answered) = further-still s between s' (exchanged _ _ _ _ _ _ _ _ made.exchanges) (exchanged _ _ _ _ _ _ _ _ answered.0)
 called-further l sites s slot t (called.Halted g) s' (c, between, found, group, made, answered) = further-still s between s' (exchanged _ _ _ _ _ _ _ _ made.exchanges) (exchanged _ _ _ _ _ _ _ _ answered)
+
+-- a token that entered the left side of a `>x>` and made the call there
+pub pends-further : (l : Listing) (sites : List Site) (s : Records) (slot : ℕ) (t : Token) (k : ℕ) (s' : Records) → Enters l sites s slot t (passed.Pends k) s' → Advances s s'
+pends-further l sites s slot t k s' (s1, u, enters, held, h) = further-still s s1 s' (turned _ _ _ _ _ _ _ _ _ enters.done (omega arith)) (called-further l sites s1 slot u (called.Pends k) s' h)
+
+pub answered-further : (l : Listing) (sites : List Site) (s : Records) (slot : ℕ) (t : Token) (s' : Records) → Enters l sites s slot t passed.Answered s' → Advances s s'
+answered-further l sites s slot t s' (s1, u, enters, held, (v, h)) = further-still s s1 s' (turned _ _ _ _ _ _ _ _ _ enters.done (omega arith)) (called-further l sites s1 slot u (called.Answered v) s' h)
+
+pub halted-further : (l : Listing) (sites : List Site) (s : Records) (slot : ℕ) (t : Token) (g : ℕ) (s' : Records) → Enters l sites s slot t (passed.Halted g) s' → Advances s s'
+halted-further l sites s slot t g s' (s1, u, enters, held, h) = further-still s s1 s' (turned _ _ _ _ _ _ _ _ _ enters.done (omega arith)) (called-further l sites s1 slot u (called.Halted g) s' h)
+
+-- and whose answer was taken
+pub through-further : (l : Listing) (sites : List Site) (s : Records) (slot : ℕ) (t : Token) (s' : Records) → Enters l sites s slot t passed.Through s' → Advances s s'
+through-further l sites s slot t s' (s1, u, enters, held, (s2, w, v, g, h, stands, on, moves)) =
+    further-still s s1 s' (turned _ _ _ _ _ _ _ _ _ enters.done (omega arith))
+    (further-still s1 s2 s' (called-further l sites s1 slot u (called.Answered v) s2 h) (sent-further l s2 slot w s' [] g moves))

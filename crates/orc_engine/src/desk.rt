@@ -1,6 +1,6 @@
 //! The records of a run and what its workers do with them: tokens move, calls are answered, groups halt, time passes.
 
-ghost use Rattle.std.specs.Prelude.{◌≡◌, ◌≤◌, ◌<◌, ◌^◌, ℕ, true, false, IfOk, IfErr, IfSome};
+ghost use Rattle.std.specs.Prelude.{◌≡◌, ◌≤◌, ◌<◌, ◌^◌, ℕ, true, false, IfOk, IfErr, IfSome, OnErr};
 ghost use Rattle.std.specs.VecDeque.{deque_len};
 ghost use Rattle.orc_rules.specs.Nodes.{code, definitions, source};
 ghost use Rattle.orc_rules.specs.Program.{IsProgram};
@@ -10,15 +10,17 @@ ghost use Rattle.orc_tables.specs.declared.records.Group.{Group};
 ghost use Rattle.orc_records.specs.Answers.{IsDueNow, Pends};
 ghost use Rattle.orc_records.specs.Doing.{what_of};
 ghost use Rattle.orc_records.specs.Halting.{IsGroup};
+ghost use Rattle.orc_records.specs.Moves.{IsHindered};
 ghost use Rattle.orc_records.specs.Next.{members, numbers_of};
+ghost use Rattle.orc_records.specs.Passing.{Passes};
 ghost use Rattle.orc_engine.specs.Stops.{Goes, Advances, HasMoved, IsNearer, HasTurned, NoneIsDue, IsAtWork, Stops};
 
 use crate::ready::{Handle, Ready};
 use crate::waiting::Waiting;
 use orc_graph::{Graph, Node};
 use orc_ledger::{
-    Call, Called, HaltFault, Halted, Ledger, LedgerFault, Moved, Next, Program as Naming,
-    ReturnFault, Standing, Task, Token, What, calls_fit,
+    Call, Called, HaltFault, Halted, Ledger, LedgerFault, Next, Passed, Program as Naming,
+    ReturnFault, Standing, Task, Token, What, calls_fit, passed,
 };
 use orc_names::Scope;
 use orc_rules::answers::Answers;
@@ -28,7 +30,7 @@ use orc_site::{Due, Request, due_after};
 use std::alloc::Global;
 use std::mem;
 
-/// The most moves of a token in its turn.
+/// So often a token goes on in its turn, each time as far as the ledger takes it in one go.
 const MOVES: u32 = 64;
 
 /// What a turn has come to.
@@ -57,7 +59,9 @@ pub(crate) enum Stop {
 #[inline(always)]
 pub(crate) fn is_at_call(graph: &Graph, token: &Token) -> bool {
     match token.standing {
-        Standing::At(node, _) if token.step == 0 => matches!(graph.node(node), Node::Call(_, _)),
+        Standing::At(node, _) if token.step == 0 => {
+            matches!(graph.node(node as usize), Node::Call(_, _))
+        },
         _ => false,
     }
 }
@@ -366,35 +370,78 @@ impl<P: Naming> Desk<P> {
             return Err(Stop::Refused(LedgerFault::Memory));
         }
         calls_fit(&self.ledger);
-        match self
-            .ledger
-            .advance(graph, slot, token, &mut self.scopes, &mut self.cancelled)
-        {
-            Ok(Moved::On) => Ok(Step::On(slot)),
-            Ok(Moved::Forked(other)) => self.part(slot, other),
-            Ok(Moved::Sent(group)) => {
+        match self.pass(graph, answers, slot, token) {
+            Ok(Passed::On) => Ok(Step::On(slot)),
+            Ok(Passed::Forked(other)) => self.part(slot, other),
+            Ok(Passed::Sent(group)) => {
                 self.close(group)?;
                 Ok(Step::On(slot))
             }
-            Ok(Moved::Gone(group)) => {
+            Ok(Passed::Gone(group)) => {
                 self.close(group)?;
                 Ok(Step::Done)
             }
-            Ok(Moved::Bound(cell, group)) => {
+            Ok(Passed::Bound(cell, group)) => {
                 self.note_cancelled()?;
                 self.wake(cell)?;
                 self.close(group)?;
                 Ok(Step::Done)
             }
-            Ok(Moved::Calls) => self.call(graph, answers, slot, token),
-            Ok(Moved::Waits) => {
+            Ok(Passed::Calls) => self.call(graph, answers, slot, token),
+            Ok(Passed::Waits) => {
                 self.wait(graph, slot)?;
                 Ok(Step::Waits)
             }
+            Ok(Passed::Pends(_)) => {
+                self.touches = true;
+                Ok(Step::Done)
+            }
+            Ok(Passed::Halted(group)) => {
+                self.close(group)?;
+                Ok(Step::Done)
+            }
+            Ok(Passed::Answered) => Ok(Step::On(slot)),
+            Ok(Passed::Through) => Ok(Step::On(slot)),
             Err(fault) => {
                 self.ledger.full_is_crowded();
                 Err(Stop::Refused(fault))
             }
+        }
+    }
+
+    // A token moves: once, or through a `>x>` in one go, but where somebody else makes the calls.
+    #[inline(always)]
+    fn pass(
+        &mut self,
+        graph: &Graph,
+        answers: &Answers,
+        slot: usize,
+        token: Token,
+    ) -> Result<Passed, LedgerFault>
+        requires graph { graph.now ≡ P.listing }
+        requires answers { answers.now.sites ≡ P.sites }
+        requires held { IsHeld self.old.ledger.slots slot token }
+        ensures done { IfOk result (λ p. Passes P.listing P.sites self.old.ledger slot token p self.new.cancelled.items self.new.ledger) }
+        ensures refused { OnErr result (self.new.ledger ≡ self.old.ledger) }
+        ensures why { IfErr result (λ fault. IsHindered P.listing self.old.ledger token fault) }
+        ensures ready { self.new.ready ≡ self.old.ready }
+    {
+        if !self.asks {
+            if let Standing::At(node, scope) = token.standing {
+                if let Node::Seq(left, name, right) = graph.node(node as usize) {
+                    let args = &mut self.args;
+                    return self.ledger.feed_through(
+                        graph, answers, slot, token, scope, left, name, right, args,
+                    );
+                }
+            }
+        }
+        match self
+            .ledger
+            .advance(graph, slot, token, &mut self.scopes, &mut self.cancelled)
+        {
+            Ok(moved) => Ok(passed(moved)),
+            Err(fault) => Err(fault),
         }
     }
 
@@ -459,7 +506,7 @@ impl<P: Naming> Desk<P> {
             .ledger
             .call_through(graph, answers, slot, token, &mut self.args)
         {
-            Ok(Called::Answered) => Ok(Step::On(slot)),
+            Ok(Called::Answered(_)) => Ok(Step::On(slot)),
             Ok(Called::Halted(group)) => {
                 self.close(group)?;
                 Ok(Step::Done)

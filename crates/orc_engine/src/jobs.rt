@@ -114,7 +114,7 @@ fn run_apart<Q: Naming, P: Naming>(
     requires definitions { definitions Q.listing ≡ definitions P.listing }
     requires call { source Q.listing ≡ call_of task.definition task.args }
 {
-    let Ok(ledger) = Ledger::<Q>::begin(alloc, limit, graph.root() as usize) else {
+    let Ok(ledger) = Ledger::<Q>::begin(alloc, limit, graph.root()) else {
         return Came::Nothing;
     };
     let mut desk = Desk::new(alloc, ledger, keeps, false);

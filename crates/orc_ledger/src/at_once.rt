@@ -131,7 +131,7 @@ impl<P: Program> Ledger<P> {
                     },
                     group,
                 );
-                Ok(Called::Answered)
+                Ok(Called::Answered(value))
             }
             Answer::Halt => {
                 write_answered(

@@ -43,7 +43,7 @@ impl<P: Program> Ledger<P> {
         ensures why { IfErr result (λ fault. fault ≡ LedgerFault.Memory) }
     {
         if let Standing::At(node, scope) = token.standing {
-            match graph.node(node) {
+            match graph.node(node as usize) {
                 Node::Name(name) => {
                     return self.list_awaited(&[Operand::Name(name)], scope, listed);
                 }

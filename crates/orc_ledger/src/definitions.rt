@@ -84,7 +84,7 @@ impl<P: Program> Ledger<P> {
             slot,
             Token {
                 serial: mark,
-                standing: Standing::At(body as usize, newest),
+                standing: Standing::At(body, newest),
                 step: token.step,
             },
             group,

@@ -107,7 +107,7 @@ pub(crate) fn write<P: Program>(
 impl<P: Program> Ledger<P> {
     /// A new run: token 1 stands at the program's main term, whose node is `root`, in slot 0. The journal is to have at most `limit` entries beside
     /// the cancels. The only fault is `Memory`.
-    pub fn begin(alloc: Global, limit: usize, root: usize) -> Result<Ledger<P>, LedgerFault>
+    pub fn begin(alloc: Global, limit: usize, root: u32) -> Result<Ledger<P>, LedgerFault>
         requires limit { (1 ≤ limit) × (limit ≤ MOST_ENTRIES) }
         requires named { limit ≡ P.limit }
         requires root { root ≡ P.listing.root }

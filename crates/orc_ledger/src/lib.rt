@@ -11,6 +11,7 @@ mod ledger;
 mod marks;
 mod moves;
 mod next;
+mod onward;
 mod parts;
 mod publications;
 mod requests;
@@ -21,8 +22,11 @@ mod view;
 
 pub use laws::{calls_fit, offered};
 pub use ledger::Ledger;
+pub use onward::passed;
 pub use orc_chronicle::Program;
 pub use orc_paths::{Taker, What};
-pub use orc_records::{Called, HaltFault, Halted, LedgerFault, Moved, Next, Request, ReturnFault};
+pub use orc_records::{
+    Called, HaltFault, Halted, LedgerFault, Moved, Next, Passed, Request, ReturnFault,
+};
 pub use orc_tables::{Call, Entered, Group, Side, Standing, Step, Token};
 pub use parts::{Part, Task};

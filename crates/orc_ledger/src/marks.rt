@@ -60,8 +60,8 @@ impl<P: Program> Ledger<P> {
         slot: usize,
         token: Token,
         scope: usize,
-        left: usize,
-        right: usize,
+        left: u32,
+        right: u32,
     ) -> Result<usize, LedgerFault>
         requires held { IsHeld self.old.slots slot token }
         requires at { (node : ℕ) × (token.standing ≡ At node scope) × (code P.listing node ≡ par (code P.listing left) (code P.listing right)) }
@@ -108,9 +108,9 @@ impl<P: Program> Ledger<P> {
         slot: usize,
         token: Token,
         scope: usize,
-        left: usize,
+        left: u32,
         name: u32,
-        right: usize,
+        right: u32,
     ) -> Result<(), LedgerFault>
         requires held { IsHeld self.old.slots slot token }
         requires at { (node : ℕ) × (token.standing ≡ At node scope) × (code P.listing node ≡ seq (code P.listing left) name (code P.listing right)) }
@@ -156,8 +156,8 @@ impl<P: Program> Ledger<P> {
         slot: usize,
         token: Token,
         scope: usize,
-        left: usize,
-        right: usize,
+        left: u32,
+        right: u32,
     ) -> Result<(), LedgerFault>
         requires held { IsHeld self.old.slots slot token }
         requires at { (node : ℕ) × (token.standing ≡ At node scope) × (code P.listing node ≡ other (code P.listing left) (code P.listing right)) }
@@ -210,9 +210,9 @@ impl<P: Program> Ledger<P> {
         slot: usize,
         token: Token,
         scope: usize,
-        left: usize,
+        left: u32,
         name: u32,
-        right: usize,
+        right: u32,
     ) -> Result<usize, LedgerFault>
         requires held { IsHeld self.old.slots slot token }
         requires at { (node : ℕ) × (token.standing ≡ At node scope) × (code P.listing node ≡ prune (code P.listing left) name (code P.listing right)) }

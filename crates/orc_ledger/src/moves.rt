@@ -1,9 +1,10 @@
 //! Moves of tokens: a token does what it does next.
 
-ghost use Rattle.std.specs.Prelude.{◌≡◌, ◌≤◌, ℕ, List, [], map, length, false, None as Nothing, slice_index_or, IfOk, IfErr, IfSome, IfNone, OnErr};
+ghost use Rattle.std.specs.Prelude.{◌≡◌, ◌≤◌, ℕ, List, [], map, length, true, false, None as Nothing, slice_index_or, IfOk, IfErr, IfSome, IfNone, OnErr};
 ghost use Rattle.orc_rules.specs.declared.param.Param.TheVariants.{Name, Is};
 ghost use Rattle.orc_rules.specs.Term.{stop, param, site, call, par, seq, prune, other};
-ghost use Rattle.orc_rules.specs.Nodes.{code, param_of};
+ghost use Rattle.orc_rules.specs.Nodes.{code, param_of, unfold_node};
+ghost use Rattle.orc_graph.specs.Graph.{term_node};
 ghost use Rattle.orc_rules.specs.Journal.{IsVoid};
 ghost use Rattle.orc_names.specs.Scopes.{close, close_param, given, without};
 ghost use Rattle.orc_paths.specs.Spelling.{whole, feeding, aiding};
@@ -20,7 +21,7 @@ use crate::ledger::Ledger;
 use orc_chronicle::Program;
 use orc_graph::{Graph, Node};
 use orc_names::{Bound, Scope, meaning};
-use orc_paths::{Taker, What, call_with, find_taker};
+use orc_paths::{Taker, What, are_values, call_with, find_taker};
 use orc_records::{LedgerFault, Moved};
 use orc_rules::param::Operand;
 use orc_rules::value::Value;
@@ -35,7 +36,8 @@ impl<P: Program> Ledger<P> {
     }
 
     // What takes a value that the token publishes.
-    fn taker_of(&self, token: Token) -> Taker
+    #[inline(always)]
+    pub(crate) fn taker_of(&self, token: Token) -> Taker
         requires { (slot : ℕ) × IsHeld self.now.slots slot token }
         ensures takes { Takes (code P.listing) (its_env (code P.listing) self.now) (has_left self.now.steps) self.now.steps token.step result }
         ensures way { IsOnWay self.now.steps token.step result }
@@ -52,6 +54,14 @@ impl<P: Program> Ledger<P> {
         meaning(&self.scopes, &self.cells, operand, scope)
     }
 
+    // Whether each operand of a call has a value.
+    #[inline(always)]
+    pub(crate) fn have_values(&self, operands: &[Operand], scope: usize) -> bool
+        ensures { result ≡ true → scan false Nothing (closed (its_env (code P.listing) self.now scope) operands.now) ≡ What.Call }
+    {
+        are_values(&self.scopes, &self.cells, operands, scope)
+    }
+
     // What a call of a site with these operands does.
     pub(crate) fn scan(&self, operands: &[Operand], scope: usize) -> What
         ensures { result ≡ scan false Nothing (closed (its_env (code P.listing) self.now scope) operands.now) }
@@ -59,6 +69,7 @@ impl<P: Program> Ledger<P> {
         call_with(&self.scopes, &self.cells, operands, scope, false, None)
     }
 
+    #[inline(always)]
     fn move_end(&mut self, slot: usize, token: Token) -> Result<Moved, LedgerFault>
         requires held { IsHeld self.old.slots slot token }
         requires at { (scope : ℕ) × StandsAt P.listing token scope stop }
@@ -83,13 +94,14 @@ impl<P: Program> Ledger<P> {
         Ok(Moved::Gone(group))
     }
 
+    #[inline(always)]
     fn move_fork(
         &mut self,
         slot: usize,
         token: Token,
         scope: usize,
-        left: usize,
-        right: usize,
+        left: u32,
+        right: u32,
     ) -> Result<Moved, LedgerFault>
         requires held { IsHeld self.old.slots slot token }
         requires at { StandsAt P.listing token scope (par (code P.listing left) (code P.listing right)) }
@@ -106,9 +118,9 @@ impl<P: Program> Ledger<P> {
         slot: usize,
         token: Token,
         scope: usize,
-        left: usize,
+        left: u32,
         name: u32,
-        right: usize,
+        right: u32,
     ) -> Result<Moved, LedgerFault>
         requires held { IsHeld self.old.slots slot token }
         requires at { StandsAt P.listing token scope (seq (code P.listing left) name (code P.listing right)) }
@@ -125,8 +137,8 @@ impl<P: Program> Ledger<P> {
         slot: usize,
         token: Token,
         scope: usize,
-        left: usize,
-        right: usize,
+        left: u32,
+        right: u32,
     ) -> Result<Moved, LedgerFault>
         requires held { IsHeld self.old.slots slot token }
         requires at { StandsAt P.listing token scope (other (code P.listing left) (code P.listing right)) }
@@ -143,9 +155,9 @@ impl<P: Program> Ledger<P> {
         slot: usize,
         token: Token,
         scope: usize,
-        left: usize,
+        left: u32,
         name: u32,
-        right: usize,
+        right: u32,
     ) -> Result<Moved, LedgerFault>
         requires held { IsHeld self.old.slots slot token }
         requires at { StandsAt P.listing token scope (prune (code P.listing left) name (code P.listing right)) }
@@ -157,6 +169,7 @@ impl<P: Program> Ledger<P> {
         Ok(Moved::Forked(right_slot))
     }
 
+    #[inline(always)]
     fn move_def(
         &mut self,
         graph: &Graph,
@@ -211,7 +224,7 @@ impl<P: Program> Ledger<P> {
         token: Token,
         value: Value,
         name: u32,
-        right: usize,
+        right: u32,
         scope: usize,
         outer: usize,
     ) -> Result<Moved, LedgerFault>
@@ -252,7 +265,7 @@ impl<P: Program> Ledger<P> {
     }
 
     // A token on a value publishes it.
-    fn move_value(
+    pub(crate) fn move_value(
         &mut self,
         slot: usize,
         token: Token,
@@ -298,6 +311,7 @@ impl<P: Program> Ledger<P> {
     }
 
     // A call of a site: it is made elsewhere, once its operands are values.
+    #[inline(always)]
     fn move_site(
         &mut self,
         graph: &Graph,
@@ -313,10 +327,50 @@ impl<P: Program> Ledger<P> {
         ensures refused { OnErr result (self.new ≡ self.old) }
         ensures why { IfErr result (λ fault. IsHindered P.listing self.old token fault) }
     {
-        match self.scan(graph.operands(list as usize), scope) {
+        let operands = graph.operands(list as usize);
+        if self.have_values(operands, scope) {
+            return Ok(Moved::Calls);
+        }
+        match self.scan(operands, scope) {
             What::Call => Ok(Moved::Calls),
             What::Void => self.move_void(slot, token),
             _ => Ok(Moved::Waits),
+        }
+    }
+
+    // A token does what the node says at which it stands.
+    #[inline(always)]
+    pub(crate) fn move_at(
+        &mut self,
+        graph: &Graph,
+        slot: usize,
+        token: Token,
+        scope: usize,
+        node: Node,
+        added: &mut Vec<Scope>,
+        cancelled: &mut Vec<u64>,
+    ) -> Result<Moved, LedgerFault>
+        requires graph { graph.now ≡ P.listing }
+        requires held { IsHeld self.old.slots slot token }
+        requires at { StandsAt P.listing token scope (unfold_node (code P.listing) P.listing.lists (term_node node)) }
+        ensures done { IfOk result (λ m. Moves P.listing self.old slot token m cancelled.new.items self.new) }
+        ensures refused { OnErr result (self.new ≡ self.old) }
+        ensures why { IfErr result (λ fault. IsHindered P.listing self.old token fault) }
+    {
+        match node {
+            Node::Stop => self.move_end(slot, token),
+            Node::Name(name) => self.move_name(slot, token, scope, name, cancelled),
+            Node::Is(value) => self.move_value(slot, token, value, cancelled),
+            Node::Site(_, list) => self.move_site(graph, slot, token, scope, list),
+            Node::Call(definition, list) => {
+                self.move_def(graph, slot, token, scope, definition, list, added)
+            }
+            Node::Par(left, right) => self.move_fork(slot, token, scope, left, right),
+            Node::Seq(left, name, right) => self.move_feed(slot, token, scope, left, name, right),
+            Node::Prune(left, name, right) => {
+                self.move_prune(slot, token, scope, left, name, right)
+            }
+            Node::Other(left, right) => self.move_other(slot, token, scope, left, right),
         }
     }
 
@@ -339,27 +393,10 @@ impl<P: Program> Ledger<P> {
     {
         match token.standing {
             Standing::On(value) => self.move_value(slot, token, value, cancelled),
-            Standing::At(node, scope) => match graph.node(node) {
-                Node::Stop => self.move_end(slot, token),
-                Node::Name(name) => self.move_name(slot, token, scope, name, cancelled),
-                Node::Is(value) => self.move_value(slot, token, value, cancelled),
-                Node::Site(_, list) => self.move_site(graph, slot, token, scope, list),
-                Node::Call(definition, list) => {
-                    self.move_def(graph, slot, token, scope, definition, list, added)
-                }
-                Node::Par(left, right) => {
-                    self.move_fork(slot, token, scope, left as usize, right as usize)
-                }
-                Node::Seq(left, name, right) => {
-                    self.move_feed(slot, token, scope, left as usize, name, right as usize)
-                }
-                Node::Prune(left, name, right) => {
-                    self.move_prune(slot, token, scope, left as usize, name, right as usize)
-                }
-                Node::Other(left, right) => {
-                    self.move_other(slot, token, scope, left as usize, right as usize)
-                }
-            },
+            Standing::At(node, scope) => {
+                let node = graph.node(node as usize);
+                self.move_at(graph, slot, token, scope, node, added, cancelled)
+            }
         }
     }
 }

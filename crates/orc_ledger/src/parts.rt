@@ -114,7 +114,7 @@ impl<P: Program> Ledger<P> {
         if token.step > 0 {
             return None;
         }
-        let Node::Call(definition, list) = graph.node(node) else {
+        let Node::Call(definition, list) = graph.node(node as usize) else {
             return None;
         };
         let operands = graph.operands(list as usize);

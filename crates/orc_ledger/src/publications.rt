@@ -50,7 +50,7 @@ impl<P: Program> Ledger<P> {
         token: Token,
         value: Value,
         name: u32,
-        right: usize,
+        right: u32,
         scope: usize,
         outer: usize,
     ) -> Result<(), LedgerFault>

@@ -64,7 +64,7 @@ impl<P: Program> Ledger<P> {
         let Standing::At(node, scope) = token.standing else {
             unreachable!()
         };
-        let Node::Site(site, list) = graph.node(node) else {
+        let Node::Site(site, list) = graph.node(node as usize) else {
             unreachable!()
         };
         put_values(

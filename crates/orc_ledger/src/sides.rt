@@ -150,7 +150,7 @@ impl<P: Program> Ledger<P> {
         &mut self,
         group: Group,
         number: u64,
-        node: usize,
+        node: u32,
         scope: usize,
     ) -> Result<usize, LedgerFault>
         requires there { IsIn group self.old.groups }

@@ -13,4 +13,4 @@ pub use awaiting::list_cells;
 pub use left::{has_left, left_at};
 pub use parameters::parameter_scopes;
 pub use taking::{Taker, find_taker, leave_others};
-pub use what::{What, call_with, stand_at, taken_from};
+pub use what::{What, are_values, call_with, stand_at, taken_from};

@@ -15,11 +15,12 @@ use orc_tables::{Entered, Steps};
 #[derive(Clone, Copy)]
 pub enum Taker {
     Whole,
-    Feed(u32, usize, usize, usize),
+    Feed(u32, u32, usize, usize),
     Aid(u64, usize),
 }
 
 /// What takes a publication from a step.
+#[inline(always)]
 pub fn find_taker(steps: &Steps, from: usize) -> Taker
     requires within { from ≤ length steps.now.items }
     requires outwards { AreOutwards steps.now.items }

@@ -1,6 +1,6 @@
 //! What a token does next.
 
-ghost use Rattle.std.specs.Prelude.{◌≡◌, ℕ, Bool};
+ghost use Rattle.std.specs.Prelude.{◌≡◌, ℕ, Bool, true, false, None as Nothing};
 ghost use Rattle.orc_rules.specs.Term.{Term};
 ghost use Rattle.orc_rules.specs.Nodes.{param_of, code, definitions};
 ghost use Rattle.orc_names.specs.Scopes.{Env, env_of, close, close_param};
@@ -46,6 +46,22 @@ pub fn taken_from(steps: &Steps, from: usize, value: Value) -> What
         Taker::Whole => What::Publish(value),
         Taker::Feed(_, _, _, _) => What::Send(value),
         Taker::Aid(cell, _) => What::Bind(cell, value),
+    }
+}
+
+/// Whether each operand of a call has a value.
+pub fn are_values(scopes: &[Scope], cells: &[Bound], operands: &[Operand], scope: usize) -> bool
+    requires { AreOrdered scopes.now }
+    ensures { result ≡ true → scan false Nothing (closed (env_of cells.now scopes.now scope) operands.now) ≡ What.Call }
+{
+    match operands {
+        [] => true,
+        [operand, operands @ ..] => match meaning(scopes, cells, *operand, scope) {
+            Some(Bound::Is(_)) => are_values(scopes, cells, operands, scope),
+            Some(Bound::Void) => false,
+            Some(Bound::Cell(_)) => false,
+            None => false,
+        },
     }
 }
 
@@ -107,7 +123,7 @@ pub fn stand_at(
     scopes: &[Scope],
     cells: &[Bound],
     steps: &Steps,
-    node: usize,
+    node: u32,
     scope: usize,
     from: usize,
 ) -> What
@@ -115,7 +131,7 @@ pub fn stand_at(
     requires outwards { AreOutwards steps.now.items }
     ensures { result ≡ what_by (definitions graph.now) (seen (has_left steps.now.items) (path (code graph.now) (env_of cells.now scopes.now) steps.now.items from)) (close (env_of cells.now scopes.now scope) (code graph.now node)) }
 {
-    match graph.node(node) {
+    match graph.node(node as usize) {
         Node::Stop => What::Halt,
         Node::Name(name) => stand_on(scopes, cells, steps, Operand::Name(name), scope, from),
         Node::Is(value) => taken_from(steps, from, value),

@@ -1,5 +1,5 @@
 -- A call and its answer in one go: the records between them, and what a ledger keeps over both.
-use Rattle.std.proofs.Common.{◌≡◌, ◌<◌, ◌+◌, ◌-◌, ℕ, List, [], ◌∷◌, ◌++◌, length, slice_set, refl, ap, arith}
+use Rattle.std.proofs.Common.{◌≡◌, ◌<◌, ◌+◌, ◌-◌, ℕ, List, [], ◌∷◌, ◌++◌, length, slice_set, refl, ap, subst, arith}
 use Rattle.orc_rules.specs.declared.value.Value.{Value}
 use Rattle.orc_rules.specs.declared.value.Answer.{Answer}
 use Rattle.orc_rules.specs.declared.value.Answer.TheVariants.{Value as Gives, Halt}
@@ -13,12 +13,14 @@ use Rattle.orc_tables.specs.Same.{weight, is_this}
 use Rattle.orc_records.specs.Records.{Records}
 use Rattle.orc_tables.specs.Steps.{group_at}
 use Rattle.orc_records.specs.Calls.{Exchanges}
+use Rattle.orc_records.specs.AtOnce.{IsCalled}
 use Rattle.orc_records.specs.Kept.{Kept}
 use Rattle.orc_tables.specs.OpenGroups.{size_of}
 use Rattle.orc_tables.specs.Tokens.{live, IsHeld}
 use Rattle.orc_tables.specs.declared.records.Standing.TheVariants.{At, On}
 use Rattle.orc_tables.specs.declared.records.Token.{Token}
 use Rattle.orc_tables.specs.declared.records.Call.{Call}
+use Rattle.orc_records.specs.declared.results.Called.TheVariants as called
 use Rattle.orc_records.proofs.Answered.{due-there}
 use Rattle.orc_records.proofs.Asking.{return-lawful, return_halt-lawful}
 use Rattle.orc_records.proofs.Calling.{returns-told}
@@ -102,3 +104,10 @@ halted_kept l sites counts sizes sizes' s K c pends due room s' T left =
       sized = λ j. omega (arith, left j, exchanged-members s s' [] [] (c ∷ []) [] 0 e T j, K.sized j);
       brought = exchanged-brought s s' K.brought [] [] (c ∷ []) [] 0 e T (omega arith);
     }
+
+-- the token that stands on the answer
+pub answered-held : (l : Listing) (sites : List Site) (s : Records) (slot : ℕ) (t : Token) (v : Value) (s' : Records) → IsCalled l sites s slot t (called.Answered v) s' → IsHeld s'.slots slot (record { serial = s.next_mark; standing = On v; step = t.step })
+answered-held l sites s slot t v s' (c, between, found, made, answered) =
+    let mark : between.next_mark ≡ s.next_mark = omega (arith, made.exchanges.mark) in
+    subst (λ (n : ℕ). IsHeld s'.slots slot (record { serial = n; standing = On v; step = t.step })) mark
+    (subst (λ (n : ℕ). IsHeld s'.slots slot (record { serial = between.next_mark; standing = On v; step = n })) made.step answered.1)

@@ -29,6 +29,7 @@ pub mod Made
 pub mod Nests
 pub mod Nexts
 pub mod Offers
+pub mod Onward
 pub mod Over
 pub mod Owed
 pub mod Passing

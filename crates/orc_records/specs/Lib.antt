@@ -14,6 +14,7 @@ pub mod Next
 pub mod Offered
 pub mod Parameters
 pub mod Parts
+pub mod Passing
 pub mod Records
 pub mod Requests
 pub mod Spoken

@@ -11,4 +11,4 @@ pub use laws::{
     next_is_quiet, next_ticks, none_is_lost, quiet_is_next, root_has_halted, tick_is_next,
     wait_is_still, word_is_allowed, word_is_offered, work_has_cause, work_is_allowed,
 };
-pub use results::{Called, Halted, Moved, Next, Request};
+pub use results::{Called, Halted, Moved, Next, Passed, Request};

@@ -1,6 +1,6 @@
 //! What the calls of a ledger answer.
 
-use orc_rules::value::Args;
+use orc_rules::value::{Args, Value};
 
 /// What a move of a token has done.
 #[derive(Clone, Copy, Debug, PartialEq, Eq)]
@@ -26,10 +26,30 @@ pub enum Moved {
 pub enum Called {
     /// It pends, with this number.
     Pends(u64),
-    /// It was answered at once: a token on the answer stands in the slot of the one that made it.
-    Answered,
+    /// It was answered at once with this value: a token on it stands in the slot of the one that made it.
+    Answered(Value),
     /// It halted at once, in this group, which may have no member any more.
     Halted(u32),
+}
+
+/// What has become of a token that goes on: a move, as [`Moved`] says; or it has entered the left side of a `>x>` and made the call at which it stood there.
+#[derive(Clone, Copy)]
+pub enum Passed {
+    On,
+    Forked(usize),
+    Sent(u32),
+    Gone(u32),
+    Bound(u64, u32),
+    Calls,
+    Waits,
+    /// The call pends, with this number.
+    Pends(u64),
+    /// The call was answered at once: a token on the answer stands in the slot.
+    Answered,
+    /// The call halted at once, in this group, which may have no member any more.
+    Halted(u32),
+    /// The call was answered at once, and the `>x>` took the answer: a token on the right side stands in the slot, in its group.
+    Through,
 }
 
 /// What a call asks: its site, its arguments, when it was made, and which call it is of this site with these arguments, from 1; 1 where no script

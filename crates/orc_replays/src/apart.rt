@@ -34,7 +34,7 @@ fn run_apart<Q: Naming, P: Naming>(
     requires definitions { definitions Q.listing ≡ definitions P.listing }
     requires call { source Q.listing ≡ call_of task.definition task.args }
 {
-    let mut ledger = Ledger::<Q>::begin(alloc, limit, graph.root() as usize).ok()?;
+    let mut ledger = Ledger::<Q>::begin(alloc, limit, graph.root()).ok()?;
     let mut scopes = Vec::new(alloc);
     let mut cancelled = Vec::new(alloc);
     let mut args = Args::new();
@@ -46,7 +46,7 @@ fn run_apart<Q: Naming, P: Naming>(
             Ok(Moved::Calls) => {
                 if !matches!(
                     ledger.call_through(graph, answers, 0, token, &mut args),
-                    Ok(Called::Answered)
+                    Ok(Called::Answered(_))
                 ) {
                     return None;
                 }
@@ -93,7 +93,7 @@ fn taken<P: Naming>(
     requires graph { graph.now ≡ P.listing }
     requires answers { answers.now.sites ≡ P.sites }
 {
-    let mut ledger = Ledger::<P>::begin(alloc, limit, graph.root() as usize).ok()?;
+    let mut ledger = Ledger::<P>::begin(alloc, limit, graph.root()).ok()?;
     let token = ledger.held(0)?;
     let task = ledger.task(graph, &token)?;
     let part = part_of::<P>(alloc, graph, answers, keeps, task.copied())?;

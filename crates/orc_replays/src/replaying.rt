@@ -124,7 +124,7 @@ impl<P: Naming> Replay<P> {
         requires graph { graph.now ≡ P.listing }
         requires limit { P.limit ≡ MOST_ENTRIES }
     {
-        let ledger = Ledger::begin(alloc, MOST_ENTRIES as usize, graph.root() as usize)?;
+        let ledger = Ledger::begin(alloc, MOST_ENTRIES as usize, graph.root())?;
         let mut slots = Vec::new(alloc);
         for _serial in 0..2 {
             if slots.push(0).is_err() {

@@ -311,7 +311,7 @@ fn refused_at<P: Naming>(alloc: Global, graph: &Graph, limit: usize) -> Option<(
     if limit < 1 || limit > 10_000_000 {
         return None;
     }
-    let mut ledger = Ledger::<P>::begin(alloc, limit, graph.root() as usize).ok()?;
+    let mut ledger = Ledger::<P>::begin(alloc, limit, graph.root()).ok()?;
     let mut scopes = Vec::new(alloc);
     let mut cancelled = Vec::new(alloc);
     for _entry in 0..limit {

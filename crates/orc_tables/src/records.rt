@@ -5,7 +5,7 @@ use orc_rules::value::{Found, Value};
 /// Where a token stands: at a node of the program in a scope, or on a value that a call has answered.
 #[derive(Clone, Copy)]
 pub enum Standing {
-    At(usize, usize),
+    At(u32, usize),
     On(Value),
 }
 
@@ -33,7 +33,7 @@ pub struct Call {
 /// left side of an otherwise.
 #[derive(Clone, Copy)]
 pub enum Entered {
-    Feed(u32, usize, usize),
+    Feed(u32, u32, usize),
     Aid(u64),
     Try(u64),
 }
@@ -55,7 +55,7 @@ pub struct Step {
 #[derive(Clone, Copy)]
 pub enum Side {
     Right(u64),
-    Left(u64, usize, usize),
+    Left(u64, u32, usize),
 }
 
 /// A group: its side, the step round it, and its number.

@@ -165,7 +165,7 @@ returns-in_ok-write_answered-in-Value-clause-done g c =
     } in
     let is_made : IsMade l sites s a.token k s1 = record { site = m; args = args; asks = asks; number = refl; step = refl; made_at = refl; place = K.lawful.place; at = K.lawful.leads; found = found; nth = λ o. refl; row = refl; exchanges = making } in
     let held' : IsHeld s'.slots a.slot u = (ap (λ z. slice_get z a.slot) c.replace.ensures.items ∙ set-there s.slots a.slot a.token u held.0, from_one l sites s K.lawful) in
-    rw (← c.self.view_is) (k, v, s1, refl, is_made, (answering, held'))
+    rw (← c.self.view_is) (k, s1, refl, is_made, (answering, held'))
 
 pub returns-in_ok-write_answered-in-Halt-clause-done : goal.returns-in_ok-write_answered-in-Halt-clause-done
 returns-in_ok-write_answered-in-Halt-clause-done g c =

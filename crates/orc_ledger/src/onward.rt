@@ -1,0 +1,136 @@
+//! Moves in one go: a token enters the left side of a `>x>`, the call there is made and answered at once, and the `>x>` takes the answer.
+
+ghost use Rattle.std.specs.Prelude.{◌≡◌, ◌+◌, ℕ, List, [], map, true, false, slice_index_or, IfOk, IfErr, OnErr};
+ghost use Rattle.orc_rules.specs.Nodes.{code, param_of};
+ghost use Rattle.orc_rules.specs.Term.{seq, site};
+ghost use Rattle.orc_records.specs.Moves.{StandsAt, Moves, IsHindered};
+ghost use Rattle.orc_records.specs.Passing.{goes, GoesOn, Passes};
+ghost use Rattle.orc_records.specs.declared.results.Moved.TheVariants.{Sent};
+ghost use Rattle.orc_tables.specs.Tokens.{IsHeld};
+ghost use Rattle.orc_tables.specs.declared.records.Standing.TheVariants.{On};
+
+use crate::ledger::Ledger;
+use orc_chronicle::Program;
+use orc_graph::{Graph, Node};
+use orc_names::Scope;
+use orc_paths::Taker;
+use orc_records::{Called, LedgerFault, Moved, Passed};
+use orc_rules::answers::Answers;
+use orc_rules::value::{Args, Value};
+use orc_tables::{Standing, Token};
+
+/// A move as what has become of a token that goes on.
+#[inline(always)]
+pub fn passed(moved: Moved) -> Passed
+    ensures { result ≡ goes moved }
+{
+    match moved {
+        Moved::On => Passed::On,
+        Moved::Forked(slot) => Passed::Forked(slot),
+        Moved::Sent(group) => Passed::Sent(group),
+        Moved::Gone(group) => Passed::Gone(group),
+        Moved::Bound(cell, group) => Passed::Bound(cell, group),
+        Moved::Calls => Passed::Calls,
+        Moved::Waits => Passed::Waits,
+    }
+}
+
+impl<P: Program> Ledger<P> {
+    // A `>x>` takes the value on which a token stands, if it is what takes it and memory isn't refused. Whether it did.
+    #[inline(always)]
+    fn send_on(&mut self, slot: usize, token: Token, value: Value) -> bool
+        requires held { IsHeld self.old.slots slot token }
+        requires on { token.standing ≡ On value }
+        ensures sent { result ≡ true → (g : ℕ) × Moves P.listing self.old slot token (Sent g) [] self.new }
+        ensures not { result ≡ false → self.new ≡ self.old }
+    {
+        match self.taker_of(token) {
+            Taker::Feed(name, right, scope, outer) => {
+                match self.send(slot, token, value, name, right, scope, outer) {
+                    Ok(()) => true,
+                    Err(_) => false,
+                }
+            }
+            Taker::Whole => false,
+            Taker::Aid(_, _) => false,
+        }
+    }
+
+    // A token at a call of a site makes it, if the operands are values, and goes on with the answer.
+    #[inline(always)]
+    fn call_on(
+        &mut self,
+        graph: &Graph,
+        answers: &Answers,
+        slot: usize,
+        token: Token,
+        scope: usize,
+        list: u32,
+        args: &mut Args,
+    ) -> Passed
+        requires graph { graph.now ≡ P.listing }
+        requires answers { answers.now.sites ≡ P.sites }
+        requires held { IsHeld self.old.slots slot token }
+        requires at { (m : ℕ) × StandsAt P.listing token scope (site m (map param_of (slice_index_or P.listing.lists list []))) }
+        ensures { GoesOn P.listing P.sites self.old slot token result self.new }
+    {
+        if self.have_values(graph.operands(list as usize), scope) {
+            let mark = self.next_mark;
+            return match self.call_through(graph, answers, slot, token, args) {
+                Ok(Called::Answered(value)) => {
+                    let answered = Token {
+                        serial: mark,
+                        standing: Standing::On(value),
+                        step: token.step,
+                    };
+                    if self.send_on(slot, answered, value) {
+                        Passed::Through
+                    } else {
+                        Passed::Answered
+                    }
+                }
+                Ok(Called::Pends(number)) => Passed::Pends(number),
+                Ok(Called::Halted(group)) => Passed::Halted(group),
+                // It is refused once more where its turn comes.
+                Err(_) => Passed::On,
+            };
+        }
+        Passed::On
+    }
+
+    /// `f >x> g`: a token on the left side, in the same slot, as `feed` puts it there. Where it stands at a call of a site with values then, the call is
+    /// made, as `call_through` makes it; and where that is answered at once the `>x>` takes the answer. What is refused after the first entry is left for
+    /// the next time. `args` is lent for the arguments.
+    pub fn feed_through(
+        &mut self,
+        graph: &Graph,
+        answers: &Answers,
+        slot: usize,
+        token: Token,
+        scope: usize,
+        left: u32,
+        name: u32,
+        right: u32,
+        args: &mut Args,
+    ) -> Result<Passed, LedgerFault>
+        requires graph { graph.now ≡ P.listing }
+        requires answers { answers.now.sites ≡ P.sites }
+        requires held { IsHeld self.old.slots slot token }
+        requires at { StandsAt P.listing token scope (seq (code P.listing left) name (code P.listing right)) }
+        ensures done { (ks : List ℕ) → IfOk result (λ p. Passes P.listing P.sites self.old slot token p ks self.new) }
+        ensures refused { OnErr result (self.new ≡ self.old) }
+        ensures why { IfErr result (λ fault. IsHindered P.listing self.old token fault) }
+    {
+        let mark = self.next_mark;
+        self.feed(slot, token, scope, left, name, right)?;
+        let Node::Site(_, list) = graph.node(left as usize) else {
+            return Ok(Passed::On);
+        };
+        let first = Token {
+            serial: mark,
+            standing: Standing::At(left, scope),
+            step: self.steps.len(),
+        };
+        Ok(self.call_on(graph, answers, slot, first, scope, list, args))
+    }
+}
