@@ -20,7 +20,7 @@ use crate::waiting::Waiting;
 use orc_graph::{Graph, Node};
 use orc_ledger::{
     Call, Called, HaltFault, Halted, Ledger, LedgerFault, Next, Passed, Program as Naming,
-    ReturnFault, Standing, Task, Token, What, calls_fit, passed,
+    ReturnFault, Standing, Task, Token, What, calls_fit,
 };
 use orc_names::Scope;
 use orc_rules::answers::Answers;
@@ -440,7 +440,7 @@ impl<P: Naming> Desk<P> {
             .ledger
             .advance(graph, slot, token, &mut self.scopes, &mut self.cancelled)
         {
-            Ok(moved) => Ok(passed(moved)),
+            Ok(moved) => Ok(moved.passed()),
             Err(fault) => Err(fault),
         }
     }

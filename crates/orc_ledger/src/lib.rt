@@ -22,7 +22,6 @@ mod view;
 
 pub use laws::{calls_fit, offered};
 pub use ledger::Ledger;
-pub use onward::passed;
 pub use orc_chronicle::Program;
 pub use orc_paths::{Taker, What};
 pub use orc_records::{

@@ -1,10 +1,10 @@
 //! Moves in one go: a token enters the left side of a `>x>`, the call there is made and answered at once, and the `>x>` takes the answer.
 
-ghost use Rattle.std.specs.Prelude.{◌≡◌, ◌+◌, ℕ, List, [], map, true, false, slice_index_or, IfOk, IfErr, OnErr};
+ghost use Rattle.std.specs.Prelude.{◌≡◌, ℕ, List, [], map, true, false, slice_index_or, IfOk, IfErr, OnErr};
 ghost use Rattle.orc_rules.specs.Nodes.{code, param_of};
 ghost use Rattle.orc_rules.specs.Term.{seq, site};
 ghost use Rattle.orc_records.specs.Moves.{StandsAt, Moves, IsHindered};
-ghost use Rattle.orc_records.specs.Passing.{goes, GoesOn, Passes};
+ghost use Rattle.orc_records.specs.Passing.{GoesOn, Passes};
 ghost use Rattle.orc_records.specs.declared.results.Moved.TheVariants.{Sent};
 ghost use Rattle.orc_tables.specs.Tokens.{IsHeld};
 ghost use Rattle.orc_tables.specs.declared.records.Standing.TheVariants.{On};
@@ -12,28 +12,11 @@ ghost use Rattle.orc_tables.specs.declared.records.Standing.TheVariants.{On};
 use crate::ledger::Ledger;
 use orc_chronicle::Program;
 use orc_graph::{Graph, Node};
-use orc_names::Scope;
 use orc_paths::Taker;
-use orc_records::{Called, LedgerFault, Moved, Passed};
+use orc_records::{Called, LedgerFault, Passed};
 use orc_rules::answers::Answers;
 use orc_rules::value::{Args, Value};
 use orc_tables::{Standing, Token};
-
-/// A move as what has become of a token that goes on.
-#[inline(always)]
-pub fn passed(moved: Moved) -> Passed
-    ensures { result ≡ goes moved }
-{
-    match moved {
-        Moved::On => Passed::On,
-        Moved::Forked(slot) => Passed::Forked(slot),
-        Moved::Sent(group) => Passed::Sent(group),
-        Moved::Gone(group) => Passed::Gone(group),
-        Moved::Bound(cell, group) => Passed::Bound(cell, group),
-        Moved::Calls => Passed::Calls,
-        Moved::Waits => Passed::Waits,
-    }
-}
 
 impl<P: Program> Ledger<P> {
     // A `>x>` takes the value on which a token stands, if it is what takes it and memory isn't refused. Whether it did.

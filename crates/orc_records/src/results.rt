@@ -1,5 +1,8 @@
 //! What the calls of a ledger answer.
 
+ghost use Rattle.std.specs.Prelude.{◌≡◌};
+ghost use Rattle.orc_records.specs.Passing.{goes};
+
 use orc_rules::value::{Args, Value};
 
 /// What a move of a token has done.
@@ -50,6 +53,24 @@ pub enum Passed {
     Halted(u32),
     /// The call was answered at once, and the `>x>` took the answer: a token on the right side stands in the slot, in its group.
     Through,
+}
+
+impl Moved {
+    /// The same of a token that goes on.
+    #[inline(always)]
+    pub fn passed(self) -> Passed
+        ensures { result ≡ goes self }
+    {
+        match self {
+            Moved::On => Passed::On,
+            Moved::Forked(slot) => Passed::Forked(slot),
+            Moved::Sent(group) => Passed::Sent(group),
+            Moved::Gone(group) => Passed::Gone(group),
+            Moved::Bound(cell, group) => Passed::Bound(cell, group),
+            Moved::Calls => Passed::Calls,
+            Moved::Waits => Passed::Waits,
+        }
+    }
 }
 
 /// What a call asks: its site, its arguments, when it was made, and which call it is of this site with these arguments, from 1; 1 where no script
