@@ -11,7 +11,7 @@ use orc_rules::limits::{DEFAULT_ENTRIES, DEFAULT_WORKERS, MOST_ENTRIES, MOST_WOR
 use std::alloc::{AllocError, Global};
 use std::convert::AsStr;
 
-const VERSION: &str = "0.1.0 (proved with rattle-kit-13f logic dac8208d650f15bf)";
+const VERSION: &str = "0.1.0 (proved with logic dac8208d650f15bf)";
 
 /// What stands below the list of commands.
 const CODES: &str = "Faults, each one line on standard error, a code with its place:
