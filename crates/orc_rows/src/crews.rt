@@ -1,4 +1,4 @@
-//! Runs so long that calls of definitions are run apart, on several threads, and taken in: they publish what the rules allow, and their journals don't
+//! A run so long that calls of definitions are run apart, on several threads, and taken in: it publishes what the rules allow, and its journal doesn't
 //! depend on how many workers there are.
 
 use crate::pools::{is_accepted, play};
@@ -31,18 +31,6 @@ fn accepted<R: Threads + Wait + Sync>(
     } else {
         None
     }
-}
-
-// How a run ends whose journal the check accepts, and how many values it publishes.
-fn ends<R: Threads + Wait + Sync>(
-    rt: &R,
-    alloc: Global,
-    source: &[u8],
-    script: &[u8],
-    limit: u64,
-) -> Option<(End, u64)> {
-    let played = accepted(rt, alloc, source, script, 4, limit)?;
-    Some((played.summary.end, played.summary.published))
 }
 
 // The values from 4,096 to 8,191, each once.
@@ -81,47 +69,5 @@ fn the_journal_is_the_same_on_any_number_of_workers(rt: HostRuntime) -> Result<(
             );
         }
     }
-    Ok(())
-}
-
-#[test]
-fn calls_run_apart_keep_the_limit(rt: HostRuntime) -> Result<(), Fail> {
-    let alloc = rt.alloc();
-    for limit in [5_000, 20_000, 50_001] {
-        let played = accepted(&rt, alloc, TREE, b"", 4, limit);
-        assert!(rt;
-            played.is_some_and(|played| {
-                played.summary.end == End::Limit && played.summary.entries == limit
-            }),
-            "at {limit}"
-        );
-    }
-    Ok(())
-}
-
-// Each leaf opens a cell, waits, or calls a site of the script, on which what is round the call bears; so none is taken in.
-#[test]
-fn calls_that_touch_what_is_round_them_are_run_in_place(rt: HostRuntime) -> Result<(), Fail> {
-    let alloc = rt.alloc();
-    let sources: [&[u8]; 3] = [
-        b"def tree(n) = Lt(0, n) >b> (Iff(b) >> (x <x< 1) | Ift(b) >> Sub(n, 1) >m> (tree(m) | tree(m)))\ntree(9)",
-        b"def tree(n) = Lt(0, n) >b> (Iff(b) >> Rwait(2) | Ift(b) >> Sub(n, 1) >m> (tree(m) | tree(m)))\ntree(9)",
-        b"def tree(n) = Lt(0, n) >b> (Iff(b) >> A() | Ift(b) >> Sub(n, 1) >m> (tree(m) | tree(m)))\ntree(9)",
-    ];
-    for source in sources {
-        let ended = ends(&rt, alloc, source, b"A() = 7\n", 10_000_000);
-        assert_eq!(rt; ended, Some((End::Halted, 512)), "at {source:?}");
-    }
-    Ok(())
-}
-
-// 256 loops, of which none ends.
-#[test]
-fn calls_without_an_end_are_cut(rt: HostRuntime) -> Result<(), Fail> {
-    let alloc = rt.alloc();
-    let source =
-        b"def on(n) = Add(n, 1) >m> on(m)\ndef tree(n) = Lt(0, n) >b> (Iff(b) >> on(1) | Ift(b) >> Sub(n, 1) >m> (tree(m) | tree(m)))\ntree(8)";
-    let ended = ends(&rt, alloc, source, b"", 40_000);
-    assert_eq!(rt; ended, Some((End::Limit, 0)));
     Ok(())
 }

@@ -1,15 +1,12 @@
 //! Files and streams in memory, and a command line over them.
 
-use orc_run::{Files, Options, ReadFault, Summary, Unread, command, run_text};
+use orc_run::{Files, ReadFault, Unread, command};
 use std::alloc::Global;
 use std::io;
 use std::io::{Empty, Read, Write};
 use std::sync::Wait;
 use std::test::Fail;
 use std::thread::Threads;
-
-/// The numbers of workers on which programs are run.
-pub const WORKERS: [&str; 4] = ["1", "2", "4", "16"];
 
 /// Files in memory: each path with its bytes.
 #[derive(Drop)]
@@ -143,17 +140,6 @@ pub struct Done {
     pub err: String,
 }
 
-impl Done {
-    /// What a check said: a line on standard output where it says yes, else one on standard error.
-    pub fn said(&self) -> &str {
-        if self.status == 0 {
-            self.out.as_str()
-        } else {
-            self.err.as_str()
-        }
-    }
-}
-
 /// Does one command line over files in memory and a standard output: the status, and what standard error has.
 pub fn orc_into<R: Threads + Wait + Sync + AllocGlobal, W: Write>(
     rt: &R,
@@ -181,165 +167,4 @@ pub fn orc<R: Threads + Wait + Sync + AllocGlobal>(
         out: String::from_utf8(out)?,
         err,
     })
-}
-
-/// Runs a program with a limit of entries, on so many workers, and writes its journal.
-pub fn recorded<R: Threads + Wait + Sync + AllocGlobal>(
-    rt: &R,
-    source: &[u8],
-    script: &[u8],
-    limit: &str,
-    workers: &str,
-) -> Result<Done, Fail> {
-    let words = [
-        "orc",
-        "run",
-        "a.orc",
-        "--script",
-        "a.script",
-        "--limit",
-        limit,
-        "--workers",
-        workers,
-        "--journal",
-    ];
-    orc(rt, &words, &[("a.orc", source), ("a.script", script)])
-}
-
-/// Checks a journal of a program.
-pub fn checked<R: Threads + Wait + Sync + AllocGlobal>(
-    rt: &R,
-    source: &[u8],
-    script: &[u8],
-    journal: &[u8],
-) -> Result<Done, Fail> {
-    let words = ["orc", "check", "a.orc", "a.journal", "--script", "a.script"];
-    let files = [
-        ("a.orc", source),
-        ("a.journal", journal),
-        ("a.script", script),
-    ];
-    orc(rt, &words, &files)
-}
-
-/// A program, and all that its run may do: the status, standard error, and standard output, which is one of `outs`.
-#[derive(Clone, Copy)]
-pub struct Row<'a> {
-    pub source: &'a [u8],
-    pub script: &'a [u8],
-    /// Words of the command line behind `orc run FILE --script F`.
-    pub words: &'a [&'a str],
-    pub status: u8,
-    pub outs: &'a [&'a str],
-    pub err: &'a str,
-}
-
-/// A row of a program that is run without options and is no fault.
-pub fn runs<'a>(source: &'a [u8], status: u8, outs: &'a [&'a str]) -> Row<'a> {
-    Row {
-        source,
-        script: b"",
-        words: &[],
-        status,
-        outs,
-        err: "",
-    }
-}
-
-/// A row of a program that is refused, with this line on standard error.
-pub fn refused<'a>(source: &'a [u8], err: &'a str) -> Row<'a> {
-    Row {
-        source,
-        script: b"",
-        words: &[],
-        status: 1,
-        outs: &[""],
-        err,
-    }
-}
-
-/// Runs a row's program on four workers: what it did, and whether it may.
-pub fn run_row<'a, R: Threads + Wait + Sync + AllocGlobal>(
-    rt: &R,
-    row: &Row<'a>,
-) -> Result<(Done, bool), Fail> {
-    run_row_on(rt, row, 4)
-}
-
-// The word for 1, 2, 4 or 16 workers.
-fn word_of<'a>(workers: u64) -> &'a str {
-    match workers {
-        1 => "1",
-        2 => "2",
-        4 => "4",
-        _ => "16",
-    }
-}
-
-// Runs a row's program on so many workers.
-fn run_row_on<'a, R: Threads + Wait + Sync + AllocGlobal>(
-    rt: &R,
-    row: &Row<'a>,
-    workers: u64,
-) -> Result<(Done, bool), Fail> {
-    let mut words: Vec<&'a str> = Vec::new(rt.alloc());
-    for word in [
-        "orc",
-        "run",
-        "a.orc",
-        "--script",
-        "a.script",
-        "--workers",
-        word_of(workers),
-    ] {
-        words.push(word)?;
-    }
-    for word in row.words {
-        words.push(*word)?;
-    }
-    let files: [(&'a str, &'a [u8]); 2] = [("a.orc", row.source), ("a.script", row.script)];
-    let done = orc(rt, words.as_slice(), files.as_slice())?;
-    let mut listed = false;
-    for out in row.outs {
-        listed = listed || *out == done.out.as_str();
-    }
-    let may = listed && done.status == row.status && done.err.as_str() == row.err;
-    Ok((done, may))
-}
-
-/// The sources and outcomes of the rows that differ from what they may be, on each number of workers.
-pub fn wrong<R: Threads + Wait + Sync + AllocGlobal>(rt: &R, rows: &[Row]) -> Result<String, Fail> {
-    let alloc = rt.alloc();
-    let mut wrong = String::new(alloc);
-    for row in rows {
-        for workers in [1, 2, 4, 16] {
-            let (done, may) = run_row_on(rt, row, workers)?;
-            if !may {
-                let line = format!(in alloc; "{:?}: {done:?} on ", row.source)?;
-                wrong.push_str(line.as_str())?;
-                wrong.push_str(word_of(workers))?;
-                wrong.push_str("\n")?;
-            }
-        }
-    }
-    Ok(wrong)
-}
-
-/// What a run on so many workers is told to have done: how it ended, how many entries its journal has, its time, and the text that it wrote.
-pub fn summary<R: Threads + Wait + Sync + AllocGlobal>(
-    rt: &R,
-    source: &[u8],
-    script: &[u8],
-    limit: u64,
-    workers: u64,
-) -> Result<(Summary, String), Fail> {
-    let alloc = rt.alloc();
-    let mut out = Vec::new(alloc);
-    let options = Options {
-        workers,
-        limit,
-        journal: false,
-    };
-    let summary = run_text(rt, alloc, source, script, &options, &mut out)?;
-    Ok((summary, String::from_utf8(out)?))
 }

@@ -1,16 +1,9 @@
-//! Tests over several crates: whole command lines, over files and streams in memory, and the scope check of sources.
+//! Tests over several crates of what the program by itself can't show: sites and gates of one's own, streams and files that fail, the parts of an
+//! engine with workers, and the reference. A test that needs no more than the program is a row of `checks/rows.d`.
 #![tactic(auto)]
 
 #[cfg(test)]
-mod calculus;
-#[cfg(test)]
-mod command_lines;
-#[cfg(test)]
 mod crews;
-#[cfg(test)]
-mod documents;
-#[cfg(test)]
-mod drawings;
 #[cfg(test)]
 mod gates;
 #[cfg(test)]
@@ -18,27 +11,17 @@ mod harness;
 #[cfg(test)]
 mod hostile;
 #[cfg(test)]
-mod journals;
-#[cfg(test)]
 mod parts;
 #[cfg(test)]
 mod pool_rows;
 #[cfg(test)]
 mod pools;
 #[cfg(test)]
-mod programs;
-#[cfg(test)]
 mod pushes;
-#[cfg(test)]
-mod replays;
 #[cfg(test)]
 mod runs;
 #[cfg(test)]
 mod scope_rows;
-#[cfg(test)]
-mod script_rows;
-#[cfg(test)]
-mod sources;
 #[cfg(test)]
 mod streams;
 #[cfg(test)]

@@ -1,4 +1,4 @@
-//! The scope check of sources: its faults with their places, and the terms that it writes out.
+//! The scope check of sources: how many nodes it takes, and the terms that it writes out.
 
 use orc_lex::token::Span;
 use orc_rules::param::Operand;
@@ -38,63 +38,6 @@ fn fault(kind: FaultKind, start: usize, end: usize) -> Answer {
 fn program(alloc: Global, source: &[u8]) -> Option<Program> {
     let ast = parse(alloc, source).ok()?;
     check(alloc, &ast, &[b"Add".as_slice(), b"Rwait".as_slice()]).ok()
-}
-
-#[test]
-fn blames_names(rt: HostRuntime) -> Result<(), Fail> {
-    let rows: [(&[u8], Answer); 12] = [
-        (b"x", fault(FaultKind::Unbound, 0, 1)),
-        (b"Add", fault(FaultKind::NotValue, 0, 3)),
-        (b"def f() = 1\nf", fault(FaultKind::NotValue, 12, 13)),
-        (
-            b"def f(a) = a\nf()",
-            fault(FaultKind::Arity { want: 1, got: 0 }, 13, 14),
-        ),
-        (
-            b"def f() = 1\ndef f() = 2\nf()",
-            fault(FaultKind::DefinedTwice, 16, 17),
-        ),
-        (
-            b"def f(x, x) = x\nf(1)",
-            fault(FaultKind::ParameterTwice, 9, 10),
-        ),
-        (b"1 >x> x(2)", fault(FaultKind::CallOfVariable, 6, 7)),
-        (b"val x = 1 x(2)", fault(FaultKind::CallOfVariable, 10, 11)),
-        (b"f(1)", fault(FaultKind::NoSite, 0, 1)),
-        // The variable of a pruning is in scope in its left side alone.
-        (b"1 <x< x", fault(FaultKind::Unbound, 6, 7)),
-        // The least place: the argument stands behind the called name.
-        (b"f(x)", fault(FaultKind::NoSite, 0, 1)),
-        (b"Add(1) | x <x< 1", Answer::Fine),
-    ];
-    for (source, expected) in rows {
-        assert_eq!(rt; answer_of(rt.alloc(), source), expected, "at {source:?}");
-    }
-    Ok(())
-}
-
-#[test]
-fn counts_parameters_and_arguments(rt: HostRuntime) -> Result<(), Fail> {
-    let rows: [(&[u8], Answer); 4] = [
-        (
-            b"def f(a,b,c,d,e,g,h,i,j,k,l,m,n,o,p,q) = a\n1",
-            Answer::Fine,
-        ),
-        (
-            b"def f(a,b,c,d,e,g,h,i,j,k,l,m,n,o,p,q,r) = a\n1",
-            fault(FaultKind::TooMany, 38, 39),
-        ),
-        (b"Add(1,2,3,4,5,6,7,8,9,0,1,2,3,4,5,6)", Answer::Fine),
-        // Its place is the argument's without brackets.
-        (
-            b"Add(1,2,3,4,5,6,7,8,9,0,1,2,3,4,5,6,(7))",
-            fault(FaultKind::TooMany, 37, 38),
-        ),
-    ];
-    for (source, expected) in rows {
-        assert_eq!(rt; answer_of(rt.alloc(), source), expected, "at {source:?}");
-    }
-    Ok(())
 }
 
 // Adds `1|1|..|1` with so many operators: twice as many nodes and one.

@@ -1,14 +1,10 @@
 //! Files that can't be read, and streams that don't take what is written.
 
 use crate::harness::{
-    FailingFiles, IdleWriter, MemoryFiles, ShortReader, ShortWriter, checked, orc, orc_into,
+    FailingFiles, IdleWriter, MemoryFiles, ShortReader, ShortWriter, orc, orc_into,
 };
-use orc_journal::JournalFault;
-use orc_run::{ReadFault, RunFault, Unchecked, Unread, check_read, command};
-use std::alloc::Global;
-use std::sync::Wait;
+use orc_run::{ReadFault, Unchecked, Unread, check_read, command};
 use std::test::Fail;
-use std::thread::Threads;
 
 const FILES: [(&str, &[u8]); 3] = [
     ("a.orc", b"Pair(1, 9) | (Pair(2, 9) ; 6)"),
@@ -180,70 +176,6 @@ fn checks_a_journal_that_comes_in_pieces(rt: HostRuntime) -> Result<(), Fail> {
         let told = check_read(alloc, source, script, journal, &mut out);
         assert!(rt; told == Err(Unchecked::Unread), "at {good}");
         assert!(rt; out.is_empty());
-    }
-    Ok(())
-}
-
-// A line that no piece holds whole is no entry's, and its place is told.
-#[test]
-fn blames_a_line_that_is_longer_than_a_piece(rt: HostRuntime) -> Result<(), Fail> {
-    let alloc = rt.alloc();
-    let [(_, source), (_, script), (_, front)] = FILES;
-    let mut bytes = Vec::from_slice(alloc, front)?;
-    bytes.resize(200_000, b'1')?;
-    let mut out = Vec::new(alloc);
-    let told = check_read(alloc, source, script, bytes.as_slice(), &mut out);
-    let fault = RunFault::Journal(JournalFault::Line(3));
-    assert!(rt; told == Err(Unchecked::Fault(fault)));
-    assert!(rt; out.is_empty());
-    Ok(())
-}
-
-// The files of a check, and the line that one of them is answered with.
-#[derive(Clone, Copy)]
-struct Faulty<'a> {
-    source: &'a [u8],
-    script: &'a [u8],
-    journal: &'a [u8],
-    line: &'a str,
-}
-
-fn is_blamed<R: Threads + Wait + Sync + AllocGlobal>(rt: &R, files: &Faulty) -> Result<bool, Fail> {
-    let done = checked(rt, files.source, files.script, files.journal)?;
-    Ok(done.status == 1 && done.out.is_empty() && done.err.as_str() == files.line)
-}
-
-// What stands in the files that were read is looked at only then: the source, the script, the names and the journal.
-#[test]
-fn blames_the_first_file_at_fault(rt: HostRuntime) -> Result<(), Fail> {
-    let entry = Faulty {
-        source: b"A()",
-        script: b"A() = 1",
-        journal: b"orc-journal 2\nend 1\n",
-        line: "orc: K at entry 1: Form\n",
-    };
-    let header = Faulty {
-        journal: b"",
-        line: "orc: J1\n",
-        ..entry
-    };
-    let name = Faulty {
-        source: b"B()",
-        line: "orc: C7 at 0\n",
-        ..header
-    };
-    let script = Faulty {
-        script: b"?",
-        line: "orc: L1 at line 1\n",
-        ..name
-    };
-    let source = Faulty {
-        source: b"(",
-        line: "orc: S4 at 1: Expression\n",
-        ..script
-    };
-    for files in [entry, header, name, script, source].as_slice() {
-        assert!(rt; is_blamed(&rt, files)?, "at {:?}", files.source);
     }
     Ok(())
 }

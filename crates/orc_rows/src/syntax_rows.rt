@@ -1,44 +1,8 @@
-//! Sources that are no programs: where they are at fault, and what any bytes at all are answered.
+//! What any bytes at all are answered that should be a source.
 
-use crate::harness::{refused, runs, wrong};
 use orc_syntax::{SyntaxFault, parse};
 use std::alloc::{AllocError, Global};
 use std::test::Fail;
-
-#[test]
-fn blames_the_first_fault(rt: HostRuntime) -> Result<(), Fail> {
-    let rows = [
-        refused(b"{- {- -} 1", "orc: S7 at 0\n"),
-        refused(b"1 {-", "orc: S7 at 2\n"),
-        refused(b"{-}", "orc: S7 at 0\n"),
-        runs(b"{--} 1", 0, &["1\n"]),
-        runs(b"{- --} 1", 0, &["1\n"]),
-        // A name followed by a bracket is a call.
-        refused(b"def f(a) = a\n(1)", "orc: S4 at 16: Expression\n"),
-        refused(b"1 | -- c", "orc: S4 at 8: Expression\n"),
-        refused(b"def 1", "orc: S4 at 4: Name\n"),
-        refused(b"def f = 1", "orc: S4 at 6: Paren\n"),
-        refused(b"def f(1) = 1", "orc: S4 at 6: Name\n"),
-        refused(b"def f(a b) = 1", "orc: S4 at 8: CommaOrClose\n"),
-        refused(b"def f(a) 1", "orc: S4 at 9: Assign\n"),
-        refused(b"1 >x 2", "orc: S4 at 5: Arrow\n"),
-        refused(b"Add(1 2)", "orc: S4 at 6: CommaOrClose\n"),
-        refused(b"val 1", "orc: S4 at 4: Name\n"),
-        refused(b"stop stop", "orc: S4 at 5: End\n"),
-        refused(b"-", "orc: S2 at 0\n"),
-        refused(b"1 \xc3\xa9", "orc: S2 at 2\n"),
-        runs(b"1 -- \xc3\xa9", 0, &["1\n"]),
-        // What is no UTF-8 is at fault inside comments too.
-        refused(b"1 -- \xff", "orc: S1 at 5\n"),
-        refused(b"{- \xff -} 1", "orc: S1 at 3\n"),
-        refused(b"-9223372036854775809", "orc: S3 at 0\n"),
-        // Lines may end with CR and LF; a CR alone ends no comment.
-        runs(b"def f(a) =\r\n  a -- the same\r\nf(1)\r\n", 0, &["1\n"]),
-        refused(b"-- one\r1", "orc: S4 at 8: Expression\n"),
-    ];
-    assert_eq!(rt; wrong(&rt, rows.as_slice())?.as_str(), "");
-    Ok(())
-}
 
 // `f OPERATOR g`, with each sign for an operator.
 fn joined(alloc: Global, f: &[u8], operator: &[u8], g: &[u8]) -> Result<Vec<u8>, AllocError> {
