@@ -20,6 +20,10 @@ loop='def loop(n) = Lt(n, COUNT) >b> (Iff(b) >> n | Ift(b) >> Add(n, 1) >m> loop
 races='def loop(n) = Lt(n, COUNT) >b> (Iff(b) >> n | Ift(b) >> (x <x< (n | Never() | Rwait(5))) >> Add(n, 1) >m> loop(m)) (loop(0))'
 timed='def loop(n) = Lt(n, COUNT) >b> (Iff(b) >> n | Ift(b) >> (x <x< (Slow(n) | Rwait(5))) >> Add(n, 1) >m> loop(m)) (loop(0))'
 tree='def tree(n) = Lt(0, n) >b> (Iff(b) >> 1 | Ift(b) >> Sub(n, 1) >m> (tree(m) | tree(m))) (tree(COUNT))'
+recursion='def fib(n) = Lt(n, 2) >b> (Ift(b) >> n | Iff(b) >> Add(fib(Sub(n, 1)), fib(Sub(n, 2)))) (fib(COUNT))'
+raced='def leaf(n) = x <x< (Add(n, 1) | Add(n, 2))
+def tree(n) = Lt(0, n) >b> (Iff(b) >> leaf(n) | Ift(b) >> Sub(n, 1) >m> (tree(m) | tree(m)))
+tree(COUNT)'
 sides='def idle(n) = Lt(0, n) >b> Ift(b) >> ((x <x< Never()) | Sub(n, 1) >m> idle(m))
 def clock(n) = Lt(0, n) >b> Ift(b) >> Rwait(1) >> Sub(n, 1) >m> clock(m)
 idle(COUNT) | clock(COUNT)'
@@ -71,6 +75,8 @@ workloads() {
     for count in 250 1000; do run standing-sides $count "${sides//COUNT/$count}" 'Never() = never'; done
     for levels in 250 1000; do run left-otherwises $levels "${left//COUNT/$levels}"; done
     for levels in 14 16 18; do run tree $levels "${tree/COUNT/$levels}"; done
+    for count in 16 22; do run recursion $count "${recursion/COUNT/$count}"; done
+    for levels in 13 16; do run raced-leaves $levels "${raced/COUNT/$levels}"; done
     for levels in 14 16; do run many-sites $levels "${calls/COUNT/$levels}" "$(many_sites $((1 << levels)))"; done
     for levels in 12 14; do run timers $levels "${timers/COUNT/$levels}"; done
 }
