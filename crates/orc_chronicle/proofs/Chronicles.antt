@@ -4,7 +4,7 @@ use Rattle.orc_rules.specs.declared.entry.Entry.{Entry}
 use Rattle.orc_rules.specs.declared.entry.Entry.TheVariants.{End, Fork, Seq, Other, Def, Void, Open, Send, Call, Return, ReturnHalt, Bind, Lost, Right, Publish, Tick, Cancel}
 use Rattle.orc_rules.specs.Sites.{Site}
 use Rattle.orc_rules.specs.Trace.{published}
-use Rattle.orc_graft.specs.Moved.{moved, AreLocal}
+use Rattle.orc_graft.specs.Moved.{moved, AreLocal, AreSilent}
 use Rattle.orc_graft.specs.declared.numbering.Numbering.{Numbering}
 
 -- under other numbers they publish the same
@@ -32,6 +32,32 @@ published-moved n (Cancel k ∷ es) = published-moved n es
 pub local-more : (sites : List Site) (es fs : List Entry) → AreLocal sites es → AreLocal sites fs → AreLocal sites (es ++ fs)
 local-more sites [] fs h k = k
 local-more sites (e ∷ es) fs h k = (h.0, local-more sites es fs h.1 k)
+
+-- where nothing is published they are silent
+pub silent-where-none : (es : List Entry) → published es ≡ [] → AreSilent es
+silent-where-none [] none = tt
+silent-where-none (Publish s v ∷ es) none = absurd (omega (arith, ap length none))
+silent-where-none (End s ∷ es) none = (tt, silent-where-none es none)
+silent-where-none (Fork s a b ∷ es) none = (tt, silent-where-none es none)
+silent-where-none (Seq s a ∷ es) none = (tt, silent-where-none es none)
+silent-where-none (Other s a ∷ es) none = (tt, silent-where-none es none)
+silent-where-none (Def s a ∷ es) none = (tt, silent-where-none es none)
+silent-where-none (Void s ∷ es) none = (tt, silent-where-none es none)
+silent-where-none (Open s c a b ∷ es) none = (tt, silent-where-none es none)
+silent-where-none (Send s a v ∷ es) none = (tt, silent-where-none es none)
+silent-where-none (Call s k m args ∷ es) none = (tt, silent-where-none es none)
+silent-where-none (Return k a v ∷ es) none = (tt, silent-where-none es none)
+silent-where-none (ReturnHalt k ∷ es) none = (tt, silent-where-none es none)
+silent-where-none (Bind s c v ∷ es) none = (tt, silent-where-none es none)
+silent-where-none (Lost c ∷ es) none = (tt, silent-where-none es none)
+silent-where-none (Right s a ∷ es) none = (tt, silent-where-none es none)
+silent-where-none (Tick t ∷ es) none = (tt, silent-where-none es none)
+silent-where-none (Cancel k ∷ es) none = (tt, silent-where-none es none)
+
+-- silent entries and silent ones behind them
+pub silent-more : (es fs : List Entry) → AreSilent es → AreSilent fs → AreSilent (es ++ fs)
+silent-more [] fs h k = k
+silent-more (e ∷ es) fs h k = (h.0, silent-more es fs h.1 k)
 
 -- the first entries, of which those that aren't held any more are some
 pub take-behind : (es fs : List Entry) (n : ℕ) → length es ≤ n → take n (es ++ fs) ≡ es ++ take (n - length es) fs

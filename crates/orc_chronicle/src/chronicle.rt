@@ -7,7 +7,7 @@ ghost use Rattle.orc_rules.specs.declared.entry.Entry.{Entry as EntryOf};
 ghost use Rattle.orc_rules.specs.declared.entry.Entry.TheVariants.{Call, Bind, Cancel};
 ghost use Rattle.orc_rules.specs.declared.limits.TheConstants.{MOST_ARGUMENTS};
 ghost use Rattle.orc_rules.specs.Trace.{published};
-ghost use Rattle.orc_graft.specs.Moved.{moved, AreLocal};
+ghost use Rattle.orc_graft.specs.Moved.{moved, AreLocal, AreSilent};
 ghost use Rattle.orc_chronicle.specs.Chronicles.{chronicle_with};
 
 use crate::program::Program;
@@ -169,6 +169,13 @@ impl<P: Program> Chronicle<P> {
         ensures { result ≡ true → AreLocal P.sites self.now.entries }
     {
         self.is_local && self.held.are_local(answers)
+    }
+
+    /// Whether no entry is a publication.
+    pub fn is_silent(&self) -> bool
+        ensures { result ≡ true → AreSilent self.now.entries }
+    {
+        self.published.is_empty() && self.held.is_silent()
     }
 
     /// How many entries are held.

@@ -1,7 +1,7 @@
 //! One run whose work is shared out: where many tokens stand at calls of definitions, the calls' own runs are made side by side, and taken in one after
 //! another in a fixed order. So the journal doesn't depend on which thread is quicker, nor on how many there are.
 
-ghost use Rattle.std.specs.Prelude.{◌≡◌, ◌≤◌, ◌<◌, ◌^◌, ◌⊎◌, ◌↔◌, Err, IfOk, IfErr, true, false, MatchOption};
+ghost use Rattle.std.specs.Prelude.{◌≡◌, ◌≤◌, ◌<◌, ◌^◌, ◌↔◌, Err, IfOk, IfErr, true, false, MatchOption};
 ghost use Rattle.std.specs.VecDeque.{deque_len};
 ghost use Rattle.orc_rules.specs.declared.limits.TheConstants.{MOST_ENTRIES};
 ghost use Rattle.orc_rules.specs.Named.{HasNames};
@@ -10,7 +10,7 @@ ghost use Rattle.orc_rules.specs.Program.{IsProgram};
 ghost use Rattle.orc_outcome.specs.Outcome.{IsPlayed};
 ghost use Rattle.orc_engine.specs.Faults.{IsOwn};
 ghost use Rattle.orc_engine.specs.Ranges.{IsInRange};
-ghost use Rattle.orc_engine.specs.Stops.{Advances, HasSpread, IsNearer, Stops};
+ghost use Rattle.orc_engine.specs.Stops.{HasSpread, IsNearer, Stops};
 
 use crate::desk::{Desk, Stop};
 use crate::fault::EngineFault;
@@ -303,8 +303,7 @@ where
     // Runs the calls at which tokens stand side by side, and takes in what came of them. Where it isn't known how many entries their runs have on average, a few
     // show it first, and whether the others are worth it.
     fn run_side_by_side(&self, desk: &mut Desk<P>, mean: usize) -> Trial
-        ensures goes { Advances desk.old.ledger desk.new.ledger ⊎ (desk.new.ledger ≡ desk.old.ledger) }
-        ensures ready { desk.new.ready ≡ desk.old.ready }
+        ensures spread { HasSpread desk.old.ledger (deque_len desk.old.ready.handles) desk.new.ledger (deque_len desk.new.ready.handles) }
     {
         let room = desk.room();
         let Ok(mut jobs) = desk.jobs(self.graph) else {
@@ -346,8 +345,7 @@ where
         done: usize,
         jobs: &mut [Job<P>],
     ) -> Trial
-        ensures goes { Advances desk.old.ledger desk.new.ledger ⊎ (desk.new.ledger ≡ desk.old.ledger) }
-        ensures ready { desk.new.ready ≡ desk.old.ready }
+        ensures spread { HasSpread desk.old.ledger (deque_len desk.old.ready.handles) desk.new.ledger (deque_len desk.new.ready.handles) }
     {
         let mut mean = mean;
         let mut trial = Trial::Good(mean);
@@ -381,8 +379,7 @@ where
         batch: &mut [Job<P>],
     )
         requires limit { (1 ≤ limit) × (limit ≤ MOST_ENTRIES) }
-        ensures goes { Advances desk.old.ledger desk.new.ledger ⊎ (desk.new.ledger ≡ desk.old.ledger) }
-        ensures ready { desk.new.ready ≡ desk.old.ready }
+        ensures spread { HasSpread desk.old.ledger (deque_len desk.old.ready.handles) desk.new.ledger (deque_len desk.new.ready.handles) }
     {
         let graph = self.graph;
         if self.workers == 1 || before.len() <= SAMPLES {
@@ -438,13 +435,21 @@ fn tally_of<P: Naming>(jobs: &[Job<P>]) -> Tally {
 // Takes in, one after another, what came of those jobs that still have it.
 fn take_all<P: Naming>(graph: &Graph, desk: &mut Desk<P>, jobs: &mut [Job<P>])
     requires graph { graph.now ≡ P.listing }
-    ensures goes { Advances desk.old.ledger desk.new.ledger ⊎ (desk.new.ledger ≡ desk.old.ledger) }
-    ensures ready { desk.new.ready ≡ desk.old.ready }
+    ensures spread { HasSpread desk.old.ledger (deque_len desk.old.ready.handles) desk.new.ledger (deque_len desk.new.ready.handles) }
 {
     for job in jobs {
-        if let Came::Over(part) = job.take() {
-            // What isn't taken in goes on in its place.
-            let _taken = desk.take_in(graph, job.handle(), &part);
-        }
+        take_one(graph, desk, job);
     }
+}
+
+// Takes in what came of a job, if the job still has it.
+fn take_one<P: Naming>(graph: &Graph, desk: &mut Desk<P>, job: &mut Job<P>)
+    requires graph { graph.now ≡ P.listing }
+    ensures spread { HasSpread desk.old.ledger (deque_len desk.old.ready.handles) desk.new.ledger (deque_len desk.new.ready.handles) }
+{
+    let Came::Over(part) = job.take() else {
+        return;
+    };
+    // What isn't taken in goes on in its place.
+    let _taken = desk.take_in(graph, job.handle(), &part);
 }

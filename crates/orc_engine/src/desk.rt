@@ -55,14 +55,12 @@ pub(crate) enum Stop {
     Site(u64),
 }
 
-/// Whether a token whose publications are the run's stands at a call of a definition.
+/// Whether a token stands at a call of a definition.
 #[inline(always)]
 pub(crate) fn is_at_call(graph: &Graph, token: &Token) -> bool {
     match token.standing {
-        Standing::At(node, _) if token.step == 0 => {
-            matches!(graph.node(node as usize), Node::Call(_, _))
-        },
-        _ => false,
+        Standing::At(node, _) => matches!(graph.node(node as usize), Node::Call(_, _)),
+        Standing::On(_) => false,
     }
 }
 
@@ -95,8 +93,12 @@ pub(crate) struct Desk<P: Naming> {
     pub(crate) spreads: bool,
     // How many moves have led to the token whose turn it is, one after another.
     moves: u32,
-    // Whether it has opened a cell, or made a call that isn't answered at once: what is round a call that is run apart bears on both.
-    touches: bool,
+    // Whether what the run publishes is held back: it is that of a call of which the value alone is wanted.
+    holds_back: bool,
+    // The slot of the token that is held back on a value.
+    last: Option<usize>,
+    // Whether it has made a call that isn't answered at once, or come to a second value that is held back: what is made apart is in vain then.
+    is_vain: bool,
     // The calls that were cancelled, where others are told of them.
     gone: Vec<u64>,
     // Lent to the ledger's calls.
@@ -119,7 +121,9 @@ impl<P: Naming> Drop for Desk<P> {
             asks: _,
             spreads: _,
             moves: _,
-            touches: _,
+            holds_back: _,
+            last: _,
+            is_vain: _,
             gone,
             scopes,
             cancelled,
@@ -152,7 +156,9 @@ impl<P: Naming> Desk<P> {
             asks,
             spreads: false,
             moves: 0,
-            touches: false,
+            holds_back: false,
+            last: None,
+            is_vain: false,
             gone: Vec::new(alloc),
             scopes: Vec::new(alloc),
             cancelled: Vec::new(alloc),
@@ -173,7 +179,9 @@ impl<P: Naming> Desk<P> {
             asks: _,
             spreads: _,
             moves: _,
-            touches: _,
+            holds_back: _,
+            last: _,
+            is_vain: _,
             gone,
             scopes,
             cancelled,
@@ -281,6 +289,10 @@ impl<P: Naming> Desk<P> {
             if self.spreads && moved > 0 && is_at_call(graph, &token) {
                 break;
             }
+            if self.is_held_back(graph, &token) {
+                self.keep_last(slot);
+                return Ok(Turn::Went);
+            }
             match self.step(graph, answers, slot, token)? {
                 Step::On(next) => slot = next,
                 Step::Done | Step::Waits => return Ok(Turn::Went),
@@ -291,9 +303,40 @@ impl<P: Naming> Desk<P> {
         Ok(Turn::Went)
     }
 
-    /// Whether it has opened a cell, or made a call that wasn't answered at once.
-    pub(crate) fn touches(&self) -> bool {
-        self.touches
+    /// What the run publishes is held back from now on.
+    pub(crate) fn hold_back(&mut self)
+        ensures same { self.new.ledger ≡ self.old.ledger }
+    {
+        self.holds_back = true;
+    }
+
+    /// The slot of the token that is held back, if there is one.
+    pub(crate) fn last(&self) -> Option<usize> {
+        self.last
+    }
+
+    /// Whether nothing can come of a call whose run this is: it has made a call that wasn't answered at once, or come to two values where one is wanted.
+    pub(crate) fn is_vain(&self) -> bool {
+        self.is_vain
+    }
+
+    // Whether the token would publish a value of the run next, which is held back.
+    #[inline(always)]
+    fn is_held_back(&self, graph: &Graph, token: &Token) -> bool
+        requires graph { graph.now ≡ P.listing }
+    {
+        self.holds_back
+            && token.step == 0
+            && matches!(self.ledger.what(graph, token), What::Publish(_))
+    }
+
+    // The token in this slot is to be the last one.
+    fn keep_last(&mut self, slot: usize)
+        ensures same { self.new.ledger ≡ self.old.ledger }
+        ensures ready { self.new.ready ≡ self.old.ready }
+    {
+        self.is_vain = self.is_vain || self.last.is_some();
+        self.last = Some(slot);
     }
 
     // Tokens that are gone wait no more before the one that has waited longest: many may go at once, and their turns would take all rounds.
@@ -349,6 +392,14 @@ impl<P: Naming> Desk<P> {
         }
     }
 
+    /// The turn of the token in a slot comes, if there is one, to which so many moves have led.
+    pub(crate) fn join_after(&mut self, slot: usize, moves: u32) -> Result<(), Stop>
+        ensures same { self.new.ledger ≡ self.old.ledger }
+    {
+        self.moves = moves;
+        self.join_held(slot)
+    }
+
     // One move of a token.
     #[inline(always)]
     fn step(
@@ -393,7 +444,7 @@ impl<P: Naming> Desk<P> {
                 Ok(Step::Waits)
             }
             Ok(Passed::Pends(_)) => {
-                self.touches = true;
+                self.is_vain = true;
                 Ok(Step::Done)
             }
             Ok(Passed::Halted(group)) => {
@@ -457,7 +508,6 @@ impl<P: Naming> Desk<P> {
             self.join_held(right)?;
             Ok(Step::On(left))
         } else {
-            self.touches = true;
             self.join_held(left)?;
             Ok(Step::On(right))
         }
@@ -512,7 +562,7 @@ impl<P: Naming> Desk<P> {
                 Ok(Step::Done)
             }
             Ok(Called::Pends(_)) => {
-                self.touches = true;
+                self.is_vain = true;
                 Ok(Step::Done)
             }
             Err(fault) => {

@@ -21,7 +21,7 @@ pub(crate) enum Came<P: Naming> {
     Nothing,
     /// It has more entries than it may have.
     Long,
-    /// It is over.
+    /// It is over, or has come to one value.
     Over(Part<P>),
 }
 
@@ -118,21 +118,25 @@ fn run_apart<Q: Naming, P: Naming>(
         return Came::Nothing;
     };
     let mut desk = Desk::new(alloc, ledger, keeps, false);
+    if !task.is_outermost {
+        desk.hold_back();
+    }
     if is_cut(&mut desk, graph, answers) {
         return Came::Long;
     }
+    let last = desk.last();
     let mut ledger = desk.into_ledger();
     if !keeps {
         // What is taken in is then what it publishes, and no entry.
         ledger.forget(answers);
     }
-    match ledger.into_part::<P>(answers, task) {
+    match ledger.into_part::<P>(graph, answers, task, last) {
         Some(part) => Came::Over(part),
         None => Came::Nothing,
     }
 }
 
-// Turns until nothing can be done at once, the run stops, or what is round it bears on it. Whether its limit has stopped it.
+// Turns until nothing can be done at once, the run stops, or nothing can come of it. Whether its limit has stopped it.
 fn is_cut<Q: Naming>(desk: &mut Desk<Q>, graph: &Graph, answers: &Answers) -> bool
     requires graph { graph.now ≡ Q.listing }
     requires answers { answers.now.sites ≡ Q.sites }
@@ -142,7 +146,7 @@ fn is_cut<Q: Naming>(desk: &mut Desk<Q>, graph: &Graph, answers: &Answers) -> bo
     }
     loop {
         match desk.go_now(graph, answers) {
-            Ok(true) if !desk.touches() => {}
+            Ok(true) if !desk.is_vain() => {}
             Err(Stop::Refused(LedgerFault::Limit)) => return true,
             Ok(_) | Err(_) => return false,
         }

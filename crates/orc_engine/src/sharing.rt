@@ -10,6 +10,7 @@ use crate::ready::Handle;
 use orc_graph::Graph;
 use orc_ledger::{Part, Program as Naming, Task};
 use orc_rules::answers::Answers;
+use orc_rules::limits::MOST_GROUPS;
 use std::alloc::AllocError;
 
 /// The most calls that are run apart at a time.
@@ -20,6 +21,9 @@ const EACH: usize = 40;
 
 /// The most rounds of turns in which tokens are spread.
 const ROUNDS: usize = 1_000;
+
+/// Tokens aren't spread where so many sides are open: together they open more than one that goes to its end, and there may be `MOST_GROUPS`.
+const MOST_SIDES: usize = MOST_GROUPS / 2;
 
 /// Tokens to which so many moves more have led go on in one round with those to which the fewest have.
 const NEAR: u32 = 2;
@@ -67,7 +71,8 @@ impl<P: Naming> Desk<P> {
         Ok(())
     }
 
-    // Each token to which so many moves have led at most goes on to its next call of a definition, and each that doesn't stand at one.
+    // Each token to which so many moves have led at most goes on to its next call of a definition, and each that doesn't stand at one, as long as few sides
+    // are open.
     fn spread_once(&mut self, graph: &Graph, answers: &Answers, moves: u32) -> Result<(), Stop>
         requires graph { graph.now ≡ P.listing }
         requires answers { answers.now.sites ≡ P.sites }
@@ -76,7 +81,8 @@ impl<P: Naming> Desk<P> {
     {
         self.spreads = true;
         for _token in 0..self.ready() {
-            if self.is_oldest_settled(graph, moves) {
+            let is_full = self.ledger.side_count() >= MOST_SIDES;
+            if is_full || self.is_oldest_settled(graph, moves) {
                 self.ready.pass_oldest();
             } else {
                 self.turn(graph, answers)?;
@@ -97,8 +103,8 @@ impl<P: Naming> Desk<P> {
         }
     }
 
-    /// The calls of definitions with values at which tokens stand whose turn comes, and whose publications are the run's, `MOST_JOBS` of them at most, in
-    /// a fixed order in which tokens that came one after another stand apart. The error is refused memory.
+    /// The calls of definitions with values at which tokens stand whose turn comes, `MOST_JOBS` of them at most, in a fixed order in which tokens that came
+    /// one after another stand apart. The error is refused memory.
     pub(crate) fn jobs(&self, graph: &Graph) -> Result<Vec<Job<P>>, AllocError>
         requires graph { graph.now ≡ P.listing }
     {
@@ -126,12 +132,13 @@ impl<P: Naming> Desk<P> {
         self.ledger.task(graph, &token)
     }
 
-    /// Takes in what came of the call at which a token stood, if it stands there still. Whether it was taken in.
+    /// Takes in what came of the call at which a token stood, if it stands there still. If that is a value, the turn of the token on it comes. Whether it was
+    /// taken in.
     pub(crate) fn take_in(&mut self, graph: &Graph, handle: Handle, part: &Part<P>) -> bool
         requires graph { graph.now ≡ P.listing }
-        ensures ready { self.new.ready ≡ self.old.ready }
         ensures taken { result ≡ true → Advances self.old.ledger self.new.ledger }
-        ensures refused { result ≡ false → self.new.ledger ≡ self.old.ledger }
+        ensures refused { result ≡ false → (self.new.ledger ≡ self.old.ledger) × (self.new.ready ≡ self.old.ready) }
+        ensures spread { HasSpread self.old.ledger (deque_len self.old.ready.handles) self.new.ledger (deque_len self.new.ready.handles) }
     {
         let Some(token) = self.token_of(handle) else {
             return false;
@@ -139,6 +146,11 @@ impl<P: Naming> Desk<P> {
         let Some(task) = self.ledger.task(graph, &token) else {
             return false;
         };
-        part.is_of(&task) && self.ledger.take_in(handle.slot, token, part).is_ok()
+        if !part.is_of(&task) || self.ledger.take_in(handle.slot, token, part).is_err() {
+            return false;
+        }
+        // Where memory is refused its turn doesn't come, but the ledger knows of the token.
+        let _joined = self.join_after(handle.slot, handle.moves);
+        true
     }
 }

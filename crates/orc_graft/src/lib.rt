@@ -5,5 +5,5 @@
 mod laws;
 mod numbering;
 
-pub use laws::part_is_grafted;
+pub use laws::{part_is_grafted, program_is_still};
 pub use numbering::Numbering;

@@ -19,21 +19,28 @@ row_by s (Narrow kinds.Seq a b c) = Narrow kinds.Seq (mark_by s a) (mark_by s b)
 row_by s (Narrow kinds.Other a b c) = Narrow kinds.Other (mark_by s a) (mark_by s b) c
 row_by s (Narrow kinds.Def a b c) = Narrow kinds.Def (mark_by s a) (mark_by s b) c
 row_by s (Narrow kinds.Void a b c) = Narrow kinds.Void (mark_by s a) b c
+row_by s (Narrow kinds.Open a b c) = Narrow kinds.Open (mark_by s a) (s.cells + b) (s.marks + c)
 row_by s (Narrow kinds.Send a b c) = Narrow kinds.Send (mark_by s a) (mark_by s b) (s.values + c)
 row_by s (Narrow kinds.Call a b c) = Narrow kinds.Call (mark_by s a) (s.calls + b) (s.called + c)
 row_by s (Narrow kinds.Return a b c) = Narrow kinds.Return (s.calls + a) (mark_by s b) (s.values + c)
 row_by s (Narrow kinds.ReturnHalt a b c) = Narrow kinds.ReturnHalt (s.calls + a) b c
-row_by s (Narrow kinds.Bind a b c) = Narrow kinds.Bind a b (s.values + c)
+row_by s (Narrow kinds.Bind a b c) = Narrow kinds.Bind (mark_by s a) (s.cells + b) (s.values + c)
+row_by s (Narrow kinds.Lost a b c) = Narrow kinds.Lost (s.cells + a) b c
 row_by s (Narrow kinds.Right a b c) = Narrow kinds.Right (mark_by s a) (mark_by s b) c
 row_by s (Narrow kinds.Publish a b c) = Narrow kinds.Publish (mark_by s a) b (s.values + c)
 row_by s r = r
+
+-- a pruning was opened with two marks that follow one another still when they are moved: neither is the first mark
+abbrev pub IsMovable : Row → Type 0
+IsMovable (Narrow kinds.Open a b c) = 2 ≤ c
+IsMovable _ = Unit {0}
 
 abbrev pub called_by : Shift → Called → Called
 called_by s c = record { site = c.site; count = c.count; start = s.values + c.start }
 
 -- behind what these tables have, under these numbers
 abbrev pub shift_to : Contents → Numbering → Shift
-shift_to t n = record { token = n.token; marks = n.mark - 2; calls = n.calls; values = length t.values; called = length t.calls }
+shift_to t n = record { token = n.token; marks = n.mark - 2; calls = n.calls; cells = n.cells; values = length t.values; called = length t.calls }
 
 -- a shift that moves all of a part's rows
 pub record Shifts (t part : Contents) (n : Numbering) (s : Shift) : Type 0 where

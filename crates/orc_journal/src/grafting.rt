@@ -2,7 +2,7 @@
 
 ghost use Rattle.std.specs.Prelude.{◌≡◌, ◌+◌, ◌∷◌, [], List, map, true, IfOk, OnOk, OnErr};
 ghost use Rattle.orc_rules.specs.declared.entry.Entry.{Entry as EntryOf};
-ghost use Rattle.orc_graft.specs.Moved.{mark_in, moved, IsLocal, AreLocal};
+ghost use Rattle.orc_graft.specs.Moved.{cell_in, mark_in, moved, IsLocal, AreLocal, IsSilent, AreSilent};
 ghost use Rattle.orc_journal.specs.Rows.{entry_of, IsWithin, Keeps, StandsFor};
 ghost use Rattle.orc_journal.specs.Texts.{journal_with};
 
@@ -30,6 +30,14 @@ fn call_of(numbering: Numbering, own: u64) -> Result<u64, AllocError>
     numbering.call_of(own).ok_or(AllocError)
 }
 
+// The number of the part's own cell. The error: it doesn't fit 64 bits.
+#[inline(always)]
+fn cell_of(numbering: Numbering, own: u64) -> Result<u64, AllocError>
+    ensures { IfOk result (λ cell. cell ≡ cell_in numbering own) }
+{
+    numbering.cell_of(own).ok_or(AllocError)
+}
+
 impl Tables {
     // Whether the entry of a row is local.
     #[inline(always)]
@@ -39,11 +47,24 @@ impl Tables {
     {
         let p = self.parts_at(row);
         match p.kind {
-            Kind::Open | Kind::Bind | Kind::Lost | Kind::Tick | Kind::Cancel => false,
+            Kind::Tick | Kind::Cancel => false,
             Kind::Call => {
                 let called = self.called(p.third);
                 !answers.is_scripted(called.site)
             }
+            _ => true,
+        }
+    }
+
+    // Whether the entry of a row is no publication.
+    #[inline(always)]
+    fn is_silent(&self, row: Row) -> bool
+        requires { IsWithin self.now row }
+        ensures { result ≡ true → IsSilent (entry_of self.now row) }
+    {
+        let p = self.parts_at(row);
+        match p.kind {
+            Kind::Publish => false,
             _ => true,
         }
     }
@@ -87,6 +108,13 @@ impl Tables {
                 self.add_plain(p.kind, s, a, 0, 0)
             }
             Kind::Void => self.add_plain(Kind::Void, mark_of(n, p.first)?, 0, 0, 0),
+            Kind::Open => {
+                let s = mark_of(n, p.first)?;
+                let c = cell_of(n, p.second)?;
+                let a = mark_of(n, p.third)?;
+                let b = mark_of(n, p.fourth)?;
+                self.add_plain(Kind::Open, s, c, a, b)
+            }
             Kind::Send => {
                 let s = mark_of(n, p.first)?;
                 let a = mark_of(n, p.second)?;
@@ -104,13 +132,17 @@ impl Tables {
                 self.add_given(Kind::Return, k, a, part.value(p.third))
             }
             Kind::ReturnHalt => self.add_plain(Kind::ReturnHalt, call_of(n, p.first)?, 0, 0, 0),
+            Kind::Bind => {
+                let s = mark_of(n, p.first)?;
+                let c = cell_of(n, p.second)?;
+                self.add_given(Kind::Bind, s, c, part.value(p.third))
+            }
+            Kind::Lost => self.add_plain(Kind::Lost, cell_of(n, p.first)?, 0, 0, 0),
             Kind::Publish => {
                 let s = mark_of(n, p.first)?;
                 self.add_given(Kind::Publish, s, 0, part.value(p.third))
             }
-            Kind::Open | Kind::Bind | Kind::Lost | Kind::Tick | Kind::Cancel => self.add_same(
-                part, row,
-            ),
+            Kind::Tick | Kind::Cancel => self.add_same(part, row),
         }
     }
 }
@@ -122,6 +154,18 @@ impl Journal {
     {
         for row in &self.rows {
             if !self.tables.is_local(*row, answers) {
+                return false;
+            }
+        }
+        true
+    }
+
+    /// Whether no entry is a publication.
+    pub fn is_silent(&self) -> bool
+        ensures { result ≡ true → AreSilent self.now.entries }
+    {
+        for row in &self.rows {
+            if !self.tables.is_silent(*row) {
                 return false;
             }
         }

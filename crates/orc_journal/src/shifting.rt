@@ -1,9 +1,10 @@
 //! The rows of a part's journal, moved behind those of the journal around it.
 
 ghost use Rattle.std.specs.Prelude.{◌≡◌, ◌+◌, ◌≤◌, ◌++◌, [], true, false, length, map, IfOk, IfSome, OnErr, OnSome, vec_len, vec_capacity};
+ghost use Rattle.std.specs.List.{All};
 ghost use Rattle.orc_graft.specs.Moved.{moved};
 ghost use Rattle.orc_journal.specs.Rows.{grown, Keeps};
-ghost use Rattle.orc_journal.specs.Shifts.{called_by, mark_by, row_by, Shifts};
+ghost use Rattle.orc_journal.specs.Shifts.{called_by, mark_by, row_by, IsMovable, Shifts};
 ghost use Rattle.orc_journal.specs.Texts.{journal_with};
 
 use crate::journal::Journal;
@@ -12,13 +13,14 @@ use orc_graft::Numbering;
 use orc_rules::kind::Kind;
 use std::alloc::AllocError;
 
-/// What is added to a part's numbers: to its marks but the first one, which is the token's, to its calls, and to the places of its values and of
-/// what it called.
+/// What is added to a part's numbers: to its marks but the first one, which is the token's, to its calls and its cells, and to the places of its
+/// values and of what it called.
 #[derive(Clone, Copy)]
 pub struct Shift {
     pub token: u32,
     pub marks: u32,
     pub calls: u32,
+    pub cells: u32,
     pub values: u32,
     pub called: u32,
 }
@@ -35,10 +37,12 @@ impl Shift {
         self.marks.checked_add(own)
     }
 
-    // Makes a part's row that of the same entry here. None where a number doesn't fit 32 bits, and for a wide row; then some numbers may have moved.
+    // Makes a part's row that of the same entry here. None where a number doesn't fit 32 bits, for a wide row, and where an opened pruning's marks
+    // wouldn't follow one another any more, since one of them is the first mark; then some numbers may have moved.
     #[inline(always)]
     fn move_row(self, row: &mut Row) -> Option<()>
-        ensures { OnSome result (row.new ≡ row_by self row.old) }
+        ensures moved { OnSome result (row.new ≡ row_by self row.old) }
+        ensures movable { OnSome result (IsMovable row.old) }
     {
         let Row::Narrow(kind, a, b, c) = row else {
             return None;
@@ -53,6 +57,14 @@ impl Shift {
             Kind::Seq | Kind::Other | Kind::Def | Kind::Right => {
                 *a = self.mark(*a)?;
                 *b = self.mark(*b)?;
+            }
+            Kind::Open => {
+                if *c < 2 {
+                    return None;
+                }
+                *a = self.mark(*a)?;
+                *b = self.cells.checked_add(*b)?;
+                *c = self.marks.checked_add(*c)?;
             }
             Kind::Send => {
                 *a = self.mark(*a)?;
@@ -70,12 +82,17 @@ impl Shift {
                 *c = self.values.checked_add(*c)?;
             }
             Kind::ReturnHalt => *a = self.calls.checked_add(*a)?,
-            Kind::Bind => *c = self.values.checked_add(*c)?,
+            Kind::Bind => {
+                *a = self.mark(*a)?;
+                *b = self.cells.checked_add(*b)?;
+                *c = self.values.checked_add(*c)?;
+            }
+            Kind::Lost => *a = self.cells.checked_add(*a)?,
             Kind::Publish => {
                 *a = self.mark(*a)?;
                 *c = self.values.checked_add(*c)?;
             }
-            Kind::Open | Kind::Lost | Kind::Tick | Kind::Cancel => {}
+            Kind::Tick | Kind::Cancel => {}
         }
         Some(())
     }
@@ -98,6 +115,7 @@ impl Shift {
 fn move_rows(rows: &mut [Row], shift: Shift) -> Option<()>
     ensures len { length rows.new ≡ length rows.old }
     ensures moved { OnSome result (rows.new ≡ map (row_by shift) rows.old) }
+    ensures movable { OnSome result (All IsMovable rows.old) }
 {
     for row in rows.iter_mut() {
         shift.move_row(row)?;
@@ -108,6 +126,7 @@ fn move_rows(rows: &mut [Row], shift: Shift) -> Option<()>
 // Adds a part's rows, and moves them there. The answer is whether each has a moved one. If not, or if memory is refused, nothing changes.
 fn push_rows(rows: &mut Vec<Row>, part: &[Row], shift: Shift) -> Result<bool, AllocError>
     ensures added { IfOk result (λ fit. fit ≡ true → rows.new.items ≡ rows.old.items ++ map (row_by shift) part.now) }
+    ensures movable { IfOk result (λ fit. fit ≡ true → All IsMovable part.now) }
     ensures unfit { IfOk result (λ fit. fit ≡ false → rows.new.items ≡ rows.old.items) }
     ensures refused { OnErr result (rows.new.items ≡ rows.old.items) }
 {
@@ -151,6 +170,7 @@ impl Tables {
             token: short(numbering.token)?,
             marks: short(before)?,
             calls: short(numbering.calls)?,
+            cells: short(numbering.cells)?,
             values: short(self.values.len() as u64)?,
             called: short(self.calls.len() as u64)?,
         })

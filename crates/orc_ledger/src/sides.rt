@@ -1,6 +1,6 @@
 //! Sides that end: the right side of a cell that is bound or lost, and the left side of an otherwise.
 
-ghost use Rattle.std.specs.Prelude.{◌≡◌, ◌+◌, ◌-◌, ◌++◌, ◌∷◌, [], ◌<◌, true, map, false, IfOk, OnOk, OnErr, IfErr, slice_set};
+ghost use Rattle.std.specs.Prelude.{◌≡◌, ◌+◌, ◌-◌, ◌++◌, ◌∷◌, [], ◌<◌, true, length, map, false, IfOk, OnOk, OnErr, IfErr, slice_set};
 ghost use Rattle.orc_rules.specs.Nodes.{code};
 ghost use Rattle.orc_rules.specs.Term.{param};
 ghost use Rattle.orc_rules.specs.declared.param.Param.TheVariants.{Is};
@@ -57,6 +57,13 @@ fn write_bind<P: Program>(
 }
 
 impl<P: Program> Ledger<P> {
+    /// How many sides are open.
+    pub fn side_count(&self) -> usize
+        ensures { result ≡ length self.now.groups }
+    {
+        self.groups.len()
+    }
+
     /// The right side of a cell takes what the token publishes: all that stands inside it goes, and the calls that pended there are cancelled.
     /// Their numbers are handed out, in rising order.
     pub fn bind(

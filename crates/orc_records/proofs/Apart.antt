@@ -1,5 +1,5 @@
 -- A run that is over is a part of the run that has its call to make.
-use Rattle.std.proofs.Common.{◌≡◌, ◌≤◌, ℕ, List, [], ◌∷◌, refl, sym, ap, ◌∙◌, subst, arith, length, map, not, true, false, Option, Some, None}
+use Rattle.std.proofs.Common.{◌≡◌, ◌≤◌, ◌-◌, ℕ, List, [], ◌∷◌, refl, sym, ap, ◌∙◌, subst, arith, length, map, not, true, false, Option, Some, None, inl, inr}
 use Rattle.std.specs.Prelude.{filter}
 use Rattle.orc_rules.specs.declared.value.Value.{Value}
 use Rattle.orc_rules.specs.declared.entry.Entry.{Entry}
@@ -8,25 +8,34 @@ use Rattle.orc_rules.specs.declared.entry.Entry.TheVariants as entry
 use Rattle.orc_rules.specs.declared.param.Param.{Param}
 use Rattle.orc_rules.specs.declared.param.Param.TheVariants.{Is, Name, Cell, Void}
 use Rattle.orc_rules.specs.declared.param.Operand.{Operand}
-use Rattle.orc_rules.specs.Term.{Term, call, values_of}
+use Rattle.orc_rules.specs.Term.{Term, call, param, values_of}
 use Rattle.orc_rules.specs.Nodes.{Listing, code, source, definitions, param_of}
 use Rattle.orc_rules.specs.Sites.{Site}
-use Rattle.orc_rules.specs.Timed.{Context}
+use Rattle.orc_rules.specs.Timed.{Context, IsIn}
 use Rattle.orc_rules.specs.Journal.{Journal, begin}
-use Rattle.orc_graft.specs.Moved.{AreLocal}
+use Rattle.orc_graft.specs.Moved.{AreLocal, AreSilent}
 use Rattle.orc_names.specs.Scopes.{Env, close}
 use Rattle.orc_names.proofs.Scopes.{close-call, values-more}
 use Rattle.orc_paths.proofs.Meaning.{rest_some}
 use Rattle.orc_tables.specs.Same.{weight}
 use Rattle.orc_tables.proofs.Weight.{weight-length}
-use Rattle.orc_paths.specs.Doing.{closed, scan}
-use Rattle.orc_paths.specs.Spelling.{Numbered, whole, marks, sides}
+use Rattle.orc_tables.specs.declared.records.Token.{Token}
+use Rattle.orc_paths.specs.Doing.{Allows, closed, scan}
+use Rattle.orc_paths.specs.Paths.{has_left}
+use Rattle.orc_paths.specs.Spelling.{Row, stands, Numbered, whole, marks, sides, seen}
+use Rattle.orc_paths.proofs.Around.{by, by-self, is_row}
+use Rattle.orc_paths.proofs.Equal.{same_row}
+use Rattle.orc_paths.proofs.Growth.{path-none}
 use Rattle.orc_paths.specs.declared.what.What.TheVariants as what
 use Rattle.orc_paths.proofs.Forms.{scan-is}
-use Rattle.orc_records.specs.Records.{Records, Lawful, context, group_side, is_over, counts}
-use Rattle.orc_records.specs.Parts.{IsOver, call_of}
+use Rattle.orc_records.specs.Records.{Records, Lawful, context, its_env, its_path, token_row, call_row, group_side, is_over, counts}
+use Rattle.orc_records.specs.Doing.{term_of, what_of}
+use Rattle.orc_records.specs.Parts.{IsLeftOf, IsOver, call_of, rows_left}
+use Rattle.orc_records.specs.declared.parts.Yield.{Yield}
 use Rattle.orc_records.proofs.Asked.{site-values}
 use Rattle.orc_records.proofs.Lists.{rows-weigh}
+use Rattle.orc_records.proofs.Offers.{its_meaning}
+use Rattle.orc_records.proofs.Sound.{given}
 
 nothing : {X : Type 0} (xs : List X) → weight (λ (x : X). 1) xs ≡ 0 → xs ≡ []
 nothing [] h = refl
@@ -60,21 +69,65 @@ few (e ∷ es) = omega (arith, few es, one e)
     one (Tick t) = omega arith
     one (Cancel k) = omega arith
 
--- nothing is left of the run
-pub over : (own l : Listing) (of sites : List Site) (s : Records) (L : Lawful own of s) (e : ℕ) (args : List Value) → of ≡ sites → definitions own ≡ definitions l → source own ≡ call_of e args
-    → length s.tokens ≡ 0 → length s.calls ≡ 0 → length s.groups ≡ 0 → 2 ≤ s.next_mark → AreLocal sites s.journal → (es : List Entry) → es ≡ s.journal → IsOver l sites (record { definition = e; args = args; entries = es; mark = s.next_mark; calls = s.made })
-over own l of sites s L e args table defs form tokens calls groups two local es is =
-    record {
-      place = L.place;
-      leads = subst (λ fs. Journal (context l sites) (begin (call_of e args)) fs L.place) (sym is) (subst (λ z. Journal (context l sites) (begin z) s.journal L.place) form (subst (λ (x : Context). Journal x (begin (source own)) s.journal L.place) (λ i. record { definitions = defs i; sites = table i; cancels = true }) L.leads));
-      local = subst (AreLocal sites) (sym is) local;
-      rows = nothing (marks whole L.place.marked) (omega (arith, rows-weigh own of s L (λ r. 1), weight-length s.tokens, weight-length s.calls, tokens, calls));
-      sides_left = nothing (sides whole L.place.marked) (L.spells.sides (λ v. 1) ∙ ap (λ gs. weight (λ (v : Numbered). 1) (map (group_side (code own) s) (filter (λ g. not (is_over (code own) s g.side)) gs))) (empty s.groups groups));
-      mark = L.spells.mark;
-      calls = L.spells.made;
-      begun = two;
-      counted = omega (arith, L.counted, L.entries, few s.journal, ap length is);
-    }
+-- a list of one element, which weighs what a row does
+one_row : (rs : List Row) (r : Row) → ((w : Row → ℕ) → weight w rs ≡ w r) → rs ≡ r ∷ []
+one_row [] r h = absurd (omega (arith, h (λ q. 1)))
+one_row (q ∷ rs) r h =
+    let none : rs ≡ [] = nothing rs (omega (arith, h (λ q. 1))) in
+    let same : q ≡ r = row_is (same_row q r) (omega (arith, h (is_row r), ap (weight (is_row r)) none, by-self (same_row r r) refl)) in
+    λ i. same i ∷ none i
+  where
+    row_is : (d : Dec (q ≡ r)) → 1 ≤ by d → q ≡ r
+    row_is (yes e) h = e
+    row_is (no n) h = absurd (omega (arith, h))
+
+some_there : {X : Type 0} (x : X) (xs : List X) → IsIn x xs → 1 ≤ length xs
+some_there x [] i = elim i [ ]
+some_there x (z ∷ zs) i = omega arith
+
+one_only : {X : Type 0} (x : X) (xs : List X) → length xs ≡ 1 → IsIn x xs → xs ≡ x ∷ []
+one_only x [] h i = elim i [ ]
+one_only x (y ∷ xs) h (inl e) = λ j. sym e j ∷ empty xs (omega (arith, h)) j
+one_only x (y ∷ xs) h (inr i) = absurd (omega (arith, h, some_there x xs i))
+
+module _ (own l : Listing) (of sites : List Site) (s : Records) (L : Lawful own of s) (e : ℕ) (args : List Value) (table : of ≡ sites) (defs : definitions own ≡ definitions l) (form : source own ≡ call_of e args) (calls : length s.calls ≡ 0) (groups : length s.groups ≡ 0) (two : 2 ≤ s.next_mark) (local : AreLocal sites s.journal) (es : List Entry) (is : es ≡ s.journal) where
+  over_with : (left : Option Yield) → marks whole L.place.marked ≡ rows_left left → IsLeftOf s.journal s.next_mark left → IsOver l sites (record { definition = e; args = args; entries = es; mark = s.next_mark; calls = s.made; cells = length s.cells - 1; left = left })
+  over_with left rows yields =
+      record {
+        place = L.place;
+        leads = subst (λ fs. Journal (context l sites) (begin (call_of e args)) fs L.place) (sym is) (subst (λ z. Journal (context l sites) (begin z) s.journal L.place) form (subst (λ (x : Context). Journal x (begin (source own)) s.journal L.place) (λ i. record { definitions = defs i; sites = table i; cancels = true }) L.leads));
+        local = subst (AreLocal sites) (sym is) local;
+        rows = rows;
+        sides_left = nothing (sides whole L.place.marked) (L.spells.sides (λ v. 1) ∙ ap (λ gs. weight (λ (v : Numbered). 1) (map (group_side (code own) s) (filter (λ g. not (is_over (code own) s g.side)) gs))) (empty s.groups groups));
+        yields = subst (λ fs. IsLeftOf fs s.next_mark left) (sym is) yields;
+        free = L.spells.none_due;
+        mark = L.spells.mark;
+        calls = L.spells.made;
+        cells = omega (arith, L.spells.cells);
+        begun = two;
+        counted = omega (arith, L.counted, L.entries, few s.journal, ap length is);
+      }
+
+  -- nothing is left of the run
+  pub over : length s.tokens ≡ 0 → IsOver l sites (record { definition = e; args = args; entries = es; mark = s.next_mark; calls = s.made; cells = length s.cells - 1; left = None })
+  over tokens = over_with None (nothing (marks whole L.place.marked) (omega (arith, rows-weigh own of s L (λ r. 1), weight-length s.tokens, weight-length s.calls, tokens, calls))) tt
+
+  -- all that is left is a token that publishes a value
+  pub yielded : (t : Token) → IsIn t s.tokens → length s.tokens ≡ 1 → t.step ≡ 0 → 2 ≤ t.serial → (v : Value) → what_of (code own) (definitions own) s t ≡ what.Publish v → AreSilent s.journal
+      → IsOver l sites (record { definition = e; args = args; entries = es; mark = s.next_mark; calls = s.made; cells = length s.cells - 1; left = Some (record { mark = t.serial; value = v }) })
+  yielded t i one step later v word silent =
+      let path : its_path (code own) s t.step ≡ whole = ap (its_path (code own) s) step ∙ ap (seen (has_left s.steps)) (path-none (code own) (its_env (code own) s) s.steps) in
+      let means : Allows (definitions own) (what.Publish v) (its_path (code own) s t.step) (term_of (code own) s t) = subst (λ z. Allows (definitions own) z (its_path (code own) s t.step) (term_of (code own) s t)) word (its_meaning own of s L t i) in
+      let row : token_row (code own) s t ≡ stands t.serial (param (Is v)) whole = λ j. stands t.serial (means.1 j) (path j) in
+      over_with (Some (record { mark = t.serial; value = v }))
+      (one_row (marks whole L.place.marked) (stands t.serial (param (Is v)) whole) (λ w. omega (
+        arith,
+        rows-weigh own of s L w,
+        ap (weight (λ (u : Token). w (token_row (code own) s u))) (one_only t s.tokens one i),
+        ap (weight (λ c. w (call_row (code own) s c))) (empty s.calls calls),
+        ap w row,
+      )))
+      (silent, later, given own of s L t i)
 
 -- ---- a call with values
 

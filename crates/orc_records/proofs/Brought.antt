@@ -212,12 +212,12 @@ module _ (s : Records) (B : AreBrought s) where
     halts = λ number h. by_side h.0.side h.3;
   }
 
--- a token goes, and other entries stand behind the journal
-pub taken-brought : (s s' : Records) → AreBrought s → (t : Token) (fs : List Entry) → s'.journal ≡ s.journal ++ fs → ((w : Token → ℕ) → weight w s'.tokens + w t ≡ weight w s.tokens)
+-- a token goes, one comes at most, and other entries stand behind the journal
+pub taken-brought : (s s' : Records) → AreBrought s → (t : Token) (births : List Token) → length births ≤ 1 → (fs : List Entry) → s'.journal ≡ s.journal ++ fs → ((w : Token → ℕ) → weight w s'.tokens + w t ≡ weight w s.tokens + weight w births)
     → s'.calls ≡ s.calls → ((w : Group → ℕ) → weight w s'.groups ≡ weight w s.groups) → s'.steps ≡ s.steps → AreBrought s'
-taken-brought s s' B t fs journal tokens calls groups steps =
+taken-brought s s' B t births few fs journal tokens calls groups steps =
     record {
-      tokens = omega (arith, B.tokens, tokens (λ x. 1), weight-length s'.tokens, weight-length s.tokens, ap length calls, total_more brings s.journal fs s'.journal journal);
+      tokens = omega (arith, B.tokens, few, tokens (λ x. 1), weight-length births, weight-length s'.tokens, weight-length s.tokens, ap length calls, total_more brings s.journal fs s'.journal journal);
       groups = omega (arith, B.groups, groups (λ x. 1), weight-length s'.groups, weight-length s.groups, total_more opens s.journal fs s'.journal journal);
       depth = λ i. omega (arith, B.depth i, ap (λ z. depth_at z i) steps, total_more feeds s.journal fs s'.journal journal);
     }

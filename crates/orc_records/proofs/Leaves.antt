@@ -83,6 +83,14 @@ current-push cells (Cell d) = more cells d Cell
     more (x ∷ xs) (suc d) f = more xs d (λ k. f (suc k))
 current-push cells Void = refl
 
+is_own_self : (cells : List Bound) (d : ℕ) → slice_get cells d ≡ Some (Cell d) → not (is_own d (slice_get cells d)) ≡ false
+is_own_self cells d h = ap (λ o. not (is_own d o)) h ∙ ap not (eq-eqb d d refl)
+
+-- the cell of an open side stays unbound where more cells come
+pub still_own : (cells cells' cs : List Bound) → cells' ≡ cells ++ cs → (k : Side) → is_settled cells k ≡ false → is_settled cells' k ≡ false
+still_own cells cells' cs is (Left n g sc) h = refl
+still_own cells cells' cs is (Right d) h = is_own_self cells' d (ap (λ z. slice_get z d) is ∙ get_kept cells cs d (Cell d) (own_cell d (slice_get cells d) h))
+
 module _ (l : Listing) (sites : List Site) (s : Records) (L : Lawful l sites s) (t : Token) (i : IsIn t s.tokens) (node scope : ℕ) (at : t.standing ≡ At node scope) where
   abbrev cd : ℕ → Term
   cd = code l
@@ -239,13 +247,6 @@ module _ (l : Listing) (sites : List Site) (s : Records) (L : Lawful l sites s) 
   get_or_end [] d = refl
   get_or_end (x ∷ xs) d = get_or_end xs d
 
-  is_own_self : (cells : List Bound) (d : ℕ) → slice_get cells d ≡ Some (Cell d) → not (is_own d (slice_get cells d)) ≡ false
-  is_own_self cells d h = ap (λ o. not (is_own d o)) h ∙ ap not (eq-eqb d d refl)
-
-  still_own : (s' : Records) (cs : List Bound) → s'.cells ≡ s.cells ++ cs → (k : Side) → is_settled s.cells k ≡ false → is_settled s'.cells k ≡ false
-  still_own s' cs is (Left n g sc) h = refl
-  still_own s' cs is (Right d) h = is_own_self s'.cells d (ap (λ z. slice_get z d) is ∙ get_kept s.cells cs d (Cell d) (own_cell d (slice_get s.cells d) h))
-
   pub open-lawful : (f x g number : ℕ) → cd node ≡ prune (cd f) x (cd g) → (s' : Records) → s.entries < s.limit → IsOpened s t scope f x g number s' → Lawful l sites s'
   open-lawful f x g number form s' room T =
       let c = length s.cells in
@@ -284,7 +285,7 @@ module _ (l : Listing) (sites : List Site) (s : Records) (L : Lawful l sites s) 
       let own' : (a d : ℕ) → slice_get s'.cells a ≡ Some (Cell d) → a ≡ d = λ a d h.
       ⊎_elim (λ o. L.sound.own a d o) (λ o. let w = got_one o.0 (Cell c) (Cell d) o.2 in let same : c ≡ d = cc w.1 in omega (arith, o.1, w.0, same))
       (get_more s.cells cs a (Cell d) (ap (λ z. slice_get z a) (sym T.cells) ∙ h)) in
-      let old : None (λ (z : Group). is_settled s'.cells z.side) s.groups = none-weaker (λ z. is_settled s.cells z.side) (λ z. is_settled s'.cells z.side) s.groups L.sound.cells (λ z h. still_own s' cs T.cells z.side h) in
+      let old : None (λ (z : Group). is_settled s'.cells z.side) s.groups = none-weaker (λ z. is_settled s.cells z.side) (λ z. is_settled s'.cells z.side) s.groups L.sound.cells (λ z h. still_own s.cells s'.cells cs T.cells z.side h) in
       let end_own : slice_get s'.cells c ≡ Some (Cell c) = ap (λ z. slice_get z c) T.cells ∙ get_end s.cells (Cell c) in
       turned l sites s L t i s' births ss ps gs cs E T (λ n. refl) plain q new refl leads
       (λ w. omega (arith, ap w row1, ap w row2))

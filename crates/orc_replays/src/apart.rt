@@ -7,7 +7,7 @@ ghost use Rattle.orc_records.specs.Parts.{call_of};
 
 use orc_graph::Graph;
 use orc_journal::write_journal;
-use orc_ledger::{Called, Ledger, LedgerFault, Moved, Part, Program as Naming, Task};
+use orc_ledger::{Called, Ledger, LedgerFault, Moved, Part, Program as Naming, Task, What};
 use orc_load::load;
 use orc_rules::answers::Answers;
 use orc_rules::value::{Args, Value};
@@ -15,7 +15,11 @@ use std::alloc::Global;
 use std::marker::Brand;
 use std::test::Fail;
 
-// What a call's own run comes to, in which one token moves at a time, if it is over within so many entries. Where they aren't kept each is forgotten at once.
+// So many slots are looked at for tokens.
+const SLOTS: usize = 4;
+
+// What a call's own run comes to, in which each token moves in turn, if it is over within so many rounds, or comes to one value where the call's publications
+// are not the run's. Where entries aren't kept each is forgotten at once.
 fn run_apart<Q: Naming, P: Naming>(
     alloc: Global,
     graph: &Graph,
@@ -35,30 +39,50 @@ fn run_apart<Q: Naming, P: Naming>(
     requires call { source Q.listing ≡ call_of task.definition task.args }
 {
     let mut ledger = Ledger::<Q>::begin(alloc, limit, graph.root()).ok()?;
-    let mut scopes = Vec::new(alloc);
-    let mut cancelled = Vec::new(alloc);
-    let mut args = Args::new();
-    for _move in 0..limit {
-        let Some(token) = ledger.held(0) else {
-            break;
-        };
-        match ledger.advance(graph, 0, token, &mut scopes, &mut cancelled) {
-            Ok(Moved::Calls) => {
-                if !matches!(
-                    ledger.call_through(graph, answers, 0, token, &mut args),
-                    Ok(Called::Answered(_))
-                ) {
-                    return None;
-                }
+    let mut last = None;
+    for _round in 0..limit {
+        for slot in 0..SLOTS {
+            let Some(token) = ledger.held(slot) else {
+                continue;
+            };
+            if !task.is_outermost && matches!(ledger.what(graph, &token), What::Publish(_)) {
+                last = Some(slot);
+            } else if !is_moved(alloc, &mut ledger, graph, answers, slot) {
+                return None;
             }
-            Ok(_) => {}
-            Err(_) => return None,
         }
         if !keeps {
             ledger.forget(answers);
         }
     }
-    ledger.into_part::<P>(answers, task)
+    ledger.into_part::<P>(graph, answers, task, last)
+}
+
+// Whether the token in a slot could move, or waits, or there is none.
+fn is_moved<Q: Naming>(
+    alloc: Global,
+    ledger: &mut Ledger<Q>,
+    graph: &Graph,
+    answers: &Answers,
+    slot: usize,
+) -> bool
+    requires graph { graph.now ≡ Q.listing }
+    requires answers { answers.now.sites ≡ Q.sites }
+{
+    let Some(token) = ledger.held(slot) else {
+        return true;
+    };
+    let mut scopes = Vec::new(alloc);
+    let mut cancelled = Vec::new(alloc);
+    let mut args = Args::new();
+    match ledger.advance(graph, slot, token, &mut scopes, &mut cancelled) {
+        Ok(Moved::Calls) => matches!(
+            ledger.call_through(graph, answers, slot, token, &mut args),
+            Ok(Called::Answered(_))
+        ),
+        Ok(_) => true,
+        Err(_) => false,
+    }
 }
 
 // What comes of a task's own run, if it is over within a hundred entries.
@@ -79,7 +103,33 @@ fn part_of<P: Naming>(
     run_apart::<Brand, P>(alloc, &own, answers, keeps, task, 100)
 }
 
-// The first token stands at a call of a definition, which is run apart and taken in, where the limit has room for so many entries.
+// The slot of the first token that stands at a call of a definition with values, once each token has moved as often as it takes.
+fn at_call<P: Naming>(
+    alloc: Global,
+    ledger: &mut Ledger<P>,
+    graph: &Graph,
+    answers: &Answers,
+) -> Option<usize>
+    requires graph { graph.now ≡ P.listing }
+    requires answers { answers.now.sites ≡ P.sites }
+{
+    for _round in 0..10_usize {
+        for slot in 0..SLOTS {
+            let Some(token) = ledger.held(slot) else {
+                continue;
+            };
+            if ledger.task(graph, &token).is_some() {
+                return Some(slot);
+            }
+            if !is_moved(alloc, ledger, graph, answers, slot) {
+                return None;
+            }
+        }
+    }
+    None
+}
+
+// A token stands at a call of a definition, which is run apart and taken in, where the limit has room for so many entries.
 fn taken<P: Naming>(
     alloc: Global,
     graph: &Graph,
@@ -94,13 +144,14 @@ fn taken<P: Naming>(
     requires answers { answers.now.sites ≡ P.sites }
 {
     let mut ledger = Ledger::<P>::begin(alloc, limit, graph.root()).ok()?;
-    let token = ledger.held(0)?;
+    let slot = at_call(alloc, &mut ledger, graph, answers)?;
+    let token = ledger.held(slot)?;
     let task = ledger.task(graph, &token)?;
     let part = part_of::<P>(alloc, graph, answers, keeps, task.copied())?;
     if !part.is_of(&task) {
         return None;
     }
-    match ledger.take_in(0, token, &part) {
+    match ledger.take_in(slot, token, &part) {
         Ok(()) => Some(Ok(ledger)),
         Err(fault) => Some(Err(fault)),
     }
@@ -195,9 +246,36 @@ fn what_is_run_apart_stands_in_its_place(rt: HostRuntime) -> Result<(), Fail> {
     // One entry more than there is room for.
     let text = text_of(alloc, SOURCE, 3);
     assert!(rt; matches!(text, Some(Err(LedgerFault::Limit))));
-    // What isn't over, and what opens a cell, is no part.
-    assert!(rt; text_of(alloc, b"def f(n) = n | 1\nf(4)", 100).is_none());
-    assert!(rt; text_of(alloc, b"def f(n) = x <x< n\nf(4)", 100).is_none());
+    // What isn't over is no part.
+    assert!(rt; text_of(alloc, b"def f() = f()\nf()", 100).is_none());
+    Ok(())
+}
+
+// The rules allow these entries, one journal each: that of a call whose run opens a cell, of one in a right side and of one in the left side of a `>x>`.
+const OPENS: &[u8] = b"orc-journal 2\ndef 1 2\nopen 2 1 3 4\nbind 4 1 4\npublish 3 4\n";
+
+const BINDS: &[u8] = b"orc-journal 2\nopen 1 1 2 3\ndef 3 4\nopen 4 2 5 6\nbind 6 2 4\n";
+
+const SENDS: &[u8] = b"orc-journal 2\nseq 1 2\ndef 2 3\ncall 3 1 Add(4, 1)\nreturn 1 4 5\n";
+
+#[test]
+fn a_call_opens_cells_and_comes_to_a_value_wherever_it_stands(rt: HostRuntime) -> Result<(), Fail> {
+    let alloc = rt.alloc();
+    let cases: [(&[u8], &[u8]); 3] = [
+        (b"def f(n) = x <x< n\nf(4)", OPENS),
+        (b"def f(n) = x <x< n\ny <y< f(4)", BINDS),
+        (b"def f(n) = Add(n, 1)\nf(4) >x> Add(x, 10)", SENDS),
+    ];
+    for (source, journal) in cases {
+        let text = text_of(alloc, source, 100);
+        assert!(rt;
+            matches!(&text, Some(Ok(text)) if text.as_slice() == journal),
+            "at {source:?}"
+        );
+    }
+    // A call that comes to two values, or to none, is no part where the run doesn't publish them.
+    assert!(rt; text_of(alloc, b"def f(n) = n | 1\nf(4) >x> x", 100).is_none());
+    assert!(rt; text_of(alloc, b"def f() = stop\nf() >x> x", 100).is_none());
     Ok(())
 }
 

@@ -59,6 +59,7 @@ fn appends_a_part_under_its_numbers(rt: HostRuntime) -> Result<(), Fail> {
                 token: 3,
                 mark,
                 calls: 1,
+                cells: 0,
             },
         )?;
         assert_eq!(rt; journal.len(), 5);

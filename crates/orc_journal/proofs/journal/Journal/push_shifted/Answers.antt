@@ -1,5 +1,6 @@
 use Rattle.std.proofs.Common.{◌≡◌, ◌++◌, List, map, Bool, true, false, refl, sym, ap, subst, ◌∙◌, rules}
 use Rattle.std.specs.Prelude.{IfOk, OnErr}
+use Rattle.std.specs.List.{All}
 use Rattle.std.specs.declared.result.Result.{Result}
 use Rattle.std.specs.declared.result.Result.TheVariants.{Ok, Err}
 use Rattle.std.specs.declared.alloc.AllocError.{AllocError}
@@ -7,7 +8,7 @@ use Rattle.std.proofs.lemmas.Result.{err_from_is_err_and}
 use Rattle.orc_graft.specs.Moved.{moved}
 use Rattle.orc_journal.specs.declared.rows.Row.{Row}
 use Rattle.orc_journal.specs.Rows.{AreWithin}
-use Rattle.orc_journal.specs.Shifts.{row_by}
+use Rattle.orc_journal.specs.Shifts.{row_by, IsMovable}
 use Rattle.orc_journal.specs.Texts.{journal_with}
 use Rattle.orc_journal.proofs.Keeping.{same_journal, within_kept}
 use Rattle.orc_journal.proofs.Shifted.{part_added}
@@ -27,6 +28,10 @@ of_err : {A B : Type 0} (r : Result Bool AllocError) → (A → B) → OnErr r A
 of_err (Ok x) f a = tt
 of_err (Err x) f a = f a
 
+both_ok : (A B : Type 0) (r : Result Bool AllocError) (b : Bool) → IfOk r (λ fit. fit ≡ b → A) → IfOk r (λ fit. fit ≡ b → B) → IfOk r (λ fit. fit ≡ b → A × B)
+both_ok A B (Ok x) b f g = λ (is : x ≡ b). (f is, g is)
+both_ok A B (Err x) b f g = tt
+
 pub returns-in_err-append-clause-refused : goal.returns-in_err-append-clause-refused
 returns-in_err-append-clause-refused c =
     let same = same_journal c.self.inside.version c.self.inside.tables c.append.new.self c.self.inside.rows.items c.self.inside.rows.items c.append.ensures.kept c.self.invariant refl in
@@ -45,23 +50,23 @@ invariant_of-self-2 c =
     let fit : c.in_ok-append.field-0 ≡ true = search rules in
     let kept = within_kept c.self.inside.tables c.append.new.self c.self.inside.rows.items c.append.ensures.kept c.self.invariant in
     in_each c.push_rows.result
-    (λ (more : c.push_rows.new.rows.items ≡ c.self.inside.rows.items ++ map (row_by c.in-Some.shift) c.deref.result.now).
+    (λ (more : (c.push_rows.new.rows.items ≡ c.self.inside.rows.items ++ map (row_by c.in-Some.shift) c.deref.result.now) × All IsMovable c.deref.result.now).
     (part_added c.self.inside.version c.self.inside.tables c.append.new.self c.part.inside.tables c.args.numbering c.in-Some.shift c.self.inside.rows.items c.push_rows.new.rows.items c.part.inside.rows.items
     c.in-Some.ensures c.append.ensures.kept (c.in_ok-append.ensures.added fit) c.self.invariant c.part.invariant
-    (more ∙ ap (λ (rs : List Row). c.self.inside.rows.items ++ map (row_by c.in-Some.shift) rs) c.deref.ensures.value)).0)
+    (subst (All IsMovable) c.deref.ensures.value more.1) (more.0 ∙ ap (λ (rs : List Row). c.self.inside.rows.items ++ map (row_by c.in-Some.shift) rs) c.deref.ensures.value)).0)
     (λ (same : c.push_rows.new.rows.items ≡ c.self.inside.rows.items). subst (AreWithin c.append.new.self) (sym same) kept)
-    c.push_rows.ensures.added c.push_rows.ensures.unfit c.push_rows.ensures.refused
+    (both_ok _ _ c.push_rows.result true c.push_rows.ensures.added c.push_rows.ensures.movable) c.push_rows.ensures.unfit c.push_rows.ensures.refused
 
 pub returns-clause-added : goal.returns-clause-added
 returns-clause-added c =
     let fit : c.in_ok-append.field-0 ≡ true = search rules in
     of_ok c.push_rows.result true
-    (λ (more : c.push_rows.new.rows.items ≡ c.self.inside.rows.items ++ map (row_by c.in-Some.shift) c.deref.result.now).
+    (λ (more : (c.push_rows.new.rows.items ≡ c.self.inside.rows.items ++ map (row_by c.in-Some.shift) c.deref.result.now) × All IsMovable c.deref.result.now).
     (part_added c.self.inside.version c.self.inside.tables c.append.new.self c.part.inside.tables c.args.numbering c.in-Some.shift c.self.inside.rows.items c.push_rows.new.rows.items c.part.inside.rows.items
     c.in-Some.ensures c.append.ensures.kept (c.in_ok-append.ensures.added fit) c.self.invariant c.part.invariant
-    (more ∙ ap (λ (rs : List Row). c.self.inside.rows.items ++ map (row_by c.in-Some.shift) rs) c.deref.ensures.value)).1
+    (subst (All IsMovable) c.deref.ensures.value more.1) (more.0 ∙ ap (λ (rs : List Row). c.self.inside.rows.items ++ map (row_by c.in-Some.shift) rs) c.deref.ensures.value)).1
     ∙ λ i. journal_with (c.self.view_is i) (map (moved c.args.numbering) (c.part.view_is i).entries))
-    c.push_rows.ensures.added
+    (both_ok _ _ c.push_rows.result true c.push_rows.ensures.added c.push_rows.ensures.movable)
 
 pub returns-clause-unfit : goal.returns-clause-unfit
 returns-clause-unfit c =

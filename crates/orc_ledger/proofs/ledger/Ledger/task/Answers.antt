@@ -21,8 +21,8 @@ put_values-requires-clause-values g c =
     let got : (vs : List Value) × (values_of (closed (its_env (code l) s c.in-At.scope) ops) ≡ _) = scanned (closed (its_env (code l) s c.in-At.scope) ops) (sym (rw (← c.self.view_is) at c.in-Call-scan.ensures)) in
     (got.0, (λ i. values_of (closed (env_of (c.deref-in-Call-scan.ensures.value i) (c.deref.ensures.value i) c.in-At.scope) ops)) ∙ got.1)
 
-pub returns-in-Call-scan : goal.returns-in-Call-scan
-returns-in-Call-scan g c =
+pub returns-in-Call-scan-clause-stands : goal.returns-in-Call-scan-clause-stands
+returns-in-Call-scan-clause-stands g c =
     let b = c.self.inside in
     let l = g.P.Program.listing in
     let s : Records = record { limit = b.limit; journal = b.journal.entries; entries = b.entries; next_mark = b.next_mark; now = b.time; made = b.calls.made; tokens = live b.tokens.items; slots = b.tokens.items; calls = b.calls.items; scopes = b.scopes.items; steps = b.steps.items; groups = b.groups.items; cells = b.cells.items } in
@@ -32,8 +32,5 @@ returns-in-Call-scan g c =
     let env = its_env (code l) s c.in-At.scope in
     let form : code l node ≡ call c.in-Call.definition (map param_of ops) = ap (λ (z : Listing). code z node) (sym c.requires.graph) ∙ c.in-Call.ensures.term ∙ ap (λ (z : List Operand). call c.in-Call.definition (map param_of z)) (sym c.operands-operands.ensures.value) in
     let values = sym (λ i. values_of (closed (env_of (c.deref-in-Call-scan.ensures.value i) (c.deref.ensures.value i) c.in-At.scope) ops)) ∙ c.put_values.ensures in
-    let made : StandsFor l s t c.in-Call.definition c.put_values.new.args = record {
-      at = ap (standing (code l) (its_env (code l) s)) c.in-At.is ∙ called env (code l node) c.in-Call.definition ops c.put_values.new.args form values;
-      outermost = omega (arith, c.if-token-gt0.false);
-    } in
+    let made : StandsFor l s t c.in-Call.definition c.put_values.new.args = ap (standing (code l) (its_env (code l) s)) c.in-At.is ∙ called env (code l node) c.in-Call.definition ops c.put_values.new.args form values in
     rw (← c.self.view_is) made
