@@ -15,6 +15,7 @@ ghost use Rattle.orc_records.specs.Next.{members, numbers_of};
 ghost use Rattle.orc_records.specs.Passing.{Passes};
 ghost use Rattle.orc_engine.specs.Stops.{Goes, Advances, HasMoved, IsNearer, HasTurned, NoneIsDue, IsAtWork, Stops};
 
+use crate::holding::Holding;
 use crate::ready::{Handle, Ready};
 use crate::waiting::Waiting;
 use orc_graph::{Graph, Node};
@@ -93,12 +94,8 @@ pub(crate) struct Desk<P: Naming> {
     pub(crate) spreads: bool,
     // How many moves have led to the token whose turn it is, one after another.
     moves: u32,
-    // Whether what the run publishes is held back: it is that of a call of which the value alone is wanted.
-    holds_back: bool,
-    // The slot of the token that is held back on a value.
-    last: Option<usize>,
-    // Whether it has made a call that isn't answered at once, or come to a second value that is held back: what is made apart is in vain then.
-    is_vain: bool,
+    // What is held back where the run is made apart.
+    pub(crate) holding: Holding,
     // The calls that were cancelled, where others are told of them.
     gone: Vec<u64>,
     // Lent to the ledger's calls.
@@ -121,9 +118,7 @@ impl<P: Naming> Drop for Desk<P> {
             asks: _,
             spreads: _,
             moves: _,
-            holds_back: _,
-            last: _,
-            is_vain: _,
+            holding: _,
             gone,
             scopes,
             cancelled,
@@ -156,9 +151,7 @@ impl<P: Naming> Desk<P> {
             asks,
             spreads: false,
             moves: 0,
-            holds_back: false,
-            last: None,
-            is_vain: false,
+            holding: Holding::new(),
             gone: Vec::new(alloc),
             scopes: Vec::new(alloc),
             cancelled: Vec::new(alloc),
@@ -179,9 +172,7 @@ impl<P: Naming> Desk<P> {
             asks: _,
             spreads: _,
             moves: _,
-            holds_back: _,
-            last: _,
-            is_vain: _,
+            holding: _,
             gone,
             scopes,
             cancelled,
@@ -290,7 +281,7 @@ impl<P: Naming> Desk<P> {
                 break;
             }
             if self.is_held_back(graph, &token) {
-                self.keep_last(slot);
+                self.holding.keep(slot);
                 return Ok(Turn::Went);
             }
             match self.step(graph, answers, slot, token)? {
@@ -303,40 +294,14 @@ impl<P: Naming> Desk<P> {
         Ok(Turn::Went)
     }
 
-    /// What the run publishes is held back from now on.
-    pub(crate) fn hold_back(&mut self)
-        ensures same { self.new.ledger ≡ self.old.ledger }
-    {
-        self.holds_back = true;
-    }
-
-    /// The slot of the token that is held back, if there is one.
-    pub(crate) fn last(&self) -> Option<usize> {
-        self.last
-    }
-
-    /// Whether nothing can come of a call whose run this is: it has made a call that wasn't answered at once, or come to two values where one is wanted.
-    pub(crate) fn is_vain(&self) -> bool {
-        self.is_vain
-    }
-
     // Whether the token would publish a value of the run next, which is held back.
     #[inline(always)]
     fn is_held_back(&self, graph: &Graph, token: &Token) -> bool
         requires graph { graph.now ≡ P.listing }
     {
-        self.holds_back
+        self.holding.is_on()
             && token.step == 0
             && matches!(self.ledger.what(graph, token), What::Publish(_))
-    }
-
-    // The token in this slot is to be the last one.
-    fn keep_last(&mut self, slot: usize)
-        ensures same { self.new.ledger ≡ self.old.ledger }
-        ensures ready { self.new.ready ≡ self.old.ready }
-    {
-        self.is_vain = self.is_vain || self.last.is_some();
-        self.last = Some(slot);
     }
 
     // Tokens that are gone wait no more before the one that has waited longest: many may go at once, and their turns would take all rounds.
@@ -444,7 +409,7 @@ impl<P: Naming> Desk<P> {
                 Ok(Step::Waits)
             }
             Ok(Passed::Pends(_)) => {
-                self.is_vain = true;
+                self.holding.give_up();
                 Ok(Step::Done)
             }
             Ok(Passed::Halted(group)) => {
@@ -562,7 +527,7 @@ impl<P: Naming> Desk<P> {
                 Ok(Step::Done)
             }
             Ok(Called::Pends(_)) => {
-                self.is_vain = true;
+                self.holding.give_up();
                 Ok(Step::Done)
             }
             Err(fault) => {

@@ -119,12 +119,12 @@ fn run_apart<Q: Naming, P: Naming>(
     };
     let mut desk = Desk::new(alloc, ledger, keeps, false);
     if !task.is_outermost {
-        desk.hold_back();
+        desk.holding.begin();
     }
     if is_cut(&mut desk, graph, answers) {
         return Came::Long;
     }
-    let last = desk.last();
+    let last = desk.holding.last();
     let mut ledger = desk.into_ledger();
     if !keeps {
         // What is taken in is then what it publishes, and no entry.
@@ -146,7 +146,7 @@ fn is_cut<Q: Naming>(desk: &mut Desk<Q>, graph: &Graph, answers: &Answers) -> bo
     }
     loop {
         match desk.go_now(graph, answers) {
-            Ok(true) if !desk.is_vain() => {}
+            Ok(true) if !desk.holding.is_vain() => {}
             Err(Stop::Refused(LedgerFault::Limit)) => return true,
             Ok(_) | Err(_) => return false,
         }

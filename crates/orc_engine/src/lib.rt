@@ -9,6 +9,7 @@ mod desk;
 mod ending;
 mod fault;
 mod floor;
+mod holding;
 mod hub;
 mod jobs;
 mod poller;

@@ -4,5 +4,5 @@ use Rattle.std.specs.VecDeque.{deque_len}
 use Rattle.orc_engine.specs.Stops.{left}
 use Rattle.orc_engine.proofs.jobs.is_cut.Given as goal
 
-abbrev pub decreases-loop-desk : goal.decreases-loop-desk
-decreases-loop-desk g l = 2 ^ 64 * left l.desk.ledger + deque_len l.desk.ready.handles
+abbrev pub decreases-loop : goal.decreases-loop
+decreases-loop g l = 2 ^ 64 * left l.desk.ledger + deque_len l.desk.ready.handles
