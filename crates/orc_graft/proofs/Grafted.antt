@@ -8,10 +8,10 @@ use Rattle.orc_rules.specs.declared.entry.Entry.TheVariants.{End, Fork, Seq, Oth
 use Rattle.orc_rules.specs.declared.entry.Entry.TheVariants as entry
 use Rattle.orc_rules.specs.declared.param.Param.TheVariants.{Cell, Void}
 use Rattle.orc_rules.specs.declared.value.Answer.TheVariants.{Value as Gives, Halt}
-use Rattle.orc_rules.specs.Term.{Term, call, prune, put, put_all}
+use Rattle.orc_rules.specs.Term.{Term, call, prune, put_all}
 use Rattle.orc_rules.specs.Sites.{Site}
 use Rattle.orc_rules.specs.Step.{Act, binds, publishes}
-use Rattle.orc_rules.specs.Marked.{Marked, token, in_opened, erase, fill_marked, Replaces, Emits}
+use Rattle.orc_rules.specs.Marked.{Marked, token, in_opened, erase, Replaces, Emits}
 use Rattle.orc_rules.specs.Timed.{Context, CallMade, CancelsAfter, calls_after}
 use Rattle.orc_rules.specs.Journal.{Place, moment, Moves, Acts, Enters, IsCancel, Journal, begin}
 use Rattle.orc_graft.specs.declared.numbering.Numbering.{Numbering}
@@ -19,7 +19,7 @@ use Rattle.orc_graft.specs.Moved.{mark_in, cell_in, moved, moved_param, moved_te
 use Rattle.orc_graft.specs.Grafts.{Follows, Grafts, PartIsGrafted}
 use Rattle.orc_graft.proofs.Calls.{IsOwnCall, new_calls, as_many, are_new, due_in}
 use Rattle.orc_graft.proofs.Cancels.{cancels_none}
-use Rattle.orc_graft.proofs.Holes.{Hole, plug, cells_round, IsOpen, open_hole, hole_of, plug_replaces, plug_sends, plug_binds, plug_publishes}
+use Rattle.orc_graft.proofs.Holes.{Hole, plug, IsOpen, open_hole, hole_of, plug_replaces, plug_sends, plug_binds, plug_publishes}
 use Rattle.orc_graft.proofs.Marks.{later_mark}
 use Rattle.orc_graft.proofs.Shapes.{halted_moved, moved_replaces, moved_emits, put_moved, put_all_moved, fill_moved, values_moved, void_moved}
 

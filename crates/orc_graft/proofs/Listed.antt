@@ -1,6 +1,5 @@
 -- A program's terms name no cell.
-use Rattle.std.proofs.Common.{◌≡◌, ℕ, zero, suc, List, [], ◌∷◌, ◌++◌, map, get_or, Option, Some, None, refl, ap, sym, ◌∙◌, subst}
-use Rattle.std.specs.Prelude.{slice_get}
+use Rattle.std.proofs.Common.{◌≡◌, ℕ, zero, suc, List, [], ◌∷◌, ◌++◌, map, get_or, Option, Some, None, refl, ap, subst}
 use Rattle.orc_rules.specs.declared.param.Operand.{Operand}
 use Rattle.orc_rules.specs.declared.param.Operand.TheVariants.{Name, Is}
 use Rattle.orc_rules.specs.declared.program.TermNode.{TermNode}
@@ -8,7 +7,7 @@ use Rattle.orc_rules.specs.declared.program.TermNode.TheVariants.{Stop, Operand 
 use Rattle.orc_rules.specs.Term.{Term, Definition, stop, param, site, call, par, seq, prune, other}
 use Rattle.orc_rules.specs.Nodes.{Routine, code, definition_of, param_of, unfold_node, terms_from}
 use Rattle.orc_graft.specs.declared.numbering.Numbering.{Numbering}
-use Rattle.orc_graft.specs.Moved.{moved_param, moved_term, IsStill, AreStill}
+use Rattle.orc_graft.specs.Moved.{moved_param, IsStill, AreStill}
 use Rattle.orc_graft.specs.Grafts.{ProgramIsStill}
 
 AllStill : List Term → Type 0

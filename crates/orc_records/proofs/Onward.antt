@@ -1,5 +1,5 @@
 -- A token enters the left side of a `>x>`, and goes on there.
-use Rattle.std.proofs.Common.{◌≡◌, ◌∙◌, ℕ, List, sym, subst}
+use Rattle.std.proofs.Common.{ℕ, List, sym, subst}
 use Rattle.orc_rules.specs.Nodes.{Listing}
 use Rattle.orc_rules.specs.Sites.{Site}
 use Rattle.orc_records.specs.Records.{Records}

@@ -1,5 +1,4 @@
-use Rattle.std.proofs.Common.{◌≡◌, ◌+◌, ◌++◌, ◌∷◌, [], ℕ, suc, append-nil, append_assoc, ap, sym, ◌∙◌, arith, length, length-append}
-use Rattle.std.specs.Prelude.{vec_len}
+use Rattle.std.proofs.Common.{◌≡◌, ◌+◌, ◌++◌, ◌∷◌, [], suc, append-nil, append_assoc, ap, sym, ◌∙◌, arith, length, length-append}
 use Rattle.orc_names.specs.declared.names.Bound.TheVariants.{Cell}
 use Rattle.orc_records.specs.Parts.{cells_from}
 use Rattle.orc_records.proofs.Taken.{cells_count, cells-more}

@@ -1,4 +1,4 @@
-use Rattle.std.proofs.Common.{◌≡◌, ◌≤◌, ◌<◌, ◌-◌, ◌++◌, ◌+◌, ◌^◌, ℕ, sym, refl, ap, ◌∙◌, arith, length, map}
+use Rattle.std.proofs.Common.{◌≡◌, ◌≤◌, ◌<◌, ◌-◌, ◌++◌, ◌+◌, ◌^◌, ℕ, refl, ap, ◌∙◌, arith, length, map}
 use Rattle.std.specs.Prelude.{option_to_list}
 use Rattle.orc_rules.specs.Nodes.{code, definitions}
 use Rattle.orc_graft.specs.declared.numbering.Numbering.{Numbering}
