@@ -8,7 +8,7 @@ use crate::desk::{Desk, Stop, is_at_call};
 use crate::jobs::Job;
 use crate::ready::Handle;
 use orc_graph::Graph;
-use orc_ledger::{Part, Program as Naming, Task};
+use orc_ledger::{Part, Program as Naming, Task, Token};
 use orc_rules::answers::Answers;
 use orc_rules::limits::MOST_GROUPS;
 use std::alloc::AllocError;
@@ -124,12 +124,23 @@ impl<P: Naming> Desk<P> {
         Ok(jobs)
     }
 
-    // The call at which a token stands, if it is there and can be run apart.
+    // The call at which a token stands, if it is there and is to be run apart: of those that race each other none is, since the loser is best not run at all.
     fn task_of(&self, graph: &Graph, handle: Handle) -> Option<Task>
         requires graph { graph.now ≡ P.listing }
     {
         let token = self.token_of(handle)?;
-        self.ledger.task(graph, &token)
+        let task = self.ledger.task(graph, &token)?;
+        if task.is_outermost || self.is_alone(&token) {
+            Some(task)
+        } else {
+            None
+        }
+    }
+
+    // Whether nobody else is in the token's side, or it is in none.
+    fn is_alone(&self, token: &Token) -> bool {
+        let group = self.ledger.group_of_token(token);
+        group == 0 || self.ledger.member_count(group) == 1
     }
 
     /// Takes in what came of the call at which a token stood, if it stands there still. If that is a value, the turn of the token on it comes. Whether it was
