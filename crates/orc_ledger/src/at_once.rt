@@ -8,7 +8,8 @@ ghost use Rattle.orc_calls.specs.Counting.{CountsCall};
 ghost use Rattle.orc_records.specs.AtOnce.{IsCalled};
 ghost use Rattle.orc_records.specs.Calls.{IsRefused};
 ghost use Rattle.orc_chronicle.specs.Chronicles.{chronicle_with};
-ghost use Rattle.orc_records.specs.Doing.{what_of};
+ghost use Rattle.orc_paths.specs.Doing.{IsCall};
+ghost use Rattle.orc_records.specs.Doing.{term_of, what_of};
 ghost use Rattle.orc_tables.specs.Tokens.{IsHeld};
 
 use crate::ledger::Ledger;
@@ -90,8 +91,28 @@ impl<P: Program> Ledger<P> {
         ensures refused { OnErr result (self.new ≡ self.old) }
         ensures why { IfErr result (λ fault. IsRefused self.old 0 0 0 fault) }
     {
-        self.within(0, 0, 0)?;
         let site = self.ask(graph, token, args);
+        self.answer_through(answers, slot, token, site, args)
+    }
+
+    /// The same of a call whose site and arguments are known.
+    #[inline(always)]
+    pub(crate) fn answer_through(
+        &mut self,
+        answers: &Answers,
+        slot: usize,
+        token: Token,
+        site: u32,
+        args: &Args,
+    ) -> Result<Called, LedgerFault>
+        requires answers { answers.now.sites ≡ P.sites }
+        requires held { IsHeld self.old.slots slot token }
+        requires asks { IsCall site args.now (term_of (code P.listing) self.old token) }
+        ensures done { IfOk result (λ called. IsCalled P.listing P.sites self.old slot token called self.new) }
+        ensures refused { OnErr result (self.new ≡ self.old) }
+        ensures why { IfErr result (λ fault. IsRefused self.old 0 0 0 fault) }
+    {
+        self.within(0, 0, 0)?;
         let call = self.next_call(answers, token, site, args);
         let answer = match answer_at_once(call.found) {
             Some(answer) if self.limit - self.entries >= 2 => answer,

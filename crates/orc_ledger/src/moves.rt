@@ -1,8 +1,10 @@
 //! Moves of tokens: a token does what it does next.
 
-ghost use Rattle.std.specs.Prelude.{◌≡◌, ◌≤◌, ℕ, List, [], map, length, true, false, None as Nothing, slice_index_or, IfOk, IfErr, IfSome, IfNone, OnErr};
+ghost use Rattle.std.specs.Prelude.{◌≡◌, ◌≤◌, ℕ, List, [], map, length, true, false, Some, None as Nothing, slice_index_or, IfOk, IfErr, IfSome, IfNone, OnErr};
 ghost use Rattle.orc_rules.specs.declared.param.Param.TheVariants.{Name, Is};
-ghost use Rattle.orc_rules.specs.Term.{stop, param, site, call, par, seq, prune, other};
+ghost use Rattle.orc_rules.specs.Term.{stop, param, site, call, par, seq, prune, other, values_of};
+ghost use Rattle.orc_rules.specs.declared.limits.TheConstants.{MOST_ARGUMENTS};
+ghost use Rattle.orc_rules.specs.declared.value.Value.{Value as ValueOf};
 ghost use Rattle.orc_rules.specs.Nodes.{code, param_of, unfold_node};
 ghost use Rattle.orc_graph.specs.Graph.{term_node};
 ghost use Rattle.orc_rules.specs.Journal.{IsVoid};
@@ -21,10 +23,10 @@ use crate::ledger::Ledger;
 use orc_chronicle::Program;
 use orc_graph::{Graph, Node};
 use orc_names::{Bound, Scope, meaning};
-use orc_paths::{Taker, What, are_values, call_with, find_taker};
+use orc_paths::{Taker, What, are_values, call_with, find_taker, take_values};
 use orc_records::{LedgerFault, Moved};
 use orc_rules::param::Operand;
-use orc_rules::value::Value;
+use orc_rules::value::{Args, Value};
 use orc_tables::{Standing, Token};
 
 impl<P: Program> Ledger<P> {
@@ -60,6 +62,16 @@ impl<P: Program> Ledger<P> {
         ensures { result ≡ true → scan false Nothing (closed (its_env (code P.listing) self.now scope) operands.now) ≡ What.Call }
     {
         are_values(&self.scopes, &self.cells, operands, scope)
+    }
+
+    // Puts the values of a call's operands into `args`, if each of them has one. Whether each has one.
+    #[inline(always)]
+    pub(crate) fn take_values(&self, operands: &[Operand], scope: usize, args: &mut Args) -> bool
+        requires few { length operands.now ≤ MOST_ARGUMENTS }
+        ensures values { result ≡ true → values_of (closed (its_env (code P.listing) self.now scope) operands.now) ≡ Some args.new }
+        ensures none { result ≡ false → (vs : List ValueOf) → values_of (closed (its_env (code P.listing) self.now scope) operands.now) ≡ Some vs → ⊥ }
+    {
+        take_values(&self.scopes, &self.cells, operands, scope, args)
     }
 
     // What a call of a site with these operands does.

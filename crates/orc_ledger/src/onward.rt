@@ -2,7 +2,7 @@
 
 ghost use Rattle.std.specs.Prelude.{◌≡◌, ℕ, List, [], map, true, false, slice_index_or, IfOk, IfErr, OnErr};
 ghost use Rattle.orc_rules.specs.Nodes.{code, param_of};
-ghost use Rattle.orc_rules.specs.Term.{seq, site};
+ghost use Rattle.orc_rules.specs.Term.{seq, site as calls};
 ghost use Rattle.orc_records.specs.Moves.{StandsAt, Moves, IsHindered};
 ghost use Rattle.orc_records.specs.Passing.{GoesOn, Passes};
 ghost use Rattle.orc_records.specs.declared.results.Moved.TheVariants.{Sent};
@@ -48,18 +48,19 @@ impl<P: Program> Ledger<P> {
         slot: usize,
         token: Token,
         scope: usize,
+        site: u32,
         list: u32,
         args: &mut Args,
     ) -> Passed
         requires graph { graph.now ≡ P.listing }
         requires answers { answers.now.sites ≡ P.sites }
         requires held { IsHeld self.old.slots slot token }
-        requires at { (m : ℕ) × StandsAt P.listing token scope (site m (map param_of (slice_index_or P.listing.lists list []))) }
+        requires at { StandsAt P.listing token scope (calls site (map param_of (slice_index_or P.listing.lists list []))) }
         ensures { GoesOn P.listing P.sites self.old slot token result self.new }
     {
-        if self.have_values(graph.operands(list as usize), scope) {
+        if self.take_values(graph.operands(list as usize), scope, args) {
             let mark = self.next_mark;
-            return match self.call_through(graph, answers, slot, token, args) {
+            return match self.answer_through(answers, slot, token, site, args) {
                 Ok(Called::Answered(value)) => {
                     let answered = Token {
                         serial: mark,
@@ -106,7 +107,7 @@ impl<P: Program> Ledger<P> {
     {
         let mark = self.next_mark;
         self.feed(slot, token, scope, left, name, right)?;
-        let Node::Site(_, list) = graph.node(left as usize) else {
+        let Node::Site(site, list) = graph.node(left as usize) else {
             return Ok(Passed::On);
         };
         let first = Token {
@@ -114,6 +115,6 @@ impl<P: Program> Ledger<P> {
             standing: Standing::At(left, scope),
             step: self.steps.len(),
         };
-        Ok(self.call_on(graph, answers, slot, first, scope, list, args))
+        Ok(self.call_on(graph, answers, slot, first, scope, site, list, args))
     }
 }

@@ -16,7 +16,7 @@ use orc_chronicle::{Chronicle, Program};
 use orc_graft::Numbering;
 use orc_graph::{Graph, Node};
 use orc_names::Bound;
-use orc_paths::{What, put_values};
+use orc_paths::What;
 use orc_records::{LedgerFault, Yield};
 use orc_rules::answers::Answers;
 use orc_rules::value::{Args, Value};
@@ -197,19 +197,15 @@ impl<P: Program> Ledger<P> {
         let Node::Call(definition, list) = graph.node(node as usize) else {
             return None;
         };
-        let operands = graph.operands(list as usize);
-        match self.scan(operands, scope) {
-            What::Call => {
-                let mut args = Args::new();
-                put_values(&self.scopes, &self.cells, operands, scope, &mut args);
-                Some(Task {
-                    definition,
-                    args,
-                    is_outermost: token.step == 0,
-                })
-            }
-            _ => None,
+        let mut args = Args::new();
+        if !self.take_values(graph.operands(list as usize), scope, &mut args) {
+            return None;
         }
+        Some(Task {
+            definition,
+            args,
+            is_outermost: token.step == 0,
+        })
     }
 
     // Whether nothing is left of the run: no token, no call that pends and no open side.

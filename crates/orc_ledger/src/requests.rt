@@ -18,7 +18,7 @@ use crate::ledger::Ledger;
 use orc_calls::Counts;
 use orc_chronicle::{Chronicle, Program};
 use orc_graph::{Graph, Node};
-use orc_paths::{What, put_values};
+use orc_paths::What;
 use orc_records::{LedgerFault, Request};
 use orc_rules::answers::Answers;
 use orc_rules::entry::Entry;
@@ -67,13 +67,9 @@ impl<P: Program> Ledger<P> {
         let Node::Site(site, list) = graph.node(node as usize) else {
             unreachable!()
         };
-        put_values(
-            &self.scopes,
-            &self.cells,
-            graph.operands(list as usize),
-            scope,
-            args,
-        );
+        if !self.take_values(graph.operands(list as usize), scope, args) {
+            unreachable!()
+        }
         site
     }
 

@@ -8,7 +8,7 @@ mod parameters;
 mod taking;
 mod what;
 
-pub use arguments::put_values;
+pub use arguments::take_values;
 pub use awaiting::list_cells;
 pub use left::{has_left, left_at};
 pub use parameters::parameter_scopes;

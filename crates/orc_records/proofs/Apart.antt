@@ -1,5 +1,5 @@
 -- A run that is over is a part of the run that has its call to make.
-use Rattle.std.proofs.Common.{◌≡◌, ◌≤◌, ◌-◌, ℕ, List, [], ◌∷◌, refl, sym, ap, ◌∙◌, subst, arith, length, map, not, true, false, Option, Some, None, inl, inr}
+use Rattle.std.proofs.Common.{◌≡◌, ◌≤◌, ◌-◌, ℕ, List, [], ◌∷◌, refl, sym, ap, ◌∙◌, subst, arith, length, map, not, true, Option, Some, None, inl, inr}
 use Rattle.std.specs.Prelude.{filter}
 use Rattle.orc_rules.specs.declared.value.Value.{Value}
 use Rattle.orc_rules.specs.declared.entry.Entry.{Entry}
@@ -20,19 +20,17 @@ use Rattle.orc_paths.proofs.Meaning.{rest_some}
 use Rattle.orc_tables.specs.Same.{weight}
 use Rattle.orc_tables.proofs.Weight.{weight-length}
 use Rattle.orc_tables.specs.declared.records.Token.{Token}
-use Rattle.orc_paths.specs.Doing.{Allows, closed, scan}
+use Rattle.orc_paths.specs.Doing.{Allows, closed}
 use Rattle.orc_paths.specs.Paths.{has_left}
 use Rattle.orc_paths.specs.Spelling.{Row, stands, Numbered, whole, marks, sides, seen}
 use Rattle.orc_paths.proofs.Around.{by, by-self, is_row}
 use Rattle.orc_paths.proofs.Equal.{same_row}
 use Rattle.orc_paths.proofs.Growth.{path-none}
 use Rattle.orc_paths.specs.declared.what.What.TheVariants as what
-use Rattle.orc_paths.proofs.Forms.{scan-is}
 use Rattle.orc_records.specs.Records.{Records, Lawful, context, its_env, its_path, token_row, call_row, group_side, is_over, counts}
 use Rattle.orc_records.specs.Doing.{term_of, what_of}
 use Rattle.orc_records.specs.Parts.{IsLeftOf, IsOver, call_of, rows_left}
 use Rattle.orc_records.specs.declared.parts.Yield.{Yield}
-use Rattle.orc_records.proofs.Asked.{site-values}
 use Rattle.orc_records.proofs.Lists.{rows-weigh}
 use Rattle.orc_records.proofs.Offers.{its_meaning}
 use Rattle.orc_records.proofs.Sound.{given}
@@ -147,6 +145,3 @@ values_are (Void ∷ ps) vs h = cc h
 
 pub called : (env : Env) (t : Term) (e : ℕ) (ops : List Operand) (vs : List Value) → t ≡ call e (map param_of ops) → values_of (closed env ops) ≡ Some vs → close env t ≡ call_of e vs
 called env t e ops vs form values = ap (close env) form ∙ close-call env e (map param_of ops) ∙ ap (call e) (values_are (closed env ops) vs values)
-
-pub scanned : (ps : List Param) → scan false None ps ≡ what.Call → (vs : List Value) × (values_of ps ≡ Some vs)
-scanned ps h = site-values ps (sym (scan-is ps) ∙ h)

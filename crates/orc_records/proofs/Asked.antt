@@ -46,7 +46,7 @@ taken-not v (feeding x g p) h = cc h
 taken-not v (aiding c p) h = cc h
 taken-not v (trying n p) h = taken-not v p h
 
-pub site-values : (ps : List Param) → what_site ps (has_void ps) (values_of ps) ≡ Call → (vs : List Value) × (values_of ps ≡ Some vs)
+site-values : (ps : List Param) → what_site ps (has_void ps) (values_of ps) ≡ Call → (vs : List Value) × (values_of ps ≡ Some vs)
 site-values ps = go (has_void ps) (values_of ps) refl
   where
     go : (b : Bool) (o : Option (List Value)) → values_of ps ≡ o → what_site ps b o ≡ Call → (vs : List Value) × (values_of ps ≡ Some vs)

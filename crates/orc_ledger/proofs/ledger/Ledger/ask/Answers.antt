@@ -1,15 +1,12 @@
-use Rattle.std.proofs.Common.{◌≡◌, ◌∙◌, List, ap, sym, map}
+use Rattle.std.proofs.Common.{◌≡◌, ◌∙◌, List, ap, sym, map, refl}
 use Rattle.orc_rules.specs.declared.param.Operand.{Operand}
 use Rattle.orc_rules.specs.Nodes.{Listing, code, definitions, param_of}
-use Rattle.orc_rules.specs.Term.{site, values_of}
-use Rattle.orc_names.specs.Scopes.{env_of, close}
+use Rattle.orc_rules.specs.Term.{site}
+use Rattle.orc_names.specs.Scopes.{close}
 use Rattle.orc_names.proofs.Scopes.{close-site}
-use Rattle.orc_tables.specs.Tokens.{live}
-use Rattle.orc_records.specs.Records.{Records, its_env, its_path}
+use Rattle.orc_records.specs.Records.{its_env, its_path}
 use Rattle.orc_paths.specs.Paths.{standing}
 use Rattle.orc_paths.specs.Doing.{closed, what_by}
-use Rattle.orc_records.specs.Doing.{what_of}
-use Rattle.orc_paths.specs.declared.what.What.TheVariants.{Call}
 use Rattle.orc_records.proofs.Asked.{taken-not, site-only, site-called}
 use Rattle.orc_ledger.proofs.ledger.Ledger.ask.Goals as goal
 
@@ -34,35 +31,29 @@ unreachable-requires-in_default-node g c =
     (ap (λ (z : Listing). what_by (definitions l) p (close env (code z node))) c.requires.graph ∙ sym (ap (λ z. what_by (definitions l) p (standing (code l) (its_env (code l) s) z)) c.in-At.is) ∙ c.requires.calls)
     c.in_default-node.not-Site
 
-pub put_values-requires-clause-values : goal.put_values-requires-clause-values
-put_values-requires-clause-values g c =
-    let b = c.self.inside in
-    let t = c.args.token in
+pub unreachable-requires-then-not-take_values : goal.unreachable-requires-then-not-take_values
+unreachable-requires-then-not-take_values g c =
     let l = g.P.Program.listing in
-    let s : Records = record { limit = b.limit; journal = b.journal.entries; entries = b.entries; next_mark = b.next_mark; now = b.time; made = b.calls.made; tokens = live b.tokens.items; slots = b.tokens.items; calls = b.calls.items; scopes = b.scopes.items; steps = b.steps.items; groups = b.groups.items; cells = b.cells.items } in
-    let calls : what_of (code l) (definitions l) s t ≡ Call = rw (← c.self.view_is) at c.requires.calls in
-    let p = its_path (code l) s t.step in
+    let s = c.args.self.now in
+    let p = its_path (code l) s c.args.token.step in
     let env = its_env (code l) s c.in-At.scope in
     let node = c.in-At.node in
+    let now = c.args.graph.now in
     let ops = c.operands.result.now in
-    let form : code c.args.graph.now node ≡ site c.in-Site.site (map param_of ops) = c.in-Site.ensures.term ∙ ap (λ (z : List Operand). site c.in-Site.site (map param_of z)) (sym c.operands.ensures.value) in
-    let word : what_by (definitions l) p (close env (code c.args.graph.now node)) ≡ Call =
-    ap (λ (z : Listing). what_by (definitions l) p (close env (code z node))) c.requires.graph ∙ sym (ap (λ z. what_by (definitions l) p (standing (code l) (its_env (code l) s) z)) c.in-At.is) ∙ calls in
-    let got = site-called (definitions l) p env (code c.args.graph.now node) c.in-Site.site ops form word in
-    (got.0, (λ i. values_of (closed (env_of (c.deref-2.ensures.value i) (c.deref.ensures.value i) c.in-At.scope) ops)) ∙ got.1)
+    let form : code now node ≡ site c.in-Site.site (map param_of ops) = c.in-Site.ensures.term ∙ ap (λ (z : List Operand). site c.in-Site.site (map param_of z)) (sym c.operands.ensures.value) in
+    let word = ap (λ (z : Listing). what_by (definitions l) p (close env (code z node))) c.requires.graph ∙ sym (ap (λ z. what_by (definitions l) p (standing (code l) (its_env (code l) s) z)) c.in-At.is) ∙ c.requires.calls in
+    let got = site-called (definitions l) p env (code now node) c.in-Site.site ops form word in
+    c.if-not-take_values.ensures.none refl got.0 got.1
 
 pub returns : goal.returns
 returns g c =
-    let b = c.self.inside in
-    let t = c.args.token in
     let l = g.P.Program.listing in
-    let s : Records = record { limit = b.limit; journal = b.journal.entries; entries = b.entries; next_mark = b.next_mark; now = b.time; made = b.calls.made; tokens = live b.tokens.items; slots = b.tokens.items; calls = b.calls.items; scopes = b.scopes.items; steps = b.steps.items; groups = b.groups.items; cells = b.cells.items } in
+    let s = c.args.self.now in
     let env = its_env (code l) s c.in-At.scope in
     let node = c.in-At.node in
     let ops = c.operands.result.now in
-    let form : code c.args.graph.now node ≡ site c.in-Site.site (map param_of ops) = c.in-Site.ensures.term ∙ ap (λ (z : List Operand). site c.in-Site.site (map param_of z)) (sym c.operands.ensures.value) in
-    rw (← c.self.view_is) (
+    let form : code c.args.graph.now node ≡ site c.in-Site.site (map param_of ops) = c.in-Site.ensures.term ∙ ap (λ (z : List Operand). site c.in-Site.site (map param_of z)) (sym c.operands.ensures.value) in (
       closed env ops,
-      sym (λ i. values_of (closed (env_of (c.deref-2.ensures.value i) (c.deref.ensures.value i) c.in-At.scope) ops)) ∙ c.put_values.ensures,
+      c.if-not-take_values.ensures.values refl,
       ap (standing (code l) (its_env (code l) s)) c.in-At.is ∙ ap (λ (z : Listing). close env (code z node)) (sym c.requires.graph) ∙ ap (close env) form ∙ close-site env c.in-Site.site (map param_of ops),
     )

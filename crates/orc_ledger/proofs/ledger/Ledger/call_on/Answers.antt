@@ -1,25 +1,32 @@
-use Rattle.std.proofs.Common.{◌≡◌, ◌∙◌, List, [], ap, sym, refl, false, None}
+use Rattle.std.proofs.Common.{◌≡◌, ◌∙◌, List, [], map, ap, sym, refl}
 use Rattle.std.specs.Prelude.{slice_index_or}
 use Rattle.orc_rules.specs.declared.param.Operand.{Operand}
-use Rattle.orc_rules.specs.Nodes.{Listing, code}
+use Rattle.orc_rules.specs.Nodes.{Listing, code, param_of}
+use Rattle.orc_rules.specs.Term.{values_of}
+use Rattle.orc_names.specs.Scopes.{close}
+use Rattle.orc_names.proofs.Scopes.{close-site}
 use Rattle.orc_records.specs.Records.{Records, its_env}
 use Rattle.orc_records.specs.AtOnce.{IsCalled}
 use Rattle.orc_records.specs.declared.results.Called.TheVariants.{Answered}
-use Rattle.orc_paths.specs.Doing.{scan, closed}
+use Rattle.orc_paths.specs.Doing.{closed}
+use Rattle.orc_paths.specs.Paths.{standing}
 use Rattle.orc_tables.specs.Tokens.{live}
 use Rattle.orc_tables.specs.declared.records.Standing.TheVariants.{On}
-use Rattle.orc_records.proofs.Advancing.{word-site}
 use Rattle.orc_records.proofs.AtOnce.{answered-held}
 use Rattle.orc_ledger.proofs.ledger.Ledger.call_on.Goals as goal
 
-pub call_through-requires-clause-calls : goal.call_through-requires-clause-calls
-call_through-requires-clause-calls g c =
+pub answer_through-requires-clause-asks : goal.answer_through-requires-clause-asks
+answer_through-requires-clause-asks g c =
     let l = g.P.Program.listing in
     let a = c.args in
     let ops : List Operand = slice_index_or l.lists a.list [] in
     let env = its_env (code l) a.self.now a.scope in
     let same : c.operands.result.now ≡ ops = c.operands.ensures.value ∙ ap (λ (z : Listing). slice_index_or z.lists a.list []) c.requires.graph in
-    word-site l a.self.now a.token a.scope c.requires.at.0 ops c.requires.at.1 ∙ sym (ap (λ (z : List Operand). scan false None (closed env z)) same) ∙ c.if-have_values.ensures refl
+    let at = c.requires.at in (
+      closed env ops,
+      sym (ap (λ (z : List Operand). values_of (closed env z)) same) ∙ c.if-take_values.ensures.values refl,
+      ap (standing (code l) (its_env (code l) a.self.now)) at.1 ∙ ap (close env) at.2 ∙ close-site env a.site (map param_of ops),
+    )
 
 pub returns-then-send_on : goal.returns-then-send_on
 returns-then-send_on g c =
@@ -29,7 +36,7 @@ returns-then-send_on g c =
     let sites = g.P.Program.sites in
     let s : Records = record { limit = b.limit; journal = b.journal.entries; entries = b.entries; next_mark = b.next_mark; now = b.time; made = b.calls.made; tokens = live b.tokens.items; slots = b.tokens.items; calls = b.calls.items; scopes = b.scopes.items; steps = b.steps.items; groups = b.groups.items; cells = b.cells.items } in
     let v = c.in-Ok-Answered.value in
-    let s2 = c.call_through.new.self in
+    let s2 = c.answer_through.new.self in
     let said = rw c.in-Ok-Answered.field-0-is at c.in-Ok-Answered.ensures.done in
     let answered : IsCalled l sites s a.slot a.token (Answered v) s2 = rw (← c.self.view_is) at said in
     let sent = c.if-send_on.ensures.sent refl in

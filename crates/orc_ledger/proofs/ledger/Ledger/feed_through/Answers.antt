@@ -34,7 +34,7 @@ pub call_on-requires-clause-at : goal.call_on-requires-clause-at
 call_on-requires-clause-at g c =
     let a = c.args in
     let n = c.in-Site in
-    (n.field-0, (a.left, refl, subst (λ (z : Listing). code z a.left ≡ site n.field-0 (map param_of (slice_index_or z.lists n.list []))) c.requires.graph n.ensures.term))
+    (a.left, refl, subst (λ (z : Listing). code z a.left ≡ site n.site (map param_of (slice_index_or z.lists n.list []))) c.requires.graph n.ensures.term)
 
 pub returns-clause-done : goal.returns-clause-done
 returns-clause-done g c ks =

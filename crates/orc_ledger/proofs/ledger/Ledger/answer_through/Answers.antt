@@ -21,7 +21,7 @@ use Rattle.orc_records.proofs.AtRest.{rest-kept, same-terms}
 use Rattle.orc_records.proofs.Asked.{word-there, called-kept}
 use Rattle.orc_records.proofs.Keeping.{from_one}
 use Rattle.orc_tables.proofs.Slots.{live-in, removed, replaced, set-there}
-use Rattle.orc_ledger.proofs.ledger.Ledger.call_through.Goals as goal
+use Rattle.orc_ledger.proofs.ledger.Ledger.answer_through.Goals as goal
 
 pub replace-requires-clause-serial : goal.replace-requires-clause-serial
 replace-requires-clause-serial g c =
@@ -48,10 +48,10 @@ invariant_of-self-in-Value g c =
     let K = c.self.invariant.kept in
     let s : Records = record { limit = b.limit; journal = b.journal.entries; entries = b.entries; next_mark = b.next_mark; now = b.time; made = b.calls.made; tokens = live b.tokens.items; slots = b.tokens.items; calls = b.calls.items; scopes = b.scopes.items; steps = b.steps.items; groups = b.groups.items; cells = b.cells.items } in
     let held : IsHeld s.slots a.slot a.token = rw (← c.self.view_is) at c.requires.held in
-    let m = c.ask-site.result in
-    let args = c.ask-site.new.args in
+    let m = a.site in
+    let args = a.args.now in
     let v = c.in-Value.value in
-    let asks : IsCall m args (term_of (code l) s a.token) = rw (← c.self.view_is) at c.ask-site.ensures in
+    let asks : IsCall m args (term_of (code l) s a.token) = rw (← c.self.view_is) at c.requires.asks in
     let next : IsNextCall l sites s a.token m args c.next_call-call.result = rw (← c.self.view_is) at c.next_call-call.ensures in
     let nth = nth_of m args K.lawful.place.calls in
     let says : c.next_call-call.result.found ≡ After (Gives v) 0 = c.in-Some.ensures ∙ ap (λ z. After z 0) c.in-Value.is in
@@ -93,9 +93,9 @@ invariant_of-self-in-Halt g c =
     let K = c.self.invariant.kept in
     let s : Records = record { limit = b.limit; journal = b.journal.entries; entries = b.entries; next_mark = b.next_mark; now = b.time; made = b.calls.made; tokens = live b.tokens.items; slots = b.tokens.items; calls = b.calls.items; scopes = b.scopes.items; steps = b.steps.items; groups = b.groups.items; cells = b.cells.items } in
     let held : IsHeld s.slots a.slot a.token = rw (← c.self.view_is) at c.requires.held in
-    let m = c.ask-site.result in
-    let args = c.ask-site.new.args in
-    let asks : IsCall m args (term_of (code l) s a.token) = rw (← c.self.view_is) at c.ask-site.ensures in
+    let m = a.site in
+    let args = a.args.now in
+    let asks : IsCall m args (term_of (code l) s a.token) = rw (← c.self.view_is) at c.requires.asks in
     let next : IsNextCall l sites s a.token m args c.next_call-call.result = rw (← c.self.view_is) at c.next_call-call.ensures in
     let nth = nth_of m args K.lawful.place.calls in
     let says : c.next_call-call.result.found ≡ After Halt 0 = c.in-Some.ensures ∙ ap (λ z. After z 0) c.in-Halt.is in
@@ -136,10 +136,10 @@ returns-in_ok-write_answered-in-Value-clause-done g c =
     let K = c.self.invariant.kept in
     let s : Records = record { limit = b.limit; journal = b.journal.entries; entries = b.entries; next_mark = b.next_mark; now = b.time; made = b.calls.made; tokens = live b.tokens.items; slots = b.tokens.items; calls = b.calls.items; scopes = b.scopes.items; steps = b.steps.items; groups = b.groups.items; cells = b.cells.items } in
     let held : IsHeld s.slots a.slot a.token = rw (← c.self.view_is) at c.requires.held in
-    let m = c.ask-site.result in
-    let args = c.ask-site.new.args in
+    let m = a.site in
+    let args = a.args.now in
     let v = c.in-Value.value in
-    let asks : IsCall m args (term_of (code l) s a.token) = rw (← c.self.view_is) at c.ask-site.ensures in
+    let asks : IsCall m args (term_of (code l) s a.token) = rw (← c.self.view_is) at c.requires.asks in
     let next : IsNextCall l sites s a.token m args c.next_call-call.result = rw (← c.self.view_is) at c.next_call-call.ensures in
     let nth = nth_of m args K.lawful.place.calls in
     let says : c.next_call-call.result.found ≡ After (Gives v) 0 = c.in-Some.ensures ∙ ap (λ z. After z 0) c.in-Value.is in
@@ -176,9 +176,9 @@ returns-in_ok-write_answered-in-Halt-clause-done g c =
     let K = c.self.invariant.kept in
     let s : Records = record { limit = b.limit; journal = b.journal.entries; entries = b.entries; next_mark = b.next_mark; now = b.time; made = b.calls.made; tokens = live b.tokens.items; slots = b.tokens.items; calls = b.calls.items; scopes = b.scopes.items; steps = b.steps.items; groups = b.groups.items; cells = b.cells.items } in
     let held : IsHeld s.slots a.slot a.token = rw (← c.self.view_is) at c.requires.held in
-    let m = c.ask-site.result in
-    let args = c.ask-site.new.args in
-    let asks : IsCall m args (term_of (code l) s a.token) = rw (← c.self.view_is) at c.ask-site.ensures in
+    let m = a.site in
+    let args = a.args.now in
+    let asks : IsCall m args (term_of (code l) s a.token) = rw (← c.self.view_is) at c.requires.asks in
     let next : IsNextCall l sites s a.token m args c.next_call-call.result = rw (← c.self.view_is) at c.next_call-call.ensures in
     let nth = nth_of m args K.lawful.place.calls in
     let says : c.next_call-call.result.found ≡ After Halt 0 = c.in-Some.ensures ∙ ap (λ z. After z 0) c.in-Halt.is in
