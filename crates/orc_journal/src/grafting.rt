@@ -69,17 +69,6 @@ impl Tables {
         }
     }
 
-    // The row of the same entry as that of a row of a part. Kept apart, since it makes an `Entry`, and no part has such entries.
-    #[cold]
-    #[inline(never)]
-    fn add_same(&mut self, part: &Tables, row: Row) -> Result<Row, AllocError>
-        requires { IsWithin part.now row }
-        ensures kept { Keeps self.old self.new }
-        ensures row { IfOk result (λ r. StandsFor self.new r (entry_of part.now row)) }
-    {
-        self.add(&part.entry(row))
-    }
-
     // The row of an entry of a part, by its row there, under these numbers. The error is refused memory, or a number that doesn't fit 64 bits.
     #[inline(always)]
     fn add_moved(
@@ -142,7 +131,7 @@ impl Tables {
                 let s = mark_of(n, p.first)?;
                 self.add_given(Kind::Publish, s, 0, part.value(p.third))
             }
-            Kind::Tick | Kind::Cancel => self.add_same(part, row),
+            Kind::Tick | Kind::Cancel => self.add_plain(p.kind, p.first, 0, 0, 0),
         }
     }
 }

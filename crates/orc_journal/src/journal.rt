@@ -6,7 +6,7 @@ ghost use Rattle.orc_rules.specs.declared.entry.Entry.{Entry as EntryOf};
 ghost use Rattle.orc_rules.specs.declared.entry.Entry.TheVariants.{Send, Call, Return, Bind, Publish, Cancel};
 ghost use Rattle.orc_rules.specs.declared.limits.TheConstants.{MOST_ARGUMENTS};
 ghost use Rattle.orc_rules.specs.Trace.{published};
-ghost use Rattle.orc_journal.specs.Rows.{entry_of, given, AreWithin, HasValue};
+ghost use Rattle.orc_journal.specs.Rows.{entry_of, given, plain, AreWithin, HasValue, IsPlain};
 ghost use Rattle.orc_journal.specs.Texts.{Written, journal_with};
 
 use crate::room::make_room;
@@ -85,20 +85,56 @@ impl Journal {
     }
 
     /// Adds an entry at the end. The error is refused memory, and then nothing changes.
-    // Inlined, so that of an entry whose kind is known its own row alone is made.
+    // Inlined, so that where an entry's kind is known it is one call, and no `Entry` is made.
     #[inline(always)]
     pub fn push(&mut self, entry: &Entry) -> Result<(), AllocError>
         ensures added { OnOk result (self.new ≡ record { version = self.old.version; entries = self.old.entries ++ entry.now ∷ [] }) }
         ensures refused { OnErr result (self.new ≡ self.old) }
     {
+        match entry {
+            Entry::End(s) => self.push_plain(Kind::End, *s, 0, 0, 0),
+            Entry::Fork(s, a, b) => self.push_plain(Kind::Fork, *s, *a, *b, 0),
+            Entry::Seq(s, a) => self.push_plain(Kind::Seq, *s, *a, 0, 0),
+            Entry::Other(s, a) => self.push_plain(Kind::Other, *s, *a, 0, 0),
+            Entry::Def(s, a) => self.push_plain(Kind::Def, *s, *a, 0, 0),
+            Entry::Void(s) => self.push_plain(Kind::Void, *s, 0, 0, 0),
+            Entry::Open(s, c, a, b) => self.push_plain(Kind::Open, *s, *c, *a, *b),
+            Entry::Send(s, a, v) => self.push_given(Kind::Send, *s, *a, *v),
+            Entry::Call(s, k, site, args) => self.push_call(*s, *k, *site, args.as_slice()),
+            Entry::Return(k, a, v) => self.push_given(Kind::Return, *k, *a, *v),
+            Entry::ReturnHalt(k) => self.push_plain(Kind::ReturnHalt, *k, 0, 0, 0),
+            Entry::Bind(s, c, v) => self.push_given(Kind::Bind, *s, *c, *v),
+            Entry::Lost(c) => self.push_plain(Kind::Lost, *c, 0, 0, 0),
+            Entry::Right(s, a) => self.push_plain(Kind::Right, *s, *a, 0, 0),
+            Entry::Publish(s, v) => self.push_given(Kind::Publish, *s, 0, *v),
+            Entry::Tick(t) => self.push_plain(Kind::Tick, *t, 0, 0, 0),
+            Entry::Cancel(k) => self.push_plain(Kind::Cancel, *k, 0, 0, 0),
+        }
+    }
+
+    // Adds an entry of numbers alone at the end. Where memory is refused nothing changes.
+    // Neither it nor `push_given` is inlined: so `push` stays small. Each writes its row where it stays, and hands none on.
+    #[inline(never)]
+    fn push_plain(
+        &mut self,
+        kind: Kind,
+        first: u64,
+        second: u64,
+        third: u64,
+        fourth: u64,
+    ) -> Result<(), AllocError>
+        requires { IsPlain kind }
+        ensures added { OnOk result (self.new ≡ journal_with self.old (plain kind first second third fourth ∷ [])) }
+        ensures refused { OnErr result (self.new ≡ self.old) }
+    {
         make_room(&mut self.rows)?;
-        let row = self.tables.add(entry)?;
+        let row = self.tables.add_plain(kind, first, second, third, fourth)?;
         self.rows.push_reserved(row);
         Ok(())
     }
 
     // Adds an entry with a value at the end. Where memory is refused nothing changes.
-    #[inline(always)]
+    #[inline(never)]
     fn push_given(
         &mut self,
         kind: Kind,

@@ -179,9 +179,7 @@ impl Tables {
         self.add_wide(parts)
     }
 
-    // The row of an entry of numbers alone. Neither it nor that of an entry with a value is inlined: so `add` is small, and is inlined itself where an
-    // entry's kind is known.
-    #[inline(never)]
+    /// The row of an entry of numbers alone. The error is refused memory.
     pub(crate) fn add_plain(
         &mut self,
         kind: Kind,
@@ -229,7 +227,6 @@ impl Tables {
     }
 
     /// The row of an entry with a value. The error is refused memory.
-    #[inline(never)]
     pub(crate) fn add_given(
         &mut self,
         kind: Kind,
@@ -267,33 +264,6 @@ impl Tables {
         let row = self.add_parts(numbered(Kind::Call, token, call, at, 0))?;
         put(&mut self.calls, Called { site, start, count })?;
         Ok(row)
-    }
-
-    /// The row of an entry, with what it points to behind the other rows'. The error is refused memory.
-    #[inline(always)]
-    pub(crate) fn add(&mut self, entry: &Entry) -> Result<Row, AllocError>
-        ensures kept { Keeps self.old self.new }
-        ensures row { IfOk result (λ r. StandsFor self.new r entry.now) }
-    {
-        match entry {
-            Entry::End(s) => self.add_plain(Kind::End, *s, 0, 0, 0),
-            Entry::Fork(s, a, b) => self.add_plain(Kind::Fork, *s, *a, *b, 0),
-            Entry::Seq(s, a) => self.add_plain(Kind::Seq, *s, *a, 0, 0),
-            Entry::Other(s, a) => self.add_plain(Kind::Other, *s, *a, 0, 0),
-            Entry::Def(s, a) => self.add_plain(Kind::Def, *s, *a, 0, 0),
-            Entry::Void(s) => self.add_plain(Kind::Void, *s, 0, 0, 0),
-            Entry::Open(s, c, a, b) => self.add_plain(Kind::Open, *s, *c, *a, *b),
-            Entry::Send(s, a, v) => self.add_given(Kind::Send, *s, *a, *v),
-            Entry::Call(s, k, site, args) => self.add_call(*s, *k, *site, args.as_slice()),
-            Entry::Return(k, a, v) => self.add_given(Kind::Return, *k, *a, *v),
-            Entry::ReturnHalt(k) => self.add_plain(Kind::ReturnHalt, *k, 0, 0, 0),
-            Entry::Bind(s, c, v) => self.add_given(Kind::Bind, *s, *c, *v),
-            Entry::Lost(c) => self.add_plain(Kind::Lost, *c, 0, 0, 0),
-            Entry::Right(s, a) => self.add_plain(Kind::Right, *s, *a, 0, 0),
-            Entry::Publish(s, v) => self.add_given(Kind::Publish, *s, 0, *v),
-            Entry::Tick(t) => self.add_plain(Kind::Tick, *t, 0, 0, 0),
-            Entry::Cancel(k) => self.add_plain(Kind::Cancel, *k, 0, 0, 0),
-        }
     }
 
     /// The parts of a row.
