@@ -184,8 +184,9 @@ impl<P: Program> Chronicle<P> {
         self.held.len()
     }
 
-    /// Holds the entries no more, if there is memory for what is still to be known of them. What they took is for those that come.
-    pub fn forget(&mut self, answers: &Answers)
+    /// Holds the entries no more, if there is memory for what is still to be known of them. What they took is for those that come. Whether all are local
+    /// is known further on only of a part's.
+    pub fn forget(&mut self, answers: &Answers, is_part: bool)
         requires answers { answers.now.sites ≡ P.sites }
         requires keeps { P.keeps ≡ false }
         ensures version { self.new.version ≡ self.old.version }
@@ -195,6 +196,7 @@ impl<P: Program> Chronicle<P> {
         if len > MOST - self.forgotten {
             return;
         }
+        let is_local = is_part && self.are_local(answers);
         let Ok(values) = self.held.published(self.alloc) else {
             return;
         };
@@ -202,7 +204,7 @@ impl<P: Program> Chronicle<P> {
             Ok(()) => {}
             Err(_) => return,
         }
-        self.is_local = self.is_local && self.held.are_local(answers);
+        self.is_local = is_local;
         self.past = past_with(&self.past, &self.held);
         self.forgotten += len;
         self.held.clear();

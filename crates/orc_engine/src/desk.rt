@@ -1,4 +1,4 @@
-//! The records of a run and what its workers do with them: tokens move, calls are answered, groups halt, time passes.
+//! The records of a run and what its workers do with them: tokens have their turns, calls are made, groups halt.
 
 ghost use Rattle.std.specs.Prelude.{◌≡◌, ◌≤◌, ◌<◌, ◌^◌, ℕ, true, false, IfOk, IfErr, IfSome, OnErr};
 ghost use Rattle.std.specs.VecDeque.{deque_len};
@@ -7,27 +7,25 @@ ghost use Rattle.orc_rules.specs.Program.{IsProgram};
 ghost use Rattle.orc_paths.specs.Doing.{is_wait};
 ghost use Rattle.orc_tables.specs.Tokens.{IsHeld};
 ghost use Rattle.orc_tables.specs.declared.records.Group.{Group};
-ghost use Rattle.orc_records.specs.Answers.{IsDueNow, Pends};
 ghost use Rattle.orc_records.specs.Doing.{what_of};
 ghost use Rattle.orc_records.specs.Halting.{IsGroup};
 ghost use Rattle.orc_records.specs.Moves.{IsHindered};
 ghost use Rattle.orc_records.specs.Next.{members, numbers_of};
 ghost use Rattle.orc_records.specs.Passing.{Passes};
-ghost use Rattle.orc_engine.specs.Stops.{Goes, Advances, HasMoved, IsNearer, HasTurned, NoneIsDue, IsAtWork, Stops};
+ghost use Rattle.orc_engine.specs.Stops.{Goes, Advances, HasMoved, IsNearer, HasTurned, Stops};
 
 use crate::holding::Holding;
 use crate::ready::{Handle, Ready};
 use crate::waiting::Waiting;
 use orc_graph::{Graph, Node};
 use orc_ledger::{
-    Call, Called, HaltFault, Halted, Ledger, LedgerFault, Next, Passed, Program as Naming,
-    ReturnFault, Standing, Task, Token, What, calls_fit,
+    Called, HaltFault, Halted, Ledger, LedgerFault, Passed, Program as Naming, Standing, Token,
+    What, calls_fit,
 };
 use orc_names::Scope;
 use orc_rules::answers::Answers;
 use orc_rules::limits::MOST_GROUPS;
-use orc_rules::value::{Answer, Args};
-use orc_site::{Due, Request, due_after};
+use orc_rules::value::Args;
 use std::alloc::Global;
 use std::mem;
 
@@ -65,16 +63,16 @@ pub(crate) fn is_at_call(graph: &Graph, token: &Token) -> bool {
     }
 }
 
-// How a token goes on after a move.
+/// How a token goes on after a move.
 #[derive(Clone, Copy)]
-enum Step {
-    // In this slot.
+pub(crate) enum Step {
+    /// In this slot.
     On(usize),
-    // It is gone.
+    /// It is gone.
     Done,
-    // It stays as it is until something comes for which it waits.
+    /// It stays as it is until something comes for which it waits.
     Waits,
-    // The call with this number was recorded in its place, and is to be made.
+    /// The call with this number was recorded in its place, and is to be made.
     Asks(u64),
 }
 
@@ -94,7 +92,9 @@ pub(crate) struct Desk<P: Naming> {
     pub(crate) spreads: bool,
     // How many moves have led to the token whose turn it is, one after another.
     moves: u32,
-    // What is held back where the run is made apart.
+    /// Whether the run is a part, made apart from the one round it.
+    pub(crate) is_part: bool,
+    // What is held back then.
     pub(crate) holding: Holding,
     // The calls that were cancelled, where others are told of them.
     gone: Vec<u64>,
@@ -118,6 +118,7 @@ impl<P: Naming> Drop for Desk<P> {
             asks: _,
             spreads: _,
             moves: _,
+            is_part: _,
             holding: _,
             gone,
             scopes,
@@ -151,6 +152,7 @@ impl<P: Naming> Desk<P> {
             asks,
             spreads: false,
             moves: 0,
+            is_part: false,
             holding: Holding::new(),
             gone: Vec::new(alloc),
             scopes: Vec::new(alloc),
@@ -172,6 +174,7 @@ impl<P: Naming> Desk<P> {
             asks: _,
             spreads: _,
             moves: _,
+            is_part: _,
             holding: _,
             gone,
             scopes,
@@ -324,7 +327,7 @@ impl<P: Naming> Desk<P> {
         ensures ready { self.new.ready ≡ self.old.ready }
     {
         if !self.keeps && self.ledger.held_len() >= MOST_HELD {
-            self.ledger.forget(answers);
+            self.ledger.forget(answers, self.is_part);
         }
     }
 
@@ -345,9 +348,9 @@ impl<P: Naming> Desk<P> {
         self.token_of(handle).is_some()
     }
 
-    // The turn of the token in a slot comes.
+    /// The turn of the token in a slot comes.
     #[inline(always)]
-    fn join_held(&mut self, slot: usize) -> Result<(), Stop>
+    pub(crate) fn join_held(&mut self, slot: usize) -> Result<(), Stop>
         ensures same { self.new.ledger ≡ self.old.ledger }
         ensures memory { IfErr result (λ stop. stop ≡ Stop.Refused LedgerFault.Memory) }
     {
@@ -365,9 +368,9 @@ impl<P: Naming> Desk<P> {
         self.join_held(slot)
     }
 
-    // One move of a token.
+    /// One move of a token.
     #[inline(always)]
-    fn step(
+    pub(crate) fn step(
         &mut self,
         graph: &Graph,
         answers: &Answers,
@@ -537,25 +540,6 @@ impl<P: Naming> Desk<P> {
         }
     }
 
-    // A call is answered. Gives the slot of the token on its answer.
-    fn answer(&mut self, call: Call, answer: Answer) -> Result<Option<usize>, Stop>
-        ensures advances { IfOk result (λ _. Advances self.old.ledger self.new.ledger) }
-        ensures stops { IfErr result (λ stop. Pends self.old.ledger call.number call → IsDueNow P.listing P.sites self.old.ledger call.number answer → Stops P.listing self.new.ledger stop) }
-    {
-        match self.ledger.returned(call.number, answer) {
-            Ok(Some(slot)) => Ok(Some(slot)),
-            Ok(None) => {
-                let group = self.ledger.group_of_call(&call);
-                self.close(group)?;
-                Ok(None)
-            }
-            Err(ReturnFault::Limit) => Err(Stop::Refused(LedgerFault::Limit)),
-            Err(ReturnFault::Memory) => Err(Stop::Refused(LedgerFault::Memory)),
-            Err(ReturnFault::Wrong) => Err(Stop::Site(call.number)),
-            Err(ReturnFault::Gone) => Err(Stop::Broken),
-        }
-    }
-
     // The token in a slot waits for each of its cells.
     fn wait(&mut self, graph: &Graph, slot: usize) -> Result<(), Stop>
         requires graph { graph.now ≡ P.listing }
@@ -596,9 +580,9 @@ impl<P: Naming> Desk<P> {
         }
     }
 
-    // A group that has no members any more ends, and so do those round it.
+    /// A group that has no members any more ends, and so do those round it.
     #[inline(always)]
-    fn close(&mut self, group: u32) -> Result<(), Stop>
+    pub(crate) fn close(&mut self, group: u32) -> Result<(), Stop>
         ensures goes { IfOk result (λ _. Goes self.old.ledger self.new.ledger) }
         ensures stops { IfErr result (λ stop. Stops P.listing self.new.ledger stop) }
     {
@@ -608,9 +592,9 @@ impl<P: Naming> Desk<P> {
         self.close_from(group)
     }
 
-    // The group ends if it is open and has no members, and then so do those round it.
+    /// The group ends if it is open and has no members, and then so do those round it.
     #[inline(never)]
-    fn close_from(&mut self, group: u32) -> Result<(), Stop>
+    pub(crate) fn close_from(&mut self, group: u32) -> Result<(), Stop>
         ensures goes { IfOk result (λ _. Goes self.old.ledger self.new.ledger) }
         ensures advances { IfOk result (λ _. (g : Group) → IsGroup self.old.ledger group g → members (numbers_of self.old.ledger) self.old.ledger group ≡ 0 → Advances self.old.ledger self.new.ledger) }
         ensures stops { IfErr result (λ stop. Stops P.listing self.new.ledger stop) }
@@ -643,107 +627,6 @@ impl<P: Naming> Desk<P> {
         Ok(())
     }
 
-    /// No token's turn comes: an answer that is due, by the table, else a tick, else what the ledger finds. It stops where nothing can come next.
-    pub(crate) fn rest(&mut self, graph: &Graph, answers: &Answers) -> Result<(), Stop>
-        requires graph { graph.now ≡ P.listing }
-        requires answers { answers.now.sites ≡ P.sites }
-        ensures advances { IfOk result (λ _. Advances self.old.ledger self.new.ledger) }
-        ensures stops { IfErr result (λ stop. Stops P.listing self.new.ledger stop) }
-    {
-        if self.answer_due()? || self.pass_time(graph)? {
-            return Ok(());
-        }
-        self.recover(graph, answers)
-    }
-
-    // Work is left of which no turn tells. No run has come here yet, but nothing else promises that whoever can move has a turn that comes.
-    #[inline(never)]
-    fn recover(&mut self, graph: &Graph, answers: &Answers) -> Result<(), Stop>
-        requires graph { graph.now ≡ P.listing }
-        requires answers { answers.now.sites ≡ P.sites }
-        requires due { NoneIsDue self.old.ledger }
-        requires work { IsAtWork P.listing self.old.ledger }
-        ensures advances { IfOk result (λ _. Advances self.old.ledger self.new.ledger) }
-        ensures stops { IfErr result (λ stop. Stops P.listing self.new.ledger stop) }
-    {
-        if let Some((slot, token)) = self.ledger.movable(graph) {
-            return self.set_going(graph, answers, slot, token);
-        }
-        match self.ledger.empty_group() {
-            Some(group) => self.close_from(group),
-            None => unreachable!(),
-        }
-    }
-
-    // A token that doesn't wait moves, and its turn comes again.
-    fn set_going(
-        &mut self,
-        graph: &Graph,
-        answers: &Answers,
-        slot: usize,
-        token: Token,
-    ) -> Result<(), Stop>
-        requires graph { graph.now ≡ P.listing }
-        requires answers { answers.now.sites ≡ P.sites }
-        requires held { IsHeld self.old.ledger.slots slot token }
-        requires moves { is_wait (what_of (code P.listing) (definitions P.listing) self.old.ledger token) ≡ false }
-        ensures advances { IfOk result (λ _. Advances self.old.ledger self.new.ledger) }
-        ensures stops { IfErr result (λ stop. Stops P.listing self.new.ledger stop) }
-    {
-        match self.step(graph, answers, slot, token)? {
-            Step::On(next) => self.join_held(next),
-            Step::Done | Step::Asks(_) => Ok(()),
-            // In a program that the scope check took each call of a definition has its arguments.
-            Step::Waits => Err(Stop::Broken),
-        }
-    }
-
-    // The call that is due with the least number is answered, by the table. Whether there was one.
-    fn answer_due(&mut self) -> Result<bool, Stop>
-        ensures advances { IfOk result (λ answered. answered ≡ true → Advances self.old.ledger self.new.ledger) }
-        ensures none { IfOk result (λ answered. answered ≡ false → (self.new.ledger ≡ self.old.ledger) × NoneIsDue self.old.ledger) }
-        ensures fewer { IfOk result (λ answered. answered ≡ false → deque_len self.new.ready.handles ≤ deque_len self.old.ready.handles) }
-        ensures stops { IfErr result (λ stop. Stops P.listing self.new.ledger stop) }
-    {
-        let Some((call, answer)) = self.ledger.due() else {
-            return Ok(false);
-        };
-        self.answer_pending(call, answer)?;
-        Ok(true)
-    }
-
-    // A call is answered, and the turn of the token on its answer comes.
-    fn answer_pending(&mut self, call: Call, answer: Answer) -> Result<(), Stop>
-        ensures advances { IfOk result (λ _. Advances self.old.ledger self.new.ledger) }
-        ensures stops { IfErr result (λ stop. Pends self.old.ledger call.number call → IsDueNow P.listing P.sites self.old.ledger call.number answer → Stops P.listing self.new.ledger stop) }
-    {
-        if let Some(slot) = self.answer(call, answer)? {
-            self.join_held(slot)?;
-        }
-        Ok(())
-    }
-
-    /// No token can move and no call is due: a tick to the time at which the next one is. False where another entry comes next. It stops where
-    /// nothing can come next.
-    pub(crate) fn pass_time(&mut self, graph: &Graph) -> Result<bool, Stop>
-        requires graph { graph.now ≡ P.listing }
-        ensures advances { IfOk result (λ passed. passed ≡ true → Advances self.old.ledger self.new.ledger) }
-        ensures work { IfOk result (λ passed. passed ≡ false → (self.new.ledger ≡ self.old.ledger) × IsAtWork P.listing self.old.ledger) }
-        ensures stops { IfErr result (λ stop. Stops P.listing self.new.ledger stop) }
-    {
-        let next = self.ledger.next(graph);
-        self.ledger.is_whole();
-        match next {
-            Next::Ticks(time) => match self.ledger.tick(time) {
-                Ok(()) => Ok(true),
-                Err(fault) => Err(Stop::Refused(fault)),
-            },
-            Next::Quiet => Err(Stop::Rests),
-            Next::Work if self.ledger.has_halted() => Err(Stop::Rests),
-            Next::Work => Ok(false),
-        }
-    }
-
     /// Whether it is between two rounds of turns: calls that are due have their turn then.
     pub(crate) fn is_between(&self) -> bool {
         self.ready.is_between()
@@ -762,40 +645,6 @@ impl<P: Naming> Desk<P> {
     /// The time of the run.
     pub(crate) fn time(&self) -> u64 {
         self.ledger.time()
-    }
-
-    /// The least number over this one whose call is due.
-    pub(crate) fn due_beyond(&mut self, number: u64) -> Option<u64> {
-        self.ledger.due_beyond(number)
-    }
-
-    /// What the call with this number asks, if it pends.
-    pub(crate) fn request(&self, number: u64) -> Option<Request> {
-        let asked = self.ledger.request(number)?;
-        if asked.nth < 1 {
-            return None;
-        }
-        Some(Request {
-            number,
-            site: asked.site,
-            args: asked.args.copied(),
-            nth: asked.nth,
-            made_at: asked.made_at,
-        })
-    }
-
-    /// When the call with this number is due, by the table, if it pends.
-    pub(crate) fn due_of(&self, number: u64) -> Option<Due> {
-        let call = self.ledger.pending(number)?;
-        Some(due_after(call.made_at, call.found))
-    }
-
-    /// The call with this number was answered so, if it still pends.
-    pub(crate) fn answered(&mut self, number: u64, answer: Answer) -> Result<(), Stop> {
-        match self.ledger.pending(number) {
-            Some(call) => self.answer_pending(call, answer),
-            None => Ok(()),
-        }
     }
 
     fn note_cancelled(&mut self) -> Result<(), Stop>

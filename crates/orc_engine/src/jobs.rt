@@ -118,6 +118,7 @@ fn run_apart<Q: Naming, P: Naming>(
         return Came::Nothing;
     };
     let mut desk = Desk::new(alloc, ledger, keeps, false);
+    desk.is_part = true;
     if !task.is_outermost {
         desk.holding.begin();
     }
@@ -128,7 +129,7 @@ fn run_apart<Q: Naming, P: Naming>(
     let mut ledger = desk.into_ledger();
     if !keeps {
         // What is taken in is then what it publishes, and no entry.
-        ledger.forget(answers);
+        ledger.forget(answers, true);
     }
     match ledger.into_part::<P>(graph, answers, task, last) {
         Some(part) => Came::Over(part),

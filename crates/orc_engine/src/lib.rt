@@ -16,6 +16,7 @@ mod poller;
 mod pool;
 mod quiet;
 mod ready;
+mod resting;
 mod sharing;
 mod sizes;
 mod telling;

@@ -300,13 +300,13 @@ impl<P: Program> Ledger<P> {
     }
 
     /// The entries of the journal that are there are held no more, if there is memory for what is still to be known of them: what they publish. What they
-    /// took is for those that come. All that clauses say of the journal stays.
-    pub fn forget(&mut self, answers: &Answers)
+    /// took is for those that come. All that clauses say of the journal stays. Only of a part's run is known further on whether it can be taken in.
+    pub fn forget(&mut self, answers: &Answers, is_part: bool)
         requires keeps { P.keeps ≡ false }
         requires answers { answers.now.sites ≡ P.sites }
         ensures { self.new ≡ self.old }
     {
-        self.journal.forget(answers);
+        self.journal.forget(answers, is_part);
     }
 
     /// Whether one more entry, so many more tokens and groups, and a token with so many left sides of a `>x>` round it, are within the limits.

@@ -52,7 +52,7 @@ fn run_apart<Q: Naming, P: Naming>(
             }
         }
         if !keeps {
-            ledger.forget(answers);
+            ledger.forget(answers, true);
         }
     }
     ledger.into_part::<P>(graph, answers, task, last)

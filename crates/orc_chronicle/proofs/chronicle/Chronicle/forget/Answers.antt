@@ -2,9 +2,8 @@ use Rattle.std.proofs.Common.{◌≡◌, ◌+◌, ◌++◌, length, length-appen
 use Rattle.orc_rules.specs.Trace.{published}
 use Rattle.orc_graft.specs.Moved.{AreLocal}
 use Rattle.orc_journal.proofs.Shown.{published-more}
-use Rattle.orc_chronicle.proofs.Chronicles.{local-more}
 use Rattle.orc_chronicle.proofs.chronicle.Chronicle.forget.Goals as goal
-use Rattle.orc_chronicle.proofs.chronicle.Chronicle.forget.Goals.{then-self, else-self}
+use Rattle.orc_chronicle.proofs.chronicle.Chronicle.forget.Goals.{then-is_part, else-is_part}
 
 pub invariant_of-self-2 : goal.invariant_of-self-2
 invariant_of-self-2 g c =
@@ -16,9 +15,9 @@ invariant_of-self-2 g c =
       count = ap length is ∙ length-append b.past.items b.held.entries ∙ ap (λ n. n + length b.held.entries) old.count ∙ ap (λ n. b.forgotten + n) (sym c.len-len.ensures);
       publishes = ap published is ∙ published-more b.past.items b.held.entries ∙ ap (λ vs. vs ++ published b.held.entries) old.publishes
           ∙ ap (λ vs. b.published.items ++ vs) (sym (c.deref.ensures.value ∙ c.in-Ok.ensures)) ∙ sym c.in-Ok-extend_from_slice.ensures.items;
-      local = elim c.if-self.branch [
-        | then-self w ↦ λ yes. subst (AreLocal sites) (sym is) (local-more sites b.past.items b.held.entries (old.local w.if-self.true) (subst (λ z. AreLocal z b.held.entries) c.requires.answers (w.are_local-self-inside.ensures (sym w.self-is ∙ yes))))
-        | else-self w ↦ λ yes. absurd (cc (sym yes ∙ w.self-is))
+      local = elim c.if-is_part.branch [
+        | then-is_part w ↦ λ yes. subst (AreLocal sites) (sym (is ∙ ap (λ j. j.entries) c.self.view_is)) (w.are_local-is_local.ensures (sym w.is_local-is ∙ yes))
+        | else-is_part w ↦ λ yes. absurd (cc (sym yes ∙ w.is_local-is))
       ];
       whole = λ kept. absurd (cc (sym kept ∙ c.requires.keeps));
       few = omega (arith, c.if-len-self.false, old.few);
