@@ -14,7 +14,7 @@ ghost use Rattle.orc_nodes.specs.declared.arena.Kind.TheVariants.{Leaf as AtLeaf
 
 use crate::marked::Marked;
 use crate::pruning::{reserve_scope, scope_count};
-use orc_names::{Bound, Scope};
+use orc_names::{Bound, Scope, StoredScope};
 use orc_nodes::arena::{Double, Kind, Node, Single, Tip};
 use orc_nodes::flags::{push_flag, settle};
 use orc_nodes::nodes::Nodes;
@@ -87,9 +87,9 @@ impl Marked {
         let scope = Scope {
             name: x,
             bound: Bound::Is(v),
-            outer: outer as usize,
+            outer,
         };
-        push_within(&mut self.scopes, scope);
+        push_within(&mut self.scopes, StoredScope::new(scope));
         let both = self.nodes.next_number();
         graft(
             &mut self.nodes,

@@ -18,7 +18,7 @@ use crate::due::Due;
 use crate::halts::Halts;
 use crate::lookup::{node_by, tip_with};
 use crate::rest::Rest;
-use orc_names::{Bound, Scope, meaning};
+use orc_names::{Bound, StoredScope, meaning};
 use orc_nodes::arena::{Kind, Node, Single, Tip};
 use orc_nodes::candidates::Candidates;
 use orc_nodes::nodes::Nodes;
@@ -34,7 +34,7 @@ use std::marker::Model;
 /// A marked term, with what its journal has used up so far.
 pub struct Marked {
     pub(crate) nodes: Nodes,
-    pub(crate) scopes: Vec<Scope>,
+    pub(crate) scopes: Vec<StoredScope>,
     pub(crate) cells: Vec<Bound>,
     pub(crate) marks: Vec<u32>,
     pub(crate) halts: Halts,
@@ -120,7 +120,12 @@ pub(crate) fn expect_after(a: u64, b: u64) -> Result<(), RuleFault>
 }
 
 /// The value that an operand is in a scope.
-fn value_of(scopes: &[Scope], cells: &[Bound], operand: Operand, scope: usize) -> Option<Value>
+fn value_of(
+    scopes: &[StoredScope],
+    cells: &[Bound],
+    operand: Operand,
+    scope: usize,
+) -> Option<Value>
     ensures value { IfSome result (λ v. Means cells.now scopes.now scope operand (IsValue v)) }
     ensures other { (v : TheValue) → (result ≡ Some v → ⊥) → Means cells.now scopes.now scope operand (IsValue v) → AreOrdered scopes.now → ⊥ }
 {

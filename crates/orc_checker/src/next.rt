@@ -15,7 +15,7 @@ ghost use Rattle.orc_checker.specs.Stillness.{params_in};
 use crate::marked::Marked;
 use crate::routines::definition;
 use crate::void::has_void;
-use orc_names::{Bound, Scope, meaning};
+use orc_names::{Bound, StoredScope, meaning};
 use orc_nodes::arena::Tip;
 use orc_nodes::walk::{Taker, way_up};
 use orc_rules::param::Operand;
@@ -45,7 +45,7 @@ pub enum Next {
 
 // Adds the values of operands, which are `MOST_ARGUMENTS` at most; false where one of them is none.
 fn push_values(
-    scopes: &[Scope],
+    scopes: &[StoredScope],
     cells: &[Bound],
     operands: &[Operand],
     scope: usize,
@@ -70,7 +70,7 @@ fn push_values(
 
 // What a token can do on a call of a site.
 fn call_from(
-    scopes: &[Scope],
+    scopes: &[StoredScope],
     cells: &[Bound],
     site: u32,
     operands: &[Operand],
@@ -93,7 +93,7 @@ fn call_from(
 // What a token can do on a node of the program that is no value.
 fn move_from(
     program: &Program,
-    scopes: &[Scope],
+    scopes: &[StoredScope],
     cells: &[Bound],
     node: usize,
     scope: usize,

@@ -15,7 +15,7 @@ ghost use Rattle.orc_rules.specs.declared.entry.RuleFault.TheVariants as reason;
 
 use crate::lookup::{node_by, pruning_with};
 use crate::marked::{Marked, Spot, expect_after, token_node};
-use orc_names::{Bound, Scope};
+use orc_names::{Bound, Scope, StoredScope};
 use orc_nodes::arena::{Double, Kind, Node, Single};
 use orc_nodes::flags::{both, flag_at, push_flag, settle};
 use orc_nodes::room::{fits, push_within, reserve_numbered};
@@ -36,7 +36,7 @@ pub(crate) struct Pruning {
 }
 
 /// Memory for one more scope, which nodes can name.
-pub(crate) fn reserve_scope(scopes: &mut Vec<Scope>) -> Result<(), AllocError>
+pub(crate) fn reserve_scope(scopes: &mut Vec<StoredScope>) -> Result<(), AllocError>
     ensures items { scopes.new.items ≡ scopes.old.items }
     ensures room { IfOk result (λ _. vec_len scopes.new < vec_capacity scopes.new) }
     ensures number { IfOk result (λ _. vec_len scopes.new + 1 < 2 ^ 32) }
@@ -47,7 +47,7 @@ pub(crate) fn reserve_scope(scopes: &mut Vec<Scope>) -> Result<(), AllocError>
 
 /// Memory for one more scope and one more cell with its pruning.
 fn reserve_cell(
-    scopes: &mut Vec<Scope>,
+    scopes: &mut Vec<StoredScope>,
     cells: &mut Vec<Bound>,
     prunings: &mut Vec<u32>,
 ) -> Result<(), AllocError>
@@ -64,7 +64,7 @@ fn reserve_cell(
 }
 
 /// How many scopes there are.
-pub(crate) fn scope_count(scopes: &Vec<Scope>) -> u32
+pub(crate) fn scope_count(scopes: &Vec<StoredScope>) -> u32
     requires { vec_len scopes.now < 2 ^ 32 }
     ensures { result ≡ length scopes.now.items }
 {
@@ -122,11 +122,11 @@ impl Marked {
         let n = self.nodes.next_number();
         push_within(
             &mut self.scopes,
-            Scope {
+            StoredScope::new(Scope {
                 name: x,
                 bound: Bound::Cell(c),
-                outer: spot.scope as usize,
-            },
+                outer: spot.scope,
+            }),
         );
         let inner = Spot {
             scope: scope_count(&self.scopes),

@@ -13,7 +13,7 @@ ghost use Rattle.orc_rules.specs.declared.entry.Entry.TheVariants as entry;
 ghost use Rattle.orc_rules.specs.declared.entry.RuleFault.TheVariants as reason;
 
 use crate::marked::Marked;
-use orc_names::{Bound, Scope, meaning};
+use orc_names::{Bound, Scope, StoredScope, meaning, outer_number};
 use orc_nodes::arena::{Kind, Node, Tip};
 use orc_nodes::flags::settle;
 use orc_nodes::room::{fits, push_within};
@@ -34,15 +34,17 @@ pub(crate) fn definition(program: &Program, number: u32) -> Option<&Definition>
 }
 
 /// One scope more, or refused memory.
-fn push_scope(scopes: &mut Vec<Scope>, scope: Scope) -> Result<(), RuleFault>
+fn push_scope(scopes: &mut Vec<StoredScope>, scope: Scope) -> Result<(), RuleFault>
     ensures items { OnOk result (scopes.new.items ≡ scopes.old.items ++ scope ∷ []) }
     ensures why { IfErr result (λ r. r ≡ reason.Memory) }
 {
-    scopes.push(scope).map_err(|_| RuleFault::Memory)
+    scopes
+        .push(StoredScope::new(scope))
+        .map_err(|_| RuleFault::Memory)
 }
 
 /// More scopes, or refused memory, which leaves those that are there.
-fn extend_scopes(scopes: &mut Vec<Scope>, added: &Vec<Scope>) -> Result<(), RuleFault>
+fn extend_scopes(scopes: &mut Vec<StoredScope>, added: &Vec<StoredScope>) -> Result<(), RuleFault>
     ensures items { OnOk result (scopes.new.items ≡ scopes.old.items ++ added.now.items) }
     ensures refused { OnErr result (scopes.new.items ≡ scopes.old.items) }
     ensures why { IfErr result (λ r. r ≡ reason.Memory) }
@@ -52,16 +54,24 @@ fn extend_scopes(scopes: &mut Vec<Scope>, added: &Vec<Scope>) -> Result<(), Rule
         .map_err(|_| RuleFault::Memory)
 }
 
+/// A scope's number as the next one keeps it, or refused memory.
+fn number_of(scope: usize) -> Result<u32, RuleFault>
+    ensures number { IfOk result (λ outer. outer ≡ scope) }
+    ensures why { IfErr result (λ r. r ≡ reason.Memory) }
+{
+    outer_number(scope).map_err(|_| RuleFault::Memory)
+}
+
 /// The scopes of a definition's parameters, the last parameter first, each the outer of the next, and the number of the last.
 /// The errors: Form where the arguments are not as many, or one of them isn't bound, and refused memory.
 fn parameter_scopes(
     alloc: Global,
-    scopes: &[Scope],
+    scopes: &[StoredScope],
     cells: &[Bound],
     params: &[u32],
     operands: &[Operand],
     scope: usize,
-) -> Result<(Vec<Scope>, usize), RuleFault>
+) -> Result<(Vec<StoredScope>, u32), RuleFault>
     ensures added { IfOk result (λ r. Adds cells.now scopes.now scope params.now operands.now r.0.items r.1) }
     ensures refused { IfErr result (LacksArguments cells.now scopes.now scope params.now operands.now) }
 {
@@ -82,7 +92,7 @@ fn parameter_scopes(
             outer,
         };
         push_scope(&mut added, inner)?;
-        outer = scopes.len() + added.len();
+        outer = number_of(scopes.len() + added.len())?;
     }
     Ok((added, outer))
 }
@@ -112,13 +122,12 @@ impl Marked {
             spot.scope as usize,
         )?;
         fits(called.body).map_err(|_| RuleFault::Memory)?;
-        fits(scope).map_err(|_| RuleFault::Memory)?;
         self.marks.try_reserve(1).map_err(|_| RuleFault::Memory)?;
         extend_scopes(&mut self.scopes, &added)?;
         self.nodes.write_node(
             spot.at as usize,
             Node {
-                kind: Kind::Leaf(Tip::Token(a, called.body as u32, scope as u32)),
+                kind: Kind::Leaf(Tip::Token(a, called.body as u32, scope)),
                 parent: spot.parent,
             },
         );

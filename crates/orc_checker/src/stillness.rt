@@ -12,7 +12,7 @@ ghost use Rattle.orc_checker.specs.Stillness.{params_in, term_moves, token_moves
 use crate::halts::Halts;
 use crate::routines::definition;
 use crate::void::has_void;
-use orc_names::{Bound, Scope, meaning};
+use orc_names::{Bound, StoredScope, meaning};
 use orc_nodes::arena::{Kind, Tip};
 use orc_nodes::flags::{flag_at, write_flag};
 use orc_nodes::nodes::Nodes;
@@ -21,7 +21,7 @@ use orc_rules::param::Operand;
 use orc_rules::program::{Program, TermNode};
 
 /// Whether a token on an operand can move in a scope: it is a value, or void.
-fn is_ready(scopes: &[Scope], cells: &[Bound], operand: Operand, scope: usize) -> bool
+fn is_ready(scopes: &[StoredScope], cells: &[Bound], operand: Operand, scope: usize) -> bool
     ensures { AreOrdered scopes.now → result ≡ is_ready (close_param (env_of cells.now scopes.now scope) (param_of operand)) }
 {
     match meaning(scopes, cells, operand, scope) {
@@ -32,7 +32,7 @@ fn is_ready(scopes: &[Scope], cells: &[Bound], operand: Operand, scope: usize) -
 }
 
 /// Whether all operands are values in a scope.
-fn are_values(scopes: &[Scope], cells: &[Bound], operands: &[Operand], scope: usize) -> bool
+fn are_values(scopes: &[StoredScope], cells: &[Bound], operands: &[Operand], scope: usize) -> bool
     ensures { AreOrdered scopes.now → result ≡ is_some (values_of (params_in cells.now scopes.now scope operands.now)) }
 {
     match operands {
@@ -45,7 +45,7 @@ fn are_values(scopes: &[Scope], cells: &[Bound], operands: &[Operand], scope: us
 }
 
 /// Whether a token on a call of a site can move in a scope: all operands are values, or one is void.
-fn is_callable(scopes: &[Scope], cells: &[Bound], operands: &[Operand], scope: usize) -> bool
+fn is_callable(scopes: &[StoredScope], cells: &[Bound], operands: &[Operand], scope: usize) -> bool
     ensures { AreOrdered scopes.now → result ≡ (is_some (values_of (params_in cells.now scopes.now scope operands.now)) || has_void (params_in cells.now scopes.now scope operands.now)) }
 {
     are_values(scopes, cells, operands, scope) || has_void(scopes, cells, operands, scope)
@@ -55,7 +55,7 @@ fn is_callable(scopes: &[Scope], cells: &[Bound], operands: &[Operand], scope: u
 fn wakes(
     program: &Program,
     halts: &Vec<bool>,
-    scopes: &[Scope],
+    scopes: &[StoredScope],
     cells: &[Bound],
     active: &mut Vec<bool>,
     node: usize,
@@ -94,7 +94,7 @@ fn wakes(
 fn can_term_move(
     program: &Program,
     halts: &Vec<bool>,
-    scopes: &[Scope],
+    scopes: &[StoredScope],
     cells: &[Bound],
     active: &mut Vec<bool>,
     node: usize,
@@ -136,7 +136,7 @@ fn can_term_move(
 fn can_token_move(
     program: &Program,
     halts: &mut Halts,
-    scopes: &[Scope],
+    scopes: &[StoredScope],
     cells: &[Bound],
     kind: Kind,
 ) -> bool
@@ -162,7 +162,7 @@ fn can_token_move(
 pub(crate) fn can_some_move(
     program: &Program,
     halts: &mut Halts,
-    scopes: &[Scope],
+    scopes: &[StoredScope],
     cells: &[Bound],
     nodes: &Nodes,
 ) -> bool

@@ -14,7 +14,7 @@ ghost use Rattle.orc_checker.specs.Stillness.{params_in};
 ghost use Rattle.orc_rules.specs.declared.entry.Entry.TheVariants as entry;
 
 use crate::marked::{Marked, Spot};
-use orc_names::{Bound, Scope, meaning};
+use orc_names::{Bound, StoredScope, meaning};
 use orc_nodes::arena::{Kind, Node, Tip};
 use orc_nodes::flags::settle;
 use orc_rules::entry::RuleFault;
@@ -22,7 +22,7 @@ use orc_rules::param::Operand;
 use orc_rules::program::{Program, TermNode};
 
 /// Whether an operand is void in a scope.
-fn is_void(scopes: &[Scope], cells: &[Bound], operand: Operand, scope: usize) -> bool
+fn is_void(scopes: &[StoredScope], cells: &[Bound], operand: Operand, scope: usize) -> bool
     ensures void { result ≡ true → AreOrdered scopes.now → IsVoid (param (close_param (env_of cells.now scopes.now scope) (param_of operand))) }
     ensures other { result ≡ false → AreOrdered scopes.now → IsVoid (param (close_param (env_of cells.now scopes.now scope) (param_of operand))) → ⊥ }
 {
@@ -34,7 +34,7 @@ fn is_void(scopes: &[Scope], cells: &[Bound], operand: Operand, scope: usize) ->
 
 /// Whether one of the operands is void in a scope.
 pub(crate) fn has_void(
-    scopes: &[Scope],
+    scopes: &[StoredScope],
     cells: &[Bound],
     operands: &[Operand],
     scope: usize,

@@ -22,7 +22,7 @@ use orc_ledger::{
     Called, HaltFault, Halted, Ledger, LedgerFault, Passed, Program as Naming, Standing, Token,
     What, calls_fit,
 };
-use orc_names::Scope;
+use orc_names::StoredScope;
 use orc_rules::answers::Answers;
 use orc_rules::limits::MOST_GROUPS;
 use orc_rules::value::Args;
@@ -99,7 +99,7 @@ pub(crate) struct Desk<P: Naming> {
     // The calls that were cancelled, where others are told of them.
     gone: Vec<u64>,
     // Lent to the ledger's calls.
-    scopes: Vec<Scope>,
+    scopes: Vec<StoredScope>,
     cancelled: Vec<u64>,
     cells: Vec<u64>,
     args: Args,

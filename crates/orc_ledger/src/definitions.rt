@@ -12,14 +12,14 @@ ghost use Rattle.orc_tables.specs.declared.records.Token.{Token as Its};
 use crate::ledger::{Ledger, write};
 use orc_chronicle::Program;
 use orc_graph::Graph;
-use orc_names::Scope;
+use orc_names::StoredScope;
 use orc_paths::parameter_scopes;
 use orc_records::LedgerFault;
 use orc_rules::entry::Entry;
 use orc_tables::{Standing, Token};
 
 // Makes room for so many more scopes.
-fn reserve_scopes(scopes: &mut Vec<Scope>, count: usize) -> Result<(), LedgerFault>
+fn reserve_scopes(scopes: &mut Vec<StoredScope>, count: usize) -> Result<(), LedgerFault>
     ensures items { scopes.new.items ≡ scopes.old.items }
     ensures room { OnOk result (vec_len scopes.new + count ≤ vec_capacity scopes.new) }
     ensures why { IfErr result (λ fault. fault ≡ LedgerFault.Memory) }
@@ -31,7 +31,7 @@ fn reserve_scopes(scopes: &mut Vec<Scope>, count: usize) -> Result<(), LedgerFau
 }
 
 // Adds scopes where there is room.
-fn extend_within(scopes: &mut Vec<Scope>, more: &[Scope])
+fn extend_within(scopes: &mut Vec<StoredScope>, more: &[StoredScope])
     requires { vec_len scopes.old + length more.now ≤ vec_capacity scopes.old }
     ensures { scopes.new.items ≡ scopes.old.items ++ more.now }
 {
@@ -51,7 +51,7 @@ impl<P: Program> Ledger<P> {
         scope: usize,
         definition: u32,
         list: u32,
-        added: &mut Vec<Scope>,
+        added: &mut Vec<StoredScope>,
     ) -> Result<bool, LedgerFault>
         requires graph { graph.now ≡ P.listing }
         requires held { IsHeld self.old.slots slot token }

@@ -16,7 +16,7 @@ ghost use Rattle.orc_tables.specs.declared.records.Token.{Token as Its};
 use orc_calls::Counts;
 use orc_chronicle::{Chronicle, Program};
 use orc_journal::Journal;
-use orc_names::{Bound, Scope};
+use orc_names::{Bound, StoredScope};
 use orc_records::LedgerFault;
 use orc_rules::answers::Answers;
 use orc_rules::entry::Entry;
@@ -36,7 +36,7 @@ pub struct Ledger<P: Program> {
     pub(crate) tokens: Tokens,
     pub(crate) calls: Pending,
     pub(crate) counts: Counts,
-    pub(crate) scopes: Vec<Scope>,
+    pub(crate) scopes: Vec<StoredScope>,
     pub(crate) steps: Steps,
     pub(crate) groups: Groups,
     pub(crate) cells: Vec<Bound>,

@@ -13,7 +13,7 @@ ghost use Rattle.orc_tables.specs.declared.records.Standing.TheVariants.{At};
 
 use crate::ledger::{Ledger, write};
 use orc_chronicle::Program;
-use orc_names::{Bound, Scope};
+use orc_names::{Bound, Scope, StoredScope, outer_number};
 use orc_records::LedgerFault;
 use orc_rules::entry::Entry;
 use orc_rules::limits::MOST_FRAMES;
@@ -223,6 +223,7 @@ impl<P: Program> Ledger<P> {
         ensures why { IfErr result (λ fault. IsRefused self.old 1 1 0 fault) }
     {
         self.within(1, 1, 0)?;
+        let outer = outer_number(scope)?;
         self.tokens.reserve()?;
         reserve(&mut self.scopes)?;
         self.steps.reserve()?;
@@ -246,11 +247,11 @@ impl<P: Program> Ledger<P> {
         self.groups.join(number);
         push_within(
             &mut self.scopes,
-            Scope {
+            StoredScope::new(Scope {
                 name,
                 bound: Bound::Cell(cell),
-                outer: scope,
-            },
+                outer,
+            }),
         );
         self.steps.push(Step {
             entered: Entered::Aid(cell),

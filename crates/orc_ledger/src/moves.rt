@@ -22,7 +22,7 @@ ghost use Rattle.orc_records.specs.Moves.{StandsAt, IsThere, Moves, IsHindered};
 use crate::ledger::Ledger;
 use orc_chronicle::Program;
 use orc_graph::{Graph, Node};
-use orc_names::{Bound, Scope, meaning};
+use orc_names::{Bound, StoredScope, meaning};
 use orc_paths::{Taker, What, are_values, call_with, find_taker, take_values};
 use orc_records::{LedgerFault, Moved};
 use orc_rules::param::Operand;
@@ -190,7 +190,7 @@ impl<P: Program> Ledger<P> {
         scope: usize,
         definition: u32,
         list: u32,
-        added: &mut Vec<Scope>,
+        added: &mut Vec<StoredScope>,
     ) -> Result<Moved, LedgerFault>
         requires graph { graph.now ≡ P.listing }
         requires held { IsHeld self.old.slots slot token }
@@ -359,7 +359,7 @@ impl<P: Program> Ledger<P> {
         token: Token,
         scope: usize,
         node: Node,
-        added: &mut Vec<Scope>,
+        added: &mut Vec<StoredScope>,
         cancelled: &mut Vec<u64>,
     ) -> Result<Moved, LedgerFault>
         requires graph { graph.now ≡ P.listing }
@@ -394,7 +394,7 @@ impl<P: Program> Ledger<P> {
         graph: &Graph,
         slot: usize,
         token: Token,
-        added: &mut Vec<Scope>,
+        added: &mut Vec<StoredScope>,
         cancelled: &mut Vec<u64>,
     ) -> Result<Moved, LedgerFault>
         requires graph { graph.now ≡ P.listing }

@@ -16,7 +16,7 @@ ghost use Rattle.orc_tables.specs.declared.records.Standing.TheVariants.{At};
 
 use crate::ledger::{Ledger, write};
 use orc_chronicle::Program;
-use orc_names::{Bound, Scope};
+use orc_names::{Bound, Scope, StoredScope, outer_number};
 use orc_paths::leave_others;
 use orc_records::LedgerFault;
 use orc_rules::entry::Entry;
@@ -65,6 +65,7 @@ impl<P: Program> Ledger<P> {
         ensures why { IfErr result (λ fault. IsRefused self.old 0 0 0 fault) }
     {
         self.within(0, 0, 0)?;
+        let extended = outer_number(scope)?;
         reserve(&mut self.scopes)?;
         let left = self.steps.group_at(token.step);
         let joined = self.steps.group_at(outer);
@@ -78,11 +79,11 @@ impl<P: Program> Ledger<P> {
         let inner = self.scopes.len() + 1;
         push_within(
             &mut self.scopes,
-            Scope {
+            StoredScope::new(Scope {
                 name,
                 bound: Bound::Is(value),
-                outer: scope,
-            },
+                outer: extended,
+            }),
         );
         self.tokens.replace(
             slot,

@@ -2,5 +2,7 @@
 #![tactic(auto)]
 
 mod names;
+mod stored;
 
 pub use names::{Bound, Scope, are_arguments, meaning};
+pub use stored::{StoredScope, outer_number};

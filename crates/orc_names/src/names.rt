@@ -5,6 +5,7 @@ ghost use Rattle.orc_rules.specs.declared.param.Operand.TheVariants.{Name};
 ghost use Rattle.orc_names.specs.Scopes.{current};
 ghost use Rattle.orc_names.specs.Names.{Means, IsFree, AreArguments, AreOthers};
 
+use crate::stored::StoredScope;
 use orc_rules::param::Operand;
 use orc_rules::value::Value;
 
@@ -21,7 +22,7 @@ pub enum Bound {
 pub struct Scope {
     pub name: u32,
     pub bound: Bound,
-    pub outer: usize,
+    pub outer: u32,
 }
 
 // What a cell has become, an unbound one itself.
@@ -37,18 +38,18 @@ fn current(cells: &[Bound], bound: Bound) -> Bound
     }
 }
 
-fn scope_at(scopes: &[Scope], i: usize) -> Option<Scope>
-    ensures there { IfSome result (λ s. slice_get scopes.now i ≡ Some s) }
+fn scope_at(scopes: &[StoredScope], i: usize) -> Option<&StoredScope>
+    ensures there { IfSome result (λ s. slice_get scopes.now i ≡ Some s.now) }
     ensures none { IfNone result (slice_get scopes.now i ≡ None) }
 {
     match scopes.get(i) {
-        Some(scope) => Some(*scope),
+        Some(scope) => Some(scope),
         None => None,
     }
 }
 
 // What is put for a name in a scope.
-fn bound_of(scopes: &[Scope], cells: &[Bound], name: u32, scope: usize) -> Option<Bound>
+fn bound_of(scopes: &[StoredScope], cells: &[Bound], name: u32, scope: usize) -> Option<Bound>
     ensures bound { IfSome result (λ b. Means cells.now scopes.now scope (Name name) b) }
     ensures free { IfNone result (IsFree cells.now scopes.now scope (Name name)) }
 {
@@ -61,17 +62,22 @@ fn bound_of(scopes: &[Scope], cells: &[Bound], name: u32, scope: usize) -> Optio
             Some(inner) => inner,
             None => return None,
         };
-        if inner.name == name {
-            return Some(current(cells, inner.bound));
+        if inner.name() == name {
+            return Some(current(cells, inner.bound()));
         }
-        at = inner.outer;
+        at = inner.outer() as usize;
     }
     None
 }
 
 /// What stands for an operand in a scope: a value, a cell that isn't bound, or void. None for a name that isn't bound there. It looks at no
 /// more scopes than the name lies inside of.
-pub fn meaning(scopes: &[Scope], cells: &[Bound], operand: Operand, scope: usize) -> Option<Bound>
+pub fn meaning(
+    scopes: &[StoredScope],
+    cells: &[Bound],
+    operand: Operand,
+    scope: usize,
+) -> Option<Bound>
     ensures bound { IfSome result (λ b. Means cells.now scopes.now scope operand b) }
     ensures free { IfNone result (IsFree cells.now scopes.now scope operand) }
 {
@@ -83,7 +89,7 @@ pub fn meaning(scopes: &[Scope], cells: &[Bound], operand: Operand, scope: usize
 
 /// Whether the operands are these values in a scope, as many and in this order.
 pub fn are_arguments(
-    scopes: &[Scope],
+    scopes: &[StoredScope],
     cells: &[Bound],
     operands: &[Operand],
     args: &[Value],

@@ -8,13 +8,13 @@ ghost use Rattle.orc_names.specs.Names.{AreOrdered};
 ghost use Rattle.orc_names.specs.Scopes.{env_of};
 ghost use Rattle.orc_paths.specs.Doing.{closed};
 
-use orc_names::{Bound, Scope, meaning};
+use orc_names::{Bound, StoredScope, meaning};
 use orc_rules::param::Operand;
 use orc_rules::value::Args;
 
 /// Puts the values of operands into `args`, if each of them has one. Whether each has one.
 pub fn take_values(
-    scopes: &[Scope],
+    scopes: &[StoredScope],
     cells: &[Bound],
     operands: &[Operand],
     scope: usize,

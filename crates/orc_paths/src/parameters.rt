@@ -4,7 +4,7 @@ ghost use Rattle.std.specs.Prelude.{◌+◌, IfOk, IfSome, IfNone};
 ghost use Rattle.orc_names.specs.Parameters.{Adds};
 ghost use Rattle.orc_paths.specs.Parameters.{Misfit};
 
-use orc_names::{Bound, Scope, meaning};
+use orc_names::{Bound, Scope, StoredScope, meaning, outer_number};
 use orc_rules::param::Operand;
 use orc_tables::{push_within, reserve};
 use std::alloc::AllocError;
@@ -12,12 +12,12 @@ use std::alloc::AllocError;
 /// The scopes of a definition's parameters, written over `added`: the last parameter first, each the outer of the next. Gives the number of the
 /// last scope; None where the operands are not as many, or one of them isn't bound.
 pub fn parameter_scopes(
-    scopes: &[Scope],
+    scopes: &[StoredScope],
     cells: &[Bound],
     params: &[u32],
     operands: &[Operand],
     scope: usize,
-    added: &mut Vec<Scope>,
+    added: &mut Vec<StoredScope>,
 ) -> Result<Option<usize>, AllocError>
     ensures adds { IfOk result (λ last. IfSome last (λ n. Adds cells.now scopes.now scope params.now operands.now added.new.items n)) }
     ensures misfit { IfOk result (λ last. IfNone last (Misfit cells.now scopes.now scope params.now operands.now)) }
@@ -36,13 +36,13 @@ pub fn parameter_scopes(
         reserve(added)?;
         push_within(
             added,
-            Scope {
+            StoredScope::new(Scope {
                 name: params[left],
                 bound,
                 outer,
-            },
+            }),
         );
-        outer = scopes.len() + added.len();
+        outer = outer_number(scopes.len() + added.len())?;
     }
-    Ok(Some(outer))
+    Ok(Some(outer as usize))
 }

@@ -12,7 +12,7 @@ ghost use Rattle.orc_paths.specs.Doing.{taken, of_param, what_by, scan, closed};
 
 use crate::taking::{Taker, find_taker};
 use orc_graph::{Graph, Node};
-use orc_names::{Bound, Scope, meaning};
+use orc_names::{Bound, StoredScope, meaning};
 use orc_rules::param::Operand;
 use orc_rules::value::Value;
 use orc_tables::Steps;
@@ -50,7 +50,12 @@ pub fn taken_from(steps: &Steps, from: usize, value: Value) -> What
 }
 
 /// Whether each operand of a call has a value.
-pub fn are_values(scopes: &[Scope], cells: &[Bound], operands: &[Operand], scope: usize) -> bool
+pub fn are_values(
+    scopes: &[StoredScope],
+    cells: &[Bound],
+    operands: &[Operand],
+    scope: usize,
+) -> bool
     requires { AreOrdered scopes.now }
     ensures { result ≡ true → scan false Nothing (closed (env_of cells.now scopes.now scope) operands.now) ≡ What.Call }
 {
@@ -67,7 +72,7 @@ pub fn are_values(scopes: &[Scope], cells: &[Bound], operands: &[Operand], scope
 
 /// What a call of a site does, with these operands still to look at: `waits` where one before them isn't a value, `first` the first cell before them.
 pub fn call_with(
-    scopes: &[Scope],
+    scopes: &[StoredScope],
     cells: &[Bound],
     operands: &[Operand],
     scope: usize,
@@ -98,7 +103,7 @@ pub fn call_with(
 
 // What a token does whose term is an operand.
 fn stand_on(
-    scopes: &[Scope],
+    scopes: &[StoredScope],
     cells: &[Bound],
     steps: &Steps,
     operand: Operand,
@@ -120,7 +125,7 @@ fn stand_on(
 /// What a token does at a node.
 pub fn stand_at(
     graph: &Graph,
-    scopes: &[Scope],
+    scopes: &[StoredScope],
     cells: &[Bound],
     steps: &Steps,
     node: u32,

@@ -2,7 +2,7 @@
 
 use crate::sign::Sign;
 use orc_checker::Marked;
-use orc_names::{Bound, Scope};
+use orc_names::{Bound, StoredScope};
 use orc_page::Page;
 use orc_rules::answers::Answers;
 use orc_scope::{Names as Variables, variables};
@@ -30,16 +30,20 @@ impl Drop for Names<'_, '_> {
 }
 
 // The variable of each cell below a number: the first scope that has the cell is the one in which its pruning was opened.
-fn cells_of(alloc: Global, scopes: &[Scope], next: u64) -> Result<Vec<Option<u32>>, AllocError> {
+fn cells_of(
+    alloc: Global,
+    scopes: &[StoredScope],
+    next: u64,
+) -> Result<Vec<Option<u32>>, AllocError> {
     let mut cells = Vec::new(alloc);
     for _cell in 0..next {
         cells.push(None)?;
     }
     for scope in scopes {
-        if let Bound::Cell(cell) = scope.bound {
+        if let Bound::Cell(cell) = scope.bound() {
             if let Some(name) = cells.get_mut(cell as usize) {
                 if name.is_none() {
-                    *name = Some(scope.name);
+                    *name = Some(scope.name());
                 }
             }
         }

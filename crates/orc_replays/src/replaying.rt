@@ -7,7 +7,7 @@ use orc_journal::{Journal, Version, write_journal};
 use orc_ledger::{
     HaltFault, Halted, Ledger, LedgerFault, Moved, Next, Program as Naming, ReturnFault, What,
 };
-use orc_names::Scope;
+use orc_names::StoredScope;
 use orc_rules::answers::Answers;
 use orc_rules::entry::{Entry, State};
 use orc_rules::limits::{MOST_ENTRIES, MOST_GROUPS};
@@ -66,7 +66,7 @@ pub struct Replay<P: Naming> {
     slots: Vec<usize>,
     groups: Vec<Open>,
     // Lent to the ledger's calls.
-    scopes: Vec<Scope>,
+    scopes: Vec<StoredScope>,
     cancelled: Vec<u64>,
     args: Args,
 }

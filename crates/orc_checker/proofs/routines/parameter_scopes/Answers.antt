@@ -30,9 +30,9 @@ loop-left-preserved c =
     let next : suc i ≡ c.loop-left.left = omega (arith, c.loop-left-test.true) in
     let within : i < length xs = omega (arith, next, c.loop-left.invariant.within) in
     let also : i < length ps = omega (arith, within, c.loop-left.invariant.same) in
-    let k = length ss + c.len.result in
+    let k = c.in_ok-outer.outer in
     let s : Scope = record { name = get_or xs i 0; bound = c.in-Some.bound; outer = c.loop-left.outer } in
-    let is_k : k ≡ length ss + (length more + 1) = omega (arith, c.len.ensures ∙ c.push_scope.new.scopes.ok.0, ap length c.in_ok-push_scope.ensures.items, length-append more (s ∷ [])) in
+    let is_k : k ≡ length ss + (length more + 1) = omega (arith, c.in_ok-outer.ensures.number, c.len.ensures ∙ c.push_scope.new.scopes.ok.0, ap length c.in_ok-push_scope.ensures.items, length-append more (s ∷ [])) in
     record {
       within = omega (arith, c.loop-left.invariant.within);
       same = c.loop-left.invariant.same;

@@ -32,9 +32,9 @@ loop-left-preserved c =
     let within : i < length xs = omega (arith, next, c.loop-left.invariant.within) in
     let also : i < length ps = omega (arith, within, c.loop-left.invariant.same) in
     let s : Scope = record { name = get_or xs i 0; bound = c.in-Some.bound; outer = c.loop-left.outer } in
-    let items : c.push_within.new.items.items ≡ more ++ s ∷ [] = c.push_within.ensures.items ∙ ap (λ (z : List Scope). z ++ s ∷ []) c.in_ok-reserve.ensures.items in
-    let k = length ss + c.len.result in
-    let is_k : k ≡ length ss + (length more + 1) = omega (arith, c.len.ensures ∙ c.push_within.new.items.ok.0, ap length items, length-append more (s ∷ [])) in
+    let items : c.push_within.new.items.items ≡ more ++ s ∷ [] = c.push_within.ensures.items ∙ ap (λ (z : Scope). c.reserve.new.items.items ++ z ∷ []) c.new.ensures ∙ ap (λ (z : List Scope). z ++ s ∷ []) c.in_ok-reserve.ensures.items in
+    let k = c.in_ok-outer.outer in
+    let is_k : k ≡ length ss + (length more + 1) = omega (arith, c.in_ok-outer.ensures.number, c.len.ensures ∙ c.push_within.new.items.ok.0, ap length items, length-append more (s ∷ [])) in
     record {
       within = omega (arith, c.loop-left.invariant.within);
       same = c.loop-left.invariant.same;

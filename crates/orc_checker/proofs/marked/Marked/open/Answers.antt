@@ -3,6 +3,7 @@ use Rattle.std.specs.Prelude.{◌&&◌}
 use Rattle.std.proofs.lemmas.Bool.{ne_eqb}
 use Rattle.orc_rules.specs.Nodes.{code, unfold_node}
 use Rattle.orc_names.specs.declared.names.Bound.TheVariants.{Cell}
+use Rattle.orc_names.specs.declared.names.Scope.{Scope}
 use Rattle.orc_nodes.specs.declared.arena.Tip.TheVariants.{Token}
 use Rattle.orc_nodes.specs.declared.arena.Kind.TheVariants.{Leaf}
 use Rattle.orc_checker.specs.Checker.{State}
@@ -33,7 +34,7 @@ returns-clause-done c =
     let next = c.in_ok-expect_mark.ensures.next in
     let b_is : c.args.b ≡ suc c.args.a = c.in_ok-expect_after.ensures.next in
     let s = c.args.self.now in
-    let scopes = c.push_within.ensures.items ∙ ap (λ z. z ++ record { name = k.x; bound = Cell c.args.c; outer = t.scope } ∷ []) (c.reserve_cell.ensures.scopes ∙ ap State.scopes v) in
+    let scopes = c.push_within.ensures.items ∙ ap (λ (z : Scope). c.reserve_cell.new.scopes.items ++ z ∷ []) c.new.ensures ∙ ap (λ z. z ++ record { name = k.x; bound = Cell c.args.c; outer = t.scope } ∷ []) (c.reserve_cell.ensures.scopes ∙ ap State.scopes v) in
     let inner : c.scope_count.result ≡ suc (length s.scopes) = omega (arith, c.scope_count.ensures, ap length scopes, length-append s.scopes (record { name = k.x; bound = Cell c.args.c; outer = t.scope } ∷ [])) in
     let left = halt_flag s.halts k.f in
     let right = halt_flag s.halts k.g in

@@ -40,7 +40,7 @@ returns-clause-done c =
     let s = c.args.self.now in
     let f = c.in-Feeds in
     let scope : Scope = record { name = f.x; bound = Is c.args.v; outer = f.outer } in
-    let scopes = c.push_within.ensures.items ∙ ap (λ z. z ++ scope ∷ []) (c.reserve_scope.ensures.items ∙ ap State.scopes v) in
+    let scopes = c.push_within.ensures.items ∙ ap (λ (z : Scope). c.reserve_scope.new.scopes.items ++ z ∷ []) c.new.ensures ∙ ap (λ z. z ++ scope ∷ []) (c.reserve_scope.ensures.items ∙ ap State.scopes v) in
     let count : c.scope_count.result ≡ length s.scopes + 1 = c.scope_count.ensures ∙ ap length scopes ∙ length-append s.scopes (scope ∷ []) in
     let flags : c.push_flag-2.new.flags.items ≡ (s.flags ++ false ∷ []) ++ halt_flag s.halts f.g ∷ [] =
     c.push_flag-2.ensures.items ∙ (λ j. (c.push_flag.ensures.items ∙ (λ j. (c.reserve.ensures.flags ∙ ap State.flags v) j ++ false ∷ [])) j ++ (c.at-halted.ensures ∙ ap (λ (z : State). halt_flag z.halts f.g) v) j ∷ []) in

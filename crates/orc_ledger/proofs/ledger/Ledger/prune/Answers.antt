@@ -57,7 +57,7 @@ invariant_of-self-2 g c =
     let count : c.len-step.result + 1 ≡ length s.steps + 1 = omega (arith, c.len-step.ensures.count, ap length c.in_ok-reserve-3.ensures.items) in
     let entry : s'.journal ≡ s.journal ++ Open a.token.serial (length s.cells) b.next_mark (b.next_mark + 1) ∷ [] = journal ∙ ap (λ (n : ℕ). s.journal ++ Open a.token.serial n b.next_mark (b.next_mark + 1) ∷ []) cell in
     let name : Scope = record { name = a.name; bound = Cell (length s.cells); outer = a.scope } in
-    let scopes : c.push_within.new.items.items ≡ s.scopes ++ name ∷ [] = c.push_within.ensures.items ∙ ap (λ (z : List Scope). z ++ record { name = a.name; bound = Cell c.len-cell.result; outer = a.scope } ∷ []) c.in_ok-reserve-2.ensures.items ∙ ap (λ (n : ℕ). s.scopes ++ record { name = a.name; bound = Cell n; outer = a.scope } ∷ []) cell in
+    let scopes : c.push_within.new.items.items ≡ s.scopes ++ name ∷ [] = c.push_within.ensures.items ∙ ap (λ (z : Scope). c.reserve-2.new.items.items ++ z ∷ []) (c.new.ensures ∙ ap (λ (n : ℕ). record { name = a.name; bound = Cell c.len-cell.result; outer = n }) c.in_ok-outer.ensures.number) ∙ ap (λ (z : List Scope). z ++ record { name = a.name; bound = Cell c.len-cell.result; outer = a.scope } ∷ []) c.in_ok-reserve-2.ensures.items ∙ ap (λ (n : ℕ). s.scopes ++ record { name = a.name; bound = Cell n; outer = a.scope } ∷ []) cell in
     let step : Step = record { entered = Aid (length s.cells); outer = a.token.step; group = number; depth = 0; published = false } in
     let steps : c.push.new.self.items ≡ s.steps ++ step ∷ [] = c.push.ensures.items ∙ ap (λ (z : List Step). z ++ record { entered = Aid c.len-cell.result; outer = a.token.step; group = number; depth = 0; published = false } ∷ []) c.in_ok-reserve-3.ensures.items ∙ ap (λ (n : ℕ). s.steps ++ record { entered = Aid n; outer = a.token.step; group = number; depth = 0; published = false } ∷ []) cell in
     let group : Group = record { side = Right (length s.cells); outer = a.token.step; number = number } in
@@ -106,7 +106,7 @@ returns-clause-done g c =
     let count : c.len-step.result + 1 ≡ length s.steps + 1 = omega (arith, c.len-step.ensures.count, ap length c.in_ok-reserve-3.ensures.items) in
     let entry : s'.journal ≡ s.journal ++ Open a.token.serial (length s.cells) b.next_mark (b.next_mark + 1) ∷ [] = journal ∙ ap (λ (n : ℕ). s.journal ++ Open a.token.serial n b.next_mark (b.next_mark + 1) ∷ []) cell in
     let name : Scope = record { name = a.name; bound = Cell (length s.cells); outer = a.scope } in
-    let scopes : c.push_within.new.items.items ≡ s.scopes ++ name ∷ [] = c.push_within.ensures.items ∙ ap (λ (z : List Scope). z ++ record { name = a.name; bound = Cell c.len-cell.result; outer = a.scope } ∷ []) c.in_ok-reserve-2.ensures.items ∙ ap (λ (n : ℕ). s.scopes ++ record { name = a.name; bound = Cell n; outer = a.scope } ∷ []) cell in
+    let scopes : c.push_within.new.items.items ≡ s.scopes ++ name ∷ [] = c.push_within.ensures.items ∙ ap (λ (z : Scope). c.reserve-2.new.items.items ++ z ∷ []) (c.new.ensures ∙ ap (λ (n : ℕ). record { name = a.name; bound = Cell c.len-cell.result; outer = n }) c.in_ok-outer.ensures.number) ∙ ap (λ (z : List Scope). z ++ record { name = a.name; bound = Cell c.len-cell.result; outer = a.scope } ∷ []) c.in_ok-reserve-2.ensures.items ∙ ap (λ (n : ℕ). s.scopes ++ record { name = a.name; bound = Cell n; outer = a.scope } ∷ []) cell in
     let step : Step = record { entered = Aid (length s.cells); outer = a.token.step; group = number; depth = 0; published = false } in
     let steps : c.push.new.self.items ≡ s.steps ++ step ∷ [] = c.push.ensures.items ∙ ap (λ (z : List Step). z ++ record { entered = Aid c.len-cell.result; outer = a.token.step; group = number; depth = 0; published = false } ∷ []) c.in_ok-reserve-3.ensures.items ∙ ap (λ (n : ℕ). s.steps ++ record { entered = Aid n; outer = a.token.step; group = number; depth = 0; published = false } ∷ []) cell in
     let group : Group = record { side = Right (length s.cells); outer = a.token.step; number = number } in

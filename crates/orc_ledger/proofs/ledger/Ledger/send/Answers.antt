@@ -67,7 +67,7 @@ invariant_of-self-2 g c =
     let fits : (a.scope ≤ length s.scopes) × (a.outer ≤ length s.steps) = rw (← c.self.view_is) at c.requires.fits in
     let way : reach s.steps c.requires.way.0 a.token.step ≡ a.outer = rw (← c.self.view_is) at c.requires.way.1 in
     let name : Scope = record { name = a.name; bound = Is a.value; outer = a.scope } in
-    let scopes : c.push_within.new.items.items ≡ s.scopes ++ name ∷ [] = c.push_within.ensures.items ∙ ap (λ (z : List Scope). z ++ name ∷ []) c.in_ok-reserve.ensures.items in
+    let scopes : c.push_within.new.items.items ≡ s.scopes ++ name ∷ [] = c.push_within.ensures.items ∙ ap (λ (z : Scope). c.reserve.new.items.items ++ z ∷ []) (c.new.ensures ∙ ap (λ (n : ℕ). record { name = a.name; bound = Is a.value; outer = n }) c.in_ok-extended.ensures.number) ∙ ap (λ (z : List Scope). z ++ name ∷ []) c.in_ok-reserve.ensures.items in
     let count : c.len-inner.result + 1 ≡ length s.scopes + 1 = omega (arith, c.len-inner.ensures, ap length c.in_ok-reserve.ensures.items) in
     let first : Token = record { serial = s.next_mark; standing = At a.right (length s.scopes + 1); step = a.outer } in
     let slots : c.replace.new.self.items ≡ slice_set s.slots a.slot first = c.replace.ensures.items ∙ ap (λ (n : ℕ). slice_set s.slots a.slot (record { serial = s.next_mark; standing = At a.right n; step = a.outer })) count in
@@ -110,7 +110,7 @@ returns-clause-done g c =
     let fits : (a.scope ≤ length s.scopes) × (a.outer ≤ length s.steps) = rw (← c.self.view_is) at c.requires.fits in
     let way : reach s.steps c.requires.way.0 a.token.step ≡ a.outer = rw (← c.self.view_is) at c.requires.way.1 in
     let name : Scope = record { name = a.name; bound = Is a.value; outer = a.scope } in
-    let scopes : c.push_within.new.items.items ≡ s.scopes ++ name ∷ [] = c.push_within.ensures.items ∙ ap (λ (z : List Scope). z ++ name ∷ []) c.in_ok-reserve.ensures.items in
+    let scopes : c.push_within.new.items.items ≡ s.scopes ++ name ∷ [] = c.push_within.ensures.items ∙ ap (λ (z : Scope). c.reserve.new.items.items ++ z ∷ []) (c.new.ensures ∙ ap (λ (n : ℕ). record { name = a.name; bound = Is a.value; outer = n }) c.in_ok-extended.ensures.number) ∙ ap (λ (z : List Scope). z ++ name ∷ []) c.in_ok-reserve.ensures.items in
     let count : c.len-inner.result + 1 ≡ length s.scopes + 1 = omega (arith, c.len-inner.ensures, ap length c.in_ok-reserve.ensures.items) in
     let first : Token = record { serial = s.next_mark; standing = At a.right (length s.scopes + 1); step = a.outer } in
     let slots : c.replace.new.self.items ≡ slice_set s.slots a.slot first = c.replace.ensures.items ∙ ap (λ (n : ℕ). slice_set s.slots a.slot (record { serial = s.next_mark; standing = At a.right n; step = a.outer })) count in
