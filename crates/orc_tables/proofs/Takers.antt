@@ -1,6 +1,6 @@
 -- What takes a publication from each step, and which otherwises have their marks, as steps are added and left.
-use Rattle.std.proofs.Common.{◌≡◌, ◌≤◌, ◌<◌, ◌-◌, ℕ, zero, suc, List, [], ◌∷◌, ◌++◌, refl, sym, ap, ◌∙◌, subst, arith, length, get_or, Bool, true, false, cond, Option, Some, None, inl, inr, ◌⊎◌, ⊎_elim}
-use Rattle.std.specs.Prelude.{slice_get, slice_set}
+use Rattle.std.proofs.Common.{◌≡◌, ◌≤◌, ◌<◌, ◌+◌, ◌-◌, ℕ, zero, suc, List, [], ◌∷◌, ◌++◌, refl, sym, ap, ◌∙◌, subst, arith, length, get_or, Bool, true, false, cond, Option, Some, None, inl, inr, ◌⊎◌, ⊎_elim}
+use Rattle.std.specs.Prelude.{slice_get, slice_set, option_to_list, MatchOption}
 use Rattle.std.proofs.lemmas.List.{length-set}
 use Rattle.std.proofs.Math.Decide.{ℕ_discrete}
 use Rattle.orc_tables.specs.declared.records.Step.{Step}
@@ -111,6 +111,37 @@ module _ (ss : List Step) (takers : List ℕ) (L : AreLinked ss takers) (x : Ste
       go k (no off) lt =
           let le : k < length ss = omega (arith, off, lt) in
           more-got takers t k (taker_at ss (suc k)) (L.noted k le) ∙ ap Some (sym (taker-more ss x L.outwards (suc k) (suc k) (omega (arith, le))))
+
+-- ---- the last step goes
+module _ (ss : List Step) (takers : List ℕ) (x : Step) (t : ℕ) (L : AreLinked (ss ++ x ∷ []) (takers ++ t ∷ [])) where
+  outwards-dropped : AreOutwards ss
+  outwards-dropped k p h = L.outwards k p (more-got ss x k p h)
+
+  marks-dropped : AreMarked ss
+  marks-dropped k p h tries has q g = L.marks k p (more-got ss x k p h) tries has q (at-more ss x p.outer (omega (arith, outwards-dropped k p h, got-within ss k p h)) ∙ g)
+
+  count-dropped : length takers ≡ length ss
+  count-dropped = omega (arith, L.count, length-more takers t, length-more ss x)
+
+  pub linked-dropped : AreLinked ss takers
+  linked-dropped = record {
+    outwards = outwards-dropped;
+    count = count-dropped;
+    noted = λ k lt.
+        let here = there takers k t (omega (arith, lt, count-dropped)) in
+        here
+        ∙ sym (more-got takers t k (get_or takers k t) here)
+        ∙ L.noted k (omega (arith, lt, length-more ss x))
+        ∙ ap Some (taker-more ss x outwards-dropped (suc k) (suc k) (omega (arith, lt)));
+    marks = marks-dropped;
+  }
+
+-- as two lists are popped
+pub linked-popped : (ss ss' : List Step) (takers takers' : List ℕ) (last : Option Step) (taker : Option ℕ) (n n' m m' : ℕ) → AreLinked ss takers → ss ≡ ss' ++ option_to_list last → takers ≡ takers' ++ option_to_list taker
+    → MatchOption last ((n ≡ 0) × (n' ≡ 0)) (λ p. n' + 1 ≡ n) → 1 ≤ n → MatchOption taker ((m ≡ 0) × (m' ≡ 0)) (λ t. m' + 1 ≡ m) → 1 ≤ m → AreLinked ss' takers'
+linked-popped ss ss' takers takers' None taker n n' m m' L e f a some b many = absurd (omega (arith, a, some))
+linked-popped ss ss' takers takers' (Some p) None n n' m m' L e f a some b many = absurd (omega (arith, b, many))
+linked-popped ss ss' takers takers' (Some p) (Some t) n n' m m' L e f a some b many = linked-dropped ss' takers' p t (subst (AreLinked (ss' ++ p ∷ [])) f (subst (λ z. AreLinked z takers) e L))
 
 -- ---- otherwises are left
 -- so it is with all but the one outside of which a publication is about to go

@@ -4,6 +4,7 @@
 ghost use Rattle.std.specs.Prelude.{◌≡◌, ◌≤◌, ◌<◌, ◌^◌, ◌++◌, ◌∷◌, [], false, length, OnOk};
 ghost use Rattle.orc_tables.specs.Steps.{step_at, group_at, depth_at, taker_at, left_from, is_try as tries, HasRoom};
 ghost use Rattle.orc_tables.specs.Inside.{aids, stands_inside, side_inside};
+ghost use Rattle.orc_tables.specs.declared.records.Step.{Step as Its};
 
 use crate::memory::{push_within, reserve};
 use crate::records::{Entered, Side, Step};
@@ -143,6 +144,17 @@ impl Steps {
         };
         push_within(&mut self.takers, taker);
         push_within(&mut self.items, step);
+    }
+
+    /// The last step goes, and leaves room for another one.
+    #[inline(always)]
+    pub fn drop_last(&mut self)
+        requires { 1 ≤ length self.old.items }
+        ensures items { (last : Its) × (self.old.items ≡ self.new.items ++ last ∷ []) }
+        ensures room { HasRoom self.new }
+    {
+        let _taker = self.takers.pop();
+        let _step = self.items.pop();
     }
 
     /// A publication goes outwards from a step to what takes it: the otherwises on its way get their marks. It passes no otherwise that has its
