@@ -1,5 +1,5 @@
 -- Each move of a token brings a run further, but where the token calls a site or waits.
-use Rattle.std.proofs.Common.{◌≡◌, ◌≤◌, ℕ, List, [], refl, ap, subst, ◌∙◌, arith, Bool, true, false}
+use Rattle.std.proofs.Common.{◌≡◌, ◌≤◌, ℕ, List, [], refl, sym, ap, subst, ◌∙◌, arith, Bool, true, false}
 use Rattle.orc_rules.specs.declared.entry.Entry.{Entry}
 use Rattle.orc_rules.specs.Nodes.{Listing, code, definitions, source}
 use Rattle.orc_rules.specs.Program.{IsProgram}
@@ -22,7 +22,8 @@ use Rattle.orc_records.specs.AtOnce.{IsCalled}
 use Rattle.orc_records.specs.Calls.{Turns, Crosses, Drops, Exchanges, Resumes, Closes, group_goes}
 use Rattle.orc_records.specs.Doing.{what_of}
 use Rattle.orc_records.specs.Moves.{Does, Moves, CallsFit}
-use Rattle.orc_records.specs.Passing.{Enters}
+use Rattle.orc_records.specs.Passing.{Enters, Clears}
+use Rattle.orc_records.specs.Vacant.{Sheds}
 use Rattle.orc_records.specs.declared.results.Called.{Called}
 use Rattle.orc_records.specs.declared.results.Called.TheVariants as called
 use Rattle.orc_records.specs.declared.results.Moved.TheVariants as moved
@@ -199,11 +200,18 @@ pends-further l sites s slot t k s' (s1, u, enters, held, h) = further-still s s
 pub answered-further : (l : Listing) (sites : List Site) (s : Records) (slot : ℕ) (t : Token) (s' : Records) → Enters l sites s slot t passed.Answered s' → Advances s s'
 answered-further l sites s slot t s' (s1, u, enters, held, (v, h)) = further-still s s1 s' (turned _ _ _ _ _ _ _ _ _ enters.done (omega arith)) (called-further l sites s1 slot u (called.Answered v) s' h)
 
-pub halted-further : (l : Listing) (sites : List Site) (s : Records) (slot : ℕ) (t : Token) (g : ℕ) (s' : Records) → Enters l sites s slot t (passed.Halted g) s' → Advances s s'
-halted-further l sites s slot t g s' (s1, u, enters, held, h) = further-still s s1 s' (turned _ _ _ _ _ _ _ _ _ enters.done (omega arith)) (called-further l sites s1 slot u (called.Halted g) s' h)
+-- a step that goes changes nothing of that
+shed : (s s' s'' : Records) → Advances s s' → Sheds s' s'' → Advances s s''
+shed s s' s'' a gone = record { limit = sym (ap (λ (z : Records). z.limit) gone.rest) ∙ a.limit; far = omega (arith, a.far, ap (λ (z : Records). z.entries) gone.rest, ap open_groups gone.rest) }
+
+pub halted-further : (l : Listing) (sites : List Site) (s : Records) (slot : ℕ) (t : Token) (g : ℕ) (s' : Records) → Clears l sites s slot t (passed.Halted g) s' → Advances s s'
+halted-further l sites s slot t g s' (s2, (s1, u, enters, held, h), gone) =
+    shed s s2 s' (further-still s s1 s2 (turned _ _ _ _ _ _ _ _ _ enters.done (omega arith)) (called-further l sites s1 slot u (called.Halted g) s2 h)) gone
 
 -- and whose answer was taken
-pub through-further : (l : Listing) (sites : List Site) (s : Records) (slot : ℕ) (t : Token) (s' : Records) → Enters l sites s slot t passed.Through s' → Advances s s'
-through-further l sites s slot t s' (s1, u, enters, held, (s2, w, v, g, h, stands, on, moves)) =
-    further-still s s1 s' (turned _ _ _ _ _ _ _ _ _ enters.done (omega arith))
-    (further-still s1 s2 s' (called-further l sites s1 slot u (called.Answered v) s2 h) (sent-further l s2 slot w s' [] g moves))
+pub through-further : (l : Listing) (sites : List Site) (s : Records) (slot : ℕ) (t : Token) (s' : Records) → Clears l sites s slot t passed.Through s' → Advances s s'
+through-further l sites s slot t s' (s3, (s1, u, enters, held, (s2, w, v, g, h, stands, on, moves)), gone) =
+    shed s s3 s'
+    (further-still s s1 s3 (turned _ _ _ _ _ _ _ _ _ enters.done (omega arith))
+    (further-still s1 s2 s3 (called-further l sites s1 slot u (called.Answered v) s2 h) (sent-further l s2 slot w s3 [] g moves)))
+    gone

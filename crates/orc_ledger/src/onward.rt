@@ -5,6 +5,7 @@ ghost use Rattle.orc_rules.specs.Nodes.{code, param_of};
 ghost use Rattle.orc_rules.specs.Term.{seq, site as calls};
 ghost use Rattle.orc_records.specs.Moves.{StandsAt, Moves, IsHindered};
 ghost use Rattle.orc_records.specs.Passing.{GoesOn, Passes};
+ghost use Rattle.orc_records.specs.Vacant.{IsVacant, Sheds};
 ghost use Rattle.orc_records.specs.declared.results.Moved.TheVariants.{Sent};
 ghost use Rattle.orc_tables.specs.Tokens.{IsHeld};
 ghost use Rattle.orc_tables.specs.declared.records.Standing.TheVariants.{On};
@@ -82,9 +83,18 @@ impl<P: Program> Ledger<P> {
         Passed::On
     }
 
+    // The last step goes, at which nobody stands.
+    #[inline(always)]
+    fn shed(&mut self)
+        requires { IsVacant self.old }
+        ensures { Sheds self.old self.new }
+    {
+        self.steps.drop_last();
+    }
+
     /// `f >x> g`: a token on the left side, in the same slot, as `feed` puts it there. Where it stands at a call of a site with values then, the call is
     /// made, as `call_through` makes it; and where that is answered at once the `>x>` takes the answer. What is refused after the first entry is left for
-    /// the next time. `args` is lent for the arguments.
+    /// the next time. Where it comes through, or halts, the step on which it entered goes again. `args` is lent for the arguments.
     pub fn feed_through(
         &mut self,
         graph: &Graph,
@@ -115,6 +125,16 @@ impl<P: Program> Ledger<P> {
             standing: Standing::At(left, scope),
             step: self.steps.len(),
         };
-        Ok(self.call_on(graph, answers, slot, first, scope, site, list, args))
+        match self.call_on(graph, answers, slot, first, scope, site, list, args) {
+            Passed::Through => {
+                self.shed();
+                Ok(Passed::Through)
+            }
+            Passed::Halted(group) => {
+                self.shed();
+                Ok(Passed::Halted(group))
+            }
+            inside => Ok(inside),
+        }
     }
 }

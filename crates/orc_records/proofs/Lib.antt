@@ -12,6 +12,7 @@ pub mod Brought
 pub mod Calling
 pub mod Causes
 pub mod Cells
+pub mod Cleared
 pub mod Closed
 pub mod Dropped
 pub mod Dropping
@@ -50,6 +51,7 @@ pub mod Telling
 pub mod Timely
 pub mod Turning
 pub mod Using
+pub mod Vacant
 pub mod Withheld
 pub mod Words
 pub mod Working

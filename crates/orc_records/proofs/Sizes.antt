@@ -40,6 +40,9 @@ module _ (s : Records) (S : Sound s) (ps : List Step) (i : ℕ) where
   groups_kept : groups_in (s.steps ++ ps) s.groups i ≡ groups_in s.steps s.groups i
   groups_kept = none-alike (group_out (length s.scopes) (length s.steps)) (λ (g : Group). is_this i (group_at (s.steps ++ ps) g.outer)) (λ (g : Group). is_this i (group_at s.steps g.outer)) s.groups S.groups (λ g h. ap (is_this i) (group-kept s.steps ps g.outer (ltb-false (length s.steps) g.outer (or_false (side_out (length s.scopes) g.side) (nat_lt (length s.steps) g.outer) h).1)))
 
+  pub members-kept : members (numbers_of (record s { steps = s.steps ++ ps })) (record s { steps = s.steps ++ ps }) i ≡ members (numbers_of s) s i
+  members-kept = omega (arith, tokens_kept, calls_kept, groups_kept)
+
 -- a token goes and others come, with groups
 pub turned-members : (s s' : Records) (S : Sound s) (t : Token) → IsIn t s.tokens → (births : List Token) (ss : List Scope) (ps : List Step) (gs : List Group) (cs : List Bound) (e : Entry) → Turns s s' t births ss ps gs cs e
     → (i : ℕ) → members (numbers_of s') s' i + is_this i (group_at s.steps t.step) ≡ members (numbers_of s) s i + tokens_in (s.steps ++ ps) births i + groups_in (s.steps ++ ps) gs i

@@ -19,4 +19,5 @@ pub mod Records
 pub mod Requests
 pub mod Spoken
 pub mod Told
+pub mod Vacant
 pub mod Whole

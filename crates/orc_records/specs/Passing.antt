@@ -6,6 +6,7 @@ use Rattle.orc_rules.specs.Sites.{Site}
 use Rattle.orc_records.specs.Records.{Records}
 use Rattle.orc_records.specs.AtOnce.{IsCalled}
 use Rattle.orc_records.specs.Moves.{Moves, Feeds}
+use Rattle.orc_records.specs.Vacant.{Sheds}
 use Rattle.orc_tables.specs.Tokens.{IsHeld}
 use Rattle.orc_tables.specs.declared.records.Standing.TheVariants.{On}
 use Rattle.orc_tables.specs.declared.records.Token.{Token}
@@ -38,7 +39,11 @@ GoesOn l sites s slot t _ s' = ⊥
 abbrev pub Enters : Listing → List Site → Records → ℕ → Token → Passed → Records → Type 0
 Enters l sites s slot t p s' = (s1 : Records) × (u : Token) × Feeds l s slot t s1 × IsHeld s1.slots slot u × GoesOn l sites s1 slot u p s'
 
--- token t, in this slot, makes a move; or it enters the left side of a `>x>`, and goes on there
+-- token t, in this slot, does so and is out of that left side: the step at which it stood there goes
+abbrev pub Clears : Listing → List Site → Records → ℕ → Token → Passed → Records → Type 0
+Clears l sites s slot t p s' = (s2 : Records) × Enters l sites s slot t p s2 × Sheds s2 s'
+
+-- token t, in this slot, makes a move; or it enters the left side of a `>x>`, and goes on there, or through it
 abbrev pub Passes : Listing → List Site → Records → ℕ → Token → Passed → List ℕ → Records → Type 0
 Passes l sites s slot t passed.On ks s' = Moves l s slot t moved.On ks s'
 Passes l sites s slot t (passed.Forked k) ks s' = Moves l s slot t (moved.Forked k) ks s'
@@ -49,5 +54,5 @@ Passes l sites s slot t passed.Calls ks s' = Moves l s slot t moved.Calls ks s'
 Passes l sites s slot t passed.Waits ks s' = Moves l s slot t moved.Waits ks s'
 Passes l sites s slot t (passed.Pends k) ks s' = Enters l sites s slot t (passed.Pends k) s'
 Passes l sites s slot t passed.Answered ks s' = Enters l sites s slot t passed.Answered s'
-Passes l sites s slot t (passed.Halted g) ks s' = Enters l sites s slot t (passed.Halted g) s'
-Passes l sites s slot t passed.Through ks s' = Enters l sites s slot t passed.Through s'
+Passes l sites s slot t (passed.Halted g) ks s' = Clears l sites s slot t (passed.Halted g) s'
+Passes l sites s slot t passed.Through ks s' = Clears l sites s slot t passed.Through s'
