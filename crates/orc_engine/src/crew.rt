@@ -39,6 +39,9 @@ const MORE: usize = 1_000;
 /// So many calls show what the others' runs are like.
 const SAMPLES: usize = 16;
 
+/// So many of them show first whether one wins, where they race each other: what the losers do is in vain.
+const RACERS: usize = 4;
+
 /// The most entries of a sample's run. The tables of a run of so many entries fit a processor's own cache.
 const SHORT: usize = 20_000;
 
@@ -76,13 +79,15 @@ struct Plan {
     mean: usize,
 }
 
-// What came of some calls' runs: how many there were, how many are over, how many were too long, and the entries of those that are over.
+// What came of some calls' runs: how many there were, how many are over, how many were too long, the entries of those that are over, and whether one has
+// won a race.
 #[derive(Clone, Copy)]
 struct Tally {
     count: usize,
     over: usize,
     long: usize,
     entries: usize,
+    is_won: bool,
 }
 
 impl Tally {
@@ -297,36 +302,76 @@ where
         if desk.ready() < wanted {
             return Ok(Trial::Few);
         }
-        Ok(self.run_side_by_side(desk, mean))
+        self.run_side_by_side(desk, mean)
     }
 
     // Runs the calls at which tokens stand side by side, and takes in what came of them. Where it isn't known how many entries their runs have on average, a few
-    // show it first, and whether the others are worth it.
-    fn run_side_by_side(&self, desk: &mut Desk<P>, mean: usize) -> Trial
-        ensures spread { HasSpread desk.old.ledger (deque_len desk.old.ready.handles) desk.new.ledger (deque_len desk.new.ready.handles) }
+    // show it first, and whether the others are worth it. Calls that race each other are looked at where there are too few others, and a few of them always
+    // have to show it.
+    fn run_side_by_side(&self, desk: &mut Desk<P>, mean: usize) -> Result<Trial, Stop>
+        ensures spread { IfOk result (λ _. HasSpread desk.old.ledger (deque_len desk.old.ready.handles) desk.new.ledger (deque_len desk.new.ready.handles)) }
+        ensures stops { IfErr result (λ stop. Stops P.listing desk.new.ledger stop) }
+    {
+        let Ok(mut jobs) = desk.jobs(self.graph, false) else {
+            return Ok(Trial::Vain);
+        };
+        if jobs.len() >= SAMPLES {
+            return self.run_jobs(desk, mean, SAMPLES, &mut jobs);
+        }
+        let Ok(mut jobs) = desk.jobs(self.graph, true) else {
+            return Ok(Trial::Vain);
+        };
+        if jobs.len() >= SAMPLES {
+            return self.run_jobs(desk, 0, RACERS, &mut jobs);
+        }
+        Ok(Trial::Vain)
+    }
+
+    // Does the jobs, and takes in what came of them. If it isn't known how many entries they have on average, samples show it, of which so many are done first.
+    fn run_jobs(
+        &self,
+        desk: &mut Desk<P>,
+        mean: usize,
+        first: usize,
+        jobs: &mut [Job<P>],
+    ) -> Result<Trial, Stop>
+        ensures spread { IfOk result (λ _. HasSpread desk.old.ledger (deque_len desk.old.ready.handles) desk.new.ledger (deque_len desk.new.ready.handles)) }
+        ensures stops { IfErr result (λ stop. Stops P.listing desk.new.ledger stop) }
     {
         let room = desk.room();
-        let Ok(mut jobs) = desk.jobs(self.graph) else {
-            return Trial::Vain;
-        };
-        if room == 0 || jobs.len() < SAMPLES {
-            return Trial::Vain;
+        if room == 0 {
+            return Ok(Trial::Vain);
         }
         if mean > 0 {
-            return self.run_batches(desk, mean, 0, &mut jobs);
+            return self.run_batches(desk, mean, 0, jobs);
         }
-        let samples = &mut jobs[..SAMPLES];
-        self.run_all(SHORT.min(room), samples);
-        match self.trial_of(tally_of(samples)) {
-            Trial::Good(mean) => self.run_batches(desk, mean, SAMPLES, &mut jobs),
-            trial => trial,
+        match self.trial_of(self.run_samples(SHORT.min(room), first, jobs)) {
+            Trial::Good(mean) => self.run_batches(desk, mean, SAMPLES, jobs),
+            trial => Ok(trial),
         }
+    }
+
+    // Does the samples of the jobs: first so many, and the others if none of these has won a race. Tells what came of those that were done.
+    fn run_samples(&self, limit: usize, first: usize, jobs: &mut [Job<P>]) -> Tally
+        requires limit { (1 ≤ limit) × (limit ≤ MOST_ENTRIES) }
+    {
+        let (samples, _) = jobs.split_at_mut(SAMPLES.min(jobs.len()));
+        let (early, late) = samples.split_at_mut(first.min(samples.len()));
+        self.run_all(limit, early);
+        let tally = tally_of(early);
+        if tally.is_won || late.is_empty() {
+            return tally;
+        }
+        self.run_all(limit, late);
+        tally_of(samples)
     }
 
     // What calls came to of which this came.
     fn trial_of(&self, tally: Tally) -> Trial {
         let mean = tally.mean();
-        if tally.long > tally.over {
+        if tally.is_won {
+            Trial::Vain
+        } else if tally.long > tally.over {
             Trial::Long
         } else if tally.over < tally.count / 2 || mean < WORTH.max(self.graph.len()) {
             // A run begins with a copy of the program's graph.
@@ -337,15 +382,16 @@ where
     }
 
     // Does the jobs behind the first `done` ones in batches, and takes in what came of those before a batch while it is done: as long as most of a batch comes
-    // to something, and the limit has room for the next. Tells what the last batch came to.
+    // to something, none has won a race, and the limit has room for the next. Tells what the last batch came to.
     fn run_batches(
         &self,
         desk: &mut Desk<P>,
         mean: usize,
         done: usize,
         jobs: &mut [Job<P>],
-    ) -> Trial
-        ensures spread { HasSpread desk.old.ledger (deque_len desk.old.ready.handles) desk.new.ledger (deque_len desk.new.ready.handles) }
+    ) -> Result<Trial, Stop>
+        ensures spread { IfOk result (λ _. HasSpread desk.old.ledger (deque_len desk.old.ready.handles) desk.new.ledger (deque_len desk.new.ready.handles)) }
+        ensures stops { IfErr result (λ stop. Stops P.listing desk.new.ledger stop) }
     {
         let mut mean = mean;
         let mut trial = Trial::Good(mean);
@@ -359,15 +405,19 @@ where
             }
             let limit = mean.saturating_mul(LONGER).clamp(1, LONGEST).min(room);
             let batch = &mut behind[..count];
-            self.run_beside(desk, limit, before, batch);
-            trial = self.trial_of(tally_of(batch));
+            self.run_beside(desk, limit, before, batch)?;
+            let tally = tally_of(batch);
+            if tally.is_won {
+                break;
+            }
+            trial = self.trial_of(tally);
             let Trial::Good(next) = trial else {
                 break;
             };
             mean = next;
         }
-        take_all(self.graph, desk, jobs);
-        trial
+        take_all(self.graph, desk, jobs)?;
+        Ok(trial)
     }
 
     // What came of the jobs before is taken in, while those of the batch are done on as many threads beside this one.
@@ -377,23 +427,25 @@ where
         limit: usize,
         before: &mut [Job<P>],
         batch: &mut [Job<P>],
-    )
+    ) -> Result<(), Stop>
         requires limit { (1 ≤ limit) × (limit ≤ MOST_ENTRIES) }
-        ensures spread { HasSpread desk.old.ledger (deque_len desk.old.ready.handles) desk.new.ledger (deque_len desk.new.ready.handles) }
+        ensures spread { IfOk result (λ _. HasSpread desk.old.ledger (deque_len desk.old.ready.handles) desk.new.ledger (deque_len desk.new.ready.handles)) }
+        ensures stops { IfErr result (λ stop. Stops P.listing desk.new.ledger stop) }
     {
         let graph = self.graph;
         if self.workers == 1 || before.len() <= SAMPLES {
-            take_all(graph, desk, before);
+            take_all(graph, desk, before)?;
             self.run_all(limit, batch);
-            return;
+            return Ok(());
         }
-        thread::join_mut(
+        let (_ran, taken) = thread::join_mut(
             self.rt,
             &mut ||
                 requires { (1 ≤ limit) × (limit ≤ MOST_ENTRIES) }
             { self.run_all(limit, batch) },
             &mut || take_all(graph, desk, before),
         );
+        taken
     }
 
     // Each job is done on one of the threads.
@@ -418,8 +470,10 @@ fn tally_of<P: Naming>(jobs: &[Job<P>]) -> Tally {
         over: 0,
         long: 0,
         entries: 0,
+        is_won: false,
     };
     for job in jobs {
+        tally.is_won = tally.is_won || job.has_won();
         match job.came() {
             Came::Over(part) => {
                 tally.over = tally.over.saturating_add(1);
@@ -433,23 +487,27 @@ fn tally_of<P: Naming>(jobs: &[Job<P>]) -> Tally {
 }
 
 // Takes in, one after another, what came of those jobs that still have it.
-fn take_all<P: Naming>(graph: &Graph, desk: &mut Desk<P>, jobs: &mut [Job<P>])
+fn take_all<P: Naming>(graph: &Graph, desk: &mut Desk<P>, jobs: &mut [Job<P>]) -> Result<(), Stop>
     requires graph { graph.now ≡ P.listing }
-    ensures spread { HasSpread desk.old.ledger (deque_len desk.old.ready.handles) desk.new.ledger (deque_len desk.new.ready.handles) }
+    ensures spread { IfOk result (λ _. HasSpread desk.old.ledger (deque_len desk.old.ready.handles) desk.new.ledger (deque_len desk.new.ready.handles)) }
+    ensures stops { IfErr result (λ stop. Stops P.listing desk.new.ledger stop) }
 {
     for job in jobs {
-        take_one(graph, desk, job);
+        take_one(graph, desk, job)?;
     }
+    Ok(())
 }
 
 // Takes in what came of a job, if the job still has it.
-fn take_one<P: Naming>(graph: &Graph, desk: &mut Desk<P>, job: &mut Job<P>)
+fn take_one<P: Naming>(graph: &Graph, desk: &mut Desk<P>, job: &mut Job<P>) -> Result<(), Stop>
     requires graph { graph.now ≡ P.listing }
-    ensures spread { HasSpread desk.old.ledger (deque_len desk.old.ready.handles) desk.new.ledger (deque_len desk.new.ready.handles) }
+    ensures spread { IfOk result (λ _. HasSpread desk.old.ledger (deque_len desk.old.ready.handles) desk.new.ledger (deque_len desk.new.ready.handles)) }
+    ensures stops { IfErr result (λ stop. Stops P.listing desk.new.ledger stop) }
 {
     let Came::Over(part) = job.take() else {
-        return;
+        return Ok(());
     };
     // What isn't taken in goes on in its place.
-    let _taken = desk.take_in(graph, job.handle(), &part);
+    let _taken = desk.take_in(graph, job.handle(), &part)?;
+    Ok(())
 }

@@ -30,15 +30,18 @@ pub(crate) enum Came<P: Naming> {
 pub(crate) struct Job<P: Naming> {
     handle: Handle,
     task: Task,
+    // Whether it races others.
+    races: bool,
     came: Came<P>,
 }
 
 impl<P: Naming> Job<P> {
     /// A job that nobody has done.
-    pub(crate) fn new(handle: Handle, task: Task) -> Job<P> {
+    pub(crate) fn new(handle: Handle, task: Task, races: bool) -> Job<P> {
         Job {
             handle,
             task,
+            races,
             came: Came::Nothing,
         }
     }
@@ -51,6 +54,16 @@ impl<P: Naming> Job<P> {
     /// What came of its run.
     pub(crate) fn came(&self) -> &Came<P> {
         &self.came
+    }
+
+    /// Whether it races others, and has come to something: they may be in vain then.
+    pub(crate) fn has_won(&self) -> bool {
+        self.races
+            && match &self.came {
+                Came::Over(part) => part.has_value(),
+                Came::Long => false,
+                Came::Nothing => true,
+            }
     }
 
     /// What came of its run, which the job has no more.

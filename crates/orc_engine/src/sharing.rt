@@ -103,9 +103,9 @@ impl<P: Naming> Desk<P> {
         }
     }
 
-    /// The calls of definitions with values at which tokens stand whose turn comes, `MOST_JOBS` of them at most, in a fixed order in which tokens that came
-    /// one after another stand apart. The error is refused memory.
-    pub(crate) fn jobs(&self, graph: &Graph) -> Result<Vec<Job<P>>, AllocError>
+    /// The calls of definitions with values at which tokens stand whose turn comes, of those that race each other or of the others, `MOST_JOBS` of them at
+    /// most, in a fixed order in which tokens that came one after another stand apart. The error is refused memory.
+    pub(crate) fn jobs(&self, graph: &Graph, races: bool) -> Result<Vec<Job<P>>, AllocError>
         requires graph { graph.now ≡ P.listing }
     {
         let mut jobs = Vec::new(self.alloc);
@@ -115,8 +115,8 @@ impl<P: Naming> Desk<P> {
                     return Ok(jobs);
                 }
                 if let Some(handle) = self.ready.get(at) {
-                    if let Some(task) = self.task_of(graph, handle) {
-                        jobs.push(Job::new(handle, task))?;
+                    if let Some(task) = self.task_of(graph, handle, races) {
+                        jobs.push(Job::new(handle, task, races))?;
                     }
                 }
             }
@@ -124,17 +124,14 @@ impl<P: Naming> Desk<P> {
         Ok(jobs)
     }
 
-    // The call at which a token stands, if it is there and is to be run apart: of those that race each other none is, since the loser is best not run at all.
-    fn task_of(&self, graph: &Graph, handle: Handle) -> Option<Task>
+    // The call at which a token stands, if it is there, and races others or doesn't as is asked for.
+    fn task_of(&self, graph: &Graph, handle: Handle, races: bool) -> Option<Task>
         requires graph { graph.now ≡ P.listing }
     {
         let token = self.token_of(handle)?;
         let task = self.ledger.task(graph, &token)?;
-        if task.is_outermost || self.is_alone(&token) {
-            Some(task)
-        } else {
-            None
-        }
+        let is_racing = !task.is_outermost && !self.is_alone(&token);
+        if is_racing == races { Some(task) } else { None }
     }
 
     // Whether nobody else is in the token's side, or it is in none.
@@ -143,25 +140,33 @@ impl<P: Naming> Desk<P> {
         group == 0 || self.ledger.member_count(group) == 1
     }
 
-    /// Takes in what came of the call at which a token stood, if it stands there still. If that is a value, the turn of the token on it comes. Whether it was
-    /// taken in.
-    pub(crate) fn take_in(&mut self, graph: &Graph, handle: Handle, part: &Part<P>) -> bool
+    /// Takes in what came of the call at which a token stood, if it stands there still. If that is a value, the turn of the token on it comes; if it is
+    /// nothing, and nobody else is in the token's side, that halts. Whether it was taken in.
+    pub(crate) fn take_in(
+        &mut self,
+        graph: &Graph,
+        handle: Handle,
+        part: &Part<P>,
+    ) -> Result<bool, Stop>
         requires graph { graph.now ≡ P.listing }
-        ensures taken { result ≡ true → Advances self.old.ledger self.new.ledger }
-        ensures refused { result ≡ false → (self.new.ledger ≡ self.old.ledger) × (self.new.ready ≡ self.old.ready) }
-        ensures spread { HasSpread self.old.ledger (deque_len self.old.ready.handles) self.new.ledger (deque_len self.new.ready.handles) }
+        ensures taken { IfOk result (λ taken. taken ≡ true → Advances self.old.ledger self.new.ledger) }
+        ensures refused { IfOk result (λ taken. taken ≡ false → (self.new.ledger ≡ self.old.ledger) × (self.new.ready ≡ self.old.ready)) }
+        ensures spread { IfOk result (λ _. HasSpread self.old.ledger (deque_len self.old.ready.handles) self.new.ledger (deque_len self.new.ready.handles)) }
+        ensures stops { IfErr result (λ stop. Stops P.listing self.new.ledger stop) }
     {
         let Some(token) = self.token_of(handle) else {
-            return false;
+            return Ok(false);
         };
         let Some(task) = self.ledger.task(graph, &token) else {
-            return false;
+            return Ok(false);
         };
+        let group = self.ledger.group_of_token(&token);
         if !part.is_of(&task) || self.ledger.take_in(handle.slot, token, part).is_err() {
-            return false;
+            return Ok(false);
         }
         // Where memory is refused its turn doesn't come, but the ledger knows of the token.
         let _joined = self.join_after(handle.slot, handle.moves);
-        true
+        self.close(group)?;
+        Ok(true)
     }
 }

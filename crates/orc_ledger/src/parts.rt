@@ -1,8 +1,9 @@
 //! Parts of a run that are made apart: a call of a definition with values is a program of its own, which a ledger of its own can run. Where it is over,
 //! or has come to one value, its entries are taken in, as if they had been made here.
 
-ghost use Rattle.std.specs.Prelude.{◌≡◌, ◌≤◌, ◌<◌, ◌+◌, ◌-◌, ◌^◌, ◌++◌, ℕ, true, length, None, IfOk, IfErr, IfSome, OnErr, vec_len, vec_capacity, option_to_list};
+ghost use Rattle.std.specs.Prelude.{◌≡◌, ◌≤◌, ◌<◌, ◌+◌, ◌-◌, ◌^◌, ◌++◌, ◌⊎◌, ℕ, true, false, length, None, IfOk, IfErr, IfSome, MatchOption, OnErr, vec_len, vec_capacity, option_to_list};
 ghost use Rattle.orc_rules.specs.Nodes.{code, definitions, source};
+ghost use Rattle.orc_graft.specs.Moved.{AreSilent};
 ghost use Rattle.orc_paths.specs.declared.what.What.TheVariants.{Publish};
 ghost use Rattle.orc_tables.specs.OpenGroups.{size_of};
 ghost use Rattle.orc_tables.specs.Same.{is_this, weight};
@@ -52,6 +53,8 @@ pub struct Part<P: Program> {
     definition: u32,
     args: Args,
     journal: Chronicle<P>,
+    // Whether it is known to have published nothing.
+    is_silent: bool,
     next_mark: u64,
     calls: u64,
     cells: usize,
@@ -60,13 +63,15 @@ pub struct Part<P: Program> {
 }
 
 impl<P: Program> Model for Part<P> {
+    ghost use Rattle.std.specs.Prelude.{◌≡◌, true};
+    ghost use Rattle.orc_graft.specs.Moved.{AreSilent};
     ghost use Rattle.orc_records.specs.Parts.{Apart, IsOver};
 
     ghost Value = { Apart };
 
     ghost view = { λ p. record { definition = p.definition; args = p.args; entries = p.journal.entries; mark = p.next_mark; calls = p.calls; cells = p.cells; left = p.left } };
 
-    ghost invariant = { λ p. IsOver P.listing P.sites (record { definition = p.definition; args = p.args; entries = p.journal.entries; mark = p.next_mark; calls = p.calls; cells = p.cells; left = p.left }) };
+    ghost invariant = { λ p. IsOver P.listing P.sites (record { definition = p.definition; args = p.args; entries = p.journal.entries; mark = p.next_mark; calls = p.calls; cells = p.cells; left = p.left }) × (p.is_silent ≡ true → AreSilent p.journal.entries) };
 }
 
 // Written out, so that each exit of a function that has a part drops it by one call.
@@ -76,6 +81,7 @@ impl<P: Program> Drop for Part<P> {
             definition: _,
             args: _,
             journal,
+            is_silent: _,
             next_mark: _,
             calls: _,
             cells: _,
@@ -94,13 +100,20 @@ impl<P: Program> Part<P> {
         self.journal.len()
     }
 
-    /// Whether it came of this call, and may be taken in where that stands: of a call whose publications are not the run's only its value may.
+    /// Whether its call has come to a value: a token on it is left.
+    pub fn has_value(&self) -> bool
+        ensures { MatchOption self.now.left (result ≡ false) (λ _. result ≡ true) }
+    {
+        self.left.is_some()
+    }
+
+    /// Whether it came of this call, and may be taken in where that stands: what has published something may only where the whole run publishes that.
     pub fn is_of(&self, task: &Task) -> bool
-        ensures { result ≡ true → (self.now.definition ≡ task.now.definition) × (self.now.args ≡ task.now.args) × (self.now.left ≡ None → task.now.is_outermost ≡ true) }
+        ensures { result ≡ true → (self.now.definition ≡ task.now.definition) × (self.now.args ≡ task.now.args) × (self.now.left ≡ None → (task.now.is_outermost ≡ true) ⊎ AreSilent self.now.entries) }
     {
         self.definition == task.definition
             && are_same(self.args.as_slice(), task.args.as_slice())
-            && (task.is_outermost || self.left.is_some())
+            && (task.is_outermost || self.is_silent)
     }
 }
 
@@ -245,7 +258,8 @@ impl<P: Program> Ledger<P> {
     }
 
     // The part that the run of a task is, of which no more is left than this.
-    fn part_of<W: Program>(self, task: Task, left: Option<Yield>) -> Part<W>
+    fn part_of<W: Program>(self, task: Task, is_silent: bool, left: Option<Yield>) -> Part<W>
+        requires silent { is_silent ≡ true → AreSilent self.journal }
         requires sites { P.sites ≡ W.sites }
         requires keeps { P.keeps ≡ W.keeps }
         requires over { IsOver W.listing W.sites (record { definition = task.definition; args = task.args; entries = self.journal; mark = self.next_mark; calls = self.made; cells = length self.cells - 1; left = left }) }
@@ -263,6 +277,7 @@ impl<P: Program> Ledger<P> {
             definition,
             args,
             journal: self.into_chronicle().named::<W>(),
+            is_silent,
             next_mark,
             calls,
             cells,
@@ -292,14 +307,15 @@ impl<P: Program> Ledger<P> {
         if !self.journal.are_local(answers) {
             return None;
         }
+        let is_silent = self.journal.is_silent();
         if self.is_over() {
-            return Some(self.part_of(task, None));
+            return Some(self.part_of(task, is_silent, None));
         }
-        if !self.journal.is_silent() {
+        if !is_silent {
             return None;
         }
         let last = self.yielded(graph, last?)?;
-        Some(self.part_of(task, Some(last)))
+        Some(self.part_of(task, true, Some(last)))
     }
 
     /// A part is taken in where its token stood: its entries stand behind the journal, under the numbers that they have here, and the token is

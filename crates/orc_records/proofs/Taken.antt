@@ -1,6 +1,6 @@
 -- A part that is taken in keeps what the ledger keeps.
 use Rattle.std.proofs.Common.{◌≡◌, ◌≤◌, ◌<◌, ℕ, zero, suc, ◌+◌, ◌-◌, ◌^◌, List, [], ◌∷◌, ◌++◌, refl, sym, ap, ◌∙◌, subst, arith, append-nil, append_assoc, length, length-append, map, inl, inr, ⊎_elim, Bool, true, false, not, cond, nat_eq, Option, Some, None}
-use Rattle.std.specs.Prelude.{slice_get, nat_lt, ◌&&◌, IfSome}
+use Rattle.std.specs.Prelude.{slice_get, nat_lt, ◌&&◌, ◌⊎◌, IfSome}
 use Rattle.std.specs.List.{AllByRecursion, fold}
 use Rattle.std.proofs.lemmas.Bool.{eqb-true}
 use Rattle.std.proofs.lemmas.List.{length-map, map-append}
@@ -16,7 +16,7 @@ use Rattle.orc_rules.specs.Marked.{Marked, ended, token, in_call, in_par, in_seq
 use Rattle.orc_rules.specs.Timed.{CallMade, IsIn, nth_of, number_of, says_of}
 use Rattle.orc_rules.specs.Journal.{Place, Journal, begin}
 use Rattle.orc_graft.specs.declared.numbering.Numbering.{Numbering}
-use Rattle.orc_graft.specs.Moved.{cell_in, mark_in, moved, moved_marked, moved_param, moved_term, IsLocal, AreLocal}
+use Rattle.orc_graft.specs.Moved.{cell_in, mark_in, moved, moved_marked, moved_param, moved_term, IsLocal, AreLocal, AreSilent}
 use Rattle.orc_graft.specs.Grafts.{Branches, on_left, on_right, on_main, Hangs, IsNewCall, Grafts, PartIsGrafted, ProgramIsStill}
 use Rattle.orc_graft.proofs.Marks.{later_mark}
 use Rattle.orc_graft.specs.Grafts as graft
@@ -278,12 +278,18 @@ module _ (grafted : PartIsGrafted) (stays : ProgramIsStill) (l : Listing) (sites
       outermost : t.step ≡ 0 → path_of f.around ≡ whole
       outermost h = f.path ∙ ap (its_path cd s) h ∙ ap (seen (has_left s.steps)) (path-none cd (its_env cd s) s.steps)
 
-      by_left : (y : Option Yield) → IsLeftOf a.entries a.mark y → (y ≡ None → t.step ≡ 0) → Hangs a.entries (token t.serial (call_of a.definition a.args)) part L.place.marked (plug f.around part)
+      silent : AreSilent a.entries → Hangs a.entries (token t.serial (call_of a.definition a.args)) part L.place.marked (plug f.around part)
+      silent k =
+          inr (k, cells_of f.around [], subst (λ z. Replaces (token t.serial (call_of a.definition a.args)) part z (cells_of f.around []) (plug f.around part)) stands_at (replaced f.around here))
+
+      by_left : (y : Option Yield) → IsLeftOf a.entries a.mark y → (y ≡ None → (t.step ≡ 0) ⊎ AreSilent a.entries) → Hangs a.entries (token t.serial (call_of a.definition a.args)) part L.place.marked (plug f.around part)
       by_left None k h =
-          inl (subst (λ z. Branches (token t.serial (call_of a.definition a.args)) part z (plug f.around part)) stands_at
-          (branches f.around (token t.serial (call_of a.definition a.args)) part (outermost (h refl))))
-      by_left (Some y) k h =
-          inr (k.0, cells_of f.around [], subst (λ z. Replaces (token t.serial (call_of a.definition a.args)) part z (cells_of f.around []) (plug f.around part)) stands_at (replaced f.around here))
+          ⊎_elim
+          (λ at_root. inl (subst (λ z. Branches (token t.serial (call_of a.definition a.args)) part z (plug f.around part)) stands_at
+          (branches f.around (token t.serial (call_of a.definition a.args)) part (outermost at_root))))
+          silent
+          (h refl)
+      by_left (Some y) k h = silent k.0
 
   later : 2 ≤ s.next_mark
   later = omega (arith, given l sites s L t i, serial)

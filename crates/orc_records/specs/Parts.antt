@@ -1,5 +1,5 @@
 -- A part of a run that was made apart, and what taking it in does to the records.
-use Rattle.std.specs.Prelude.{◌≡◌, ◌<◌, ◌≤◌, ℕ, zero, suc, ◌+◌, ◌-◌, ◌*◌, List, [], ◌∷◌, ◌++◌, map, length, Option, Some, None}
+use Rattle.std.specs.Prelude.{◌≡◌, ◌<◌, ◌≤◌, ℕ, zero, suc, ◌+◌, ◌-◌, ◌*◌, ◌⊎◌, List, [], ◌∷◌, ◌++◌, map, length, Option, Some, None}
 use Rattle.orc_rules.specs.declared.value.Value.{Value}
 use Rattle.orc_rules.specs.declared.param.Param.TheVariants.{Is}
 use Rattle.orc_rules.specs.declared.entry.Entry.{Entry}
@@ -64,9 +64,9 @@ pub record IsOver (l : Listing) (sites : List Site) (a : Apart) : Type 0 where
 abbrev pub StandsFor : Listing → Records → Token → ℕ → List Value → Type 0
 StandsFor l s t definition args = standing (code l) (its_env (code l) s) t.standing ≡ call_of definition args
 
--- the part may be taken in where the token stands: what is published by a part of which nothing is left the whole run publishes
+-- the part may be taken in where the token stands: where nothing is left of it the whole run publishes what it has published, or that is nothing
 abbrev pub Fits : Apart → Token → Type 0
-Fits a t = a.left ≡ None → t.step ≡ 0
+Fits a t = a.left ≡ None → (t.step ≡ 0) ⊎ AreSilent a.entries
 
 -- the numbers that the part's marks, calls and cells have where the token stood
 abbrev pub numbering : Records → Token → Numbering

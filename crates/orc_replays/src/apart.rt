@@ -251,20 +251,29 @@ fn what_is_run_apart_stands_in_its_place(rt: HostRuntime) -> Result<(), Fail> {
     Ok(())
 }
 
-// The rules allow these entries, one journal each: that of a call whose run opens a cell, of one in a right side and of one in the left side of a `>x>`.
+// The rules allow these entries, one journal each: that of a call whose run opens a cell, of one in a right side and of one in the left side of a `>x>`, and of
+// two that come to nothing there.
 const OPENS: &[u8] = b"orc-journal 2\ndef 1 2\nopen 2 1 3 4\nbind 4 1 4\npublish 3 4\n";
 
 const BINDS: &[u8] = b"orc-journal 2\nopen 1 1 2 3\ndef 3 4\nopen 4 2 5 6\nbind 6 2 4\n";
 
 const SENDS: &[u8] = b"orc-journal 2\nseq 1 2\ndef 2 3\ncall 3 1 Add(4, 1)\nreturn 1 4 5\n";
 
+const ENDS_RIGHT: &[u8] = b"orc-journal 2\nopen 1 1 2 3\ndef 3 4\nend 4\n";
+
+const ENDS_LEFT: &[u8] = b"orc-journal 2\nseq 1 2\ndef 2 3\nend 3\n";
+
 #[test]
-fn a_call_opens_cells_and_comes_to_a_value_wherever_it_stands(rt: HostRuntime) -> Result<(), Fail> {
+fn a_call_opens_cells_and_comes_to_a_value_or_to_nothing_wherever_it_stands(
+    rt: HostRuntime,
+) -> Result<(), Fail> {
     let alloc = rt.alloc();
-    let cases: [(&[u8], &[u8]); 3] = [
+    let cases: [(&[u8], &[u8]); 5] = [
         (b"def f(n) = x <x< n\nf(4)", OPENS),
         (b"def f(n) = x <x< n\ny <y< f(4)", BINDS),
         (b"def f(n) = Add(n, 1)\nf(4) >x> Add(x, 10)", SENDS),
+        (b"def f() = stop\ny <y< f()", ENDS_RIGHT),
+        (b"def f() = stop\nf() >x> x", ENDS_LEFT),
     ];
     for (source, journal) in cases {
         let text = text_of(alloc, source, 100);
@@ -273,9 +282,8 @@ fn a_call_opens_cells_and_comes_to_a_value_wherever_it_stands(rt: HostRuntime) -
             "at {source:?}"
         );
     }
-    // A call that comes to two values, or to none, is no part where the run doesn't publish them.
+    // A call that comes to two values is no part where the run doesn't publish them.
     assert!(rt; text_of(alloc, b"def f(n) = n | 1\nf(4) >x> x", 100).is_none());
-    assert!(rt; text_of(alloc, b"def f() = stop\nf() >x> x", 100).is_none());
     Ok(())
 }
 

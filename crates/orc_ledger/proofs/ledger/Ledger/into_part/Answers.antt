@@ -31,7 +31,7 @@ part_of-requires-2-clause-over g c =
     let last : (t : Token) × IsHeld s.slots _ t × (t.step ≡ 0) × (t.serial ≡ y.mark) × (2 ≤ y.mark) × (what_of (code g.P.Program.listing) (definitions g.P.Program.listing) s t ≡ Publish y.value) = rw (← c.self.view_is) at c.in_ok-last-2.ensures.token in
     let t : Token = last.0 in
     let local : AreLocal g.W.Program.sites s.journal = subst (λ z. AreLocal z s.journal) c.requires.sites (c.are_local.ensures c.if-not-are_local.false) in
-    let silent : AreSilent s.journal = c.is_silent.ensures c.if-not-is_silent.false in
+    let silent : AreSilent s.journal = c.is_silent-is_silent.ensures c.if-not-is_silent.false in
     rw (← c.self.view_is)
     (subst (λ (k : ℕ). IsOver g.W.Program.listing g.W.Program.sites (record { definition = task.definition; args = task.args; entries = s.journal; mark = s.next_mark; calls = s.made; cells = length s.cells - 1; left = Some (record { mark = k; value = y.value }) })) last.3
     (yielded g.P.Program.listing g.W.Program.listing g.P.Program.sites g.W.Program.sites s c.self.invariant.kept.lawful task.definition task.args c.requires.sites c.requires.definitions c.requires.call alone.1 alone.2 alone.3 local s.journal refl

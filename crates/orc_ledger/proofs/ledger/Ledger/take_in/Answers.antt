@@ -37,10 +37,10 @@ invariant_of-self-2 g c =
     let room : s.entries + length p.entries ≤ s.limit = omega (arith, c.if-entries-self.false, c.len-entries.ensures.entries, K.lawful.within) in
     let T : TakesIn s s' a.token p = record {
       limit = refl;
-      some = has_begun l sites p c.part.invariant;
+      some = has_begun l sites p c.part.invariant.0;
       journal = c.in_ok-append.ensures.added ∙ ap (λ z. s.journal ++ map (moved z) p.entries) same;
       entries = ap (λ z. s.entries + z) c.len-entries.ensures.entries;
-      mark = omega (arith, c.part.invariant.begun);
+      mark = omega (arith, c.part.invariant.0.begun);
       now = refl;
       made = c.in_ok-append.ensures.made;
       tokens = λ w. omega (arith, c.exchange.ensures.tokens w, ap (weight w) came);
@@ -55,9 +55,9 @@ invariant_of-self-2 g c =
     let same_group : (j : ℕ) → weight (λ (u : Token). is_this j c.group_at-group.result) (option_to_list c.comer_of-comer.result) ≡ weight (λ (u : Token). is_this j (group_at s.steps a.token.step)) (comers (numbering s a.token) a.token p.left) = λ j k. weight (λ (u : Token). is_this j (c.group_at-group.ensures k)) (came k) in
     let sizes : (j : ℕ) → size_of c.exchange.new.groups.sizes j ≡ size_of b.groups.sizes j + tokens_in s.steps (comers (numbering s a.token) a.token p.left) j - is_this j (group_at s.steps a.token.step) = λ j. omega (arith, c.exchange.ensures.sizes j, ap (is_this j) c.group_at-group.ensures, same_group j, comers-in (numbering s a.token) a.token s.steps p.left j) in
     record {
-      kept = taken-kept part_is_grafted program_is_still l sites b.counts b.groups.sizes s K a.token i held.1 p c.part.invariant stands fits small room s' T c.exchange.new.groups.sizes sizes;
+      kept = taken-kept part_is_grafted program_is_still l sites b.counts b.groups.sizes s K a.token i held.1 p c.part.invariant.0 stands fits small room s' T c.exchange.new.groups.sizes sizes;
       rest = rest-kept (code l) (definitions l) s s' b.tokens c.exchange.new.tokens refl refl c.self.invariant.rest (live-in b.tokens.items) (c.exchange.ensures.parked)
-          (taken-terms part_is_grafted program_is_still l sites b.counts b.groups.sizes s K a.token i held.1 p c.part.invariant stands fits small room s' T);
+          (taken-terms part_is_grafted program_is_still l sites b.counts b.groups.sizes s K a.token i held.1 p c.part.invariant.0 stands fits small room s' T);
       version = c.in_ok-append.ensures.version ∙ c.self.invariant.version;
       limited = c.self.invariant.limited;
     }
@@ -76,10 +76,10 @@ returns-clause-done g c =
     let came : option_to_list c.comer_of-comer.result ≡ comers (numbering s a.token) a.token p.left = c.comer_of-comer.ensures.comes ∙ ap (λ z. comers z a.token p.left) same in
     let T : TakesIn s s' a.token p = record {
       limit = refl;
-      some = has_begun l sites p c.part.invariant;
+      some = has_begun l sites p c.part.invariant.0;
       journal = c.in_ok-append.ensures.added ∙ ap (λ z. s.journal ++ map (moved z) p.entries) same;
       entries = ap (λ z. s.entries + z) c.len-entries.ensures.entries;
-      mark = omega (arith, c.part.invariant.begun);
+      mark = omega (arith, c.part.invariant.0.begun);
       now = refl;
       made = c.in_ok-append.ensures.made;
       tokens = λ w. omega (arith, c.exchange.ensures.tokens w, ap (weight w) came);
@@ -93,7 +93,7 @@ returns-clause-done g c =
 
 pub comer_of-comer-requires-clause-marks : goal.comer_of-comer-requires-clause-marks
 comer_of-comer-requires-clause-marks g c =
-    let p = c.part.invariant in
+    let p = c.part.invariant.0 in
     left-fits c.part.inside.journal.entries c.part.inside.next_mark c.self.inside.next_mark c.part.inside.left p.yields
     (omega (arith, p.counted, c.len-entries.ensures.entries, c.if-entries-self.false, c.self.invariant.kept.lawful.counted, c.self.invariant.kept.lawful.within, c.self.invariant.kept.lawful.small))
 
