@@ -28,6 +28,7 @@ use Rattle.orc_records.specs.declared.results.Called.{Called}
 use Rattle.orc_records.specs.declared.results.Called.TheVariants as called
 use Rattle.orc_records.specs.declared.results.Moved.TheVariants as moved
 use Rattle.orc_records.specs.declared.results.Passed.TheVariants as passed
+use Rattle.orc_records.proofs.Cleared.{sent_sends}
 use Rattle.orc_engine.specs.Stops.{Goes, Advances, open_groups}
 
 abbrev one : Group → ℕ
@@ -80,18 +81,7 @@ forked_by l s slot t s' ks right_slot Call h = absurd h
 forked_by l s slot t s' ks right_slot (Wait c) h = absurd h
 
 sent_by : (l : Listing) (s : Records) (slot : ℕ) (t : Token) (s' : Records) (ks : List ℕ) (g : ℕ) (w : What) → Does l s slot t s' ks w (moved.Sent g) → Advances s s'
-sent_by l s slot t s' ks g Halt h = absurd h
-sent_by l s slot t s' ks g Fork h = absurd h
-sent_by l s slot t s' ks g Seq h = absurd h
-sent_by l s slot t s' ks g Prune h = absurd h
-sent_by l s slot t s' ks g Other h = absurd h
-sent_by l s slot t s' ks g Def h = absurd h
-sent_by l s slot t s' ks g Void h = absurd h
-sent_by l s slot t s' ks g (Publish v) h = absurd h
-sent_by l s slot t s' ks g (Send v) h = crossed _ _ _ _ _ _ _ h.0.done
-sent_by l s slot t s' ks g (Bind c v) h = absurd h
-sent_by l s slot t s' ks g Call h = absurd h
-sent_by l s slot t s' ks g (Wait c) h = absurd h
+sent_by l s slot t s' ks g w h = crossed _ _ _ _ _ _ _ (sent_sends l s slot t s' ks g w h).1.done
 
 gone_by : (l : Listing) (s : Records) (slot : ℕ) (t : Token) (s' : Records) (ks : List ℕ) (g : ℕ) (w : What) → Does l s slot t s' ks w (moved.Gone g) → Advances s s'
 gone_by l s slot t s' ks g Halt h = turned _ _ _ _ _ _ _ _ _ h.0 (omega arith)

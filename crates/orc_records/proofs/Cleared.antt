@@ -1,7 +1,7 @@
 -- Where a `>x>` was passed in one go nobody stands any more at the step of its left side.
-use Rattle.std.proofs.Common.{◌≡◌, ◌≤◌, ℕ, suc, ◌+◌, List, [], ◌∷◌, refl, sym, ap, ◌∙◌, arith, Bool, true, false, cond, nat_eq, Some, length, length-append}
+use Rattle.std.proofs.Common.{◌≡◌, ◌≤◌, ℕ, suc, ◌+◌, List, [], ◌∷◌, refl, sym, ap, ◌∙◌, arith, false, Some, length, length-append}
 use Rattle.std.specs.Prelude.{slice_get, nat_lt}
-use Rattle.std.proofs.lemmas.Bool.{eqb-true, ltb-false}
+use Rattle.std.proofs.lemmas.Bool.{ltb-false}
 use Rattle.orc_rules.specs.declared.value.Value.{Value}
 use Rattle.orc_rules.specs.Term.{Term}
 use Rattle.orc_rules.specs.Nodes.{Listing, code, definitions}
@@ -15,7 +15,7 @@ use Rattle.orc_tables.specs.declared.records.Call.{Call as Pending}
 use Rattle.orc_tables.specs.declared.records.Step.{Step}
 use Rattle.orc_tables.specs.declared.records.Group.{Group}
 use Rattle.orc_tables.proofs.Placed.{same_some, end-got}
-use Rattle.orc_tables.proofs.Weight.{none-alike, weight-none, this_is, one-most}
+use Rattle.orc_tables.proofs.Weight.{none-alike, weight-none, this_is, this_not, one-most}
 use Rattle.orc_paths.specs.Paths.{is_out}
 use Rattle.orc_paths.specs.Spelling.{Path, whole, feeding, aiding, trying}
 use Rattle.orc_paths.specs.Taking.{taker}
@@ -51,14 +51,8 @@ taker_size (trying n p) = omega (arith, taker_size p)
 takes_outside : (p q : Path) (x : ℕ) (g : Term) → taker p ≡ feeding x g q → q ≡ p → ⊥
 takes_outside p q x g takes e = omega (arith, taker_size p, ap size takes, ap size e)
 
-not_this : (i j : ℕ) → (i ≡ j → ⊥) → is_this i j ≡ 0
-not_this i j off = go (nat_eq i j) refl
-  where
-    go : (b : Bool) → nat_eq i j ≡ b → cond {A = ℕ} b 1 0 ≡ 0
-    go true e = absurd (off (eqb-true i j e))
-    go false e = refl
-
-sent_sends : (l : Listing) (s : Records) (slot : ℕ) (t : Token) (s' : Records) (ks : List ℕ) (g : ℕ) (w : What) → Does l s slot t s' ks w (moved.Sent g) → (v : Value) × Sends l s slot t s' v
+-- a token that was sent on by its next move has sent a value
+pub sent_sends : (l : Listing) (s : Records) (slot : ℕ) (t : Token) (s' : Records) (ks : List ℕ) (g : ℕ) (w : What) → Does l s slot t s' ks w (moved.Sent g) → (v : Value) × Sends l s slot t s' v
 sent_sends l s slot t s' ks g Halt h = absurd h
 sent_sends l s slot t s' ks g Fork h = absurd h
 sent_sends l s slot t s' ks g Seq h = absurd h
@@ -90,7 +84,7 @@ module _ (l : Listing) (sites : List Site) (s : Records) (slot : ℕ) (t : Token
   group_in z = is_this last z.outer
 
   earlier : (m : ℕ) → nat_lt (length s.steps) m ≡ false → is_this last m ≡ 0
-  earlier m h = not_this last m (λ e. omega (arith, e, ltb-false (length s.steps) m h))
+  earlier m h = this_not last m (λ e. omega (arith, e, ltb-false (length s.steps) m h))
 
   tokens_before : weight token_at s.tokens ≡ 0
   tokens_before = none-alike (token_out (length s.scopes) (length s.steps)) token_at (λ z. 0) s.tokens S.tokens (λ z h. earlier z.step (or_false (is_out (length s.scopes) z.standing) (nat_lt (length s.steps) z.step) h).1) ∙ weight-none (λ z. 0) s.tokens (λ z. refl)
@@ -143,7 +137,7 @@ module _ (l : Listing) (sites : List Site) (s : Records) (slot : ℕ) (t : Token
   through-vacant s3 (s2, w, v, g, (c, between, found, made, returned), stands, on, moves) =
       let sends = (sent_sends l s2 slot w s3 [] g (what_of (code l) (definitions l) s2 w) moves).1 in
       let step : w.step ≡ last = ap (λ (z : Token). z.step) (same_some w (answered between c v) (sym stands.0 ∙ returned.1.0)) ∙ made.step ∙ step_of in
-      let out : is_this last sends.outer ≡ 0 = not_this last sends.outer (λ e.
+      let out : is_this last sends.outer ≡ 0 = this_not last sends.outer (λ e.
       takes_outside (its_path (code l) s2 w.step) (its_path (code l) s2 sends.outer) sends.name _ sends.takes (ap (its_path (code l) s2) (sym e ∙ sym step))) in
       let same : s2.steps ≡ s1.steps = returned.0.steps ∙ made.exchanges.steps in
       let at = alike-step s2.steps s3.steps (sym sends.done.steps.alike) (length s.steps) entering (entering_at s2 same) in

@@ -11,7 +11,7 @@ use Rattle.orc_tables.specs.declared.records.Entered.{Entered}
 use Rattle.orc_tables.specs.declared.records.Entered.TheVariants.{Feed, Aid, Try}
 use Rattle.orc_tables.specs.declared.records.Step.{Step}
 use Rattle.orc_tables.specs.declared.records.Group.{Group}
-use Rattle.orc_tables.proofs.Weight.{none-weaker, none-alike, weight-none, this_is}
+use Rattle.orc_tables.proofs.Weight.{none-weaker, none-alike, weight-none, this_is, this_not}
 use Rattle.orc_records.proofs.Sound.{get_more, get_kept, get_end}
 use Rattle.orc_records.proofs.Leaves.{got_one}
 use Rattle.orc_records.proofs.Someone.{some_same}
@@ -27,13 +27,6 @@ pub record AreNested (hs : List ℕ) (groups : ℕ → Option Nest) (ss : List S
   pub listed : (i : ℕ) (w : Nest) (k : ℕ) → groups i ≡ Some w → w.step ≡ suc k → 1 ≤ weight (λ (g : Group). is_this i g.number) gs
   pub once : (i : ℕ) → weight (λ (g : Group). is_this i g.number) gs ≤ 1
   pub feeds : (k : ℕ) (p : Step) → slice_get ss k ≡ Some p → opens p.entered ≡ false → p.group ≡ group_at ss p.outer
-
-not_this : (i j : ℕ) → (i ≡ j → ⊥) → is_this i j ≡ 0
-not_this i j off = go (nat_eq i j) refl
-  where
-    go : (b : Bool) → nat_eq i j ≡ b → cond {A = ℕ} b 1 0 ≡ 0
-    go true e = absurd (off (eqb-true i j e))
-    go false e = refl
 
 -- sides that are so stay so
 sides-kept : (groups groups' : ℕ → Option Nest) (ss ss' : List Step) (gs : List Group) → ((g : Group) → IsSided groups ss g → IsSided groups' ss' g) → None (λ g. not (is_sided groups ss g)) gs → None (λ g. not (is_sided groups' ss' g)) gs
@@ -337,7 +330,7 @@ module _ (hs : List ℕ) (ss : List Step) (homes : AreHomes hs ss) (outwards : (
         by_number i true e =
             let same : i ≡ g.number = eqb-true i g.number e in
             omega (arith, added (λ (h : Group). is_this i h.number), ap (λ z. weight (λ (h : Group). is_this z h.number) gs) same, unused, this_is i g.number same)
-        by_number i false e = omega (arith, added (λ (h : Group). is_this i h.number), N.once i, not_this i g.number (λ s. cc (eq-eqb i g.number s, e)))
+        by_number i false e = omega (arith, added (λ (h : Group). is_this i h.number), N.once i, this_not i g.number (λ s. cc (eq-eqb i g.number s, e)))
 
 -- ---- groups close
 

@@ -6,14 +6,7 @@ use Rattle.orc_rules.specs.declared.limits.TheConstants.{MOST_GROUPS}
 use Rattle.orc_tables.specs.Same.{weight, is_this}
 use Rattle.orc_tables.specs.OpenGroups.{is_named, size_of, is_none, empty_in, AreNumbered}
 use Rattle.orc_tables.specs.declared.records.Group.{Group}
-use Rattle.orc_tables.proofs.Weight.{weight-append, weight-same, weight-least, weight-length, this_is, one-most}
-
-this_not : (i j : ℕ) → (i ≡ j → ⊥) → is_this i j ≡ 0
-this_not i j off = go (nat_eq i j) refl
-  where
-    go : (b : Bool) → nat_eq i j ≡ b → cond {A = ℕ} b 1 0 ≡ 0
-    go true e = absurd (off (eqb-true i j e))
-    go false e = refl
+use Rattle.orc_tables.proofs.Weight.{weight-append, weight-same, weight-least, weight-length, this_is, this_not, one-most}
 
 none-is : (k : ℕ) → k ≡ 0 → is_none k ≡ 1
 none-is k e = ap is_none e

@@ -100,6 +100,13 @@ either_one (suc a) b h = inl (omega arith)
 pub this_is : (i j : ℕ) → i ≡ j → is_this i j ≡ 1
 this_is i j e = ap (λ b. cond {A = ℕ} b 1 0) (eq-eqb i j e)
 
+pub this_not : (i j : ℕ) → (i ≡ j → ⊥) → is_this i j ≡ 0
+this_not i j off = go (nat_eq i j) refl
+  where
+    go : (b : Bool) → nat_eq i j ≡ b → cond {A = ℕ} b 1 0 ≡ 0
+    go true e = absurd (off (eqb-true i j e))
+    go false e = refl
+
 pub one-most : (i j : ℕ) → is_this i j ≤ 1
 one-most i j = go (nat_eq i j)
   where
