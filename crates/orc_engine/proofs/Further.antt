@@ -10,13 +10,13 @@ use Rattle.orc_names.specs.declared.names.Scope.{Scope}
 use Rattle.orc_paths.specs.Doing.{is_wait}
 use Rattle.orc_paths.specs.declared.what.What.{What}
 use Rattle.orc_paths.specs.declared.what.What.TheVariants.{Halt, Fork, Seq, Prune, Other, Def, Void, Publish, Send, Bind, Call, Wait}
-use Rattle.orc_tables.specs.Same.{weight}
+use Rattle.orc_indexes.specs.Same.{weight}
 use Rattle.orc_tables.specs.Tokens.{IsHeld}
 use Rattle.orc_tables.specs.declared.records.Call.{Call as Pending}
 use Rattle.orc_tables.specs.declared.records.Group.{Group}
 use Rattle.orc_tables.specs.declared.records.Step.{Step}
 use Rattle.orc_tables.specs.declared.records.Token.{Token}
-use Rattle.orc_tables.proofs.Weight.{weight-but}
+use Rattle.orc_indexes.proofs.Weight.{weight-but}
 use Rattle.orc_records.specs.Records.{Records}
 use Rattle.orc_records.specs.AtOnce.{IsCalled}
 use Rattle.orc_records.specs.Calls.{Turns, Crosses, Drops, Exchanges, Resumes, Closes, group_goes}

@@ -15,6 +15,7 @@ ghost use Rattle.orc_tables.specs.declared.records.Token.{Token as Its};
 
 use orc_calls::Counts;
 use orc_chronicle::{Chronicle, Program};
+use orc_indexes::{push_within, reserve};
 use orc_journal::Journal;
 use orc_names::{Bound, StoredScope};
 use orc_records::LedgerFault;
@@ -22,7 +23,7 @@ use orc_rules::answers::Answers;
 use orc_rules::entry::Entry;
 use orc_rules::limits::{MOST_FRAMES, MOST_GROUPS, MOST_TOKENS};
 use orc_rules::value::Value;
-use orc_tables::{Crowd, Groups, Pending, Standing, Steps, Token, Tokens, push_within, reserve};
+use orc_tables::{Crowd, Groups, Pending, Standing, Steps, Token, Tokens};
 use std::alloc::{AllocError, Global};
 use std::marker::{Model, PhantomData};
 

@@ -13,11 +13,12 @@ ghost use Rattle.orc_tables.specs.declared.records.Standing.TheVariants.{At};
 
 use crate::ledger::{Ledger, write};
 use orc_chronicle::Program;
+use orc_indexes::{push_within, reserve};
 use orc_names::{Bound, Scope, StoredScope, outer_number};
 use orc_records::LedgerFault;
 use orc_rules::entry::Entry;
 use orc_rules::limits::MOST_FRAMES;
-use orc_tables::{Entered, Side, Standing, Step, Token, push_within, reserve};
+use orc_tables::{Entered, Side, Standing, Step, Token};
 
 impl<P: Program> Ledger<P> {
     /// `stop`: the token goes.

@@ -3,7 +3,7 @@
 ghost use Rattle.std.specs.Prelude.{◌≡◌, ◌≤◌, ◌↔◌, true, false, MatchOption};
 ghost use Rattle.orc_rules.specs.Nodes.{code, definitions};
 ghost use Rattle.orc_paths.specs.Doing.{is_wait};
-ghost use Rattle.orc_tables.specs.Same.{only};
+ghost use Rattle.orc_indexes.specs.Same.{only};
 ghost use Rattle.orc_tables.specs.Tokens.{is_live, IsHeld};
 ghost use Rattle.orc_tables.specs.declared.records.Group.{Group as Its};
 ghost use Rattle.orc_records.specs.Doing.{what_of};

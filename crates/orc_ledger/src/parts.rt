@@ -6,7 +6,7 @@ ghost use Rattle.orc_rules.specs.Nodes.{code, definitions, source};
 ghost use Rattle.orc_graft.specs.Moved.{AreSilent};
 ghost use Rattle.orc_paths.specs.declared.what.What.TheVariants.{Publish};
 ghost use Rattle.orc_tables.specs.OpenGroups.{size_of};
-ghost use Rattle.orc_tables.specs.Same.{is_this, weight};
+ghost use Rattle.orc_indexes.specs.Same.{is_this, weight};
 ghost use Rattle.orc_tables.specs.Tokens.{live, IsHeld, StayParked};
 ghost use Rattle.orc_tables.specs.declared.records.Token.{Token as Its};
 ghost use Rattle.orc_records.specs.Doing.{what_of};

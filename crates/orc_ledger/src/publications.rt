@@ -16,12 +16,13 @@ ghost use Rattle.orc_tables.specs.declared.records.Standing.TheVariants.{At};
 
 use crate::ledger::{Ledger, write};
 use orc_chronicle::Program;
+use orc_indexes::{push_within, reserve};
 use orc_names::{Bound, Scope, StoredScope, outer_number};
 use orc_paths::leave_others;
 use orc_records::LedgerFault;
 use orc_rules::entry::Entry;
 use orc_rules::value::Value;
-use orc_tables::{Standing, Token, push_within, reserve};
+use orc_tables::{Standing, Token};
 
 impl<P: Program> Ledger<P> {
     /// A publication of the program: nothing round the token takes it.

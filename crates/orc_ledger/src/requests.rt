@@ -11,7 +11,7 @@ ghost use Rattle.orc_tables.specs.PendingCalls.{has_number};
 ghost use Rattle.orc_paths.specs.Doing.{IsCall};
 ghost use Rattle.orc_records.specs.Doing.{term_of, what_of};
 ghost use Rattle.orc_records.specs.Requests.{IsAsked, IsMade, IsNextCall};
-ghost use Rattle.orc_tables.specs.Same.{weight};
+ghost use Rattle.orc_indexes.specs.Same.{weight};
 ghost use Rattle.orc_tables.specs.Tokens.{IsHeld};
 
 use crate::ledger::Ledger;

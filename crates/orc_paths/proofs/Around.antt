@@ -2,9 +2,9 @@
 use Rattle.std.proofs.Common.{◌≡◌, ℕ, ◌+◌, ◌≤◌, List, ◌∷◌, ◌++◌, refl, ap, sym, ◌∙◌, arith, ⊎_elim}
 use Rattle.orc_rules.specs.Term.{Term}
 use Rattle.orc_rules.specs.Marked.{Marked, ended, token, in_call, in_par, in_seq, in_opened, in_other, Replaces, in_left, in_right, in_feeding, in_main, in_side, in_entered}
-use Rattle.orc_tables.specs.Same.{weight}
+use Rattle.orc_indexes.specs.Same.{weight}
 use Rattle.orc_paths.specs.Spelling.{Path, whole, feeding, aiding, trying, Row, stands, pends, Numbered, right_of, left_of, marks, sides}
-use Rattle.orc_tables.proofs.Weight.{weight-append, either_one}
+use Rattle.orc_indexes.proofs.Weight.{weight-append, either_one}
 use Rattle.orc_paths.proofs.Equal.{same_row, same_numbered}
 
 -- the innermost first

@@ -7,9 +7,9 @@ use Rattle.orc_rules.specs.Step.{publishes, silent}
 use Rattle.orc_rules.specs.Marked.{Marked, ended, token, in_call, in_par, in_seq, in_opened, in_other, Emits, on_left, on_right, on_feeding, is_fed, on_main, on_side, on_entered, passes}
 use Rattle.orc_rules.specs.Numbered.{mark, once, times}
 use Rattle.orc_rules.proofs.Numbered.{once_same}
-use Rattle.orc_tables.specs.Same.{weight}
+use Rattle.orc_indexes.specs.Same.{weight}
 use Rattle.orc_paths.specs.Spelling.{Path, whole, feeding, aiding, trying, Row, stands, pends, Numbered, right_of, left_of, marks, sides}
-use Rattle.orc_tables.proofs.Weight.{weight-append}
+use Rattle.orc_indexes.proofs.Weight.{weight-append}
 use Rattle.orc_paths.proofs.Around.{Around, hole, before, behind, feeds, main_of, side_of, enters, plug, path_of, rows_beside, sides_beside, marks-plug, sides-plug}
 use Rattle.orc_paths.specs.Taking.{taker, crossed}
 

@@ -7,12 +7,12 @@ use Rattle.orc_rules.specs.Step.{Act, calls, returns, binds, loses, publishes, s
 use Rattle.orc_rules.specs.Marked.{Marked, token, Replaces, here, in_left, in_right, in_feeding, in_main, in_side, in_entered, Emits, emits, on_left, on_right, on_feeding, is_fed, on_main, on_side, is_bound, on_entered, passes, ended, in_call, in_par, in_seq, in_opened, in_other}
 use Rattle.orc_rules.specs.Timed.{IsIn}
 use Rattle.orc_rules.specs.Numbered.{mark, once, times}
-use Rattle.orc_tables.specs.Same.{weight}
+use Rattle.orc_indexes.specs.Same.{weight}
 use Rattle.orc_paths.specs.Spelling.{Path, whole, feeding, aiding, trying, Row, stands, pends, marks, Numbered, right_of, left_of, sides}
 use Rattle.orc_paths.specs.Doing.{taken}
 use Rattle.orc_paths.specs.declared.what.What.{What}
 use Rattle.orc_paths.specs.declared.what.What.TheVariants.{Halt, Send, Bind}
-use Rattle.orc_tables.proofs.Weight.{weight-least, weight-in, weight-append}
+use Rattle.orc_indexes.proofs.Weight.{weight-least, weight-in, weight-append}
 use Rattle.orc_paths.proofs.Around.{is_row, by, by-self}
 use Rattle.orc_paths.proofs.Equal.{same_row}
 

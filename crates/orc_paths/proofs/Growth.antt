@@ -6,7 +6,7 @@ use Rattle.std.proofs.lemmas.List.{get_or_append_left}
 use Rattle.std.proofs.Math.Seq.{get_or-append_seam}
 use Rattle.orc_rules.specs.Term.{Term}
 use Rattle.orc_names.specs.Scopes.{Env, close, without}
-use Rattle.orc_tables.specs.Same.{weight, only, None}
+use Rattle.orc_indexes.specs.Same.{weight, only, None}
 use Rattle.orc_paths.specs.Spelling.{Path, whole, feeding, seen}
 use Rattle.orc_paths.specs.Paths.{standing, inwards, paths_from, path, is_number, has_left, is_out, entered_out, step_out, tries, is_left}
 use Rattle.orc_tables.specs.Steps.{step_at}

@@ -9,10 +9,10 @@ use Rattle.orc_rules.specs.Marked.{Marked, ended, token, in_call, in_par, in_seq
 use Rattle.orc_rules.specs.Numbered.{cell, times, once}
 use Rattle.orc_rules.proofs.Numbered.{once_same}
 use Rattle.orc_names.proofs.Inside.{Confined, lacks-stays, marked-stays}
-use Rattle.orc_tables.specs.Same.{weight}
+use Rattle.orc_indexes.specs.Same.{weight}
 use Rattle.orc_paths.specs.Spelling.{Path, whole, feeding, aiding, trying, Row, stands, pends, Numbered, right_of, left_of, marks, sides, inside}
 use Rattle.orc_paths.specs.Taking.{taker}
-use Rattle.orc_tables.proofs.Weight.{weight-append}
+use Rattle.orc_indexes.proofs.Weight.{weight-append}
 use Rattle.orc_paths.proofs.Around.{Around, hole, before, behind, feeds, main_of, side_of, enters, plug, path_of, rows_beside, sides_beside, marks-plug, sides-plug}
 
 module _ (c : ℕ) (u : Param) where

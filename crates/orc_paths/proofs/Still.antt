@@ -6,9 +6,9 @@ use Rattle.orc_rules.specs.Idle.{has_halted, can_move, one, movable}
 use Rattle.orc_rules.specs.Marked.{Marked, ended, token, in_call, in_par, in_seq, in_opened, in_other, erase}
 use Rattle.orc_rules.specs.Timed.{IsIn}
 use Rattle.orc_rules.specs.Numbered.{Name, mark, call, cell, once}
-use Rattle.orc_tables.specs.Same.{weight}
+use Rattle.orc_indexes.specs.Same.{weight}
 use Rattle.orc_paths.specs.Spelling.{Path, feeding, aiding, trying, Row, stands, pends, Numbered, right_of, left_of, marks, sides, inside, within}
-use Rattle.orc_tables.proofs.Weight.{weight-append, either_one, weight-least}
+use Rattle.orc_indexes.proofs.Weight.{weight-append, either_one, weight-least}
 use Rattle.orc_paths.proofs.Finding.{in_front, in_back}
 
 -- the path is inside the right side of this cell, or the left side of this otherwise

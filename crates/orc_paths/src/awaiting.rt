@@ -6,9 +6,9 @@ ghost use Rattle.orc_names.specs.Scopes.{env_of};
 ghost use Rattle.orc_paths.specs.Awaiting.{cells_among};
 ghost use Rattle.orc_paths.specs.Doing.{closed};
 
+use orc_indexes::{push_within, reserve};
 use orc_names::{Bound, StoredScope, meaning};
 use orc_rules::param::Operand;
-use orc_tables::{push_within, reserve};
 use std::alloc::AllocError;
 
 /// Writes the unbound cells among these operands over `listed`, in their order. Where memory is refused what is listed isn't known.

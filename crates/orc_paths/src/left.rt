@@ -1,7 +1,7 @@
 //! Whether a publication has left an otherwise.
 
 ghost use Rattle.std.specs.Prelude.{◌≡◌, ◌≤◌, false, Some, IfSome, IfNone};
-ghost use Rattle.orc_tables.specs.Same.{weight};
+ghost use Rattle.orc_indexes.specs.Same.{weight};
 ghost use Rattle.orc_paths.specs.Paths.{is_number, is_left, has_left, tries};
 ghost use Rattle.orc_tables.specs.Steps.{step_at};
 ghost use Rattle.orc_tables.specs.declared.records.Step.{Step as Entering};

@@ -4,9 +4,9 @@ ghost use Rattle.std.specs.Prelude.{◌+◌, IfOk, IfSome, IfNone};
 ghost use Rattle.orc_names.specs.Parameters.{Adds};
 ghost use Rattle.orc_paths.specs.Parameters.{Misfit};
 
+use orc_indexes::{push_within, reserve};
 use orc_names::{Bound, Scope, StoredScope, meaning, outer_number};
 use orc_rules::param::Operand;
-use orc_tables::{push_within, reserve};
 use std::alloc::AllocError;
 
 /// The scopes of a definition's parameters, written over `added`: the last parameter first, each the outer of the next. Gives the number of the

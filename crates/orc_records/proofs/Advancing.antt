@@ -32,7 +32,7 @@ use Rattle.orc_tables.specs.declared.records.Standing.TheVariants.{At}
 use Rattle.orc_tables.specs.declared.records.Token.{Token}
 use Rattle.std.proofs.lemmas.Bool.{ltb-false}
 use Rattle.orc_paths.proofs.Growth.{or_false}
-use Rattle.orc_tables.proofs.Weight.{none-in}
+use Rattle.orc_indexes.proofs.Weight.{none-in}
 use Rattle.orc_records.proofs.Closed.{none-got}
 use Rattle.orc_rules.specs.Timed.{IsIn}
 use Rattle.orc_paths.proofs.Forms.{scan-is, at-stop, at-site, at-call, at-par, at-seq, at-prune, at-other}

@@ -17,8 +17,8 @@ use Rattle.orc_graft.specs.Moved.{AreLocal, AreSilent}
 use Rattle.orc_names.specs.Scopes.{Env, close}
 use Rattle.orc_names.proofs.Scopes.{close-call, values-more}
 use Rattle.orc_paths.proofs.Meaning.{rest_some}
-use Rattle.orc_tables.specs.Same.{weight}
-use Rattle.orc_tables.proofs.Weight.{weight-length}
+use Rattle.orc_indexes.specs.Same.{weight}
+use Rattle.orc_indexes.proofs.Weight.{weight-length}
 use Rattle.orc_tables.specs.declared.records.Token.{Token}
 use Rattle.orc_paths.specs.Doing.{Allows, closed}
 use Rattle.orc_paths.specs.Paths.{has_left}

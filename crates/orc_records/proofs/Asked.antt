@@ -25,7 +25,7 @@ use Rattle.orc_records.specs.Kept.{Kept}
 use Rattle.orc_records.specs.Records.{Records, Lawful, context}
 use Rattle.orc_records.specs.Requests.{IsNextCall}
 use Rattle.orc_tables.specs.Steps.{group_at}
-use Rattle.orc_tables.specs.Same.{is_this}
+use Rattle.orc_indexes.specs.Same.{is_this}
 use Rattle.orc_paths.specs.Doing.{IsCall, closed, taken, of_param, what_site, what_def, what_by}
 use Rattle.orc_records.specs.Doing.{term_of}
 use Rattle.orc_paths.specs.declared.what.What.TheVariants.{Call}

@@ -14,7 +14,7 @@ use Rattle.orc_rules.specs.Marked.{Marked, ended, token, in_call, Replaces, here
 use Rattle.orc_rules.specs.Timed.{IsIn, IsDue, CallMade, nth_of}
 use Rattle.orc_rules.specs.Journal.{Place, Leads, Journal, begin}
 use Rattle.orc_names.specs.Scopes.{close, env_of}
-use Rattle.orc_tables.specs.Same.{weight, only, None}
+use Rattle.orc_indexes.specs.Same.{weight, only, None}
 use Rattle.orc_paths.specs.Spelling.{Path, whole, Row, stands, pends, Numbered, right_of, left_of, marks, sides, seen}
 use Rattle.orc_records.specs.Records.{Records, Lawful, context, its_env, its_path, rows_of, sides_of, token_row, call_row, side_at, group_side, is_over, token_out, call_out, has_serial, counts, is_written}
 use Rattle.orc_paths.specs.Paths.{path, has_left, standing, is_out, step_out}
@@ -25,7 +25,7 @@ use Rattle.orc_tables.specs.declared.records.Call.{Call}
 use Rattle.orc_tables.specs.declared.records.Side.{Side}
 use Rattle.orc_tables.specs.declared.records.Side.TheVariants.{Right, Left}
 use Rattle.orc_records.proofs.Written.{written-more, written-last}
-use Rattle.orc_tables.proofs.Weight.{weight-append, weight-map, weight-filter, weight-same, none-weaker, none-in, either_one}
+use Rattle.orc_indexes.proofs.Weight.{weight-append, weight-map, weight-filter, weight-same, none-weaker, none-in, either_one}
 use Rattle.orc_paths.proofs.Around.{Found, plug, path_of, path_in, unit, cells_of, replaced, marks-plug, sides-plug}
 use Rattle.orc_records.proofs.Lists.{token_found, call_found}
 use Rattle.orc_records.proofs.Binding.{journal_more}

@@ -14,7 +14,7 @@ use Rattle.orc_names.specs.declared.names.Bound.{Bound}
 use Rattle.orc_names.specs.declared.names.Bound.TheVariants as bound
 use Rattle.orc_names.specs.declared.names.Scope.{Scope}
 use Rattle.orc_names.specs.Scopes.{current, env_of, given}
-use Rattle.orc_tables.specs.Same.{weight}
+use Rattle.orc_indexes.specs.Same.{weight}
 use Rattle.orc_paths.specs.Spelling.{Path, whole, feeding, aiding, trying, Row, stands, pends}
 use Rattle.orc_records.specs.Records.{Records, Sound, Lawful, token_row, token_out, its_env, its_path, is_settled}
 use Rattle.orc_paths.specs.Paths.{has_left, standing}
@@ -23,14 +23,14 @@ use Rattle.orc_paths.specs.Doing.{taken, what_by, is_wait}
 use Rattle.orc_records.specs.Doing.{term_of}
 use Rattle.orc_paths.specs.Awaiting.{cells_among, cells_of}
 use Rattle.orc_records.specs.Next.{ready, ready_one}
-use Rattle.orc_tables.specs.Parking.{Parked, is_set, IsNoted}
+use Rattle.orc_indexes.specs.Parking.{Parked, is_set, IsNoted}
 use Rattle.orc_tables.specs.Tokens.{Slots, live, is_live, IsHeld, IsParked, StayParked, StayBut, StayWith}
 use Rattle.orc_records.specs.AtRest.{waits, IsAtRest, AreAtRest}
 use Rattle.orc_tables.specs.declared.records.Token.{Token}
 use Rattle.orc_tables.specs.declared.records.Step.{Step}
 use Rattle.orc_tables.specs.declared.records.Side.TheVariants.{Right}
 use Rattle.orc_tables.specs.declared.records.Group.{Group}
-use Rattle.orc_tables.proofs.Weight.{none-in}
+use Rattle.orc_indexes.proofs.Weight.{none-in}
 use Rattle.orc_records.proofs.Cells.{own_cell}
 use Rattle.orc_paths.proofs.Crossing.{cross_row, cross_rows}
 use Rattle.orc_records.proofs.Turning.{row_same}

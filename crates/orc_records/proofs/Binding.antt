@@ -17,7 +17,7 @@ use Rattle.orc_rules.proofs.Pending.{pending_by_names}
 use Rattle.orc_rules.proofs.Sources.{emits_source}
 use Rattle.orc_names.specs.declared.names.Bound.{Bound}
 use Rattle.orc_names.specs.declared.names.Bound.TheVariants as bound
-use Rattle.orc_tables.specs.Same.{weight, only, but, None}
+use Rattle.orc_indexes.specs.Same.{weight, only, but, None}
 use Rattle.orc_paths.specs.Spelling.{Path, whole, feeding, aiding, trying, Row, stands, pends, Numbered, right_of, left_of, marks, sides, inside}
 use Rattle.orc_records.specs.Records.{Records, Lawful, context, its_env, raw_path, its_path, side_at, group_side, is_over, rows_of, sides_of, token_row, call_row, counts}
 use Rattle.orc_paths.specs.Paths.{has_left, standing}
@@ -29,7 +29,7 @@ use Rattle.orc_tables.specs.declared.records.Side.{Side}
 use Rattle.orc_tables.specs.declared.records.Side.TheVariants.{Right, Left}
 use Rattle.orc_tables.specs.declared.records.Group.{Group}
 use Rattle.orc_records.proofs.Written.{written-kept}
-use Rattle.orc_tables.proofs.Weight.{weight-append, weight-map, weight-parts, weight-none, none-alike, weight-but}
+use Rattle.orc_indexes.proofs.Weight.{weight-append, weight-map, weight-parts, weight-none, none-alike, weight-but}
 use Rattle.orc_paths.proofs.Around.{plug, path_of, cells_of, replaced, Opened, marks-plug, sides-plug}
 use Rattle.orc_paths.proofs.Kept as kept
 use Rattle.orc_paths.specs.Taking.{taker}

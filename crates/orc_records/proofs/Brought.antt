@@ -8,7 +8,7 @@ use Rattle.orc_rules.specs.Term.{Term}
 use Rattle.orc_names.specs.declared.names.Bound.{Bound}
 use Rattle.orc_names.specs.declared.names.Scope.{Scope}
 use Rattle.orc_journal.specs.Sizes.{brings, opens, feeds, total, IsCrowded}
-use Rattle.orc_tables.specs.Same.{weight}
+use Rattle.orc_indexes.specs.Same.{weight}
 use Rattle.orc_tables.specs.Steps.{depth_at, depth_of}
 use Rattle.orc_tables.specs.declared.records.Token.{Token}
 use Rattle.orc_tables.specs.declared.records.Call.{Call as Asked}
@@ -16,7 +16,7 @@ use Rattle.orc_tables.specs.declared.records.Step.{Step}
 use Rattle.orc_tables.specs.declared.records.Group.{Group}
 use Rattle.orc_tables.specs.declared.records.Side.{Side}
 use Rattle.orc_tables.specs.declared.records.Side.TheVariants.{Right, Left}
-use Rattle.orc_tables.proofs.Weight.{weight-length, weight-but}
+use Rattle.orc_indexes.proofs.Weight.{weight-length, weight-but}
 use Rattle.orc_paths.specs.Taking.{bare}
 use Rattle.orc_paths.specs.declared.what.What.{What}
 use Rattle.orc_paths.specs.declared.what.What.TheVariants.{Halt, Fork, Seq, Prune, Other, Def, Void, Publish, Send, Bind, Call, Wait}

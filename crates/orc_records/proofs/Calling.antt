@@ -8,7 +8,7 @@ use Rattle.orc_rules.specs.Sites.{Site, find, is_scripted}
 use Rattle.orc_rules.specs.Timed.{nth_of}
 use Rattle.orc_names.specs.declared.names.Bound.{Bound}
 use Rattle.orc_names.specs.declared.names.Scope.{Scope}
-use Rattle.orc_tables.specs.Same.{weight}
+use Rattle.orc_indexes.specs.Same.{weight}
 use Rattle.orc_records.specs.Records.{Records, Lawful}
 use Rattle.orc_records.specs.Told.{AreTold}
 use Rattle.orc_records.specs.Calls.{Turns, Crosses, Resumes, Exchanges, Drops, call_goes}
@@ -16,7 +16,7 @@ use Rattle.orc_tables.specs.declared.records.Token.{Token}
 use Rattle.orc_tables.specs.declared.records.Call.{Call}
 use Rattle.orc_tables.specs.declared.records.Step.{Step}
 use Rattle.orc_tables.specs.declared.records.Group.{Group}
-use Rattle.orc_tables.proofs.Weight.{weight-but}
+use Rattle.orc_indexes.proofs.Weight.{weight-but}
 use Rattle.orc_records.proofs.Keeping.{IsNoCall, cancels_none, told-kept, told-call}
 
 module _ (l : Listing) (sites : List Site) (s s' : Records) (L : Lawful l sites s) (L' : Lawful l sites s') (told : AreTold sites L.place.calls s.calls) where

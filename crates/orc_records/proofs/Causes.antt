@@ -15,7 +15,7 @@ use Rattle.orc_rules.specs.Journal.{Place, next, Leads}
 use Rattle.orc_rules.specs.Refusal.{Stands, HasToken, HasCell, Fits, IsThere, Meets}
 use Rattle.orc_rules.proofs.Refusal.{meets_and_leads}
 use Rattle.orc_names.specs.Scopes.{close}
-use Rattle.orc_tables.specs.Same.{weight}
+use Rattle.orc_indexes.specs.Same.{weight}
 use Rattle.orc_paths.specs.Spelling.{Path, whole, feeding, aiding, trying, marks, sides, inside, within}
 use Rattle.orc_records.specs.Records.{Records, Lawful, context, its_env, its_path, side_at, is_over}
 use Rattle.orc_paths.specs.Paths.{has_left}
@@ -28,7 +28,7 @@ use Rattle.orc_paths.specs.declared.what.What.TheVariants.{Halt, Fork, Seq, Prun
 use Rattle.orc_tables.specs.declared.records.Token.{Token}
 use Rattle.orc_tables.specs.declared.records.Side.TheVariants.{Right, Left}
 use Rattle.orc_tables.specs.declared.records.Group.{Group}
-use Rattle.orc_tables.proofs.Weight.{weight-append}
+use Rattle.orc_indexes.proofs.Weight.{weight-append}
 use Rattle.orc_paths.proofs.Around.{plug, path_of, cells_of, replaced, Opened, marks-plug, sides-plug}
 use Rattle.orc_records.proofs.Lists.{token_found, side_found, empty-halted}
 use Rattle.orc_paths.proofs.Kept as kept

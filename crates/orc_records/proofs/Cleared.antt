@@ -6,7 +6,7 @@ use Rattle.orc_rules.specs.declared.value.Value.{Value}
 use Rattle.orc_rules.specs.Term.{Term}
 use Rattle.orc_rules.specs.Nodes.{Listing, code, definitions}
 use Rattle.orc_rules.specs.Sites.{Site}
-use Rattle.orc_tables.specs.Same.{weight, is_this}
+use Rattle.orc_indexes.specs.Same.{weight, is_this}
 use Rattle.orc_tables.specs.Steps.{step_at, group_at, depth_at}
 use Rattle.orc_tables.specs.Tokens.{IsHeld}
 use Rattle.orc_tables.specs.declared.records.Entered.TheVariants.{Feed}
@@ -15,7 +15,7 @@ use Rattle.orc_tables.specs.declared.records.Call.{Call as Pending}
 use Rattle.orc_tables.specs.declared.records.Step.{Step}
 use Rattle.orc_tables.specs.declared.records.Group.{Group}
 use Rattle.orc_tables.proofs.Placed.{same_some, end-got}
-use Rattle.orc_tables.proofs.Weight.{none-alike, weight-none, this_is, this_not, one-most}
+use Rattle.orc_indexes.proofs.Weight.{none-alike, weight-none, this_is, this_not, one-most}
 use Rattle.orc_paths.specs.Paths.{is_out}
 use Rattle.orc_paths.specs.Spelling.{Path, whole, feeding, aiding, trying}
 use Rattle.orc_paths.specs.Taking.{taker}

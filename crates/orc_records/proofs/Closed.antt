@@ -7,7 +7,7 @@ use Rattle.orc_rules.specs.Nodes.{Listing, code, source}
 use Rattle.orc_rules.specs.Sites.{Site}
 use Rattle.orc_rules.specs.Journal.{Journal, begin}
 use Rattle.orc_names.specs.Scopes.{close, env_of}
-use Rattle.orc_tables.specs.Same.{weight, only, None}
+use Rattle.orc_indexes.specs.Same.{weight, only, None}
 use Rattle.orc_paths.specs.Spelling.{Row, stands, pends, Numbered, right_of, left_of, seen}
 use Rattle.orc_records.specs.Records.{Records, Lawful, context, its_path, rows_of, sides_of, token_row, call_row, side_at, group_side, is_over, is_settled, group_out, has_serial, counts}
 use Rattle.orc_paths.specs.Paths.{path, has_left, standing, step_out, entered_out}
@@ -20,7 +20,7 @@ use Rattle.orc_tables.specs.declared.records.Token.{Token}
 use Rattle.orc_tables.specs.declared.records.Side.{Side}
 use Rattle.orc_tables.specs.declared.records.Side.TheVariants.{Right, Left}
 use Rattle.orc_tables.specs.declared.records.Group.{Group}
-use Rattle.orc_tables.proofs.Weight.{weight-append, weight-map, weight-filter, weight-same, none-in}
+use Rattle.orc_indexes.proofs.Weight.{weight-append, weight-map, weight-filter, weight-same, none-in}
 
 module _ (l : Listing) (sites : List Site) (s : Records) (L : Lawful l sites s) (g : Group) (over : is_over (code l) s g.side ≡ true) (s' : Records) (T : Closes s s' g) where
   path_same : (j : ℕ) → its_path (code l) s' j ≡ its_path (code l) s j

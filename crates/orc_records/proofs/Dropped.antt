@@ -14,7 +14,7 @@ use Rattle.orc_rules.specs.Timed.{IsIn, IsRising}
 use Rattle.orc_rules.specs.Numbered.{call}
 use Rattle.orc_names.specs.declared.names.Bound.{Bound}
 use Rattle.orc_names.specs.Scopes.{Env}
-use Rattle.orc_tables.specs.Same.{weight, only, but, is_this}
+use Rattle.orc_indexes.specs.Same.{weight, only, but, is_this}
 use Rattle.orc_paths.specs.Spelling.{inside, whole}
 use Rattle.orc_records.specs.Records.{Records, Lawful, its_env, raw_path, side_out, token_out, call_out, group_out, token_row}
 use Rattle.orc_paths.specs.Paths.{path, inwards, is_out}
@@ -30,7 +30,7 @@ use Rattle.orc_tables.specs.declared.records.Step.{Step}
 use Rattle.orc_tables.specs.declared.records.Side.{Side}
 use Rattle.orc_tables.specs.declared.records.Side.TheVariants.{Right, Left}
 use Rattle.orc_tables.specs.declared.records.Group.{Group}
-use Rattle.orc_tables.proofs.Weight.{weight-in, weight-least, weight-none, weight-sum_by, none-alike, some-in, this_one, this_is}
+use Rattle.orc_indexes.proofs.Weight.{weight-in, weight-least, weight-none, weight-sum_by, none-alike, some-in, this_one, this_is}
 use Rattle.orc_paths.proofs.Growth.{or_false, path-unfold, path-none}
 use Rattle.orc_tables.proofs.Placed.{there}
 use Rattle.orc_records.proofs.Lists.{is_call, times-calls, numbered, rows-weigh}

@@ -7,7 +7,7 @@ use Rattle.orc_names.specs.declared.names.Bound.{Bound}
 use Rattle.orc_names.specs.declared.names.Bound.TheVariants.{Cell}
 use Rattle.orc_names.specs.Scopes.{given, close, env_of}
 use Rattle.orc_names.proofs.Filling.{fill_env, env_of-fill, closed-fill, code-stays}
-use Rattle.orc_tables.specs.Same.{weight, only, but}
+use Rattle.orc_indexes.specs.Same.{weight, only, but}
 use Rattle.orc_paths.specs.Spelling.{Path, aiding, Row, stands, pends, Numbered, right_of, left_of, inside, seen}
 use Rattle.orc_records.specs.Records.{Records, Sound, its_env, raw_path, its_path, rows_of, sides_of, token_row, call_row, side_at, group_side, is_over, is_own, is_settled, token_out, call_out, group_out, has_serial}
 use Rattle.orc_paths.specs.Paths.{has_left, path}
@@ -18,7 +18,7 @@ use Rattle.orc_tables.specs.declared.records.Step.{Step}
 use Rattle.orc_tables.specs.declared.records.Side.{Side}
 use Rattle.orc_tables.specs.declared.records.Side.TheVariants.{Right, Left}
 use Rattle.orc_tables.specs.declared.records.Group.{Group}
-use Rattle.orc_tables.proofs.Weight.{weight-append, weight-map, weight-filter, weight-same, weight-least, weight-none, none-alike}
+use Rattle.orc_indexes.proofs.Weight.{weight-append, weight-map, weight-filter, weight-same, weight-least, weight-none, none-alike}
 use Rattle.orc_paths.proofs.Kept.{fill_path, kept, kept_side}
 use Rattle.orc_records.proofs.Filled.{standing-fill, path-fill, seen-fill, inside-seen}
 use Rattle.orc_records.proofs.Cells.{becomes, own_filled, set_other}

@@ -8,7 +8,7 @@ use Rattle.orc_rules.specs.Nodes.{Listing, code}
 use Rattle.orc_rules.specs.Sites.{Site}
 use Rattle.orc_rules.specs.Timed.{IsIn}
 use Rattle.orc_rules.specs.Numbered.{Name, mark, cell, once}
-use Rattle.orc_tables.specs.Same.{weight, only, but, None, is_this}
+use Rattle.orc_indexes.specs.Same.{weight, only, but, None, is_this}
 use Rattle.orc_paths.specs.Spelling.{Path, whole, inside, within}
 use Rattle.orc_records.specs.Records.{Records, Sound, Lawful, its_env, raw_path, its_path, group_side, side_at, is_over}
 use Rattle.orc_paths.specs.Paths.{has_left, is_number}
@@ -24,7 +24,7 @@ use Rattle.orc_tables.specs.declared.records.Step.{Step}
 use Rattle.orc_tables.specs.declared.records.Side.{Side}
 use Rattle.orc_tables.specs.declared.records.Side.TheVariants.{Right, Left}
 use Rattle.orc_tables.specs.declared.records.Group.{Group}
-use Rattle.orc_tables.proofs.Weight.{weight-in, weight-least, none-alike, this_is}
+use Rattle.orc_indexes.proofs.Weight.{weight-in, weight-least, none-alike, this_is}
 use Rattle.orc_paths.proofs.Growth.{path-none}
 use Rattle.orc_records.proofs.Homes.{home-least}
 use Rattle.orc_records.proofs.Lists.{sides-weigh}

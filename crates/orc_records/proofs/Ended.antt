@@ -8,11 +8,11 @@ use Rattle.orc_rules.specs.Timed.{IsIn}
 use Rattle.orc_records.specs.Records.{Records, Lawful, its_env}
 use Rattle.orc_records.specs.Homes.{Nest}
 use Rattle.orc_records.specs.Next.{Numbers, AreGrouped, members}
-use Rattle.orc_tables.specs.Same.{is_this}
+use Rattle.orc_indexes.specs.Same.{is_this}
 use Rattle.orc_tables.specs.declared.records.Token.{Token}
 use Rattle.orc_tables.specs.declared.records.Call.{Call}
 use Rattle.orc_tables.specs.declared.records.Group.{Group}
-use Rattle.orc_tables.proofs.Weight.{weight-in, this_is}
+use Rattle.orc_indexes.proofs.Weight.{weight-in, this_is}
 use Rattle.orc_records.proofs.Homes.{home-least}
 use Rattle.orc_records.proofs.Someone.{get-within, some_same}
 use Rattle.orc_records.proofs.Binding.{ended-halted}

@@ -9,7 +9,7 @@ use Rattle.orc_rules.specs.Timed.{IsIn}
 use Rattle.orc_names.specs.declared.names.Bound.{Bound}
 use Rattle.orc_names.specs.declared.names.Bound.TheVariants.{Cell}
 use Rattle.orc_names.specs.declared.names.Scope.{Scope}
-use Rattle.orc_tables.specs.Same.{weight, only, but, None, is_this}
+use Rattle.orc_indexes.specs.Same.{weight, only, but, None, is_this}
 use Rattle.orc_paths.specs.Spelling.{aiding, inside}
 use Rattle.orc_records.specs.Records.{Records, Lawful, its_env, raw_path, group_out, side_out}
 use Rattle.orc_tables.specs.Steps.{group_at, group_of, depth_at}
@@ -27,7 +27,7 @@ use Rattle.orc_tables.specs.declared.records.Step.{Step}
 use Rattle.orc_tables.specs.declared.records.Side.{Side}
 use Rattle.orc_tables.specs.declared.records.Side.TheVariants.{Right, Left}
 use Rattle.orc_tables.specs.declared.records.Group.{Group}
-use Rattle.orc_tables.proofs.Weight.{weight-in, weight-parts, weight-none, none-weaker, none-alike, none-in, some-in, this_one, this_is}
+use Rattle.orc_indexes.proofs.Weight.{weight-in, weight-parts, weight-none, none-weaker, none-alike, none-in, some-in, this_one, this_is}
 use Rattle.orc_paths.proofs.Growth.{or_false, path-none}
 use Rattle.orc_records.proofs.Homes.{inn-home, inn-step}
 use Rattle.orc_records.proofs.Someone.{some_same, token_within, call_within, get-within}

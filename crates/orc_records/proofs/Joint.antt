@@ -29,7 +29,7 @@ use Rattle.orc_records.specs.Offered.{is_move, HasNext, IsAnswerable, IsLosing, 
 use Rattle.orc_tables.specs.declared.records.Token.{Token}
 use Rattle.orc_tables.specs.declared.records.Call.{Call}
 use Rattle.orc_paths.specs.declared.what.What.TheVariants as what
-use Rattle.orc_tables.proofs.Weight.{weight-in}
+use Rattle.orc_indexes.proofs.Weight.{weight-in}
 use Rattle.orc_paths.proofs.Finding.{in_front, in_back}
 use Rattle.orc_records.proofs.Filled.{inside-seen}
 use Rattle.orc_records.proofs.Offers.{its_source}

@@ -22,11 +22,11 @@ use Rattle.orc_rules.specs.Numbered.{AreCounted}
 use Rattle.orc_rules.proofs.Determined.{leads_to_one}
 use Rattle.orc_rules.proofs.Numbered.{next_not}
 use Rattle.orc_calls.specs.Counting.{AreCounted as HaveCounts, CountsCall}
-use Rattle.orc_tables.specs.Same.{weight, only}
+use Rattle.orc_indexes.specs.Same.{weight, only}
 use Rattle.orc_records.specs.Records.{Records, Lawful, context}
 use Rattle.orc_records.specs.Told.{found_eq, is_nth, is_told, AreTold}
 use Rattle.orc_tables.specs.declared.records.Call.{Call}
-use Rattle.orc_tables.proofs.Weight.{none-weaker}
+use Rattle.orc_indexes.proofs.Weight.{none-weaker}
 use Rattle.orc_records.proofs.Binding.{journal_more}
 use Rattle.orc_records.proofs.Lists.{numbered}
 use Rattle.orc_records.proofs.Telling.{told_in, told_is, one_call, in_numbers}

@@ -19,7 +19,7 @@ use Rattle.orc_names.specs.declared.names.Scope.{Scope}
 use Rattle.orc_names.specs.Scopes.{Env, close, without, current, env_of}
 use Rattle.orc_names.proofs.Scopes.{env-new}
 use Rattle.orc_names.proofs.Closing.{close-stop, close-par, close-seq, close-prune, close-other, close-more}
-use Rattle.orc_tables.specs.Same.{weight, only, None}
+use Rattle.orc_indexes.specs.Same.{weight, only, None}
 use Rattle.orc_paths.specs.Spelling.{feeding, aiding, trying, stands, right_of, left_of}
 use Rattle.orc_records.specs.Records.{Records, Lawful, context, its_env, its_path, token_row, group_side, token_out, group_out, is_own, is_settled, has_serial}
 use Rattle.orc_paths.specs.Paths.{has_left, standing, is_out, step_out}
@@ -33,7 +33,7 @@ use Rattle.orc_tables.specs.declared.records.Side.{Side}
 use Rattle.orc_records.proofs.Cells.{own_cell}
 use Rattle.orc_tables.specs.declared.records.Side.TheVariants.{Right, Left}
 use Rattle.orc_tables.specs.declared.records.Group.{Group}
-use Rattle.orc_tables.proofs.Weight.{weight-in, none-in, none-weaker, either_one}
+use Rattle.orc_indexes.proofs.Weight.{weight-in, none-in, none-weaker, either_one}
 use Rattle.orc_paths.proofs.Around.{plug, cells_of, replaced}
 use Rattle.orc_records.proofs.Lists.{token_found}
 use Rattle.orc_paths.proofs.Growth.{or_false, both_false, none-left}

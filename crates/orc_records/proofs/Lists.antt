@@ -12,7 +12,7 @@ use Rattle.orc_rules.specs.Numbered.{call, cell, once, times, IsNumbered}
 use Rattle.orc_names.specs.declared.names.Bound.TheVariants.{Cell}
 use Rattle.orc_names.proofs.Inside.{Confined}
 use Rattle.orc_names.proofs.Reached.{reached_numbered, reached_source, reached_confined}
-use Rattle.orc_tables.specs.Same.{weight, only}
+use Rattle.orc_indexes.specs.Same.{weight, only}
 use Rattle.orc_paths.specs.Spelling.{Path, whole, feeding, aiding, trying, Row, stands, pends, Numbered, right_of, left_of, marks, sides}
 use Rattle.orc_records.specs.Records.{Records, Lawful, token_row, call_row, group_side, side_at, its_path, is_over, is_own, is_settled}
 use Rattle.orc_tables.specs.declared.records.Token.{Token}
@@ -20,7 +20,7 @@ use Rattle.orc_tables.specs.declared.records.Call.{Call}
 use Rattle.orc_tables.specs.declared.records.Side.{Side}
 use Rattle.orc_tables.specs.declared.records.Side.TheVariants.{Right, Left}
 use Rattle.orc_tables.specs.declared.records.Group.{Group}
-use Rattle.orc_tables.proofs.Weight.{weight-append, weight-map, weight-filter, weight-in, weight-least}
+use Rattle.orc_indexes.proofs.Weight.{weight-append, weight-map, weight-filter, weight-in, weight-least}
 use Rattle.orc_paths.proofs.Around.{Found, found, hole, is_row, by-self, Opened, opened, is_numbered}
 use Rattle.orc_paths.proofs.Equal.{same_row, same_numbered}
 use Rattle.orc_records.proofs.Cells.{own_cell}

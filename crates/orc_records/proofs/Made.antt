@@ -4,7 +4,7 @@ use Rattle.orc_rules.specs.declared.entry.Entry.{Entry}
 use Rattle.orc_rules.specs.Timed.{IsIn}
 use Rattle.orc_names.specs.declared.names.Bound.{Bound}
 use Rattle.orc_names.specs.declared.names.Scope.{Scope}
-use Rattle.orc_tables.specs.Same.{weight}
+use Rattle.orc_indexes.specs.Same.{weight}
 use Rattle.std.specs.Prelude.{nat_lt}
 use Rattle.std.proofs.lemmas.Bool.{ltb-false}
 use Rattle.orc_rules.specs.Nodes.{Listing}
@@ -16,7 +16,7 @@ use Rattle.orc_paths.specs.Taking.{Publishes}
 use Rattle.orc_tables.specs.declared.records.Token.{Token}
 use Rattle.orc_tables.specs.declared.records.Step.{Step}
 use Rattle.orc_tables.specs.declared.records.Group.{Group}
-use Rattle.orc_tables.proofs.Weight.{weight-append, none-in}
+use Rattle.orc_indexes.proofs.Weight.{weight-append, none-in}
 use Rattle.orc_paths.proofs.Growth.{or_false}
 use Rattle.orc_records.proofs.Sound.{given}
 

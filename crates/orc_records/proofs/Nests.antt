@@ -2,7 +2,7 @@
 use Rattle.std.proofs.Common.{◌≡◌, ◌≤◌, ◌<◌, ℕ, zero, suc, ◌+◌, List, [], ◌∷◌, ◌++◌, refl, sym, ap, ◌∙◌, subst, arith, inl, inr, ◌⊎◌, ⊎_elim, Bool, true, false, cond, nat_eq, eq-eqb, not, Option, Some, None as Nothing, length, length-append, map}
 use Rattle.std.proofs.lemmas.Bool.{eqb-true}
 use Rattle.std.specs.Prelude.{slice_get, slice_index_or}
-use Rattle.orc_tables.specs.Same.{weight, only, but, None, is_this}
+use Rattle.orc_indexes.specs.Same.{weight, only, but, None, is_this}
 use Rattle.orc_tables.specs.Steps.{group_at, group_of}
 use Rattle.orc_paths.specs.Taking.{bare}
 use Rattle.orc_records.specs.Homes.{home, home_by, AreHomes, Nest, AreNests}
@@ -11,7 +11,7 @@ use Rattle.orc_tables.specs.declared.records.Entered.{Entered}
 use Rattle.orc_tables.specs.declared.records.Entered.TheVariants.{Feed, Aid, Try}
 use Rattle.orc_tables.specs.declared.records.Step.{Step}
 use Rattle.orc_tables.specs.declared.records.Group.{Group}
-use Rattle.orc_tables.proofs.Weight.{none-weaker, none-alike, weight-none, this_is, this_not}
+use Rattle.orc_indexes.proofs.Weight.{none-weaker, none-alike, weight-none, this_is, this_not}
 use Rattle.orc_records.proofs.Sound.{get_more, get_kept, get_end}
 use Rattle.orc_records.proofs.Leaves.{got_one}
 use Rattle.orc_records.proofs.Someone.{some_same}

@@ -13,7 +13,7 @@ use Rattle.orc_rules.specs.Numbered.{call as called, times}
 use Rattle.orc_rules.specs.Pending.{PendsDue, IsNextDue}
 use Rattle.orc_rules.proofs.Pending.{pending_by_names}
 use Rattle.orc_rules.proofs.Tests.{tick_by_test, quiet_by_test}
-use Rattle.orc_tables.specs.Same.{weight}
+use Rattle.orc_indexes.specs.Same.{weight}
 use Rattle.orc_paths.specs.Spelling.{whole}
 use Rattle.orc_records.specs.Records.{Records, Lawful, context, token_row}
 use Rattle.orc_tables.specs.PendingCalls.{has_number, due_of, next_due}
@@ -25,7 +25,7 @@ use Rattle.orc_tables.specs.declared.records.Token.{Token}
 use Rattle.orc_tables.specs.declared.records.Call.{Call}
 use Rattle.orc_tables.specs.declared.records.Group.{Group}
 use Rattle.orc_records.specs.Laws.{Cause}
-use Rattle.orc_tables.proofs.Weight.{weight-in, weight-none, either_one, some-in}
+use Rattle.orc_indexes.proofs.Weight.{weight-in, weight-none, either_one, some-in}
 use Rattle.orc_records.proofs.Lists.{numbered, holds_source, rows-weigh, is_call, times-calls}
 use Rattle.orc_records.proofs.Telling.{told_in, one_call, due_is, is_due}
 use Rattle.orc_tables.proofs.Ripe.{next_none, next_some, next_least}

@@ -10,7 +10,7 @@ use Rattle.orc_rules.specs.Marked.{Marked, ended, token, in_call, in_par, in_seq
 use Rattle.orc_rules.specs.Timed.{IsIn}
 use Rattle.orc_rules.specs.Numbered.{Name, mark, call, cell}
 use Rattle.orc_rules.proofs.Idle.{halted_test}
-use Rattle.orc_tables.specs.Same.{weight, only}
+use Rattle.orc_indexes.specs.Same.{weight, only}
 use Rattle.orc_paths.specs.Spelling.{Path, whole, feeding, aiding, trying, Row, stands, pends, marks, sides}
 use Rattle.orc_records.specs.Records.{Records, Lawful, its_path, token_row, call_row, group_side, side_at, is_over}
 use Rattle.orc_paths.specs.Paths.{has_left}
@@ -20,7 +20,7 @@ use Rattle.orc_tables.specs.declared.records.Call.{Call}
 use Rattle.orc_tables.specs.declared.records.Side.{Side}
 use Rattle.orc_tables.specs.declared.records.Side.TheVariants.{Right, Left}
 use Rattle.orc_tables.specs.declared.records.Group.{Group}
-use Rattle.orc_tables.proofs.Weight.{weight-append, weight-in, weight-least, some-in}
+use Rattle.orc_indexes.proofs.Weight.{weight-append, weight-in, weight-least, some-in}
 use Rattle.orc_records.proofs.Lists.{rows-weigh, sides-weigh}
 use Rattle.orc_paths.proofs.Still.{in_name, row_at, is_side, aiding_out, trying_out, feeding_same, none_in}
 use Rattle.orc_records.proofs.Resting.{side_once}

@@ -7,8 +7,8 @@ use Rattle.orc_rules.specs.Sites.{Site}
 use Rattle.orc_rules.specs.Timed.{IsIn, IsDue, number_of}
 use Rattle.orc_rules.specs.Numbered.{AreCounted}
 use Rattle.orc_tables.specs.PendingCalls.{due_of, has_number, IsDueBeyond}
-use Rattle.orc_tables.specs.Same.{weight}
-use Rattle.orc_tables.proofs.Weight.{weight-in}
+use Rattle.orc_indexes.specs.Same.{weight}
+use Rattle.orc_indexes.proofs.Weight.{weight-in}
 use Rattle.orc_tables.specs.declared.records.Call.{Call}
 use Rattle.orc_records.specs.Records.{Records}
 use Rattle.orc_records.specs.Kept.{Kept}

@@ -9,14 +9,14 @@ use Rattle.orc_rules.specs.Timed.{IsIn, IsTick}
 use Rattle.orc_rules.specs.Journal.{Place, moment, IsVoid, Leads, begin}
 use Rattle.orc_names.specs.declared.names.Bound.{Bound}
 use Rattle.orc_names.specs.Scopes.{current}
-use Rattle.orc_tables.specs.Same.{weight, only}
+use Rattle.orc_indexes.specs.Same.{weight, only}
 use Rattle.orc_records.specs.Records.{Records, Lawful, context, its_env, is_settled, counts}
 use Rattle.orc_paths.specs.Paths.{standing}
 use Rattle.orc_records.specs.Calls.{Turns}
 use Rattle.orc_tables.specs.declared.records.Token.{Token}
 use Rattle.orc_tables.specs.declared.records.Group.{Group}
 use Rattle.orc_records.proofs.Written.{written-kept}
-use Rattle.orc_tables.proofs.Weight.{weight-append}
+use Rattle.orc_indexes.proofs.Weight.{weight-append}
 use Rattle.orc_paths.proofs.Around.{plug, cells_of, replaced}
 use Rattle.orc_records.proofs.Lists.{token_found}
 use Rattle.orc_records.proofs.Binding.{journal_more}

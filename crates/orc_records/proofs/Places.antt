@@ -3,7 +3,7 @@ use Rattle.std.proofs.Common.{◌≡◌, ◌≤◌, ℕ, zero, suc, List, refl, 
 use Rattle.std.proofs.lemmas.Bool.{eqb-true, ltb-false, le-ltb}
 use Rattle.std.specs.Prelude.{slice_get, nat_lt, ◌&&◌}
 use Rattle.orc_rules.specs.Timed.{IsIn}
-use Rattle.orc_tables.specs.Same.{None}
+use Rattle.orc_indexes.specs.Same.{None}
 use Rattle.orc_tables.specs.Steps.{group_at}
 use Rattle.orc_records.specs.Homes.{home, Nest}
 use Rattle.orc_records.specs.Next.{IsSide}
@@ -13,7 +13,7 @@ use Rattle.orc_tables.specs.declared.records.Step.{Step}
 use Rattle.orc_tables.specs.declared.records.Side.{Side}
 use Rattle.orc_tables.specs.declared.records.Side.TheVariants.{Right, Left}
 use Rattle.orc_tables.specs.declared.records.Group.{Group}
-use Rattle.orc_tables.proofs.Weight.{none-in}
+use Rattle.orc_indexes.proofs.Weight.{none-in}
 use Rattle.orc_records.proofs.Emptied.{none-of}
 
 pub both_true : (a b : Bool) → a ≡ true → b ≡ true → (a && b) ≡ true

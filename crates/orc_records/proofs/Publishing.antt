@@ -10,7 +10,7 @@ use Rattle.orc_rules.specs.Timed.{IsIn}
 use Rattle.orc_names.specs.declared.names.Scope.{Scope}
 use Rattle.orc_names.specs.Scopes.{Env, close, env_of}
 use Rattle.orc_names.proofs.Scopes.{env-kept}
-use Rattle.orc_tables.specs.Same.{weight, only, None}
+use Rattle.orc_indexes.specs.Same.{weight, only, None}
 use Rattle.orc_paths.specs.Spelling.{Path, whole, feeding, aiding, trying, Row, stands, pends, Numbered, right_of, left_of, seen}
 use Rattle.orc_records.specs.Records.{Records, Sound, Lawful, its_env, raw_path, its_path, rows_of, sides_of, token_row, call_row, side_at, group_side, is_over, token_out, call_out, side_out, group_out, has_serial}
 use Rattle.orc_paths.specs.Paths.{paths_from, inwards, has_left, standing, is_out, step_out, entered_out, is_number, tries}
@@ -21,7 +21,7 @@ use Rattle.orc_tables.specs.declared.records.Token.{Token}
 use Rattle.orc_tables.specs.declared.records.Step.{Step}
 use Rattle.orc_tables.specs.declared.records.Side.{Side}
 use Rattle.orc_tables.specs.declared.records.Side.TheVariants.{Right, Left}
-use Rattle.orc_tables.proofs.Weight.{weight-append, weight-map, weight-filter, weight-same, none-alike, none-weaker, none-in, either_one}
+use Rattle.orc_indexes.proofs.Weight.{weight-append, weight-map, weight-filter, weight-same, none-alike, none-weaker, none-in, either_one}
 use Rattle.orc_paths.proofs.Growth.{or_false, both_false, standing-same, paths-same}
 use Rattle.orc_records.proofs.Turning.{lt_less, out_less}
 use Rattle.orc_records.proofs.Sound.{get_more, none-tries, entered_less}

@@ -16,7 +16,7 @@ use Rattle.orc_tables.specs.declared.records.Call.{Call}
 use Rattle.orc_records.proofs.Keeping.{CallsAfter, calls_entered}
 use Rattle.orc_records.proofs.Lists.{numbered}
 use Rattle.orc_records.proofs.Telling.{told_in, one_call}
-use Rattle.orc_tables.proofs.Weight.{none-in}
+use Rattle.orc_indexes.proofs.Weight.{none-in}
 
 -- what was made stays made
 after-in : (p q : Place) (e : Entry) → CallsAfter p e q → (c : CallMade) → IsIn c p.calls → IsIn c q.calls

@@ -11,7 +11,7 @@ use Rattle.orc_rules.specs.Lost.{IsSource}
 use Rattle.orc_rules.specs.Timed.{IsIn}
 use Rattle.orc_rules.specs.Numbered.{Name, mark, call as called, cell, once}
 use Rattle.orc_rules.proofs.Counts.{moves_by_count}
-use Rattle.orc_tables.specs.Same.{weight, only}
+use Rattle.orc_indexes.specs.Same.{weight, only}
 use Rattle.orc_paths.specs.Spelling.{Path, whole, feeding, aiding, trying, Row, Numbered, right_of, left_of, marks, sides, inside, seen, within}
 use Rattle.orc_records.specs.Records.{Records, Lawful, raw_path, its_path, its_env, token_row, call_row, group_side, side_at, is_over}
 use Rattle.orc_paths.specs.Paths.{has_left, is_number, inwards}
@@ -26,7 +26,7 @@ use Rattle.orc_tables.specs.declared.records.Entered.TheVariants.{Feed, Aid, Try
 use Rattle.orc_tables.specs.declared.records.Side.{Side}
 use Rattle.orc_tables.specs.declared.records.Side.TheVariants.{Right, Left}
 use Rattle.orc_tables.specs.declared.records.Group.{Group}
-use Rattle.orc_tables.proofs.Weight.{weight-in, weight-same, weight-none, either_one, some-in}
+use Rattle.orc_indexes.proofs.Weight.{weight-in, weight-same, weight-none, either_one, some-in}
 use Rattle.orc_paths.proofs.Around.{is_row, by, by-self}
 use Rattle.orc_paths.proofs.Equal.{same_row}
 use Rattle.orc_records.proofs.Filled.{inside-seen}

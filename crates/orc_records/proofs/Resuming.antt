@@ -9,7 +9,7 @@ use Rattle.orc_rules.specs.Marked.{Marked, ended, token, in_call, in_par, in_seq
 use Rattle.orc_rules.specs.Timed.{IsIn}
 use Rattle.orc_rules.specs.Journal.{Place, Enters, Journal, begin}
 use Rattle.orc_names.specs.Scopes.{close, env_of}
-use Rattle.orc_tables.specs.Same.{weight, only, None}
+use Rattle.orc_indexes.specs.Same.{weight, only, None}
 use Rattle.orc_paths.specs.Spelling.{Path, whole, feeding, aiding, trying, Row, stands, pends, Numbered, right_of, left_of, marks, sides, seen, within}
 use Rattle.orc_records.specs.Records.{Records, Lawful, context, its_env, raw_path, its_path, rows_of, sides_of, token_row, call_row, side_at, group_side, is_over, token_out, side_out, group_out, is_settled, has_serial, counts}
 use Rattle.orc_paths.specs.Paths.{path, has_left, standing, step_out}
@@ -21,7 +21,7 @@ use Rattle.orc_tables.specs.declared.records.Side.{Side}
 use Rattle.orc_tables.specs.declared.records.Side.TheVariants.{Right, Left}
 use Rattle.orc_tables.specs.declared.records.Group.{Group}
 use Rattle.orc_records.proofs.Written.{written-kept}
-use Rattle.orc_tables.proofs.Weight.{weight-append, weight-map, weight-filter, weight-same, weight-none, none-alike, none-weaker, none-in, either_one}
+use Rattle.orc_indexes.proofs.Weight.{weight-append, weight-map, weight-filter, weight-same, weight-none, none-alike, none-weaker, none-in, either_one}
 use Rattle.orc_paths.proofs.Around.{plug, path_of, cells_of, replaced, Opened, marks-plug, sides-plug}
 use Rattle.orc_records.proofs.Lists.{rows-weigh, sides-weigh, side_found, empty-halted}
 use Rattle.orc_records.proofs.Binding.{journal_more}

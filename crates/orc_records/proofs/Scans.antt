@@ -2,8 +2,8 @@
 use Rattle.std.proofs.Common.{◌≡◌, ◌≤◌, ◌<◌, ◌+◌, ℕ, List, [], ◌∷◌, length, take, get_or, ap, ◌∙◌, arith, true, Option, Some, None}
 use Rattle.std.specs.Option.{MatchOption, is_some}
 use Rattle.std.proofs.lemmas.List.{take_more, take_all}
-use Rattle.orc_tables.specs.Same.{weight}
-use Rattle.orc_tables.proofs.Weight.{weight-append, weight-in, in-got}
+use Rattle.orc_indexes.specs.Same.{weight}
+use Rattle.orc_indexes.proofs.Weight.{weight-append, weight-in, in-got}
 
 pub none-so-far : {X : Type 0} (w : X → ℕ) (xs : List X) (i : ℕ) (d : X) → i < length xs → weight w (take i xs) ≡ 0 → w (get_or xs i d) ≡ 0 → weight w (take (i + 1) xs) ≡ 0
 none-so-far w xs i d lt before this = ap (weight w) (take_more xs i d lt) ∙ (weight-append w (take i xs) (get_or xs i d ∷ []) ∙ omega (arith, before, this))

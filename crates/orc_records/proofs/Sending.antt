@@ -17,7 +17,7 @@ use Rattle.orc_names.specs.declared.names.Scope.{Scope}
 use Rattle.orc_names.specs.Scopes.{close, without, env_of}
 use Rattle.orc_names.proofs.Scopes.{env-new}
 use Rattle.orc_names.proofs.Closing.{close-more}
-use Rattle.orc_tables.specs.Same.{weight}
+use Rattle.orc_indexes.specs.Same.{weight}
 use Rattle.orc_paths.specs.Spelling.{Path, whole, feeding, Row, stands, Numbered, marks, sides}
 use Rattle.orc_records.specs.Records.{Records, Lawful, context, its_env, its_path, rows_of, sides_of, token_row, token_out, counts}
 use Rattle.orc_paths.specs.Paths.{standing}
@@ -25,7 +25,7 @@ use Rattle.orc_records.specs.Calls.{Crosses}
 use Rattle.orc_tables.specs.declared.records.Standing.TheVariants.{At}
 use Rattle.orc_tables.specs.declared.records.Token.{Token}
 use Rattle.orc_records.proofs.Written.{written-kept}
-use Rattle.orc_tables.proofs.Weight.{weight-append}
+use Rattle.orc_indexes.proofs.Weight.{weight-append}
 use Rattle.orc_paths.proofs.Around.{Around, plug, marks-plug, sides-plug}
 use Rattle.orc_paths.specs.Taking.{taker, crossed}
 use Rattle.orc_records.proofs.Lists.{token_found, numbered}

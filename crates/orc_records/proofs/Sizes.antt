@@ -8,7 +8,7 @@ use Rattle.orc_rules.specs.Sites.{Site}
 use Rattle.orc_rules.specs.Timed.{IsIn}
 use Rattle.orc_names.specs.declared.names.Bound.{Bound}
 use Rattle.orc_names.specs.declared.names.Scope.{Scope}
-use Rattle.orc_tables.specs.Same.{weight, is_this}
+use Rattle.orc_indexes.specs.Same.{weight, is_this}
 use Rattle.orc_records.specs.Records.{Records, Sound, Lawful, token_out, call_out, group_out, side_out}
 use Rattle.orc_paths.specs.Paths.{is_out}
 use Rattle.orc_tables.specs.Steps.{group_at}
@@ -20,7 +20,7 @@ use Rattle.orc_tables.specs.declared.records.Token.{Token}
 use Rattle.orc_tables.specs.declared.records.Call.{Call}
 use Rattle.orc_tables.specs.declared.records.Step.{Step}
 use Rattle.orc_tables.specs.declared.records.Group.{Group}
-use Rattle.orc_tables.proofs.Weight.{weight-in, weight-append, weight-same, none-alike, this_is, one-most}
+use Rattle.orc_indexes.proofs.Weight.{weight-in, weight-append, weight-same, none-alike, this_is, one-most}
 use Rattle.orc_paths.proofs.Growth.{or_false}
 use Rattle.orc_records.proofs.Someone.{token_within}
 use Rattle.orc_records.proofs.Places.{IsPlaced}

@@ -4,7 +4,7 @@ use Rattle.std.proofs.lemmas.Bool.{ltb-false}
 use Rattle.std.specs.Prelude.{slice_get, ◌||◌, nat_lt}
 use Rattle.orc_rules.specs.Term.{Term}
 use Rattle.orc_rules.specs.Timed.{IsIn}
-use Rattle.orc_tables.specs.Same.{weight, is_this}
+use Rattle.orc_indexes.specs.Same.{weight, is_this}
 use Rattle.orc_paths.specs.Spelling.{Path}
 use Rattle.orc_records.specs.Records.{Records, Sound, its_env, raw_path, token_out, call_out}
 use Rattle.orc_paths.specs.Paths.{inwards, is_out}
@@ -16,7 +16,7 @@ use Rattle.orc_tables.specs.declared.records.Entered.{Entered}
 use Rattle.orc_tables.specs.declared.records.Entered.TheVariants.{Feed, Aid, Try}
 use Rattle.orc_tables.specs.declared.records.Step.{Step}
 use Rattle.orc_tables.specs.declared.records.Group.{Group}
-use Rattle.orc_tables.proofs.Weight.{weight-in, none-in, either_one, some-in, this_one}
+use Rattle.orc_indexes.proofs.Weight.{weight-in, none-in, either_one, some-in, this_one}
 use Rattle.orc_tables.proofs.Placed.{there}
 use Rattle.orc_paths.proofs.Growth.{path-unfold}
 use Rattle.orc_records.proofs.Homes.{home-least}

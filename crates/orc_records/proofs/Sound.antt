@@ -12,7 +12,7 @@ use Rattle.orc_names.specs.declared.names.Bound.{Bound}
 use Rattle.orc_names.specs.declared.names.Bound.TheVariants.{Cell}
 use Rattle.orc_names.specs.declared.names.Scope.{Scope}
 use Rattle.orc_names.specs.Scopes.{current}
-use Rattle.orc_tables.specs.Same.{weight, only, None}
+use Rattle.orc_indexes.specs.Same.{weight, only, None}
 use Rattle.orc_paths.specs.Spelling.{whole}
 use Rattle.orc_records.specs.Records.{Records, Sound, Lawful, token_row, token_out, group_out, is_settled, has_serial}
 use Rattle.orc_paths.specs.Paths.{has_left, step_out, entered_out, tries, is_number}
@@ -22,7 +22,7 @@ use Rattle.orc_tables.specs.declared.records.Entered.TheVariants.{Feed, Aid, Try
 use Rattle.orc_tables.specs.declared.records.Token.{Token}
 use Rattle.orc_tables.specs.declared.records.Step.{Step}
 use Rattle.orc_tables.specs.declared.records.Group.{Group}
-use Rattle.orc_tables.proofs.Weight.{weight-append, weight-in, weight-none, weight-same, none-alike, none-weaker, either_one}
+use Rattle.orc_indexes.proofs.Weight.{weight-append, weight-in, weight-none, weight-same, none-alike, none-weaker, either_one}
 use Rattle.orc_records.proofs.Lists.{numbered, rows-weigh}
 use Rattle.orc_paths.proofs.Finding.{times-marks, is_mark}
 use Rattle.orc_records.proofs.Turning.{lt_less, more_scopes, tokens_in, calls_in, groups_in}

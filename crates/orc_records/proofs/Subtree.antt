@@ -8,7 +8,7 @@ use Rattle.std.specs.Prelude.{slice_get, ◌||◌}
 use Rattle.orc_rules.specs.Nodes.{Listing, code}
 use Rattle.orc_rules.specs.Sites.{Site}
 use Rattle.orc_rules.specs.Timed.{IsIn, IsRising}
-use Rattle.orc_tables.specs.Same.{only}
+use Rattle.orc_indexes.specs.Same.{only}
 use Rattle.orc_paths.specs.Spelling.{inside}
 use Rattle.orc_records.specs.Records.{Records, Lawful, its_env, raw_path}
 use Rattle.orc_tables.specs.Steps.{group_at}
@@ -27,7 +27,7 @@ use Rattle.orc_tables.specs.declared.records.Step.{Step}
 use Rattle.orc_tables.specs.declared.records.Side.{Side}
 use Rattle.orc_tables.specs.declared.records.Side.TheVariants.{Right, Left}
 use Rattle.orc_tables.specs.declared.records.Group.{Group}
-use Rattle.orc_tables.proofs.Weight.{weight-in, some-in}
+use Rattle.orc_indexes.proofs.Weight.{weight-in, some-in}
 use Rattle.orc_tables.proofs.Slots.{live-in}
 use Rattle.orc_records.proofs.Homes.{record-inside, set-inside, inn-step}
 use Rattle.orc_records.proofs.Someone.{some_same, token_within, call_within, get-within}

@@ -26,14 +26,14 @@ use Rattle.orc_names.specs.Scopes.{current}
 use Rattle.orc_calls.specs.Counting.{AreCounted}
 use Rattle.orc_rules.specs.Numbered.{AreCounted as HaveNumbers}
 use Rattle.orc_tables.specs.OpenGroups.{size_of, tokens_in}
-use Rattle.orc_tables.specs.Same.{weight, only, is_this, None as None_}
+use Rattle.orc_indexes.specs.Same.{weight, only, is_this, None as None_}
 use Rattle.orc_tables.specs.Steps.{group_at}
 use Rattle.orc_tables.specs.declared.records.Standing.TheVariants.{On}
 use Rattle.orc_tables.specs.declared.records.Token.{Token}
 use Rattle.orc_tables.specs.declared.records.Call.{Call}
 use Rattle.orc_tables.specs.declared.records.Group.{Group}
 use Rattle.orc_tables.specs.declared.records.Step.{Step}
-use Rattle.orc_tables.proofs.Weight.{weight-append, none-weaker}
+use Rattle.orc_indexes.proofs.Weight.{weight-append, none-weaker}
 use Rattle.orc_paths.specs.Spelling.{Path, whole, feeding, aiding, trying, Row, stands, pends, Numbered, right_of, left_of, marks, sides, seen}
 use Rattle.orc_paths.specs.Paths.{has_left, is_out, standing, step_out}
 use Rattle.orc_paths.proofs.Growth.{or_false, path-none}

@@ -16,7 +16,7 @@ use Rattle.orc_rules.proofs.Numbered.{next_not}
 use Rattle.orc_records.specs.Told.{found_eq, is_nth, is_told, IsTold, AreTold}
 use Rattle.orc_calls.specs.Due.{due_by}
 use Rattle.orc_tables.specs.declared.records.Call.{Call}
-use Rattle.orc_tables.proofs.Weight.{none-in}
+use Rattle.orc_indexes.proofs.Weight.{none-in}
 
 both_true : (a b : Bool) → (a && b) ≡ true → (a ≡ true) × (b ≡ true)
 both_true true b h = (refl, h)

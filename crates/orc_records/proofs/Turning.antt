@@ -13,7 +13,7 @@ use Rattle.orc_names.specs.declared.names.Bound.{Bound}
 use Rattle.orc_names.specs.declared.names.Scope.{Scope}
 use Rattle.orc_names.specs.Scopes.{Env, close, current, envs_from, env_of}
 use Rattle.orc_names.proofs.Scopes.{env-kept}
-use Rattle.orc_tables.specs.Same.{weight, only, None}
+use Rattle.orc_indexes.specs.Same.{weight, only, None}
 use Rattle.orc_paths.specs.Spelling.{whole, Row, stands, pends, Numbered, right_of, left_of, marks, sides, seen}
 use Rattle.orc_records.specs.Records.{Records, Sound, Lawful, context, its_env, raw_path, its_path, rows_of, sides_of, token_row, call_row, side_at, group_side, is_over, token_out, call_out, side_out, group_out, counts}
 use Rattle.orc_paths.specs.Paths.{path, inwards, has_left, standing, is_out}
@@ -26,7 +26,7 @@ use Rattle.orc_tables.specs.declared.records.Side.{Side}
 use Rattle.orc_tables.specs.declared.records.Side.TheVariants.{Right, Left}
 use Rattle.orc_tables.specs.declared.records.Group.{Group}
 use Rattle.orc_records.proofs.Written.{written-kept}
-use Rattle.orc_tables.proofs.Weight.{weight-append, weight-map, weight-filter, none-alike, none-weaker, none-in}
+use Rattle.orc_indexes.proofs.Weight.{weight-append, weight-map, weight-filter, none-alike, none-weaker, none-in}
 use Rattle.orc_paths.proofs.Around.{plug, unit, marks-plug, sides-plug}
 use Rattle.orc_records.proofs.Lists.{token_found}
 use Rattle.orc_records.proofs.Binding.{journal_more}

@@ -11,7 +11,7 @@ use Rattle.orc_rules.specs.Journal.{moment}
 use Rattle.orc_rules.proofs.Refusal.{meets_and_leads}
 use Rattle.orc_journal.specs.Texts.{count}
 use Rattle.orc_journal.proofs.Codes.{same_some}
-use Rattle.orc_tables.specs.Same.{weight}
+use Rattle.orc_indexes.specs.Same.{weight}
 use Rattle.orc_records.specs.Records.{Records, Lawful, context, counts}
 use Rattle.orc_records.specs.Doing.{what_of}
 use Rattle.orc_paths.specs.Doing.{is_wait, names}

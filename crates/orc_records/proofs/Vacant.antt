@@ -7,7 +7,7 @@ use Rattle.orc_rules.specs.Timed.{IsIn}
 use Rattle.orc_rules.specs.Nodes.{Listing, code}
 use Rattle.orc_rules.specs.Sites.{Site}
 use Rattle.orc_names.specs.Scopes.{close}
-use Rattle.orc_tables.specs.Same.{weight, only}
+use Rattle.orc_indexes.specs.Same.{weight, only}
 use Rattle.orc_tables.specs.Steps.{step_at, depth_at, depth_of}
 use Rattle.orc_tables.specs.declared.records.Entered.{Entered}
 use Rattle.orc_tables.specs.declared.records.Entered.TheVariants.{Feed, Aid, Try}
@@ -18,7 +18,7 @@ use Rattle.orc_tables.specs.declared.records.Side.{Side}
 use Rattle.orc_tables.specs.declared.records.Side.TheVariants.{Right, Left}
 use Rattle.orc_tables.specs.declared.records.Group.{Group}
 use Rattle.orc_tables.proofs.Placed.{same_some, got-within, got-more, more-got, end-got}
-use Rattle.orc_tables.proofs.Weight.{weight-append, weight-map, weight-filter, none-alike, none-in}
+use Rattle.orc_indexes.proofs.Weight.{weight-append, weight-map, weight-filter, none-alike, none-in}
 use Rattle.orc_paths.specs.Paths.{has_left, is_number, is_out, step_out, standing, tries}
 use Rattle.orc_paths.specs.Spelling.{Row, stands, pends, Numbered, right_of, left_of, seen}
 use Rattle.orc_paths.proofs.Growth.{or_false, both_false, left-more, path-kept, seen-same}

@@ -4,10 +4,10 @@ use Rattle.std.specs.Prelude.{slice_get}
 use Rattle.orc_rules.specs.declared.value.Value.{Value}
 use Rattle.orc_rules.specs.declared.entry.Entry.{Entry}
 use Rattle.orc_rules.specs.declared.entry.Entry.TheVariants as entry
-use Rattle.orc_tables.specs.Same.{weight, only, None}
+use Rattle.orc_indexes.specs.Same.{weight, only, None}
 use Rattle.orc_records.specs.Records.{Records, is_call, is_written}
 use Rattle.orc_tables.specs.declared.records.Call.{Call}
-use Rattle.orc_tables.proofs.Weight.{none-weaker}
+use Rattle.orc_indexes.proofs.Weight.{none-weaker}
 
 -- what a journal has it has with more entries behind
 call-before : (k : ℕ) (es fs : List Entry) (i : ℕ) → is_call k (slice_get es i) ≡ true → is_call k (slice_get (es ++ fs) i) ≡ true

@@ -8,7 +8,7 @@ use Rattle.orc_rules.specs.Nodes.{Listing, source}
 use Rattle.orc_rules.specs.Sites.{Site}
 use Rattle.orc_rules.specs.Timed.{IsIn, IsDue, IsTick}
 use Rattle.orc_rules.specs.Journal.{Place, Journal, begin, moment}
-use Rattle.orc_tables.specs.Same.{weight}
+use Rattle.orc_indexes.specs.Same.{weight}
 use Rattle.orc_records.specs.Records.{Records, context}
 use Rattle.orc_records.specs.Calls.{Exchanges}
 use Rattle.orc_tables.specs.PendingCalls.{has_number}

@@ -7,7 +7,7 @@ use Rattle.orc_records.specs.Records.{Records}
 use Rattle.orc_paths.specs.Doing.{is_wait, what_by}
 use Rattle.orc_records.specs.Doing.{term_of}
 use Rattle.orc_paths.specs.Awaiting.{cells_of}
-use Rattle.orc_tables.specs.Parking.{Parked, IsNoted}
+use Rattle.orc_indexes.specs.Parking.{Parked, IsNoted}
 use Rattle.orc_tables.specs.Tokens.{IsParked}
 use Rattle.orc_tables.specs.declared.records.Token.{Token}
 

@@ -8,7 +8,7 @@ use Rattle.orc_rules.specs.Timed.{IsIn, IsRising}
 use Rattle.orc_names.specs.declared.names.Bound.{Bound}
 use Rattle.orc_names.specs.declared.names.Bound.TheVariants.{Cell}
 use Rattle.orc_names.specs.declared.names.Scope.{Scope}
-use Rattle.orc_tables.specs.Same.{weight, only, but, None}
+use Rattle.orc_indexes.specs.Same.{weight, only, but, None}
 use Rattle.orc_paths.specs.Spelling.{Path, aiding, inside}
 use Rattle.orc_records.specs.Records.{Records, raw_path}
 use Rattle.orc_tables.specs.Steps.{group_at, depth_at}

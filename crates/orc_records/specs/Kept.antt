@@ -9,7 +9,7 @@ use Rattle.orc_records.specs.Brought.{AreBrought}
 use Rattle.orc_records.specs.Records.{Records, Lawful}
 use Rattle.orc_records.specs.Next.{AreGrouped, numbers_of, AreSizes}
 use Rattle.orc_records.specs.Told.{AreTold}
-use Rattle.orc_tables.specs.Parking.{Parked}
+use Rattle.orc_indexes.specs.Parking.{Parked}
 use Rattle.orc_records.specs.AtRest.{AreAtRest}
 
 pub record Kept (l : Listing) (sites : List Site) (counts : List (List ℕ × ℕ)) (sizes : List ℕ) (s : Records) : Type 0 where

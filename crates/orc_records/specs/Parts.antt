@@ -11,7 +11,7 @@ use Rattle.orc_graft.specs.declared.numbering.Numbering.{Numbering}
 use Rattle.orc_graft.specs.Moved.{mark_in, moved, AreLocal, AreSilent}
 use Rattle.orc_names.specs.declared.names.Bound.{Bound}
 use Rattle.orc_names.specs.declared.names.Bound.TheVariants.{Cell}
-use Rattle.orc_tables.specs.Same.{weight}
+use Rattle.orc_indexes.specs.Same.{weight}
 use Rattle.orc_tables.specs.declared.records.Standing.TheVariants.{On}
 use Rattle.orc_tables.specs.declared.records.Token.{Token}
 use Rattle.orc_tables.specs.declared.records.Group.{Group}

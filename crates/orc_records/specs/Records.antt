@@ -14,7 +14,7 @@ use Rattle.orc_names.specs.declared.names.Bound.TheVariants.{Cell}
 use Rattle.orc_names.specs.declared.names.Scope.{Scope}
 use Rattle.orc_names.specs.Scopes.{Env, env_of, close}
 use Rattle.orc_names.specs.Names.{AreOrdered}
-use Rattle.orc_tables.specs.Same.{weight, Same, None as Nobody}
+use Rattle.orc_indexes.specs.Same.{weight, Same, None as Nobody}
 use Rattle.orc_paths.specs.Spelling.{Path, whole, Row, stands, pends, Numbered, right_of, left_of, marks, sides, seen}
 use Rattle.orc_tables.specs.declared.records.Token.{Token}
 use Rattle.orc_tables.specs.declared.records.Call.{Call}

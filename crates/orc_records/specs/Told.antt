@@ -5,7 +5,7 @@ use Rattle.orc_rules.specs.declared.value.Found.{Found}
 use Rattle.orc_rules.specs.declared.value.Found.TheVariants.{After, Never}
 use Rattle.orc_rules.specs.Sites.{Site, value_eq, is_scripted}
 use Rattle.orc_rules.specs.Timed.{CallMade, IsIn, says_of}
-use Rattle.orc_tables.specs.Same.{None}
+use Rattle.orc_indexes.specs.Same.{None}
 use Rattle.orc_tables.specs.declared.records.Call.{Call}
 
 abbrev pub found_eq : Found → Found → Bool

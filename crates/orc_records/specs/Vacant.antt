@@ -1,6 +1,6 @@
 -- A last step at which nobody stands, and the records without it.
 use Rattle.std.specs.Prelude.{◌≡◌, [], ◌∷◌, ◌++◌, false, Some, length, nat_eq}
-use Rattle.orc_tables.specs.Same.{None}
+use Rattle.orc_indexes.specs.Same.{None}
 use Rattle.orc_tables.specs.Steps.{step_at}
 use Rattle.orc_tables.specs.declared.records.Token.{Token}
 use Rattle.orc_tables.specs.declared.records.Call.{Call}

@@ -8,7 +8,7 @@ use Rattle.std.proofs.lemmas.List.Sorted.{sum_by-IsPermutation}
 use Rattle.std.specs.List.Sorted.{IsPermutation}
 use Rattle.std.specs.Prelude.{slice_get, slice_set, ◌&&◌, ◌||◌}
 use Rattle.orc_rules.specs.Timed.{IsIn}
-use Rattle.orc_tables.specs.Same.{weight, only, is_this}
+use Rattle.orc_indexes.specs.Same.{weight, only, is_this}
 use Rattle.orc_tables.specs.Steps.{group_at}
 use Rattle.orc_tables.specs.Tokens.{live, is_live}
 use Rattle.orc_tables.specs.OpenGroups.{tokens_in, calls_in, groups_in}
@@ -18,8 +18,9 @@ use Rattle.orc_tables.specs.declared.records.Call.{Call}
 use Rattle.orc_tables.specs.declared.records.Step.{Step}
 use Rattle.orc_tables.specs.declared.records.Group.{Group}
 use Rattle.orc_tables.specs.declared.records.Side.TheVariants.{Right}
-use Rattle.orc_tables.proofs.Weight.{weight-map, weight-same, weight-in, weight-sum_by, some-in, this_one, this_is}
-use Rattle.orc_tables.proofs.Slots.{weight-set, weight-live, set-elsewhere}
+use Rattle.orc_indexes.proofs.Weight.{weight-map, weight-same, weight-in, weight-sum_by, some-in, this_one, this_is}
+use Rattle.orc_indexes.proofs.Lists.{weight-set, set-elsewhere}
+use Rattle.orc_tables.proofs.Slots.{weight-live}
 
 -- ---- lists
 

@@ -4,13 +4,13 @@ use Rattle.std.proofs.lemmas.Bool.{ltb-true}
 use Rattle.std.proofs.Math.Numerals.{add-one}
 use Rattle.std.proofs.Math.Seq.{take-suc}
 use Rattle.std.specs.Prelude.{slice_get, slice_set, nat_lt, ◌&&◌}
-use Rattle.orc_tables.specs.Same.{weight, only, but, None}
+use Rattle.orc_indexes.specs.Same.{weight, only, but, None}
 use Rattle.orc_tables.specs.Inside.{stands_inside, held_inside, numbers_inside}
 use Rattle.orc_tables.specs.Tokens.{live, is_live, IsHeld}
 use Rattle.orc_tables.specs.declared.records.Token.{Token}
 use Rattle.orc_tables.specs.declared.records.Call.{Call}
 use Rattle.orc_tables.specs.declared.records.Step.{Step}
-use Rattle.orc_tables.proofs.Weight.{none-alike}
+use Rattle.orc_indexes.proofs.Weight.{none-alike}
 use Rattle.orc_tables.proofs.Slots.{weight-live, removed}
 
 pub numbers-more : (c : ℕ) (ss : List Step) (ks : List Call) (k : Call) → numbers_inside c ss (ks ++ k ∷ []) ≡ numbers_inside c ss ks ++ cond (stands_inside c ss k.step) (k.number ∷ []) []

@@ -3,10 +3,10 @@ use Rattle.std.proofs.Common.{◌≡◌, ◌≤◌, ◌<◌, ◌+◌, ◌-◌, �
 use Rattle.std.proofs.lemmas.Bool.{eqb-true}
 use Rattle.std.proofs.Math.Decide.{ℕ_discrete}
 use Rattle.orc_rules.specs.declared.limits.TheConstants.{MOST_GROUPS}
-use Rattle.orc_tables.specs.Same.{weight, is_this}
+use Rattle.orc_indexes.specs.Same.{weight, is_this}
 use Rattle.orc_tables.specs.OpenGroups.{is_named, size_of, is_none, empty_in, AreNumbered}
 use Rattle.orc_tables.specs.declared.records.Group.{Group}
-use Rattle.orc_tables.proofs.Weight.{weight-append, weight-same, weight-least, weight-length, this_is, this_not, one-most}
+use Rattle.orc_indexes.proofs.Weight.{weight-append, weight-same, weight-least, weight-length, this_is, this_not, one-most}
 
 none-is : (k : ℕ) → k ≡ 0 → is_none k ≡ 1
 none-is k e = ap is_none e

@@ -6,10 +6,10 @@ use Rattle.std.specs.List.{swap_remove}
 use Rattle.std.proofs.lemmas.Bool.{eqb-true, ltb-true, ltb-false}
 use Rattle.std.proofs.Math.Decide.{ℕ_discrete}
 use Rattle.orc_rules.specs.Timed.{IsIn}
-use Rattle.orc_tables.specs.Same.{weight, is_this}
+use Rattle.orc_indexes.specs.Same.{weight, is_this}
 use Rattle.orc_tables.specs.OpenGroups.{is_named, IsOpen, LeadTo, AreNumbered, size_of}
 use Rattle.orc_tables.specs.declared.records.Group.{Group}
-use Rattle.orc_tables.proofs.Weight.{weight-append, weight-in, either_one, some-in, this_one, this_is}
+use Rattle.orc_indexes.proofs.Weight.{weight-append, weight-in, either_one, some-in, this_one, this_is}
 use Rattle.orc_tables.proofs.Placed.{same_some, in-got_at, got-in, got-within, got-more, more-got, set-at, set-off, removed-at}
 
 -- ---- no group has a number that leads nowhere, or to another group

@@ -1,13 +1,10 @@
-pub mod Chained
 pub mod Crowded
 pub mod Drained
 pub mod Emptied
-pub mod Flags
 pub mod Leading
 pub mod Listed
-pub mod Notes
+pub mod Parked
 pub mod Placed
 pub mod Ripe
 pub mod Slots
 pub mod Takers
-pub mod Weight

@@ -6,7 +6,7 @@ use Rattle.std.proofs.Math.Numerals.{add-one}
 use Rattle.std.proofs.Math.Seq.{take-suc}
 use Rattle.std.specs.Prelude.{slice_get, slice_set, ◌||◌, ◌&&◌}
 use Rattle.orc_rules.specs.Timed.{IsIn, IsRising}
-use Rattle.orc_tables.specs.Same.{weight, only, but, None, is_this}
+use Rattle.orc_indexes.specs.Same.{weight, only, but, None, is_this}
 use Rattle.orc_tables.specs.PendingCalls.{has_number, is_numbered}
 use Rattle.orc_tables.specs.Crowd.{is_listed}
 use Rattle.orc_tables.specs.Inside.{stands_inside, held_inside}
@@ -15,8 +15,9 @@ use Rattle.orc_tables.specs.declared.records.Token.{Token}
 use Rattle.orc_tables.specs.declared.records.Call.{Call}
 use Rattle.orc_tables.specs.declared.records.Step.{Step}
 use Rattle.orc_tables.specs.declared.records.Group.{Group}
-use Rattle.orc_tables.proofs.Weight.{weight-same, weight-parts, weight-none, weight-in, none-alike, in-got}
-use Rattle.orc_tables.proofs.Slots.{removed, set-elsewhere, set-there}
+use Rattle.orc_indexes.proofs.Weight.{weight-same, weight-parts, weight-none, weight-in, none-alike, in-got}
+use Rattle.orc_indexes.proofs.Lists.{set-elsewhere, set-there}
+use Rattle.orc_tables.proofs.Slots.{removed}
 use Rattle.orc_tables.proofs.Drained.{live-outside}
 use Rattle.orc_tables.proofs.Crowded.{in-append, listed-in}
 

@@ -6,11 +6,11 @@ use Rattle.std.proofs.lemmas.List.{take_all}
 use Rattle.std.proofs.lemmas.Bool.{eqb-true}
 use Rattle.std.proofs.Math.Decide.{ℕ_discrete}
 use Rattle.orc_rules.specs.Timed.{IsIn}
-use Rattle.orc_tables.specs.Same.{weight, but, None as Nobody}
+use Rattle.orc_indexes.specs.Same.{weight, but, None as Nobody}
 use Rattle.orc_tables.specs.PendingCalls.{has_number, ArePlaced, HasNote, HaveNotes, is_numbered}
-use Rattle.orc_tables.specs.Dues.{IsNoted}
+use Rattle.orc_indexes.specs.Dues.{IsNoted}
 use Rattle.orc_tables.specs.declared.records.Call.{Call}
-use Rattle.orc_tables.proofs.Weight.{none-alike}
+use Rattle.orc_indexes.proofs.Weight.{none-alike}
 
 some_or : {X : Type 0} → X → Option X → X
 some_or d (Some x) = x

@@ -1,7 +1,7 @@
 -- What the notes say of the calls that are due.
 use Rattle.std.proofs.Common.{◌≡◌, ◌≤◌, ◌<◌, ◌+◌, ⊎_elim, ℕ, List, [], refl, sym, ap, ◌∙◌, subst, arith, Option, Some, None, ◌∷◌, inl, inr, Bool, true, false, cond, not}
 use Rattle.orc_rules.specs.Timed.{IsIn}
-use Rattle.orc_tables.specs.Dues.{IsNoted, IsEarliest, IsLeastFrom, KeepsBut}
+use Rattle.orc_indexes.specs.Dues.{IsNoted, IsEarliest, IsLeastFrom, KeepsBut}
 use Rattle.orc_tables.specs.PendingCalls.{due_of, next_due, HaveNotes, IsDueBeyond, IsLeastBeyond, earlier}
 use Rattle.orc_tables.specs.declared.records.Call.{Call}
 use Rattle.std.proofs.lemmas.Bool.{ltb-true, ltb-false}

@@ -1,9 +1,6 @@
 pub mod Crowd
-pub mod Dues
 pub mod Inside
 pub mod OpenGroups
-pub mod Parking
 pub mod PendingCalls
-pub mod Same
 pub mod Steps
 pub mod Tokens

@@ -1,7 +1,7 @@
 -- The table of the open groups: each is found by its number, and each number says how many members it has.
 use Rattle.std.specs.Prelude.{◌≡◌, ◌≤◌, ◌<◌, ◌+◌, ◌⊎◌, ℕ, zero, suc, List, length, Some, slice_get, slice_index_or}
 use Rattle.orc_rules.specs.declared.limits.TheConstants.{MOST_GROUPS}
-use Rattle.orc_tables.specs.Same.{weight, is_this}
+use Rattle.orc_indexes.specs.Same.{weight, is_this}
 use Rattle.orc_tables.specs.Steps.{group_at}
 use Rattle.orc_tables.specs.declared.records.Token.{Token}
 use Rattle.orc_tables.specs.declared.records.Call.{Call}

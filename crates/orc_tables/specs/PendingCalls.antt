@@ -5,7 +5,7 @@ use Rattle.orc_rules.specs.Numbered.{once}
 use Rattle.orc_rules.specs.Numbered.Name.{call}
 use Rattle.orc_tables.specs.declared.records.Call.{Call}
 use Rattle.orc_calls.specs.Due.{due_by}
-use Rattle.orc_tables.specs.Dues.{IsNoted}
+use Rattle.orc_indexes.specs.Dues.{IsNoted}
 
 abbrev pub due_of : Call → Option ℕ
 due_of c = due_by c.made_at c.found

@@ -1,7 +1,7 @@
 -- Tokens in slots.
 use Rattle.std.specs.Prelude.{◌≡◌, ◌≤◌, ◌⊎◌, ℕ, List, [], ◌∷◌, Some, slice_get, Bool, true, cond, nat_lt}
 use Rattle.orc_rules.specs.Timed.{IsIn}
-use Rattle.orc_tables.specs.Parking.{Parked, is_set, IsNoted}
+use Rattle.orc_indexes.specs.Parking.{Parked, is_set, IsNoted}
 use Rattle.orc_tables.specs.declared.records.Token.{Token}
 
 -- what callers see of a table of tokens: its slots, how many tokens more find room, and which tokens are known to wait

@@ -3,14 +3,13 @@
 ghost use Rattle.std.specs.Prelude.{◌≡◌, [], ◌∷◌, ◌++◌, ◌+◌, ◌-◌, ◌^◌, ◌≤◌, ◌<◌, ℕ, Some, cond, length, nat_eq, IfNone, IfOk, OnOk, OnErr, MatchOption, slice_get, slice_set, vec_len, vec_capacity};
 ghost use Rattle.orc_rules.specs.Timed.{IsIn};
 ghost use Rattle.orc_rules.specs.declared.limits.TheConstants.{MOST_GROUPS};
-ghost use Rattle.orc_tables.specs.Same.{weight, None};
-ghost use Rattle.orc_tables.specs.Same.{is_this};
+ghost use Rattle.orc_indexes.specs.Same.{weight, None};
+ghost use Rattle.orc_indexes.specs.Same.{is_this};
 ghost use Rattle.orc_tables.specs.OpenGroups.{IsOpen, LeadTo, is_named, is_none, empty_in, size_of};
 ghost use Rattle.orc_tables.specs.declared.records.Group.{Group as Its};
 
-use crate::chains::Chains;
-use crate::memory::{push_within, reserve};
 use crate::records::{Group, Side};
+use orc_indexes::{Chains, push_within, reserve};
 use std::alloc::{AllocError, Global};
 use std::marker::Model;
 

@@ -2,13 +2,9 @@
 //! that tokens have taken; and how what stands inside a side is found in them and leaves them.
 #![tactic(auto)]
 
-mod chains;
 mod crowd;
-mod dues;
 mod groups;
 mod leaving;
-mod memory;
-mod parking;
 mod pending;
 mod records;
 mod steps;
@@ -17,7 +13,6 @@ mod tokens;
 pub use crowd::Crowd;
 pub use groups::Groups;
 pub use leaving::{leave_calls, leave_groups, leave_tokens, list_side, side_group, take_out};
-pub use memory::{push_within, reserve};
 pub use pending::Pending;
 pub use records::{Call, Entered, Group, Side, Standing, Step, Token};
 pub use steps::Steps;

@@ -2,23 +2,21 @@
 
 ghost use Rattle.std.specs.Prelude.{◌≡◌, ◌+◌, ◌≤◌, ◌<◌, ◌-◌, ◌⊎◌, ◌^◌, [], ℕ, Some, None, true, false, IfSome, IfNone, MatchOption, IfOk, OnOk, OnErr, length, vec_len, slice_get, slice_set};
 ghost use Rattle.orc_rules.specs.Timed.{IsIn};
-ghost use Rattle.orc_tables.specs.Same.{weight, but};
+ghost use Rattle.orc_indexes.specs.Same.{weight, but};
 ghost use Rattle.orc_tables.specs.PendingCalls.{has_number};
 ghost use Rattle.orc_tables.specs.Crowd.{is_listed};
 ghost use Rattle.orc_tables.specs.Inside.{stands_inside};
 ghost use Rattle.orc_tables.specs.PendingCalls.{due_of, next_due};
-ghost use Rattle.orc_tables.specs.Same.{is_this};
-ghost use Rattle.orc_tables.specs.Dues.{IsNoted};
+ghost use Rattle.orc_indexes.specs.Same.{is_this};
+ghost use Rattle.orc_indexes.specs.Dues.{IsNoted};
 ghost use Rattle.orc_tables.specs.OpenGroups.{HaveLeft, calls_in};
 ghost use Rattle.orc_tables.specs.PendingCalls.{ArePlaced, HasNote, HaveNotes, is_numbered, IsDueBeyond, IsLeastBeyond};
 ghost use Rattle.orc_tables.specs.declared.records.Call.{Call as Its};
 
-use crate::chains::Chains;
-use crate::dues::Dues;
 use crate::groups::Groups;
-use crate::memory::push_within;
 use crate::records::Call;
 use crate::steps::Steps;
+use orc_indexes::{Chains, Dues, push_within};
 use orc_calls::due_time;
 use std::alloc::{AllocError, Global};
 use std::marker::Model;

@@ -6,8 +6,8 @@ ghost use Rattle.orc_tables.specs.Steps.{step_at, group_at, depth_at, taker_at, 
 ghost use Rattle.orc_tables.specs.Inside.{aids, stands_inside, side_inside};
 ghost use Rattle.orc_tables.specs.declared.records.Step.{Step as Its};
 
-use crate::memory::{push_within, reserve};
 use crate::records::{Entered, Side, Step};
+use orc_indexes::{push_within, reserve};
 use std::alloc::{AllocError, Global};
 use std::marker::Model;
 

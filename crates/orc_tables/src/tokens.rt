@@ -2,16 +2,14 @@
 
 ghost use Rattle.std.specs.Prelude.{◌≡◌, [], ◌∷◌, ◌+◌, ◌≤◌, ◌<◌, ℕ, true, false, Some, None, length, IfSome, IfNone, IfOk, OnOk, slice_get, slice_set, vec_len, vec_capacity};
 ghost use Rattle.orc_rules.specs.Timed.{IsIn};
-ghost use Rattle.orc_tables.specs.Same.{weight};
-ghost use Rattle.orc_tables.specs.Same.{is_this};
-ghost use Rattle.orc_tables.specs.Parking.{is_set, notes_at, IsNoted};
+ghost use Rattle.orc_indexes.specs.Same.{weight};
+ghost use Rattle.orc_indexes.specs.Same.{is_this};
+ghost use Rattle.orc_indexes.specs.Parking.{is_set, notes_at, IsNoted};
 ghost use Rattle.orc_tables.specs.Tokens.{live, IsHeld, StayParked, StayBut, StayWith};
 ghost use Rattle.orc_tables.specs.declared.records.Token.{Token as Its};
 
-use crate::chains::Chains;
-use crate::memory::reserve;
-use crate::parking::{Note, Parking};
 use crate::records::{Standing, Token};
+use orc_indexes::{Chains, Note, Parking, reserve};
 use std::alloc::{AllocError, Global};
 use std::marker::Model;
 

@@ -1,6 +1,6 @@
 use Rattle.std.proofs.Common.{ap, arith}
 use Rattle.std.specs.Prelude.{option_to_list}
-use Rattle.orc_tables.specs.Same.{weight}
+use Rattle.orc_indexes.specs.Same.{weight}
 use Rattle.orc_tables.specs.Tokens.{live}
 use Rattle.orc_tables.proofs.Slots.{removed, replaced}
 use Rattle.orc_ledger.proofs.parts.exchange.Goals as goal

@@ -5,7 +5,7 @@ use Rattle.orc_rules.specs.declared.param.Operand.TheVariants.{Name}
 use Rattle.orc_names.specs.declared.names.Scope.{Scope}
 use Rattle.orc_names.specs.Parameters.{Adds}
 use Rattle.orc_names.proofs.Parameters.{adds-none, adds-drop}
-use Rattle.orc_tables.proofs.Weight.{in-got}
+use Rattle.orc_indexes.proofs.Weight.{in-got}
 use Rattle.orc_paths.proofs.parameters.parameter_scopes.Goals as goal
 
 pub loop-left-init : goal.loop-left-init

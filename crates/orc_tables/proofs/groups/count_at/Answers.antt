@@ -1,8 +1,8 @@
 use Rattle.std.proofs.Common.{◌≡◌, ℕ, zero, suc, List, refl, sym, arith}
-use Rattle.orc_tables.specs.Same.{weight}
+use Rattle.orc_indexes.specs.Same.{weight}
 use Rattle.orc_tables.specs.OpenGroups.{is_named}
 use Rattle.orc_tables.specs.declared.records.Group.{Group}
-use Rattle.orc_tables.proofs.Weight.{weight-in, this_is, some-in, this_one}
+use Rattle.orc_indexes.proofs.Weight.{weight-in, this_is, some-in, this_one}
 use Rattle.orc_tables.proofs.Placed.{got-in, in-got_at}
 use Rattle.orc_tables.proofs.groups.count_at.Goals as goal
 

@@ -1,9 +1,9 @@
 use Rattle.std.proofs.Common.{◌≡◌, ◌<◌, Some, None, refl, sym, ap, ◌∙◌, subst, arith, length, get_or, length-set}
 use Rattle.std.specs.Prelude.{slice_get, slice_set}
 use Rattle.std.specs.List.{swap_remove}
-use Rattle.orc_tables.specs.Same.{weight}
+use Rattle.orc_indexes.specs.Same.{weight}
 use Rattle.orc_tables.specs.OpenGroups.{LeadTo}
-use Rattle.orc_tables.proofs.Weight.{weight-swap_remove}
+use Rattle.orc_indexes.proofs.Weight.{weight-swap_remove}
 use Rattle.orc_tables.proofs.Placed.{or-got}
 use Rattle.orc_tables.proofs.Leading.{before-gone, lead-last, lead-moved}
 use Rattle.orc_tables.proofs.groups.remove_at.Goals as goal

@@ -1,12 +1,12 @@
 use Rattle.std.proofs.Common.{◌≡◌, ◌≤◌, ◌<◌, ◌+◌, ℕ, Bool, true, cond, length, Some, sym, ap, ◌∙◌, subst, arith}
 use Rattle.std.specs.Prelude.{slice_get}
-use Rattle.orc_tables.specs.Same.{weight, but}
+use Rattle.orc_indexes.specs.Same.{weight, but}
 use Rattle.orc_tables.specs.Steps.{group_at}
-use Rattle.orc_tables.specs.Same.{is_this}
+use Rattle.orc_indexes.specs.Same.{is_this}
 use Rattle.orc_tables.specs.Inside.{side_inside}
 use Rattle.orc_tables.specs.OpenGroups.{size_of}
 use Rattle.orc_tables.specs.declared.records.Group.{Group}
-use Rattle.orc_tables.proofs.Weight.{weight-length}
+use Rattle.orc_indexes.proofs.Weight.{weight-length}
 use Rattle.orc_tables.proofs.Placed.{same_some, none-of-all}
 use Rattle.orc_tables.proofs.leaving.drop_groups.Goals as goal
 

@@ -1,6 +1,6 @@
 use Rattle.std.proofs.Common.{◌≡◌, ◌<◌, ◌-◌, ℕ, false, length, Some}
 use Rattle.std.specs.Prelude.{slice_get}
-use Rattle.orc_tables.specs.Same.{weight, but}
+use Rattle.orc_indexes.specs.Same.{weight, but}
 use Rattle.orc_tables.specs.Inside.{side_inside}
 use Rattle.orc_tables.specs.OpenGroups.{HaveLeft, groups_in}
 use Rattle.orc_tables.specs.declared.records.Group.{Group}

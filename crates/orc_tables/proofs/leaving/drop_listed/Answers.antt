@@ -1,12 +1,12 @@
 use Rattle.std.proofs.Common.{◌+◌, ℕ, take, ap, sym, subst, refl, ◌∙◌, arith}
-use Rattle.orc_tables.specs.Same.{weight}
+use Rattle.orc_indexes.specs.Same.{weight}
 use Rattle.orc_tables.specs.Tokens.{Slots, live, StayParked}
 use Rattle.orc_tables.specs.Steps.{group_at}
-use Rattle.orc_tables.specs.Same.{is_this}
+use Rattle.orc_indexes.specs.Same.{is_this}
 use Rattle.orc_tables.specs.OpenGroups.{GroupTable, size_of, tokens_in}
 use Rattle.orc_tables.specs.declared.records.Token.{Token}
 use Rattle.orc_tables.proofs.Slots.{removed}
-use Rattle.orc_tables.proofs.Flags.{stay-on}
+use Rattle.orc_tables.proofs.Parked.{stay-on}
 use Rattle.orc_tables.proofs.Crowded.{in-listed}
 use Rattle.orc_tables.proofs.Listed.{IsThinned, one-further, all-through, through-in, thinned-none, thinned-kept, thinned-gone, thinned-all}
 use Rattle.orc_tables.proofs.leaving.drop_listed.Goals as goal

@@ -1,12 +1,12 @@
 use Rattle.std.proofs.Common.{◌+◌, ◌≤◌, ℕ, take, cond, ap, sym, ◌∙◌, arith}
-use Rattle.orc_tables.specs.Same.{weight, but}
+use Rattle.orc_indexes.specs.Same.{weight, but}
 use Rattle.orc_tables.specs.Crowd.{is_listed}
 use Rattle.orc_tables.specs.Inside.{side_inside}
 use Rattle.orc_tables.specs.Steps.{group_at}
-use Rattle.orc_tables.specs.Same.{is_this}
+use Rattle.orc_indexes.specs.Same.{is_this}
 use Rattle.orc_tables.specs.OpenGroups.{GroupTable, size_of}
 use Rattle.orc_tables.specs.declared.records.Group.{Group}
-use Rattle.orc_tables.proofs.Weight.{weight-but}
+use Rattle.orc_indexes.proofs.Weight.{weight-but}
 use Rattle.orc_tables.proofs.Listed.{one-further, all-through, named-further, named-gone, none-named, weight-same-in}
 use Rattle.orc_tables.proofs.leaving.drop_numbered.Goals as goal
 use Rattle.orc_tables.proofs.leaving.drop_numbered.Goals.{in-Some, in_default}

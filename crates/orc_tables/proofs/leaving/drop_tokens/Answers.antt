@@ -1,11 +1,11 @@
 use Rattle.std.proofs.Common.{◌+◌, ℕ, ap, sym, subst, refl, ◌∙◌, arith}
-use Rattle.orc_tables.specs.Same.{weight}
+use Rattle.orc_indexes.specs.Same.{weight}
 use Rattle.orc_tables.specs.Tokens.{Slots, live, StayParked}
 use Rattle.orc_tables.specs.Steps.{group_at}
-use Rattle.orc_tables.specs.Same.{is_this}
+use Rattle.orc_indexes.specs.Same.{is_this}
 use Rattle.orc_tables.specs.OpenGroups.{GroupTable, size_of, tokens_in}
 use Rattle.orc_tables.specs.declared.records.Token.{Token}
-use Rattle.orc_tables.proofs.Flags.{stay-on}
+use Rattle.orc_tables.proofs.Parked.{stay-on}
 use Rattle.orc_tables.proofs.Slots.{removed}
 use Rattle.orc_tables.proofs.Drained.{IsDrained, drained-none, drained-held, drained-gone, drained-kept, drained-all}
 use Rattle.orc_tables.proofs.leaving.drop_tokens.Goals as goal

@@ -1,8 +1,8 @@
 use Rattle.std.proofs.Common.{◌≡◌, ◌≤◌, ◌<◌, Bool, true, false, cond, length, Some, sym, ap, ◌∙◌, arith, ⊎_elim}
 use Rattle.std.specs.Prelude.{slice_get}
-use Rattle.orc_tables.specs.Same.{but}
+use Rattle.orc_indexes.specs.Same.{but}
 use Rattle.orc_tables.specs.Steps.{group_at}
-use Rattle.orc_tables.specs.Same.{is_this}
+use Rattle.orc_indexes.specs.Same.{is_this}
 use Rattle.orc_tables.specs.Inside.{stands_inside}
 use Rattle.orc_tables.specs.declared.records.Call.{Call}
 use Rattle.orc_tables.proofs.Placed.{or-got, same_some, none-before, none-of-all}

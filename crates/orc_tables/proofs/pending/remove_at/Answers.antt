@@ -2,9 +2,9 @@ use Rattle.std.proofs.Common.{◌≡◌, ◌<◌, ◌-◌, Some, None, refl, sym
 use Rattle.std.specs.Prelude.{slice_get, slice_set}
 use Rattle.std.specs.List.{swap_remove}
 use Rattle.orc_rules.specs.Timed.{IsIn}
-use Rattle.orc_tables.specs.Same.{weight}
+use Rattle.orc_indexes.specs.Same.{weight}
 use Rattle.orc_tables.specs.PendingCalls.{ArePlaced}
-use Rattle.orc_tables.proofs.Weight.{weight-swap_remove}
+use Rattle.orc_indexes.proofs.Weight.{weight-swap_remove}
 use Rattle.orc_tables.proofs.Placed.{or-got, removed-in, removed-other, removed-before, placed-last, placed-moved, moved-number}
 use Rattle.orc_tables.proofs.pending.remove_at.Goals as goal
 

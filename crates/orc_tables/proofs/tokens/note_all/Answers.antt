@@ -1,8 +1,8 @@
 use Rattle.std.proofs.Common.{◌+◌, ℕ, List, sym, subst, ◌∙◌, take, get_or, inl, inr}
 use Rattle.std.proofs.lemmas.List.{take_more}
 use Rattle.orc_rules.specs.Timed.{IsIn}
-use Rattle.orc_tables.specs.Parking.{IsNoted}
-use Rattle.orc_tables.proofs.Flags.{in-either}
+use Rattle.orc_indexes.specs.Parking.{IsNoted}
+use Rattle.orc_indexes.proofs.Flags.{in-either}
 use Rattle.orc_tables.proofs.tokens.note_all.Goals as goal
 
 pub returns-in_err-note-clause-kept : goal.returns-in_err-note-clause-kept

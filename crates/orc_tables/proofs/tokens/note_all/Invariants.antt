@@ -1,6 +1,6 @@
 use Rattle.std.proofs.Common.{◌≡◌, ℕ, take}
 use Rattle.orc_rules.specs.Timed.{IsIn}
-use Rattle.orc_tables.specs.Parking.{IsNoted}
+use Rattle.orc_indexes.specs.Parking.{IsNoted}
 use Rattle.orc_tables.proofs.tokens.note_all.Given as goal
 
 abbrev pub invariant-loop-cell : goal.invariant-loop-cell

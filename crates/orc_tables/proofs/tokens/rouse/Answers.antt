@@ -1,6 +1,6 @@
 use Rattle.std.proofs.Common.{refl, sym, ap, ◌∙◌}
-use Rattle.orc_tables.specs.Parking.{is_set}
-use Rattle.orc_tables.proofs.Flags.{was-set}
+use Rattle.orc_indexes.specs.Parking.{is_set}
+use Rattle.orc_indexes.proofs.Flags.{was-set}
 use Rattle.orc_tables.proofs.tokens.rouse.Goals as goal
 
 pub returns-clause-flags : goal.returns-clause-flags

@@ -1,5 +1,5 @@
 use Rattle.std.proofs.Common.{◌≡◌, ℕ, length, true}
-use Rattle.orc_tables.specs.Parking.{is_set, notes_at, IsNoted}
+use Rattle.orc_indexes.specs.Parking.{is_set, notes_at, IsNoted}
 use Rattle.orc_tables.specs.Tokens.{IsHeld}
 use Rattle.orc_tables.specs.declared.records.Token.{Token}
 use Rattle.orc_tables.proofs.tokens.wake.Given as goal

@@ -5,12 +5,12 @@ use Rattle.orc_rules.specs.declared.entry.Entry.TheVariants.{Call, Return, Retur
 use Rattle.orc_rules.specs.Nodes.{code, definitions}
 use Rattle.orc_rules.specs.Sites.{find}
 use Rattle.orc_rules.specs.Timed.{nth_of}
-use Rattle.orc_tables.specs.Same.{weight}
+use Rattle.orc_indexes.specs.Same.{weight}
 use Rattle.orc_records.specs.Records.{Records}
 use Rattle.orc_records.specs.Calls.{Exchanges}
 use Rattle.orc_paths.specs.Doing.{IsCall}
 use Rattle.orc_records.specs.Doing.{term_of}
-use Rattle.orc_tables.specs.Same.{is_this}
+use Rattle.orc_indexes.specs.Same.{is_this}
 use Rattle.orc_tables.specs.OpenGroups.{size_of}
 use Rattle.orc_records.specs.Requests.{IsMade, IsNextCall}
 use Rattle.orc_tables.specs.Tokens.{live, IsHeld}
@@ -20,7 +20,8 @@ use Rattle.orc_records.proofs.AtOnce.{nobody, made, between, made-between, given
 use Rattle.orc_records.proofs.AtRest.{rest-kept, same-terms}
 use Rattle.orc_records.proofs.Asked.{word-there, called-kept}
 use Rattle.orc_records.proofs.Keeping.{from_one}
-use Rattle.orc_tables.proofs.Slots.{live-in, removed, replaced, set-there}
+use Rattle.orc_indexes.proofs.Lists.{set-there}
+use Rattle.orc_tables.proofs.Slots.{live-in, removed, replaced}
 use Rattle.orc_ledger.proofs.ledger.Ledger.answer_through.Goals as goal
 
 pub replace-requires-clause-serial : goal.replace-requires-clause-serial

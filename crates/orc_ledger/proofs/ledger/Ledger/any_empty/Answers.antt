@@ -1,5 +1,5 @@
 use Rattle.std.proofs.Common.{◌≡◌, ℕ, arith, ap, sym, ◌∙◌}
-use Rattle.orc_tables.proofs.Weight.{weight-in}
+use Rattle.orc_indexes.proofs.Weight.{weight-in}
 use Rattle.orc_tables.specs.declared.records.Group.{Group}
 use Rattle.orc_records.specs.Records.{Records}
 use Rattle.orc_records.specs.Next.{numbers_of, members, is_empty}

@@ -3,7 +3,7 @@ use Rattle.orc_rules.specs.Nodes.{code, definitions}
 use Rattle.orc_rules.specs.Timed.{IsIn}
 use Rattle.orc_tables.specs.Tokens.{live, IsHeld}
 use Rattle.orc_tables.proofs.Slots.{live-in}
-use Rattle.orc_tables.proofs.Weight.{weight-in}
+use Rattle.orc_indexes.proofs.Weight.{weight-in}
 use Rattle.orc_records.specs.Records.{Records}
 use Rattle.orc_records.specs.Next.{ready_one}
 use Rattle.orc_tables.specs.declared.records.Token.{Token}

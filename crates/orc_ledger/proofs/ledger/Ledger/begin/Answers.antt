@@ -6,7 +6,7 @@ use Rattle.orc_names.specs.declared.names.Scope.{Scope}
 use Rattle.orc_rules.specs.Journal.{Place}
 use Rattle.orc_calls.specs.Counting.{AreCounted}
 use Rattle.orc_records.specs.Kept.{Kept}
-use Rattle.orc_tables.specs.Parking.{Parked, is_set}
+use Rattle.orc_indexes.specs.Parking.{Parked, is_set}
 use Rattle.orc_records.specs.Begun.{begun}
 use Rattle.orc_tables.specs.Tokens.{live}
 use Rattle.orc_tables.specs.declared.records.Standing.TheVariants.{At}

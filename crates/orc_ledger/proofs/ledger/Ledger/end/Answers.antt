@@ -2,7 +2,7 @@ use Rattle.std.proofs.Common.{◌≡◌, ◌<◌, ◌++◌, ℕ, ◌+◌, [], �
 use Rattle.orc_rules.specs.declared.entry.Entry.TheVariants.{End}
 use Rattle.orc_rules.specs.Timed.{IsIn}
 use Rattle.orc_rules.specs.Nodes.{code, definitions}
-use Rattle.orc_tables.specs.Same.{weight}
+use Rattle.orc_indexes.specs.Same.{weight}
 use Rattle.orc_records.specs.Records.{Records}
 use Rattle.orc_tables.specs.Tokens.{live, IsHeld}
 use Rattle.orc_records.specs.Calls.{IsEnded}
@@ -14,7 +14,7 @@ use Rattle.orc_records.proofs.Keeping.{counted-kept}
 use Rattle.orc_records.proofs.Made.{turns}
 use Rattle.orc_records.proofs.Leaves.{end-lawful}
 use Rattle.orc_records.proofs.Grouped.{ended-grouped}
-use Rattle.orc_tables.specs.Same.{is_this}
+use Rattle.orc_indexes.specs.Same.{is_this}
 use Rattle.orc_records.proofs.Sizes.{turned-members}
 use Rattle.orc_records.proofs.Brought.{turned-flat}
 use Rattle.orc_ledger.proofs.ledger.Ledger.end.Goals as goal

@@ -3,7 +3,7 @@ use Rattle.std.specs.Prelude.{slice_get, slice_set}
 use Rattle.orc_rules.specs.declared.entry.Entry.TheVariants.{Seq}
 use Rattle.orc_rules.specs.Timed.{IsIn}
 use Rattle.orc_rules.specs.Nodes.{code, definitions}
-use Rattle.orc_tables.specs.Same.{weight}
+use Rattle.orc_indexes.specs.Same.{weight}
 use Rattle.orc_records.specs.Records.{Records}
 use Rattle.orc_tables.specs.Steps.{group_at, depth_at}
 use Rattle.orc_tables.specs.Tokens.{live, IsHeld}
@@ -12,13 +12,14 @@ use Rattle.orc_tables.specs.declared.records.Token.{Token}
 use Rattle.orc_tables.specs.declared.records.Entered.TheVariants.{Feed}
 use Rattle.orc_tables.specs.declared.records.Step.{Step}
 use Rattle.orc_records.proofs.AtRest.{rest-kept, same-terms}
-use Rattle.orc_tables.proofs.Slots.{live-in, replaced, set-there}
+use Rattle.orc_indexes.proofs.Lists.{set-there}
+use Rattle.orc_tables.proofs.Slots.{live-in, replaced}
 use Rattle.orc_records.proofs.Calling.{turns-told}
 use Rattle.orc_records.proofs.Keeping.{counted-kept}
 use Rattle.orc_records.proofs.Made.{turns, later_mark}
 use Rattle.orc_records.proofs.Leaves.{feed-lawful}
 use Rattle.orc_records.proofs.Grouped.{fed-grouped}
-use Rattle.orc_tables.specs.Same.{is_this}
+use Rattle.orc_indexes.specs.Same.{is_this}
 use Rattle.orc_records.proofs.Nests.{group-end}
 use Rattle.orc_records.proofs.Sizes.{turned-members}
 use Rattle.orc_records.proofs.Brought.{turned-deep}

@@ -4,14 +4,14 @@ use Rattle.orc_rules.specs.declared.entry.Entry.TheVariants.{Return}
 use Rattle.orc_rules.specs.Timed.{IsIn}
 use Rattle.orc_calls.specs.Due.{DueNow}
 use Rattle.orc_rules.specs.Nodes.{code, definitions}
-use Rattle.orc_tables.specs.Same.{weight}
+use Rattle.orc_indexes.specs.Same.{weight}
 use Rattle.orc_records.specs.Records.{Records}
 use Rattle.orc_tables.specs.Tokens.{live}
 use Rattle.orc_records.specs.Calls.{Exchanges}
 use Rattle.orc_tables.specs.declared.records.Standing.TheVariants.{On}
 use Rattle.orc_tables.specs.declared.records.Token.{Token}
 use Rattle.orc_records.proofs.AtRest.{rest-kept, same-terms}
-use Rattle.orc_tables.proofs.Flags.{stay-on, stay-same}
+use Rattle.orc_tables.proofs.Parked.{stay-on, stay-same}
 use Rattle.orc_records.proofs.Answered.{due-there}
 use Rattle.orc_records.proofs.Asking.{return-lawful}
 use Rattle.orc_records.proofs.Calling.{returns-told}

@@ -11,7 +11,7 @@ use Rattle.orc_records.proofs.Asking.{return_halt-lawful}
 use Rattle.orc_records.proofs.Calling.{returns-told}
 use Rattle.orc_records.proofs.Grouped.{halted-grouped}
 use Rattle.orc_records.proofs.Keeping.{counted-kept}
-use Rattle.orc_tables.specs.Same.{is_this}
+use Rattle.orc_indexes.specs.Same.{is_this}
 use Rattle.orc_records.proofs.Sizes.{exchanged-members}
 use Rattle.orc_records.proofs.Brought.{exchanged-brought}
 use Rattle.orc_ledger.proofs.ledger.Ledger.give_up.Goals as goal

@@ -4,12 +4,12 @@ use Rattle.orc_rules.specs.Nodes.{code}
 use Rattle.orc_rules.specs.Timed.{IsIn}
 use Rattle.orc_names.specs.declared.names.Bound.TheVariants.{Void}
 use Rattle.orc_tables.specs.Tokens.{live}
-use Rattle.orc_tables.specs.Same.{weight, but}
+use Rattle.orc_indexes.specs.Same.{weight, but}
 use Rattle.orc_records.specs.Records.{Records}
 use Rattle.orc_tables.specs.Steps.{group_at}
 use Rattle.orc_records.specs.Calls.{Drops, group_goes}
 use Rattle.orc_records.specs.Next.{members, numbers_of}
-use Rattle.orc_tables.specs.Same.{is_this}
+use Rattle.orc_indexes.specs.Same.{is_this}
 use Rattle.orc_tables.specs.declared.records.Group.{Group}
 use Rattle.orc_tables.specs.declared.records.Token.{Token}
 use Rattle.orc_records.proofs.AtRest.{rest-dropped, side-unbound}

@@ -1,6 +1,6 @@
 use Rattle.std.proofs.Common.{◌≡◌, ◌<◌, ◌≤◌, ℕ, length, arith, ap, refl, sym, subst, ◌∙◌, get_or}
 use Rattle.orc_rules.specs.Nodes.{code, definitions}
-use Rattle.orc_tables.specs.Same.{weight, only}
+use Rattle.orc_indexes.specs.Same.{weight, only}
 use Rattle.orc_tables.specs.Tokens.{is_live, live, IsHeld}
 use Rattle.orc_records.specs.Records.{Records}
 use Rattle.orc_records.specs.Next.{ready_one}

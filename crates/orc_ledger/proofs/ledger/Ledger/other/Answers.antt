@@ -3,7 +3,7 @@ use Rattle.std.specs.Prelude.{slice_get, slice_set}
 use Rattle.orc_rules.specs.declared.entry.Entry.TheVariants.{Other}
 use Rattle.orc_rules.specs.Timed.{IsIn}
 use Rattle.orc_rules.specs.Nodes.{code, definitions}
-use Rattle.orc_tables.specs.Same.{weight, None}
+use Rattle.orc_indexes.specs.Same.{weight, None}
 use Rattle.orc_records.specs.Records.{Records}
 use Rattle.orc_tables.specs.Steps.{depth_at}
 use Rattle.orc_tables.specs.Tokens.{live, IsHeld}
@@ -14,13 +14,14 @@ use Rattle.orc_tables.specs.declared.records.Step.{Step}
 use Rattle.orc_tables.specs.declared.records.Side.TheVariants.{Left}
 use Rattle.orc_tables.specs.declared.records.Group.{Group}
 use Rattle.orc_records.proofs.AtRest.{rest-kept, rest-same, same-terms}
-use Rattle.orc_tables.proofs.Slots.{live-in, replaced, set-there}
+use Rattle.orc_indexes.proofs.Lists.{set-there}
+use Rattle.orc_tables.proofs.Slots.{live-in, replaced}
 use Rattle.orc_records.proofs.Calling.{turns-told}
 use Rattle.orc_records.proofs.Keeping.{counted-kept}
 use Rattle.orc_records.proofs.Made.{turns, later_mark, step_in}
 use Rattle.orc_records.proofs.Leaves.{try-lawful}
 use Rattle.orc_records.proofs.Grouped.{tried-grouped}
-use Rattle.orc_tables.specs.Same.{is_this}
+use Rattle.orc_indexes.specs.Same.{is_this}
 use Rattle.orc_tables.specs.OpenGroups.{IsOpen, size_of}
 use Rattle.orc_records.proofs.Nests.{group-kept, group-end}
 use Rattle.orc_records.proofs.Sizes.{turned-members, open-new, size-few, kept-still}

@@ -1,7 +1,7 @@
 use Rattle.std.proofs.Common.{◌<◌, ◌+◌, [], ◌∷◌, refl, ap, arith, ◌∙◌}
 use Rattle.orc_rules.specs.declared.entry.Entry.TheVariants as entry
 use Rattle.orc_rules.specs.Nodes.{code, definitions}
-use Rattle.orc_tables.specs.Same.{weight}
+use Rattle.orc_indexes.specs.Same.{weight}
 use Rattle.orc_records.specs.Records.{Records}
 use Rattle.orc_records.specs.Calls.{Exchanges}
 use Rattle.orc_paths.specs.Doing.{IsCall}

@@ -7,7 +7,7 @@ use Rattle.orc_names.specs.declared.names.Bound.{Bound}
 use Rattle.orc_names.specs.declared.names.Bound.TheVariants.{Cell}
 use Rattle.orc_names.specs.declared.names.Scope.{Scope}
 use Rattle.orc_names.specs.Scopes.{current}
-use Rattle.orc_tables.specs.Same.{weight, None}
+use Rattle.orc_indexes.specs.Same.{weight, None}
 use Rattle.orc_records.specs.Records.{Records}
 use Rattle.orc_tables.specs.Steps.{group_at}
 use Rattle.orc_tables.specs.Tokens.{live, IsHeld}
@@ -18,18 +18,19 @@ use Rattle.orc_tables.specs.declared.records.Step.{Step}
 use Rattle.orc_tables.specs.declared.records.Side.TheVariants.{Right}
 use Rattle.orc_tables.specs.declared.records.Group.{Group}
 use Rattle.orc_records.proofs.AtRest.{rest-kept, rest-same, turns-terms}
-use Rattle.orc_tables.proofs.Flags.{stay-on, stay-same}
-use Rattle.orc_tables.proofs.Slots.{live-in, replaced, set-there}
+use Rattle.orc_tables.proofs.Parked.{stay-on, stay-same}
+use Rattle.orc_indexes.proofs.Lists.{set-there}
+use Rattle.orc_tables.proofs.Slots.{live-in, replaced}
 use Rattle.orc_records.proofs.Calling.{turns-told}
 use Rattle.orc_records.proofs.Keeping.{counted-kept}
 use Rattle.orc_records.proofs.Made.{turns, later_mark, step_in}
 use Rattle.orc_records.proofs.Leaves.{open-lawful, current-push}
 use Rattle.orc_records.proofs.Grouped.{opened-grouped}
-use Rattle.orc_tables.specs.Same.{is_this}
+use Rattle.orc_indexes.specs.Same.{is_this}
 use Rattle.orc_tables.specs.OpenGroups.{IsOpen, size_of}
 use Rattle.orc_records.proofs.Nests.{group-kept, group-end}
 use Rattle.orc_records.proofs.Sizes.{turned-members, open-token, open-more, open-new, size-few, kept-still}
-use Rattle.orc_tables.proofs.Weight.{one-most}
+use Rattle.orc_indexes.proofs.Weight.{one-most}
 use Rattle.orc_records.proofs.Brought.{turned-deep}
 use Rattle.orc_records.proofs.Advancing.{step-within}
 use Rattle.orc_ledger.proofs.ledger.Ledger.prune.Goals as goal

@@ -4,7 +4,7 @@ use Rattle.orc_rules.specs.Timed.{IsIn}
 use Rattle.orc_rules.specs.Nodes.{code, definitions}
 use Rattle.orc_rules.specs.Term.{param}
 use Rattle.orc_rules.specs.declared.param.Param.TheVariants as is_
-use Rattle.orc_tables.specs.Same.{weight}
+use Rattle.orc_indexes.specs.Same.{weight}
 use Rattle.orc_paths.specs.Spelling.{whole}
 use Rattle.orc_paths.specs.Taking.{taker, crossed}
 use Rattle.orc_records.specs.Records.{Records, its_env, its_path}
@@ -20,7 +20,7 @@ use Rattle.orc_records.proofs.Keeping.{counted-kept}
 use Rattle.orc_records.proofs.Made.{crosses, step_in}
 use Rattle.orc_records.proofs.Sending.{publish-lawful}
 use Rattle.orc_records.proofs.Grouped.{published-grouped}
-use Rattle.orc_tables.specs.Same.{is_this}
+use Rattle.orc_indexes.specs.Same.{is_this}
 use Rattle.orc_records.proofs.Sizes.{crossed-members}
 use Rattle.orc_records.proofs.Brought.{crossed-brought}
 use Rattle.orc_ledger.proofs.ledger.Ledger.publish.Goals as goal

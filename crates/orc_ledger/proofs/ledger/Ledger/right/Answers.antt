@@ -2,7 +2,7 @@ use Rattle.std.proofs.Common.{◌≡◌, ◌<◌, ◌+◌, ◌∙◌, ◌++◌, 
 use Rattle.orc_rules.specs.declared.entry.Entry.TheVariants.{Right}
 use Rattle.orc_rules.specs.Timed.{IsIn}
 use Rattle.orc_rules.specs.Nodes.{code, definitions}
-use Rattle.orc_tables.specs.Same.{weight}
+use Rattle.orc_indexes.specs.Same.{weight}
 use Rattle.orc_tables.specs.Tokens.{live}
 use Rattle.orc_records.specs.Records.{Records}
 use Rattle.orc_paths.specs.Paths.{has_left}
@@ -11,7 +11,7 @@ use Rattle.orc_records.specs.Next.{members, numbers_of}
 use Rattle.orc_tables.specs.declared.records.Standing.TheVariants.{At}
 use Rattle.orc_tables.specs.declared.records.Token.{Token}
 use Rattle.orc_records.proofs.AtRest.{rest-kept, same-terms}
-use Rattle.orc_tables.proofs.Flags.{stay-on, stay-same}
+use Rattle.orc_tables.proofs.Parked.{stay-on, stay-same}
 use Rattle.orc_records.proofs.Emptied.{left-empty}
 use Rattle.orc_records.proofs.Resuming.{right-lawful}
 use Rattle.orc_records.proofs.Calling.{resumes-told}

@@ -8,7 +8,7 @@ use Rattle.orc_rules.specs.declared.param.Param.TheVariants as is_
 use Rattle.orc_names.specs.Scopes.{close, without}
 use Rattle.orc_names.specs.declared.names.Bound.TheVariants.{Is}
 use Rattle.orc_names.specs.declared.names.Scope.{Scope}
-use Rattle.orc_tables.specs.Same.{weight}
+use Rattle.orc_indexes.specs.Same.{weight}
 use Rattle.orc_paths.specs.Spelling.{feeding}
 use Rattle.orc_paths.specs.Taking.{taker, crossed, reach}
 use Rattle.orc_records.specs.Records.{Records, its_env, its_path}
@@ -19,13 +19,14 @@ use Rattle.orc_paths.specs.Taking.{Publishes}
 use Rattle.orc_tables.specs.declared.records.Standing.TheVariants.{At}
 use Rattle.orc_tables.specs.declared.records.Token.{Token}
 use Rattle.orc_records.proofs.AtRest.{rest-kept, crosses-terms}
-use Rattle.orc_tables.proofs.Slots.{live-in, replaced, set-there}
+use Rattle.orc_indexes.proofs.Lists.{set-there}
+use Rattle.orc_tables.proofs.Slots.{live-in, replaced}
 use Rattle.orc_records.proofs.Calling.{crosses-told}
 use Rattle.orc_records.proofs.Keeping.{counted-kept}
 use Rattle.orc_records.proofs.Made.{crosses, step_in, later_mark}
 use Rattle.orc_records.proofs.Sending.{send-lawful}
 use Rattle.orc_records.proofs.Grouped.{sent-grouped}
-use Rattle.orc_tables.specs.Same.{is_this}
+use Rattle.orc_indexes.specs.Same.{is_this}
 use Rattle.orc_tables.specs.OpenGroups.{IsOpen}
 use Rattle.orc_records.proofs.Sizes.{crossed-members, open-reach, size-few}
 use Rattle.orc_records.proofs.Brought.{crossed-brought}

@@ -5,7 +5,7 @@ use Rattle.orc_graft.specs.declared.numbering.Numbering.{Numbering}
 use Rattle.orc_graft.specs.Moved.{moved}
 use Rattle.orc_graft.proofs.Grafted.{part_is_grafted}
 use Rattle.orc_graft.proofs.Listed.{program_is_still}
-use Rattle.orc_tables.specs.Same.{weight, is_this}
+use Rattle.orc_indexes.specs.Same.{weight, is_this}
 use Rattle.orc_tables.specs.Tokens.{live, IsHeld}
 use Rattle.orc_tables.specs.OpenGroups.{size_of, tokens_in}
 use Rattle.orc_tables.specs.Steps.{group_at}

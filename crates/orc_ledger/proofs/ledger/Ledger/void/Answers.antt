@@ -3,7 +3,7 @@ use Rattle.orc_rules.specs.declared.entry.Entry.TheVariants.{Void}
 use Rattle.orc_rules.specs.Timed.{IsIn}
 use Rattle.orc_rules.specs.Nodes.{code, definitions}
 use Rattle.orc_rules.specs.Journal.{IsVoid}
-use Rattle.orc_tables.specs.Same.{weight}
+use Rattle.orc_indexes.specs.Same.{weight}
 use Rattle.orc_records.specs.Records.{Records, its_env}
 use Rattle.orc_paths.specs.Paths.{standing}
 use Rattle.orc_tables.specs.Tokens.{live, IsHeld}
@@ -16,7 +16,7 @@ use Rattle.orc_records.proofs.Keeping.{counted-kept}
 use Rattle.orc_records.proofs.Made.{turns}
 use Rattle.orc_records.proofs.Passing.{void-lawful}
 use Rattle.orc_records.proofs.Grouped.{turned-grouped}
-use Rattle.orc_tables.specs.Same.{is_this}
+use Rattle.orc_indexes.specs.Same.{is_this}
 use Rattle.orc_records.proofs.Sizes.{turned-members}
 use Rattle.orc_records.proofs.Brought.{turned-flat}
 use Rattle.orc_ledger.proofs.ledger.Ledger.void.Goals as goal

@@ -1,7 +1,7 @@
 use Rattle.std.proofs.Common.{◌≡◌, ◌<◌, ◌+◌, length, length-set, sym, ap, ◌∙◌, subst, arith}
 use Rattle.std.specs.Prelude.{slice_set}
 use Rattle.orc_tables.specs.OpenGroups.{GroupTable, IsOpen, size_of}
-use Rattle.orc_tables.specs.Same.{is_this}
+use Rattle.orc_indexes.specs.Same.{is_this}
 use Rattle.orc_tables.proofs.Leading.{open-within, size-joined}
 use Rattle.orc_tables.proofs.Emptied.{empty-joined}
 use Rattle.orc_tables.proofs.groups.Groups.join.Goals as goal

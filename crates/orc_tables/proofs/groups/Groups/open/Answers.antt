@@ -1,6 +1,6 @@
 use Rattle.std.proofs.Common.{◌≡◌, ◌++◌, ◌∷◌, [], length, sym, ap, ◌∙◌, subst, arith, length-set}
 use Rattle.std.specs.Prelude.{slice_set}
-use Rattle.orc_tables.specs.Same.{weight}
+use Rattle.orc_indexes.specs.Same.{weight}
 use Rattle.orc_tables.specs.OpenGroups.{GroupTable, AreNumbered, is_named, empty_in, size_of}
 use Rattle.orc_tables.specs.declared.records.Group.{Group}
 use Rattle.orc_tables.proofs.Leading.{opened-numbered, free-number}

@@ -1,7 +1,7 @@
 use Rattle.std.proofs.Common.{◌≡◌, ◌+◌, ◌++◌, ◌∷◌, [], ℕ, sym, ap, ◌∙◌, subst, arith, length}
-use Rattle.orc_tables.specs.Same.{weight}
+use Rattle.orc_indexes.specs.Same.{weight}
 use Rattle.orc_tables.specs.PendingCalls.{Pendings, ArePlaced, HasNote, HaveNotes}
-use Rattle.orc_tables.proofs.Weight.{weight-append}
+use Rattle.orc_indexes.proofs.Weight.{weight-append}
 use Rattle.orc_tables.proofs.Placed.{placed-push, noted-push}
 use Rattle.orc_tables.proofs.pending.Pending.add.Goals as goal
 

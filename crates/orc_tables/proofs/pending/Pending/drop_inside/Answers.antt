@@ -1,5 +1,5 @@
 use Rattle.std.proofs.Common.{◌∙◌, ap}
-use Rattle.orc_tables.specs.Same.{weight, but}
+use Rattle.orc_indexes.specs.Same.{weight, but}
 use Rattle.orc_tables.specs.Inside.{stands_inside}
 use Rattle.orc_tables.specs.PendingCalls.{Pendings}
 use Rattle.orc_tables.specs.declared.records.Call.{Call}

@@ -1,9 +1,9 @@
 use Rattle.std.proofs.Common.{◌+◌, ◌≡◌, ℕ, take, cond, ap, ◌∙◌, arith}
-use Rattle.orc_tables.specs.Same.{weight, but}
+use Rattle.orc_indexes.specs.Same.{weight, but}
 use Rattle.orc_tables.specs.Crowd.{is_listed}
 use Rattle.orc_tables.specs.Inside.{stands_inside}
 use Rattle.orc_tables.specs.Steps.{group_at}
-use Rattle.orc_tables.specs.Same.{is_this}
+use Rattle.orc_indexes.specs.Same.{is_this}
 use Rattle.orc_tables.specs.OpenGroups.{GroupTable, size_of}
 use Rattle.orc_tables.specs.PendingCalls.{is_numbered}
 use Rattle.orc_tables.specs.declared.records.Call.{Call}

@@ -1,5 +1,5 @@
 use Rattle.std.proofs.Common.{◌≡◌, ℕ, take}
-use Rattle.orc_tables.specs.Same.{weight, but}
+use Rattle.orc_indexes.specs.Same.{weight, but}
 use Rattle.orc_tables.specs.Crowd.{is_listed}
 use Rattle.orc_tables.specs.OpenGroups.{HaveLeft, calls_in}
 use Rattle.orc_tables.specs.declared.records.Call.{Call}

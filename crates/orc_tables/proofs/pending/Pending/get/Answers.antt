@@ -1,6 +1,6 @@
 use Rattle.std.proofs.Common.{subst, ap, ◌∙◌, sym}
 use Rattle.orc_rules.specs.Timed.{IsIn}
-use Rattle.orc_tables.specs.Same.{weight}
+use Rattle.orc_indexes.specs.Same.{weight}
 use Rattle.orc_tables.specs.PendingCalls.{has_number}
 use Rattle.orc_tables.specs.PendingCalls.{Pendings}
 use Rattle.orc_tables.proofs.Placed.{none-there, got-in}

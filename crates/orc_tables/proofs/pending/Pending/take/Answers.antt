@@ -1,10 +1,10 @@
 use Rattle.std.proofs.Common.{◌≡◌, ℕ, sym, ap, ◌∙◌, subst, ⊎_elim, arith, cond, eq-eqb}
 use Rattle.orc_rules.specs.Timed.{IsIn}
-use Rattle.orc_tables.specs.Same.{weight}
+use Rattle.orc_indexes.specs.Same.{weight}
 use Rattle.orc_tables.specs.PendingCalls.{has_number}
 use Rattle.orc_tables.specs.PendingCalls.{Pendings}
 use Rattle.orc_tables.specs.declared.records.Call.{Call}
-use Rattle.orc_tables.proofs.Weight.{weight-in}
+use Rattle.orc_indexes.proofs.Weight.{weight-in}
 use Rattle.orc_tables.proofs.Placed.{same_some, one-call, none-there, none-taken, one-taken, got-in}
 use Rattle.orc_tables.proofs.pending.Pending.take.Goals as goal
 

@@ -1,10 +1,11 @@
 use Rattle.std.proofs.Common.{ℕ, ◌≡◌, [], ◌∷◌, ◌++◌, length, ap, ◌∙◌, arith}
 use Rattle.std.specs.Prelude.{slice_get, slice_set}
-use Rattle.orc_tables.specs.Same.{weight}
+use Rattle.orc_indexes.specs.Same.{weight}
 use Rattle.orc_tables.specs.Tokens.{live, IsHeld}
 use Rattle.orc_tables.specs.declared.records.Token.{Token}
-use Rattle.orc_tables.proofs.Flags.{held-more, stay-added}
-use Rattle.orc_tables.proofs.Slots.{count-weight, live-short, filled, pushed, set-there, set-elsewhere, not-there, got-end, got-more}
+use Rattle.orc_tables.proofs.Parked.{held-more, stay-added}
+use Rattle.orc_indexes.proofs.Lists.{count-weight, set-there, set-elsewhere, got-end, got-more}
+use Rattle.orc_tables.proofs.Slots.{live-short, filled, pushed, not-there}
 use Rattle.orc_tables.proofs.tokens.Tokens.add.Goals as goal
 
 pub overflow_add-self : goal.overflow_add-self

@@ -1,6 +1,6 @@
 use Rattle.std.proofs.Common.{sym, ◌∙◌}
 use Rattle.std.proofs.lemmas.Bool.{eqb-true}
-use Rattle.orc_tables.proofs.Flags.{all-set}
+use Rattle.orc_tables.proofs.Parked.{all-set}
 use Rattle.orc_tables.proofs.tokens.Tokens.all_wait.Goals as goal
 
 pub returns : goal.returns

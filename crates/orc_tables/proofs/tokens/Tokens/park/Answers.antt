@@ -1,8 +1,8 @@
 use Rattle.std.proofs.Common.{◌∙◌, List, sym, ap, subst, inl, inr}
 use Rattle.orc_rules.specs.Timed.{IsIn}
-use Rattle.orc_tables.specs.Parking.{is_set, notes_at}
-use Rattle.orc_tables.specs.declared.parking.Note.{Note}
-use Rattle.orc_tables.proofs.Flags.{now-set}
+use Rattle.orc_indexes.specs.Parking.{is_set, notes_at}
+use Rattle.orc_indexes.specs.declared.parking.Note.{Note}
+use Rattle.orc_indexes.proofs.Flags.{now-set}
 use Rattle.orc_tables.proofs.tokens.Tokens.park.Goals as goal
 
 pub returns-in_err-note_all-clause-parked : goal.returns-in_err-note_all-clause-parked

@@ -3,8 +3,9 @@ use Rattle.std.specs.Prelude.{slice_set}
 use Rattle.orc_tables.specs.Tokens.{live, IsHeld}
 use Rattle.orc_tables.specs.declared.records.Standing.TheVariants.{At}
 use Rattle.orc_tables.specs.declared.records.Token.{Token}
-use Rattle.orc_tables.proofs.Flags.{held-cleared, stay-cleared}
-use Rattle.orc_tables.proofs.Slots.{count-weight, removed}
+use Rattle.orc_tables.proofs.Parked.{held-cleared, stay-cleared}
+use Rattle.orc_indexes.proofs.Lists.{count-weight}
+use Rattle.orc_tables.proofs.Slots.{removed}
 use Rattle.orc_tables.proofs.tokens.Tokens.remove.Goals as goal
 
 abbrev nobody : Token

@@ -1,8 +1,9 @@
 use Rattle.std.proofs.Common.{length, ap, arith}
 use Rattle.std.specs.Prelude.{slice_set}
 use Rattle.orc_tables.specs.Tokens.{live, IsHeld}
-use Rattle.orc_tables.proofs.Flags.{held-cleared, stay-cleared}
-use Rattle.orc_tables.proofs.Slots.{count-weight, replaced}
+use Rattle.orc_tables.proofs.Parked.{held-cleared, stay-cleared}
+use Rattle.orc_indexes.proofs.Lists.{count-weight}
+use Rattle.orc_tables.proofs.Slots.{replaced}
 use Rattle.orc_tables.proofs.tokens.Tokens.replace.Goals as goal
 
 pub invariant_of-self : goal.invariant_of-self

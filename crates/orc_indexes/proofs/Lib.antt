@@ -1,0 +1,5 @@
+pub mod Chained
+pub mod Flags
+pub mod Lists
+pub mod Notes
+pub mod Weight

@@ -1,0 +1,182 @@
+//! Who is in each group: chains of places in a table.
+
+ghost use Rattle.std.specs.Prelude.{◌≡◌, ◌≤◌, ℕ, slice_get};
+ghost use Rattle.orc_indexes.specs.Same.{weight};
+ghost use Rattle.orc_indexes.specs.Same.{is_this};
+
+use crate::memory::{push_within, reserve};
+use orc_rules::limits::MOST_GROUPS;
+use std::alloc::{AllocError, Global};
+
+// A place in the chain of a group, with its neighbours. That of group 0, which never goes, isn't kept.
+#[derive(Clone, Copy)]
+struct Link {
+    group: u32,
+    before: usize,
+    after: usize,
+    // The later it was put, the greater.
+    rank: u64,
+}
+
+// No place.
+const NOWHERE: usize = usize::MAX;
+
+// A place in no chain.
+const ALONE: Link = Link {
+    group: 0,
+    before: NOWHERE,
+    after: NOWHERE,
+    rank: 0,
+};
+
+/// The places of each group's members in a table, the latest first. They are hints: who goes by them looks at each member, and counts them.
+#[derive(Drop)]
+pub struct Chains {
+    // By group: where its chain begins.
+    firsts: Vec<usize>,
+    // By place.
+    links: Vec<Link>,
+    rank: u64,
+}
+
+// Who stands before a place, or the group whose first it is, is told who follows.
+fn set_after(firsts: &mut Vec<usize>, links: &mut Vec<Link>, link: Link, after: usize) {
+    match links.get_mut(link.before) {
+        Some(before) => before.after = after,
+        None => {
+            if let Some(first) = firsts.get_mut(link.group as usize) {
+                *first = after;
+            }
+        }
+    }
+}
+
+fn set_before(links: &mut Vec<Link>, link: Link, before: usize) {
+    if let Some(after) = links.get_mut(link.after) {
+        after.before = before;
+    }
+}
+
+fn set_link(links: &mut Vec<Link>, place: usize, link: Link) {
+    if let Some(old) = links.get_mut(place) {
+        *old = link;
+    }
+}
+
+#[inline(always)]
+fn find_link(links: &Vec<Link>, place: usize) -> Option<Link>
+    ensures { result ≡ slice_get links.now.items place }
+{
+    links.get(place).copied()
+}
+
+#[inline(always)]
+fn link_at(links: &Vec<Link>, place: usize) -> Link {
+    match find_link(links, place) {
+        Some(link) => link,
+        None => ALONE,
+    }
+}
+
+impl Chains {
+    /// No places, and room for one.
+    pub fn begin(alloc: Global) -> Result<Chains, AllocError> {
+        let mut firsts = Vec::new(alloc);
+        // As many groups as there may be.
+        for _group in 0..MOST_GROUPS {
+            reserve(&mut firsts)?;
+            push_within(&mut firsts, NOWHERE);
+        }
+        let mut links = Vec::new(alloc);
+        reserve(&mut links)?;
+        Ok(Chains {
+            firsts,
+            links,
+            rank: 0,
+        })
+    }
+
+    /// Makes room for one more place.
+    #[inline(always)]
+    pub fn reserve(&mut self) -> Result<(), AllocError> {
+        reserve(&mut self.links)
+    }
+
+    /// The member of a group stands at this place.
+    #[inline(always)]
+    pub fn put(&mut self, place: usize, group: u32) {
+        if let Some(link) = self.links.get(place)
+            && link.group == group
+        {
+            return;
+        }
+        self.move_to(place, group);
+    }
+
+    // A place goes from one group's chain to another's.
+    #[inline(never)]
+    fn move_to(&mut self, place: usize, group: u32) {
+        if place == self.links.len() && place < self.links.capacity() {
+            self.links.push_reserved(ALONE);
+        }
+        self.take(place);
+        let first = match self.firsts.get(group as usize) {
+            Some(first) if group > 0 => *first,
+            _ => return,
+        };
+        self.rank = self.rank.saturating_add(1);
+        let link = Link {
+            group,
+            before: NOWHERE,
+            after: first,
+            rank: self.rank,
+        };
+        set_after(&mut self.firsts, &mut self.links, link, place);
+        set_before(&mut self.links, link, place);
+        set_link(&mut self.links, place, link);
+    }
+
+    /// Nobody stands at this place.
+    pub fn take(&mut self, place: usize) {
+        let link = link_at(&self.links, place);
+        if link.group == 0 {
+            return;
+        }
+        set_after(&mut self.firsts, &mut self.links, link, link.after);
+        set_before(&mut self.links, link, link.before);
+        set_link(&mut self.links, place, ALONE);
+    }
+
+    /// Nobody stands at this place but who stood at the last one, where they aren't the same.
+    pub fn swap_take(&mut self, place: usize, last: usize) {
+        self.take(place);
+        let link = link_at(&self.links, last);
+        if link.group == 0 {
+            return;
+        }
+        set_after(&mut self.firsts, &mut self.links, link, place);
+        set_before(&mut self.links, link, place);
+        set_link(&mut self.links, place, link);
+        set_link(&mut self.links, last, ALONE);
+    }
+
+    /// The places of a group's members, each once; not all where memory is refused.
+    pub fn list(&self, group: u32, places: &mut Vec<usize>)
+        ensures once { (k : ℕ) → weight (is_this k) places.new.items ≤ 1 }
+    {
+        places.clear();
+        let mut at = match self.firsts.get(group as usize) {
+            Some(first) => *first,
+            None => return,
+        };
+        let mut rank = u64::MAX;
+        while let Some(link) = find_link(&self.links, at) {
+            if link.rank >= rank || reserve(places).is_err() {
+                return;
+            }
+            push_within(places, at);
+            rank = link.rank;
+            at = link.after;
+        }
+    }
+}
