@@ -8,13 +8,11 @@ ghost use Rattle.orc_rules.specs.Named.{HasNames};
 ghost use Rattle.orc_rules.specs.Nodes.{definitions, source};
 ghost use Rattle.orc_rules.specs.Program.{IsProgram};
 ghost use Rattle.orc_outcome.specs.Outcome.{IsPlayed};
-ghost use Rattle.orc_engine.specs.Faults.{IsOwn};
+ghost use Rattle.orc_desk.specs.Faults.{IsOwn};
 ghost use Rattle.orc_engine.specs.Ranges.{IsInRange};
-ghost use Rattle.orc_engine.specs.Stops.{HasSpread, IsNearer, Stops};
+ghost use Rattle.orc_desk.specs.Stops.{HasSpread, IsNearer, Stops};
 
-use crate::desk::{Desk, Stop};
-use crate::fault::EngineFault;
-use crate::jobs::{Came, Job};
+use orc_desk::{Came, Desk, EngineFault, Job, Stop};
 use orc_graph::Graph;
 use orc_ledger::{Ledger, Program as Naming};
 use orc_outcome::Played;

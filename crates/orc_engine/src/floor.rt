@@ -2,7 +2,7 @@
 
 ghost use Rattle.std.specs.Prelude.{◌≡◌};
 
-use crate::desk::{Desk, Stop, Turn};
+use orc_desk::{Desk, Stop, Turn};
 use orc_graph::Graph;
 use orc_ledger::{LedgerFault, Program as Naming};
 use orc_rules::answers::Answers;

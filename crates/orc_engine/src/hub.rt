@@ -2,8 +2,8 @@
 
 ghost use Rattle.std.specs.Prelude.{◌≡◌};
 
-use crate::desk::Stop;
 use crate::floor::Floor;
+use orc_desk::Stop;
 use orc_graph::Graph;
 use orc_ledger::Program as Naming;
 use orc_rules::answers::Answers;

@@ -6,15 +6,14 @@ ghost use Rattle.orc_outcome.specs.Outcome.{IsPlayed};
 ghost use Rattle.orc_rules.specs.Named.{HasNames};
 ghost use Rattle.orc_rules.specs.Nodes.{definitions, source};
 ghost use Rattle.orc_rules.specs.Program.{IsProgram};
-ghost use Rattle.orc_engine.specs.Faults.{IsOwn};
+ghost use Rattle.orc_desk.specs.Faults.{IsOwn};
 ghost use Rattle.orc_engine.specs.Ranges.{IsInRange};
 
 use crate::crew;
-use crate::desk::Desk;
-use crate::fault::EngineFault;
 use crate::floor::Floor;
 use crate::hub::Hub;
 use crate::worker::Worker;
+use orc_desk::{Desk, EngineFault};
 use orc_graph::Graph;
 use orc_ledger::{Ledger, Program as Naming};
 use orc_outcome::Played;

@@ -1,9 +1,9 @@
 //! One of several workers.
 
-use crate::desk::Stop;
 use crate::floor::{Errand, News};
 use crate::hub::Hub;
 use crate::poller::{Polled, Poller};
+use orc_desk::Stop;
 use orc_ledger::{LedgerFault, Program as Naming};
 use orc_site::{Gate, Request, Sites};
 use std::mem;

@@ -17,14 +17,14 @@ use Rattle.orc_outcome.specs.declared.end.End.{End}
 use Rattle.orc_outcome.specs.declared.end.End.TheVariants as ends
 use Rattle.orc_run.specs.Commands.{HasEnded, IsDone, IsUnread, LeavesUndone, WasCut}
 use Rattle.orc_run.specs.Failures.{failure_status}
-use Rattle.orc_engine.specs.declared.fault.EngineFault.{EngineFault}
-use Rattle.orc_engine.specs.declared.fault.EngineFault.TheVariants as engine
+use Rattle.orc_desk.specs.declared.fault.EngineFault.{EngineFault}
+use Rattle.orc_desk.specs.declared.fault.EngineFault.TheVariants as engine
 use Rattle.orc_rules.specs.Faults.{reason_status}
 use Rattle.orc_syntax.specs.Faults.{syntax_status}
 use Rattle.orc_scope.specs.Faults.{scope_status}
 use Rattle.orc_site.specs.Faults.{script_status}
 use Rattle.orc_journal.specs.Faults.{journal_status}
-use Rattle.orc_engine.specs.Faults.{engine_status}
+use Rattle.orc_desk.specs.Faults.{engine_status}
 use Rattle.orc_run.specs.Running.{LeavesAtFault}
 use Rattle.orc_run.specs.Status.{read_status_of}
 use Rattle.orc_run.specs.Checked.{LeavesUnchecked, LeavesUnjudged}

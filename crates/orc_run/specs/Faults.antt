@@ -6,7 +6,7 @@ use Rattle.orc_scope.specs.Faults.{scope_line, scope_status}
 use Rattle.orc_site.specs.Faults.{script_line, script_status}
 use Rattle.orc_journal.specs.Faults.{journal_line, journal_status}
 use Rattle.orc_verdict.specs.Faults.{check_line}
-use Rattle.orc_engine.specs.Faults.{engine_line, engine_status}
+use Rattle.orc_desk.specs.Faults.{engine_line, engine_status}
 use Rattle.orc_run.specs.declared.faults.RunFault.{RunFault}
 use Rattle.orc_run.specs.declared.faults.RunFault.TheVariants as fault
 

@@ -16,7 +16,7 @@ use Rattle.orc_load.specs.declared.fault.LoadFault.{LoadFault}
 use Rattle.orc_load.specs.declared.fault.LoadFault.TheVariants as load
 use Rattle.orc_outcome.specs.Outcome.{Outcome, IsRun, Tells, text_of}
 use Rattle.orc_outcome.specs.declared.end.Summary.{Summary}
-use Rattle.orc_engine.specs.Faults.{IsOwn}
+use Rattle.orc_desk.specs.Faults.{IsOwn}
 use Rattle.orc_run.specs.Output.{AppendsPrefix}
 use Rattle.orc_words.specs.declared.job.Options.{Options}
 use Rattle.orc_run.specs.declared.faults.RunFault.{RunFault}

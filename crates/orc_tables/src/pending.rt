@@ -16,8 +16,8 @@ ghost use Rattle.orc_tables.specs.declared.records.Call.{Call as Its};
 use crate::groups::Groups;
 use crate::records::Call;
 use crate::steps::Steps;
-use orc_indexes::{Chains, Dues, push_within};
 use orc_calls::due_time;
+use orc_indexes::{Chains, Dues, push_within};
 use std::alloc::{AllocError, Global};
 use std::marker::Model;
 

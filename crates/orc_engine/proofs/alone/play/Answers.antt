@@ -1,6 +1,6 @@
 use Rattle.std.proofs.Common.{◌^◌}
 use Rattle.std.specs.VecDeque.{deque_len}
-use Rattle.orc_engine.proofs.Stopping.{nearer-end}
+use Rattle.orc_desk.proofs.Stopping.{nearer-end}
 use Rattle.orc_engine.proofs.alone.play.Goals as goal
 
 pub loop-stop-smaller : goal.loop-stop-smaller

@@ -2,9 +2,9 @@ use Rattle.std.proofs.Common.{sym, subst, IfErr}
 use Rattle.orc_rules.specs.Named.{HasNames}
 use Rattle.orc_rules.specs.Nodes.{definitions, source}
 use Rattle.orc_rules.specs.Program.{IsProgram}
-use Rattle.orc_engine.specs.Stops.{Stops}
-use Rattle.orc_engine.specs.Faults.{IsOwn}
-use Rattle.orc_engine.proofs.Stopping.{weaker-fault}
+use Rattle.orc_desk.specs.Stops.{Stops}
+use Rattle.orc_desk.specs.Faults.{IsOwn}
+use Rattle.orc_desk.proofs.Stopping.{weaker-fault}
 use Rattle.orc_engine.proofs.crew.run_named.Goals as goal
 
 pub returns-clause-sound : goal.returns-clause-sound

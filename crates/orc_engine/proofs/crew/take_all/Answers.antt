@@ -1,5 +1,5 @@
 use Rattle.std.specs.VecDeque.{deque_len}
-use Rattle.orc_engine.proofs.Stopping.{spread-on}
+use Rattle.orc_desk.proofs.Stopping.{spread-on}
 use Rattle.orc_engine.proofs.crew.take_all.Goals as goal
 
 pub loop-job-preserved : goal.loop-job-preserved

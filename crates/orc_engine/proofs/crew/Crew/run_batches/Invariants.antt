@@ -1,6 +1,6 @@
 -- The run is further, or as far, and no more turns come.
 use Rattle.std.specs.VecDeque.{deque_len}
-use Rattle.orc_engine.specs.Stops.{HasSpread}
+use Rattle.orc_desk.specs.Stops.{HasSpread}
 use Rattle.orc_engine.proofs.crew.Crew.run_batches.Given as goal
 
 abbrev pub invariant-loop-from : goal.invariant-loop-from
