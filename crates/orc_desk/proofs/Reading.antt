@@ -5,7 +5,7 @@ use Rattle.orc_rules.specs.declared.entry.Entry.{Entry}
 use Rattle.orc_rules.specs.Nodes.{Listing, source}
 use Rattle.orc_rules.specs.Sites.{Table}
 use Rattle.orc_rules.specs.Journal.{Journal, begin}
-use Rattle.orc_journal.proofs.Composing.{take_one}
+use Rattle.orc_lines.proofs.Composing.{take_one}
 use Rattle.orc_checker.specs.Checker.{State, Applies}
 use Rattle.orc_journal.specs.Sizes.{total}
 use Rattle.orc_outcome.specs.Outcome.{context}

@@ -4,14 +4,15 @@ ghost use Rattle.std.specs.Prelude.{◌≡◌, true, IfOk, IfErr};
 ghost use Rattle.orc_rules.specs.Named.{AreNamed, HasNames};
 ghost use Rattle.orc_rules.specs.Trace.{published};
 ghost use Rattle.orc_journal.specs.declared.journal.Version.TheVariants.{Two};
-ghost use Rattle.orc_journal.specs.Texts.{AreOf};
+ghost use Rattle.orc_lines.specs.Texts.{AreOf};
 ghost use Rattle.orc_outcome.specs.Outcome.{text_of, IsPlayed};
 ghost use Rattle.orc_desk.specs.Ends.{HasEnded};
 ghost use Rattle.orc_desk.specs.Faults.{IsOwn};
 
 use crate::fault::EngineFault;
-use orc_journal::{Journal, write_journal};
+use orc_journal::Journal;
 use orc_ledger::{Ledger, Program as Naming};
+use orc_lines::write_journal;
 use orc_outcome::{End, Played, Summary};
 use orc_rules::answers::Answers;
 use orc_rules::value::Value;

@@ -4,7 +4,7 @@ use crate::journal::say_journal;
 use crate::scope::say_scope;
 use crate::script::say_script;
 use crate::syntax::{say_refused, say_syntax};
-use orc_journal::JournalFault;
+use orc_lines::JournalFault;
 use orc_page::{Page, Subject};
 use orc_rules::limits::MOST_ENTRIES;
 use orc_scope::ScopeFault;

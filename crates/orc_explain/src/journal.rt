@@ -2,8 +2,8 @@
 
 use crate::syntax::say_refused;
 use crate::words::said_of;
-use orc_journal::JournalFault;
 use orc_lex::token::Span;
+use orc_lines::JournalFault;
 use orc_near::Near;
 use orc_page::{Document, Page, Subject};
 use orc_rules::limits::{LONGEST_JOURNAL, MOST_ENTRIES};

@@ -3,7 +3,8 @@
 use crate::ended::Ended;
 use crate::replay::Replay;
 use crate::tokens::span_at;
-use orc_journal::{Journal, has_line, write_entry};
+use orc_journal::Journal;
+use orc_lines::{has_line, write_entry};
 use orc_outcome::{End, Summary};
 use orc_page::{Page, Subject, place_of};
 use orc_rules::answers::Answers;

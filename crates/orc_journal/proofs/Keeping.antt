@@ -13,7 +13,7 @@ use Rattle.orc_journal.specs.declared.rows.Called.{Called}
 use Rattle.orc_journal.specs.declared.rows.Row.{Row}
 use Rattle.orc_journal.specs.declared.rows.Row.TheVariants.{Narrow, Wide}
 use Rattle.orc_journal.specs.Rows.{Contents, no_parts, no_call, parts_in, call_by, plain, given, entry_by, entry_from, entry_of, grown, HasArguments, HasCall, HasValue, IsPlain, IsPlaced, IsThere, ArePlaced, IsWithin, AreWithin, Keeps, Names, StandsAt, StandFrom, StandsFor}
-use Rattle.orc_journal.specs.Texts.{Written, journal_with}
+use Rattle.orc_journal.specs.Written.{Written, journal_with}
 use Rattle.orc_journal.specs.declared.journal.Version.{Version}
 
 -- ---- parts

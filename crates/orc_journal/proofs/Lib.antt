@@ -1,15 +1,4 @@
-pub mod Arriving
-pub mod Calls
-pub mod Codes
-pub mod Coming
-pub mod Composing
-pub mod Digits
-pub mod Entries
 pub mod Grafted
 pub mod Keeping
-pub mod Loops
-pub mod Names
 pub mod Shifted
 pub mod Shown
-pub mod Stripping
-pub mod Whole

@@ -19,7 +19,7 @@ use Rattle.orc_journal.specs.declared.rows.Row.TheVariants.{Narrow, Wide}
 use Rattle.orc_journal.specs.declared.shifting.Shift.{Shift}
 use Rattle.orc_journal.specs.Rows.{Contents, no_call, value_at, call_by, entry_of, grown, HasArguments, HasCall, IsWithin, AreWithin, Keeps, StandsFor}
 use Rattle.orc_journal.specs.Shifts.{mark_by, row_by, called_by, shift_to, IsMovable, Shifts}
-use Rattle.orc_journal.specs.Texts.{Written, journal_with}
+use Rattle.orc_journal.specs.Written.{Written, journal_with}
 use Rattle.orc_journal.proofs.Keeping.{rows_kept, within_kept}
 
 less : (m own : ℕ) → 2 ≤ m → m - 2 + own ≡ m + own - 2

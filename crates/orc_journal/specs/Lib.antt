@@ -1,8 +1,4 @@
-pub mod Lines
-pub mod Pieces
-pub mod Reading
 pub mod Rows
 pub mod Shifts
 pub mod Sizes
-pub mod Texts
-pub mod Faults
+pub mod Written

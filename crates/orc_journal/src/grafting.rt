@@ -4,7 +4,7 @@ ghost use Rattle.std.specs.Prelude.{◌≡◌, ◌+◌, ◌∷◌, [], List, map
 ghost use Rattle.orc_rules.specs.declared.entry.Entry.{Entry as EntryOf};
 ghost use Rattle.orc_graft.specs.Moved.{cell_in, mark_in, moved, IsLocal, AreLocal, IsSilent, AreSilent};
 ghost use Rattle.orc_journal.specs.Rows.{entry_of, IsWithin, Keeps, StandsFor};
-ghost use Rattle.orc_journal.specs.Texts.{journal_with};
+ghost use Rattle.orc_journal.specs.Written.{journal_with};
 
 use crate::journal::Journal;
 use crate::room::make_room;

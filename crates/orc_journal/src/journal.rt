@@ -7,7 +7,7 @@ ghost use Rattle.orc_rules.specs.declared.entry.Entry.TheVariants.{Send, Call, R
 ghost use Rattle.orc_rules.specs.declared.limits.TheConstants.{MOST_ARGUMENTS};
 ghost use Rattle.orc_rules.specs.Trace.{published};
 ghost use Rattle.orc_journal.specs.Rows.{entry_of, given, plain, AreWithin, HasValue, IsPlain};
-ghost use Rattle.orc_journal.specs.Texts.{Written, journal_with};
+ghost use Rattle.orc_journal.specs.Written.{Written, journal_with};
 
 use crate::room::make_room;
 use crate::rows::{Row, Tables};

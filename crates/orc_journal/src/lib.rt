@@ -1,21 +1,10 @@
-//! Journals as text and in memory: the line of an entry is written and read back exactly, and a text is read exactly where it is that of a journal.
+//! Journals in memory: each entry in a row of few bytes, and the entries of a part put behind others under new numbers.
 #![tactic(auto)]
 
-mod fitting;
 mod grafting;
 mod journal;
-mod lines;
-mod pieces;
-mod reading;
 mod room;
 mod rows;
 mod shifting;
-mod text;
-mod writing;
 
-pub use fitting::has_line;
 pub use journal::{Journal, Version};
-pub use lines::{Lines, LinesFault};
-pub use reading::read_entry;
-pub use text::{JournalFault, read_journal, write_header, write_journal};
-pub use writing::{write_entry, write_publication, write_value};

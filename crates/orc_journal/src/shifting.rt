@@ -5,7 +5,7 @@ ghost use Rattle.std.specs.List.{All};
 ghost use Rattle.orc_graft.specs.Moved.{moved};
 ghost use Rattle.orc_journal.specs.Rows.{grown, Keeps};
 ghost use Rattle.orc_journal.specs.Shifts.{called_by, mark_by, row_by, IsMovable, Shifts};
-ghost use Rattle.orc_journal.specs.Texts.{journal_with};
+ghost use Rattle.orc_journal.specs.Written.{journal_with};
 
 use crate::journal::Journal;
 use crate::rows::{Called, Row, Tables, short};

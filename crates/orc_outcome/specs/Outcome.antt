@@ -11,7 +11,8 @@ use Rattle.orc_rules.specs.Journal.{Place, Journal, begin, moment}
 use Rattle.orc_rules.specs.Trace.{published}
 use Rattle.orc_journal.specs.declared.journal.Version.TheVariants.{Two}
 use Rattle.orc_journal.specs.Sizes.{IsCrowded}
-use Rattle.orc_journal.specs.Texts.{AreOf, count, journal_text}
+use Rattle.orc_journal.specs.Written.{count}
+use Rattle.orc_lines.specs.Texts.{AreOf, journal_text}
 use Rattle.orc_outcome.specs.declared.end.End.{End}
 use Rattle.orc_outcome.specs.declared.end.End.TheVariants as ends
 use Rattle.orc_outcome.specs.declared.end.Summary.{Summary}

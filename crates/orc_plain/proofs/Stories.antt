@@ -11,8 +11,9 @@ use Rattle.orc_rules.specs.Journal.{Place, Journal, Leads, begin}
 use Rattle.orc_rules.specs.Text.{line, Fits}
 use Rattle.orc_rules.specs.Trace.{published}
 use Rattle.orc_journal.specs.declared.journal.Version.TheVariants.{Two}
-use Rattle.orc_journal.specs.Texts.{header, entry_lines, counts, count}
-use Rattle.orc_journal.proofs.Stripping.{are_more, count_more}
+use Rattle.orc_journal.specs.Written.{counts, count}
+use Rattle.orc_lines.specs.Texts.{header, entry_lines}
+use Rattle.orc_lines.proofs.Stripping.{are_more, count_more}
 use Rattle.orc_checker.specs.Checker.{Applies}
 use Rattle.orc_outcome.specs.Outcome.{context, text_of}
 use Rattle.orc_plain.specs.Lines.{Kept, with_line}

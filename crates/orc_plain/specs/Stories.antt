@@ -7,7 +7,8 @@ use Rattle.orc_rules.specs.Nodes.{Listing, code, source}
 use Rattle.orc_rules.specs.Journal.{Place, Journal, Leads, begin}
 use Rattle.orc_rules.specs.Trace.{published}
 use Rattle.orc_journal.specs.declared.journal.Version.TheVariants.{Two}
-use Rattle.orc_journal.specs.Texts.{AreOf, count}
+use Rattle.orc_journal.specs.Written.{count}
+use Rattle.orc_lines.specs.Texts.{AreOf}
 use Rattle.orc_checker.specs.Checker.{State, Spells}
 use Rattle.orc_outcome.specs.Outcome.{context, text_of, EndsAt}
 use Rattle.orc_outcome.specs.declared.end.End.{End}

@@ -1,12 +1,13 @@
 //! The text of a journal, line by line.
 
 ghost use Rattle.std.specs.Prelude.{◌≡◌, ◌<◌, ◌^◌, List, ℕ, [], true, false, take, length, OnOk, OnErr, IfOk};
-ghost use Rattle.orc_journal.specs.Texts.{header};
+ghost use Rattle.orc_lines.specs.Texts.{header};
 ghost use Rattle.orc_journal.specs.declared.journal.Version.TheVariants.{Two};
 ghost use Rattle.orc_rules.specs.Text.{line, Fits};
 ghost use Rattle.orc_plain.specs.Lines.{with_line};
 
-use orc_journal::{Version, has_line, write_entry, write_header};
+use orc_journal::Version;
+use orc_lines::{has_line, write_entry, write_header};
 use orc_rules::answers::Answers;
 use orc_rules::entry::{Entry, RuleFault};
 use orc_rules::value::Value;

@@ -9,14 +9,14 @@ use Rattle.orc_rules.specs.Lost.{IsMove}
 use Rattle.orc_rules.specs.Timed.{IsIn, IsIdle}
 use Rattle.orc_rules.specs.Journal.{moment}
 use Rattle.orc_rules.proofs.Refusal.{meets_and_leads}
-use Rattle.orc_journal.specs.Texts.{count}
-use Rattle.orc_journal.proofs.Codes.{same_some}
+use Rattle.orc_journal.specs.Written.{count}
 use Rattle.orc_indexes.specs.Same.{weight}
 use Rattle.orc_records.specs.Records.{Records, Lawful, context, counts}
 use Rattle.orc_records.specs.Doing.{what_of}
 use Rattle.orc_paths.specs.Doing.{is_wait, names}
 use Rattle.orc_records.specs.Whole.{is_rule}
 use Rattle.orc_tables.specs.declared.records.Token.{Token}
+use Rattle.orc_tables.proofs.Placed.{same_some}
 use Rattle.orc_paths.specs.declared.what.What.{What}
 use Rattle.orc_paths.specs.declared.what.What.TheVariants.{Halt, Fork, Seq, Prune, Other, Def, Void, Publish, Send, Bind, Call, Wait}
 use Rattle.orc_records.proofs.Offers.{names_fits}
@@ -39,10 +39,10 @@ not_wait (Wait c) h = cc h
 
 -- an entry that is a move of marks is no rule's
 no_rule : (e : Entry) (serial : ℕ) (w : What) → names e ≡ Some (serial, w) → IsMove e → is_rule w ≡ true → ⊥
-no_rule (entry.End s) serial w is m r = let e : Halt ≡ w = ap (λ (z : ℕ × What). z.1) (same_some {A = ℕ × What} (s, Halt) (serial, w) is) in cc (ap is_rule e, r)
-no_rule (entry.Fork s a b) serial w is m r = let e : Fork ≡ w = ap (λ (z : ℕ × What). z.1) (same_some {A = ℕ × What} (s, Fork) (serial, w) is) in cc (ap is_rule e, r)
-no_rule (entry.Seq s a) serial w is m r = let e : Seq ≡ w = ap (λ (z : ℕ × What). z.1) (same_some {A = ℕ × What} (s, Seq) (serial, w) is) in cc (ap is_rule e, r)
-no_rule (entry.Other s a) serial w is m r = let e : Other ≡ w = ap (λ (z : ℕ × What). z.1) (same_some {A = ℕ × What} (s, Other) (serial, w) is) in cc (ap is_rule e, r)
+no_rule (entry.End s) serial w is m r = let e : Halt ≡ w = ap (λ (z : ℕ × What). z.1) (same_some {X = ℕ × What} (s, Halt) (serial, w) is) in cc (ap is_rule e, r)
+no_rule (entry.Fork s a b) serial w is m r = let e : Fork ≡ w = ap (λ (z : ℕ × What). z.1) (same_some {X = ℕ × What} (s, Fork) (serial, w) is) in cc (ap is_rule e, r)
+no_rule (entry.Seq s a) serial w is m r = let e : Seq ≡ w = ap (λ (z : ℕ × What). z.1) (same_some {X = ℕ × What} (s, Seq) (serial, w) is) in cc (ap is_rule e, r)
+no_rule (entry.Other s a) serial w is m r = let e : Other ≡ w = ap (λ (z : ℕ × What). z.1) (same_some {X = ℕ × What} (s, Other) (serial, w) is) in cc (ap is_rule e, r)
 no_rule (entry.Def s a) serial w is m r = absurd m
 no_rule (entry.Void s) serial w is m r = absurd m
 no_rule (entry.Open s c a b) serial w is m r = absurd m

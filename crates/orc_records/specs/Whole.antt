@@ -3,7 +3,7 @@ use Rattle.std.specs.Prelude.{◌≡◌, ◌≤◌, List, [], Bool, true, false}
 use Rattle.orc_rules.specs.Nodes.{Listing, source}
 use Rattle.orc_rules.specs.Sites.{Site}
 use Rattle.orc_rules.specs.Journal.{Place, Journal, begin}
-use Rattle.orc_journal.specs.Texts.{count}
+use Rattle.orc_journal.specs.Written.{count}
 use Rattle.orc_records.specs.Records.{Records, context}
 use Rattle.orc_paths.specs.declared.what.What.{What}
 use Rattle.orc_paths.specs.declared.what.What.TheVariants.{Halt, Fork, Seq, Other, Wait}

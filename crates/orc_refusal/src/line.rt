@@ -1,7 +1,7 @@
 //! The lines of entries.
 
-use orc_journal::{has_line, write_entry};
 use orc_lex::token::Span;
+use orc_lines::{has_line, write_entry};
 use orc_page::Page;
 use orc_rules::answers::Answers;
 use orc_rules::entry::Entry;

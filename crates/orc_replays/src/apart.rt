@@ -6,8 +6,8 @@ ghost use Rattle.orc_rules.specs.Nodes.{definitions, source};
 ghost use Rattle.orc_records.specs.Parts.{call_of};
 
 use orc_graph::Graph;
-use orc_journal::write_journal;
 use orc_ledger::{Called, Ledger, LedgerFault, Moved, Part, Program as Naming, Task, What};
+use orc_lines::write_journal;
 use orc_load::load;
 use orc_rules::answers::Answers;
 use orc_rules::value::{Args, Value};

@@ -11,7 +11,7 @@ mod replaying;
 mod rows;
 
 use crate::replaying::{Odd, Stop, replay_journal};
-use orc_journal::read_journal;
+use orc_lines::read_journal;
 use orc_load::load;
 use orc_rules::entry::State;
 use std::alloc::Global;

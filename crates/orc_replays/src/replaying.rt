@@ -3,10 +3,11 @@
 ghost use Rattle.std.specs.Prelude.{◌≡◌, ◌<◌, true, IfSome, vec_len};
 
 use orc_graph::Graph;
-use orc_journal::{Journal, Version, write_journal};
+use orc_journal::{Journal, Version};
 use orc_ledger::{
     HaltFault, Halted, Ledger, LedgerFault, Moved, Next, Program as Naming, ReturnFault, What,
 };
+use orc_lines::write_journal;
 use orc_names::StoredScope;
 use orc_rules::answers::Answers;
 use orc_rules::entry::{Entry, State};

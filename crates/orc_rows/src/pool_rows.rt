@@ -3,7 +3,7 @@
 
 use crate::gates::Slow;
 use crate::pools::play;
-use orc_journal::write_publication;
+use orc_lines::write_publication;
 use orc_load::load;
 use orc_outcome::{End, Played};
 use orc_run::check_text;

@@ -33,10 +33,11 @@ use Rattle.orc_site.specs.declared.script.ScriptFault.TheVariants as script
 use Rattle.orc_site.specs.Script.{Says, Rule, IsGood, AreRules, script_table, IsFault as IsScriptFault}
 use Rattle.orc_journal.specs.declared.journal.Version.{Version}
 use Rattle.orc_journal.specs.declared.journal.Version.TheVariants.{One, Two}
-use Rattle.orc_journal.specs.declared.text.JournalFault.{JournalFault}
-use Rattle.orc_journal.specs.declared.text.JournalFault.TheVariants as journal
-use Rattle.orc_journal.specs.Texts.{Written, header, entry_lines, AreOf, NoLine, IsJournal, IsFault as IsBadText}
-use Rattle.orc_journal.proofs.Stripping.{strip, whole_same}
+use Rattle.orc_lines.specs.declared.text.JournalFault.{JournalFault}
+use Rattle.orc_lines.specs.declared.text.JournalFault.TheVariants as journal
+use Rattle.orc_journal.specs.Written.{Written}
+use Rattle.orc_lines.specs.Texts.{header, entry_lines, AreOf, NoLine, IsJournal, IsFault as IsBadText}
+use Rattle.orc_lines.proofs.Stripping.{strip, whole_same}
 use Rattle.orc_checker.specs.Checker.{context as context_of}
 use Rattle.orc_verdict.specs.Verdicts.{records_cancels}
 use Rattle.orc_load.specs.Loading.{IsProgramOf, SpellsTree}

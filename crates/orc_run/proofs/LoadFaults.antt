@@ -4,13 +4,13 @@ use Rattle.std.specs.declared.option.Option.{Option}
 use Rattle.std.specs.Io.KnownBytes.{Keeps}
 use Rattle.std.proofs.KnownBytes.{Appends-nil, Keeps-refl}
 use Rattle.orc_rules.specs.declared.entry.State.{State}
-use Rattle.orc_journal.specs.Texts.{Written}
+use Rattle.orc_journal.specs.Written.{Written}
 use Rattle.orc_load.specs.Loading.{IsLoadFault, Loads}
 use Rattle.orc_load.specs.declared.fault.LoadFault.{LoadFault}
 use Rattle.orc_load.specs.declared.fault.LoadFault.TheVariants as load
 use Rattle.orc_run.specs.Running.{IsFaultOf, IsOther, LeavesAtFault, of_load}
-use Rattle.orc_journal.specs.Pieces.{MayCome}
-use Rattle.orc_journal.proofs.Coming.{some_may_come}
+use Rattle.orc_lines.specs.Pieces.{MayCome}
+use Rattle.orc_lines.proofs.Coming.{some_may_come}
 use Rattle.orc_run.specs.Checked.{IsBeyond, IsCheckFault, IsJudged, IsOfRun, IsRefusal, IsUnchecked, IsUnjudged, LeavesUnchecked, LeavesUnjudged}
 use Rattle.orc_run.specs.declared.judging.Unchecked.{Unchecked}
 use Rattle.orc_run.specs.declared.judging.Unchecked.TheVariants.{Fault, Unread}

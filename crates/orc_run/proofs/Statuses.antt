@@ -10,8 +10,8 @@ use Rattle.orc_site.specs.declared.script.ScriptFault.{ScriptFault}
 use Rattle.orc_site.specs.declared.script.ScriptFault.TheVariants as script
 use Rattle.orc_rules.specs.declared.entry.RuleFault.{RuleFault}
 use Rattle.orc_rules.specs.declared.entry.RuleFault.TheVariants as reason
-use Rattle.orc_journal.specs.declared.text.JournalFault.{JournalFault}
-use Rattle.orc_journal.specs.declared.text.JournalFault.TheVariants as journal
+use Rattle.orc_lines.specs.declared.text.JournalFault.{JournalFault}
+use Rattle.orc_lines.specs.declared.text.JournalFault.TheVariants as journal
 use Rattle.orc_outcome.specs.Status.{end_status_of}
 use Rattle.orc_outcome.specs.declared.end.End.{End}
 use Rattle.orc_outcome.specs.declared.end.End.TheVariants as ends
@@ -23,7 +23,7 @@ use Rattle.orc_rules.specs.Faults.{reason_status}
 use Rattle.orc_syntax.specs.Faults.{syntax_status}
 use Rattle.orc_scope.specs.Faults.{scope_status}
 use Rattle.orc_site.specs.Faults.{script_status}
-use Rattle.orc_journal.specs.Faults.{journal_status}
+use Rattle.orc_lines.specs.Faults.{journal_status}
 use Rattle.orc_desk.specs.Faults.{engine_status}
 use Rattle.orc_run.specs.Running.{LeavesAtFault}
 use Rattle.orc_run.specs.Status.{read_status_of}

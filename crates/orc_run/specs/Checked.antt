@@ -13,8 +13,9 @@ use Rattle.orc_syntax.specs.declared.fault.SyntaxFault.TheVariants as syntax
 use Rattle.orc_scope.specs.declared.fault.FaultKind.TheVariants as scope
 use Rattle.orc_site.specs.declared.script.ScriptFault.TheVariants as script
 use Rattle.orc_site.specs.Script.{Says}
-use Rattle.orc_journal.specs.declared.text.JournalFault.TheVariants as journal
-use Rattle.orc_journal.specs.Texts.{Written, IsJournal, IsFault as IsBadText}
+use Rattle.orc_lines.specs.declared.text.JournalFault.TheVariants as journal
+use Rattle.orc_journal.specs.Written.{Written}
+use Rattle.orc_lines.specs.Texts.{IsJournal, IsFault as IsBadText}
 use Rattle.orc_checker.specs.Checker.{context}
 use Rattle.orc_verdict.specs.Verdicts.{records_cancels, IsCutShort}
 use Rattle.orc_load.specs.Loading.{IsProgramOf}

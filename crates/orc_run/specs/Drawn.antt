@@ -3,7 +3,7 @@ use Rattle.std.specs.Prelude.{ℕ, List}
 use Rattle.std.specs.declared.option.Option.{Option}
 use Rattle.std.specs.Io.KnownBytes.{Keeps, Appends}
 use Rattle.orc_rules.specs.declared.entry.State.{State}
-use Rattle.orc_journal.specs.Texts.{Written}
+use Rattle.orc_journal.specs.Written.{Written}
 use Rattle.orc_run.specs.Checked.{IsCheckFault, IsJudged}
 use Rattle.orc_run.specs.Output.{AppendsPrefix}
 use Rattle.orc_run.specs.declared.drawing.Undrawn.{Undrawn}

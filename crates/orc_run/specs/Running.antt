@@ -9,7 +9,7 @@ use Rattle.orc_rules.specs.Trace.{published}
 use Rattle.orc_rules.specs.declared.entry.Entry.{Entry}
 use Rattle.orc_rules.specs.declared.value.Value.{Value}
 use Rattle.orc_journal.specs.declared.journal.Version.TheVariants.{Two}
-use Rattle.orc_journal.specs.Texts.{AreOf}
+use Rattle.orc_lines.specs.Texts.{AreOf}
 use Rattle.orc_site.specs.Script.{Says}
 use Rattle.orc_load.specs.Loading.{IsProgramOf, Loads, IsLoadFault}
 use Rattle.orc_load.specs.declared.fault.LoadFault.{LoadFault}

@@ -1,16 +1,17 @@
 //! From a journal's text to the verdict on it.
 
 ghost use Rattle.std.specs.Prelude.{◌≡◌, List, ℕ, length, Some, IfOk, IfErr, OnOk};
-ghost use Rattle.orc_journal.specs.Pieces.{MayCome};
+ghost use Rattle.orc_lines.specs.Pieces.{MayCome};
 ghost use Rattle.orc_run.specs.Checked.{verdict_line, Accepts, Judges, LeavesUnchecked, LeavesUnjudged, IsBeyond, IsCheckFault, IsJudged, IsOfRun, IsRefusal, IsUnchecked, IsUnjudged, MayFail, StandsSo};
 ghost use Rattle.orc_run.specs.Running.{of_load};
 ghost use Rattle.orc_run.specs.declared.judging.Unchecked.TheVariants.{Fault};
-ghost use Rattle.orc_journal.specs.Texts.{Written};
+ghost use Rattle.orc_journal.specs.Written.{Written};
 ghost use Rattle.orc_outcome.specs.declared.end.Summary.{Summary as RunSummary};
 
 use crate::faults::RunFault;
 use crate::output::{WriteFault, write_text};
-use orc_journal::{Journal, JournalFault, read_journal};
+use orc_journal::Journal;
+use orc_lines::{JournalFault, read_journal};
 use orc_load::{LoadFault, load};
 use orc_rules::answers::Answers;
 use orc_rules::entry::State;

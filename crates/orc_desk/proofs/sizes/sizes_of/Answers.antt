@@ -1,5 +1,5 @@
 use Rattle.std.proofs.Common.{sym, ◌∙◌, arith}
-use Rattle.orc_journal.proofs.Composing.{none_past}
+use Rattle.orc_lines.proofs.Composing.{none_past}
 use Rattle.orc_journal.specs.Sizes.{brings, feeds, opens}
 use Rattle.orc_desk.proofs.Reading.{total-more}
 use Rattle.orc_desk.proofs.sizes.sizes_of.Goals as goal

@@ -2,7 +2,7 @@ use Rattle.std.proofs.Common.{◌∙◌, ◌++◌, ◌∷◌, [], refl, ap}
 use Rattle.std.specs.Prelude.{slice_get}
 use Rattle.orc_rules.specs.declared.entry.Entry.TheVariants as entry
 use Rattle.orc_checker.specs.Checker.{State}
-use Rattle.orc_journal.proofs.Stripping.{count_more}
+use Rattle.orc_lines.proofs.Stripping.{count_more}
 use Rattle.orc_plain.proofs.Stories.{none_due}
 use Rattle.orc_plain.proofs.plain.settle.Goals as goal
 

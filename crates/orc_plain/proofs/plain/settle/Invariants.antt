@@ -2,7 +2,7 @@
 use Rattle.std.proofs.Common.{◌≡◌, Bool, List}
 use Rattle.orc_rules.specs.declared.entry.Entry.{Entry}
 use Rattle.orc_rules.specs.Journal.{Place}
-use Rattle.orc_journal.specs.Texts.{count}
+use Rattle.orc_journal.specs.Written.{count}
 use Rattle.orc_plain.specs.Stories.{IsStory}
 use Rattle.orc_plain.proofs.plain.settle.Given as goal
 

@@ -1,6 +1,6 @@
 use Rattle.std.proofs.Common.{subst, ◌∙◌}
 use Rattle.std.proofs.lemmas.Result.{err_from_is_err_and}
-use Rattle.orc_journal.specs.Texts.{IsJournal}
+use Rattle.orc_lines.specs.Texts.{IsJournal}
 use Rattle.orc_verdict.specs.Lines.{IsTextFault}
 use Rattle.orc_verdict.specs.declared.lines.TextFault.TheVariants.{Check, Journal}
 use Rattle.orc_run.proofs.LoadFaults.{beyond, of_pieces}

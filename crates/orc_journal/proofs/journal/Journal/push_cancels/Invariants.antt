@@ -1,6 +1,6 @@
 use Rattle.std.proofs.Common.{◌≡◌, take, map}
 use Rattle.orc_rules.specs.declared.entry.Entry.TheVariants.{Cancel}
-use Rattle.orc_journal.specs.Texts.{journal_with}
+use Rattle.orc_journal.specs.Written.{journal_with}
 use Rattle.orc_journal.proofs.journal.Journal.push_cancels.Given as goal
 
 abbrev pub invariant-loop-call : goal.invariant-loop-call

@@ -1,7 +1,7 @@
 use Rattle.std.proofs.Common.{◌≡◌, map, take}
 use Rattle.orc_graft.specs.Moved.{moved}
 use Rattle.orc_journal.specs.Rows.{entry_of}
-use Rattle.orc_journal.specs.Texts.{journal_with}
+use Rattle.orc_journal.specs.Written.{journal_with}
 use Rattle.orc_journal.proofs.journal.Journal.push_each.Given as goal
 
 abbrev pub invariant-loop-row : goal.invariant-loop-row

@@ -1,7 +1,7 @@
 use Rattle.std.proofs.Common.{◌++◌, ◌∷◌, [], List, ap, ◌∙◌}
 use Rattle.std.proofs.lemmas.Result.{err_from_is_err_and}
 use Rattle.orc_journal.specs.declared.rows.Row.{Row}
-use Rattle.orc_journal.specs.Texts.{Written, journal_with}
+use Rattle.orc_journal.specs.Written.{Written, journal_with}
 use Rattle.orc_journal.specs.Rows.{given}
 use Rattle.orc_journal.proofs.Keeping.{row_more, same_journal}
 use Rattle.orc_journal.proofs.journal.Journal.push_given.Goals as goal

@@ -9,7 +9,7 @@ use Rattle.orc_graft.specs.Moved.{moved}
 use Rattle.orc_journal.specs.declared.rows.Row.{Row}
 use Rattle.orc_journal.specs.Rows.{AreWithin}
 use Rattle.orc_journal.specs.Shifts.{row_by, IsMovable}
-use Rattle.orc_journal.specs.Texts.{journal_with}
+use Rattle.orc_journal.specs.Written.{journal_with}
 use Rattle.orc_journal.proofs.Keeping.{same_journal, within_kept}
 use Rattle.orc_journal.proofs.Shifted.{part_added}
 use Rattle.orc_journal.proofs.journal.Journal.push_shifted.Goals as goal

@@ -2,7 +2,7 @@ use Rattle.std.proofs.Common.{List, map, take, ap, sym, ◌∙◌}
 use Rattle.std.proofs.lemmas.List.{take-map}
 use Rattle.orc_rules.specs.declared.entry.Entry.{Entry}
 use Rattle.orc_journal.specs.Rows.{entry_of}
-use Rattle.orc_journal.specs.Texts.{Written}
+use Rattle.orc_journal.specs.Written.{Written}
 use Rattle.orc_journal.proofs.journal.Journal.truncate.Goals as goal
 
 pub returns : goal.returns

@@ -2,7 +2,7 @@ use Rattle.std.proofs.Common.{◌≡◌, ◌∙◌, [], true, refl}
 use Rattle.orc_rules.specs.Nodes.{source}
 use Rattle.orc_rules.specs.Journal.{begin}
 use Rattle.orc_journal.specs.declared.journal.Version.TheVariants.{Two}
-use Rattle.orc_journal.specs.Texts.{header}
+use Rattle.orc_lines.specs.Texts.{header}
 use Rattle.orc_outcome.specs.Outcome.{context}
 use Rattle.orc_plain.proofs.history.History.new.Goals as goal
 use Rattle.orc_plain.proofs.history.History.new.Goals.{then-keeps_text+in_ok-lines, else-keeps_text}

@@ -1,0 +1,11 @@
+pub mod Arriving
+pub mod Calls
+pub mod Codes
+pub mod Coming
+pub mod Composing
+pub mod Digits
+pub mod Entries
+pub mod Loops
+pub mod Names
+pub mod Stripping
+pub mod Whole
