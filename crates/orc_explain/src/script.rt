@@ -34,7 +34,7 @@ pub(crate) enum Kind {
 
 /// A piece of a line.
 #[derive(Clone, Copy)]
-pub(crate) struct Piece<'a> {
+pub struct Piece<'a> {
     kind: Kind,
     pub text: &'a [u8],
     span: Span,
@@ -99,7 +99,7 @@ fn is_in_range(text: &[u8]) -> bool {
 
 /// A line as its pieces, and the one that is looked at.
 #[derive(Drop)]
-pub(crate) struct Line<'a> {
+pub struct Line<'a> {
     pub pieces: Vec<Piece<'a>>,
     at: usize,
     end: Piece<'a>,
@@ -107,7 +107,7 @@ pub(crate) struct Line<'a> {
 
 impl<'a> Line<'a> {
     /// The pieces of the line that stands there, up to its comment. The error is refused memory.
-    pub(crate) fn new(alloc: Global, text: &'a [u8], span: Span) -> Result<Line<'a>, AllocError> {
+    pub fn new(alloc: Global, text: &'a [u8], span: Span) -> Result<Line<'a>, AllocError> {
         let mut line = Line {
             pieces: Vec::new(alloc),
             at: 0,

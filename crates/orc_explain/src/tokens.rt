@@ -71,7 +71,7 @@ pub(crate) fn say_token(page: &mut Page, document: &Document, token: &Token) {
 }
 
 /// The token that begins at a place, as wide as a byte where none does.
-pub(crate) fn span_at(text: &[u8], at: usize) -> Span {
+pub fn span_at(text: &[u8], at: usize) -> Span {
     if at < text.len() {
         if let Piece::Token(token) = piece_at(text, at) {
             return token.span;

@@ -11,7 +11,7 @@ pub(crate) fn is_one_of(word: &[u8], words: &[&[u8]]) -> bool {
 }
 
 /// What a table says of a word.
-pub(crate) fn said_of(word: &[u8], table: &[(&[u8], &'static str)]) -> Option<&'static str> {
+pub fn said_of(word: &[u8], table: &[(&[u8], &'static str)]) -> Option<&'static str> {
     for (other, said) in table {
         if *other == word {
             return Some(*said);

@@ -1,7 +1,7 @@
 //! How a run ended, explained by a second run of the same program.
 
 use crate::running::play;
-use orc_explain::{Ended, explain_end, explain_refusal};
+use orc_ends::{Ended, explain_end, explain_refusal};
 use orc_load::load;
 use orc_outcome::{End, Summary};
 use orc_page::Subject;

@@ -1,6 +1,6 @@
 //! Which calls the lines of a script answer.
 
-use crate::script::Line;
+use orc_explain::Line;
 use orc_lex::token::Span;
 use orc_rules::builtin::is_same;
 use orc_rules::digits::digits_at;

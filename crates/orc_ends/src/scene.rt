@@ -2,7 +2,7 @@
 
 use crate::ended::Ended;
 use crate::replay::Replay;
-use crate::tokens::span_at;
+use orc_explain::span_at;
 use orc_journal::Journal;
 use orc_lines::{has_line, write_entry};
 use orc_outcome::{End, Summary};

@@ -3,7 +3,7 @@
 use crate::replay::{Loss, Made};
 use crate::rules::{Rule, Rules};
 use crate::scene::{Scene, begin, name_of};
-use crate::words::said_of;
+use orc_explain::said_of;
 use orc_page::Page;
 use orc_rules::builtin::is_same;
 use orc_rules::entry::Entry;

@@ -1,0 +1,17 @@
+//! How a run has ended, said to a person: which calls never return and who waits for them, or what could go on; or, where it has halted, what looks
+//! like a mistake.
+//!
+//! `explain_end` takes a run that has ended, with its journal. The journal is replayed twice at once, by the checker's marked term, which knows
+//! what can come next, and on the program's sketch, which knows where it stands. It never recurs, and takes time in proportion to the journal.
+#![tactic(auto)]
+
+mod ended;
+mod ends;
+mod moves;
+mod remarks;
+mod replay;
+mod rules;
+mod scene;
+
+pub use ended::Ended;
+pub use ends::{explain_end, explain_refusal};
