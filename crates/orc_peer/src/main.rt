@@ -1,0 +1,46 @@
+//! Runs a program by the reference engine, so that the engine is measured beside it. Its arguments are the files of a program and of a script, and how
+//! many entries the journal may have, cancels not counted.
+#![tactic(auto)]
+
+use orc_load::load;
+use orc_outcome::Summary;
+use orc_plain::play;
+use std::alloc::Global;
+use std::io::Read;
+use std::{env, fs, io, rt};
+
+// How a run by the reference engine ends; None where the texts are no program, or the run is refused.
+fn summary_of(alloc: Global, source: &[u8], script: &[u8], limit: u64) -> Option<Summary> {
+    let Ok(loaded) = load(alloc, source, script) else {
+        return None;
+    };
+    match play(alloc, &loaded.program, &loaded.answers, false, limit) {
+        Ok(played) => Some(played.summary),
+        Err(_) => None,
+    }
+}
+
+fn read<R: rt::Files + AllocGlobal>(rt: &R, path: &str) -> io::Result<Vec<u8>> {
+    let mut bytes = Vec::new(rt.alloc());
+    fs::open(rt, path)?.read_to_end(&mut bytes)?;
+    Ok(bytes)
+}
+
+fn main(rt: HostRuntime) -> io::Result<()> {
+    let alloc = rt.alloc();
+    let words = env::args(&rt)?.collect::<Vec<String>>(alloc)?;
+    let [_, source, script, limit] = words.as_slice() else {
+        println!(&rt; "the files of a program and a script, and a limit are wanted")?;
+        return Ok(());
+    };
+    let source = read(&rt, source.as_str())?;
+    let script = read(&rt, script.as_str())?;
+    let Ok(limit) = limit.as_str().parse::<u64>() else {
+        println!(&rt; "the limit is no number")?;
+        return Ok(());
+    };
+    match summary_of(alloc, &source, &script, limit) {
+        Some(summary) => println!(&rt; "{} {:?}", summary.entries, summary.end),
+        None => println!(&rt; "no run"),
+    }
+}
