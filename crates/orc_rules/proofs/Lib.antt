@@ -20,6 +20,7 @@ pub mod Numbers
 pub mod Numerals
 pub mod Passed
 pub mod Pending
+pub mod Places
 pub mod Refusal
 pub mod Runs
 pub mod Settled
@@ -30,6 +31,7 @@ pub mod Tests
 pub mod Unfolding
 pub mod Unique
 pub mod UsedUp
+pub mod Values
 pub mod Worked
 pub mod WorkedOtherwises
 pub mod WorkedPrunings

@@ -4,6 +4,7 @@ pub mod Idle
 pub mod Journal
 pub mod Kinds
 pub mod Labels
+pub mod Lines
 pub mod Lost
 pub mod Marked
 pub mod Named

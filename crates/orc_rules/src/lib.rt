@@ -13,6 +13,7 @@ pub mod entry;
 pub mod kind;
 pub mod laws;
 pub mod limits;
+pub mod lines;
 pub mod param;
 pub mod program;
 pub mod value;

@@ -1,0 +1,204 @@
+//! The lines of a site that a script answers.
+
+ghost use Rattle.std.specs.Prelude.{◌≡◌, ◌++◌, ◌∷◌, [], Some, None, option_map, IfOk, OnOk, OnErr};
+ghost use Rattle.orc_rules.specs.Sites.{matches, nth_answer, line_answer};
+ghost use Rattle.orc_rules.specs.Lines.{line_of, lines_of, exact_values, exact_place, wildcard_places};
+
+use crate::builtin::{is_same, no_answer};
+use crate::value::{Found, Value};
+use std::alloc::{AllocError, Global};
+use std::collections::HashMap;
+use std::hash::{BuildHasherDefault, FoldHasher};
+use std::marker::Model;
+
+/// A line of a script: calls that match the patterns get the answers in their order. A pattern is a value, or None for any.
+#[derive(Drop)]
+pub struct Line {
+    pub patterns: Vec<Option<Value>>,
+    pub answers: Vec<Found>,
+}
+
+/// The lines of a site in their order. Which one answers a call is found in a time that doesn't grow with the lines without a `_`.
+pub struct Lines {
+    lines: Vec<Line>,
+    // The place of the first line without a `_` that has these values.
+    exact: HashMap<Vec<Value>, usize, BuildHasherDefault<FoldHasher>>,
+    // The places of the lines with a `_`, in their order.
+    wildcards: Vec<usize>,
+}
+
+// Written out, so that a caller's proof sees one call and not the drop of each field.
+impl Drop for Lines {
+    fn drop(self) {
+        let Lines {
+            lines: _,
+            exact: _,
+            wildcards: _,
+        } = self;
+    }
+}
+
+impl Model for Lines {
+    ghost use Rattle.std.specs.Prelude.{◌≡◌, List};
+    ghost use Rattle.orc_rules.specs.Sites.{Line as Answered};
+    ghost use Rattle.orc_rules.specs.Lines.{lines_of, wildcard_places, FindsExact};
+
+    ghost Value = { List Answered };
+
+    ghost view = { λ l. lines_of l.lines.items };
+
+    ghost invariant = { λ l. FindsExact (lines_of l.lines.items) l.exact.entries × (l.wildcards.items ≡ wildcard_places (lines_of l.lines.items)) };
+}
+
+// So few lines are looked at one by one, in less time than the values of a call are hashed.
+const FEW_LINES: usize = 8;
+
+// Whether a line's patterns match these arguments.
+fn is_match(patterns: &[Option<Value>], args: &[Value]) -> bool
+    ensures { result ≡ matches patterns.now args.now }
+{
+    match (patterns, args) {
+        ([], []) => true,
+        ([None, patterns @ ..], [_, args @ ..]) => is_match(patterns, args),
+        ([Some(pattern), patterns @ ..], [arg, args @ ..]) => {
+            is_same(*pattern, *arg) && is_match(patterns, args)
+        }
+        _ => false,
+    }
+}
+
+// The n-th answer from 0, after the last one the last again.
+fn nth(answers: &[Found], n: u64) -> Found
+    ensures { result ≡ nth_answer answers.now n }
+{
+    match answers {
+        [] => no_answer(),
+        [.., last] => {
+            if n < answers.len() as u64 {
+                answers[n as usize]
+            } else {
+                *last
+            }
+        }
+    }
+}
+
+// The answer of the first line that matches, where each is looked at.
+fn answer_of(lines: &[Line], args: &[Value], n: u64) -> Found
+    ensures { result ≡ line_answer (lines_of lines.now) args.now n }
+{
+    for line in lines {
+        if is_match(&line.patterns, args) {
+            return nth(&line.answers, n);
+        }
+    }
+    no_answer()
+}
+
+// The answer of the first line that matches: one with a `_` that stands before the place `exact`, or the one there.
+fn answer_among(
+    lines: &[Line],
+    wildcards: &[usize],
+    exact: Option<usize>,
+    args: &[Value],
+    n: u64,
+) -> Found
+    requires wildcards { wildcards.now ≡ wildcard_places (lines_of lines.now) }
+    requires exact { exact ≡ exact_place (lines_of lines.now) args.now }
+    ensures { result ≡ line_answer (lines_of lines.now) args.now n }
+{
+    let end = exact.unwrap_or(lines.len());
+    for place in wildcards {
+        if end <= *place {
+            break;
+        }
+        let candidate = &lines[*place];
+        if is_match(&candidate.patterns, args) {
+            return nth(&candidate.answers, n);
+        }
+    }
+    match lines.get(end) {
+        Some(line) => nth(&line.answers, n),
+        None => no_answer(),
+    }
+}
+
+// The values that a line's patterns are, None where one is a `_`. The error is refused memory.
+fn exact_values(alloc: Global, patterns: &[Option<Value>]) -> Result<Option<Vec<Value>>, AllocError>
+    ensures { IfOk result (λ values. option_map (λ v. v.items) values ≡ exact_values patterns.now) }
+{
+    let mut values = Vec::new(alloc);
+    for pattern in patterns {
+        match pattern {
+            Some(value) => values.push(*value)?,
+            None => return Ok(None),
+        }
+    }
+    Ok(Some(values))
+}
+
+impl Lines {
+    /// No lines.
+    pub fn new(alloc: Global) -> Lines
+        ensures { result ≡ [] }
+    {
+        Lines {
+            lines: Vec::new(alloc),
+            exact: HashMap::new(alloc),
+            wildcards: Vec::new(alloc),
+        }
+    }
+
+    /// Adds a line behind the others. The error is refused memory, and then nothing changes.
+    pub fn push(&mut self, alloc: Global, line: Line) -> Result<(), AllocError>
+        ensures added { OnOk result (self.new ≡ self.old ++ line_of line ∷ []) }
+        ensures refused { OnErr result (self.new ≡ self.old) }
+    {
+        match exact_values(alloc, &line.patterns)? {
+            Some(values) => self.push_exact(values, line),
+            None => self.push_wildcard(line),
+        }
+    }
+
+    // Adds a line without a `_`, whose patterns are these values. Where an earlier line has them it never answers, and its place isn't kept.
+    fn push_exact(&mut self, values: Vec<Value>, line: Line) -> Result<(), AllocError>
+        requires { exact_values line.patterns.items ≡ Some values.items }
+        ensures added { OnOk result (self.new ≡ self.old ++ line_of line ∷ []) }
+        ensures refused { OnErr result (self.new ≡ self.old) }
+    {
+        if self.exact.contains_key(values.as_slice()) {
+            self.lines.push(line)?;
+            return Ok(());
+        }
+        self.lines.try_reserve(1)?;
+        self.exact.insert(values, self.lines.len())?;
+        let pushed = self.lines.push(line);
+        prove!(pushed.is_ok());
+        Ok(())
+    }
+
+    // Adds a line with a `_`.
+    fn push_wildcard(&mut self, line: Line) -> Result<(), AllocError>
+        requires { exact_values line.patterns.items ≡ None }
+        ensures added { OnOk result (self.new ≡ self.old ++ line_of line ∷ []) }
+        ensures refused { OnErr result (self.new ≡ self.old) }
+    {
+        self.lines.try_reserve(1)?;
+        self.wildcards.push(self.lines.len())?;
+        let pushed = self.lines.push(line);
+        prove!(pushed.is_ok());
+        Ok(())
+    }
+
+    /// The nth answer, from 0, of the first line that matches these arguments, and after the last one the last again; halt where none matches.
+    pub fn answer(&self, args: &[Value], n: u64) -> Found
+        ensures { result ≡ line_answer self.now args.now n }
+    {
+        if self.lines.len() <= FEW_LINES {
+            answer_of(&self.lines, args, n)
+        } else {
+            let exact = self.exact.get(args).copied();
+            answer_among(&self.lines, &self.wildcards, exact, args, n)
+        }
+    }
+}
