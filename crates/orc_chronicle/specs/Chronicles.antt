@@ -1,5 +1,5 @@
 -- The journal of a run of which only the last entries need to be held.
-use Rattle.std.specs.Prelude.{◌≡◌, ◌≤◌, ◌++◌, ◌^◌, ℕ, Bool, true, List, [], length}
+use Rattle.std.specs.Prelude.{◌≡◌, ◌≤◌, ◌++◌, ◌^◌, ℕ, Bool, true, false, List, [], length}
 use Rattle.orc_rules.specs.declared.entry.Entry.{Entry}
 use Rattle.orc_rules.specs.declared.value.Value.{Value}
 use Rattle.orc_rules.specs.Sites.{Site}
@@ -7,22 +7,22 @@ use Rattle.orc_rules.specs.Trace.{published}
 use Rattle.orc_graft.specs.Moved.{AreLocal}
 use Rattle.orc_journal.specs.declared.journal.Version.{Version}
 
--- its version, its entries from the first on, and how many of them aren't held any more
+-- its version, and its entries from the first on
 pub record Chronicled : Type 0 where
   pub version : Version
   pub entries : List Entry
-  pub forgotten : ℕ
 
 -- one with more entries behind its own
 abbrev pub chronicle_with : Chronicled → List Entry → Chronicled
-chronicle_with c es = record { version = c.version; entries = c.entries ++ es; forgotten = c.forgotten }
+chronicle_with c es = record { version = c.version; entries = c.entries ++ es }
 
--- what is known of the entries that aren't held any more: how many they are, what they publish, and whether they are known to be local; a journal that
--- is kept has none of them
-pub record IsKnown (sites : List Site) (keeps : Bool) (past : List Entry) (forgotten : ℕ) (values : List Value) (is_local : Bool) (held : ℕ) : Type 0 where
-  pub count : length past ≡ forgotten
+-- what is known of the entries where they aren't held: how many they are, what they publish, and whether they are known to be local; a journal that is
+-- kept has all of its entries held, and any other one has none
+pub record IsKnown (sites : List Site) (keeps : Bool) (past : List Entry) (passed : ℕ) (values : List Value) (is_local : Bool) (held : ℕ) : Type 0 where
+  pub count : length past ≡ passed
   pub publishes : published past ≡ values
   pub local : is_local ≡ true → AreLocal sites past
   pub whole : keeps ≡ true → past ≡ []
-  pub few : forgotten ≤ 2 ^ 62
+  pub none : keeps ≡ false → held ≡ 0
+  pub few : passed ≤ 2 ^ 62
   pub room : held ≤ 2 ^ 62

@@ -1,13 +1,14 @@
-//! The journal of a run, of which only the last entries need to be held. Of those that aren't held any more it is known how many they are, what they
-//! publish and whether something round the run bears on them; which they are clauses say, and no code.
+//! The journal of a run, which holds all of its entries or none. Of those that aren't held it is known how many they are, what they publish and whether
+//! something round the run bears on them; which they are clauses say, and no code.
 
-ghost use Rattle.std.specs.Prelude.{◌≡◌, ◌≢◌, ◌+◌, ◌-◌, ◌≤◌, ◌^◌, ◌++◌, ◌∷◌, [], ℕ, List, true, false, length, map, take, IfOk, IfSome, IfNone, OnOk, OnErr};
+ghost use Rattle.std.specs.Prelude.{◌≡◌, ◌≢◌, ◌+◌, ◌≤◌, ◌^◌, ◌++◌, ◌∷◌, [], ℕ, List, true, false, length, map, take, drop, IfOk, IfSome, IfNone, OnOk, OnErr};
 ghost use Rattle.std.specs.List.{slice_get};
 ghost use Rattle.orc_rules.specs.declared.entry.Entry.{Entry as EntryOf};
 ghost use Rattle.orc_rules.specs.declared.entry.Entry.TheVariants.{Call, Bind, Cancel};
 ghost use Rattle.orc_rules.specs.declared.limits.TheConstants.{MOST_ARGUMENTS};
 ghost use Rattle.orc_rules.specs.Trace.{published};
-ghost use Rattle.orc_graft.specs.Moved.{moved, AreLocal, AreSilent};
+ghost use Rattle.orc_rules.specs.Sites.{Site};
+ghost use Rattle.orc_graft.specs.Moved.{moved, IsLocal, AreLocal, AreSilent};
 ghost use Rattle.orc_chronicle.specs.Chronicles.{chronicle_with};
 
 use crate::program::Program;
@@ -21,46 +22,93 @@ use orc_tables::Pending;
 use std::alloc::{AllocError, Global};
 use std::marker::{Model, PhantomData};
 
-/// The most entries that are held, and the most that are held no more: more than any memory has room for.
+/// The most entries: more than any memory has room for.
 const MOST: usize = 1 << 62;
 
-/// The journal of a run. Where the run keeps it, it holds all entries.
+/// The journal of a run. Where the run keeps it, it holds all entries; else none.
 #[derive(Drop)]
 pub struct Chronicle<P: Program> {
     alloc: Global,
+    keeps: bool,
+    // The entries, where they are held.
+    held: Journal,
+    // What is known of them where they aren't: which they are, how many, what they publish, and whether all are known to be local.
     past: Past<Entry>,
-    forgotten: usize,
+    passed: usize,
     published: Vec<Value>,
     is_local: bool,
-    held: Journal,
     program: PhantomData<P>,
 }
 
 impl<P: Program> Model for Chronicle<P> {
-    ghost use Rattle.std.specs.Prelude.{length, ◌++◌};
+    ghost use Rattle.std.specs.Prelude.{◌≡◌, length, ◌++◌};
     ghost use Rattle.orc_chronicle.specs.Chronicles.{Chronicled, IsKnown};
 
     ghost Value = { Chronicled };
 
-    ghost view = { λ c. record { version = c.held.version; entries = c.past.items ++ c.held.entries; forgotten = c.forgotten } };
+    ghost view = { λ c. record { version = c.held.version; entries = c.past.items ++ c.held.entries } };
 
-    ghost invariant = { λ c. IsKnown P.sites P.keeps c.past.items c.forgotten c.published.items c.is_local (length c.held.entries) };
+    ghost invariant = { λ c. (c.keeps ≡ P.keeps) × IsKnown P.sites c.keeps c.past.items c.passed c.published.items c.is_local (length c.held.entries) };
 }
 
-// The past in which these entries stand: what stood in it, and then what was held.
-fn past_with(past: &Past<Entry>, held: &Journal) -> Past<Entry>
+// The past with an entry behind it.
+fn past_with_entry(past: &Past<Entry>, entry: &Entry) -> Past<Entry>
     ghost items: { List EntryOf }
     ensures { result.items ≡ items }
 {
     let _ = past;
-    let _ = held;
+    let _ = entry;
     past_of::<Entry>()
 }
 
-// The same with a part's entries under these numbers behind it.
+// The same with a call.
+fn past_with_call(
+    past: &Past<Entry>,
+    token: u64,
+    call: u64,
+    site: u32,
+    args: &[Value],
+) -> Past<Entry>
+    ghost items: { List EntryOf }
+    ensures { result.items ≡ items }
+{
+    let _ = past;
+    let _ = (token, call, site);
+    let _ = args;
+    past_of::<Entry>()
+}
+
+// The same with a bind and its cancels.
+fn past_with_bind(
+    past: &Past<Entry>,
+    token: u64,
+    cell: u64,
+    value: Value,
+    cancelled: &[u64],
+) -> Past<Entry>
+    ghost items: { List EntryOf }
+    ensures { result.items ≡ items }
+{
+    let _ = past;
+    let _ = (token, cell);
+    let _ = value;
+    let _ = cancelled;
+    past_of::<Entry>()
+}
+
+// The first of its entries, so many.
+fn first_of_past(past: &Past<Entry>, len: usize) -> Past<Entry>
+    ghost items: { List EntryOf }
+    ensures { result.items ≡ items }
+{
+    let _ = past;
+    let _ = len;
+    past_of::<Entry>()
+}
+
+// The same with a part's entries under these numbers.
 fn past_with_part<P: Program>(
     past: &Past<Entry>,
-    held: &Journal,
     part: &Chronicle<P>,
     numbering: Numbering,
 ) -> Past<Entry>
@@ -68,43 +116,112 @@ fn past_with_part<P: Program>(
     ensures { result.items ≡ items }
 {
     let _ = past;
-    let _ = held;
     let _ = part;
     let _ = numbering;
     past_of::<Entry>()
 }
 
+// Whether so many more may be held.
+#[inline(always)]
+fn has_room(held: &Journal, more: usize) -> bool
+    ensures { result ≡ true → length held.now.entries + more ≤ 2 ^ 62 }
+{
+    more <= MOST && held.len() <= MOST - more
+}
+
+// Counts so many more, if they may be so many. The error leaves the count as it was.
+#[inline(always)]
+fn count_more(count: &mut usize, more: usize) -> Result<(), AllocError>
+    requires { count.old ≤ 2 ^ 62 }
+    ensures counted { OnOk result (count.new ≡ count.old + more) }
+    ensures few { count.new ≤ 2 ^ 62 }
+    ensures refused { OnErr result (count.new ≡ count.old) }
+{
+    if more > MOST - *count {
+        return Err(AllocError);
+    }
+    *count += more;
+    Ok(())
+}
+
+// Whether an entry is none that is local wherever it stands.
+#[inline(always)]
+fn may_bear(entry: &Entry) -> bool
+    ensures { result ≡ false → (sites : List Site) → IsLocal sites entry.now }
+{
+    matches!(
+        entry,
+        Entry::Tick(_) | Entry::Cancel(_) | Entry::Call(_, _, _, _)
+    )
+}
+
+// Adds the value that an entry publishes, if it publishes one. The error is refused memory, and then nothing changes.
+#[inline(always)]
+fn add_published(values: &mut Vec<Value>, entry: &Entry) -> Result<(), AllocError>
+    ensures added { OnOk result (values.new.items ≡ values.old.items ++ published (entry.now ∷ [])) }
+    ensures refused { OnErr result (values.new.items ≡ values.old.items) }
+{
+    match entry {
+        Entry::Publish(_, value) => match values.push(*value) {
+            Ok(()) => Ok(()),
+            Err(_) => Err(AllocError),
+        },
+        _ => Ok(()),
+    }
+}
+
+// Puts a part's entries behind others under these numbers, and gives its calls of sites, so many as were `made`, the next numbers. Where memory is refused
+// nothing changes.
+fn append_held(
+    held: &mut Journal,
+    part: &Journal,
+    numbering: Numbering,
+    calls: &mut Pending,
+    made: u64,
+) -> Result<(), AllocError>
+    ensures items { calls.new.items ≡ calls.old.items }
+    ensures version { held.new.version ≡ held.old.version }
+    ensures added { OnOk result (held.new.entries ≡ held.old.entries ++ map (moved numbering) part.now.entries) }
+    ensures made { OnOk result (calls.new.made ≡ calls.old.made + made) }
+    ensures refused { OnErr result ((held.new ≡ held.old) × (calls.new.made ≡ calls.old.made)) }
+    ensures room { OnOk result (length held.new.entries ≤ 2 ^ 62) }
+{
+    if !has_room(held, part.len()) {
+        return Err(AllocError);
+    }
+    let len = held.len();
+    held.append(part, numbering)?;
+    let passed = calls.pass_numbers(made);
+    if passed.is_err() {
+        held.truncate(len);
+    }
+    passed
+}
+
 impl<P: Program> Chronicle<P> {
-    /// No entries.
-    pub fn new(alloc: Global) -> Chronicle<P>
-        ensures { result ≡ record { version = Version.Two; entries = []; forgotten = 0 } }
+    /// No entries. Those that come are held where the run `keeps` its journal.
+    pub fn new(alloc: Global, keeps: bool) -> Chronicle<P>
+        requires { keeps ≡ P.keeps }
+        ensures { result ≡ record { version = Version.Two; entries = [] } }
     {
         Chronicle {
             alloc,
+            keeps,
+            held: Journal::new(alloc, Version::Two),
             past: past_of::<Entry>(),
-            forgotten: 0,
+            passed: 0,
             published: Vec::new(alloc),
             is_local: true,
-            held: Journal::new(alloc, Version::Two),
             program: PhantomData,
         }
     }
 
-    /// How many entries there are, those too that aren't held any more.
+    /// How many entries there are, held or not.
     #[inline(always)]
     pub fn len(&self) -> usize
         ensures entries { result ≡ length self.now.entries }
-        ensures held { self.now.forgotten ≤ result }
     {
-        self.forgotten + self.held.len()
-    }
-
-    // Whether so many more may be held.
-    #[inline(always)]
-    fn has_room(&self, more: usize) -> bool
-        ensures { result ≡ true → (n : ℕ) × (length self.now.entries ≡ self.now.forgotten + n) × (n + more ≤ 2 ^ 62) }
-    {
-        more <= MOST && self.held.len() <= MOST - more
+        self.passed + self.held.len()
     }
 
     /// Adds an entry at the end. The error is refused memory, and then nothing changes.
@@ -113,29 +230,51 @@ impl<P: Program> Chronicle<P> {
         ensures added { OnOk result (self.new ≡ chronicle_with self.old (entry.now ∷ [])) }
         ensures refused { OnErr result (self.new ≡ self.old) }
     {
-        if !self.has_room(1) {
+        if self.keeps {
+            if !has_room(&self.held, 1) {
+                return Err(AllocError);
+            }
+            return self.held.push(entry);
+        }
+        if self.passed >= MOST {
             return Err(AllocError);
         }
-        self.held.push(entry)
+        add_published(&mut self.published, entry)?;
+        self.past = past_with_entry(&self.past, entry);
+        self.passed += 1;
+        if may_bear(entry) {
+            self.is_local = false;
+        }
+        Ok(())
     }
 
     /// Adds a `call` as `push` does, without an `Entry`: the arguments, `MOST_ARGUMENTS` at most, are copied once.
     #[inline(always)]
     pub fn push_call(
         &mut self,
+        answers: &Answers,
         token: u64,
         call: u64,
         site: u32,
         args: &[Value],
     ) -> Result<(), AllocError>
-        requires { length args.now ≤ MOST_ARGUMENTS }
+        requires answers { answers.now.sites ≡ P.sites }
+        requires few { length args.now ≤ MOST_ARGUMENTS }
         ensures added { OnOk result (self.new ≡ chronicle_with self.old (Call token call site args.now ∷ [])) }
         ensures refused { OnErr result (self.new ≡ self.old) }
     {
-        if !self.has_room(1) {
-            return Err(AllocError);
+        if self.keeps {
+            if !has_room(&self.held, 1) {
+                return Err(AllocError);
+            }
+            return self.held.push_call(token, call, site, args);
         }
-        self.held.push_call(token, call, site, args)
+        count_more(&mut self.passed, 1)?;
+        self.past = past_with_call(&self.past, token, call, site, args);
+        if answers.is_scripted(site) {
+            self.is_local = false;
+        }
+        Ok(())
     }
 
     /// Adds a `bind` and, behind it, the cancels of these calls in their order. The error is refused memory, and then nothing changes.
@@ -149,18 +288,32 @@ impl<P: Program> Chronicle<P> {
         ensures added { OnOk result (self.new ≡ chronicle_with self.old (Bind token cell value ∷ map Cancel cancelled.now)) }
         ensures refused { OnErr result (self.new ≡ self.old) }
     {
-        if !self.has_room(cancelled.len().saturating_add(1)) {
-            return Err(AllocError);
+        let more = cancelled.len().saturating_add(1);
+        if self.keeps {
+            if !has_room(&self.held, more) {
+                return Err(AllocError);
+            }
+            return self.held.push_bind(token, cell, value, cancelled);
         }
-        self.held.push_bind(token, cell, value, cancelled)
+        count_more(&mut self.passed, more)?;
+        self.past = past_with_bind(&self.past, token, cell, value, cancelled);
+        if cancelled.len() > 0 {
+            self.is_local = false;
+        }
+        Ok(())
     }
 
-    /// Keeps the first `len` entries alone, all where there are no more.
+    /// Keeps the first `len` entries alone, all where there are no more. Those that go publish nothing.
     pub fn truncate(&mut self, len: usize)
-        requires { self.old.forgotten ≤ len }
-        ensures { self.new ≡ record { version = self.old.version; entries = take len self.old.entries; forgotten = self.old.forgotten } }
+        requires { AreSilent (drop len self.old.entries) }
+        ensures { self.new ≡ record { version = self.old.version; entries = take len self.old.entries } }
     {
-        self.held.truncate(len - self.forgotten);
+        if self.keeps {
+            self.held.truncate(len);
+        } else if len < self.passed {
+            self.past = first_of_past(&self.past, len);
+            self.passed = len;
+        }
     }
 
     /// Whether all entries are known to be local: nothing around the run whose they are bears on them.
@@ -178,38 +331,6 @@ impl<P: Program> Chronicle<P> {
         self.published.is_empty() && self.held.is_silent()
     }
 
-    /// How many entries are held.
-    #[inline(always)]
-    pub fn held_len(&self) -> usize {
-        self.held.len()
-    }
-
-    /// Holds the entries no more, if there is memory for what is still to be known of them. What they took is for those that come. Whether all are local
-    /// is known further on only of a part's.
-    pub fn forget(&mut self, answers: &Answers, is_part: bool)
-        requires answers { answers.now.sites ≡ P.sites }
-        requires keeps { P.keeps ≡ false }
-        ensures version { self.new.version ≡ self.old.version }
-        ensures entries { self.new.entries ≡ self.old.entries }
-    {
-        let len = self.held.len();
-        if len > MOST - self.forgotten {
-            return;
-        }
-        let is_local = is_part && self.are_local(answers);
-        let Ok(values) = self.held.published(self.alloc) else {
-            return;
-        };
-        match self.published.extend_from_slice(&values) {
-            Ok(()) => {}
-            Err(_) => return,
-        }
-        self.is_local = is_local;
-        self.past = past_with(&self.past, &self.held);
-        self.forgotten += len;
-        self.held.clear();
-    }
-
     /// Puts a part's entries behind under these numbers, and gives its calls of sites, so many as were `made`, the next numbers. Where memory is refused
     /// nothing changes.
     pub fn append(
@@ -225,41 +346,14 @@ impl<P: Program> Chronicle<P> {
         ensures made { OnOk result (calls.new.made ≡ calls.old.made + made) }
         ensures refused { OnErr result ((self.new ≡ self.old) × (calls.new.made ≡ calls.old.made)) }
     {
-        if part.forgotten > 0 {
-            self.append_known(part, numbering, calls, made)
+        if self.keeps {
+            append_held(&mut self.held, &part.held, numbering, calls, made)
         } else {
-            self.append_held(part, numbering, calls, made)
+            self.append_known(part, numbering, calls, made)
         }
     }
 
-    // The same of a part that holds all of its entries.
-    fn append_held(
-        &mut self,
-        part: &Chronicle<P>,
-        numbering: Numbering,
-        calls: &mut Pending,
-        made: u64,
-    ) -> Result<(), AllocError>
-        requires { part.now.forgotten ≡ 0 }
-        ensures items { calls.new.items ≡ calls.old.items }
-        ensures version { OnOk result (self.new.version ≡ self.old.version) }
-        ensures added { OnOk result (self.new.entries ≡ self.old.entries ++ map (moved numbering) part.now.entries) }
-        ensures made { OnOk result (calls.new.made ≡ calls.old.made + made) }
-        ensures refused { OnErr result ((self.new ≡ self.old) × (calls.new.made ≡ calls.old.made)) }
-    {
-        if !self.has_room(part.held.len()) {
-            return Err(AllocError);
-        }
-        let len = self.held.len();
-        self.held.append(&part.held, numbering)?;
-        let passed = calls.pass_numbers(made);
-        if passed.is_err() {
-            self.held.truncate(len);
-        }
-        passed
-    }
-
-    // The same of a part that doesn't: what is known of its entries is known of these then, and none is held.
+    // The same where none is held: what is known of the part's entries is known of these then.
     fn append_known(
         &mut self,
         part: &Chronicle<P>,
@@ -267,35 +361,33 @@ impl<P: Program> Chronicle<P> {
         calls: &mut Pending,
         made: u64,
     ) -> Result<(), AllocError>
-        requires { 1 ≤ part.now.forgotten }
+        requires { P.keeps ≡ false }
         ensures items { calls.new.items ≡ calls.old.items }
         ensures version { OnOk result (self.new.version ≡ self.old.version) }
         ensures added { OnOk result (self.new.entries ≡ self.old.entries ++ map (moved numbering) part.now.entries) }
         ensures made { OnOk result (calls.new.made ≡ calls.old.made + made) }
         ensures refused { OnErr result ((self.new ≡ self.old) × (calls.new.made ≡ calls.old.made)) }
     {
-        let len = self.len();
-        let more = part.len();
-        if len > MOST || more > MOST - len {
-            return Err(AllocError);
-        }
-        let mut values = self.held.published(self.alloc)?;
-        values.extend_from_slice(&part.published)?;
-        let last = part.held.published(self.alloc)?;
-        values.extend_from_slice(&last)?;
+        let passed = self.passed;
+        count_more(&mut self.passed, part.passed)?;
         let known = self.published.len();
-        self.published.extend_from_slice(&values)?;
+        match self.published.extend_from_slice(&part.published) {
+            Ok(()) => {}
+            Err(_) => {
+                self.passed = passed;
+                return Err(AllocError);
+            }
+        }
         match calls.pass_numbers(made) {
             Ok(()) => {}
             Err(_) => {
+                self.passed = passed;
                 self.published.truncate(known);
                 return Err(AllocError);
             }
         }
-        self.past = past_with_part(&self.past, &self.held, part, numbering);
-        self.forgotten = len + more;
+        self.past = past_with_part(&self.past, part, numbering);
         self.is_local = false;
-        self.held = Journal::new(self.alloc, self.held.version());
         Ok(())
     }
 
@@ -304,10 +396,7 @@ impl<P: Program> Chronicle<P> {
         ensures held { IfSome result (λ entry. slice_get self.now.entries at ≡ Some entry) }
         ensures none { IfNone result (P.keeps ≡ true → length self.now.entries ≤ at) }
     {
-        if at < self.forgotten {
-            return None;
-        }
-        self.held.get(at - self.forgotten)
+        if self.keeps { self.held.get(at) } else { None }
     }
 
     /// The journal, which is held whole.
@@ -332,10 +421,11 @@ impl<P: Program> Chronicle<P> {
     pub fn into_published(self) -> Result<Vec<Value>, AllocError>
         ensures { IfOk result (λ values. values.items ≡ published self.entries) }
     {
-        let last = self.held.published(self.alloc)?;
-        let mut values = self.published;
-        values.extend_from_slice(&last)?;
-        Ok(values)
+        if self.keeps {
+            self.held.published(self.alloc)
+        } else {
+            Ok(self.published)
+        }
     }
 
     /// The same journal as that of another run, of the same sites, which keeps as much.
@@ -346,11 +436,12 @@ impl<P: Program> Chronicle<P> {
     {
         Chronicle {
             alloc: self.alloc,
+            keeps: self.keeps,
+            held: self.held,
             past: self.past,
-            forgotten: self.forgotten,
+            passed: self.passed,
             published: self.published,
             is_local: self.is_local,
-            held: self.held,
             program: PhantomData,
         }
     }

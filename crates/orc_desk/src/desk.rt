@@ -76,9 +76,6 @@ pub(crate) enum Step {
     Asks(u64),
 }
 
-/// So many entries are held before they are forgotten, where the journal isn't kept: they fit a processor's own cache.
-const MOST_HELD: usize = 4_096;
-
 /// A run: its ledger, the tokens whose turn comes, and those that wait.
 pub struct Desk<P: Naming> {
     pub(crate) alloc: Global,
@@ -92,8 +89,6 @@ pub struct Desk<P: Naming> {
     pub(crate) spreads: bool,
     // How many moves have led to the token whose turn it is, one after another.
     moves: u32,
-    /// Whether the run is a part, made apart from the one round it.
-    pub(crate) is_part: bool,
     // What is held back then.
     pub(crate) holding: Holding,
     // The calls that were cancelled, where others are told of them.
@@ -118,7 +113,6 @@ impl<P: Naming> Drop for Desk<P> {
             asks: _,
             spreads: _,
             moves: _,
-            is_part: _,
             holding: _,
             gone,
             scopes,
@@ -152,7 +146,6 @@ impl<P: Naming> Desk<P> {
             asks,
             spreads: false,
             moves: 0,
-            is_part: false,
             holding: Holding::new(),
             gone: Vec::new(alloc),
             scopes: Vec::new(alloc),
@@ -174,7 +167,6 @@ impl<P: Naming> Desk<P> {
             asks: _,
             spreads: _,
             moves: _,
-            is_part: _,
             holding: _,
             gone,
             scopes,
@@ -263,7 +255,6 @@ impl<P: Naming> Desk<P> {
     {
         if self.is_between() {
             self.sweep();
-            self.forget_entries(answers);
             if !self.asks && self.answer_due()? {
                 return Ok(Turn::Went);
             }
@@ -317,17 +308,6 @@ impl<P: Naming> Desk<P> {
                 Some(handle) if !self.is_there(handle) => self.ready.drop_oldest(),
                 _ => return,
             }
-        }
-    }
-
-    // The entries that are held are forgotten, if the journal isn't kept and they are many.
-    fn forget_entries(&mut self, answers: &Answers)
-        requires answers { answers.now.sites ≡ P.sites }
-        ensures ledger { self.new.ledger ≡ self.old.ledger }
-        ensures ready { self.new.ready ≡ self.old.ready }
-    {
-        if !self.keeps && self.ledger.held_len() >= MOST_HELD {
-            self.ledger.forget(answers, self.is_part);
         }
     }
 

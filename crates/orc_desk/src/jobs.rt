@@ -127,11 +127,10 @@ fn run_apart<Q: Naming, P: Naming>(
     requires definitions { definitions Q.listing ≡ definitions P.listing }
     requires call { source Q.listing ≡ call_of task.definition task.args }
 {
-    let Ok(ledger) = Ledger::<Q>::begin(alloc, limit, graph.root()) else {
+    let Ok(ledger) = Ledger::<Q>::begin(alloc, keeps, limit, graph.root()) else {
         return Came::Nothing;
     };
     let mut desk = Desk::new(alloc, ledger, keeps, false);
-    desk.is_part = true;
     if !task.is_outermost {
         desk.holding.begin();
     }
@@ -139,12 +138,10 @@ fn run_apart<Q: Naming, P: Naming>(
         return Came::Long;
     }
     let last = desk.holding.last();
-    let mut ledger = desk.into_ledger();
-    if !keeps {
-        // What is taken in is then what it publishes, and no entry.
-        ledger.forget(answers, true);
-    }
-    match ledger.into_part::<P>(graph, answers, task, last) {
+    match desk
+        .into_ledger()
+        .into_part::<P>(graph, answers, task, last)
+    {
         Some(part) => Came::Over(part),
         None => Came::Nothing,
     }

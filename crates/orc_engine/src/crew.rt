@@ -195,7 +195,7 @@ where
     ensures range { IfErr result (λ fault. fault ≡ EngineFault.Range → ⊥) }
     ensures sound { IfErr result (λ fault. IsOwn fault → IsProgram (definitions program.now) (source program.now) → HasNames program.now answers.now → ⊥) }
 {
-    let Ok(ledger) = Ledger::<P>::begin(alloc, limit, graph.root()) else {
+    let Ok(ledger) = Ledger::<P>::begin(alloc, keeps, limit, graph.root()) else {
         return Err(EngineFault::Memory);
     };
     let mut desk = Desk::new(alloc, ledger, keeps, false);

@@ -101,7 +101,7 @@ where
     ensures played { IfOk result (λ p. IsPlayed program.now answers.now keeps_text limit p.summary p.published.items p.text.items) }
     ensures range { IfErr result (λ fault. fault ≡ EngineFault.Range → ⊥) }
 {
-    let Ok(ledger) = Ledger::<P>::begin(alloc, limit, graph.root()) else {
+    let Ok(ledger) = Ledger::<P>::begin(alloc, true, limit, graph.root()) else {
         return Err(EngineFault::Memory);
     };
     let mut desk = Desk::new(alloc, ledger, true, true);

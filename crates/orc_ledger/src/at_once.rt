@@ -8,6 +8,7 @@ ghost use Rattle.orc_calls.specs.Counting.{CountsCall};
 ghost use Rattle.orc_records.specs.AtOnce.{IsCalled};
 ghost use Rattle.orc_records.specs.Calls.{IsRefused};
 ghost use Rattle.orc_chronicle.specs.Chronicles.{chronicle_with};
+ghost use Rattle.orc_graft.specs.Moved.{IsSilent};
 ghost use Rattle.orc_paths.specs.Doing.{IsCall};
 ghost use Rattle.orc_records.specs.Doing.{term_of, what_of};
 ghost use Rattle.orc_tables.specs.Tokens.{IsHeld};
@@ -45,6 +46,8 @@ fn write_answered<P: Program>(
     args: &Args,
     answer: &Entry,
 ) -> Result<(), LedgerFault>
+    requires answers { answers.now.sites ≡ P.sites }
+    requires silent { IsSilent answer.now }
     ensures added { OnOk result (journal.new ≡ chronicle_with (chronicle_with journal.old (Calls token call site args.now ∷ [])) (answer.now ∷ [])) }
     ensures counted { OnOk result (CountsCall answers.now.sites site args.now counts.old counts.new) }
     ensures refused { OnErr result ((journal.new ≡ journal.old) × (counts.new ≡ counts.old)) }
@@ -52,7 +55,7 @@ fn write_answered<P: Program>(
 {
     let entries = journal.len();
     if journal
-        .push_call(token, call, site, args.as_slice())
+        .push_call(answers, token, call, site, args.as_slice())
         .is_err()
     {
         return Err(LedgerFault::Memory);

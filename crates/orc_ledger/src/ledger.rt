@@ -107,8 +107,14 @@ pub(crate) fn write<P: Program>(
 
 impl<P: Program> Ledger<P> {
     /// A new run: token 1 stands at the program's main term, whose node is `root`, in slot 0. The journal is to have at most `limit` entries beside
-    /// the cancels. The only fault is `Memory`.
-    pub fn begin(alloc: Global, limit: usize, root: u32) -> Result<Ledger<P>, LedgerFault>
+    /// the cancels, and is held where the run `keeps` it. The only fault is `Memory`.
+    pub fn begin(
+        alloc: Global,
+        keeps: bool,
+        limit: usize,
+        root: u32,
+    ) -> Result<Ledger<P>, LedgerFault>
+        requires keeps { keeps ≡ P.keeps }
         requires limit { (1 ≤ limit) × (limit ≤ MOST_ENTRIES) }
         requires named { limit ≡ P.limit }
         requires root { root ≡ P.listing.root }
@@ -133,7 +139,7 @@ impl<P: Program> Ledger<P> {
         let calls = Pending::begin(alloc)?;
         Ok(Ledger {
             limit,
-            journal: Chronicle::new(alloc),
+            journal: Chronicle::new(alloc, keeps),
             entries: 0,
             next_mark: 2,
             time: 0,
@@ -292,22 +298,6 @@ impl<P: Program> Ledger<P> {
         ensures { result ≡ length self.now.journal }
     {
         self.journal.len()
-    }
-
-    /// How many entries of the journal are held.
-    #[inline(always)]
-    pub fn held_len(&self) -> usize {
-        self.journal.held_len()
-    }
-
-    /// The entries of the journal that are there are held no more, if there is memory for what is still to be known of them: what they publish. What they
-    /// took is for those that come. All that clauses say of the journal stays. Only of a part's run is known further on whether it can be taken in.
-    pub fn forget(&mut self, answers: &Answers, is_part: bool)
-        requires keeps { P.keeps ≡ false }
-        requires answers { answers.now.sites ≡ P.sites }
-        ensures { self.new ≡ self.old }
-    {
-        self.journal.forget(answers, is_part);
     }
 
     /// Whether one more entry, so many more tokens and groups, and a token with so many left sides of a `>x>` round it, are within the limits.

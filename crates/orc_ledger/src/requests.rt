@@ -35,13 +35,14 @@ fn write_call<P: Program>(
     site: u32,
     args: &Args,
 ) -> Result<(), LedgerFault>
+    requires answers { answers.now.sites ≡ P.sites }
     ensures added { OnOk result (journal.new ≡ chronicle_with journal.old (Calls token call site args.now ∷ [])) }
     ensures counted { OnOk result (CountsCall answers.now.sites site args.now counts.old counts.new) }
     ensures refused { OnErr result ((journal.new ≡ journal.old) × (counts.new ≡ counts.old)) }
     ensures why { IfErr result (λ fault. fault ≡ LedgerFault.Memory) }
 {
     let entries = journal.len();
-    match journal.push_call(token, call, site, args.as_slice()) {
+    match journal.push_call(answers, token, call, site, args.as_slice()) {
         Ok(()) => {}
         Err(_) => return Err(LedgerFault::Memory),
     }

@@ -38,7 +38,7 @@ fn run_apart<Q: Naming, P: Naming>(
     requires definitions { definitions Q.listing ≡ definitions P.listing }
     requires call { source Q.listing ≡ call_of task.definition task.args }
 {
-    let mut ledger = Ledger::<Q>::begin(alloc, limit, graph.root()).ok()?;
+    let mut ledger = Ledger::<Q>::begin(alloc, keeps, limit, graph.root()).ok()?;
     let mut last = None;
     for _round in 0..limit {
         for slot in 0..SLOTS {
@@ -50,9 +50,6 @@ fn run_apart<Q: Naming, P: Naming>(
             } else if !is_moved(alloc, &mut ledger, graph, answers, slot) {
                 return None;
             }
-        }
-        if !keeps {
-            ledger.forget(answers, true);
         }
     }
     ledger.into_part::<P>(graph, answers, task, last)
@@ -143,7 +140,7 @@ fn taken<P: Naming>(
     requires graph { graph.now ≡ P.listing }
     requires answers { answers.now.sites ≡ P.sites }
 {
-    let mut ledger = Ledger::<P>::begin(alloc, limit, graph.root()).ok()?;
+    let mut ledger = Ledger::<P>::begin(alloc, keeps, limit, graph.root()).ok()?;
     let slot = at_call(alloc, &mut ledger, graph, answers)?;
     let token = ledger.held(slot)?;
     let task = ledger.task(graph, &token)?;
@@ -186,7 +183,6 @@ fn text_named<P: Naming>(
 struct Known {
     values: Vec<Value>,
     entries: usize,
-    held: usize,
 }
 
 // The same of a journal that isn't kept.
@@ -206,13 +202,8 @@ fn known_named<P: Naming>(
         return None;
     };
     let entries = ledger.journal_len();
-    let held = ledger.held_len();
     let values = ledger.into_published().ok()?;
-    Some(Known {
-        values,
-        entries,
-        held,
-    })
+    Some(Known { values, entries })
 }
 
 fn text_of(alloc: Global, source: &[u8], limit: usize) -> Option<Result<Vec<u8>, LedgerFault>> {
@@ -288,13 +279,13 @@ fn a_call_opens_cells_and_comes_to_a_value_or_to_nothing_wherever_it_stands(
 }
 
 #[test]
-fn a_part_that_is_forgotten_counts_and_publishes(rt: HostRuntime) -> Result<(), Fail> {
+fn a_part_whose_journal_is_not_kept_counts_and_publishes(rt: HostRuntime) -> Result<(), Fail> {
     let alloc = rt.alloc();
     let known = known_of(alloc, SOURCE, 4);
     assert!(rt;
         matches!(&known, Some(known) if known.values.as_slice() == [Value::Number(5)].as_slice())
     );
-    assert!(rt; matches!(&known, Some(known) if known.entries == 4 && known.held == 0));
+    assert!(rt; matches!(&known, Some(known) if known.entries == 4));
     // One entry more than there is room for.
     assert!(rt; known_of(alloc, SOURCE, 3).is_none());
     Ok(())

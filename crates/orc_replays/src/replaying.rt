@@ -122,10 +122,11 @@ fn says(what: What, entry: &Entry) -> bool {
 impl<P: Naming> Replay<P> {
     /// Token 1 stands at the program's main term.
     pub fn begin(alloc: Global, graph: &Graph) -> Result<Replay<P>, Odd>
+        requires keeps { P.keeps ≡ true }
         requires graph { graph.now ≡ P.listing }
         requires limit { P.limit ≡ MOST_ENTRIES }
     {
-        let ledger = Ledger::begin(alloc, MOST_ENTRIES as usize, graph.root())?;
+        let ledger = Ledger::begin(alloc, true, MOST_ENTRIES as usize, graph.root())?;
         let mut slots = Vec::new(alloc);
         for _serial in 0..2 {
             if slots.push(0).is_err() {

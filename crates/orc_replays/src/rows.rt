@@ -305,13 +305,14 @@ fn calls_are_answered_when_they_are_due(rt: HostRuntime) -> Result<(), Fail> {
 
 // Where the first token and those after it in its slot have moved until one is refused: how many entries there are, and why.
 fn refused_at<P: Naming>(alloc: Global, graph: &Graph, limit: usize) -> Option<(usize, LedgerFault)>
+    requires keeps { P.keeps ≡ true }
     requires graph { graph.now ≡ P.listing }
     requires limit { limit ≡ P.limit }
 {
     if limit < 1 || limit > 10_000_000 {
         return None;
     }
-    let mut ledger = Ledger::<P>::begin(alloc, limit, graph.root()).ok()?;
+    let mut ledger = Ledger::<P>::begin(alloc, true, limit, graph.root()).ok()?;
     let mut scopes = Vec::new(alloc);
     let mut cancelled = Vec::new(alloc);
     for _entry in 0..limit {

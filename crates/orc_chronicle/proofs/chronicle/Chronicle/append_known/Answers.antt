@@ -1,10 +1,9 @@
-use Rattle.std.proofs.Common.{◌≡◌, ◌≤◌, ◌+◌, ◌++◌, List, length, length-append, append_assoc, map, sym, ap, ◌∙◌, arith}
-use Rattle.std.proofs.lemmas.List.{length-map}
+use Rattle.std.proofs.Common.{◌≡◌, ◌++◌, [], List, append-nil, length, map, sym, ap, ◌∙◌}
+use Rattle.std.proofs.lemmas.List.{length-map, nil_from_length}
 use Rattle.orc_rules.specs.declared.entry.Entry.{Entry}
 use Rattle.orc_rules.specs.Trace.{published}
 use Rattle.orc_graft.specs.Moved.{moved}
-use Rattle.orc_journal.proofs.Shown.{published-more}
-use Rattle.orc_chronicle.proofs.Chronicles.{published-moved}
+use Rattle.orc_chronicle.proofs.Chronicles.{known-more, published-moved}
 use Rattle.orc_chronicle.proofs.chronicle.Chronicle.append_known.Goals as goal
 
 pub invariant_of-self-2 : goal.invariant_of-self-2
@@ -12,29 +11,10 @@ invariant_of-self-2 g c =
     let b = c.self.inside in
     let p = c.part.inside in
     let n = c.args.numbering in
-    let old = c.self.invariant in
-    let theirs : List Entry = p.past.items ++ p.held.entries in
-    let is : c.past_with_part-self-inside.result.items ≡ (b.past.items ++ b.held.entries) ++ map (moved n) theirs =
-    c.past_with_part-self-inside.ensures ∙ ap (λ part. (b.past.items ++ b.held.entries) ++ map (moved n) part.entries) (sym c.part.view_is) in
-    let len : c.len-len.result ≡ length (b.past.items ++ b.held.entries) = c.len-len.ensures.entries ∙ ap (λ j. length j.entries) (sym c.self.view_is) in
-    let more : c.len-more.result ≡ length theirs = c.len-more.ensures.entries ∙ ap (λ part. length part.entries) (sym c.part.view_is) in
-    let values : c.extend_from_slice-3.new.self.items ≡ b.published.items ++ ((published b.held.entries ++ p.published.items) ++ published p.held.entries) =
-    c.in_ok-extend_from_slice-3.ensures.items ∙ ap (λ vs. b.published.items ++ vs) (c.deref-3.ensures.value ∙ c.in_ok-extend_from_slice-2.ensures.items
-    ∙ ap (λ vs. c.extend_from_slice.new.self.items ++ vs) (c.deref-2.ensures.value ∙ c.in_ok-last.ensures)
-    ∙ ap (λ vs. vs ++ published p.held.entries) (c.in_ok-extend_from_slice.ensures.items ∙ ap (λ vs. vs ++ c.deref.result.now) c.in_ok-values.ensures ∙ ap (λ vs. published b.held.entries ++ vs) c.deref.ensures.value)) in
-    let some : 1 ≤ p.forgotten = rw (← c.part.view_is) at c.requires in
-    record {
-      count = ap length is ∙ length-append (b.past.items ++ b.held.entries) (map (moved n) theirs) ∙ ap (λ k. length (b.past.items ++ b.held.entries) + k) (length-map theirs (moved n))
-          ∙ ap (λ k. k + length theirs) (sym len) ∙ ap (λ k. c.len-len.result + k) (sym more);
-      publishes = ap published is ∙ published-more (b.past.items ++ b.held.entries) (map (moved n) theirs) ∙ ap (λ vs. published (b.past.items ++ b.held.entries) ++ vs) (published-moved n theirs ∙ published-more p.past.items p.held.entries ∙ ap (λ vs. vs ++ published p.held.entries) c.part.invariant.publishes)
-          ∙ ap (λ vs. vs ++ (p.published.items ++ published p.held.entries)) (published-more b.past.items b.held.entries ∙ ap (λ vs. vs ++ published b.held.entries) old.publishes)
-          ∙ append_assoc b.published.items (published b.held.entries) (p.published.items ++ published p.held.entries)
-          ∙ ap (λ vs. b.published.items ++ vs) (sym (append_assoc (published b.held.entries) p.published.items (published p.held.entries))) ∙ sym values;
-      local = λ yes. absurd (cc yes);
-      whole = λ kept. absurd (omega (arith, ap length (c.part.invariant.whole kept), c.part.invariant.count, some));
-      few = omega (arith, c.if-len-gt-MOST.false, c.if-more-len.false);
-      room = omega (arith, ap (λ j. length j.entries) c.new.ensures);
-    }
-
-pub returns-clause-version : goal.returns-clause-version
-returns-clause-version g c = ap (λ j. j.version) c.new.ensures ∙ c.version.ensures ∙ ap (λ j. j.version) c.self.view_is
+    let theirs = c.args.part.now.entries in
+    let nil : p.held.entries ≡ [] = nil_from_length p.held.entries (c.part.invariant.1.none (c.part.invariant.0 ∙ c.requires)) in
+    let are : theirs ≡ p.past.items = ap (λ part. part.entries) (sym c.part.view_is) ∙ ap (λ zs. p.past.items ++ zs) nil ∙ append-nil p.past.items in
+    let len : length (map (moved n) theirs) ≡ p.passed = length-map theirs (moved n) ∙ ap length are ∙ c.part.invariant.1.count in
+    let shown : c.extend_from_slice.new.self.items ≡ b.published.items ++ published (map (moved n) theirs) =
+    c.in-Ok.ensures.items ∙ ap (λ vs. b.published.items ++ vs) (c.deref.ensures.value ∙ sym (published-moved n theirs ∙ ap published are ∙ c.part.invariant.1.publishes)) in
+    (c.self.invariant.0, known-more _ _ _ _ _ _ _ _ c.self.invariant.1 (c.self.invariant.0 ∙ c.requires) (map (moved n) theirs) _ p.passed _ _ c.past_with_part-self-inside.ensures len c.in_ok-count_more.ensures.counted c.in_ok-count_more.ensures.few shown (λ yes. absurd (cc yes)))

@@ -1,7 +1,7 @@
--- What had been, then what was held, and then the part.
+-- What had been, and then the part.
 use Rattle.std.proofs.Common.{◌++◌, map}
 use Rattle.orc_graft.specs.Moved.{moved}
 use Rattle.orc_chronicle.proofs.chronicle.Chronicle.append_known.Given as goal
 
 abbrev pub ghost-past_with_part : goal.ghost-past_with_part
-ghost-past_with_part g a = (a.past.now.items ++ a.held.now.entries) ++ map (moved a.numbering) a.part.now.entries
+ghost-past_with_part g a = a.past.now.items ++ map (moved a.numbering) a.part.now.entries

@@ -7,5 +7,5 @@ use Rattle.orc_chronicle.proofs.chronicle.Chronicle.is_silent.Goals as goal
 pub returns-then-is_empty : goal.returns-then-is_empty
 returns-then-is_empty g c = λ yes.
     let b = c.self.inside in
-    let none : published b.past.items ≡ [] = c.self.invariant.publishes ∙ nil_from_length b.published.items (search (rules, c.is_empty.ensures, c.if-is_empty.true)) in
+    let none : published b.past.items ≡ [] = c.self.invariant.1.publishes ∙ nil_from_length b.published.items (search (rules, c.is_empty.ensures, c.if-is_empty.true)) in
     rw (← c.self.view_is) (silent-more b.past.items b.held.entries (silent-where-none b.past.items none) (c.is_silent.ensures yes))

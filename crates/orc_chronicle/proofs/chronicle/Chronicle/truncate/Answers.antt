@@ -1,13 +1,15 @@
-use Rattle.std.proofs.Common.{◌≡◌, ◌≤◌, ◌-◌, ◌++◌, take, sym, ap, ◌∙◌, subst}
-use Rattle.orc_chronicle.proofs.Chronicles.{take-behind}
+use Rattle.std.proofs.Common.{◌≡◌, ◌++◌, [], append-nil, drop, subst, arith}
+use Rattle.std.proofs.lemmas.List.{nil_from_length}
+use Rattle.orc_graft.specs.Moved.{AreSilent}
+use Rattle.orc_chronicle.proofs.Chronicles.{known-first}
 use Rattle.orc_chronicle.proofs.chronicle.Chronicle.truncate.Goals as goal
 
-pub returns : goal.returns
-returns g c =
+pub invariant_of-self-then-len-self : goal.invariant_of-self-then-len-self
+invariant_of-self-then-len-self g c =
     let b = c.self.inside in
     let n = c.args.len in
-    let within : b.forgotten ≤ n = rw (← c.self.view_is) at c.requires in
-    let first : b.past.items ++ c.truncate.new.self.entries ≡ take n (b.past.items ++ b.held.entries) =
-    ap (λ j. b.past.items ++ j.entries) c.truncate.ensures ∙ ap (λ k. b.past.items ++ take (n - k) b.held.entries) (sym c.self.invariant.count)
-    ∙ sym (take-behind b.past.items b.held.entries n (subst (λ k. k ≤ n) (sym c.self.invariant.count) within)) in
-    rw (← c.self.view_is) (λ i. record { version = ap (λ j. j.version) c.truncate.ensures i; entries = first i; forgotten = b.forgotten })
+    let old = c.self.invariant.1 in
+    let nil : b.held.entries ≡ [] = nil_from_length b.held.entries (old.none c.if-self.false) in
+    let all : AreSilent (drop n (b.past.items ++ b.held.entries)) = rw (← c.self.view_is) at c.requires in
+    let silent : AreSilent (drop n b.past.items) = subst (λ es. AreSilent (drop n es)) (append-nil b.past.items) (subst (λ zs. AreSilent (drop n (b.past.items ++ zs))) nil all) in
+    (c.self.invariant.0, known-first _ _ _ _ _ _ _ _ old c.if-self.false n c.first_of_past-self-inside.ensures (omega (arith, c.if-len-self.true)) silent)
