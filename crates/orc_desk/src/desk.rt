@@ -89,7 +89,7 @@ pub struct Desk<P: Naming> {
     pub(crate) spreads: bool,
     // How many moves have led to the token whose turn it is, one after another.
     moves: u32,
-    // What is held back then.
+    // What a part holds back.
     pub(crate) holding: Holding,
     // The calls that were cancelled, where others are told of them.
     gone: Vec<u64>,

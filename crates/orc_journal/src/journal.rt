@@ -201,14 +201,6 @@ impl Journal {
         self.rows.truncate(len);
     }
 
-    /// Holds no entry any more. What they took stays reserved.
-    pub fn clear(&mut self)
-        ensures { self.new ≡ record { version = self.old.version; entries = [] } }
-    {
-        self.rows.clear();
-        self.tables.clear();
-    }
-
     // Adds the cancels of these calls. Where memory is refused some of them may have been added.
     fn push_cancels(&mut self, calls: &[u64]) -> Result<(), AllocError>
         ensures added { OnOk result (self.new ≡ journal_with self.old (map Cancel calls.now)) }

@@ -146,15 +146,6 @@ impl Tables {
         }
     }
 
-    // Nothing is in them any more; what it took stays reserved.
-    pub(crate) fn clear(&mut self)
-        ensures { self.new ≡ record { values = []; calls = []; wides = [] } }
-    {
-        self.values.clear();
-        self.calls.clear();
-        self.wides.clear();
-    }
-
     // The row of parts that have no narrow one.
     #[cold]
     #[inline(never)]

@@ -1,5 +1,5 @@
 -- A site's lines by their places: those with a `_`, and the first of the others that matches.
-use Rattle.std.proofs.Common.{◌≡◌, ◌<◌, ◌≤◌, ◌+◌, ℕ, suc, Bool, true, false, cond, List, [], ◌∷◌, ◌++◌, map, length, drop, get_or, Option, Some, None, refl, sym, ap, subst, ◌∙◌, nat_lt, arith, append-nil}
+use Rattle.std.proofs.Common.{◌≡◌, ◌<◌, ◌≤◌, ◌+◌, ℕ, suc, Bool, true, false, cond, List, [], ◌∷◌, ◌++◌, map, length, drop, get_or, Option, Some, None, refl, sym, ap, subst, ◌∙◌, nat_lt, arith}
 use Rattle.std.proofs.Math.ListN.{drop_of_length-le}
 use Rattle.std.proofs.Math.Seq.{drop-cons}
 use Rattle.std.proofs.lemmas.Option.{slice_get_read}
@@ -11,8 +11,8 @@ use Rattle.orc_rules.specs.declared.lines.Line.{Line as CodeLine}
 use Rattle.orc_rules.specs.declared.value.Value.{Value}
 use Rattle.orc_rules.specs.declared.value.Found.{Found}
 use Rattle.orc_rules.specs.Sites.{Line, value_eq, values_eq, matches, nth_answer, line_answer, halts}
-use Rattle.orc_rules.specs.Lines.{line_of, lines_of, exact_values, are_values, exact_place, wildcard_places, FindsExact}
-use Rattle.orc_rules.proofs.Values.{values_decide, found, Puts}
+use Rattle.orc_rules.specs.Lines.{line_of, lines_of, exact_values, are_values, exact_place, wildcard_places, wildcard_at, found, or_place, Enters, Indexes}
+use Rattle.orc_rules.proofs.Values.{values_decide, Puts}
 
 -- a line without a `_` matches its values alone
 exact_matches : (ps : List (Option Value)) (args : List Value) → is_some (exact_values ps) ≡ true → are_values (exact_values ps) args ≡ matches ps args
@@ -145,10 +145,6 @@ pub no_place_left : (ls : List CodeLine) (ws : List ℕ) (end : ℕ) (args : Lis
 no_place_left ls ws end args n i past = ap (λ ps. answer_among ls ps end args n) (drop_of_length-le ws past)
 
 -- one more line
-abbrev pub or_place : Option ℕ → Bool → ℕ → Option ℕ
-or_place None b n = cond b (Some n) None
-or_place (Some k) b n = Some k
-
 or_place-none : (o : Option ℕ) (n : ℕ) → or_place o false n ≡ o
 or_place-none None n = refl
 or_place-none (Some k) n = refl
@@ -163,73 +159,64 @@ exact_more (m ∷ ls) l args = go (are_values (exact_values m.patterns) args) (e
     go false None true e = ap (option_map suc) e
     go false None false e = ap (option_map suc) e
 
-pub wildcards_more : (ls : List Line) (l : Line) → wildcard_places (ls ++ l ∷ []) ≡ wildcard_places ls ++ cond (is_some (exact_values l.patterns)) [] (length ls ∷ [])
-wildcards_more [] l = refl
+wildcards_more : (ls : List Line) (l : Line) → wildcard_places (ls ++ l ∷ []) ≡ wildcard_places ls ++ wildcard_at (exact_values l.patterns) (length ls)
+wildcards_more [] l = go (exact_values l.patterns)
+  where
+    go : (o : Option (List Value)) → cond (is_some o) [] (0 ∷ []) ≡ wildcard_at o 0
+    go None = refl
+    go (Some vs) = refl
 wildcards_more (m ∷ ls) l = go (is_some (exact_values m.patterns)) (next (wildcards_more ls l))
   where
-    last : (c : Bool) → map suc (cond c [] (length ls ∷ [])) ≡ cond c [] (suc (length ls) ∷ [])
-    last true = refl
-    last false = refl
+    last : (o : Option (List Value)) → map suc (wildcard_at o (length ls)) ≡ wildcard_at o (suc (length ls))
+    last None = refl
+    last (Some vs) = refl
 
-    next : wildcard_places (ls ++ l ∷ []) ≡ wildcard_places ls ++ cond (is_some (exact_values l.patterns)) [] (length ls ∷ [])
-        → map suc (wildcard_places (ls ++ l ∷ [])) ≡ map suc (wildcard_places ls) ++ cond (is_some (exact_values l.patterns)) [] (suc (length ls) ∷ [])
-    next more = ap (map suc) more ∙ map-append suc (wildcard_places ls) (cond (is_some (exact_values l.patterns)) [] (length ls ∷ [])) ∙ ap (λ z. map suc (wildcard_places ls) ++ z) (last (is_some (exact_values l.patterns)))
+    next : wildcard_places (ls ++ l ∷ []) ≡ wildcard_places ls ++ wildcard_at (exact_values l.patterns) (length ls)
+        → map suc (wildcard_places (ls ++ l ∷ [])) ≡ map suc (wildcard_places ls) ++ wildcard_at (exact_values l.patterns) (suc (length ls))
+    next more = ap (map suc) more ∙ map-append suc (wildcard_places ls) (wildcard_at (exact_values l.patterns) (length ls)) ∙ ap (λ z. map suc (wildcard_places ls) ++ z) (last (exact_values l.patterns))
 
-    go : (b : Bool) → map suc (wildcard_places (ls ++ l ∷ [])) ≡ map suc (wildcard_places ls) ++ cond (is_some (exact_values l.patterns)) [] (suc (length ls) ∷ [])
-        → cond b (map suc (wildcard_places (ls ++ l ∷ []))) (0 ∷ map suc (wildcard_places (ls ++ l ∷ []))) ≡ cond b (map suc (wildcard_places ls)) (0 ∷ map suc (wildcard_places ls)) ++ cond (is_some (exact_values l.patterns)) [] (suc (length ls) ∷ [])
+    go : (b : Bool) → map suc (wildcard_places (ls ++ l ∷ [])) ≡ map suc (wildcard_places ls) ++ wildcard_at (exact_values l.patterns) (suc (length ls))
+        → cond b (map suc (wildcard_places (ls ++ l ∷ []))) (0 ∷ map suc (wildcard_places (ls ++ l ∷ []))) ≡ cond b (map suc (wildcard_places ls)) (0 ∷ map suc (wildcard_places ls)) ++ wildcard_at (exact_values l.patterns) (suc (length ls))
     go true e = e
     go false e = ap (λ z. 0 ∷ z) e
 
-lines_more : (items ls : List CodeLine) (l : CodeLine) → items ≡ ls ++ l ∷ [] → lines_of items ≡ lines_of ls ++ line_of l ∷ []
-lines_more items ls l more = ap lines_of more ∙ map-append line_of ls (l ∷ [])
+-- an index of lines, into which one more is entered
+pub one_more : (items ls : List CodeLine) (l : CodeLine) (es fs : List (Vec Value × ℕ)) (ws us : List ℕ) (vs : Option (List Value)) (place : ℕ)
+    → items ≡ ls ++ l ∷ [] → vs ≡ exact_values l.patterns.items → place ≡ length ls → Indexes (lines_of ls) es ws → Enters vs place es fs → us ≡ ws ++ wildcard_at vs place
+    → Indexes (lines_of items) fs us
+one_more items ls l es fs ws us vs place more are last finds enters added =
+    let lines : lines_of items ≡ lines_of ls ++ line_of l ∷ [] = ap lines_of more ∙ map-append line_of ls (l ∷ []) in
+    let at : place ≡ length (lines_of ls) = last ∙ sym (length-map ls line_of) in (
+      λ args. enters args
+          ∙ (λ i. or_place (finds.0 args i) (are_values (are i) args) (at i))
+          ∙ sym (exact_more (lines_of ls) (line_of l) args)
+          ∙ ap (λ z. exact_place z args) (sym lines),
+      added
+          ∙ (λ i. finds.1 i ++ wildcard_at (are i) (at i))
+          ∙ sym (wildcards_more (lines_of ls) (line_of l))
+          ∙ ap wildcard_places (sym lines),
+    )
 
-module _ (items ls : List CodeLine) (l : CodeLine) (ws : List ℕ) (more : items ≡ ls ++ l ∷ []) (are : ws ≡ wildcard_places (lines_of ls)) where
-  places_more : (o : Option (List Value)) → exact_values l.patterns.items ≡ o → ws ++ cond (is_some o) [] (length ls ∷ []) ≡ wildcard_places (lines_of items)
-  places_more o is =
-      (λ i. are i ++ cond (is_some (sym is i)) [] (sym (length-map ls line_of) i ∷ []))
-      ∙ sym (wildcards_more (lines_of ls) (line_of l))
-      ∙ ap wildcard_places (sym (lines_more items ls l more))
+-- an earlier line has these values
+pub enters_again : (vs : List Value) (place : ℕ) (es : List (Vec Value × ℕ)) → is_some (found vs es) ≡ true → Enters (Some vs) place es es
+enters_again vs place es there args = go (values_eq vs args) refl
+  where
+    kept : (o : Option ℕ) (b : Bool) → is_some o ≡ true → o ≡ or_place o b place
+    kept None b h = absurd cc
+    kept (Some at) b h = refl
 
-  -- with a line that has a `_`
-  pub added_place : exact_values l.patterns.items ≡ None → ws ++ length ls ∷ [] ≡ wildcard_places (lines_of items)
-  added_place is = places_more None is
+    go : (b : Bool) → values_eq vs args ≡ b → found args es ≡ or_place (found args es) (values_eq vs args) place
+    go false e = rw e (sym (or_place-none (found args es) place))
+    go true e = kept (found args es) (values_eq vs args) (ap (λ z. is_some (found z es)) (sym ((values_decide vs args).0 e)) ∙ there)
 
-  -- with another line
-  pub kept_places : (vs : List Value) → exact_values l.patterns.items ≡ Some vs → ws ≡ wildcard_places (lines_of items)
-  kept_places vs is = sym (append-nil ws) ∙ places_more (Some vs) is
+-- no earlier line has them
+pub enters_first : (vs : List Value) (place : ℕ) (es fs : List (Vec Value × ℕ)) → is_some (found vs es) ≡ false → Puts vs place es fs → Enters (Some vs) place es fs
+enters_first vs place es fs none puts args = puts args ∙ go (values_eq vs args) refl
+  where
+    new : (o : Option ℕ) → is_some o ≡ false → Some place ≡ or_place o true place
+    new None h = refl
+    new (Some k) h = absurd cc
 
-module _ (items ls : List CodeLine) (l : CodeLine) (es : List (Vec Value × ℕ)) (more : items ≡ ls ++ l ∷ []) (finds : FindsExact (lines_of ls) es) where
-  finds_more : (o : Option (List Value)) (fs : List (Vec Value × ℕ)) → exact_values l.patterns.items ≡ o → ((args : List Value) → found args fs ≡ or_place (found args es) (are_values o args) (length ls)) → FindsExact (lines_of items) fs
-  finds_more o fs is puts args =
-      puts args
-      ∙ (λ i. or_place (finds args i) (are_values (sym is i) args) (sym (length-map ls line_of) i))
-      ∙ sym (exact_more (lines_of ls) (line_of l) args)
-      ∙ ap (λ z. exact_place z args) (sym (lines_more items ls l more))
-
-  -- with a line that has a `_`
-  pub still_finds : exact_values l.patterns.items ≡ None → FindsExact (lines_of items) es
-  still_finds is = finds_more None es is (λ args. sym (or_place-none (found args es) (length ls)))
-
-  -- with a line whose values an earlier one has
-  pub finds_earlier : (vs : List Value) → exact_values l.patterns.items ≡ Some vs → is_some (found vs es) ≡ true → FindsExact (lines_of items) es
-  finds_earlier vs is there = finds_more (Some vs) es is (λ args. go args (values_eq vs args) refl)
-    where
-      kept : (o : Option ℕ) (b : Bool) → is_some o ≡ true → o ≡ or_place o b (length ls)
-      kept None b h = absurd cc
-      kept (Some at) b h = refl
-
-      go : (args : List Value) (b : Bool) → values_eq vs args ≡ b → found args es ≡ or_place (found args es) (values_eq vs args) (length ls)
-      go args false e = rw e (sym (or_place-none (found args es) (length ls)))
-      go args true e = kept (found args es) (values_eq vs args) (ap (λ z. is_some (found z es)) (sym ((values_decide vs args).0 e)) ∙ there)
-
-  -- with a line whose values no earlier one has
-  pub finds_new : (vs : List Value) (at : ℕ) (fs : List (Vec Value × ℕ)) → exact_values l.patterns.items ≡ Some vs → is_some (found vs es) ≡ false → at ≡ length ls → Puts vs at es fs → FindsExact (lines_of items) fs
-  finds_new vs at fs is none last puts = finds_more (Some vs) fs is (λ args. puts args ∙ go args (values_eq vs args) refl)
-    where
-      new : (o : Option ℕ) → is_some o ≡ false → Some at ≡ or_place o true (length ls)
-      new None h = ap Some last
-      new (Some k) h = absurd cc
-
-      go : (args : List Value) (b : Bool) → values_eq vs args ≡ b → cond (values_eq vs args) (Some at) (found args es) ≡ or_place (found args es) (values_eq vs args) (length ls)
-      go args false e = rw e (sym (or_place-none (found args es) (length ls)))
-      go args true e = rw e (new (found args es) (ap (λ z. is_some (found z es)) (sym ((values_decide vs args).0 e)) ∙ none))
+    go : (b : Bool) → values_eq vs args ≡ b → cond (values_eq vs args) (Some place) (found args es) ≡ or_place (found args es) (values_eq vs args) place
+    go false e = rw e (sym (or_place-none (found args es) place))
+    go true e = rw e (new (found args es) (ap (λ z. is_some (found z es)) (sym ((values_decide vs args).0 e)) ∙ none))

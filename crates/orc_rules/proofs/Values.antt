@@ -1,5 +1,5 @@
 -- Values told apart, and a map whose keys are lists of them.
-use Rattle.std.proofs.Common.{◌≡◌, ℕ, Bool, true, false, cond, List, [], ◌∷◌, Option, Some, refl, sym, ap, subst, ◌∙◌}
+use Rattle.std.proofs.Common.{◌≡◌, ℕ, Bool, true, false, cond, List, [], ◌∷◌, Some, refl, sym, ap, subst, ◌∙◌}
 use Rattle.std.specs.Prelude.{◌&&◌}
 use Rattle.std.specs.Bool.{Decides}
 use Rattle.std.specs.Global.{Vec}
@@ -11,6 +11,7 @@ use Rattle.orc_rules.specs.declared.value.Value.{Value}
 use Rattle.orc_rules.specs.declared.value.Value.TheVariants.{Number, Truth, Signal}
 use Rattle.orc_rules.specs.contracts.value.ValuePartialEq.TheImpl as equality
 use Rattle.orc_rules.specs.Sites.{value_eq, values_eq}
+use Rattle.orc_rules.specs.Lines.{found}
 
 -- the test of values decides
 value_decides : (v w : Value) → Decides (value_eq v w) (v ≡ w)
@@ -35,10 +36,6 @@ values_pointwise (v ∷ vs) (w ∷ ws) = ap (λ z. value_eq v w && z) (values_po
 
 pub values_decide : (vs ws : List Value) → Decides (values_eq vs ws) (vs ≡ ws)
 values_decide vs ws = subst (λ b. Decides b (vs ≡ ws)) (values_pointwise vs ws) (pointwise_decides value_decides vs ws)
-
--- the place that a map's entries give these values
-abbrev pub found : List Value → List (Vec Value × ℕ) → Option ℕ
-found args es = lookup (λ k. values_eq args k.items) es
 
 -- fs are es with this place at these values
 abbrev pub Puts : List Value → ℕ → List (Vec Value × ℕ) → List (Vec Value × ℕ) → Type 0

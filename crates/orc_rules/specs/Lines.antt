@@ -33,6 +33,23 @@ abbrev pub wildcard_places : List Line → List ℕ
 wildcard_places [] = []
 wildcard_places (l ∷ ls) = if is_some (exact_values l.patterns) then map suc (wildcard_places ls) else 0 ∷ map suc (wildcard_places ls)
 
--- a map's entries give the values of each line without a `_` the place of the first such line
-abbrev pub FindsExact : List Line → List (Vec Value × ℕ) → Type 0
-FindsExact ls places = (args : List Value) → lookup (λ k. values_eq args k.items) places ≡ exact_place ls args
+-- the place of a line whose patterns are these values, where one is a `_`
+abbrev pub wildcard_at : Option (List Value) → ℕ → List ℕ
+wildcard_at (Some vs) place = []
+wildcard_at None place = place ∷ []
+
+-- the place that a map's entries give these values
+abbrev pub found : List Value → List (Vec Value × ℕ) → Option ℕ
+found args places = lookup (λ k. values_eq args k.items) places
+
+-- an index of lines: the values of each line without a `_` have the place of the first such line, and the others their places
+abbrev pub Indexes : List Line → List (Vec Value × ℕ) → List ℕ → Type 0
+Indexes ls exact wildcards = ((args : List Value) → found args exact ≡ exact_place ls args) × (wildcards ≡ wildcard_places ls)
+
+abbrev pub or_place : Option ℕ → Bool → ℕ → Option ℕ
+or_place (Some k) b place = Some k
+or_place None b place = if b then Some place else None
+
+-- a place was entered for these values, if there are some and they had none
+abbrev pub Enters : Option (List Value) → ℕ → List (Vec Value × ℕ) → List (Vec Value × ℕ) → Type 0
+Enters values place before after = (args : List Value) → found args after ≡ or_place (found args before) (are_values values args) place

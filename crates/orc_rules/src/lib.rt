@@ -3,7 +3,8 @@
 //! `specs/` says what a term and its rules are, what a timed run is, what each entry of a journal asks and does, why one
 //! is refused, and what a journal's verdict is. `laws` proves what follows from them: every journal of a program is a
 //! timed run, nothing that the rules allow is lost, a journal has one verdict. The other modules are values, operands,
-//! programs as numbered nodes, entries and their kinds, the table of sites, each as the definitions have it, and the limits.
+//! programs as numbered nodes, entries and their kinds, the table of sites with the lines of those that a script answers, each
+//! as the definitions have it, and the limits.
 #![tactic(auto)]
 
 pub mod answers;

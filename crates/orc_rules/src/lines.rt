@@ -2,7 +2,7 @@
 
 ghost use Rattle.std.specs.Prelude.{◌≡◌, ◌++◌, ◌∷◌, [], Some, None, option_map, IfOk, OnOk, OnErr};
 ghost use Rattle.orc_rules.specs.Sites.{matches, nth_answer, line_answer};
-ghost use Rattle.orc_rules.specs.Lines.{line_of, lines_of, exact_values, exact_place, wildcard_places};
+ghost use Rattle.orc_rules.specs.Lines.{line_of, lines_of, exact_values, exact_place, wildcard_places, wildcard_at, Enters, Indexes};
 
 use crate::builtin::{is_same, no_answer};
 use crate::value::{Found, Value};
@@ -21,6 +21,13 @@ pub struct Line {
 /// The lines of a site in their order. Which one answers a call is found in a time that doesn't grow with the lines without a `_`.
 pub struct Lines {
     lines: Vec<Line>,
+    // Of lines up to `FEW_LINES` it says nothing, and nobody asks it.
+    index: Index,
+}
+
+// Where lines stand.
+#[derive(Drop)]
+struct Index {
     // The place of the first line without a `_` that has these values.
     exact: HashMap<Vec<Value>, usize, BuildHasherDefault<FoldHasher>>,
     // The places of the lines with a `_`, in their order.
@@ -30,27 +37,24 @@ pub struct Lines {
 // Written out, so that a caller's proof sees one call and not the drop of each field.
 impl Drop for Lines {
     fn drop(self) {
-        let Lines {
-            lines: _,
-            exact: _,
-            wildcards: _,
-        } = self;
+        let Lines { lines: _, index: _ } = self;
     }
 }
 
 impl Model for Lines {
-    ghost use Rattle.std.specs.Prelude.{◌≡◌, List};
+    ghost use Rattle.std.specs.Prelude.{◌<◌, List, length};
+    ghost use Rattle.orc_rules.specs.declared.lines.TheConstants.{FEW_LINES};
     ghost use Rattle.orc_rules.specs.Sites.{Line as Answered};
-    ghost use Rattle.orc_rules.specs.Lines.{lines_of, wildcard_places, FindsExact};
+    ghost use Rattle.orc_rules.specs.Lines.{lines_of, Indexes};
 
     ghost Value = { List Answered };
 
     ghost view = { λ l. lines_of l.lines.items };
 
-    ghost invariant = { λ l. FindsExact (lines_of l.lines.items) l.exact.entries × (l.wildcards.items ≡ wildcard_places (lines_of l.lines.items)) };
+    ghost invariant = { λ l. FEW_LINES < length l.lines.items → Indexes (lines_of l.lines.items) l.index.exact.entries l.index.wildcards.items };
 }
 
-// So few lines are looked at one by one, in less time than the values of a call are hashed.
+// So few lines are looked at one by one, in less time than the values of a call are hashed. Most sites have one or two.
 const FEW_LINES: usize = 8;
 
 // Whether a line's patterns match these arguments.
@@ -137,6 +141,47 @@ fn exact_values(alloc: Global, patterns: &[Option<Value>]) -> Result<Option<Vec<
     Ok(Some(values))
 }
 
+impl Index {
+    // Nothing stands anywhere.
+    fn new(alloc: Global) -> Index
+        ensures { Indexes [] result.exact.entries result.wildcards.items }
+    {
+        Index {
+            exact: HashMap::new(alloc),
+            wildcards: Vec::new(alloc),
+        }
+    }
+
+    // Where these lines stand. The error is refused memory.
+    fn of(alloc: Global, lines: &[Line]) -> Result<Index, AllocError>
+        ensures { IfOk result (λ index. Indexes (lines_of lines.now) index.exact.entries index.wildcards.items) }
+    {
+        let mut index = Index::new(alloc);
+        for place in 0..lines.len() {
+            index.enter(exact_values(alloc, &lines[place].patterns)?, place)?;
+        }
+        Ok(index)
+    }
+
+    // Enters the line behind the others, whose patterns are these values; None where one is a `_`. Where an earlier line has them it never answers, and its
+    // place isn't kept. The error is refused memory, and then nothing changes.
+    fn enter(&mut self, values: Option<Vec<Value>>, place: usize) -> Result<(), AllocError>
+        ensures exact { OnOk result (Enters (option_map (λ v. v.items) values) place self.old.exact.entries self.new.exact.entries) }
+        ensures wildcards { OnOk result (self.new.wildcards.items ≡ self.old.wildcards.items ++ wildcard_at (option_map (λ v. v.items) values) place) }
+        ensures refused { OnErr result ((self.new.exact.entries ≡ self.old.exact.entries) × (self.new.wildcards.items ≡ self.old.wildcards.items)) }
+    {
+        match values {
+            Some(values) => {
+                if !self.exact.contains_key(values.as_slice()) {
+                    self.exact.insert(values, place)?;
+                }
+            }
+            None => self.wildcards.push(place)?,
+        }
+        Ok(())
+    }
+}
+
 impl Lines {
     /// No lines.
     pub fn new(alloc: Global) -> Lines
@@ -144,8 +189,7 @@ impl Lines {
     {
         Lines {
             lines: Vec::new(alloc),
-            exact: HashMap::new(alloc),
-            wildcards: Vec::new(alloc),
+            index: Index::new(alloc),
         }
     }
 
@@ -154,37 +198,16 @@ impl Lines {
         ensures added { OnOk result (self.new ≡ self.old ++ line_of line ∷ []) }
         ensures refused { OnErr result (self.new ≡ self.old) }
     {
-        match exact_values(alloc, &line.patterns)? {
-            Some(values) => self.push_exact(values, line),
-            None => self.push_wildcard(line),
-        }
-    }
-
-    // Adds a line without a `_`, whose patterns are these values. Where an earlier line has them it never answers, and its place isn't kept.
-    fn push_exact(&mut self, values: Vec<Value>, line: Line) -> Result<(), AllocError>
-        requires { exact_values line.patterns.items ≡ Some values.items }
-        ensures added { OnOk result (self.new ≡ self.old ++ line_of line ∷ []) }
-        ensures refused { OnErr result (self.new ≡ self.old) }
-    {
-        if self.exact.contains_key(values.as_slice()) {
+        if self.lines.len() < FEW_LINES {
             self.lines.push(line)?;
             return Ok(());
         }
+        if self.lines.len() == FEW_LINES {
+            self.index = Index::of(alloc, &self.lines)?;
+        }
+        let values = exact_values(alloc, &line.patterns)?;
         self.lines.try_reserve(1)?;
-        self.exact.insert(values, self.lines.len())?;
-        let pushed = self.lines.push(line);
-        prove!(pushed.is_ok());
-        Ok(())
-    }
-
-    // Adds a line with a `_`.
-    fn push_wildcard(&mut self, line: Line) -> Result<(), AllocError>
-        requires { exact_values line.patterns.items ≡ None }
-        ensures added { OnOk result (self.new ≡ self.old ++ line_of line ∷ []) }
-        ensures refused { OnErr result (self.new ≡ self.old) }
-    {
-        self.lines.try_reserve(1)?;
-        self.wildcards.push(self.lines.len())?;
+        self.index.enter(values, self.lines.len())?;
         let pushed = self.lines.push(line);
         prove!(pushed.is_ok());
         Ok(())
@@ -197,8 +220,8 @@ impl Lines {
         if self.lines.len() <= FEW_LINES {
             answer_of(&self.lines, args, n)
         } else {
-            let exact = self.exact.get(args).copied();
-            answer_among(&self.lines, &self.wildcards, exact, args, n)
+            let exact = self.index.exact.get(args).copied();
+            answer_among(&self.lines, &self.index.wildcards, exact, args, n)
         }
     }
 }
