@@ -1,6 +1,7 @@
 -- A list of lanes, read and changed at one place.
-use Rattle.std.proofs.Common.{◌≡◌, ℕ, zero, suc, ◌<◌, Bool, true, false, true≢false, List, [], ◌∷◌, map, length, set, get_or, Option, Some, None, is_some, MatchOption, slice_get, sym, refl, ap, ◌∙◌, arith}
-use Rattle.std.proofs.lemmas.List.{map-set}
+use Rattle.std.proofs.Common.{◌≡◌, ℕ, zero, suc, ◌+◌, ◌<◌, Bool, true, false, true≢false, List, [], ◌∷◌, ◌++◌, map, length, take, replicate, set, get_or, Option, Some, None, is_some, MatchOption, slice_get, sym, refl, ap, ◌∙◌, arith}
+use Rattle.std.proofs.lemmas.List.{map-set, map-append}
+use Rattle.std.proofs.lemmas.Grind.{replicate_next}
 use Rattle.crossbeam_deque.specs.Handles.{stealer_deque}
 use Rattle.orc_pool.specs.declared.own.Own.{Own}
 use Rattle.orc_pool.specs.declared.queues.Lane.{Lane}
@@ -20,6 +21,30 @@ module _ {A B : Type 0} where
   map_set_same f [] i x y e s = refl
   map_set_same f (z ∷ zs) zero x y e s = λ k. (s ∙ ap f (sym (some_eq z x e))) k ∷ map f zs
   map_set_same f (z ∷ zs) (suc i) x y e s = ap (λ (l : List B). f z ∷ l) (map_set_same f zs i x y e s)
+
+pub get_set_other : {A : Type 0} (l : List A) (i k : ℕ) (y : A) → i < k → slice_get (set l i y) k ≡ slice_get l k
+get_set_other [] i k y h = refl
+get_set_other (z ∷ zs) i zero y h = absurd (omega (arith, h))
+get_set_other (z ∷ zs) zero (suc k) y h = refl
+get_set_other (z ∷ zs) (suc i) (suc k) y h = get_set_other zs i k y (omega (arith, h))
+
+take_more : {A : Type 0} (l : List A) (i : ℕ) (x : A) → slice_get l i ≡ Some x → take (suc i) l ≡ take i l ++ x ∷ []
+take_more [] i x e = grind arith
+take_more (y ∷ ys) zero x e = ap (λ z. z ∷ []) (some_eq y x e)
+take_more (y ∷ ys) (suc i) x e = ap (λ zs. y ∷ zs) (take_more ys i x e)
+
+-- one more at the end
+module _ {A B : Type 0} (f : A → B) (l m : List A) (x : A) (more : m ≡ l ++ x ∷ []) where
+  pub map_more : map f m ≡ map f l ++ f x ∷ []
+  map_more = ap (map f) more ∙ map-append f l (x ∷ [])
+
+  pub replicate_more : (n : ℕ) (y : B) → map f l ≡ replicate n y → f x ≡ y → map f m ≡ replicate (n + 1) y
+  replicate_more n y are is = map_more ∙ (λ i. are i ++ is i ∷ []) ∙ sym (replicate_next n y)
+
+  pub taken_more : (ys : List B) (n : ℕ) → map f l ≡ take n ys → slice_get ys n ≡ Some (f x) → map f m ≡ take (n + 1) ys
+  taken_more ys n are is =
+      let next : suc n ≡ n + 1 = omega arith in
+      map_more ∙ ap (λ zs. zs ++ f x ∷ []) are ∙ sym (take_more ys n (f x) is) ∙ ap (λ k. take k ys) next
 
 pub get_at : {A : Type 0} (l : List A) (i : ℕ) (x : A) → i < length l → x ≡ get_or l i x → slice_get l i ≡ Some x
 get_at [] i x h e = absurd (omega arith)

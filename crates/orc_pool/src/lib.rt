@@ -7,12 +7,14 @@
 //! That a thief finds nothing is no evidence that a queue is empty.
 #![tactic(auto)]
 
+mod hand;
 mod history;
 pub mod laws;
 mod own;
 mod queues;
 mod theft;
 
+pub use hand::{Hand, hands};
 pub use history::{Event, View};
 pub use own::Own;
 pub use queues::Queues;

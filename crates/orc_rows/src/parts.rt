@@ -6,7 +6,7 @@ ghost use Rattle.orc_word.specs.Views.{group_of};
 use futures::Future;
 use futures::task::{Doorbell, Poll, Solo};
 use orc_cell::{Bound, Cell, Content};
-use orc_pool::{Own, Queues, Theft};
+use orc_pool::{Hand, Own, Queues, Theft, hands};
 use orc_rules::answers::Answers;
 use orc_rules::value::{Answer, Args, Value};
 use orc_site::{Due, Request, Scripted, SiteCall, SiteFuture, Sites};
@@ -263,6 +263,67 @@ fn each_token_comes_out_once(rt: HostRuntime) -> Result<(), Fail> {
     for token in tokens.iter() {
         assert_eq!(rt; *token, expected);
         expected = expected.saturating_add(1);
+    }
+    Ok(())
+}
+
+#[test]
+fn a_hand_takes_its_own_tasks_and_then_those_of_the_others(rt: HostRuntime) -> Result<(), Fail> {
+    let mut dealt = hands::<u32>(rt.alloc(), 3)?;
+    assert_eq!(rt; dealt.len(), 3);
+    let mut third = dealt.pop().expect(&rt, "a hand");
+    let mut second = dealt.pop().expect(&rt, "a hand");
+    let mut first = dealt.pop().expect(&rt, "a hand");
+    for task in 1..5u32 {
+        assert_eq!(rt; second.push(task), Ok(()));
+    }
+    assert_eq!(rt; third.push(9), Ok(()));
+    assert_eq!(rt; second.next(), Some(4));
+    assert_eq!(rt; first.next(), Some(1));
+    assert_eq!(rt; third.next(), Some(9));
+    assert_eq!(rt; third.next(), Some(2));
+    assert_eq!(rt; second.next(), Some(3));
+    assert_eq!(rt;
+        (first.next(), second.next(), third.next()),
+        (None, None, None)
+    );
+    assert_eq!(rt; hands::<u32>(rt.alloc(), 0)?.len(), 0);
+    Ok(())
+}
+
+// Each task that the hand finds grows by one.
+fn grow_all(hand: &mut Hand<&mut u64>) {
+    for _ in 0..TOKENS {
+        let Some(task) = hand.next() else {
+            return;
+        };
+        *task = task.saturating_add(1);
+    }
+}
+
+#[test]
+fn each_task_is_done_once_by_four_hands(rt: HostRuntime) -> Result<(), Fail> {
+    let mut tasks = Vec::new(rt.alloc());
+    for task in 0..TOKENS {
+        tasks.push(task)?;
+    }
+    let mut dealt = hands(rt.alloc(), 4)?;
+    // One hand has them all, so the others live by theft.
+    for task in tasks.iter_mut() {
+        let hand = dealt.get_mut(0).expect(&rt, "a hand");
+        assert!(rt; hand.push(task).is_ok());
+    }
+    thread::for_each_mut(
+        &rt,
+        &mut dealt,
+        4,
+        &|_: usize, hand: &mut Hand<&mut u64>| grow_all(hand),
+    );
+    drop(dealt);
+    let mut expected = 0u64;
+    for task in tasks.iter() {
+        expected = expected.saturating_add(1);
+        assert_eq!(rt; *task, expected);
     }
     Ok(())
 }
