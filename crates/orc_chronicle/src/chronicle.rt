@@ -297,9 +297,7 @@ impl<P: Program> Chronicle<P> {
         }
         count_more(&mut self.passed, more)?;
         self.past = past_with_bind(&self.past, token, cell, value, cancelled);
-        if cancelled.len() > 0 {
-            self.is_local = false;
-        }
+        self.is_local &= cancelled.is_empty();
         Ok(())
     }
 

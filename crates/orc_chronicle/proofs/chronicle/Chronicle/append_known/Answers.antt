@@ -1,6 +1,5 @@
-use Rattle.std.proofs.Common.{◌≡◌, ◌++◌, [], List, append-nil, length, map, sym, ap, ◌∙◌}
+use Rattle.std.proofs.Common.{◌≡◌, ◌++◌, [], append-nil, length, map, sym, ap, ◌∙◌}
 use Rattle.std.proofs.lemmas.List.{length-map, nil_from_length}
-use Rattle.orc_rules.specs.declared.entry.Entry.{Entry}
 use Rattle.orc_rules.specs.Trace.{published}
 use Rattle.orc_graft.specs.Moved.{moved}
 use Rattle.orc_chronicle.proofs.Chronicles.{known-more, published-moved}

@@ -1,4 +1,4 @@
-use Rattle.std.proofs.Common.{◌≡◌, ◌∷◌, [], append-nil, false, sym, ap, subst, ◌∙◌, refl}
+use Rattle.std.proofs.Common.{◌≡◌, ◌∷◌, [], append-nil, false, sym, ap, ◌∙◌, refl}
 use Rattle.orc_rules.specs.Sites.{is_scripted}
 use Rattle.orc_rules.specs.declared.entry.Entry.TheVariants.{Call}
 use Rattle.orc_chronicle.proofs.Chronicles.{known-more}
