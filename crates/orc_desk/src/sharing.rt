@@ -31,8 +31,9 @@ const NEAR: u32 = 2;
 /// So many more turns, from one call of a definition to the next, have the tokens that come of one.
 const BETWEEN: usize = 4;
 
-/// Of how many tokens one stands beside another whose calls are put side by side, and with which of so many one begins each time. However many threads
-/// share out these calls, each has some of the tokens that came first, whose runs are mostly the longest.
+/// Of how many tokens one stands beside another whose calls are put side by side, and with which of so many one begins each time. So each row of these calls,
+/// and the samples are the first of them, has some of tokens that came early, whose runs are mostly the longest, and some of tokens that came late. As many
+/// samples are taken of calls that race.
 const STRIDE: usize = 16;
 
 const ORDER: [usize; STRIDE] = [0, 8, 4, 12, 2, 10, 6, 14, 1, 9, 5, 13, 3, 11, 7, 15];
@@ -99,24 +100,53 @@ impl<P: Naming> Desk<P> {
     }
 
     /// The calls of definitions with values at which tokens stand whose turn comes, of those that race each other or of the others, `MOST_JOBS` of them at
-    /// most, in a fixed order in which tokens that came one after another stand apart. The error is refused memory.
+    /// most, in a fixed order, in which the first ones are samples of all. Behind these, of those that race that stands first which would have its turn first:
+    /// the others may be in vain. Else tokens that came one after another stand apart. The error is refused memory.
     pub fn jobs(&self, graph: &Graph, races: bool) -> Result<Vec<Job<P>>, AllocError>
         requires graph { graph.now ≡ P.listing }
     {
         let mut jobs = Vec::new(self.alloc);
-        for first in ORDER {
-            for at in (first..self.ready.len()).step_by(STRIDE) {
-                if jobs.len() == MOST_JOBS {
-                    return Ok(jobs);
+        let len = self.ready.len();
+        if races {
+            let step = len.div_ceil(STRIDE).max(1);
+            for at in (0..len).step_by(step) {
+                self.add_job(graph, at, races, &mut jobs)?;
+            }
+            for at in (0..len).rev() {
+                if at % step != 0 {
+                    self.add_job(graph, at, races, &mut jobs)?;
                 }
-                if let Some(handle) = self.ready.get(at) {
-                    if let Some(task) = self.task_of(graph, handle, races) {
-                        jobs.push(Job::new(handle, task, races))?;
-                    }
+            }
+        } else {
+            for first in ORDER {
+                for at in (first..len).step_by(STRIDE) {
+                    self.add_job(graph, at, races, &mut jobs)?;
                 }
             }
         }
         Ok(jobs)
+    }
+
+    // Adds the call at which the token in that place stands, from the one that has waited longest, if it is one of those that are asked for, and there is room.
+    fn add_job(
+        &self,
+        graph: &Graph,
+        at: usize,
+        races: bool,
+        jobs: &mut Vec<Job<P>>,
+    ) -> Result<(), AllocError>
+        requires graph { graph.now ≡ P.listing }
+    {
+        if jobs.len() >= MOST_JOBS {
+            return Ok(());
+        }
+        let Some(handle) = self.ready.get(at) else {
+            return Ok(());
+        };
+        if let Some(task) = self.task_of(graph, handle, races) {
+            jobs.push(Job::new(handle, task, races))?;
+        }
+        Ok(())
     }
 
     // The call at which a token stands, if it is there, and races others or doesn't as is asked for.

@@ -12,10 +12,12 @@ ghost use Rattle.orc_desk.specs.Faults.{IsOwn};
 ghost use Rattle.orc_engine.specs.Ranges.{IsInRange};
 ghost use Rattle.orc_desk.specs.Stops.{HasSpread, IsNearer, Stops};
 
+use crate::batch::{Dealt, Won, deal, forget_losers};
 use orc_desk::{Came, Desk, EngineFault, Job, Stop};
 use orc_graph::Graph;
 use orc_ledger::{Ledger, Program as Naming};
 use orc_outcome::Played;
+use orc_pool::Hand;
 use orc_rules::answers::Answers;
 use orc_rules::limits::{MOST_ENTRIES, MOST_WORKERS};
 use orc_rules::program::Program;
@@ -58,7 +60,7 @@ const LONGEST: usize = 1_000_000;
 /// What calls of definitions came to that were run side by side.
 #[derive(Clone, Copy)]
 enum Trial {
-    /// There were too few of them.
+    /// There were too few of them, or one has won a race.
     Few,
     /// Their runs were too long, as it seems.
     Long,
@@ -326,6 +328,7 @@ where
     }
 
     // Does the jobs, and takes in what came of them. If it isn't known how many entries they have on average, samples show it, of which so many are done first.
+    // If one of these wins a race, what came of it is taken in and the others are left to the run.
     fn run_jobs(
         &self,
         desk: &mut Desk<P>,
@@ -343,7 +346,12 @@ where
         if mean > 0 {
             return self.run_batches(desk, mean, 0, jobs);
         }
-        match self.trial_of(self.run_samples(SHORT.min(room), first, jobs)) {
+        let tally = self.run_samples(SHORT.min(room), first, jobs);
+        if tally.is_won {
+            take_all(self.graph, desk, jobs)?;
+            return Ok(Trial::Few);
+        }
+        match self.trial_of(tally) {
             Trial::Good(mean) => self.run_batches(desk, mean, SAMPLES, jobs),
             trial => Ok(trial),
         }
@@ -367,9 +375,7 @@ where
     // What calls came to of which this came.
     fn trial_of(&self, tally: Tally) -> Trial {
         let mean = tally.mean();
-        if tally.is_won {
-            Trial::Vain
-        } else if tally.long > tally.over {
+        if tally.long > tally.over {
             Trial::Long
         } else if tally.over < tally.count / 2 || mean < WORTH.max(self.graph.len()) {
             // A run begins with a copy of the program's graph.
@@ -446,18 +452,44 @@ where
         taken
     }
 
-    // Each job is done on one of the threads.
+    // Each job is done by one of the threads, but none that stands behind a winner. Where memory is refused none is.
     fn run_all(&self, limit: usize, jobs: &mut [Job<P>])
         requires limit { (1 ≤ limit) × (limit ≤ MOST_ENTRIES) }
     {
+        let won = Won::new();
+        let count = jobs.len();
+        let Ok(mut hands) = deal(self.alloc, jobs, self.workers) else {
+            return;
+        };
         thread::for_each_mut(
             self.rt,
-            jobs,
+            &mut hands,
             self.workers,
-            &|_: usize, job: &mut Job<P>|
+            &|_: usize, hand: &mut Hand<Dealt<P>>|
                 requires { (1 ≤ limit) × (limit ≤ MOST_ENTRIES) }
-            { job.run(self.alloc, self.graph, self.answers, self.keeps, limit) },
+            { self.work(limit, count, &won, hand) },
         );
+        drop(hands);
+        forget_losers(jobs);
+    }
+
+    // Does jobs until there are no more for this hand, of `count` that were dealt out in all.
+    fn work(&self, limit: usize, count: usize, won: &Won, hand: &mut Hand<Dealt<P>>)
+        requires limit { (1 ≤ limit) × (limit ≤ MOST_ENTRIES) }
+    {
+        for _job in 0..count {
+            let Some(dealt) = hand.next() else {
+                return;
+            };
+            let Dealt { place, job } = dealt;
+            if won.is_before(place) {
+                continue;
+            }
+            job.run(self.alloc, self.graph, self.answers, self.keeps, limit);
+            if job.has_won() {
+                won.note(place);
+            }
+        }
     }
 }
 

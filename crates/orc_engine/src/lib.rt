@@ -4,6 +4,7 @@
 #![tactic(auto)]
 
 mod alone;
+mod batch;
 mod crew;
 mod floor;
 mod hub;

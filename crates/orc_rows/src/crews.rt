@@ -15,6 +15,12 @@ use std::thread::Threads;
 const TREE: &[u8] =
     b"def tree(n, m) = Lt(0, n) >b> (Iff(b) >> m | Ift(b) >> Sub(n, 1) >k> Add(m, m) >l> (tree(k, l) | Add(l, 1) >r> tree(k, r)))\ntree(12, 1)";
 
+// A search of 4,096 leaves, two of which come to a value.
+const SEARCH: &[u8] =
+    b"def leaf(at) = Eq(at, 1365) >hit> Ift(hit) >> at | Eq(at, 2900) >hit> Ift(hit) >> at
+def search(n, at) = Lt(0, n) >b> (Iff(b) >> leaf(at) | Ift(b) >> Sub(n, 1) >m> Add(at, at) >l> (search(m, l) | Add(l, 1) >r> search(m, r)))
+first <first< search(12, 0)";
+
 // A run whose journal the check accepts.
 fn accepted<R: Threads + Wait + Sync>(
     rt: &R,
@@ -53,21 +59,34 @@ fn are_the_leaves(alloc: Global, values: &[Value]) -> Result<bool, Fail> {
     Ok(sorted.len() == 4_096)
 }
 
+// A run on one worker whose journal is that of the run on 2, 4 and 16, byte by byte.
+fn same_on_all<R: Threads + Wait + Sync>(rt: &R, alloc: Global, source: &[u8]) -> Option<Played> {
+    let first = accepted(rt, alloc, source, b"", 1, 10_000_000)?;
+    for workers in [2, 4, 16] {
+        let again = accepted(rt, alloc, source, b"", workers, 10_000_000)?;
+        if again.text.as_slice() != first.text.as_slice() {
+            return None;
+        }
+    }
+    Some(first)
+}
+
 #[test]
 fn the_journal_is_the_same_on_any_number_of_workers(rt: HostRuntime) -> Result<(), Fail> {
     let alloc = rt.alloc();
-    let first = accepted(&rt, alloc, TREE, b"", 1, 10_000_000);
-    assert!(rt; first.is_some());
-    if let Some(first) = first {
-        assert_eq!(rt; first.summary.end, End::Halted);
-        assert!(rt; are_the_leaves(alloc, &first.published)?);
-        for workers in [2, 4, 16] {
-            let again = accepted(&rt, alloc, TREE, b"", workers, 10_000_000);
-            assert!(rt;
-                again.is_some_and(|again| again.text.as_slice() == first.text.as_slice()),
-                "on {workers} workers"
-            );
-        }
+    let tree = same_on_all(&rt, alloc, TREE).expect(&rt, "one journal");
+    assert_eq!(rt; tree.summary.end, End::Halted);
+    assert!(rt; are_the_leaves(alloc, &tree.published)?);
+    Ok(())
+}
+
+#[test]
+fn who_wins_a_search_does_not_depend_on_the_number_of_workers(rt: HostRuntime) -> Result<(), Fail> {
+    let search = same_on_all(&rt, rt.alloc(), SEARCH).expect(&rt, "one journal");
+    assert_eq!(rt; search.summary.end, End::Halted);
+    match search.published.as_slice() {
+        [Value::Number(hit)] => assert!(rt; *hit == 1365 || *hit == 2900),
+        _ => assert!(rt; false, "not one value"),
     }
     Ok(())
 }

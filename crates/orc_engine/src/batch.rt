@@ -1,0 +1,69 @@
+//! A batch of jobs, dealt out to the threads of a crew: each has a queue of them, and takes from those of the others when its own is empty.
+
+use orc_desk::Job;
+use orc_ledger::Program as Naming;
+use orc_pool::{Hand, hands};
+use std::alloc::{AllocError, Global};
+use std::sync::atomic::{AtomicUsize, Ordering};
+
+/// A job that was dealt out, and its place in the batch.
+#[derive(Drop)]
+pub(crate) struct Dealt<'j, P: Naming> {
+    pub place: usize,
+    pub job: &'j mut Job<P>,
+}
+
+/// Deals jobs out in turn to as many hands as there are workers, or as jobs where there are fewer; each hand begins with its first one. A job for which there
+/// is no room is dealt to nobody. The error is refused memory.
+pub(crate) fn deal<'j, P: Naming>(
+    alloc: Global,
+    jobs: &'j mut [Job<P>],
+    workers: usize,
+) -> Result<Vec<Hand<Dealt<'j, P>>>, AllocError> {
+    let count = workers.min(jobs.len()).max(1);
+    let mut hands = hands(alloc, count)?;
+    for (place, job) in jobs.iter_mut().enumerate().rev() {
+        if let Some(hand) = hands.get_mut(place % count) {
+            let _refused = hand.push(Dealt { place, job });
+        }
+    }
+    Ok(hands)
+}
+
+/// The place of a job that has won a race. Of several that win at one time it may be any: what it says is for haste alone.
+#[derive(Drop)]
+pub(crate) struct Won {
+    place: AtomicUsize,
+}
+
+impl Won {
+    /// None has won.
+    pub fn new() -> Won {
+        Won {
+            place: AtomicUsize::new(usize::MAX),
+        }
+    }
+
+    /// Whether a job before this place has won.
+    pub fn is_before(&self, place: usize) -> bool {
+        self.place.load(Ordering::Relaxed) < place
+    }
+
+    /// The job at this place has won.
+    pub fn note(&self, place: usize) {
+        if !self.is_before(place) {
+            self.place.store(place, Ordering::Relaxed);
+        }
+    }
+}
+
+/// What came of jobs that stand behind a winner is forgotten: which of them were done depends on the threads.
+pub(crate) fn forget_losers<P: Naming>(jobs: &mut [Job<P>]) {
+    let mut is_won = false;
+    for job in jobs {
+        if is_won {
+            let _lost = job.take();
+        }
+        is_won = is_won || job.has_won();
+    }
+}
