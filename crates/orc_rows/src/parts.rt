@@ -301,25 +301,43 @@ fn grow_all(hand: &mut Hand<&mut u64>) {
     }
 }
 
+// Four hands, the first of which has all the tasks: the others live by theft.
+fn dealt_to_one<'t>(
+    alloc: Global,
+    tasks: &'t mut [u64],
+) -> Result<Vec<Hand<&'t mut u64>>, AllocError> {
+    let mut dealt = hands(alloc, 4)?;
+    for task in tasks.iter_mut() {
+        if let Some(hand) = dealt.get_mut(0) {
+            let _full = hand.push(task);
+        }
+    }
+    Ok(dealt)
+}
+
+// Each of the tasks grows by one, on four threads.
+fn grow_on_four<R: Threads + Sync>(
+    rt: &R,
+    alloc: Global,
+    tasks: &mut [u64],
+) -> Result<(), AllocError> {
+    let mut dealt = dealt_to_one(alloc, tasks)?;
+    thread::for_each_mut(
+        rt,
+        &mut dealt,
+        4,
+        &|_: usize, hand: &mut Hand<&mut u64>| { grow_all(hand) },
+    );
+    Ok(())
+}
+
 #[test]
 fn each_task_is_done_once_by_four_hands(rt: HostRuntime) -> Result<(), Fail> {
     let mut tasks = Vec::new(rt.alloc());
     for task in 0..TOKENS {
         tasks.push(task)?;
     }
-    let mut dealt = hands(rt.alloc(), 4)?;
-    // One hand has them all, so the others live by theft.
-    for task in tasks.iter_mut() {
-        let hand = dealt.get_mut(0).expect(&rt, "a hand");
-        assert!(rt; hand.push(task).is_ok());
-    }
-    thread::for_each_mut(
-        &rt,
-        &mut dealt,
-        4,
-        &|_: usize, hand: &mut Hand<&mut u64>| grow_all(hand),
-    );
-    drop(dealt);
+    grow_on_four(&rt, rt.alloc(), &mut tasks)?;
     let mut expected = 0u64;
     for task in tasks.iter() {
         expected = expected.saturating_add(1);
