@@ -6,8 +6,7 @@ use orc_load::load;
 use orc_outcome::Summary;
 use orc_plain::play;
 use std::alloc::Global;
-use std::io::Read;
-use std::{env, fs, io, rt};
+use std::{env, fs, io};
 
 // How a run by the reference engine ends; None where the texts are no program, or the run is refused.
 fn summary_of(alloc: Global, source: &[u8], script: &[u8], limit: u64) -> Option<Summary> {
@@ -20,12 +19,6 @@ fn summary_of(alloc: Global, source: &[u8], script: &[u8], limit: u64) -> Option
     }
 }
 
-fn read<R: rt::Files + AllocGlobal>(rt: &R, path: &str) -> io::Result<Vec<u8>> {
-    let mut bytes = Vec::new(rt.alloc());
-    fs::open(rt, path)?.read_to_end(&mut bytes)?;
-    Ok(bytes)
-}
-
 fn main(rt: HostRuntime) -> io::Result<()> {
     let alloc = rt.alloc();
     let words = env::args(&rt)?.collect::<Vec<String>>(alloc)?;
@@ -33,8 +26,8 @@ fn main(rt: HostRuntime) -> io::Result<()> {
         println!(&rt; "the files of a program and a script, and a limit are wanted")?;
         return Ok(());
     };
-    let source = read(&rt, source.as_str())?;
-    let script = read(&rt, script.as_str())?;
+    let source = fs::read(&rt, source.as_str())?;
+    let script = fs::read(&rt, script.as_str())?;
     let Ok(limit) = limit.as_str().parse::<u64>() else {
         println!(&rt; "the limit is no number")?;
         return Ok(());

@@ -15,8 +15,7 @@ use orc_lines::read_journal;
 use orc_load::load;
 use orc_rules::entry::State;
 use std::alloc::Global;
-use std::io::Read;
-use std::{env, fs, io, rt};
+use std::{env, fs, io};
 
 /// Replays a journal's text: how many entries it has, and what the ledger says of the place to which they lead.
 pub(crate) fn replay_text(
@@ -39,12 +38,6 @@ pub(crate) fn replay_text(
     Ok((journal.len(), state))
 }
 
-fn read<R: rt::Files + AllocGlobal>(rt: &R, path: &str) -> io::Result<Vec<u8>> {
-    let mut bytes = Vec::new(rt.alloc());
-    fs::open(rt, path)?.read_to_end(&mut bytes)?;
-    Ok(bytes)
-}
-
 fn main(rt: HostRuntime) -> io::Result<()> {
     let alloc = rt.alloc();
     let words = env::args(&rt)?.collect::<Vec<String>>(alloc)?;
@@ -52,9 +45,9 @@ fn main(rt: HostRuntime) -> io::Result<()> {
         println!(&rt; "the files of a program, a script and a journal are wanted")?;
         return Ok(());
     };
-    let source = read(&rt, source.as_str())?;
-    let script = read(&rt, script.as_str())?;
-    let journal = read(&rt, journal.as_str())?;
+    let source = fs::read(&rt, source.as_str())?;
+    let script = fs::read(&rt, script.as_str())?;
+    let journal = fs::read(&rt, journal.as_str())?;
     match replay_text(alloc, &source, &script, &journal) {
         Ok((entries, state)) => println!(&rt; "same {entries} {state:?}"),
         Err(stop) => println!(&rt; "entry {}: {:?}", stop.at, stop.why),
