@@ -7,13 +7,13 @@ _orc() {
         return
     fi
     case $before in
-    --workers | --limit | --width) return ;;
+    --workers | --order | --limit | --width) return ;;
     --theme) mapfile -t COMPREPLY < <(compgen -W 'auto light dark' -- "$word"); return ;;
     --script) compopt -o filenames 2>/dev/null; mapfile -t COMPREPLY < <(compgen -f -- "$word"); return ;;
     esac
     local options=
     case ${COMP_WORDS[1]} in
-    run) options='--script --workers --limit --journal --explain --help -h' ;;
+    run) options='--script --workers --order --limit --journal --explain --help -h' ;;
     check) options='--script --explain --help -h' ;;
     draw) options='--script --text --width --all --theme --explain --help -h' ;;
     print) options='--explain --help -h' ;;

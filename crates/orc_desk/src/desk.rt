@@ -15,6 +15,7 @@ ghost use Rattle.orc_records.specs.Passing.{Passes};
 ghost use Rattle.orc_desk.specs.Stops.{Goes, Advances, HasMoved, IsNearer, HasTurned, Stops};
 
 use crate::holding::Holding;
+use crate::order::Order;
 use crate::ready::{Handle, Ready};
 use crate::waiting::Waiting;
 use orc_graph::{Graph, Node};
@@ -85,6 +86,8 @@ pub struct Desk<P: Naming> {
     pub ready: Ready,
     waiting: Waiting,
     asks: bool,
+    // Whether a token makes one move in its turn, and each move is an entry.
+    alternates: bool,
     // Whether a token's turn ends at the next call of a definition, and the one that has waited longest goes first.
     pub(crate) spreads: bool,
     // How many moves have led to the token whose turn it is, one after another.
@@ -111,6 +114,7 @@ impl<P: Naming> Drop for Desk<P> {
             ready,
             waiting,
             asks: _,
+            alternates: _,
             spreads: _,
             moves: _,
             holding: _,
@@ -144,6 +148,7 @@ impl<P: Naming> Desk<P> {
             ready: Ready::new(alloc),
             waiting: Waiting::new(alloc),
             asks,
+            alternates: false,
             spreads: false,
             moves: 0,
             holding: Holding::new(),
@@ -153,6 +158,16 @@ impl<P: Naming> Desk<P> {
             cells: Vec::new(alloc),
             args: Args::new(),
         }
+    }
+
+    /// From now on the order with this number says whose turn it is, and a token makes one move in its turn: so the moves that the rules leave free come in
+    /// another order.
+    pub fn follow(&mut self, number: u64)
+        ensures ledger { self.new.ledger ≡ self.old.ledger }
+        ensures ready { self.new.ready.handles ≡ self.old.ready.handles }
+    {
+        self.ready.follow(Order::new(number));
+        self.alternates = true;
     }
 
     pub(crate) fn into_ledger(self) -> Ledger<P>
@@ -165,6 +180,7 @@ impl<P: Naming> Desk<P> {
             ready,
             waiting,
             asks: _,
+            alternates: _,
             spreads: _,
             moves: _,
             holding: _,
@@ -271,7 +287,7 @@ impl<P: Naming> Desk<P> {
             let Some(token) = self.ledger.held(slot) else {
                 return Ok(Turn::Went);
             };
-            if self.spreads && moved > 0 && is_at_call(graph, &token) {
+            if moved > 0 && (self.alternates || self.spreads && is_at_call(graph, &token)) {
                 break;
             }
             if self.is_held_back(graph, &token) {
@@ -408,7 +424,7 @@ impl<P: Naming> Desk<P> {
         }
     }
 
-    // A token moves: once, or through a `>x>` in one go, but where somebody else makes the calls.
+    // A token moves: once, or through a `>x>` in one go, but where somebody else makes the calls or each move is to be an entry.
     #[inline(always)]
     fn pass(
         &mut self,
@@ -425,7 +441,7 @@ impl<P: Naming> Desk<P> {
         ensures why { IfErr result (λ fault. IsHindered P.listing self.old.ledger token fault) }
         ensures ready { self.new.ready ≡ self.old.ready }
     {
-        if !self.asks {
+        if !self.asks && !self.alternates {
             if let Standing::At(node, scope) = token.standing {
                 if let Node::Seq(left, name, right) = graph.node(node as usize) {
                     let args = &mut self.args;

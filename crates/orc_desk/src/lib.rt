@@ -9,6 +9,7 @@ mod ending;
 mod fault;
 mod holding;
 mod jobs;
+mod order;
 mod quiet;
 mod ready;
 mod resting;

@@ -3,6 +3,7 @@
 ghost use Rattle.std.specs.Prelude.{◌≡◌, ◌≤◌, ◌+◌, MatchOption};
 ghost use Rattle.std.specs.VecDeque.{deque_len};
 
+use crate::order::Order;
 use std::alloc::{AllocError, Global};
 use std::collections::VecDeque;
 
@@ -19,11 +20,12 @@ pub struct Handle {
 const ROUND: u64 = 64;
 
 /// The tokens whose turn comes. The one that came last goes first, so that few live at a time; but one turn in each round is that of the
-/// token which has waited longest, so that none is starved.
+/// token which has waited longest, so that none is starved. Where an order is set, it says whose turn it is.
 #[derive(Drop)]
 pub struct Ready {
     pub handles: VecDeque<Handle>,
     turns: u64,
+    order: Option<Order>,
 }
 
 impl Ready {
@@ -31,7 +33,15 @@ impl Ready {
         Ready {
             handles: VecDeque::new(alloc),
             turns: 0,
+            order: None,
         }
+    }
+
+    /// Turns come in that order from now on.
+    pub(crate) fn follow(&mut self, order: Order)
+        ensures { self.new.handles ≡ self.old.handles }
+    {
+        self.order = Some(order);
     }
 
     pub(crate) fn len(&self) -> usize
@@ -71,7 +81,10 @@ impl Ready {
 
     /// Whether a round has ended, and no turn of the next one has begun.
     pub(crate) fn is_between(&self) -> bool {
-        self.turns % ROUND == 0
+        match &self.order {
+            Some(order) => order.answers_first(),
+            None => self.turns % ROUND == 0,
+        }
     }
 
     /// The token in that place, from the one that has waited longest.
@@ -100,6 +113,10 @@ impl Ready {
     pub(crate) fn take(&mut self, spreads: bool) -> Option<Handle>
         ensures { MatchOption result (deque_len self.new.handles ≤ deque_len self.old.handles) (λ _. deque_len self.new.handles + 1 ≡ deque_len self.old.handles) }
     {
+        if let Some(order) = &mut self.order {
+            let at = order.draw(self.handles.len());
+            return self.handles.swap_remove_back(at);
+        }
         self.turns = self.turns.wrapping_add(1);
         if spreads || self.turns % ROUND == 0 {
             self.handles.pop_front()

@@ -23,12 +23,15 @@ use std::marker::Brand;
 /// Runs a program: entries that the rules allow, one after another, until nothing can come next or the journal has `limit` of them, cancels not
 /// counted. The cancels of a bind follow it at once. The journal's text is kept where `keeps_text`.
 ///
+/// What the rules leave free comes in one order where `order` is none, and in another for each number; in the same one each time.
+///
 /// The fault is Range where the limit is 0 or over `MOST_ENTRIES`, and then alone; or Memory where memory was refused before the run began, or for
 /// what is told of it. No other comes, if the program is one that the scope check takes with the names of its sites.
 pub fn run_alone(
     alloc: Global,
     program: &Program,
     answers: &Answers,
+    order: Option<u64>,
     keeps_text: bool,
     limit: u64,
 ) -> Result<Played, EngineFault>
@@ -44,14 +47,16 @@ pub fn run_alone(
     };
     let limit = limit as usize;
     if !keeps_text {
-        match run_graph::<Brand>(alloc, program, &graph, answers, false, false, limit) {
+        match run_graph::<Brand>(alloc, program, &graph, answers, order, false, false, limit) {
             Ok(Some(played)) => return Ok(played),
             Ok(None) => {}
             Err(fault) => return Err(fault),
         }
     }
     // How the run ends can't be told without its journal, or the journal is wanted.
-    match run_graph::<Brand>(alloc, program, &graph, answers, true, keeps_text, limit) {
+    match run_graph::<Brand>(
+        alloc, program, &graph, answers, order, true, keeps_text, limit,
+    ) {
         Ok(Some(played)) => Ok(played),
         Ok(None) => unreachable!(),
         Err(fault) => Err(fault),
@@ -64,6 +69,7 @@ fn run_graph<P: Naming>(
     program: &Program,
     graph: &Graph,
     answers: &Answers,
+    order: Option<u64>,
     keeps: bool,
     keeps_text: bool,
     limit: usize,
@@ -83,6 +89,9 @@ fn run_graph<P: Naming>(
         return Err(EngineFault::Memory);
     };
     let mut desk = Desk::new(alloc, ledger, keeps, false);
+    if let Some(number) = order {
+        desk.follow(number);
+    }
     let stop = play(&mut desk, graph, answers);
     desk.finish(program, graph, answers, stop, keeps_text)
 }

@@ -177,7 +177,7 @@ fn program(alloc: Global, seed: u64) -> Result<String, AllocError> {
 
 fn run(alloc: Global, source: &[u8]) -> Option<Played> {
     let loaded = load(alloc, source, SCRIPT).ok()?;
-    run_alone(alloc, &loaded.program, &loaded.answers, true, ENTRIES).ok()
+    run_alone(alloc, &loaded.program, &loaded.answers, None, true, ENTRIES).ok()
 }
 
 // Whether a run may end so in a place of which the ledger says this. Where the limit cuts a run, the last moves of marks may be left.

@@ -50,7 +50,7 @@ fn publishes_what_the_reference_does(rt: HostRuntime) -> Result<(), Fail> {
             continue;
         };
         let reference = play(alloc, &loaded.program, &loaded.answers, false, 10_000);
-        let played = run_alone(alloc, &loaded.program, &loaded.answers, false, 10_000);
+        let played = run_alone(alloc, &loaded.program, &loaded.answers, None, false, 10_000);
         assert!(rt; reference.is_ok() && played.is_ok(), "at {source:?}");
         let (Ok(reference), Ok(played)) = (reference, played) else {
             continue;
@@ -72,7 +72,7 @@ fn refuses_limits_out_of_range(rt: HostRuntime) -> Result<(), Fail> {
         let loaded = load(alloc, b"1", b"");
         assert!(rt; loaded.is_ok());
         if let Ok(loaded) = loaded {
-            let played = run_alone(alloc, &loaded.program, &loaded.answers, false, limit);
+            let played = run_alone(alloc, &loaded.program, &loaded.answers, None, false, limit);
             assert_eq!(rt; played.err(), Some(EngineFault::Range));
         }
     }

@@ -41,6 +41,7 @@ pub fn play<R: Threads + Wait + Sync>(
             alloc,
             &loaded.program,
             &loaded.answers,
+            options.order,
             options.journal,
             options.limit,
         );

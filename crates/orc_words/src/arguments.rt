@@ -83,6 +83,15 @@ fn workers_argument<'a>(alloc: Global, ranges: &'a Ranges) -> Arg<'a> {
         .help(ranges.workers.as_str())
 }
 
+fn order_argument<'a>(alloc: Global) -> Result<Arg<'a>, AllocError> {
+    Arg::new(alloc, "order")
+        .long("order")
+        .value_name("N")
+        .value_parser(value_parser!(u64))
+        .help("Take another order where the rules leave it free, on one worker")
+        .conflicts_with("workers")
+}
+
 fn limit_argument<'a>(alloc: Global, ranges: &'a Ranges) -> Arg<'a> {
     Arg::new(alloc, "limit")
         .long("limit")
@@ -160,6 +169,7 @@ fn run_command<'a>(alloc: Global, ranges: &'a Ranges) -> Result<Command<'a>, All
         .arg(file_argument(alloc))?
         .arg(script_argument(alloc))?
         .arg(workers_argument(alloc, ranges))?
+        .arg(order_argument(alloc)?)?
         .arg(limit_argument(alloc, ranges))?
         .arg(journal_flag(alloc))?
         .arg(explain_flag(alloc, EXPLAIN_RUN))
@@ -207,6 +217,21 @@ fn orc_command<'a>(alloc: Global, ranges: &'a Ranges) -> Result<Command<'a>, All
         .subcommand(print_command(alloc)?)
 }
 
+// How a program is run. An order is one worker's.
+fn options_of(given: &ArgMatches) -> Option<Options> {
+    let order = given.get_one::<u64>("order");
+    let workers = match order {
+        Some(_) => 1,
+        None => given.get_one::<u64>("workers")?,
+    };
+    Some(Options {
+        workers,
+        order,
+        limit: given.get_one::<u64>("limit")?,
+        journal: given.get_flag("journal"),
+    })
+}
+
 fn form_of(given: &ArgMatches) -> Option<Form> {
     if given.get_flag("text") {
         return Some(Form::Text(given.get_one::<u64>("width")?));
@@ -226,11 +251,7 @@ fn job_of<'a>(name: &str, given: &ArgMatches<'a>) -> Option<Job<'a>> {
         "run" => Some(Job::Run {
             file,
             script: given.get_str("script"),
-            options: Options {
-                workers: given.get_one::<u64>("workers")?,
-                limit: given.get_one::<u64>("limit")?,
-                journal: given.get_flag("journal"),
-            },
+            options: options_of(given)?,
         }),
         "check" => Some(Job::Check {
             file,

@@ -86,6 +86,8 @@ impl Job<'_> {
 pub struct Options {
     /// How many workers run it, 1 to `MOST_WORKERS`.
     pub workers: u64,
+    /// Which order one worker takes where the rules leave it free. Several don't ask for it.
+    pub order: Option<u64>,
     /// The most entries that the run's journal may have, cancels not counted.
     pub limit: u64,
     /// Whether the journal is written, in place of what was published.
