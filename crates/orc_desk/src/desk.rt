@@ -30,9 +30,6 @@ use orc_rules::value::Args;
 use std::alloc::Global;
 use std::mem;
 
-/// So often a token goes on in its turn, each time as far as the ledger takes it in one go.
-const MOVES: u32 = 64;
-
 /// What a turn has come to.
 #[derive(Clone, Copy)]
 pub enum Turn {
@@ -86,8 +83,8 @@ pub struct Desk<P: Naming> {
     pub ready: Ready,
     waiting: Waiting,
     asks: bool,
-    // Whether a token makes one move in its turn, and each move is an entry.
-    alternates: bool,
+    // Whether a token goes through a `>x>` in one go.
+    goes_through: bool,
     // Whether a token's turn ends at the next call of a definition, and the one that has waited longest goes first.
     pub(crate) spreads: bool,
     // How many moves have led to the token whose turn it is, one after another.
@@ -114,7 +111,7 @@ impl<P: Naming> Drop for Desk<P> {
             ready,
             waiting,
             asks: _,
-            alternates: _,
+            goes_through: _,
             spreads: _,
             moves: _,
             holding: _,
@@ -148,7 +145,7 @@ impl<P: Naming> Desk<P> {
             ready: Ready::new(alloc),
             waiting: Waiting::new(alloc),
             asks,
-            alternates: false,
+            goes_through: !asks,
             spreads: false,
             moves: 0,
             holding: Holding::new(),
@@ -160,14 +157,14 @@ impl<P: Naming> Desk<P> {
         }
     }
 
-    /// From now on the order with this number says whose turn it is, and a token makes one move in its turn: so the moves that the rules leave free come in
-    /// another order.
+    /// From now on the order with this number says whose turn it is and how many moves it has, and each move is an entry: so the moves that the rules
+    /// leave free come in another order.
     pub fn follow(&mut self, number: u64)
         ensures ledger { self.new.ledger ≡ self.old.ledger }
         ensures ready { self.new.ready.handles ≡ self.old.ready.handles }
     {
         self.ready.follow(Order::new(number));
-        self.alternates = true;
+        self.goes_through = false;
     }
 
     pub(crate) fn into_ledger(self) -> Ledger<P>
@@ -180,7 +177,7 @@ impl<P: Naming> Desk<P> {
             ready,
             waiting,
             asks: _,
-            alternates: _,
+            goes_through: _,
             spreads: _,
             moves: _,
             holding: _,
@@ -282,12 +279,12 @@ impl<P: Naming> Desk<P> {
             return Ok(Turn::Went);
         }
         let mut slot = handle.slot;
-        for moved in 0..MOVES {
+        for moved in 0..self.ready.length() {
             self.moves = handle.moves.saturating_add(moved);
             let Some(token) = self.ledger.held(slot) else {
                 return Ok(Turn::Went);
             };
-            if moved > 0 && (self.alternates || self.spreads && is_at_call(graph, &token)) {
+            if moved > 0 && self.spreads && is_at_call(graph, &token) {
                 break;
             }
             if self.is_held_back(graph, &token) {
@@ -441,7 +438,7 @@ impl<P: Naming> Desk<P> {
         ensures why { IfErr result (λ fault. IsHindered P.listing self.old.ledger token fault) }
         ensures ready { self.new.ready ≡ self.old.ready }
     {
-        if !self.asks && !self.alternates {
+        if self.goes_through {
             if let Standing::At(node, scope) = token.standing {
                 if let Node::Seq(left, name, right) = graph.node(node as usize) {
                     let args = &mut self.args;

@@ -1,6 +1,6 @@
 //! The tokens whose turn comes.
 
-ghost use Rattle.std.specs.Prelude.{◌≡◌, ◌≤◌, ◌+◌, MatchOption};
+ghost use Rattle.std.specs.Prelude.{◌≡◌, ◌≤◌, ◌<◌, ◌+◌, MatchOption};
 ghost use Rattle.std.specs.VecDeque.{deque_len};
 
 use crate::order::Order;
@@ -19,12 +19,17 @@ pub struct Handle {
 /// Of how many turns one is that of the token which has waited longest.
 const ROUND: u64 = 64;
 
+/// So often a token goes on in its turn, each time as far as the ledger takes it in one go.
+const MOVES: u32 = 64;
+
 /// The tokens whose turn comes. The one that came last goes first, so that few live at a time; but one turn in each round is that of the
-/// token which has waited longest, so that none is starved. Where an order is set, it says whose turn it is.
+/// token which has waited longest, so that none is starved. Where an order is set, it says whose turn it is, and how many moves it has.
 #[derive(Drop)]
 pub struct Ready {
     pub handles: VecDeque<Handle>,
     turns: u64,
+    // How many moves the turn has that was taken last.
+    length: u32,
     order: Option<Order>,
 }
 
@@ -33,6 +38,7 @@ impl Ready {
         Ready {
             handles: VecDeque::new(alloc),
             turns: 0,
+            length: MOVES,
             order: None,
         }
     }
@@ -113,9 +119,8 @@ impl Ready {
     pub(crate) fn take(&mut self, spreads: bool) -> Option<Handle>
         ensures { MatchOption result (deque_len self.new.handles ≤ deque_len self.old.handles) (λ _. deque_len self.new.handles + 1 ≡ deque_len self.old.handles) }
     {
-        if let Some(order) = &mut self.order {
-            let at = order.draw(self.handles.len());
-            return self.handles.swap_remove_back(at);
+        if self.order.is_some() {
+            return self.draw();
         }
         self.turns = self.turns.wrapping_add(1);
         if spreads || self.turns % ROUND == 0 {
@@ -123,5 +128,27 @@ impl Ready {
         } else {
             self.handles.pop_back()
         }
+    }
+
+    // The token whose turn the order draws. Apart, so that runs without an order don't go round its code.
+    #[cold]
+    #[inline(never)]
+    fn draw(&mut self) -> Option<Handle>
+        ensures { MatchOption result (deque_len self.new.handles ≤ deque_len self.old.handles) (λ _. deque_len self.new.handles + 1 ≡ deque_len self.old.handles) }
+    {
+        let Some(order) = &mut self.order else {
+            return self.handles.pop_back();
+        };
+        let at = order.draw(self.handles.len());
+        self.length = order.length();
+        self.handles.swap_remove_back(at)
+    }
+
+    /// How many moves the turn has that was taken last.
+    #[inline(always)]
+    pub(crate) fn length(&self) -> u32
+        ensures { 0 < result }
+    {
+        self.length.max(1)
     }
 }
