@@ -3,21 +3,22 @@ _orc() {
     local word=${COMP_WORDS[COMP_CWORD]} before=${COMP_WORDS[COMP_CWORD-1]}
     COMPREPLY=()
     if [ "$COMP_CWORD" = 1 ]; then
-        mapfile -t COMPREPLY < <(compgen -W 'run check draw print help --help --version -h -V' -- "$word")
+        mapfile -t COMPREPLY < <(compgen -W 'run outcomes check draw print help --help --version -h -V' -- "$word")
         return
     fi
     case $before in
-    --workers | --order | --limit | --width) return ;;
+    --workers | --order | --orders | --limit | --width) return ;;
     --theme) mapfile -t COMPREPLY < <(compgen -W 'auto light dark' -- "$word"); return ;;
     --script) compopt -o filenames 2>/dev/null; mapfile -t COMPREPLY < <(compgen -f -- "$word"); return ;;
     esac
     local options=
     case ${COMP_WORDS[1]} in
     run) options='--script --workers --order --limit --journal --explain --help -h' ;;
+    outcomes) options='--script --orders --limit --explain --help -h' ;;
     check) options='--script --explain --help -h' ;;
     draw) options='--script --text --width --all --theme --explain --help -h' ;;
     print) options='--explain --help -h' ;;
-    help) mapfile -t COMPREPLY < <(compgen -W 'run check draw print' -- "$word"); return ;;
+    help) mapfile -t COMPREPLY < <(compgen -W 'run outcomes check draw print' -- "$word"); return ;;
     esac
     case $word in
     -*) mapfile -t COMPREPLY < <(compgen -W "$options" -- "$word") ;;

@@ -4,6 +4,7 @@ use crate::pools::are_same;
 use orc_engine::{EngineFault, run_alone};
 use orc_load::load;
 use orc_plain::play;
+use orc_survey::survey;
 use std::test::Fail;
 
 /// Programs whose publications don't hang on the order of what is free, with their scripts.
@@ -74,6 +75,8 @@ fn refuses_limits_out_of_range(rt: HostRuntime) -> Result<(), Fail> {
         if let Ok(loaded) = loaded {
             let played = run_alone(alloc, &loaded.program, &loaded.answers, None, false, limit);
             assert_eq!(rt; played.err(), Some(EngineFault::Range));
+            let seen = survey(alloc, &loaded.program, &loaded.answers, 3, limit);
+            assert_eq!(rt; seen.err(), Some(EngineFault::Range));
         }
     }
     Ok(())

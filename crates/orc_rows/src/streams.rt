@@ -16,6 +16,10 @@ const RUN: &[&str] = &["orc", "run", "a.orc", "--script", "a.script"];
 
 const CHECK: &[&str] = &["orc", "check", "a.orc", "a.journal", "--script", "a.script"];
 
+const OUTCOMES: &[&str] = &[
+    "orc", "outcomes", "a.orc", "--script", "a.script", "--orders", "3",
+];
+
 const PRINT: &[&str] = &["orc", "print", "a.orc"];
 
 // A writer that takes one byte a call and fails at the first call, the second and so on, until it takes all: what it has is always
@@ -23,8 +27,9 @@ const PRINT: &[&str] = &["orc", "print", "a.orc"];
 #[test]
 fn fails_at_each_call_of_a_writer(rt: HostRuntime) -> Result<(), Fail> {
     let alloc = rt.alloc();
-    let rows: [(&[&str], &str); 5] = [
+    let rows: [(&[&str], &str); 6] = [
         (RUN, "6\n5\n"),
+        (OUTCOMES, "order 0 (3 of 3) Halted: 6 5\n"),
         (CHECK, "ok 1 Running\n"),
         (PRINT, "Pair(1, 9) | (Pair(2, 9) ; 6)\n"),
         (
@@ -69,7 +74,7 @@ fn fails_at_each_call_of_a_writer(rt: HostRuntime) -> Result<(), Fail> {
 #[test]
 fn fails_at_a_writer_that_takes_nothing(rt: HostRuntime) -> Result<(), Fail> {
     let alloc = rt.alloc();
-    for words in [RUN, CHECK, PRINT, &["orc", "--version"]] {
+    for words in [RUN, OUTCOMES, CHECK, PRINT, &["orc", "--version"]] {
         let (status, err) = orc_into(&rt, words, FILES.as_slice(), &mut IdleWriter)?;
         assert_eq!(rt; status, 6, "at {words:?}");
         assert_eq!(rt; err.as_str(), "orc: write\n", "at {words:?}");

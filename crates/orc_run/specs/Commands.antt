@@ -11,6 +11,7 @@ use Rattle.orc_run.specs.Drawn.{Draws}
 use Rattle.orc_run.specs.Inputs.{IsHeld, IsRead}
 use Rattle.orc_run.specs.Printed.{Prints}
 use Rattle.orc_run.specs.Running.{Ran}
+use Rattle.orc_run.specs.Surveyed.{HasSurveyed}
 use Rattle.orc_words.specs.declared.job.Job.{Job}
 use Rattle.orc_words.specs.declared.job.Job.TheVariants as job
 use Rattle.orc_run.specs.declared.failures.Failure.{Failure}
@@ -21,6 +22,10 @@ use Rattle.orc_words.specs.declared.job.Options.{Options}
 -- what was written is the whole text of a run of the file's program with the script's sites, and the status says how it ended; `holds` says what is known of the files
 abbrev pub HasRun : (List ℕ → Option (List ℕ)) → List ℕ → Option (List ℕ) → Options → Option (List ℕ) → Option (List ℕ) → ℕ → Type 0
 HasRun holds file script options old new status = (source read : List ℕ) × (s : Summary) × IsHeld (holds file) source × IsRead holds script read × Ran source read options old new s × (status ≡ end_status_of s.end)
+
+-- what was written are the outcomes of so many orders of the file's program with the script's sites
+abbrev pub HasTold : (List ℕ → Option (List ℕ)) → List ℕ → Option (List ℕ) → ℕ → ℕ → Option (List ℕ) → Option (List ℕ) → ℕ → Type 0
+HasTold holds file script orders limit old new status = (source read : List ℕ) × IsHeld (holds file) source × IsRead holds script read × HasSurveyed source read orders limit old new × (status ≡ 0)
 
 -- what was written is the line of the verdict on the journal
 abbrev pub HasJudged : (List ℕ → Option (List ℕ)) → List ℕ → List ℕ → Option (List ℕ) → Option (List ℕ) → Option (List ℕ) → ℕ → Type 0
@@ -37,6 +42,7 @@ HasPrinted holds file old new status = (source : List ℕ) × IsHeld (holds file
 -- a job was done, with this status
 abbrev pub IsDone : (List ℕ → Option (List ℕ)) → Job → Option (List ℕ) → Option (List ℕ) → ℕ → Type 0
 IsDone holds (job.Run file script options) old new status = HasRun holds file.now (option_map (λ p. p.now) script) options old new status
+IsDone holds (job.Outcomes file script orders limit) old new status = HasTold holds file.now (option_map (λ p. p.now) script) orders limit old new status
 IsDone holds (job.Check file journal script) old new status = HasJudged holds file.now journal.now (option_map (λ p. p.now) script) old new status
 IsDone holds (job.Draw file journal script options) old new status = HasDrawn holds file.now journal.now (option_map (λ p. p.now) script) old new status
 IsDone holds (job.Print file) old new status = HasPrinted holds file.now old new status

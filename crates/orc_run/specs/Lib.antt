@@ -8,3 +8,4 @@ pub mod Output
 pub mod Printed
 pub mod Running
 pub mod Status
+pub mod Surveyed

@@ -4,7 +4,7 @@ ghost use Rattle.std.specs.Prelude.{◌≡◌, ◌≢◌, ◌<◌, ℕ, List, If
 ghost use Rattle.std.specs.Io.KnownBytes.{Keeps};
 ghost use Rattle.orc_outcome.specs.declared.end.End.TheVariants as ends;
 ghost use Rattle.orc_run.specs.Inputs.{IsHeld, IsRead};
-ghost use Rattle.orc_run.specs.Commands.{HasDrawn, HasEnded, HasJudged, HasPrinted, HasRun, IsDone, IsUnread, LeavesUndone, WasCut};
+ghost use Rattle.orc_run.specs.Commands.{HasDrawn, HasEnded, HasJudged, HasPrinted, HasRun, HasTold, IsDone, IsUnread, LeavesUndone, WasCut};
 
 use crate::drawing::{Undrawn, draw_text};
 use crate::explained::{Explained, subject_of, subject_with_journal};
@@ -15,6 +15,7 @@ use crate::judging::{Unchecked, check_read, check_text};
 use crate::output::WriteFault;
 use crate::printing::print_text;
 use crate::running::run_text;
+use crate::surveying::survey_text;
 use clap::error::ErrorKind;
 use orc_explain::Unread;
 use orc_page::Subject;
@@ -106,6 +107,40 @@ fn run_file<'a, R: Threads + Wait + Sync, F: Files, W: Write>(
             explained.ended(rt, alloc, &subject, options, summary);
             Ok(summary.end.status())
         }
+        Err(fault) => {
+            let subject = subject_of(file, source.as_slice(), script, answers.as_slice());
+            explained.fault(alloc, &subject, fault);
+            Err(Failure::Fault(fault))
+        }
+    }
+}
+
+// Runs the program of a file in many orders.
+#[tactic(auto, using(crate::proofs::Statuses::unread, crate::proofs::Statuses::unsurveyed))]
+fn survey_file<'a, F: Files, W: Write>(
+    alloc: Global,
+    file: &'a str,
+    script: Option<&'a str>,
+    orders: u64,
+    limit: u64,
+    files: &mut F,
+    out: &mut W,
+    explained: &mut Explained,
+) -> Result<u8, Failure<'a>>
+    ensures done { IfOk result (HasTold (F.holds files.old) file.now (option_map (λ p. p.now) script.entry) orders limit (W.contents out.old) (W.contents out.new)) }
+    ensures undone { IfErr result (λ f. LeavesUndone f (W.contents out.old) (W.contents out.new)) }
+{
+    let source = read(file, files)?;
+    let answers = read_script(alloc, script, files)?;
+    match survey_text(
+        alloc,
+        source.as_slice(),
+        answers.as_slice(),
+        orders,
+        limit,
+        out,
+    ) {
+        Ok(()) => Ok(0),
         Err(fault) => {
             let subject = subject_of(file, source.as_slice(), script, answers.as_slice());
             explained.fault(alloc, &subject, fault);
@@ -263,6 +298,12 @@ fn do_job<'a, R: Threads + Wait + Sync, F: Files, W: Write>(
             script,
             options,
         } => run_file(rt, alloc, file, script, &options, files, out, explained),
+        Job::Outcomes {
+            file,
+            script,
+            orders,
+            limit,
+        } => survey_file(alloc, file, script, orders, limit, files, out, explained),
         Job::Check {
             file,
             journal,

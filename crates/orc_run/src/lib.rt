@@ -13,6 +13,7 @@ mod output;
 mod printing;
 mod publications;
 mod running;
+mod surveying;
 
 pub use commands::command;
 pub use drawing::{Undrawn, draw_text};
@@ -27,3 +28,4 @@ pub use orc_words::{Options, STANDARD_INPUT};
 pub use output::{WriteFault, write_text};
 pub use printing::print_text;
 pub use running::run_text;
+pub use surveying::survey_text;

@@ -11,6 +11,9 @@ use orc_rules::limits::{DEFAULT_ENTRIES, DEFAULT_WORKERS, MOST_ENTRIES, MOST_WOR
 use std::alloc::{AllocError, Global};
 use std::convert::AsStr;
 
+/// In how many orders `outcomes` runs a program at most.
+const MOST_ORDERS: i64 = 10_000;
+
 const VERSION: &str = "0.1.0 (proved with logic dac8208d650f15bf)";
 
 /// What stands below the list of commands.
@@ -90,6 +93,15 @@ fn order_argument<'a>(alloc: Global) -> Result<Arg<'a>, AllocError> {
         .value_parser(value_parser!(u64))
         .help("Take another order where the rules leave it free, on one worker")
         .conflicts_with("workers")
+}
+
+fn orders_argument<'a>(alloc: Global) -> Arg<'a> {
+    Arg::new(alloc, "orders")
+        .long("orders")
+        .value_name("N")
+        .value_parser(value_parser!(u64).range(1..=MOST_ORDERS))
+        .default_value("100")
+        .help("In how many orders the program is run, 1 to 10,000")
 }
 
 fn limit_argument<'a>(alloc: Global, ranges: &'a Ranges) -> Arg<'a> {
@@ -175,6 +187,16 @@ fn run_command<'a>(alloc: Global, ranges: &'a Ranges) -> Result<Command<'a>, All
         .arg(explain_flag(alloc, EXPLAIN_RUN))
 }
 
+fn outcomes_command<'a>(alloc: Global, ranges: &'a Ranges) -> Result<Command<'a>, AllocError> {
+    Command::new(alloc, "outcomes")
+        .about("Run a program in many orders and write what came of them")
+        .arg(file_argument(alloc))?
+        .arg(script_argument(alloc))?
+        .arg(orders_argument(alloc))?
+        .arg(limit_argument(alloc, ranges))?
+        .arg(explain_flag(alloc, EXPLAIN))
+}
+
 fn check_command<'a>(alloc: Global) -> Result<Command<'a>, AllocError> {
     Command::new(alloc, "check")
         .about("Check a journal against a program, by the rules")
@@ -212,6 +234,7 @@ fn orc_command<'a>(alloc: Global, ranges: &'a Ranges) -> Result<Command<'a>, All
         .subcommand_required(true)
         .arg_required_else_help(true)
         .subcommand(run_command(alloc, ranges)?)?
+        .subcommand(outcomes_command(alloc, ranges)?)?
         .subcommand(check_command(alloc)?)?
         .subcommand(draw_command(alloc)?)?
         .subcommand(print_command(alloc)?)
@@ -252,6 +275,12 @@ fn job_of<'a>(name: &str, given: &ArgMatches<'a>) -> Option<Job<'a>> {
             file,
             script: given.get_str("script"),
             options: options_of(given)?,
+        }),
+        "outcomes" => Some(Job::Outcomes {
+            file,
+            script: given.get_str("script"),
+            orders: given.get_one::<u64>("orders")?,
+            limit: given.get_one::<u64>("limit")?,
         }),
         "check" => Some(Job::Check {
             file,

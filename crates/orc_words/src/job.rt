@@ -21,6 +21,14 @@ pub enum Job<'a> {
         script: Option<&'a str>,
         options: Options,
     },
+    Outcomes {
+        file: &'a str,
+        script: Option<&'a str>,
+        /// In how many orders the program is run.
+        orders: u64,
+        /// The most entries that a run's journal may have, cancels not counted.
+        limit: u64,
+    },
     Check {
         file: &'a str,
         journal: &'a str,
@@ -64,7 +72,9 @@ impl Job<'_> {
         ensures { result ≡ shares self.now }
     {
         match *self {
-            Job::Run { file, script, .. } => is_input(file) && may_be_input(script),
+            Job::Run { file, script, .. } | Job::Outcomes { file, script, .. } => {
+                is_input(file) && may_be_input(script)
+            }
             Job::Check {
                 file,
                 journal,

@@ -1,0 +1,27 @@
+-- What a survey of a source's program does.
+use Rattle.std.specs.Prelude.{ℕ, List}
+use Rattle.std.specs.declared.option.Option.{Option}
+use Rattle.std.specs.Io.KnownBytes.{Keeps, Appends}
+use Rattle.orc_rules.specs.Sites.{Table}
+use Rattle.orc_rules.specs.Nodes.{Listing}
+use Rattle.orc_site.specs.Script.{Says}
+use Rattle.orc_load.specs.Loading.{IsProgramOf}
+use Rattle.orc_survey.specs.Lines.{lines}
+use Rattle.orc_survey.specs.Survey.{Surveys}
+use Rattle.orc_survey.specs.declared.seen.Seen.{Seen}
+use Rattle.orc_run.specs.Output.{AppendsPrefix}
+use Rattle.orc_run.specs.declared.faults.RunFault.{RunFault}
+use Rattle.orc_run.specs.declared.faults.RunFault.TheVariants as fault
+
+-- so many orders of the source's program, with the sites that the script says, came to these outcomes
+abbrev pub CameTo : List ℕ → List ℕ → ℕ → ℕ → List Seen → Type 0
+CameTo source script orders limit seen = (l : Listing) × (t : Table) × Says script t × IsProgramOf source t l × Surveys l t limit orders seen
+
+-- what was written are their lines
+abbrev pub HasSurveyed : List ℕ → List ℕ → ℕ → ℕ → Option (List ℕ) → Option (List ℕ) → Type 0
+HasSurveyed source script orders limit old new = (seen : List Seen) × CameTo source script orders limit seen × Appends old new (lines orders seen)
+
+-- at a fault nothing was written, or at a write fault a prefix of the lines
+abbrev pub LeavesUnsurveyed : List ℕ → List ℕ → ℕ → ℕ → Option (List ℕ) → Option (List ℕ) → RunFault → Type 0
+LeavesUnsurveyed source script orders limit old new (fault.Write w) = (seen : List Seen) × CameTo source script orders limit seen × AppendsPrefix old new (lines orders seen)
+LeavesUnsurveyed source script orders limit old new _ = Keeps old new
