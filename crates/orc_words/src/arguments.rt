@@ -11,8 +11,10 @@ use orc_rules::limits::{DEFAULT_ENTRIES, DEFAULT_WORKERS, MOST_ENTRIES, MOST_WOR
 use std::alloc::{AllocError, Global};
 use std::convert::AsStr;
 
-/// In how many orders `outcomes` runs a program at most.
-const MOST_ORDERS: i64 = 10_000;
+/// In how many orders `outcomes` runs a program at most, and where nothing is said.
+const MOST_ORDERS: u64 = 10_000;
+
+const DEFAULT_ORDERS: u64 = 100;
 
 const VERSION: &str = "0.1.0 (proved with logic dac8208d650f15bf)";
 
@@ -33,6 +35,8 @@ Status:
 pub struct Ranges {
     workers: String,
     default_workers: String,
+    orders: String,
+    default_orders: String,
     limit: String,
     default_limit: String,
 }
@@ -43,6 +47,8 @@ impl Drop for Ranges {
         let Ranges {
             workers: _,
             default_workers: _,
+            orders: _,
+            default_orders: _,
             limit: _,
             default_limit: _,
         } = self;
@@ -55,6 +61,8 @@ impl Ranges {
         Ok(Ranges {
             workers: format!(in alloc; "The number of workers, 1 to {MOST_WORKERS}")?,
             default_workers: format!(in alloc; "{DEFAULT_WORKERS}")?,
+            orders: format!(in alloc; "In how many orders the program is run, 1 to {MOST_ORDERS}")?,
+            default_orders: format!(in alloc; "{DEFAULT_ORDERS}")?,
             limit: format!(in alloc;
                 "The greatest number of journal entries, 1 to {MOST_ENTRIES}"
             )?,
@@ -95,13 +103,13 @@ fn order_argument<'a>(alloc: Global) -> Result<Arg<'a>, AllocError> {
         .conflicts_with("workers")
 }
 
-fn orders_argument<'a>(alloc: Global) -> Arg<'a> {
+fn orders_argument<'a>(alloc: Global, ranges: &'a Ranges) -> Arg<'a> {
     Arg::new(alloc, "orders")
         .long("orders")
         .value_name("N")
-        .value_parser(value_parser!(u64).range(1..=MOST_ORDERS))
-        .default_value("100")
-        .help("In how many orders the program is run, 1 to 10,000")
+        .value_parser(value_parser!(u64).range(1..=MOST_ORDERS as i64))
+        .default_value(ranges.default_orders.as_str())
+        .help(ranges.orders.as_str())
 }
 
 fn limit_argument<'a>(alloc: Global, ranges: &'a Ranges) -> Arg<'a> {
@@ -192,7 +200,7 @@ fn outcomes_command<'a>(alloc: Global, ranges: &'a Ranges) -> Result<Command<'a>
         .about("Run a program in many orders and write what came of them")
         .arg(file_argument(alloc))?
         .arg(script_argument(alloc))?
-        .arg(orders_argument(alloc))?
+        .arg(orders_argument(alloc, ranges))?
         .arg(limit_argument(alloc, ranges))?
         .arg(explain_flag(alloc, EXPLAIN))
 }
