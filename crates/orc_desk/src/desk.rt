@@ -157,8 +157,8 @@ impl<P: Naming> Desk<P> {
         }
     }
 
-    /// From now on the order with this number says whose turn it is and how many moves it has, and each move is an entry: so the moves that the rules
-    /// leave free come in another order.
+    /// From now on the order with this number says whose turn it is, each turn is one move, and each move an entry: so the moves that the rules leave
+    /// free come in another order.
     pub fn follow(&mut self, number: u64)
         ensures ledger { self.new.ledger ≡ self.old.ledger }
         ensures ready { self.new.ready.handles ≡ self.old.ready.handles }

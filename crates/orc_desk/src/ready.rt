@@ -23,14 +23,22 @@ const ROUND: u64 = 64;
 const MOVES: u32 = 64;
 
 /// The tokens whose turn comes. The one that came last goes first, so that few live at a time; but one turn in each round is that of the
-/// token which has waited longest, so that none is starved. Where an order is set, it says whose turn it is, and how many moves it has.
+/// token which has waited longest, so that none is starved. Where an order is set, it says whose turn it is, and each turn is one move.
 #[derive(Drop)]
 pub struct Ready {
     pub handles: VecDeque<Handle>,
     turns: u64,
-    // How many moves the turn has that was taken last.
+    // How many moves a turn has.
     length: u32,
     order: Option<Order>,
+}
+
+// The rank of the token in a place.
+fn rank_at(handles: &VecDeque<Handle>, order: &Order, at: usize) -> u64 {
+    match handles.get(at) {
+        Some(handle) => order.rank(handle.slot),
+        None => 0,
+    }
 }
 
 impl Ready {
@@ -48,6 +56,7 @@ impl Ready {
         ensures { self.new.handles ≡ self.old.handles }
     {
         self.order = Some(order);
+        self.length = 1;
     }
 
     pub(crate) fn len(&self) -> usize
@@ -139,12 +148,18 @@ impl Ready {
         let Some(order) = &mut self.order else {
             return self.handles.pop_back();
         };
-        let at = order.draw(self.handles.len());
-        self.length = order.length();
+        let count = self.handles.len();
+        let mut at = order.draw(count);
+        for _ in 0..order.rivals() {
+            let rival = order.draw(count);
+            if rank_at(&self.handles, order, rival) > rank_at(&self.handles, order, at) {
+                at = rival;
+            }
+        }
         self.handles.swap_remove_back(at)
     }
 
-    /// How many moves the turn has that was taken last.
+    /// How many moves a turn has.
     #[inline(always)]
     pub(crate) fn length(&self) -> u32
         ensures { 0 < result }
