@@ -12,7 +12,7 @@ use std::alloc::{AllocError, Global};
 use std::convert::AsStr;
 
 /// In how many orders `outcomes` runs a program at most, and where nothing is said.
-const MOST_ORDERS: u64 = 10_000;
+const MOST_ORDERS: i64 = 10_000;
 
 const DEFAULT_ORDERS: u64 = 100;
 
@@ -31,14 +31,30 @@ Status:
   2  the command line was refused       6  a file or the output failed
   3  quiet: it waits for ever           7  the engine is at fault";
 
-/// What the help says of limits, which a command borrows.
+// What an option takes: a number from 1 to `most`, or else the default.
+#[derive(Drop)]
+struct Range {
+    most: i64,
+    default: String,
+    help: String,
+}
+
+impl Range {
+    // The error is refused memory.
+    fn new(alloc: Global, what: &str, most: i64, default: u64) -> Result<Range, AllocError> {
+        Ok(Range {
+            most,
+            default: format!(in alloc; "{default}")?,
+            help: format!(in alloc; "{what}, 1 to {most}")?,
+        })
+    }
+}
+
+/// The numbers that options take, which a command borrows.
 pub struct Ranges {
-    workers: String,
-    default_workers: String,
-    orders: String,
-    default_orders: String,
-    limit: String,
-    default_limit: String,
+    workers: Range,
+    orders: Range,
+    limit: Range,
 }
 
 // Written out, so that a caller's proof sees one call and not the drop of each field.
@@ -46,11 +62,8 @@ impl Drop for Ranges {
     fn drop(self) {
         let Ranges {
             workers: _,
-            default_workers: _,
             orders: _,
-            default_orders: _,
             limit: _,
-            default_limit: _,
         } = self;
     }
 }
@@ -58,15 +71,13 @@ impl Drop for Ranges {
 impl Ranges {
     /// The error is refused memory.
     pub fn new(alloc: Global) -> Result<Ranges, AllocError> {
+        let workers = "The number of workers";
+        let orders = "In how many orders the program is run";
+        let limit = "The greatest number of journal entries";
         Ok(Ranges {
-            workers: format!(in alloc; "The number of workers, 1 to {MOST_WORKERS}")?,
-            default_workers: format!(in alloc; "{DEFAULT_WORKERS}")?,
-            orders: format!(in alloc; "In how many orders the program is run, 1 to {MOST_ORDERS}")?,
-            default_orders: format!(in alloc; "{DEFAULT_ORDERS}")?,
-            limit: format!(in alloc;
-                "The greatest number of journal entries, 1 to {MOST_ENTRIES}"
-            )?,
-            default_limit: format!(in alloc; "{DEFAULT_ENTRIES}")?,
+            workers: Range::new(alloc, workers, MOST_WORKERS as i64, DEFAULT_WORKERS as u64)?,
+            orders: Range::new(alloc, orders, MOST_ORDERS, DEFAULT_ORDERS)?,
+            limit: Range::new(alloc, limit, MOST_ENTRIES as i64, DEFAULT_ENTRIES)?,
         })
     }
 }
@@ -85,13 +96,13 @@ fn script_argument<'a>(alloc: Global) -> Arg<'a> {
         .help("The answers of the program's own sites; - is standard input [default: none]")
 }
 
-fn workers_argument<'a>(alloc: Global, ranges: &'a Ranges) -> Arg<'a> {
-    Arg::new(alloc, "workers")
-        .long("workers")
+fn number_argument<'a>(alloc: Global, name: &'static str, range: &'a Range) -> Arg<'a> {
+    Arg::new(alloc, name)
+        .long(name)
         .value_name("N")
-        .value_parser(value_parser!(u64).range(1..=MOST_WORKERS as i64))
-        .default_value(ranges.default_workers.as_str())
-        .help(ranges.workers.as_str())
+        .value_parser(value_parser!(u64).range(1..=range.most))
+        .default_value(range.default.as_str())
+        .help(range.help.as_str())
 }
 
 fn order_argument<'a>(alloc: Global) -> Result<Arg<'a>, AllocError> {
@@ -101,24 +112,6 @@ fn order_argument<'a>(alloc: Global) -> Result<Arg<'a>, AllocError> {
         .value_parser(value_parser!(u64))
         .help("Take another order where the rules leave it free, on one worker")
         .conflicts_with("workers")
-}
-
-fn orders_argument<'a>(alloc: Global, ranges: &'a Ranges) -> Arg<'a> {
-    Arg::new(alloc, "orders")
-        .long("orders")
-        .value_name("N")
-        .value_parser(value_parser!(u64).range(1..=MOST_ORDERS as i64))
-        .default_value(ranges.default_orders.as_str())
-        .help(ranges.orders.as_str())
-}
-
-fn limit_argument<'a>(alloc: Global, ranges: &'a Ranges) -> Arg<'a> {
-    Arg::new(alloc, "limit")
-        .long("limit")
-        .value_name("N")
-        .value_parser(value_parser!(u64).range(1..=MOST_ENTRIES as i64))
-        .default_value(ranges.default_limit.as_str())
-        .help(ranges.limit.as_str())
 }
 
 fn journal_flag<'a>(alloc: Global) -> Arg<'a> {
@@ -188,9 +181,9 @@ fn run_command<'a>(alloc: Global, ranges: &'a Ranges) -> Result<Command<'a>, All
         .about("Run a program and write what it publishes")
         .arg(file_argument(alloc))?
         .arg(script_argument(alloc))?
-        .arg(workers_argument(alloc, ranges))?
+        .arg(number_argument(alloc, "workers", &ranges.workers))?
         .arg(order_argument(alloc)?)?
-        .arg(limit_argument(alloc, ranges))?
+        .arg(number_argument(alloc, "limit", &ranges.limit))?
         .arg(journal_flag(alloc))?
         .arg(explain_flag(alloc, EXPLAIN_RUN))
 }
@@ -200,8 +193,8 @@ fn outcomes_command<'a>(alloc: Global, ranges: &'a Ranges) -> Result<Command<'a>
         .about("Run a program in many orders and write what came of them")
         .arg(file_argument(alloc))?
         .arg(script_argument(alloc))?
-        .arg(orders_argument(alloc, ranges))?
-        .arg(limit_argument(alloc, ranges))?
+        .arg(number_argument(alloc, "orders", &ranges.orders))?
+        .arg(number_argument(alloc, "limit", &ranges.limit))?
         .arg(explain_flag(alloc, EXPLAIN))
 }
 
