@@ -14,7 +14,7 @@ _orc() {
     local options=
     case ${COMP_WORDS[1]} in
     run) options='--script --workers --order --limit --journal --explain --help -h' ;;
-    outcomes) options='--script --orders --limit --explain --help -h' ;;
+    outcomes) options='--script --workers --orders --limit --explain --help -h' ;;
     check) options='--script --explain --help -h' ;;
     draw) options='--script --text --width --all --theme --explain --help -h' ;;
     print) options='--explain --help -h' ;;

@@ -9,7 +9,7 @@ complete -c orc -n '__fish_seen_subcommand_from help' -f -a 'run outcomes check 
 complete -c orc -s h -l help -d 'Write a help text'
 complete -c orc -n __fish_use_subcommand -s V -l version -d 'Write the version'
 complete -c orc -n '__fish_seen_subcommand_from run outcomes check draw' -l script -r -F -d 'The answers of the sites; - is standard input'
-complete -c orc -n '__fish_seen_subcommand_from run' -l workers -x -d 'The number of workers'
+complete -c orc -n '__fish_seen_subcommand_from run outcomes' -l workers -x -d 'The number of workers'
 complete -c orc -n '__fish_seen_subcommand_from run' -l order -x -d 'Another order, by its number'
 complete -c orc -n '__fish_seen_subcommand_from outcomes' -l orders -x -d 'In how many orders the program is run'
 complete -c orc -n '__fish_seen_subcommand_from run outcomes' -l limit -x -d 'The greatest number of entries'

@@ -6,6 +6,7 @@ use orc_load::load;
 use orc_outcome::{End, Played};
 use orc_rules::value::Value;
 use orc_site::Open;
+use orc_survey::{lines_of, survey};
 use std::alloc::Global;
 use std::sync::Wait;
 use std::test::Fail;
@@ -20,6 +21,10 @@ const SEARCH: &[u8] =
     b"def leaf(at) = Eq(at, 1365) >hit> Ift(hit) >> at | Eq(at, 2900) >hit> Ift(hit) >> at
 def search(n, at) = Lt(0, n) >b> (Iff(b) >> leaf(at) | Ift(b) >> Sub(n, 1) >m> Add(at, at) >l> (search(m, l) | Add(l, 1) >r> search(m, r)))
 first <first< search(12, 0)";
+
+// One of 64 leaves wins, after which the others go on.
+const RACE: &[u8] =
+    b"def tree(n, m) = Lt(0, n) >b> (Iff(b) >> m | Ift(b) >> Sub(n, 1) >k> Add(m, m) >l> (tree(k, l) | Add(l, 1) >r> tree(k, r)))\n(x <x< tree(6, 1)) | tree(6, 1) >> stop";
 
 // A run whose journal the check accepts.
 fn accepted<R: Threads + Wait + Sync>(
@@ -87,6 +92,49 @@ fn who_wins_a_search_does_not_depend_on_the_number_of_workers(rt: HostRuntime) -
     match search.published.as_slice() {
         [Value::Number(hit)] => assert!(rt; *hit == 1365 || *hit == 2900),
         _ => assert!(rt; false, "not one value"),
+    }
+    Ok(())
+}
+
+// The lines of a program's outcomes in 200 orders.
+fn outcomes<R: Threads + Sync>(
+    rt: &R,
+    alloc: Global,
+    source: &[u8],
+    workers: usize,
+) -> Option<Vec<u8>> {
+    let loaded = load(alloc, source, b"").ok()?;
+    let program = &loaded.program;
+    let seen = survey(
+        rt,
+        alloc,
+        program,
+        &loaded.answers,
+        workers,
+        200,
+        10_000_000,
+    )
+    .ok()?;
+    lines_of(alloc, 200, seen.as_slice()).ok()
+}
+
+#[test]
+fn the_outcomes_are_the_same_on_any_number_of_workers(rt: HostRuntime) -> Result<(), Fail> {
+    let alloc = rt.alloc();
+    let first = outcomes(&rt, alloc, RACE, 1).expect(&rt, "outcomes");
+    let mut lines: u32 = 0;
+    for byte in first.as_slice() {
+        if *byte == b'\n' {
+            lines = lines.saturating_add(1);
+        }
+    }
+    assert!(rt; lines > 10 && lines <= 64, "{lines} outcomes");
+    for workers in [2, 4, 16] {
+        let again = outcomes(&rt, alloc, RACE, workers).expect(&rt, "outcomes");
+        assert!(rt;
+            again.as_slice() == first.as_slice(),
+            "on {workers} workers"
+        );
     }
     Ok(())
 }

@@ -75,7 +75,15 @@ fn refuses_limits_out_of_range(rt: HostRuntime) -> Result<(), Fail> {
         if let Ok(loaded) = loaded {
             let played = run_alone(alloc, &loaded.program, &loaded.answers, None, false, limit);
             assert_eq!(rt; played.err(), Some(EngineFault::Range));
-            let seen = survey(alloc, &loaded.program, &loaded.answers, 3, limit);
+            let seen = survey(&rt, alloc, &loaded.program, &loaded.answers, 1, 3, limit);
+            assert_eq!(rt; seen.err(), Some(EngineFault::Range));
+        }
+    }
+    for workers in [0, 17] {
+        let loaded = load(alloc, b"1", b"");
+        assert!(rt; loaded.is_ok());
+        if let Ok(loaded) = loaded {
+            let seen = survey(&rt, alloc, &loaded.program, &loaded.answers, workers, 3, 10);
             assert_eq!(rt; seen.err(), Some(EngineFault::Range));
         }
     }

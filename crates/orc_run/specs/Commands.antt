@@ -42,7 +42,7 @@ HasPrinted holds file old new status = (source : List ℕ) × IsHeld (holds file
 -- a job was done, with this status
 abbrev pub IsDone : (List ℕ → Option (List ℕ)) → Job → Option (List ℕ) → Option (List ℕ) → ℕ → Type 0
 IsDone holds (job.Run file script options) old new status = HasRun holds file.now (option_map (λ p. p.now) script) options old new status
-IsDone holds (job.Outcomes file script orders limit) old new status = HasTold holds file.now (option_map (λ p. p.now) script) orders limit old new status
+IsDone holds (job.Outcomes file script options) old new status = HasTold holds file.now (option_map (λ p. p.now) script) options.orders options.limit old new status
 IsDone holds (job.Check file journal script) old new status = HasJudged holds file.now journal.now (option_map (λ p. p.now) script) old new status
 IsDone holds (job.Draw file journal script options) old new status = HasDrawn holds file.now journal.now (option_map (λ p. p.now) script) old new status
 IsDone holds (job.Print file) old new status = HasPrinted holds file.now old new status

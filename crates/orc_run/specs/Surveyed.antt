@@ -7,7 +7,7 @@ use Rattle.orc_rules.specs.Nodes.{Listing}
 use Rattle.orc_site.specs.Script.{Says}
 use Rattle.orc_load.specs.Loading.{IsProgramOf}
 use Rattle.orc_survey.specs.Lines.{lines}
-use Rattle.orc_survey.specs.Survey.{Surveys}
+use Rattle.orc_survey.specs.Survey.{IsSurvey}
 use Rattle.orc_survey.specs.declared.seen.Seen.{Seen}
 use Rattle.orc_run.specs.Output.{AppendsPrefix}
 use Rattle.orc_run.specs.declared.faults.RunFault.{RunFault}
@@ -15,7 +15,7 @@ use Rattle.orc_run.specs.declared.faults.RunFault.TheVariants as fault
 
 -- so many orders of the source's program, with the sites that the script says, came to these outcomes
 abbrev pub CameTo : List ℕ → List ℕ → ℕ → ℕ → List Seen → Type 0
-CameTo source script orders limit seen = (l : Listing) × (t : Table) × Says script t × IsProgramOf source t l × Surveys l t limit orders seen
+CameTo source script orders limit seen = (l : Listing) × (t : Table) × Says script t × IsProgramOf source t l × IsSurvey l t limit orders seen
 
 -- what was written are their lines
 abbrev pub HasSurveyed : List ℕ → List ℕ → ℕ → ℕ → Option (List ℕ) → Option (List ℕ) → Type 0

@@ -19,7 +19,7 @@ use crate::surveying::survey_text;
 use clap::error::ErrorKind;
 use orc_explain::Unread;
 use orc_page::Subject;
-use orc_words::{Asked, Job, Options, Ranges, read_words};
+use orc_words::{Asked, Job, Options, Ranges, SurveyOptions, read_words};
 use std::alloc::Global;
 use std::convert::AsStr;
 use std::io::Write;
@@ -117,27 +117,27 @@ fn run_file<'a, R: Threads + Wait + Sync, F: Files, W: Write>(
 
 // Runs the program of a file in many orders.
 #[tactic(auto, using(crate::proofs::Statuses::unread, crate::proofs::Statuses::unsurveyed))]
-fn survey_file<'a, F: Files, W: Write>(
+fn survey_file<'a, R: Threads + Sync, F: Files, W: Write>(
+    rt: &R,
     alloc: Global,
     file: &'a str,
     script: Option<&'a str>,
-    orders: u64,
-    limit: u64,
+    options: &SurveyOptions,
     files: &mut F,
     out: &mut W,
     explained: &mut Explained,
 ) -> Result<u8, Failure<'a>>
-    ensures done { IfOk result (HasTold (F.holds files.old) file.now (option_map (λ p. p.now) script.entry) orders limit (W.contents out.old) (W.contents out.new)) }
+    ensures done { IfOk result (HasTold (F.holds files.old) file.now (option_map (λ p. p.now) script.entry) options.now.orders options.now.limit (W.contents out.old) (W.contents out.new)) }
     ensures undone { IfErr result (λ f. LeavesUndone f (W.contents out.old) (W.contents out.new)) }
 {
     let source = read(file, files)?;
     let answers = read_script(alloc, script, files)?;
     match survey_text(
+        rt,
         alloc,
         source.as_slice(),
         answers.as_slice(),
-        orders,
-        limit,
+        options,
         out,
     ) {
         Ok(()) => Ok(0),
@@ -301,9 +301,8 @@ fn do_job<'a, R: Threads + Wait + Sync, F: Files, W: Write>(
         Job::Outcomes {
             file,
             script,
-            orders,
-            limit,
-        } => survey_file(alloc, file, script, orders, limit, files, out, explained),
+            options,
+        } => survey_file(rt, alloc, file, script, &options, files, out, explained),
         Job::Check {
             file,
             journal,

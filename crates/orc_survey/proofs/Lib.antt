@@ -1,2 +1,5 @@
 pub mod Counting
+pub mod Lent
+pub mod Places
+pub mod Raised
 pub mod Texts

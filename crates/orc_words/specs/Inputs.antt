@@ -16,7 +16,7 @@ two_of a b c = (a && b) || ((a || b) && c)
 -- more than one file of the job is standard input
 abbrev pub shares : Job → Bool
 shares (job.Run file script options) = names_input file.now && may_name_input (option_map (λ p. p.now) script)
-shares (job.Outcomes file script orders limit) = names_input file.now && may_name_input (option_map (λ p. p.now) script)
+shares (job.Outcomes file script options) = names_input file.now && may_name_input (option_map (λ p. p.now) script)
 shares (job.Check file journal script) = two_of (names_input file.now) (names_input journal.now) (may_name_input (option_map (λ p. p.now) script))
 shares (job.Draw file journal script options) = two_of (names_input file.now) (names_input journal.now) (may_name_input (option_map (λ p. p.now) script))
 shares (job.Print file) = false

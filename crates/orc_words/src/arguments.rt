@@ -3,7 +3,7 @@
 ghost use Rattle.std.specs.Prelude.{◌≡◌, IfOk, false};
 ghost use Rattle.orc_words.specs.Inputs.{shares};
 
-use crate::job::{Asked, Job, Options};
+use crate::job::{Asked, Job, Options, SurveyOptions};
 use clap::error::ErrorKind;
 use clap::{Arg, ArgAction, ArgMatches, Command, Error, value_parser};
 use orc_draw::{Form, Theme};
@@ -193,6 +193,7 @@ fn outcomes_command<'a>(alloc: Global, ranges: &'a Ranges) -> Result<Command<'a>
         .about("Run a program in many orders and write what came of them")
         .arg(file_argument(alloc))?
         .arg(script_argument(alloc))?
+        .arg(number_argument(alloc, "workers", &ranges.workers))?
         .arg(number_argument(alloc, "orders", &ranges.orders))?
         .arg(number_argument(alloc, "limit", &ranges.limit))?
         .arg(explain_flag(alloc, EXPLAIN))
@@ -256,6 +257,14 @@ fn options_of(given: &ArgMatches) -> Option<Options> {
     })
 }
 
+fn survey_options_of(given: &ArgMatches) -> Option<SurveyOptions> {
+    Some(SurveyOptions {
+        workers: given.get_one::<u64>("workers")?,
+        orders: given.get_one::<u64>("orders")?,
+        limit: given.get_one::<u64>("limit")?,
+    })
+}
+
 fn form_of(given: &ArgMatches) -> Option<Form> {
     if given.get_flag("text") {
         return Some(Form::Text(given.get_one::<u64>("width")?));
@@ -280,8 +289,7 @@ fn job_of<'a>(name: &str, given: &ArgMatches<'a>) -> Option<Job<'a>> {
         "outcomes" => Some(Job::Outcomes {
             file,
             script: given.get_str("script"),
-            orders: given.get_one::<u64>("orders")?,
-            limit: given.get_one::<u64>("limit")?,
+            options: survey_options_of(given)?,
         }),
         "check" => Some(Job::Check {
             file,

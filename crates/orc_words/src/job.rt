@@ -24,10 +24,7 @@ pub enum Job<'a> {
     Outcomes {
         file: &'a str,
         script: Option<&'a str>,
-        /// In how many orders the program is run.
-        orders: u64,
-        /// The most entries that a run's journal may have, cancels not counted.
-        limit: u64,
+        options: SurveyOptions,
     },
     Check {
         file: &'a str,
@@ -89,6 +86,17 @@ impl Job<'_> {
             Job::Print { .. } => false,
         }
     }
+}
+
+/// How a program is run in many orders.
+#[derive(Clone, Copy, Debug, PartialEq, Eq)]
+pub struct SurveyOptions {
+    /// How many workers make these runs, each one at a time, 1 to `MOST_WORKERS`.
+    pub workers: u64,
+    /// How many orders there are.
+    pub orders: u64,
+    /// The most entries that a run's journal may have, cancels not counted.
+    pub limit: u64,
 }
 
 /// How a program is run.
