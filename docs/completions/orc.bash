@@ -13,7 +13,7 @@ _orc() {
     esac
     local options=
     case ${COMP_WORDS[1]} in
-    run) options='--script --workers --order --limit --journal --explain --help -h' ;;
+    run) options='--script --workers --order --limit --times --journal --explain --help -h' ;;
     outcomes) options='--script --workers --orders --limit --explain --help -h' ;;
     check) options='--script --explain --help -h' ;;
     draw) options='--script --text --width --all --theme --explain --help -h' ;;

@@ -1,5 +1,5 @@
 -- What is said of the journal that a run wrote.
-use Rattle.std.proofs.Common.{◌≡◌, ◌≢◌, ◌<◌, ◌⊎◌, inl, inr, ℕ, suc, Bool, true, List, [], ◌∷◌, ◌++◌, length, drop, get_or, refl, sym, ap, subst, ◌∙◌, arith, Ok, Err, Option, Some}
+use Rattle.std.proofs.Common.{◌≡◌, ◌≢◌, ◌<◌, ◌⊎◌, inl, inr, ℕ, suc, true, List, [], ◌∷◌, ◌++◌, length, drop, get_or, refl, sym, ap, subst, ◌∙◌, arith, Ok, Err, Option, Some}
 use Rattle.std.proofs.lemmas.List.{append-nil}
 use Rattle.std.specs.Io.KnownBytes.{Appends}
 use Rattle.orc_rules.specs.declared.entry.Entry.{Entry}
@@ -48,6 +48,8 @@ use Rattle.orc_outcome.specs.declared.end.End.{End}
 use Rattle.orc_outcome.specs.declared.end.End.TheVariants as ends
 use Rattle.orc_outcome.specs.declared.end.Summary.{Summary}
 use Rattle.orc_words.specs.declared.job.Options.{Options}
+use Rattle.orc_words.specs.declared.job.Wanted.{Wanted}
+use Rattle.orc_words.specs.declared.job.Wanted.TheVariants as wanted
 
 -- ---- a source and a script are read in one way
 
@@ -79,7 +81,7 @@ run_of l m t limit o d s r =
 
 -- the run, told by what the checker read of source and script
 pub told_of : (text script journal : List ℕ) (s : Summary) (m : Listing) (u : Table) → IsOfRun text script journal s → Says script u → IsProgramOf text u m
-    → (options : Options) × (options.journal ≡ true) × IsTold m u options s journal
+    → (options : Options) × (options.wanted ≡ wanted.Journal) × IsTold m u options s journal
 told_of text script journal s m u of says (r, spells, checks) =
     let (options, kept, run) = of in
     let (l, t, said, (z, spelt, checked), told) = run in
@@ -89,8 +91,8 @@ told_of text script journal s m u of says (r, spells, checks) =
     (options, kept, record { outcome = there.outcome; is_run = run_of l m u options.limit there.outcome same.0 same.1 there.is_run; tells = there.tells; shows = there.shows; fits = there.fits })
 
 -- it is the text of the run's entries
-lines_of : (names : List (List ℕ)) (keeps : Bool) (text : List ℕ) (es : List Entry) → keeps ≡ true → text ≡ written keeps names es → text ≡ header Two ++ entry_lines names es
-lines_of names keeps text es kept shows = shows ∙ ap (λ (b : Bool). written b names es) kept
+lines_of : (names : List (List ℕ)) (w : Wanted) (text : List ℕ) (es : List Entry) → w ≡ wanted.Journal → text ≡ written w names es → text ≡ header Two ++ entry_lines names es
+lines_of names w text es kept shows = shows ∙ ap (λ (v : Wanted). written v names es) kept
 
 headers_differ : (a b : List ℕ) → header One ++ a ≡ header Two ++ b → ⊥
 headers_differ a b e = omega (arith, ap (λ (z : List ℕ). get_or z 12 0) e)
@@ -152,11 +154,11 @@ module _ (x : Context) (q : Place) (paid : q.to_cancel ≡ []) where
 -- ---- what is said of it
 
 -- a fault of its text
-pub text_beyond : (options : Options) (s : Summary) (text : List ℕ) (m : Listing) (u : Table) → AreNames u.names → options.journal ≡ true → IsTold m u options s text → (f : JournalFault) → IsBadText u.names text f → (f ≡ journal.Long) ⊎ (f ≡ journal.Memory)
-text_beyond options s text m u are kept told = read_whole u.names are text told.outcome.journal (lines_of u.names options.journal text told.outcome.journal kept told.shows) (told.fits kept)
+pub text_beyond : (options : Options) (s : Summary) (text : List ℕ) (m : Listing) (u : Table) → AreNames u.names → options.wanted ≡ wanted.Journal → IsTold m u options s text → (f : JournalFault) → IsBadText u.names text f → (f ≡ journal.Long) ⊎ (f ≡ journal.Memory)
+text_beyond options s text m u are kept told = read_whole u.names are text told.outcome.journal (lines_of u.names options.wanted text told.outcome.journal kept told.shows) (told.fits kept)
 
 -- a fault of its entries
-pub check_beyond : (options : Options) (s : Summary) (text : List ℕ) (m : Listing) (u : Table) → AreNames u.names → options.journal ≡ true → IsTold m u options s text → (j : Written) → IsJournal u.names text j
+pub check_beyond : (options : Options) (s : Summary) (text : List ℕ) (m : Listing) (u : Table) → AreNames u.names → options.wanted ≡ wanted.Journal → IsTold m u options s text → (j : Written) → IsJournal u.names text j
     → (n : ℕ) (why : RuleFault) → (why ≢ reason.Memory → Faults (context_of m u (records_cancels j.version)) (source m) j.entries n why) → (why ≡ reason.Deep) ⊎ (why ≡ reason.Memory)
 check_beyond options s text m u are kept told j is n why faults = go why (λ firm. deep why firm (faults firm)) where
   es : List Entry
@@ -164,7 +166,7 @@ check_beyond options s text m u are kept told j is n why faults = go why (λ fir
 
   deep : (w : RuleFault) → w ≢ reason.Memory → Faults (context_of m u (records_cancels j.version)) (source m) j.entries n w → w ≡ reason.Deep
   deep w firm h =
-      let same = same_entries u.names are text es (lines_of u.names options.journal text es kept told.shows) (told.fits kept) j is in
+      let same = same_entries u.names are text es (lines_of u.names options.wanted text es kept told.shows) (told.fits kept) j is in
       only_deep (context m u) told.is_run.place told.is_run.paid (begin (source m)) 1 es n w (begin_numbered (source m)) told.is_run.leads firm
       (subst (λ (k : Written). Faults (context_of m u (records_cancels k.version)) (source m) k.entries n w) (sym same) h)
 
@@ -180,12 +182,12 @@ check_beyond options s text m u are kept told j is n why faults = go why (λ fir
   go reason.Deep h = inl refl
 
 -- the verdict on it
-pub verdict_so : (options : Options) (s : Summary) (text : List ℕ) (m : Listing) (u : Table) → AreNames u.names → options.journal ≡ true → IsTold m u options s text → (j : Written) → IsJournal u.names text j
+pub verdict_so : (options : Options) (s : Summary) (text : List ℕ) (m : Listing) (u : Table) → AreNames u.names → options.wanted ≡ wanted.Journal → IsTold m u options s text → (j : Written) → IsJournal u.names text j
     → (stands : State) (now : ℕ) → IsVerdict (context_of m u (records_cancels j.version)) (source m) j.entries stands now → StandsSo s.end stands × (length j.entries ≡ s.entries)
 verdict_so options s text m u are kept told j is stands now verdict =
     let run = told.is_run in
     let es = told.outcome.journal in
-    let same = same_entries u.names are text es (lines_of u.names options.journal text es kept told.shows) (told.fits kept) j is in
+    let same = same_entries u.names are text es (lines_of u.names options.wanted text es kept told.shows) (told.fits kept) j is in
     let ours : IsVerdict (context m u) (source m) es stands now = subst (λ (k : Written). IsVerdict (context_of m u (records_cancels k.version)) (source m) k.entries stands now) (sym same) verdict in
     let there = taken_to (context m u) run.place run.paid (begin (source m)) ours.end es (begin_numbered (source m)) run.leads ours.taken in
     let so = stands_at (context m u) run.place run.paid told.outcome.end options.limit es stands run.ends (subst (λ (w : Place). IsAt (context m u) w stands) there ours.reached) in

@@ -3,4 +3,5 @@ pub mod KnownFiles
 pub mod LoadFaults
 pub mod Outputs
 pub mod Statuses
+pub mod Timing
 pub mod Told

@@ -1,5 +1,5 @@
 -- What the check of a journal's text does.
-use Rattle.std.specs.Prelude.{◌≡◌, ◌≢◌, ◌⊎◌, ℕ, List, ◌++◌, length, codes, decimal, true, ⊤}
+use Rattle.std.specs.Prelude.{◌≡◌, ◌≢◌, ◌⊎◌, ℕ, List, ◌++◌, length, codes, decimal, ⊤}
 use Rattle.std.specs.declared.option.Option.{Option}
 use Rattle.std.specs.Io.KnownBytes.{Keeps, Appends}
 use Rattle.orc_rules.specs.declared.entry.RuleFault.TheVariants as reason
@@ -25,6 +25,7 @@ use Rattle.orc_outcome.specs.declared.end.End.{End}
 use Rattle.orc_outcome.specs.declared.end.End.TheVariants as ends
 use Rattle.orc_outcome.specs.declared.end.Summary.{Summary}
 use Rattle.orc_words.specs.declared.job.Options.{Options}
+use Rattle.orc_words.specs.declared.job.Wanted.TheVariants as wanted
 use Rattle.orc_run.specs.declared.faults.RunFault.{RunFault}
 use Rattle.orc_run.specs.declared.judging.Unchecked.{Unchecked}
 use Rattle.orc_run.specs.declared.judging.Unchecked.TheVariants as unchecked
@@ -86,7 +87,7 @@ LeavesUnchecked text script journal old new unchecked.Unread = Keeps old new
 
 -- a text that a run of the source with the script wrote as its journal, of which the summary tells
 abbrev pub IsOfRun : List ℕ → List ℕ → List ℕ → Summary → Type 0
-IsOfRun text script journal s = (options : Options) × (options.journal ≡ true) × Runs text script options s journal
+IsOfRun text script journal s = (options : Options) × (options.wanted ≡ wanted.Journal) × Runs text script options s journal
 
 -- how a run that ended so stands
 abbrev pub StandsSo : End → State → Type 0

@@ -9,3 +9,4 @@ pub mod Printed
 pub mod Running
 pub mod Status
 pub mod Surveyed
+pub mod Times

@@ -1,5 +1,5 @@
 -- What the run of a source does.
-use Rattle.std.specs.Prelude.{◌≡◌, ℕ, List, Bool, true, false}
+use Rattle.std.specs.Prelude.{◌≡◌, ℕ, List, true}
 use Rattle.std.specs.declared.option.Option.{Option}
 use Rattle.std.specs.Io.KnownBytes.{Keeps, Appends}
 use Rattle.orc_rules.specs.Sites.{Table}
@@ -18,27 +18,32 @@ use Rattle.orc_outcome.specs.Outcome.{Outcome, IsRun, Tells, text_of}
 use Rattle.orc_outcome.specs.declared.end.Summary.{Summary}
 use Rattle.orc_desk.specs.Faults.{IsOwn}
 use Rattle.orc_run.specs.Output.{AppendsPrefix}
+use Rattle.orc_run.specs.Times.{IsTextOf, timed}
+use Rattle.orc_words.specs.Wanted.{keeps_journal}
 use Rattle.orc_words.specs.declared.job.Options.{Options}
+use Rattle.orc_words.specs.declared.job.Wanted.{Wanted}
+use Rattle.orc_words.specs.declared.job.Wanted.TheVariants as wanted
 use Rattle.orc_run.specs.declared.faults.RunFault.{RunFault}
 use Rattle.orc_run.specs.declared.faults.RunFault.TheVariants as fault
 
--- what is written of a journal: its text where that is wanted, else a line for each value that it publishes
-abbrev pub written : Bool → List (List ℕ) → List Entry → List ℕ
-written true names es = text_of names es
-written false names es = output (published es)
+-- what is written of a journal: a line for each value that it publishes, with its time where that is wanted, or its text
+abbrev pub written : Wanted → List (List ℕ) → List Entry → List ℕ
+written wanted.Values names es = output (published es)
+written wanted.Times names es = timed 0 es
+written wanted.Journal names es = text_of names es
 
--- the same of what an engine answers, the values and the text of the journal
-abbrev pub kept : Bool → List Value → List ℕ → List ℕ
-kept true values text = text
-kept false values text = output values
+-- the values and the text that an engine answers are those of this journal, whose text is kept where that is wanted
+pub record Shows (w : Wanted) (names : List (List ℕ)) (values : List Value) (text : List ℕ) (es : List Entry) : Type 0 where
+  pub shows : values ≡ published es
+  pub keeps : keeps_journal w ≡ true → IsTextOf names text es
 
 -- a run of the program with these sites, of which the summary tells and the text shows what is wanted; each entry of a journal that is written has a line
 pub record IsTold (l : Listing) (t : Table) (options : Options) (s : Summary) (text : List ℕ) : Type 0 where
   pub outcome : Outcome
   pub is_run : IsRun l t options.limit outcome
   pub tells : Tells s outcome
-  pub shows : text ≡ written options.journal t.names outcome.journal
-  pub fits : options.journal ≡ true → AreOf t.names Two outcome.journal
+  pub shows : text ≡ written options.wanted t.names outcome.journal
+  pub fits : options.wanted ≡ wanted.Journal → AreOf t.names Two outcome.journal
 
 -- the source's program runs so with the sites that the script says
 abbrev pub Runs : List ℕ → List ℕ → Options → Summary → List ℕ → Type 0

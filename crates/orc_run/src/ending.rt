@@ -5,7 +5,7 @@ use orc_ends::{Ended, explain_end, explain_refusal};
 use orc_load::load;
 use orc_outcome::{End, Summary};
 use orc_page::Subject;
-use orc_words::Options;
+use orc_words::{Options, Wanted};
 use std::alloc::{AllocError, Global};
 use std::sync::Wait;
 use std::thread::Threads;
@@ -31,7 +31,7 @@ pub fn explain_run<R: Threads + Wait + Sync>(
         return Err(AllocError);
     };
     let mut kept = *options;
-    kept.journal = true;
+    kept.wanted = Wanted::Journal;
     let Ok(played) = play(rt, alloc, &loaded, &kept) else {
         return Err(AllocError);
     };

@@ -14,6 +14,7 @@ mod printing;
 mod publications;
 mod running;
 mod surveying;
+mod times;
 
 pub use commands::command;
 pub use drawing::{Undrawn, draw_text};
@@ -24,7 +25,7 @@ pub use inputs::{Files, ReadFault};
 pub use judging::{Unchecked, check_read, check_text};
 pub use orc_explain::Unread;
 pub use orc_outcome::{End, Summary};
-pub use orc_words::{Options, STANDARD_INPUT, SurveyOptions};
+pub use orc_words::{Options, STANDARD_INPUT, SurveyOptions, Wanted};
 pub use output::{WriteFault, write_text};
 pub use printing::print_text;
 pub use running::run_text;

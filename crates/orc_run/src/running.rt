@@ -2,6 +2,7 @@
 
 ghost use Rattle.std.specs.Prelude.{◌≡◌, ◌↔◌, ℕ, List, length, Err, IfOk, IfErr, OnOk, OnErr};
 ghost use Rattle.std.specs.Io.KnownBytes.{Appends};
+ghost use Rattle.orc_rules.specs.declared.entry.Entry.{Entry};
 ghost use Rattle.orc_rules.specs.Named.{HasNames};
 ghost use Rattle.orc_rules.specs.Nodes.{definitions, source};
 ghost use Rattle.orc_rules.specs.Program.{IsProgram};
@@ -9,17 +10,20 @@ ghost use Rattle.orc_outcome.specs.Outcome.{IsPlayed};
 ghost use Rattle.orc_desk.specs.Faults.{IsOwn};
 ghost use Rattle.orc_engine.specs.Ranges.{IsInRange};
 ghost use Rattle.orc_run.specs.Output.{AppendsPrefix};
-ghost use Rattle.orc_run.specs.Running.{Ran, LeavesAtFault, IsFaultOf, IsOther, IsOwnOf, kept};
+ghost use Rattle.orc_run.specs.Running.{Ran, LeavesAtFault, IsFaultOf, IsOther, IsOwnOf, Shows, written};
+ghost use Rattle.orc_words.specs.Wanted.{keeps_journal};
 
 use crate::faults::RunFault;
 use crate::output::{WriteFault, write_text};
 use crate::publications::write_values;
+use crate::times::write_times;
 // The engine. Another one with the same contract takes its place here.
 use orc_engine::{EngineFault, run_alone, run_pool};
 use orc_load::{Loaded, load};
 use orc_outcome::{Played, Summary};
+use orc_rules::answers::Answers;
 use orc_site::{Open, Scripted};
-use orc_words::Options;
+use orc_words::{Options, Wanted};
 use std::alloc::Global;
 use std::io::Write;
 use std::sync::Wait;
@@ -32,7 +36,7 @@ pub fn play<R: Threads + Wait + Sync>(
     loaded: &Loaded,
     options: &Options,
 ) -> Result<Played, EngineFault>
-    ensures ran { IfOk result (λ p. IsPlayed loaded.now.program loaded.now.answers options.now.journal options.now.limit p.summary p.published.items p.text.items) }
+    ensures ran { IfOk result (λ p. IsPlayed loaded.now.program loaded.now.answers (keeps_journal options.now.wanted) options.now.limit p.summary p.published.items p.text.items) }
     ensures range { result ≡ Err EngineFault.Range ↔ (IsInRange options.now.workers options.now.limit → ⊥) }
     ensures sound { IfErr result (λ fault. IsOwn fault → IsProgram (definitions loaded.now.program) (source loaded.now.program) → HasNames loaded.now.program loaded.now.answers → ⊥) }
 {
@@ -42,7 +46,7 @@ pub fn play<R: Threads + Wait + Sync>(
             &loaded.program,
             &loaded.answers,
             options.order,
-            options.journal,
+            options.wanted.keeps_journal(),
             options.limit,
         );
     }
@@ -54,7 +58,7 @@ pub fn play<R: Threads + Wait + Sync>(
         &Scripted::new(&loaded.answers),
         &Open,
         options.workers as usize,
-        options.journal,
+        options.wanted.keeps_journal(),
         options.limit,
     )
 }
@@ -65,7 +69,7 @@ fn run_program<R: Threads + Wait + Sync>(
     loaded: &Loaded,
     options: &Options,
 ) -> Result<Played, RunFault>
-    ensures ran { IfOk result (λ p. IsPlayed loaded.now.program loaded.now.answers options.now.journal options.now.limit p.summary p.published.items p.text.items) }
+    ensures ran { IfOk result (λ p. IsPlayed loaded.now.program loaded.now.answers (keeps_journal options.now.wanted) options.now.limit p.summary p.published.items p.text.items) }
     ensures fault { IfErr result IsOther }
     ensures range { IfErr result (λ f. f ≡ RunFault.Engine EngineFault.Range → IsInRange options.now.workers options.now.limit → ⊥) }
     ensures sound { IfErr result (λ f. IsOwnOf f → IsProgram (definitions loaded.now.program) (source loaded.now.program) → HasNames loaded.now.program loaded.now.answers → ⊥) }
@@ -73,25 +77,26 @@ fn run_program<R: Threads + Wait + Sync>(
     play(rt, alloc, loaded, options).map_err(RunFault::Engine)
 }
 
-// Writes what a run leaves: the journal's text, or a line for each publication.
+// Writes what is wanted of a run.
 fn write_run<W: Write>(
     alloc: Global,
+    answers: &Answers,
     played: &Played,
-    journal: bool,
+    wanted: Wanted,
     out: &mut W,
 ) -> Result<(), WriteFault>
-    ensures ok { OnOk result (Appends (W.contents out.old) (W.contents out.new) (kept journal played.now.published.items played.now.text.items)) }
-    ensures err { OnErr result (AppendsPrefix (W.contents out.old) (W.contents out.new) (kept journal played.now.published.items played.now.text.items)) }
+    ensures ok { OnOk result ((es : List Entry) → Shows wanted answers.now.names played.now.published.items played.now.text.items es → Appends (W.contents out.old) (W.contents out.new) (written wanted answers.now.names es)) }
+    ensures err { OnErr result ((es : List Entry) → Shows wanted answers.now.names played.now.published.items played.now.text.items es → AppendsPrefix (W.contents out.old) (W.contents out.new) (written wanted answers.now.names es)) }
 {
-    if journal {
-        write_text(out, played.text.as_slice())
-    } else {
-        write_values(alloc, played.published.as_slice(), out)
+    match wanted {
+        Wanted::Values => write_values(alloc, played.published.as_slice(), out),
+        Wanted::Times => write_times(alloc, answers, played.text.as_slice(), out),
+        Wanted::Journal => write_text(out, played.text.as_slice()),
     }
 }
 
-/// Runs the program that a source spells, with the built-in sites and those of a script, and writes what it published, a line
-/// each, or its journal, once the run has ended, whichever way it ends.
+/// Runs the program that a source spells, with the built-in sites and those of a script, and writes what is wanted of the run once it has ended,
+/// whichever way it ends: what it published, a line each, with the time of each or without it, or its journal.
 ///
 /// A fault is answered where the source's text, the script or the source's names are at fault, in this order; then
 /// `Engine` where the engine brings the run to no end (the limit is out of range, or memory is refused before the run begins or for what is
@@ -113,7 +118,7 @@ pub fn run_text<R: Threads + Wait + Sync, W: Write>(
 {
     let loaded = load(alloc, source, script)?;
     let played = run_program(rt, alloc, &loaded, options)?;
-    match write_run(alloc, &played, options.journal, out) {
+    match write_run(alloc, &loaded.answers, &played, options.wanted, out) {
         Ok(()) => Ok(played.summary),
         Err(fault) => Err(RunFault::Write(fault)),
     }

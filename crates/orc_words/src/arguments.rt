@@ -3,7 +3,7 @@
 ghost use Rattle.std.specs.Prelude.{◌≡◌, IfOk, false};
 ghost use Rattle.orc_words.specs.Inputs.{shares};
 
-use crate::job::{Asked, Job, Options, SurveyOptions};
+use crate::job::{Asked, Job, Options, SurveyOptions, Wanted};
 use clap::error::ErrorKind;
 use clap::{Arg, ArgAction, ArgMatches, Command, Error, value_parser};
 use orc_draw::{Form, Theme};
@@ -114,6 +114,14 @@ fn order_argument<'a>(alloc: Global) -> Result<Arg<'a>, AllocError> {
         .conflicts_with("workers")
 }
 
+fn times_flag<'a>(alloc: Global) -> Result<Arg<'a>, AllocError> {
+    Arg::new(alloc, "times")
+        .long("times")
+        .action(ArgAction::SetTrue)
+        .help("Write the time of each value behind it")
+        .conflicts_with("journal")
+}
+
 fn journal_flag<'a>(alloc: Global) -> Arg<'a> {
     Arg::new(alloc, "journal")
         .long("journal")
@@ -184,6 +192,7 @@ fn run_command<'a>(alloc: Global, ranges: &'a Ranges) -> Result<Command<'a>, All
         .arg(number_argument(alloc, "workers", &ranges.workers))?
         .arg(order_argument(alloc)?)?
         .arg(number_argument(alloc, "limit", &ranges.limit))?
+        .arg(times_flag(alloc)?)?
         .arg(journal_flag(alloc))?
         .arg(explain_flag(alloc, EXPLAIN_RUN))
 }
@@ -242,6 +251,16 @@ fn orc_command<'a>(alloc: Global, ranges: &'a Ranges) -> Result<Command<'a>, All
         .subcommand(print_command(alloc)?)
 }
 
+fn wanted_of(given: &ArgMatches) -> Wanted {
+    if given.get_flag("journal") {
+        Wanted::Journal
+    } else if given.get_flag("times") {
+        Wanted::Times
+    } else {
+        Wanted::Values
+    }
+}
+
 // How a program is run. An order is one worker's.
 fn options_of(given: &ArgMatches) -> Option<Options> {
     let order = given.get_one::<u64>("order");
@@ -253,7 +272,7 @@ fn options_of(given: &ArgMatches) -> Option<Options> {
         workers,
         order,
         limit: given.get_one::<u64>("limit")?,
-        journal: given.get_flag("journal"),
+        wanted: wanted_of(given),
     })
 }
 

@@ -2,6 +2,7 @@
 
 ghost use Rattle.std.specs.Prelude.{◌≡◌, option_map};
 ghost use Rattle.orc_words.specs.Inputs.{names_input, may_name_input, two_of, shares};
+ghost use Rattle.orc_words.specs.Wanted.{keeps_journal};
 
 /// What stands for standard input where a file is named. A file of this name is `./-`.
 pub const STANDARD_INPUT: &str = "-";
@@ -108,6 +109,29 @@ pub struct Options {
     pub order: Option<u64>,
     /// The most entries that the run's journal may have, cancels not counted.
     pub limit: u64,
-    /// Whether the journal is written, in place of what was published.
-    pub journal: bool,
+    /// What is written of it.
+    pub wanted: Wanted,
+}
+
+/// What is written of a run.
+#[derive(Clone, Copy, Debug, PartialEq, Eq)]
+pub enum Wanted {
+    /// A line for each value that it published.
+    Values,
+    /// The same, each with the time at which it came.
+    Times,
+    /// Its journal.
+    Journal,
+}
+
+impl Wanted {
+    /// Whether the run's journal is kept for it.
+    pub fn keeps_journal(self) -> bool
+        ensures { result ≡ keeps_journal self }
+    {
+        match self {
+            Wanted::Values => false,
+            Wanted::Times | Wanted::Journal => true,
+        }
+    }
 }
