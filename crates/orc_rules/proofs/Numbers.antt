@@ -1,51 +1,34 @@
 -- The map from the names of the sites to their numbers.
-use Rattle.std.proofs.Common.{◌≡◌, ℕ, suc, ◌<◌, Bool, true, false, cond, List, [], ◌∷◌, ◌++◌, Option, Some, None, length, refl, sym, ap, ◌∙◌, arith}
+use Rattle.std.proofs.Common.{◌≡◌, ℕ, suc, ◌<◌, Bool, true, false, cond, List, [], ◌∷◌, ◌++◌, Option, Some, None, length, refl, sym, ap, subst, ◌∙◌, arith}
 use Rattle.std.specs.Prelude.{option_map, bytes_eq}
 use Rattle.std.specs.Global.{Vec}
-use Rattle.std.specs.Map.{lookup}
-use Rattle.std.specs.BTreeMap.{insert_entry}
-use Rattle.std.specs.declared.cmp.Ordering.{Ordering}
-use Rattle.std.specs.declared.cmp.Ordering.TheVariants.{Less, Equal, Greater}
-use Rattle.std.specs.Ordering.{is_eq, nat_cmp}
-use Rattle.std.specs.Cmp.Lexicographic.{slice_cmp, bytes_decides, nat_list_eq_equiv}
-use Rattle.std.proofs.lemmas.Map.Lookups.{exact_bytes}
-use Rattle.std.proofs.lemmas.Map.Text.{is_eq-slice_cmp}
+use Rattle.std.specs.Map.{lookup, KeepsOthers}
+use Rattle.std.specs.HashMap.{HashMap, UpdatesBy}
+use Rattle.std.specs.Cmp.Lexicographic.{bytes_decides}
+use Rattle.std.proofs.lemmas.Cmp.{nat_list_eq_equiv}
 use Rattle.orc_rules.specs.Sites.{site_named}
 use Rattle.orc_rules.specs.Tables.{AreNumbers}
 use Rattle.orc_rules.proofs.Adding.{new_name, some_apart, same_some}
 
-abbrev pub order : Vec ℕ → Vec ℕ → Ordering
-order k l = slice_cmp nat_cmp k.items l.items
+-- two names as the map compares them
+abbrev same_names : Vec ℕ → Vec ℕ → Bool
+same_names k l = bytes_eq k.items l.items
 
 abbrev number_of : List ℕ → List (Vec ℕ × ℕ) → Option ℕ
 number_of q es = lookup (λ k. bytes_eq q k.items) es
 
--- what stands at a name
-pub number_found : (q : List ℕ) (es : List (Vec ℕ × ℕ)) → lookup (λ k. is_eq (slice_cmp nat_cmp q k.items)) es ≡ number_of q es
-number_found q es = λ i. lookup (λ k. is_eq-slice_cmp q (k.items) i) es
+-- at another name the same stands after a change at k
+other_numbers : (k : List ℕ) (es fs : List (Vec ℕ × ℕ)) → KeepsOthers same_names (λ x. bytes_eq k x.items) es fs → (q : List ℕ) → bytes_eq q k ≡ false → number_of q fs ≡ number_of q es
+unfolding KeepsOthers
+other_numbers k es fs keeps q e = keeps (λ x. bytes_eq q x.items) (λ x y. nat_list_eq_equiv.congr q x.items y.items) (λ x h. subst (λ z. bytes_eq q z ≡ false) ((bytes_decides k x.items).0 h) e)
 
-number_put : (q : List ℕ) (es : List (Vec ℕ × ℕ)) (k : Vec ℕ) (v : ℕ) → number_of q (insert_entry order es k v) ≡ cond (bytes_eq q k.items) (Some v) (number_of q es)
-number_put q [] k v = refl
-number_put q (e ∷ es) k v = go (number_put q es k v) (order k e.0) refl
+-- after a change at k v stands there
+number_put : {S : Type 0} (k : List ℕ) (v : ℕ) (m n : HashMap (Vec ℕ) ℕ S) → UpdatesBy same_names (λ x. bytes_eq k x.items) m n (Some v) → (q : List ℕ) → number_of q n.entries ≡ cond (bytes_eq q k) (Some v) (number_of q m.entries)
+number_put k v m n updates q = go (bytes_eq q k) refl
   where
-    go : number_of q (insert_entry order es k v) ≡ cond (bytes_eq q k.items) (Some v) (number_of q es) → (o : Ordering) → order k e.0 ≡ o → number_of q (insert_entry order (e ∷ es) k v) ≡ cond (bytes_eq q k.items) (Some v) (number_of q (e ∷ es))
-    go before Less is = rw is refl
-    go before Equal is = rw is (rw (exact_bytes k.items (e.0.items) is) (same (bytes_eq q (e.0.items))))
-      where
-        same : (b : Bool) → cond b (Some v) (number_of q es) ≡ cond b (Some v) (cond b (Some e.1) (number_of q es))
-        same true = refl
-        same false = refl
-    go before Greater is = rw is (apart (bytes_eq q (e.0.items)) refl)
-      where
-        apart : (b : Bool) → bytes_eq q (e.0.items) ≡ b → cond (bytes_eq q (e.0.items)) (Some e.1) (number_of q (insert_entry order es k v)) ≡ cond (bytes_eq q k.items) (Some v) (cond (bytes_eq q (e.0.items)) (Some e.1) (number_of q es))
-        apart false h = rw h before
-        apart true h = rw h (other (bytes_eq q k.items) refl)
-          where
-            other : (c : Bool) → bytes_eq q k.items ≡ c → Some e.1 ≡ cond (bytes_eq q k.items) (Some v) (Some e.1)
-            other false i = rw i refl
-            other true i =
-                let same = sym ((bytes_decides q k.items).0 i) ∙ (bytes_decides q (e.0.items)).0 h in
-                absurd (cc (sym (ap is_eq is) ∙ is_eq-slice_cmp k.items (e.0.items) ∙ (bytes_decides k.items (e.0.items)).1 same))
+    go : (b : Bool) → bytes_eq q k ≡ b → number_of q n.entries ≡ cond (bytes_eq q k) (Some v) (number_of q m.entries)
+    go true e = rw e (ap (λ z. number_of z n.entries) ((bytes_decides q k).0 e) ∙ updates.1)
+    go false e = rw e (other_numbers k m.entries n.entries updates.3 q e)
 
 -- a new name stands behind the others
 one_more : (ns : List (List ℕ)) (name q : List ℕ) → site_named ns name ≡ None → site_named (ns ++ name ∷ []) q ≡ cond (bytes_eq q name) (Some (length ns)) (site_named ns q)
@@ -62,9 +45,9 @@ one_more (n ∷ ns) name q new =
     go apart before false is = rw (before, is) refl
 
 -- the numbers with the new name's
-pub more_numbers : (ns : List (List ℕ)) (es : List (Vec ℕ × ℕ)) (k : Vec ℕ) (v : ℕ) → AreNumbers ns es → site_named ns k.items ≡ None → v ≡ length ns → AreNumbers (ns ++ k.items ∷ []) (insert_entry order es k v)
-more_numbers ns es k v are new is q =
-    number_put q es k v ∙ (λ i. cond (bytes_eq q k.items) (Some (is i)) (are q i)) ∙ sym (one_more ns k.items q new)
+pub more_numbers : {S : Type 0} (ns : List (List ℕ)) (m n : HashMap (Vec ℕ) ℕ S) (k : Vec ℕ) (v : ℕ) → AreNumbers ns m.entries → site_named ns k.items ≡ None → v ≡ length ns → UpdatesBy same_names (λ x. bytes_eq k.items x.items) m n (Some v) → AreNumbers (ns ++ k.items ∷ []) n.entries
+more_numbers ns m n k v are new is updates q =
+    number_put k.items v m n updates q ∙ (λ i. cond (bytes_eq q k.items) (Some (is i)) (are q i)) ∙ sym (one_more ns k.items q new)
 
 -- a name's number is one of a site
 pub number_within : (ns : List (List ℕ)) (name : List ℕ) (at : ℕ) → site_named ns name ≡ Some at → at < length ns

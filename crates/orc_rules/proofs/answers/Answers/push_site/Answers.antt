@@ -12,7 +12,7 @@ use Rattle.orc_rules.proofs.answers.Answers.push_site.Goals as goal
 pub invariant_of-self-2 : goal.invariant_of-self-2
 invariant_of-self-2 c =
     let sites = c.self.inside.sites.items in
-    let numbers = c.self.inside.numbers.entries in
+    let numbers = c.self.inside.numbers in
     let name : Vec ℕ = c.in_ok-name.name in
     let site : Named = c.args.site in
     let named : site.name.items ≡ name.items = sym (c.in_ok-name.ensures.items ∙ c.deref.ensures.value) in
@@ -25,6 +25,5 @@ invariant_of-self-2 c =
     let count : c.len.result ≡ length (names_of sites) = c.len.ensures ∙ c.in_ok-try_reserve.ensures.len ∙ c.self.inside.sites.ok.0 ∙ sym (length-map sites (λ (n : Named). n.name.items)) in (
       more_table sites c.push-pushed.new.self.items site site.name.items c.self.invariant.0 items refl c.requires.bare room new,
       subst (λ (ns : List (List ℕ)). AreNumbers ns c.insert.new.self.entries) (sym names)
-          (subst (λ (es : List (Vec ℕ × ℕ)). AreNumbers (names_of sites ++ name.items ∷ []) es) (sym c.in_ok-insert.ensures.entries)
-          (more_numbers (names_of sites) numbers name _ c.self.invariant.1 (ap (site_named (names_of sites)) (sym named) ∙ new) count)),
+          (more_numbers (names_of sites) numbers c.insert.new.self name _ c.self.invariant.1 (ap (site_named (names_of sites)) (sym named) ∙ new) count c.in_ok-insert.ensures.updates),
     )

@@ -1,9 +1,8 @@
 use Rattle.std.proofs.Common.{◌∙◌, ap}
 use Rattle.orc_rules.specs.Sites.{Table, site_named}
-use Rattle.orc_rules.proofs.Numbers.{number_found}
 use Rattle.orc_rules.proofs.answers.Answers.site_named.Goals as goal
 
 pub returns : goal.returns
 returns c =
     let name = c.args.name.now in
-    c.copied.ensures ∙ c.get.ensures.value ∙ number_found name c.self.inside.numbers.entries ∙ c.self.invariant.1 name ∙ ap (λ (t : Table). site_named t.names name) c.self.view_is
+    c.copied.ensures ∙ c.get.ensures.value ∙ c.self.invariant.1 name ∙ ap (λ (t : Table). site_named t.names name) c.self.view_is
