@@ -5,7 +5,7 @@ use Rattle.orc_nodes.specs.declared.arena.Node.{Node}
 use Rattle.orc_nodes.specs.declared.arena.Tip.{Tip}
 use Rattle.orc_nodes.specs.declared.arena.Kind.TheVariants.{Leaf}
 use Rattle.orc_rules.specs.Term.{Term}
-use Rattle.orc_nodes.specs.Arena.{Tree, leaf, one, two, place, count, hits, at, Holds, living, living_kind, StandOnce, spelled, IsTopped, Frame, on_one, on_left, on_right, plug}
+use Rattle.orc_nodes.specs.Arena.{Tree, leaf, place, count, hits, at, Holds, living, living_kind, StandOnce, spelled, IsTopped, Frame, plug}
 use Rattle.orc_names.specs.Scopes.{env_of}
 use Rattle.orc_nodes.specs.Around.{above}
 use Rattle.orc_nodes.specs.Rising.{Stands}

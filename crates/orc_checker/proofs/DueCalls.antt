@@ -1,5 +1,5 @@
 -- The first of the nodes with due times.
-use Rattle.std.proofs.Common.{◌≡◌, ℕ, List, [], ◌∷◌, ap}
+use Rattle.std.proofs.Common.{◌≡◌, List, [], ◌∷◌, ap}
 use Rattle.std.specs.Prelude.{Some, slice_get}
 use Rattle.orc_calls.proofs.Notes.{Timed}
 

@@ -1,13 +1,11 @@
 -- Sides that have halted, in the marked term and among its nodes.
-use Rattle.std.proofs.Common.{◌≡◌, ℕ, List, length, Option, Some, None, refl, sym, ap, ◌∙◌, subst, Bool, true, false, cond, nat_eq, eqb-true, eq-eqb, ◌⊎◌, ⊎_elim}
-use Rattle.std.specs.Prelude.{slice_get}
+use Rattle.std.proofs.Common.{◌≡◌, ℕ, List, length, Some, None, refl, sym, ap, ◌∙◌, subst, Bool, true, false, cond, nat_eq, eqb-true, eq-eqb, ◌⊎◌, ⊎_elim}
 use Rattle.orc_rules.specs.Term.{Term}
 use Rattle.orc_rules.specs.Idle.{has_halted}
-use Rattle.orc_rules.specs.Marked.{Marked, ended, token, in_call, in_par, in_seq, in_opened, in_other, erase}
+use Rattle.orc_rules.specs.Marked.{Marked, erase}
 use Rattle.orc_rules.specs.Nodes.{Listing, code}
 use Rattle.orc_rules.specs.Timed.{Context}
 use Rattle.orc_rules.specs.Journal.{Place}
-use Rattle.orc_rules.specs.Refusal.{Stands}
 use Rattle.orc_names.specs.Scopes.{Env, env_of}
 use Rattle.orc_nodes.specs.declared.arena.Node.{Node}
 use Rattle.orc_nodes.specs.declared.arena.Kind.{Kind}
@@ -22,8 +20,8 @@ use Rattle.orc_checker.specs.Checker.{State, Spells}
 use Rattle.orc_nodes.specs.Halting.{AreHalts}
 use Rattle.orc_checker.specs.Over.{side_of, FindsSide, LeftIs, RightIs, RunsOn}
 use Rattle.orc_nodes.specs.Rising.{nowhere}
-use Rattle.orc_nodes.specs.Settling.{flag, Flagged, kind_at, parent_at, HasFlags}
-use Rattle.orc_nodes.specs.Sides.{has_ended, is_set, is_side, is_side_at, HasEnded}
+use Rattle.orc_nodes.specs.Settling.{flag, Flagged, kind_at, parent_at}
+use Rattle.orc_nodes.specs.Sides.{is_set, is_side, is_side_at, HasEnded}
 use Rattle.orc_nodes.proofs.Hints.{there_or_not}
 use Rattle.orc_nodes.proofs.KeptSides.{ended_parts}
 use Rattle.orc_checker.proofs.Moving.{flag_of_set, side_runs}

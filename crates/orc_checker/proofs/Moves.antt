@@ -2,7 +2,6 @@
 use Rattle.std.proofs.Common.{◌≡◌, ◌≤◌, ◌+◌, ℕ, suc, List, [], ◌∷◌, ◌++◌, length, refl, sym, ap, ◌∙◌, subst, inr, arith, length-append, length-set}
 use Rattle.std.specs.Prelude.{slice_get, slice_set, ◌&&◌}
 use Rattle.orc_rules.specs.declared.entry.Entry.TheVariants as entry
-use Rattle.orc_nodes.specs.declared.arena.Node.{Node}
 use Rattle.orc_nodes.specs.declared.arena.Tip.{Tip}
 use Rattle.orc_nodes.specs.declared.arena.Tip.TheVariants.{Token, Ended}
 use Rattle.orc_nodes.specs.declared.arena.Single.{Single}

@@ -1,12 +1,11 @@
 -- What is added behind a list leaves what stands in it as it is.
-use Rattle.std.proofs.Common.{◌≡◌, ℕ, zero, suc, ◌+◌, ◌-◌, ◌≤◌, List, [], ◌∷◌, ◌++◌, length, map, get_or, take, drop, Option, Some, None, refl, ap, ◌∙◌, sym, arith, length-append, length-drop, length-take}
+use Rattle.std.proofs.Common.{◌≡◌, ℕ, zero, suc, ◌+◌, ◌-◌, ◌≤◌, List, [], ◌∷◌, ◌++◌, length, map, get_or, take, drop, Some, None, refl, ap, ◌∙◌, sym, arith, length-drop}
 use Rattle.orc_rules.specs.declared.limits.TheConstants.{MOST_ARGUMENTS}
-use Rattle.std.proofs.lemmas.List.{take-append-le, drop-append-le, drop_at, take_all, append-nil}
+use Rattle.std.proofs.lemmas.List.{take-append-le, drop-append-le, drop_at, take_all}
 use Rattle.std.specs.Prelude.{slice_get, option_map}
-use Rattle.orc_rules.specs.Nodes.{Routine}
 use Rattle.orc_graph.specs.declared.numbers.Range.{Range}
 use Rattle.orc_graph.specs.declared.definitions.Body.{Body}
-use Rattle.orc_graph.specs.Ranges.{cut, AreWithin, params_or_none, params_at}
+use Rattle.orc_graph.specs.Ranges.{cut, AreWithin}
 use Rattle.orc_graph.specs.Bodies.{routine_in, AreInside}
 
 cut-append : {X : Type 0} (xs ys : List X) (r : Range) → r.start ≤ r.end → r.end ≤ length xs → cut (xs ++ ys) r ≡ cut xs r

@@ -1,5 +1,5 @@
-use Rattle.std.proofs.Common.{◌≡◌, ◌≤◌, ℕ, length, ap, ◌∙◌, sym, [], List, Some, None}
-use Rattle.std.specs.Prelude.{slice_get, option_map}
+use Rattle.std.proofs.Common.{ℕ, ap, ◌∙◌, sym, [], List, Some, None}
+use Rattle.std.specs.Prelude.{option_map}
 use Rattle.orc_rules.specs.Nodes.{Routine}
 use Rattle.orc_graph.specs.Ranges.{cut, params_at, params_or_none}
 use Rattle.orc_graph.specs.Bodies.{routine_in}

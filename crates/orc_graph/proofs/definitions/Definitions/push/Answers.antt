@@ -1,6 +1,5 @@
-use Rattle.std.proofs.Common.{◌≡◌, ◌≤◌, ◌+◌, ◌++◌, ◌∷◌, ℕ, [], List, length, map, ap, ◌∙◌, sym, refl, arith, length-append}
+use Rattle.std.proofs.Common.{◌≡◌, ◌+◌, ◌++◌, ◌∷◌, ℕ, [], List, length, map, ◌∙◌, arith, length-append}
 use Rattle.std.proofs.lemmas.List.{map-append}
-use Rattle.orc_rules.specs.Nodes.{Routine}
 use Rattle.orc_graph.specs.declared.definitions.Body.{Body}
 use Rattle.orc_graph.specs.Bodies.{routine_in, AreInside}
 use Rattle.orc_graph.proofs.Runs.{cut-last, routines-append, inside_more, inside_push}

@@ -1,4 +1,4 @@
-use Rattle.std.proofs.Common.{◌≡◌, ◌≤◌, ◌+◌, ◌-◌, ℕ, length, get_or, ap, ◌∙◌, sym, [], List, Some, None, take, drop, arith, length-take}
+use Rattle.std.proofs.Common.{◌≡◌, ◌≤◌, ◌+◌, ◌-◌, length, get_or, ap, ◌∙◌, sym, [], List, Some, None, take, drop, arith, length-take}
 use Rattle.orc_rules.specs.declared.limits.TheConstants.{MOST_ARGUMENTS}
 use Rattle.std.specs.Prelude.{slice_get}
 use Rattle.orc_rules.specs.declared.param.Operand.{Operand}
