@@ -2,7 +2,7 @@
 use Rattle.std.specs.Prelude.{◌≡◌, ◌⊎◌, ℕ, List, [], ◌∷◌, Some, length, map, replicate, slice_get, slice_set, true}
 use Rattle.orc_pool.specs.declared.history.View.{View}
 use Rattle.orc_pool.specs.declared.hand.Hand.{Hand}
-use Rattle.orc_pool.specs.History.{view_of, IsPop, IsTheft}
+use Rattle.orc_pool.specs.History.{view_of, IsPop, IsTheft, WasEmpty}
 use Rattle.orc_pool.specs.Words.{Name, own_name, own_view, theft_name, theft_view}
 
 module _ {T : Type 0} where
@@ -14,7 +14,7 @@ module _ {T : Type 0} where
   abbrev pub IsTaken : Hand T → T → Hand T → Type 0
   IsTaken before task after =
       (IsPop (own_view before.own) (task ∷ []) (own_view after.own) × (stolen_views after ≡ stolen_views before))
-      ⊎ ((own_view after.own ≡ own_view before.own) × (from : ℕ) × (v w : View T) × (slice_get (stolen_views before) from ≡ Some v) × IsTheft v (task ∷ []) w × (stolen_views after ≡ slice_set (stolen_views before) from w))
+      ⊎ (WasEmpty (own_view before.own) × (own_view after.own ≡ own_view before.own) × (from : ℕ) × (v w : View T) × (slice_get (stolen_views before) from ≡ Some v) × IsTheft v (task ∷ []) w × (stolen_views after ≡ slice_set (stolen_views before) from w))
 
   -- each hand has a queue of its own, which is empty, and may steal from all
   abbrev pub AreDealt : ℕ → List (Hand T) → Type 0
