@@ -1,6 +1,12 @@
 //! Where no token has its turn: answers that are due, ticks, and what the ledger finds. Calls are answered by their numbers.
 
-ghost use Rattle.std.specs.Prelude.{◌≡◌, ◌≤◌, true, false, IfOk, IfErr};
+ghost use Rattle.std.specs.Prelude.{◌≡◌, ◌≤◌, ◌⊎◌, true, false, IfOk, IfErr, IfSome, MatchOption};
+ghost use Rattle.orc_indexes.specs.Same.{weight};
+ghost use Rattle.orc_records.specs.Requests.{IsAsked};
+ghost use Rattle.orc_records.specs.declared.results.Request.{Request as Asked};
+ghost use Rattle.orc_site.specs.Time.{due_from};
+ghost use Rattle.orc_tables.specs.PendingCalls.{has_number};
+ghost use Rattle.orc_tables.specs.declared.records.Call.{Call as Its};
 ghost use Rattle.std.specs.VecDeque.{deque_len};
 ghost use Rattle.orc_rules.specs.Nodes.{code, definitions};
 ghost use Rattle.orc_paths.specs.Doing.{is_wait};
@@ -143,7 +149,9 @@ impl<P: Naming> Desk<P> {
     }
 
     /// What the call with this number asks, if it pends.
-    pub fn request(&self, number: u64) -> Option<Request> {
+    pub fn request(&self, number: u64) -> Option<Request>
+        ensures asked { IfSome result (λ r. (q : Asked) × IsAsked P.listing P.sites self.now.ledger number q × (r.number ≡ number) × (r.site ≡ q.site) × (r.args ≡ q.args) × (r.nth ≡ q.nth) × (r.made_at ≡ q.made_at)) }
+    {
         let asked = self.ledger.request(number)?;
         if asked.nth < 1 {
             return None;
@@ -158,13 +166,17 @@ impl<P: Naming> Desk<P> {
     }
 
     /// When the call with this number is due, by the table, if it pends.
-    pub fn due_of(&self, number: u64) -> Option<Due> {
+    pub fn due_of(&self, number: u64) -> Option<Due>
+        ensures due { MatchOption result (weight (has_number number) self.now.ledger.calls ≡ 0) (λ due. (c : Its) × Pends self.now.ledger number c × (due ≡ due_from c.made_at c.found)) }
+    {
         let call = self.ledger.pending(number)?;
         Some(due_after(call.made_at, call.found))
     }
 
     /// The call with this number was answered so, if it still pends.
-    pub fn answered(&mut self, number: u64, answer: Answer) -> Result<(), Stop> {
+    pub fn answered(&mut self, number: u64, answer: Answer) -> Result<(), Stop>
+        ensures taken { IfOk result (λ _. (weight (has_number number) self.old.ledger.calls ≡ 0) ⊎ Advances self.old.ledger self.new.ledger) }
+    {
         match self.ledger.pending(number) {
             Some(call) => self.answer_pending(call, answer),
             None => Ok(()),
