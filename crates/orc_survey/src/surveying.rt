@@ -1,6 +1,6 @@
 //! A program's runs in many orders.
 
-ghost use Rattle.std.specs.Prelude.{◌≡◌, ◌≤◌, ◌<◌, ◌+◌, ◌^◌, length, IfOk, IfErr, OnOk};
+ghost use Rattle.std.specs.Prelude.{◌≡◌, ◌≤◌, ◌<◌, ◌+◌, ◌^◌, ◌↔◌, length, Err, IfOk, IfErr, OnOk};
 ghost use Rattle.std.specs.List.{All};
 ghost use Rattle.orc_rules.specs.Named.{HasNames};
 ghost use Rattle.orc_rules.specs.Nodes.{definitions, source};
@@ -14,7 +14,7 @@ use crate::seen::{Seen, count};
 use orc_engine::{EngineFault, run_alone};
 use orc_outcome::{End, Played};
 use orc_rules::answers::Answers;
-use orc_rules::limits::MOST_WORKERS;
+use orc_rules::limits::{MOST_ENTRIES, MOST_WORKERS};
 use orc_rules::program::Program;
 use std::alloc::{AllocError, Global};
 use std::thread;
@@ -153,10 +153,10 @@ pub fn survey<R: Threads + Sync>(
     limit: u64,
 ) -> Result<Vec<Seen>, EngineFault>
     ensures surveyed { IfOk result (λ seen. IsSurvey program.now answers.now limit orders seen.items) }
-    ensures range { IfErr result (λ fault. fault ≡ EngineFault.Range → IsInRange workers limit → ⊥) }
+    ensures range { result ≡ Err EngineFault.Range ↔ (IsInRange workers limit → ⊥) }
     ensures sound { IfErr result (λ fault. IsOwn fault → IsProgram (definitions program.now) (source program.now) → HasNames program.now answers.now → ⊥) }
 {
-    if workers < 1 || workers > MOST_WORKERS {
+    if workers < 1 || workers > MOST_WORKERS || limit < 1 || limit > MOST_ENTRIES {
         return Err(EngineFault::Range);
     }
     let surveyor = Surveyor {
