@@ -26,7 +26,7 @@ impl<P: Program> Ledger<P> {
 
     /// The call with the least number of those that are due now, and the answer that the table gives. Where there is none no call is overdue either.
     pub fn due(&mut self) -> Option<(Call, Answer)>
-        ensures due { MatchOption result ((c : Its) (t : ℕ) → IsIn c self.old.calls → due_of c ≡ Some t → t ≤ self.old.now → ⊥) (λ d. Pends self.old d.0.number d.0 × IsDueNow P.listing P.sites self.old d.0.number d.1) }
+        ensures due { MatchOption result ((c : Its) (t : ℕ) → IsIn c self.old.calls → due_of c ≡ Some t → t ≤ self.old.now → ⊥) (λ d. Pends self.old d.0.number d.0 × IsDueNow P.listing P.sites self.old d.0.number d.1 × IsLeastBeyond self.old.calls 0 self.old.now d.0.number) }
         ensures same { self.new ≡ self.old }
     {
         let _time = &self.time;

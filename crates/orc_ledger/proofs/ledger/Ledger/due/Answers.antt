@@ -1,7 +1,7 @@
 use Rattle.std.proofs.Common.{◌≡◌, refl, sym, subst, ◌∙◌, ap}
 use Rattle.orc_rules.specs.Timed.{IsIn}
 use Rattle.orc_indexes.specs.Same.{weight}
-use Rattle.orc_tables.specs.PendingCalls.{has_number}
+use Rattle.orc_tables.specs.PendingCalls.{has_number, IsLeastBeyond}
 use Rattle.orc_records.specs.Records.{Records}
 use Rattle.orc_records.specs.Kept.{Kept}
 use Rattle.orc_records.proofs.Owed.{none-owed, owed, owed-so, not-none}
@@ -35,4 +35,4 @@ returns-clause-due g c =
     let sites = g.P.Program.sites in
     let K = subst (λ (z : Records). Kept l sites c.self.inside.counts c.self.inside.groups.sizes z) c.self.view_is c.self.invariant.kept in
     let its : IsIn c.in-Some-pending.call c.args.self.now.calls = subst (λ (z : Records). IsIn c.in-Some-pending.call z.calls) c.in-Some.ensures.same c.in-Some-pending.ensures.0 in
-    ((its, refl), owed-so l sites c.self.inside.counts c.self.inside.groups.sizes c.args.self.now K c.in-Some.number c.in-Some.ensures.due.0 c.in-Some-pending.call its c.in-Some-pending.ensures.1 c.in-After.answer _ c.in-After.is)
+    ((its, refl), owed-so l sites c.self.inside.counts c.self.inside.groups.sizes c.args.self.now K c.in-Some.number c.in-Some.ensures.due.0 c.in-Some-pending.call its c.in-Some-pending.ensures.1 c.in-After.answer _ c.in-After.is, subst (λ n. IsLeastBeyond c.args.self.now.calls 0 c.args.self.now.now n) (sym c.in-Some-pending.ensures.1) c.in-Some.ensures.due)
