@@ -15,8 +15,8 @@ use orc_records::{HaltFault, Halted, LedgerFault};
 use orc_tables::{Call, Group, Side, Token};
 
 impl<P: Program> Ledger<P> {
-    // The open group with this number.
-    fn group_with(&self, number: u32) -> Option<Group>
+    /// The open group with this number.
+    pub fn group_with(&self, number: u32) -> Option<Group>
         ensures { MatchOption result ((g : Its) → IsIn g self.now.groups → g.number ≡ number → ⊥) (λ g. IsIn g self.now.groups × (g.number ≡ number)) }
     {
         self.groups.get(number)

@@ -2,6 +2,7 @@
 
 ghost use Rattle.orc_records.specs.Moves.{CallsFit};
 ghost use Rattle.orc_records.specs.Offered.{NothingIsLost};
+ghost use Rattle.orc_ledger.specs.Stood.{Stands};
 
 use crate::ledger::Ledger;
 use orc_chronicle::Program;
@@ -26,6 +27,13 @@ pub fn offered<P: Program>(ledger: &Ledger<P>)
 /// is but those that wait or call a site.
 pub fn calls_fit<P: Program>(ledger: &Ledger<P>)
     ensures { CallsFit P.listing ledger.now }
+{
+    let _journal = &ledger.journal;
+}
+
+/// The journal leads to a place that the records spell, and their groups are nested as their sides.
+pub fn stands<P: Program>(ledger: &Ledger<P>)
+    ensures { Stands P.listing P.sites ledger.now }
 {
     let _journal = &ledger.journal;
 }

@@ -20,7 +20,7 @@ mod sides;
 mod time;
 mod view;
 
-pub use laws::{calls_fit, offered};
+pub use laws::{calls_fit, offered, stands};
 pub use ledger::Ledger;
 pub use orc_chronicle::Program;
 pub use orc_paths::{Taker, What};

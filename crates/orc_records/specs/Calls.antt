@@ -101,9 +101,9 @@ module _ (s : Records) (t : Token) where
       Turns s s' t (born s.next_mark f (length s.scopes + 1) t.step ∷ born (s.next_mark + 1) g scope (length s.steps + 1) ∷ []) (record { name = x; bound = Cell (length s.cells); outer = scope } ∷ [])
       (record { entered = Aid (length s.cells); outer = t.step; group = number; depth = 0; published = false } ∷ []) (record { side = Right (length s.cells); outer = t.step; number = number } ∷ []) (Cell (length s.cells) ∷ []) (Open t.serial (length s.cells) s.next_mark (s.next_mark + 1))
 
--- no open group has this number, and the program's own is 0
+-- no open group has this number, the program's own is 0, and there are no more numbers than groups may be
 abbrev pub IsFree : Records → ℕ → Type 0
-IsFree s number = (1 ≤ number) × None (λ (g : Group). nat_eq number g.number) s.groups
+IsFree s number = (1 ≤ number) × None (λ (g : Group). nat_eq number g.number) s.groups × (number < MOST_GROUPS)
 
 -- so many more tokens and groups find room, and a token with so many left sides of a `>x>` round it
 abbrev pub HasRoom : Records → ℕ → ℕ → ℕ → Type 0

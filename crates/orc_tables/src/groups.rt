@@ -326,6 +326,7 @@ impl Groups {
         requires room { 1 ≤ self.old.room }
         ensures items { self.new.items ≡ self.old.items ++ record { side = side; outer = outer; number = result } ∷ [] }
         ensures free { (1 ≤ result) × None (λ (g : Its). nat_eq result g.number) self.old.items }
+        ensures few { result < MOST_GROUPS }
         ensures sizes { self.new.sizes ≡ self.old.sizes }
     {
         let number = take_free(&mut self.free);

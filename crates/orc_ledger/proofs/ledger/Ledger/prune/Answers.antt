@@ -49,7 +49,7 @@ invariant_of-self-2 g c =
     let i : IsIn a.token s.tokens = live-in s.slots a.slot a.token held in
     let number = c.open-number.result in
     let groups_so : c.reserve-5.new.self.items ≡ s.groups = c.in_ok-reserve-5.ensures.items in
-    let free : IsFree s number = (c.open-number.ensures.free.0, subst (None (λ (h : Group). nat_eq number h.number)) groups_so c.open-number.ensures.free.1) in
+    let free : IsFree s number = (c.open-number.ensures.free.0, subst (None (λ (h : Group). nat_eq number h.number)) groups_so c.open-number.ensures.free.1, c.open-number.ensures.few) in
     let room : s.entries < s.limit = rw (← c.self.view_is) at c.in_ok-within.ensures.room in
     let s' : Records = record { limit = b.limit; journal = c.write.new.journal.entries; entries = b.entries + 1; next_mark = b.next_mark + 2; now = b.time; made = b.calls.made; tokens = live c.add-other.new.self.items; slots = c.add-other.new.self.items; calls = b.calls.items; scopes = c.push_within.new.items.items; steps = c.push.new.self.items; groups = c.join-2.new.self.items; cells = c.push_within-2.new.items.items } in
     let journal : s'.journal ≡ s.journal ++ Open a.token.serial c.len-cell.result b.next_mark (b.next_mark + 1) ∷ [] = ap (λ j. j.entries) c.in_ok-write.ensures.added in
@@ -98,7 +98,7 @@ returns-clause-done g c =
     let i : IsIn a.token s.tokens = live-in s.slots a.slot a.token held in
     let number = c.open-number.result in
     let groups_so : c.reserve-5.new.self.items ≡ s.groups = c.in_ok-reserve-5.ensures.items in
-    let free : IsFree s number = (c.open-number.ensures.free.0, subst (None (λ (h : Group). nat_eq number h.number)) groups_so c.open-number.ensures.free.1) in
+    let free : IsFree s number = (c.open-number.ensures.free.0, subst (None (λ (h : Group). nat_eq number h.number)) groups_so c.open-number.ensures.free.1, c.open-number.ensures.few) in
     let room : s.entries < s.limit = rw (← c.self.view_is) at c.in_ok-within.ensures.room in
     let s' : Records = record { limit = b.limit; journal = c.write.new.journal.entries; entries = b.entries + 1; next_mark = b.next_mark + 2; now = b.time; made = b.calls.made; tokens = live c.add-other.new.self.items; slots = c.add-other.new.self.items; calls = b.calls.items; scopes = c.push_within.new.items.items; steps = c.push.new.self.items; groups = c.join-2.new.self.items; cells = c.push_within-2.new.items.items } in
     let journal : s'.journal ≡ s.journal ++ Open a.token.serial c.len-cell.result b.next_mark (b.next_mark + 1) ∷ [] = ap (λ j. j.entries) c.in_ok-write.ensures.added in

@@ -1,6 +1,7 @@
-use Rattle.std.proofs.Common.{◌≡◌, ◌++◌, ◌∷◌, [], length, sym, ap, ◌∙◌, subst, arith, length-set}
+use Rattle.std.proofs.Common.{◌≡◌, ◌++◌, ◌∷◌, [], length, sym, ap, ◌∙◌, subst, arith, length-set, refl, ◌+◌, ◌≤◌, ◌<◌}
 use Rattle.std.specs.Prelude.{slice_set}
-use Rattle.orc_indexes.specs.Same.{weight}
+use Rattle.orc_indexes.specs.Same.{weight, is_this}
+use Rattle.orc_indexes.proofs.Weight.{weight-append, this_is}
 use Rattle.orc_tables.specs.OpenGroups.{GroupTable, AreNumbered, is_named, empty_in, size_of}
 use Rattle.orc_tables.specs.declared.records.Group.{Group}
 use Rattle.orc_tables.proofs.Leading.{opened-numbered, free-number}
@@ -33,3 +34,10 @@ returns-clause-free c =
     let n = c.take_free-number.result in
     let f = free-number b.items.items b.places.items b.free.items c.take_free-number.new.free.items n c.self.invariant.0 c.take_free-number.ensures.taken in
     (f.0, ap (λ (t : GroupTable). weight (is_named n) t.items) (sym c.self.view_is) ∙ f.1)
+
+pub returns-clause-few : goal.returns-clause-few
+returns-clause-few c =
+    let b = c.self.inside in
+    let n = c.take_free-number.result in
+    let N = c.self.invariant.0 in
+    omega (arith, N.within n (omega (arith, ap (weight (is_this n)) c.take_free-number.ensures.taken, weight-append (is_this n) c.take_free-number.new.free.items (n ∷ []), this_is n n refl)), N.few)

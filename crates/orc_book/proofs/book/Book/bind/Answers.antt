@@ -1,0 +1,29 @@
+use Rattle.std.proofs.Common.{◌≡◌, ◌≤◌, ◌+◌, ℕ, arith, ap, sym, ◌∙◌, refl, subst, true, cond}
+use Rattle.orc_rules.specs.Timed.{IsIn}
+use Rattle.orc_rules.specs.Nodes.{code, definitions}
+use Rattle.orc_names.specs.declared.names.Bound.TheVariants as bound
+use Rattle.orc_records.specs.Doing.{what_of}
+use Rattle.orc_paths.specs.declared.what.What.TheVariants as what
+use Rattle.orc_word.specs.Words.{has, with_bit}
+use Rattle.orc_word.specs.Views.{won_of}
+use Rattle.orc_word.specs.declared.bits.Bit.TheVariants.{Killed}
+use Rattle.orc_book.proofs.Dropped.{drops, dropped-loose, last-in}
+use Rattle.orc_book.proofs.book.Book.bind.Goals as goal
+
+pub clear_missing-requires-clause-loose : goal.clear_missing-requires-clause-loose
+clear_missing-requires-clause-loose g c =
+    let b = c.self.inside in
+    let l = g.P.Program.listing in
+    let t = c.in-Some.its in
+    let w = c.in-Some-binds_next.ensures in
+    let D = drops l b.ledger c.args.token.slot t c.advance.new.self _ c.in-Some-binds_next._cell w.0 c.in-Ok._bound (rw (← c.self.view_is) at w.1) c.in-Ok.ensures.done in
+    dropped-loose l g.P.Program.sites b.ledger c.stands.ensures.lawful c.stands.ensures.grouped c.in-Some-binds_next._cell (bound.Is w.0) c.advance.new.self D c.stands-in-Ok.ensures.lawful c.stands-in-Ok.ensures.grouped b.posts.items c.self.invariant
+
+pub returns-in-Ok-clause-won : goal.returns-in-Ok-clause-won
+returns-in-Ok-clause-won g c =
+    let old = won_of c.args.token.pass in (
+      c.mark.new.pass,
+      subst (IsIn c.mark.new.pass) (sym c.push_reserved.ensures.items) (last-in _ c.mark.new.pass),
+      c.mark.ensures.group,
+      ap (has Killed) (c.mark.ensures.won ∙ ap (λ b. cond b (with_bit Killed old) old) c.if-not-mark.false),
+    )

@@ -1,0 +1,129 @@
+//! The records of a run, and the passes of those that are not out with a worker.
+ghost use Rattle.std.specs.Prelude.{◌≡◌, ◌≤◌, Some, IfOk, IfErr};
+ghost use Rattle.orc_rules.specs.declared.limits.TheConstants.{MOST_ENTRIES};
+ghost use Rattle.orc_records.specs.Begun.{begun};
+ghost use Rattle.orc_tables.specs.declared.records.Token.{Token as Its};
+ghost use Rattle.orc_word.specs.Views.{group_of};
+ghost use Rattle.orc_book.specs.Held.{IsToken};
+
+use crate::post::{Post, first_posts, set_out};
+use crate::stand::{Stand, first_stands};
+use crate::token::{BookFault, Refused, Token};
+use crate::words::Words;
+use orc_chronicle::Program;
+use orc_graph::Graph;
+use orc_ledger::Ledger;
+use orc_names::StoredScope;
+use orc_word::{Naming, Pass};
+use std::alloc::Global;
+use std::marker::Model;
+
+/// The records of a run, and of each record that is not out with a worker a pass to its group.
+pub struct Book<P: Program + Naming> {
+    pub(crate) ledger: Ledger<P>,
+    // By the ledger's numbers of groups.
+    pub(crate) posts: Vec<Post<P>>,
+    // By words, and which of these are free; and how many stand for killed groups.
+    pub(crate) stands: Vec<Stand<P>>,
+    pub(crate) words: Words<P>,
+    pub(crate) dying: usize,
+    // Lent to the ledger's calls.
+    pub(crate) scopes: Vec<StoredScope>,
+    pub(crate) cancelled: Vec<u64>,
+}
+
+impl<P: Program + Naming> Model for Book<P> {
+    ghost use Rattle.orc_book.specs.Held.{Held, AreHeld};
+
+    ghost Value = { Held };
+
+    ghost view = { λ b. record { ledger = b.ledger; posts = b.posts.items } };
+
+    ghost invariant = { λ b. AreHeld b.posts.items b.ledger };
+}
+
+// Written out, so that each exit of a function that has a book drops it by one call.
+impl<P: Program + Naming> Drop for Book<P> {
+    fn drop(self) {
+        let Book {
+            ledger,
+            posts,
+            stands,
+            words,
+            dying: _,
+            scopes,
+            cancelled,
+        } = self;
+        drop(ledger);
+        drop(posts);
+        drop(stands);
+        drop(words);
+        drop(scopes);
+        drop(cancelled);
+    }
+}
+
+impl<P: Program + Naming> Book<P> {
+    /// A new run, whose words are as many as are said: token 1 is out, at the program's main term, with this pass, which names group 0. The journal is to have
+    /// at most `limit` entries beside the cancels, and is held where the run `keeps` it. The only fault is `Memory`.
+    pub fn new(
+        alloc: Global,
+        graph: &Graph,
+        keeps: bool,
+        limit: usize,
+        words: u32,
+        pass: Pass<P>,
+    ) -> Result<(Book<P>, Token<P>), Refused<Pass<P>>>
+        requires keeps { keeps ≡ P.keeps }
+        requires limit { (1 ≤ limit) × (limit ≤ MOST_ENTRIES) }
+        requires named { limit ≡ P.limit }
+        requires graph { graph.now ≡ P.listing }
+        requires words { words ≡ P.table.words }
+        requires pass { group_of pass ≡ Some 0 }
+        ensures begun { IfOk result (λ r. r.0.ledger ≡ begun limit P.listing.root) }
+        ensures token { IfOk result (λ r. (t : Its) × IsToken r.0 r.1.slot r.1.serial r.1.pass t) }
+        ensures refused { IfErr result (λ r. r.back ≡ pass) }
+    {
+        let Ok(mut posts) = first_posts(alloc) else {
+            return Err(Refused {
+                why: BookFault::Memory,
+                back: pass,
+            });
+        };
+        let Ok(stands) = first_stands(alloc, words) else {
+            return Err(Refused {
+                why: BookFault::Memory,
+                back: pass,
+            });
+        };
+        let Ok(words) = Words::new(alloc, words) else {
+            return Err(Refused {
+                why: BookFault::Memory,
+                back: pass,
+            });
+        };
+        let Ok(ledger) = Ledger::<P>::begin(alloc, keeps, limit, graph.root()) else {
+            return Err(Refused {
+                why: BookFault::Memory,
+                back: pass,
+            });
+        };
+        set_out(&mut posts, 0, 1);
+        let book = Book {
+            ledger,
+            posts,
+            stands,
+            words,
+            dying: 0,
+            scopes: Vec::new(alloc),
+            cancelled: Vec::new(alloc),
+        };
+        let token = book.born(0, pass);
+        Ok((book, token))
+    }
+
+    /// How many killed groups' numbers are still taken.
+    pub fn dying(&self) -> usize {
+        self.dying
+    }
+}

@@ -1,0 +1,133 @@
+//! Calls of sites: a token makes one, and it is answered.
+ghost use Rattle.std.specs.Prelude.{◌≡◌, ◌≤◌, ◌<◌, ◌+◌, ◌⊎◌, ℕ, List, length, true, Some, Option, IfOk, IfErr, IfSome, MatchOption, OnOk, OnErr};
+ghost use Rattle.orc_rules.specs.Nodes.{code, definitions};
+ghost use Rattle.orc_rules.specs.Timed.{IsIn};
+ghost use Rattle.orc_tables.specs.declared.records.Token.{Token as Its};
+ghost use Rattle.orc_tables.specs.declared.records.Call.{Call as ItsCall};
+ghost use Rattle.orc_tables.specs.Steps.{group_at};
+ghost use Rattle.orc_records.specs.Answers.{IsReturned, Pends};
+ghost use Rattle.orc_records.specs.Doing.{what_of};
+ghost use Rattle.orc_records.specs.Requests.{IsMade};
+ghost use Rattle.orc_word.specs.Views.{group_of};
+ghost use Rattle.orc_book.specs.Held.{IsToken, word_at, HasStayed};
+
+use crate::book::Book;
+use crate::post::{bring_at, out_in, reserve_at, send_at, take_at};
+use crate::token::{BookFault, Refused, Token, fault_of};
+use orc_chronicle::Program;
+use orc_graph::Graph;
+use orc_ledger::{What, stands};
+use orc_records::ReturnFault;
+use orc_rules::answers::Answers;
+use orc_rules::value::{Answer, Args};
+use orc_tables::Token as Record;
+use orc_word::{Naming, Pass};
+
+/// What has become of a call that was answered.
+#[derive(Drop)]
+pub enum Answered<P: Naming> {
+    /// A token on the answer is out.
+    Token(Token<P>),
+    /// It halted: its pass is to be left.
+    Halted(Pass<P>),
+}
+
+impl<P: Program + Naming> Book<P> {
+    // Whether a token calls a site next.
+    fn calls_next(&self, graph: &Graph, its: &Record) -> bool
+        requires graph { graph.now ≡ P.listing }
+        ensures { result ≡ true → what_of (code P.listing) (definitions P.listing) self.now.ledger its.now ≡ What.Call }
+    {
+        match self.ledger.what(graph, its) {
+            What::Call => true,
+            _ => false,
+        }
+    }
+
+    /// A call of a site with values: it pends where the token was, and the book holds its pass. Gives its number. `args` is lent for the arguments.
+    pub fn call(
+        &mut self,
+        graph: &Graph,
+        answers: &Answers,
+        token: Token<P>,
+        args: &mut Args,
+    ) -> Result<u64, Refused<Token<P>>>
+        requires graph { graph.now ≡ P.listing }
+        requires answers { answers.now.sites ≡ P.sites }
+        ensures done { IfOk result (λ k. (t : Its) × (c : ItsCall) × IsToken self.old token.slot token.serial token.pass t × (c.number ≡ k) × IsMade P.listing P.sites self.old.ledger t c self.new.ledger) }
+        ensures refused { IfErr result (λ r. HasStayed self.old self.new × (r.back ≡ token)) }
+    {
+        let Some(its) = self.record_of(&token) else {
+            return Err(Refused {
+                why: BookFault::Gone,
+                back: token,
+            });
+        };
+        let group = self.ledger.group_of_token(&its);
+        let out = self.out_of(group);
+        if out < 1 {
+            return Err(Refused {
+                why: BookFault::Gone,
+                back: token,
+            });
+        }
+        if !self.calls_next(graph, &its) {
+            return Err(Refused {
+                why: BookFault::Wrong,
+                back: token,
+            });
+        }
+        if reserve_at(&mut self.posts, group).is_err() {
+            return Err(Refused {
+                why: BookFault::Memory,
+                back: token,
+            });
+        }
+        stands(&self.ledger);
+        match self.ledger.call(graph, answers, token.slot, its, args) {
+            Ok(call) => {
+                bring_at(&mut self.posts, group, out - 1, token.pass);
+                Ok(call.number)
+            }
+            Err(fault) => Err(Refused {
+                why: fault_of(fault),
+                back: token,
+            }),
+        }
+    }
+}
+
+impl<P: Program + Naming> Book<P> {
+    /// A call that pends is answered, where the table of sites gives this answer and it is due now. With a value a token on it is out, with the call's pass;
+    /// else that is to be left.
+    pub fn returned(&mut self, number: u64, answer: Answer) -> Result<Answered<P>, BookFault>
+        ensures done { IfOk result (λ a. (c : ItsCall) × (slot : Option ℕ) × Pends self.old.ledger number c × IsReturned self.old.ledger c answer slot self.new.ledger) }
+        ensures refused { OnErr result (self.new ≡ self.old) }
+    {
+        let Some(call) = self.ledger.pending(number) else {
+            return Err(BookFault::Gone);
+        };
+        let group = self.ledger.group_of_call(&call);
+        let out = out_in(&self.posts, group);
+        stands(&self.ledger);
+        match self.ledger.returned(number, answer) {
+            Ok(Some(slot)) => {
+                let _tokens = self.ledger.token_count();
+                let Some(pass) = send_at(&mut self.posts, group, out + 1) else {
+                    unreachable!()
+                };
+                Ok(Answered::Token(self.born(slot, pass)))
+            }
+            Ok(None) => {
+                let Some(pass) = take_at(&mut self.posts, group) else {
+                    unreachable!()
+                };
+                Ok(Answered::Halted(pass))
+            }
+            Err(ReturnFault::Gone) => Err(BookFault::Gone),
+            Err(ReturnFault::Wrong) => Err(BookFault::Wrong),
+            Err(ReturnFault::Limit) => Err(BookFault::Limit),
+            Err(ReturnFault::Memory) => Err(BookFault::Memory),
+        }
+    }
+}

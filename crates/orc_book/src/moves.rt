@@ -1,0 +1,252 @@
+//! Moves of tokens that are out.
+ghost use Rattle.std.specs.Prelude.{◌≡◌, ◌≤◌, ◌<◌, ◌⊎◌, ℕ, List, length, true, Some, IfOk, IfErr, IfSome};
+ghost use Rattle.orc_rules.specs.Timed.{IsIn};
+ghost use Rattle.orc_rules.specs.declared.value.Value.{Value as ValueOf};
+ghost use Rattle.orc_tables.specs.declared.records.Token.{Token as Its};
+ghost use Rattle.orc_rules.specs.Nodes.{code, definitions};
+ghost use Rattle.orc_records.specs.Doing.{what_of};
+ghost use Rattle.orc_records.specs.Moves.{Moves};
+ghost use Rattle.orc_records.specs.declared.results.Moved.TheVariants as moved;
+ghost use Rattle.orc_book.specs.Held.{IsToken, out_at, word_at};
+ghost use Rattle.orc_tables.specs.Tokens.{IsHeld};
+ghost use Rattle.orc_tables.specs.Steps.{group_at};
+ghost use Rattle.orc_records.specs.Calls.{IsForked};
+ghost use Rattle.orc_word.specs.Views.{group_of};
+
+use crate::book::Book;
+use crate::post::{out_in, set_out};
+use crate::token::{BookFault, Refused, Token, fault_of};
+use orc_chronicle::Program;
+use orc_graph::{Graph, Node};
+use orc_ledger::{What, stands};
+use orc_tables::{Standing, Token as Record};
+use orc_word::{Naming, Pass};
+
+impl<P: Program + Naming> Book<P> {
+    // The record of a token that is out, if it is there: its pass names its group's word, and some token of the group is out.
+    pub(crate) fn record_of(&self, token: &Token<P>) -> Option<Record>
+        ensures token { IfSome result (λ t. IsToken self.now token.now.slot token.now.serial token.now.pass t) }
+        ensures there { IfSome result (λ t. IsIn t self.now.ledger.tokens) }
+    {
+        if token.serial < 1 {
+            return None;
+        }
+        let record = self.ledger.token(token.slot, token.serial)?;
+        let group = self.ledger.group_of_token(&record);
+        let post = self.posts.get(group as usize)?;
+        if token.pass.group() == Some(post.word()) {
+            Some(record)
+        } else {
+            None
+        }
+    }
+
+    // Whether a token goes next, and no value of it is published.
+    fn ends_next(&self, graph: &Graph, its: &Record) -> bool
+        requires graph { graph.now ≡ P.listing }
+        ensures { result ≡ true → (what_of (code P.listing) (definitions P.listing) self.now.ledger its.now ≡ What.Halt) ⊎ (what_of (code P.listing) (definitions P.listing) self.now.ledger its.now ≡ What.Void) }
+    {
+        match self.ledger.what(graph, its) {
+            What::Halt => true,
+            What::Void => true,
+            _ => false,
+        }
+    }
+
+    // How many tokens of a group are out.
+    pub(crate) fn out_of(&self, group: u32) -> usize
+        ensures out { result ≡ out_at self.now.posts group }
+        ensures there { 1 ≤ result → group < length self.now.posts }
+    {
+        out_in(&self.posts, group)
+    }
+}
+
+impl<P: Program + Naming> Book<P> {
+    /// A token that ends, at `stop` or where it is void. Its pass is to be left.
+    pub fn end(&mut self, graph: &Graph, token: Token<P>) -> Result<Pass<P>, Refused<Token<P>>>
+        requires graph { graph.now ≡ P.listing }
+        ensures done { IfOk result (λ pass. (t : Its) × (g : ℕ) × (ks : List ℕ) × IsToken self.old token.slot token.serial token.pass t × Moves P.listing self.old.ledger token.slot t (moved.Gone g) ks self.new.ledger) }
+        ensures pass { IfOk result (λ pass. pass ≡ token.pass) }
+        ensures refused { IfErr result (λ r. (self.new ≡ self.old) × (r.back ≡ token)) }
+    {
+        let Some(record) = self.record_of(&token) else {
+            return Err(Refused {
+                why: BookFault::Gone,
+                back: token,
+            });
+        };
+        let group = self.ledger.group_of_token(&record);
+        let out = self.out_of(group);
+        if out < 1 {
+            return Err(Refused {
+                why: BookFault::Gone,
+                back: token,
+            });
+        }
+        if !self.ends_next(graph, &record) {
+            return Err(Refused {
+                why: BookFault::Wrong,
+                back: token,
+            });
+        }
+        stands(&self.ledger);
+        match self.ledger.advance(
+            graph,
+            token.slot,
+            record,
+            &mut self.scopes,
+            &mut self.cancelled,
+        ) {
+            Ok(_gone) => {
+                set_out(&mut self.posts, group, out - 1);
+                Ok(token.pass)
+            }
+            Err(fault) => Err(Refused {
+                why: fault_of(fault),
+                back: token,
+            }),
+        }
+    }
+}
+
+impl<P: Program + Naming> Book<P> {
+    // The token in a slot, which goes out with this pass.
+    pub(crate) fn born(&self, slot: usize, pass: Pass<P>) -> Token<P>
+        requires held { (t : Its) × IsHeld self.now.ledger.slots slot t × (group_of pass ≡ Some (word_at self.now.posts (group_at self.now.ledger.steps t.step))) }
+        ensures token { (t : Its) × IsToken self.now result.slot result.serial result.pass t }
+        ensures same { (result.slot ≡ slot) × (result.pass ≡ pass) }
+    {
+        let Some(its) = self.ledger.held(slot) else {
+            unreachable!()
+        };
+        Token {
+            serial: its.serial,
+            slot,
+            pass,
+        }
+    }
+
+    /// A token at `f | g`: one on each side is out in its place, the left one with its pass, the right one with `same`, which names its group too.
+    pub fn fork(
+        &mut self,
+        graph: &Graph,
+        token: Token<P>,
+        same: Pass<P>,
+    ) -> Result<(Token<P>, Token<P>), Refused<(Token<P>, Pass<P>)>>
+        requires graph { graph.now ≡ P.listing }
+        requires same { group_of same ≡ group_of token.pass }
+        ensures done { IfOk result (λ two. (t : Its) × (scope : ℕ) × (left : ℕ) × (right : ℕ) × IsToken self.old token.slot token.serial token.pass t × IsForked self.old.ledger t scope left right self.new.ledger) }
+        ensures born { IfOk result (λ two. ((t : Its) × IsToken self.new two.0.slot two.0.serial two.0.pass t) × ((t : Its) × IsToken self.new two.1.slot two.1.serial two.1.pass t)) }
+        ensures refused { IfErr result (λ r. (self.new ≡ self.old) × (r.back.0 ≡ token) × (r.back.1 ≡ same)) }
+    {
+        let Some(its) = self.record_of(&token) else {
+            return Err(Refused {
+                why: BookFault::Gone,
+                back: (token, same),
+            });
+        };
+        let group = self.ledger.group_of_token(&its);
+        let out = self.out_of(group);
+        if out < 1 {
+            return Err(Refused {
+                why: BookFault::Gone,
+                back: (token, same),
+            });
+        }
+        let Some(more) = out.checked_add(1) else {
+            return Err(Refused {
+                why: BookFault::Full,
+                back: (token, same),
+            });
+        };
+        let Standing::At(node, scope) = its.standing else {
+            return Err(Refused {
+                why: BookFault::Wrong,
+                back: (token, same),
+            });
+        };
+        let Node::Par(left, right) = graph.node(node as usize) else {
+            return Err(Refused {
+                why: BookFault::Wrong,
+                back: (token, same),
+            });
+        };
+        stands(&self.ledger);
+        match self.ledger.fork(token.slot, its, scope, left, right) {
+            Ok(other) => {
+                set_out(&mut self.posts, group, more);
+                let Token {
+                    serial: _,
+                    slot,
+                    pass,
+                } = token;
+                let one = self.born(slot, pass);
+                let two = self.born(other, same);
+                Ok((one, two))
+            }
+            Err(fault) => Err(Refused {
+                why: fault_of(fault),
+                back: (token, same),
+            }),
+        }
+    }
+}
+
+impl<P: Program + Naming> Book<P> {
+    // Whether a token publishes a value of the program next.
+    fn publishes_next(&self, graph: &Graph, its: &Record) -> bool
+        requires graph { graph.now ≡ P.listing }
+        ensures { result ≡ true → (v : ValueOf) × (what_of (code P.listing) (definitions P.listing) self.now.ledger its.now ≡ What.Publish v) }
+    {
+        match self.ledger.what(graph, its) {
+            What::Publish(_) => true,
+            _ => false,
+        }
+    }
+
+    /// A publication of the program. The token's pass is to be left.
+    pub fn publish(&mut self, graph: &Graph, token: Token<P>) -> Result<Pass<P>, Refused<Token<P>>>
+        requires graph { graph.now ≡ P.listing }
+        ensures done { IfOk result (λ pass. (t : Its) × (g : ℕ) × (ks : List ℕ) × IsToken self.old token.slot token.serial token.pass t × Moves P.listing self.old.ledger token.slot t (moved.Gone g) ks self.new.ledger) }
+        ensures pass { IfOk result (λ pass. pass ≡ token.pass) }
+        ensures refused { IfErr result (λ r. (self.new ≡ self.old) × (r.back ≡ token)) }
+    {
+        let Some(its) = self.record_of(&token) else {
+            return Err(Refused {
+                why: BookFault::Gone,
+                back: token,
+            });
+        };
+        let group = self.ledger.group_of_token(&its);
+        let out = self.out_of(group);
+        if out < 1 {
+            return Err(Refused {
+                why: BookFault::Gone,
+                back: token,
+            });
+        }
+        if !self.publishes_next(graph, &its) {
+            return Err(Refused {
+                why: BookFault::Wrong,
+                back: token,
+            });
+        }
+        match self.ledger.advance(
+            graph,
+            token.slot,
+            its,
+            &mut self.scopes,
+            &mut self.cancelled,
+        ) {
+            Ok(_gone) => {
+                set_out(&mut self.posts, group, out - 1);
+                Ok(token.pass)
+            }
+            Err(fault) => Err(Refused {
+                why: fault_of(fault),
+                back: token,
+            }),
+        }
+    }
+}

@@ -1,0 +1,85 @@
+//! Two workers with one book under a lock.
+
+ghost use Rattle.std.specs.Prelude.{◌≡◌};
+
+use crate::book::Book;
+use crate::token::Token;
+use orc_chronicle::Program;
+use orc_graph::Graph;
+use orc_word::{Groups, Last, Naming, Pass};
+use std::alloc::Global;
+use std::sync::{Mutex, Wait};
+use std::thread::{Threads, join};
+
+// Leaves a pass outside the lock. The last one who does closes the group.
+fn leave_one<P: Program + Naming, R: Wait>(
+    rt: &R,
+    groups: &Groups<P>,
+    book: &Mutex<Book<P>>,
+    pass: Pass<P>,
+    more: &mut Vec<Pass<P>>,
+) -> bool {
+    if pass.group().is_none() {
+        return false;
+    }
+    let left = groups.leave(pass);
+    match left.last {
+        Some(last) => close(rt, book, last, more),
+        None => false,
+    }
+}
+
+fn close<P: Program + Naming, R: Wait>(
+    rt: &R,
+    book: &Mutex<Book<P>>,
+    last: Last<P>,
+    more: &mut Vec<Pass<P>>,
+) -> bool {
+    book.lock(rt).halt(last, more).is_ok()
+}
+
+// Binds under the lock, and leaves the passes outside it.
+fn bind_one<P: Program + Naming, R: Wait>(
+    rt: &R,
+    alloc: Global,
+    graph: &Graph,
+    groups: &Groups<P>,
+    book: &Mutex<Book<P>>,
+    token: Token<P>,
+) -> bool
+    requires { graph.now ≡ P.listing }
+{
+    let mut leave = Vec::new(alloc);
+    let bound = book.lock(rt).bind(groups, graph, token, &mut leave).is_ok();
+    let mut more = Vec::new(alloc);
+    while let Some(pass) = leave.pop() {
+        let _closed = leave_one(rt, groups, book, pass, &mut more);
+    }
+    bound
+}
+
+/// Two tokens of one group bind at the same time: which of them did.
+pub fn two_binds<P, R>(
+    rt: &R,
+    alloc: Global,
+    graph: &Graph,
+    groups: &Groups<P>,
+    book: &Mutex<Book<P>>,
+    one: Token<P>,
+    two: Token<P>,
+) -> (bool, bool)
+where
+    P: Program + Naming + Send + Sync,
+    R: Threads + Wait + Sync,
+    requires { graph.now ≡ P.listing }
+{
+    join(
+        rt,
+        move ||
+            requires { graph.now ≡ P.listing }
+        { bind_one(rt, alloc, graph, groups, book, one) },
+        move ||
+            requires { graph.now ≡ P.listing }
+        { bind_one(rt, alloc, graph, groups, book, two) },
+    )
+}

@@ -1,0 +1,352 @@
+//! What a book has of a group.
+ghost use Rattle.std.specs.Prelude.{◌≡◌, ◌+◌, ◌-◌, ◌<◌, ◌≤◌, ◌^◌, ◌∷◌, ◌++◌, [], Some, length, vec_len, vec_capacity, IfOk, OnOk, MatchOption};
+ghost use Rattle.orc_word.specs.Views.{group_of};
+ghost use Rattle.orc_book.specs.Held.{Hold, AreFirst, Becomes, Changes, Same, OneMore, OneFewer, held_at, out_at, word_at, room_at};
+
+use orc_rules::limits::MOST_GROUPS;
+use orc_word::{Naming, Pass};
+use std::alloc::{AllocError, Global};
+use std::marker::Model;
+
+/// What a book has of a group: the number of its word, the passes to it that the book holds, and how many of its tokens are kept here and are out.
+#[derive(Drop)]
+pub(crate) struct Post<J: Naming> {
+    word: u32,
+    // The ledger's number of the group round it.
+    parent: u32,
+    passes: Vec<Pass<J>>,
+    kept: usize,
+    out: usize,
+}
+
+impl<J: Naming> Model for Post<J> {
+    ghost use Rattle.std.specs.Prelude.{◌≡◌, ◌-◌, Some, All, vec_len, vec_capacity};
+    ghost use Rattle.orc_word.specs.Views.{group_of};
+    ghost use Rattle.orc_book.specs.Held.{Hold};
+
+    ghost Value = { Hold };
+
+    ghost view = { λ p. record { word = p.word; passes = p.passes.items; room = vec_capacity p.passes - vec_len p.passes; kept = p.kept; out = p.out } };
+
+    ghost invariant = { λ p. All (λ v. group_of v ≡ Some p.word) p.passes.items };
+}
+
+impl<J: Naming> Post<J> {
+    /// The post of a group whose word has this number, with no passes.
+    pub(crate) fn new(alloc: Global, word: u32, parent: u32) -> Post<J>
+        ensures { (result.word ≡ word) × (result.passes ≡ []) × (result.kept ≡ 0) × (result.out ≡ 0) }
+    {
+        Post {
+            word,
+            parent,
+            passes: Vec::new(alloc),
+            kept: 0,
+            out: 0,
+        }
+    }
+
+    /// The number of the group's word.
+    pub(crate) fn word(&self) -> u32
+        ensures { result ≡ self.now.word }
+    {
+        self.word
+    }
+
+    /// The ledger's number of the group round it, as it was told when the post was made.
+    pub(crate) fn parent(&self) -> u32 {
+        self.parent
+    }
+
+    /// It is of a new group, whose word and whose parent's number are these, and one token of it is out.
+    pub(crate) fn raise(&mut self, word: u32, parent: u32)
+        requires { length self.old.passes ≡ 0 }
+        ensures { (self.new.word ≡ word) × (self.new.passes ≡ self.old.passes) × (self.new.kept ≡ self.old.kept) × (self.new.out ≡ 1) }
+    {
+        self.word = word;
+        self.parent = parent;
+        self.out = 1;
+    }
+
+    /// How many passes the book holds.
+    pub(crate) fn held(&self) -> usize
+        ensures { result ≡ length self.now.passes }
+    {
+        self.passes.len()
+    }
+
+    /// How many tokens are kept.
+    pub(crate) fn kept(&self) -> usize
+        ensures { result ≡ self.now.kept }
+    {
+        self.kept
+    }
+
+    /// How many tokens are out.
+    pub(crate) fn out(&self) -> usize
+        ensures { result ≡ self.now.out }
+    {
+        self.out
+    }
+
+    /// So many tokens are out.
+    pub(crate) fn set_out(&mut self, out: usize)
+        ensures { self.new ≡ record self.old { out = out } }
+    {
+        self.out = out;
+    }
+
+    /// So many tokens are kept.
+    pub(crate) fn set_kept(&mut self, kept: usize)
+        ensures { self.new ≡ record self.old { kept = kept } }
+    {
+        self.kept = kept;
+    }
+
+    /// A pass, if one is held.
+    pub(crate) fn take(&mut self) -> Option<Pass<J>>
+        ensures rest { (self.new.word ≡ self.old.word) × (self.new.kept ≡ self.old.kept) × (self.new.out ≡ self.old.out) }
+        ensures pass { MatchOption result ((length self.old.passes ≡ 0) × (length self.new.passes ≡ 0)) (λ pass. (group_of pass ≡ Some self.old.word) × (length self.old.passes ≡ length self.new.passes + 1)) }
+    {
+        self.passes.pop()
+    }
+
+    /// Passes go until they are, with the tokens that are out, as many as the group has members. They are to be left.
+    pub(crate) fn settle(&mut self, members: usize, leave: &mut Vec<Pass<J>>)
+        requires enough { members ≤ length self.old.passes + self.old.out }
+        requires out { self.old.out ≤ members }
+        requires room { vec_len leave.old + length self.old.passes ≤ vec_capacity leave.old }
+        ensures rest { (self.new.word ≡ self.old.word) × (self.new.kept ≡ self.old.kept) × (self.new.out ≡ self.old.out) }
+        ensures held { length self.new.passes + self.new.out ≡ members }
+        ensures left { vec_len leave.new + length self.new.passes ≡ vec_len leave.old + length self.old.passes }
+        ensures capacity { vec_capacity leave.new ≡ vec_capacity leave.old }
+    {
+        let wanted = members - self.out;
+        while self.passes.len() > wanted {
+            if let Some(pass) = self.passes.pop() {
+                leave.push_reserved(pass);
+            }
+        }
+    }
+
+    /// Makes room for one pass more.
+    pub(crate) fn reserve(&mut self) -> Result<(), AllocError>
+        ensures rest { (self.new.word ≡ self.old.word) × (self.new.passes ≡ self.old.passes) × (self.new.kept ≡ self.old.kept) × (self.new.out ≡ self.old.out) }
+        ensures room { OnOk result (1 ≤ self.new.room) }
+    {
+        self.passes.try_reserve(1)
+    }
+
+    /// One pass more, for which there is room.
+    pub(crate) fn put(&mut self, pass: Pass<J>)
+        requires room { 1 ≤ self.old.room }
+        requires names { group_of pass ≡ Some self.old.word }
+        ensures rest { (self.new.word ≡ self.old.word) × (self.new.kept ≡ self.old.kept) × (self.new.out ≡ self.old.out) }
+        ensures held { length self.new.passes ≡ length self.old.passes + 1 }
+    {
+        self.passes.push_reserved(pass);
+    }
+}
+
+/// So many tokens of a group are out.
+pub(crate) fn set_out<J: Naming>(posts: &mut Vec<Post<J>>, number: u32, out: usize)
+    requires there { number < length posts.old.items }
+    ensures { (p : Hold) × Becomes posts.old.items number p (record p { out = out }) posts.new.items }
+{
+    if let Some(post) = posts.get_mut(number as usize) {
+        post.set_out(out);
+    }
+}
+
+/// No token of a group is kept or out any more.
+pub(crate) fn clear_at<J: Naming>(posts: &mut Vec<Post<J>>, number: u32)
+    requires there { number < length posts.old.items }
+    ensures { (p : Hold) × Becomes posts.old.items number p (record p { kept = 0; out = 0 }) posts.new.items }
+{
+    if let Some(post) = posts.get_mut(number as usize) {
+        post.set_kept(0);
+        post.set_out(0);
+    }
+}
+
+/// The passes of a group that are too many go: they are to be left.
+pub(crate) fn settle_at<J: Naming>(
+    posts: &mut Vec<Post<J>>,
+    number: u32,
+    members: usize,
+    leave: &mut Vec<Pass<J>>,
+)
+    requires there { number < length posts.old.items }
+    requires enough { members ≤ held_at posts.old.items number + out_at posts.old.items number }
+    requires out { out_at posts.old.items number ≤ members }
+    requires room { vec_len leave.old + held_at posts.old.items number ≤ vec_capacity leave.old }
+    ensures post { (p : Hold) × (q : Hold) × Becomes posts.old.items number p q posts.new.items × (q.word ≡ p.word) × (q.kept ≡ p.kept) × (q.out ≡ p.out) × (length q.passes + q.out ≡ members) × (vec_len leave.new + length q.passes ≡ vec_len leave.old + length p.passes) }
+    ensures capacity { vec_capacity leave.new ≡ vec_capacity leave.old }
+{
+    if let Some(post) = posts.get_mut(number as usize) {
+        post.settle(members, leave);
+    }
+}
+
+/// Makes room for one pass more of a group.
+pub(crate) fn reserve_at<J: Naming>(posts: &mut Vec<Post<J>>, number: u32) -> Result<(), AllocError>
+    requires there { number < length posts.old.items }
+    ensures same { Changes posts.old.items number posts.new.items Same }
+    ensures room { OnOk result (1 ≤ room_at posts.new.items number) }
+{
+    match posts.get_mut(number as usize) {
+        Some(post) => post.reserve(),
+        None => Ok(()),
+    }
+}
+
+/// One pass more of a group.
+pub(crate) fn put_at<J: Naming>(posts: &mut Vec<Post<J>>, number: u32, pass: Pass<J>)
+    requires there { number < length posts.old.items }
+    requires room { 1 ≤ room_at posts.old.items number }
+    requires names { group_of pass ≡ Some (word_at posts.old.items number) }
+    ensures more { Changes posts.old.items number posts.new.items OneMore }
+{
+    if let Some(post) = posts.get_mut(number as usize) {
+        post.put(pass);
+    }
+}
+
+/// One pass fewer of a group.
+pub(crate) fn take_at<J: Naming>(posts: &mut Vec<Post<J>>, number: u32) -> Option<Pass<J>>
+    ensures fewer { MatchOption result (held_at posts.old.items number ≡ 0) (λ pass. (group_of pass ≡ Some (word_at posts.old.items number)) × Changes posts.old.items number posts.new.items OneFewer) }
+{
+    match posts.get_mut(number as usize) {
+        Some(post) => post.take(),
+        None => None,
+    }
+}
+
+/// So many tokens of a group are out, and the pass of one that was comes into the book.
+pub(crate) fn bring_at<J: Naming>(posts: &mut Vec<Post<J>>, number: u32, out: usize, pass: Pass<J>)
+    requires there { number < length posts.old.items }
+    requires room { 1 ≤ room_at posts.old.items number }
+    requires names { group_of pass ≡ Some (word_at posts.old.items number) }
+    ensures more { Changes posts.old.items number posts.new.items (λ p q. (length q.passes ≡ length p.passes + 1) × (q.kept ≡ p.kept) × (q.out ≡ out)) }
+{
+    if let Some(post) = posts.get_mut(number as usize) {
+        post.put(pass);
+        post.set_out(out);
+    }
+}
+
+/// So many tokens of a group are out and kept, and the pass of one that was out comes into the book.
+pub(crate) fn keep_at<J: Naming>(
+    posts: &mut Vec<Post<J>>,
+    number: u32,
+    out: usize,
+    kept: usize,
+    pass: Pass<J>,
+)
+    requires there { number < length posts.old.items }
+    requires room { 1 ≤ room_at posts.old.items number }
+    requires names { group_of pass ≡ Some (word_at posts.old.items number) }
+    ensures more { Changes posts.old.items number posts.new.items (λ p q. (length q.passes ≡ length p.passes + 1) × (q.kept ≡ kept) × (q.out ≡ out)) }
+{
+    if let Some(post) = posts.get_mut(number as usize) {
+        post.put(pass);
+        post.set_out(out);
+        post.set_kept(kept);
+    }
+}
+
+/// So many tokens of a group are out, and a pass for one of them goes out of the book, if one is held.
+pub(crate) fn send_at<J: Naming>(
+    posts: &mut Vec<Post<J>>,
+    number: u32,
+    out: usize,
+) -> Option<Pass<J>>
+    ensures fewer { MatchOption result (held_at posts.old.items number ≡ 0) (λ pass. (group_of pass ≡ Some (word_at posts.old.items number)) × Changes posts.old.items number posts.new.items (λ p q. (length q.passes + 1 ≡ length p.passes) × (q.kept ≡ p.kept) × (q.out ≡ out))) }
+{
+    match posts.get_mut(number as usize) {
+        Some(post) => {
+            let pass = post.take()?;
+            post.set_out(out);
+            Some(pass)
+        }
+        None => None,
+    }
+}
+
+/// How many tokens of a group are out.
+pub(crate) fn out_in<J: Naming>(posts: &Vec<Post<J>>, number: u32) -> usize
+    ensures out { result ≡ out_at posts.now.items number }
+    ensures there { 1 ≤ result → number < length posts.now.items }
+{
+    match posts.get(number as usize) {
+        Some(post) => post.out(),
+        None => 0,
+    }
+}
+
+/// A pass of a group, if with the tokens that are out it has more than so many.
+pub(crate) fn spare_at<J: Naming>(
+    posts: &mut Vec<Post<J>>,
+    number: u32,
+    members: usize,
+) -> Option<Pass<J>>
+    ensures { MatchOption result (posts.new.items ≡ posts.old.items) (λ pass. (group_of pass ≡ Some (word_at posts.old.items number)) × (members + 1 ≤ held_at posts.old.items number + out_at posts.old.items number) × Changes posts.old.items number posts.new.items OneFewer) }
+{
+    let held = held_in(posts, number);
+    let out = out_in(posts, number);
+    if out <= members && members - out < held {
+        take_at(posts, number)
+    } else {
+        None
+    }
+}
+
+/// How many passes of a group are held.
+pub(crate) fn held_in<J: Naming>(posts: &Vec<Post<J>>, number: u32) -> usize
+    ensures { result ≡ held_at posts.now.items number }
+{
+    match posts.get(number as usize) {
+        Some(post) => post.held(),
+        None => 0,
+    }
+}
+
+/// The numbers of a group's word and of the group round it.
+pub(crate) fn place_in<J: Naming>(posts: &Vec<Post<J>>, number: u32) -> Option<(u32, u32)> {
+    match posts.get(number as usize) {
+        Some(post) => Some((post.word(), post.parent())),
+        None => None,
+    }
+}
+
+/// The number of a group's word.
+pub(crate) fn word_in<J: Naming>(posts: &Vec<Post<J>>, number: u32) -> u32
+    ensures { result ≡ word_at posts.now.items number }
+{
+    match posts.get(number as usize) {
+        Some(post) => post.word(),
+        None => 0,
+    }
+}
+
+/// Posts of as many groups as there may be, with no passes.
+pub(crate) fn first_posts<J: Naming>(alloc: Global) -> Result<Vec<Post<J>>, AllocError>
+    ensures { IfOk result (λ posts. AreFirst posts.items) }
+{
+    let mut posts = Vec::new(alloc);
+    posts.push(Post::new(alloc, 0, 0))?;
+    for _group in 1..MOST_GROUPS {
+        posts.push(Post::new(alloc, 0, 0))?;
+    }
+    Ok(posts)
+}
+
+/// A post is of a new group, whose word and whose parent's number are these, and one token of it is out.
+pub(crate) fn raise_at<J: Naming>(posts: &mut Vec<Post<J>>, number: u32, word: u32, parent: u32)
+    requires there { number < length posts.old.items }
+    requires empty { held_at posts.old.items number ≡ 0 }
+    ensures { (p : Hold) × (q : Hold) × Becomes posts.old.items number p q posts.new.items × (q.word ≡ word) × (q.passes ≡ p.passes) × (q.kept ≡ p.kept) × (q.out ≡ 1) }
+{
+    if let Some(post) = posts.get_mut(number as usize) {
+        post.raise(word, parent);
+    }
+}
