@@ -36,8 +36,8 @@ has_blank_ends() { [[ $1$'\n' == *' '$'\n'* ]]; }
 
 # Builds the program of storms where it isn't built yet; its path is in `storms`.
 need_storms() {
-    storms=$top/crates/orc_storms/out/orc_storms
-    if [ ! -x "$storms" ]; then (cd "$top/crates/orc_storms" && rt run -- 1) >/dev/null 2>&1; fi
+    storms=$top/crates/orc_stress/out/orc_stress
+    if [ ! -x "$storms" ]; then (cd "$top/crates/orc_stress" && rt run -- 1) >/dev/null 2>&1; fi
     if [ ! -x "$storms" ]; then
         echo "the program isn't built: there is no $storms" >&2
         exit 1

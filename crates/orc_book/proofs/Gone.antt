@@ -5,29 +5,29 @@ use Rattle.std.proofs.lemmas.Bool.{eqb-true}
 use Rattle.orc_rules.specs.Nodes.{Listing, code}
 use Rattle.orc_rules.specs.Sites.{Site}
 use Rattle.orc_rules.specs.Timed.{IsIn}
-use Rattle.orc_names.specs.declared.names.Bound.{Bound}
+use Rattle.orc_env.specs.declared.names.Bound.{Bound}
 use Rattle.orc_indexes.specs.Same.{weight, but, is_this, None}
-use Rattle.orc_paths.specs.Spelling.{aiding, inside}
-use Rattle.orc_records.specs.Records.{Records, Lawful, its_env, raw_path}
-use Rattle.orc_records.specs.Calls.{Drops, token_goes, call_goes, group_goes, is_inside}
-use Rattle.orc_records.specs.Homes.{home, Nest}
-use Rattle.orc_records.specs.Next.{AreGrouped, numbers_of, members, IsSide}
+use Rattle.orc_frames.specs.Spelling.{aiding, inside}
+use Rattle.orc_ledger_spec.specs.Records.{Records, Lawful, its_env, raw_path}
+use Rattle.orc_ledger_spec.specs.Calls.{Drops, token_goes, call_goes, group_goes, is_inside}
+use Rattle.orc_ledger_spec.specs.Homes.{home, Nest}
+use Rattle.orc_ledger_spec.specs.Next.{AreGrouped, numbers_of, members, IsSide}
 use Rattle.orc_tables.specs.Steps.{group_at}
 use Rattle.orc_tables.specs.Inside.{aids}
 use Rattle.orc_tables.specs.OpenGroups.{tokens_in, calls_in, groups_in, is_named, IsOpen}
 use Rattle.orc_tables.specs.declared.records.Token.{Token}
 use Rattle.orc_tables.specs.declared.records.Call.{Call}
 use Rattle.orc_tables.specs.declared.records.Step.{Step}
-use Rattle.orc_tables.specs.declared.records.Entered.{Entered}
-use Rattle.orc_tables.specs.declared.records.Entered.TheVariants.{Feed, Aid, Try}
+use Rattle.orc_tables.specs.declared.records.Frame.{Frame}
+use Rattle.orc_tables.specs.declared.records.Frame.TheVariants.{SeqLeft, PruneRight, OtherwiseLeft}
 use Rattle.orc_tables.specs.declared.records.Side.{Side}
 use Rattle.orc_tables.specs.declared.records.Side.TheVariants.{Right, Left}
 use Rattle.orc_tables.specs.declared.records.Group.{Group}
 use Rattle.orc_indexes.proofs.Weight.{weight-in, weight-none, weight-but, none-alike, this_is, some-in, this_one}
-use Rattle.orc_paths.proofs.Growth.{path-none}
-use Rattle.orc_records.proofs.Homes.{inn-home, inn-step}
-use Rattle.orc_records.proofs.Places.{IsPlaced, is_placed, placed-test, IsSided, is_sided, sided-test, not_false}
-use Rattle.orc_records.proofs.Grouped.{AreSettled, settled-of, placed-token, placed-call, placed-group, dropped-grouped}
+use Rattle.orc_frames.proofs.Growth.{path-none}
+use Rattle.orc_ledger_spec.proofs.Homes.{inn-home, inn-step}
+use Rattle.orc_ledger_spec.proofs.Places.{IsPlaced, is_placed, placed-test, IsSided, is_sided, sided-test, not_false}
+use Rattle.orc_ledger_spec.proofs.Grouped.{AreSettled, settled-of, placed-token, placed-call, placed-group, dropped-grouped}
 
 module _ (l : Listing) (sites : List Site) (s : Records) (L : Lawful l sites s) (G : AreGrouped (numbers_of s) s) (c : ℕ) (u : Bound) (s' : Records) (D : Drops (code l) c u s s') where
   abbrev inn : ℕ → Bool
@@ -93,13 +93,13 @@ module _ (l : Listing) (sites : List Site) (s : Records) (L : Lawful l sites s) 
   or_is true x = refl
   or_is false x = refl
 
-  by_side : (e : Entered) (k : Side) (i : ℕ) → IsSide e k → is_inside c (raw_path (code l) s i) k ≡ (aids c e || inn i)
-  by_side (Feed x g scope) (Right d) i fit = elim fit [ ]
-  by_side (Feed x g scope) (Left n f sc) i fit = elim fit [ ]
-  by_side (Aid d) (Right e) i fit = ap (λ z. inside c (aiding z (raw_path (code l) s i))) (sym fit) ∙ or_is (nat_eq c d) (inn i)
-  by_side (Aid d) (Left n f sc) i fit = elim fit [ ]
-  by_side (Try m) (Right d) i fit = elim fit [ ]
-  by_side (Try m) (Left n f sc) i fit = refl
+  by_side : (e : Frame) (k : Side) (i : ℕ) → IsSide e k → is_inside c (raw_path (code l) s i) k ≡ (aids c e || inn i)
+  by_side (SeqLeft x g scope) (Right d) i fit = elim fit [ ]
+  by_side (SeqLeft x g scope) (Left n f sc) i fit = elim fit [ ]
+  by_side (PruneRight d) (Right e) i fit = ap (λ z. inside c (aiding z (raw_path (code l) s i))) (sym fit) ∙ or_is (nat_eq c d) (inn i)
+  by_side (PruneRight d) (Left n f sc) i fit = elim fit [ ]
+  by_side (OtherwiseLeft m) (Right d) i fit = elim fit [ ]
+  by_side (OtherwiseLeft m) (Left n f sc) i fit = refl
 
   up : (k : ℕ) (p : Step) → slice_get s.steps k ≡ Some p → inn (suc k) ≡ (aids c p.entered || inn p.outer)
   up k p h = inn-step (code l) (its_env (code l) s) s.steps G.homes L.sound.outwards G.are_homes c k p h

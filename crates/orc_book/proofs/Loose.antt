@@ -9,8 +9,8 @@ use Rattle.orc_rules.specs.declared.limits.TheConstants.{MOST_GROUPS}
 use Rattle.orc_indexes.specs.Same.{weight, is_this}
 use Rattle.orc_indexes.proofs.Weight.{weight-in, some-in, this_is, this_one}
 use Rattle.orc_indexes.proofs.Lists.{set-there, set-elsewhere, weight-set}
-use Rattle.orc_records.specs.Records.{Records}
-use Rattle.orc_records.specs.Next.{members, numbers_of}
+use Rattle.orc_ledger_spec.specs.Records.{Records}
+use Rattle.orc_ledger_spec.specs.Next.{members, numbers_of}
 use Rattle.orc_tables.specs.OpenGroups.{tokens_in, is_named}
 use Rattle.orc_tables.specs.declared.records.Group.{Group}
 use Rattle.orc_book.specs.Held.{Hold, word_at, Becomes, Changes, OneFewer, AreHeld, AreLoose, IsLoose, IsThere, IsMissing, bag, held_at, kept_at, out_at, passes_of, kept_of, out_of}

@@ -1,19 +1,19 @@
 //! The records of a run, and the passes of those that are not out with a worker.
 ghost use Rattle.std.specs.Prelude.{◌≡◌, ◌≤◌, Some, IfOk, IfErr};
 ghost use Rattle.orc_rules.specs.declared.limits.TheConstants.{MOST_ENTRIES};
-ghost use Rattle.orc_records.specs.Begun.{begun};
+ghost use Rattle.orc_ledger_spec.specs.Begun.{begun};
 ghost use Rattle.orc_tables.specs.declared.records.Token.{Token as Its};
 ghost use Rattle.orc_word.specs.Views.{group_of};
 ghost use Rattle.orc_book.specs.Held.{IsToken};
 
 use crate::post::{Post, first_posts, set_out};
-use crate::stand::{Stand, first_stands};
 use crate::token::{BookFault, Refused, Token};
+use crate::word_state::{Stand, first_stands};
 use crate::words::Words;
-use orc_chronicle::Program;
+use orc_env::StoredScope;
 use orc_graph::Graph;
 use orc_ledger::Ledger;
-use orc_names::StoredScope;
+use orc_log::Program;
 use orc_word::{Naming, Pass};
 use std::alloc::Global;
 use std::marker::Model;

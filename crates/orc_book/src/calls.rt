@@ -5,19 +5,19 @@ ghost use Rattle.orc_rules.specs.Timed.{IsIn};
 ghost use Rattle.orc_tables.specs.declared.records.Token.{Token as Its};
 ghost use Rattle.orc_tables.specs.declared.records.Call.{Call as ItsCall};
 ghost use Rattle.orc_tables.specs.Steps.{group_at};
-ghost use Rattle.orc_records.specs.Answers.{IsReturned, Pends};
-ghost use Rattle.orc_records.specs.Doing.{what_of};
-ghost use Rattle.orc_records.specs.Requests.{IsMade};
+ghost use Rattle.orc_ledger_spec.specs.Answers.{IsReturned, Pends};
+ghost use Rattle.orc_ledger_spec.specs.Doing.{what_of};
+ghost use Rattle.orc_ledger_spec.specs.Requests.{IsMade};
 ghost use Rattle.orc_word.specs.Views.{group_of};
 ghost use Rattle.orc_book.specs.Held.{IsToken, word_at, HasStayed};
 
 use crate::book::Book;
 use crate::post::{bring_at, out_in, reserve_at, send_at, take_at};
 use crate::token::{BookFault, Refused, Token, fault_of};
-use orc_chronicle::Program;
 use orc_graph::Graph;
-use orc_ledger::{What, stands};
-use orc_records::ReturnFault;
+use orc_ledger::{Action, stands};
+use orc_ledger_spec::ReturnFault;
+use orc_log::Program;
 use orc_rules::answers::Answers;
 use orc_rules::value::{Answer, Args};
 use orc_tables::Token as Record;
@@ -36,10 +36,10 @@ impl<P: Program + Naming> Book<P> {
     // Whether a token calls a site next.
     fn calls_next(&self, graph: &Graph, its: &Record) -> bool
         requires graph { graph.now ≡ P.listing }
-        ensures { result ≡ true → what_of (code P.listing) (definitions P.listing) self.now.ledger its.now ≡ What.Call }
+        ensures { result ≡ true → what_of (code P.listing) (definitions P.listing) self.now.ledger its.now ≡ Action.Call }
     {
         match self.ledger.what(graph, its) {
-            What::Call => true,
+            Action::Call => true,
             _ => false,
         }
     }

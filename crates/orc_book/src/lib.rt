@@ -1,21 +1,21 @@
 //! A book: the records of a run, and the passes of those that are not out with a worker.
 #![tactic(auto)]
 
-mod binding;
+mod bind;
 mod book;
 mod calls;
-mod halting;
+mod halt;
 mod moves;
-mod opening;
+mod open;
 mod pair;
 mod post;
-mod settling;
-mod stand;
+mod settle;
 mod token;
+mod word_state;
 mod words;
 
 pub use book::Book;
 pub use calls::Answered;
-pub use halting::Ended;
+pub use halt::Ended;
 pub use pair::two_binds;
 pub use token::{BookFault, Refused, Token};

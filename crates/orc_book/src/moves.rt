@@ -4,21 +4,21 @@ ghost use Rattle.orc_rules.specs.Timed.{IsIn};
 ghost use Rattle.orc_rules.specs.declared.value.Value.{Value as ValueOf};
 ghost use Rattle.orc_tables.specs.declared.records.Token.{Token as Its};
 ghost use Rattle.orc_rules.specs.Nodes.{code, definitions};
-ghost use Rattle.orc_records.specs.Doing.{what_of};
-ghost use Rattle.orc_records.specs.Moves.{Moves};
-ghost use Rattle.orc_records.specs.declared.results.Moved.TheVariants as moved;
+ghost use Rattle.orc_ledger_spec.specs.Doing.{what_of};
+ghost use Rattle.orc_ledger_spec.specs.Moves.{Moves};
+ghost use Rattle.orc_ledger_spec.specs.declared.results.Moved.TheVariants as moved;
 ghost use Rattle.orc_book.specs.Held.{IsToken, out_at, word_at};
 ghost use Rattle.orc_tables.specs.Tokens.{IsHeld};
 ghost use Rattle.orc_tables.specs.Steps.{group_at};
-ghost use Rattle.orc_records.specs.Calls.{IsForked};
+ghost use Rattle.orc_ledger_spec.specs.Calls.{IsForked};
 ghost use Rattle.orc_word.specs.Views.{group_of};
 
 use crate::book::Book;
 use crate::post::{out_in, set_out};
 use crate::token::{BookFault, Refused, Token, fault_of};
-use orc_chronicle::Program;
 use orc_graph::{Graph, Node};
-use orc_ledger::{What, stands};
+use orc_ledger::{Action, stands};
+use orc_log::Program;
 use orc_tables::{Standing, Token as Record};
 use orc_word::{Naming, Pass};
 
@@ -44,11 +44,11 @@ impl<P: Program + Naming> Book<P> {
     // Whether a token goes next, and no value of it is published.
     fn ends_next(&self, graph: &Graph, its: &Record) -> bool
         requires graph { graph.now ≡ P.listing }
-        ensures { result ≡ true → (what_of (code P.listing) (definitions P.listing) self.now.ledger its.now ≡ What.Halt) ⊎ (what_of (code P.listing) (definitions P.listing) self.now.ledger its.now ≡ What.Void) }
+        ensures { result ≡ true → (what_of (code P.listing) (definitions P.listing) self.now.ledger its.now ≡ Action.Halt) ⊎ (what_of (code P.listing) (definitions P.listing) self.now.ledger its.now ≡ Action.Void) }
     {
         match self.ledger.what(graph, its) {
-            What::Halt => true,
-            What::Void => true,
+            Action::Halt => true,
+            Action::Void => true,
             _ => false,
         }
     }
@@ -197,10 +197,10 @@ impl<P: Program + Naming> Book<P> {
     // Whether a token publishes a value of the program next.
     fn publishes_next(&self, graph: &Graph, its: &Record) -> bool
         requires graph { graph.now ≡ P.listing }
-        ensures { result ≡ true → (v : ValueOf) × (what_of (code P.listing) (definitions P.listing) self.now.ledger its.now ≡ What.Publish v) }
+        ensures { result ≡ true → (v : ValueOf) × (what_of (code P.listing) (definitions P.listing) self.now.ledger its.now ≡ Action.Publish v) }
     {
         match self.ledger.what(graph, its) {
-            What::Publish(_) => true,
+            Action::Publish(_) => true,
             _ => false,
         }
     }

@@ -4,8 +4,8 @@ ghost use Rattle.std.specs.Prelude.{◌≡◌};
 
 use crate::book::Book;
 use crate::token::Token;
-use orc_chronicle::Program;
 use orc_graph::Graph;
+use orc_log::Program;
 use orc_word::{Groups, Last, Naming, Pass};
 use std::alloc::Global;
 use std::sync::{Mutex, Wait};

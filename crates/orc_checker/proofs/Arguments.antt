@@ -9,12 +9,12 @@ use Rattle.orc_rules.specs.Term.{Definition, call}
 use Rattle.orc_rules.specs.Nodes.{Listing, code, definitions, source, param_of}
 use Rattle.orc_rules.specs.Program.{IsProgram}
 use Rattle.orc_rules.specs.Sites.{Table}
-use Rattle.orc_names.specs.Scopes.{close, close_param, env_of}
-use Rattle.orc_names.proofs.Closed.{IsNamed, IsShut, named_at, program_shut, token_shut}
-use Rattle.orc_names.proofs.Scopes.{close-call}
-use Rattle.orc_nodes.specs.declared.arena.Kind.TheVariants.{Leaf}
-use Rattle.orc_nodes.specs.declared.arena.Tip.TheVariants.{Token}
-use Rattle.orc_nodes.specs.Arena.{at}
+use Rattle.orc_env.specs.Scopes.{close, close_param, env_of}
+use Rattle.orc_env.proofs.Closed.{IsNamed, IsShut, named_at, program_shut, token_shut}
+use Rattle.orc_env.proofs.Scopes.{close-call}
+use Rattle.orc_term.specs.declared.arena.Kind.TheVariants.{Leaf}
+use Rattle.orc_term.specs.declared.arena.Tip.TheVariants.{Token}
+use Rattle.orc_term.specs.Arena.{at}
 use Rattle.orc_checker.specs.Checker.{State, context}
 use Rattle.orc_checker.specs.Parameters.{LacksArguments}
 use Rattle.orc_checker.specs.Refusing.{IsRightlyRefused}

@@ -8,17 +8,17 @@ use Rattle.orc_rules.specs.declared.program.TermNode.TheVariants as node
 use Rattle.orc_rules.specs.Term.{Term, param}
 use Rattle.orc_rules.specs.Nodes.{param_of, unfold_node}
 use Rattle.orc_rules.specs.Marked.{token}
-use Rattle.orc_names.specs.declared.names.Bound.{Bound}
-use Rattle.orc_names.specs.declared.names.Bound.TheVariants as bound
-use Rattle.orc_names.specs.declared.names.Scope.{Scope}
-use Rattle.orc_names.specs.Scopes.{close, close_param, env_of}
-use Rattle.orc_names.specs.Names.{AreOrdered, Means}
-use Rattle.orc_names.proofs.Scopes.{close-of-param}
-use Rattle.orc_nodes.specs.declared.arena.Tip.{Tip}
-use Rattle.orc_nodes.specs.declared.arena.Tip.TheVariants.{Gone, Ended, Token, Bears, Waits}
-use Rattle.orc_nodes.specs.declared.arena.Kind.TheVariants.{Leaf}
-use Rattle.orc_nodes.specs.Arena.{living_kind, of_tip}
-use Rattle.orc_nodes.specs.Bearers.{Carries, BearsOther, BearsValue}
+use Rattle.orc_env.specs.declared.names.Bound.{Bound}
+use Rattle.orc_env.specs.declared.names.Bound.TheVariants as bound
+use Rattle.orc_env.specs.declared.names.Scope.{Scope}
+use Rattle.orc_env.specs.Scopes.{close, close_param, env_of}
+use Rattle.orc_env.specs.Names.{AreOrdered, Means}
+use Rattle.orc_env.proofs.Scopes.{close-of-param}
+use Rattle.orc_term.specs.declared.arena.Tip.{Tip}
+use Rattle.orc_term.specs.declared.arena.Tip.TheVariants.{Gone, Ended, Token, Bears, Waits}
+use Rattle.orc_term.specs.declared.arena.Kind.TheVariants.{Leaf}
+use Rattle.orc_term.specs.Arena.{living_kind, of_tip}
+use Rattle.orc_term.specs.Bearers.{Carries, BearsOther, BearsValue}
 use Rattle.orc_checker.proofs.Refusing.{sort, sort_under, operand_node}
 
 -- a token on an operand that means a value stands on the value

@@ -1,17 +1,17 @@
 -- The state at the start.
 use Rattle.std.proofs.Common.{◌≡◌, Bool, ℕ, zero, suc, List, [], ◌∷◌, refl, arith}
-use Rattle.orc_nodes.specs.declared.arena.Tip.TheVariants.{Token}
-use Rattle.orc_nodes.specs.declared.arena.Kind.TheVariants.{Leaf, One}
-use Rattle.orc_nodes.specs.declared.arena.Single.TheVariants.{Passed}
-use Rattle.orc_names.specs.declared.names.Bound.TheVariants.{Void}
+use Rattle.orc_term.specs.declared.arena.Tip.TheVariants.{Token}
+use Rattle.orc_term.specs.declared.arena.Kind.TheVariants.{Leaf, One}
+use Rattle.orc_term.specs.declared.arena.Single.TheVariants.{Passed}
+use Rattle.orc_env.specs.declared.names.Bound.TheVariants.{Void}
 use Rattle.orc_rules.specs.Nodes.{Listing, code, source}
-use Rattle.orc_nodes.specs.Halting.{halt_flag, AreHalts}
-use Rattle.orc_nodes.specs.Arena.{leaf, one}
+use Rattle.orc_term.specs.Halting.{halt_flag, AreHalts}
+use Rattle.orc_term.specs.Arena.{leaf, one}
 use Rattle.orc_checker.specs.Checker.{State, Begins}
-use Rattle.orc_names.specs.Parameters.{AreOwn}
+use Rattle.orc_env.specs.Parameters.{AreOwn}
 use Rattle.orc_rules.specs.Journal.{begin}
-use Rattle.orc_nodes.proofs.Lists.{living-push}
-use Rattle.orc_nodes.proofs.Trees.{node}
+use Rattle.orc_term.proofs.Lists.{living-push}
+use Rattle.orc_term.proofs.Trees.{node}
 
 abbrev pub first : Bool → ℕ → List Bool → Bool → State
 first cancels root halts halted = record { nodes = node (One Passed 1) 0 ∷ node (Leaf (Token 1 root 0)) 0 ∷ []; scopes = []; cells = Void ∷ []; marks = 0 ∷ 1 ∷ []; halts = halts; flags = halted ∷ halted ∷ []; rest = record { calls = []; counts = []; time = 0; to_cancel = []; cancels = cancels } }

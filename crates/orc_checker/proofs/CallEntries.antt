@@ -1,7 +1,7 @@
 -- The entries of calls and of their answers.
 use Rattle.orc_checker.proofs.Flagging.{reflag_leaf, reflag_leaf_settled}
 use Rattle.orc_rules.specs.Idle.{has_halted}
-use Rattle.orc_nodes.specs.Settling.{Settles}
+use Rattle.orc_term.specs.Settling.{Settles}
 use Rattle.std.proofs.Common.{◌≡◌, ℕ, suc, List, [], ◌∷◌, ◌++◌, length, map, Some, refl, sym, ap, ◌∙◌, subst, inr, length-set, true}
 use Rattle.std.specs.Prelude.{slice_set}
 use Rattle.orc_rules.specs.declared.value.Value.{Value}
@@ -9,8 +9,8 @@ use Rattle.orc_rules.specs.declared.value.Answer.{Answer}
 use Rattle.orc_rules.specs.declared.value.Answer.TheVariants.{Value as Gives, Halt}
 use Rattle.orc_rules.specs.declared.param.Param.{Param}
 use Rattle.orc_rules.specs.declared.entry.Entry.TheVariants as entry
-use Rattle.orc_nodes.specs.declared.arena.Tip.TheVariants.{Token, Bears, Waits, Ended}
-use Rattle.orc_nodes.specs.declared.arena.Kind.TheVariants.{Leaf}
+use Rattle.orc_term.specs.declared.arena.Tip.TheVariants.{Token, Bears, Waits, Ended}
+use Rattle.orc_term.specs.declared.arena.Kind.TheVariants.{Leaf}
 use Rattle.orc_checker.specs.declared.rest.Called.{Called}
 use Rattle.orc_rules.specs.Term.{Term, site, values_of}
 use Rattle.orc_rules.specs.Sites.{Site}
@@ -18,15 +18,15 @@ use Rattle.orc_rules.specs.Step.{calls}
 use Rattle.orc_rules.specs.Marked.{token, in_call, Replaces}
 use Rattle.orc_rules.specs.Timed.{Context, CallMade, nth_of, calls_after}
 use Rattle.orc_rules.specs.Journal.{Place, moment}
-use Rattle.orc_nodes.specs.Arena.{leaf, at}
-use Rattle.orc_names.specs.Scopes.{close, close_param, env_of}
-use Rattle.orc_names.specs.Names.{AreOrdered}
+use Rattle.orc_term.specs.Arena.{leaf, at}
+use Rattle.orc_env.specs.Scopes.{close, close_param, env_of}
+use Rattle.orc_env.specs.Names.{AreOrdered}
 use Rattle.orc_checker.specs.Calls.{Rest, Keeps, told, AddsCall, IsCall, IsDueNow}
 use Rattle.orc_calls.specs.Counting.{NextFound}
 use Rattle.orc_checker.specs.Checker.{State, EntersBy, AreCells}
-use Rattle.orc_nodes.proofs.Trees.{node}
+use Rattle.orc_term.proofs.Trees.{node}
 use Rattle.orc_checker.proofs.Moves.{written, turn, staying, Stays}
-use Rattle.orc_names.proofs.Scopes.{close-site}
+use Rattle.orc_env.proofs.Scopes.{close-site}
 use Rattle.orc_checker.proofs.CallsMade.{kept_length, map-more, is_due}
 
 -- what is kept after one more call

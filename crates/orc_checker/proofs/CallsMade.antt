@@ -7,7 +7,7 @@ use Rattle.orc_rules.specs.Sites.{Site}
 use Rattle.orc_rules.specs.Timed.{Context, CallMade, says_of, IsIn, IsDue}
 use Rattle.orc_checker.specs.declared.rest.Called.{Called}
 use Rattle.orc_checker.specs.Calls.{Rest, told, told_of, AreNumbered, IsCall, IsDueNow, Keeps}
-use Rattle.orc_nodes.proofs.Lists.{get-more}
+use Rattle.orc_term.proofs.Lists.{get-more}
 
 length-told : (sites : List Site) (calls : List CallMade) → length (told_of sites calls) ≡ length calls
 length-told sites [] = refl

@@ -9,7 +9,7 @@ use Rattle.orc_rules.specs.Marked.{Marked}
 use Rattle.orc_checker.specs.Calls.{Rest, told}
 use Rattle.orc_calls.specs.Counting.{AreCounted}
 use Rattle.orc_checker.specs.Checker.{State, Draws, Enters, AreCells}
-use Rattle.orc_names.specs.Names.{AreOrdered}
+use Rattle.orc_env.specs.Names.{AreOrdered}
 
 -- the last number of a list is popped
 pub last_popped : (old new : List ℕ) (popped : Option ℕ) (n k : ℕ) → n ≡ length old → slice_get old (n - 1) ≡ Some k → ((d : ℕ) → 0 < n → popped ≡ Some (get_or old (n - 1) d)) → old ≡ new ++ option_to_list popped → reverse old ≡ k ∷ reverse new

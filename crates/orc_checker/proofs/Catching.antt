@@ -3,18 +3,18 @@ use Rattle.std.proofs.Common.{◌≡◌, ◌≤◌, ◌+◌, ℕ, List, [], ◌�
 use Rattle.std.specs.Prelude.{slice_get, slice_set, ◌&&◌}
 use Rattle.orc_rules.specs.declared.value.Value.{Value}
 use Rattle.orc_rules.specs.declared.entry.Entry.TheVariants as entry
-use Rattle.orc_nodes.specs.declared.arena.Node.{Node}
-use Rattle.orc_names.specs.declared.names.Bound.{Bound as Put}
-use Rattle.orc_names.specs.declared.names.Bound.TheVariants.{Is, Cell}
-use Rattle.orc_nodes.specs.declared.arena.Tip.{Tip}
-use Rattle.orc_nodes.specs.declared.arena.Tip.TheVariants.{Ended}
-use Rattle.orc_nodes.specs.declared.arena.Single.TheVariants.{Feeds, Entered, Passed}
-use Rattle.orc_nodes.specs.declared.arena.Double.{Double}
-use Rattle.orc_nodes.specs.declared.arena.Double.TheVariants.{Both, Side}
-use Rattle.orc_nodes.specs.declared.arena.Kind.{Kind}
-use Rattle.orc_nodes.specs.declared.arena.Kind.TheVariants.{Leaf, One, Two}
-use Rattle.orc_nodes.specs.declared.walk.Taker.{Taker}
-use Rattle.orc_nodes.specs.declared.walk.Taker.TheVariants.{Whole, Fed, Bound}
+use Rattle.orc_term.specs.declared.arena.Node.{Node}
+use Rattle.orc_env.specs.declared.names.Bound.{Bound as Put}
+use Rattle.orc_env.specs.declared.names.Bound.TheVariants.{Is, Cell}
+use Rattle.orc_term.specs.declared.arena.Tip.{Tip}
+use Rattle.orc_term.specs.declared.arena.Tip.TheVariants.{Ended}
+use Rattle.orc_term.specs.declared.arena.Single.TheVariants.{Feeds, Entered, Passed}
+use Rattle.orc_term.specs.declared.arena.Double.{Double}
+use Rattle.orc_term.specs.declared.arena.Double.TheVariants.{Both, Side}
+use Rattle.orc_term.specs.declared.arena.Kind.{Kind}
+use Rattle.orc_term.specs.declared.arena.Kind.TheVariants.{Leaf, One, Two}
+use Rattle.orc_term.specs.declared.walk.Taker.{Taker}
+use Rattle.orc_term.specs.declared.walk.Taker.TheVariants.{Whole, Fed, Bound}
 use Rattle.orc_rules.specs.Term.{pending_of, fill}
 use Rattle.orc_rules.specs.Step.{publishes, binds}
 use Rattle.orc_rules.specs.Marked.{ended, erase, Emits, emits, is_bound}
@@ -25,29 +25,29 @@ use Rattle.orc_rules.specs.Nodes.{Listing, code}
 use Rattle.orc_rules.specs.Sites.{Table}
 use Rattle.orc_rules.specs.Numbered.{IsNumbered, call, cell, times}
 use Rattle.orc_rules.proofs.Sources.{emits_source}
-use Rattle.orc_nodes.specs.Arena.{Tree, leaf, one, two, place, hits, count, at, Holds, living_kind, StandOnce, IsTopped, spelled, Frame, on_one, on_left, on_right, plug}
-use Rattle.orc_names.specs.Scopes.{env_of, given}
-use Rattle.orc_nodes.specs.Around.{above}
-use Rattle.orc_nodes.specs.Rising.{takes, rest, under, nowhere, Stands, IsTaker}
-use Rattle.orc_nodes.specs.Bearers.{BearsValue}
-use Rattle.orc_names.specs.Names.{AreOrdered}
-use Rattle.orc_nodes.specs.Settling.{flag, HasFlags, Settles}
+use Rattle.orc_term.specs.Arena.{Tree, leaf, one, two, place, hits, count, at, Holds, living_kind, StandOnce, IsTopped, spelled, Frame, on_one, on_left, on_right, plug}
+use Rattle.orc_env.specs.Scopes.{env_of, given}
+use Rattle.orc_term.specs.Around.{above}
+use Rattle.orc_term.specs.Rising.{takes, rest, under, nowhere, Stands, IsTaker}
+use Rattle.orc_term.specs.Bearers.{BearsValue}
+use Rattle.orc_env.specs.Names.{AreOrdered}
+use Rattle.orc_term.specs.Settling.{flag, HasFlags, Settles}
 use Rattle.orc_checker.specs.Calls.{Rest, Keeps}
-use Rattle.orc_nodes.specs.Dropping.{calls_at, AreNodesOf, AreRising, IsDropped}
+use Rattle.orc_term.specs.Dropping.{calls_at, AreNodesOf, AreRising, IsDropped}
 use Rattle.orc_checker.specs.Checker.{State, Applies, context}
-use Rattle.orc_names.specs.Parameters.{AreOwn}
-use Rattle.orc_nodes.proofs.Trees.{hit, count-plug, holds-out, living-most, place-plug, node}
-use Rattle.orc_nodes.proofs.Rising.{itself, plug-under, get_or-some}
+use Rattle.orc_env.specs.Parameters.{AreOwn}
+use Rattle.orc_term.proofs.Trees.{hit, count-plug, holds-out, living-most, place-plug, node}
+use Rattle.orc_term.proofs.Rising.{itself, plug-under, get_or-some}
 use Rattle.orc_checker.proofs.Change.{says_of}
-use Rattle.orc_nodes.proofs.Settling.{flag_says, flagged_kept, flag-set_other}
+use Rattle.orc_term.proofs.Settling.{flag_says, flagged_kept, flag-set_other}
 use Rattle.orc_checker.proofs.Flagging.{reflag_settled, flag-set_at}
 use Rattle.orc_checker.proofs.Publishing.{goes_up}
-use Rattle.orc_names.proofs.Filling.{code-stays}
+use Rattle.orc_env.proofs.Filling.{code-stays}
 use Rattle.orc_checker.proofs.Binding.{binds_in}
-use Rattle.orc_names.proofs.Inside.{Confined}
-use Rattle.orc_nodes.proofs.Leaving.{Drops, drops, pruned_holds, pruned_once, calls_counted}
+use Rattle.orc_env.proofs.Inside.{Confined}
+use Rattle.orc_term.proofs.Leaving.{Drops, drops, pruned_holds, pruned_once, calls_counted}
 use Rattle.orc_checker.proofs.Ending.{Over, own_filled, left_filled, stays_so, ends_drawn, times_left, are_dropped, unhalted_under}
-use Rattle.orc_names.proofs.Reached.{reached_numbered, reached_source, reached_confined}
+use Rattle.orc_env.proofs.Reached.{reached_numbered, reached_source, reached_confined}
 
 -- the right side that takes it is the first one around
 pub record IsCaught (k : List Frame) (c j : ℕ) : Type 0 where

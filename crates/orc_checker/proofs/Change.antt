@@ -1,17 +1,17 @@
 -- A token's node changes: what the state spells afterwards.
 use Rattle.std.proofs.Common.{◌≡◌, ◌≤◌, ◌+◌, ℕ, List, [], ◌∷◌, length, Some, refl, sym, ap, ◌∙◌, subst, arith}
 use Rattle.std.specs.Prelude.{slice_get}
-use Rattle.orc_nodes.specs.declared.arena.Node.{Node}
-use Rattle.orc_nodes.specs.declared.arena.Tip.{Tip}
-use Rattle.orc_nodes.specs.declared.arena.Kind.TheVariants.{Leaf}
+use Rattle.orc_term.specs.declared.arena.Node.{Node}
+use Rattle.orc_term.specs.declared.arena.Tip.{Tip}
+use Rattle.orc_term.specs.declared.arena.Kind.TheVariants.{Leaf}
 use Rattle.orc_rules.specs.Term.{Term}
-use Rattle.orc_nodes.specs.Arena.{Tree, leaf, place, count, hits, at, Holds, living, living_kind, StandOnce, spelled, IsTopped, Frame, plug}
-use Rattle.orc_names.specs.Scopes.{env_of}
-use Rattle.orc_nodes.specs.Around.{above}
-use Rattle.orc_nodes.specs.Rising.{Stands}
+use Rattle.orc_term.specs.Arena.{Tree, leaf, place, count, hits, at, Holds, living, living_kind, StandOnce, spelled, IsTopped, Frame, plug}
+use Rattle.orc_env.specs.Scopes.{env_of}
+use Rattle.orc_term.specs.Around.{above}
+use Rattle.orc_term.specs.Rising.{Stands}
 use Rattle.orc_checker.specs.Checker.{State, Draws}
 use Rattle.orc_rules.specs.Marked.{Marked}
-use Rattle.orc_nodes.proofs.Trees.{place-plug, holds-out, holds_replaced, once_replaced, spot, alone, hit, topped-plug}
+use Rattle.orc_term.proofs.Trees.{place-plug, holds-out, holds_replaced, once_replaced, spot, alone, hit, topped-plug}
 use Rattle.orc_checker.proofs.Spelling.{spelled-kept}
 
 -- where a node without parts stands

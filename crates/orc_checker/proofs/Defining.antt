@@ -12,20 +12,20 @@ use Rattle.orc_rules.specs.Nodes.{param_of, Listing, definition_of, definitions}
 use Rattle.orc_rules.specs.Idle.{has_halted}
 use Rattle.orc_rules.specs.Marked.{token, Replaces}
 use Rattle.orc_rules.specs.Timed.{Context}
-use Rattle.orc_names.specs.declared.names.Scope.{Scope}
-use Rattle.orc_nodes.specs.declared.arena.Tip.TheVariants.{Token}
-use Rattle.orc_nodes.specs.declared.arena.Kind.TheVariants.{Leaf}
-use Rattle.orc_nodes.specs.Arena.{leaf, at, spelled}
-use Rattle.orc_names.specs.Scopes.{Env, env_of, close, close_param}
+use Rattle.orc_env.specs.declared.names.Scope.{Scope}
+use Rattle.orc_term.specs.declared.arena.Tip.TheVariants.{Token}
+use Rattle.orc_term.specs.declared.arena.Kind.TheVariants.{Leaf}
+use Rattle.orc_term.specs.Arena.{leaf, at, spelled}
+use Rattle.orc_env.specs.Scopes.{Env, env_of, close, close_param}
 use Rattle.orc_checker.specs.Checker.{State, Follows, AreCells}
-use Rattle.orc_names.specs.Names.{AreOrdered}
-use Rattle.orc_nodes.specs.Halting.{halt_flag}
-use Rattle.orc_nodes.specs.Settling.{Settles}
-use Rattle.orc_names.specs.Parameters.{Adds}
+use Rattle.orc_env.specs.Names.{AreOrdered}
+use Rattle.orc_term.specs.Halting.{halt_flag}
+use Rattle.orc_term.specs.Settling.{Settles}
+use Rattle.orc_env.specs.Parameters.{Adds}
 use Rattle.orc_checker.proofs.Flagging.{reflag_leaf_settled}
-use Rattle.orc_names.proofs.Scopes.{close-call, env-kept}
+use Rattle.orc_env.proofs.Scopes.{close-call, env-kept}
 use Rattle.orc_checker.proofs.Opening.{keeps_free}
-use Rattle.orc_nodes.proofs.Trees.{node}
+use Rattle.orc_term.proofs.Trees.{node}
 use Rattle.orc_checker.proofs.Moves.{written, turn, scope_there}
 
 -- a definition of the code is one of the program

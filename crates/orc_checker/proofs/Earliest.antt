@@ -3,17 +3,17 @@ use Rattle.std.proofs.Common.{◌≡◌, ◌<◌, ◌+◌, ℕ, zero, suc, List,
 use Rattle.std.specs.Prelude.{slice_get, slice_set, IfSome}
 use Rattle.std.specs.Bool.{Decides}
 use Rattle.orc_rules.specs.Timed.{IsIn}
-use Rattle.orc_nodes.specs.declared.arena.Node.{Node}
-use Rattle.orc_nodes.specs.declared.arena.Kind.TheVariants.{Leaf}
-use Rattle.orc_nodes.specs.declared.arena.Tip.TheVariants.{Waits}
+use Rattle.orc_term.specs.declared.arena.Node.{Node}
+use Rattle.orc_term.specs.declared.arena.Kind.TheVariants.{Leaf}
+use Rattle.orc_term.specs.declared.arena.Tip.TheVariants.{Waits}
 use Rattle.orc_checker.specs.declared.rest.Called.{Called}
-use Rattle.orc_nodes.specs.Settling.{kind_at}
+use Rattle.orc_term.specs.Settling.{kind_at}
 use Rattle.orc_checker.specs.DueTimes.{IsNoted, IsFirst}
 use Rattle.orc_checker.specs.NextDue.{IsTime, IsDueOf, IsDueAt, IsNext, AreNoted}
 use Rattle.orc_calls.specs.Due.{due_by}
 use Rattle.orc_calls.proofs.Times.{is_due as is_due_by}
-use Rattle.orc_nodes.proofs.Hints.{some_in}
-use Rattle.orc_nodes.proofs.Lists.{get-more}
+use Rattle.orc_term.proofs.Hints.{some_in}
+use Rattle.orc_term.proofs.Lists.{get-more}
 
 same_some : {X : Type 0} (x y : X) → Some x ≡ Some y → x ≡ y
 same_some x y e = cc e

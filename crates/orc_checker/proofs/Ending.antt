@@ -2,11 +2,11 @@
 use Rattle.std.proofs.Common.{◌≡◌, ◌≤◌, ◌+◌, ℕ, zero, suc, List, [], ◌∷◌, ◌++◌, length, get_or, Option, Some, None, refl, sym, ap, ◌∙◌, subst, arith, inl, inr, ◌⊎◌, ⊎_elim, Bool, true, false, cond, nat_eq, eq-eqb}
 use Rattle.std.proofs.lemmas.Bool.{ne_eqb, eqb-true}
 use Rattle.std.specs.Prelude.{slice_get, slice_set, ◌&&◌}
-use Rattle.orc_names.specs.declared.names.Bound.{Bound}
-use Rattle.orc_names.specs.declared.names.Bound.TheVariants.{Is, Cell, Void}
-use Rattle.orc_nodes.specs.declared.arena.Single.TheVariants.{Feeds, Entered, Passed}
-use Rattle.orc_nodes.specs.declared.arena.Double.TheVariants.{Both, Side}
-use Rattle.orc_nodes.specs.declared.arena.Kind.TheVariants.{One}
+use Rattle.orc_env.specs.declared.names.Bound.{Bound}
+use Rattle.orc_env.specs.declared.names.Bound.TheVariants.{Is, Cell, Void}
+use Rattle.orc_term.specs.declared.arena.Single.TheVariants.{Feeds, Entered, Passed}
+use Rattle.orc_term.specs.declared.arena.Double.TheVariants.{Both, Side}
+use Rattle.orc_term.specs.declared.arena.Kind.TheVariants.{One}
 use Rattle.orc_rules.specs.Term.{Term, pending_of, fill}
 use Rattle.orc_rules.specs.Marked.{Marked, ended, token, in_call, in_par, in_seq, in_opened, in_other, erase, fill_marked, Replaces, here}
 use Rattle.orc_rules.specs.Timed.{IsIn, IsRising, AreDropped}
@@ -15,21 +15,21 @@ use Rattle.orc_rules.specs.Idle.{calls_of, has_halted}
 use Rattle.orc_rules.specs.Numbered.{Name, call, cell, once, times}
 use Rattle.orc_rules.proofs.Numbered.{once_same, times_replaced, times_filled}
 use Rattle.orc_rules.proofs.Counts.{pending_by_marks}
-use Rattle.orc_nodes.specs.Arena.{Tree, one, two, place, hits, Holds, StandOnce, IsTopped, spelled, Frame, on_one, on_left, on_right, plug}
-use Rattle.orc_names.specs.Scopes.{Env, env_of, given, current}
-use Rattle.orc_nodes.specs.Around.{above}
-use Rattle.orc_nodes.specs.Settling.{HasFlags}
-use Rattle.orc_nodes.specs.Rising.{under}
-use Rattle.orc_nodes.specs.Dropping.{occurs, DoRise}
+use Rattle.orc_term.specs.Arena.{Tree, one, two, place, hits, Holds, StandOnce, IsTopped, spelled, Frame, on_one, on_left, on_right, plug}
+use Rattle.orc_env.specs.Scopes.{Env, env_of, given, current}
+use Rattle.orc_term.specs.Around.{above}
+use Rattle.orc_term.specs.Settling.{HasFlags}
+use Rattle.orc_term.specs.Rising.{under}
+use Rattle.orc_term.specs.Dropping.{occurs, DoRise}
 use Rattle.orc_checker.specs.Checker.{State, Draws}
-use Rattle.orc_names.specs.Parameters.{AreOwn}
-use Rattle.orc_nodes.proofs.Trees.{hit, hits-both, topped-plug, place-plug, node}
-use Rattle.orc_nodes.proofs.Lists.{get-set_same, get-set_other}
+use Rattle.orc_env.specs.Parameters.{AreOwn}
+use Rattle.orc_term.proofs.Trees.{hit, hits-both, topped-plug, place-plug, node}
+use Rattle.orc_term.proofs.Lists.{get-set_same, get-set_other}
 use Rattle.orc_checker.proofs.Filled.{spelled-fill}
-use Rattle.orc_names.proofs.Filling.{filled, fill_env, env_of-fill}
+use Rattle.orc_env.proofs.Filling.{filled, fill_env, env_of-fill}
 use Rattle.orc_checker.proofs.Binding.{Stays, stays_around, replaces_in}
-use Rattle.orc_names.proofs.Inside.{Confined}
-use Rattle.orc_nodes.proofs.Leaving.{Drops, pruned_holds, pruned_once}
+use Rattle.orc_env.proofs.Inside.{Confined}
+use Rattle.orc_term.proofs.Leaving.{Drops, pruned_holds, pruned_once}
 
 bound_or : Bound → Option Bound → Bound
 bound_or d (Some z) = z

@@ -1,14 +1,14 @@
 -- What nodes spell where a cell has become a value or void.
 use Rattle.std.proofs.Common.{◌≡◌, ℕ, refl, ap}
-use Rattle.orc_names.specs.declared.names.Bound.{Bound}
-use Rattle.orc_nodes.specs.declared.arena.Tip.TheVariants.{Gone, Ended, Token, Bears, Waits}
-use Rattle.orc_nodes.specs.declared.arena.Single.TheVariants.{Feeds, Entered, Passed}
-use Rattle.orc_nodes.specs.declared.arena.Double.TheVariants.{Both, Side}
+use Rattle.orc_env.specs.declared.names.Bound.{Bound}
+use Rattle.orc_term.specs.declared.arena.Tip.TheVariants.{Gone, Ended, Token, Bears, Waits}
+use Rattle.orc_term.specs.declared.arena.Single.TheVariants.{Feeds, Entered, Passed}
+use Rattle.orc_term.specs.declared.arena.Double.TheVariants.{Both, Side}
 use Rattle.orc_rules.specs.Term.{Term, fill}
 use Rattle.orc_rules.specs.Marked.{token, in_par, in_seq, in_opened, in_other, fill_marked}
-use Rattle.orc_names.specs.Scopes.{Env, given}
-use Rattle.orc_names.proofs.Filling.{fill_env, closed-fill, rest-fill}
-use Rattle.orc_nodes.specs.Arena.{Tree, leaf, one, two, spelled}
+use Rattle.orc_env.specs.Scopes.{Env, given}
+use Rattle.orc_env.proofs.Filling.{fill_env, closed-fill, rest-fill}
+use Rattle.orc_term.specs.Arena.{Tree, leaf, one, two, spelled}
 
 module _ (code : ℕ → Term) (c : ℕ) (w : Bound) (stays : (i : ℕ) → fill (given w) c (code i) ≡ code i) (env env' : ℕ → Env) (filled_so : (n : ℕ) → env' n ≡ fill_env c w (env n)) where
   pub spelled-fill : (t : Tree) → spelled code env' t ≡ fill_marked (given w) c (spelled code env t)

@@ -1,21 +1,21 @@
 -- The flags after a part has changed.
 use Rattle.std.proofs.Common.{◌≡◌, ◌≤◌, ◌<◌, ◌+◌, ℕ, zero, suc, List, [], ◌∷◌, ◌++◌, length, refl, sym, ap, ◌∙◌, subst, arith, Bool, true, false, length-append}
 use Rattle.std.specs.Prelude.{slice_get, slice_set, ◌&&◌}
-use Rattle.orc_nodes.specs.declared.arena.Node.{Node}
-use Rattle.orc_nodes.specs.declared.arena.Tip.{Tip}
-use Rattle.orc_nodes.specs.declared.arena.Single.{Single}
-use Rattle.orc_nodes.specs.declared.arena.Double.{Double}
-use Rattle.orc_nodes.specs.declared.arena.Single.TheVariants.{Feeds, Entered, Passed}
-use Rattle.orc_nodes.specs.declared.arena.Double.TheVariants.{Both, Side}
+use Rattle.orc_term.specs.declared.arena.Node.{Node}
+use Rattle.orc_term.specs.declared.arena.Tip.{Tip}
+use Rattle.orc_term.specs.declared.arena.Single.{Single}
+use Rattle.orc_term.specs.declared.arena.Double.{Double}
+use Rattle.orc_term.specs.declared.arena.Single.TheVariants.{Feeds, Entered, Passed}
+use Rattle.orc_term.specs.declared.arena.Double.TheVariants.{Both, Side}
 use Rattle.orc_rules.specs.Term.{Term}
-use Rattle.orc_nodes.specs.Arena.{Tree, leaf, one, two, place, count, living, Holds, StandOnce, Frame, on_one, on_left, on_right, plug}
-use Rattle.orc_nodes.specs.Around.{around}
-use Rattle.orc_nodes.specs.Rising.{Stands, rest, risen}
-use Rattle.orc_nodes.specs.Halting.{AreHalts}
-use Rattle.orc_nodes.specs.Settling.{flag, one_flag, tip_flag, Flagged, FlaggedAround, Settles, HasFlags, Reflags}
-use Rattle.orc_nodes.proofs.Trees.{count-plug}
-use Rattle.orc_nodes.proofs.Rising.{itself}
-use Rattle.orc_nodes.proofs.Settling.{flag-set_other, around_flags_kept, flagged-out, flagged-in}
+use Rattle.orc_term.specs.Arena.{Tree, leaf, one, two, place, count, living, Holds, StandOnce, Frame, on_one, on_left, on_right, plug}
+use Rattle.orc_term.specs.Around.{around}
+use Rattle.orc_term.specs.Rising.{Stands, rest, risen}
+use Rattle.orc_term.specs.Halting.{AreHalts}
+use Rattle.orc_term.specs.Settling.{flag, one_flag, tip_flag, Flagged, FlaggedAround, Settles, HasFlags, Reflags}
+use Rattle.orc_term.proofs.Trees.{count-plug}
+use Rattle.orc_term.proofs.Rising.{itself}
+use Rattle.orc_term.proofs.Settling.{flag-set_other, around_flags_kept, flagged-out, flagged-in}
 
 -- flags that are there stay
 abbrev pub Extends : List Bool → List Bool → Type 0

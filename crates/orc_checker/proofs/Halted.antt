@@ -6,28 +6,28 @@ use Rattle.orc_rules.specs.Marked.{Marked, erase}
 use Rattle.orc_rules.specs.Nodes.{Listing, code}
 use Rattle.orc_rules.specs.Timed.{Context}
 use Rattle.orc_rules.specs.Journal.{Place}
-use Rattle.orc_names.specs.Scopes.{Env, env_of}
-use Rattle.orc_nodes.specs.declared.arena.Node.{Node}
-use Rattle.orc_nodes.specs.declared.arena.Kind.{Kind}
-use Rattle.orc_nodes.specs.declared.arena.Kind.TheVariants.{Leaf, One, Two}
-use Rattle.orc_nodes.specs.declared.arena.Tip.{Tip}
-use Rattle.orc_nodes.specs.declared.arena.Tip.TheVariants.{Gone, Ended, Token, Bears, Waits}
-use Rattle.orc_nodes.specs.declared.arena.Single.TheVariants.{Feeds, Entered, Passed}
-use Rattle.orc_nodes.specs.declared.arena.Double.TheVariants.{Both, Side}
+use Rattle.orc_env.specs.Scopes.{Env, env_of}
+use Rattle.orc_term.specs.declared.arena.Node.{Node}
+use Rattle.orc_term.specs.declared.arena.Kind.{Kind}
+use Rattle.orc_term.specs.declared.arena.Kind.TheVariants.{Leaf, One, Two}
+use Rattle.orc_term.specs.declared.arena.Tip.{Tip}
+use Rattle.orc_term.specs.declared.arena.Tip.TheVariants.{Gone, Ended, Token, Bears, Waits}
+use Rattle.orc_term.specs.declared.arena.Single.TheVariants.{Feeds, Entered, Passed}
+use Rattle.orc_term.specs.declared.arena.Double.TheVariants.{Both, Side}
 use Rattle.orc_checker.specs.declared.sides.Side.TheVariants.{Right, Left}
-use Rattle.orc_nodes.specs.Arena.{Tree, leaf, one, two, place, at, Holds, of_tip, spelled}
+use Rattle.orc_term.specs.Arena.{Tree, leaf, one, two, place, at, Holds, of_tip, spelled}
 use Rattle.orc_checker.specs.Checker.{State, Spells}
-use Rattle.orc_nodes.specs.Halting.{AreHalts}
+use Rattle.orc_term.specs.Halting.{AreHalts}
 use Rattle.orc_checker.specs.Over.{side_of, FindsSide, LeftIs, RightIs, RunsOn}
-use Rattle.orc_nodes.specs.Rising.{nowhere}
-use Rattle.orc_nodes.specs.Settling.{flag, Flagged, kind_at, parent_at}
-use Rattle.orc_nodes.specs.Sides.{is_set, is_side, is_side_at, HasEnded}
-use Rattle.orc_nodes.proofs.Hints.{there_or_not}
-use Rattle.orc_nodes.proofs.KeptSides.{ended_parts}
+use Rattle.orc_term.specs.Rising.{nowhere}
+use Rattle.orc_term.specs.Settling.{flag, Flagged, kind_at, parent_at}
+use Rattle.orc_term.specs.Sides.{is_set, is_side, is_side_at, HasEnded}
+use Rattle.orc_term.proofs.Hints.{there_or_not}
+use Rattle.orc_term.proofs.KeptSides.{ended_parts}
 use Rattle.orc_checker.proofs.Moving.{flag_of_set, side_runs}
 use Rattle.orc_checker.proofs.Offered.{left_is, right_is}
 use Rattle.orc_checker.proofs.Parts.{IsPart, part_of}
-use Rattle.orc_nodes.proofs.Settling.{flag_says}
+use Rattle.orc_term.proofs.Settling.{flag_says}
 
 -- where no side has halted, none in the marked term has
 module _ (code : ℕ → Term) (env : ℕ → Env) (halts : List Bool) (are : AreHalts code halts) (nodes : List Node) (flags : List Bool) (len : length flags ≡ length nodes) (none : HasEnded nodes flags None) where

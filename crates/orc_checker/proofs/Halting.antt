@@ -7,7 +7,7 @@ use Rattle.orc_rules.specs.declared.param.Operand.{Operand}
 use Rattle.orc_rules.specs.Term.{Term}
 use Rattle.orc_rules.specs.Idle.{has_halted}
 use Rattle.orc_rules.specs.Nodes.{HasParts, ArePartsFirst, unfold_node, node_of}
-use Rattle.orc_nodes.specs.Halting.{halt_flag, node_flag, AreHalts}
+use Rattle.orc_term.specs.Halting.{halt_flag, node_flag, AreHalts}
 
 -- the flags of the nodes before n are right
 pub record AreHaltsBelow (code : ℕ → Term) (n : ℕ) (flags : List Bool) : Type 0 where

@@ -2,24 +2,24 @@
 use Rattle.std.proofs.Common.{◌≡◌, ◌≤◌, ℕ, zero, suc, List, [], ◌∷◌, ◌++◌, length, get_or, Option, Some, None, refl, sym, ap, ◌∙◌, subst, ⊎_elim, inl, inr, ◌⊎◌, ◌+◌, arith, Bool, true, false, cond, nat_eq, length-append, length-set}
 use Rattle.std.specs.Prelude.{slice_get, slice_set, option_map}
 use Rattle.orc_rules.specs.Numbered.{Name, mark, call, cell}
-use Rattle.orc_names.specs.declared.names.Bound.{Bound}
-use Rattle.orc_names.specs.declared.names.Bound.TheVariants.{Cell}
-use Rattle.orc_nodes.specs.declared.arena.Node.{Node}
-use Rattle.orc_nodes.specs.declared.arena.Kind.{Kind}
-use Rattle.orc_nodes.specs.declared.arena.Kind.TheVariants.{Leaf, One, Two}
-use Rattle.orc_nodes.specs.declared.arena.Tip.TheVariants.{Gone, Ended, Token, Bears, Waits}
-use Rattle.orc_nodes.specs.declared.arena.Single.TheVariants.{Feeds, Entered, Passed}
-use Rattle.orc_nodes.specs.declared.arena.Double.TheVariants.{Both, Side}
+use Rattle.orc_env.specs.declared.names.Bound.{Bound}
+use Rattle.orc_env.specs.declared.names.Bound.TheVariants.{Cell}
+use Rattle.orc_term.specs.declared.arena.Node.{Node}
+use Rattle.orc_term.specs.declared.arena.Kind.{Kind}
+use Rattle.orc_term.specs.declared.arena.Kind.TheVariants.{Leaf, One, Two}
+use Rattle.orc_term.specs.declared.arena.Tip.TheVariants.{Gone, Ended, Token, Bears, Waits}
+use Rattle.orc_term.specs.declared.arena.Single.TheVariants.{Feeds, Entered, Passed}
+use Rattle.orc_term.specs.declared.arena.Double.TheVariants.{Both, Side}
 use Rattle.orc_checker.specs.declared.rest.Called.{Called}
-use Rattle.orc_nodes.specs.Arena.{at, living, living_kind}
-use Rattle.orc_nodes.specs.Dropping.{occurs, IsDropped}
-use Rattle.orc_nodes.specs.Grafting.{relink}
-use Rattle.orc_nodes.specs.Hints.{lifted}
+use Rattle.orc_term.specs.Arena.{at, living, living_kind}
+use Rattle.orc_term.specs.Dropping.{occurs, IsDropped}
+use Rattle.orc_term.specs.Grafting.{relink}
+use Rattle.orc_term.specs.Hints.{lifted}
 use Rattle.orc_checker.specs.Index.{name_of, call_place, Tables, IsPut, AreIndexed, Renames}
-use Rattle.orc_nodes.specs.Rising.{nowhere, pass_kind, pass_node, Passes}
-use Rattle.orc_nodes.specs.Settling.{kind_at}
-use Rattle.orc_nodes.proofs.Hints.{some_or}
-use Rattle.orc_nodes.proofs.Lists.{get-append, get-end, get-set_other}
+use Rattle.orc_term.specs.Rising.{nowhere, pass_kind, pass_node, Passes}
+use Rattle.orc_term.specs.Settling.{kind_at}
+use Rattle.orc_term.proofs.Hints.{some_or}
+use Rattle.orc_term.proofs.Lists.{get-append, get-end, get-set_other}
 
 -- a node without a name has none
 pub nameless : {X : Type 0} (k : Kind) (n : Name) → name_of k ≡ None → name_of k ≡ Some n → X

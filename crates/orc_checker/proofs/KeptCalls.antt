@@ -13,7 +13,7 @@ use Rattle.orc_rules.specs.Term.{Term}
 use Rattle.orc_checker.specs.declared.rest.Called.{Called}
 use Rattle.orc_checker.specs.Calls.{Rest, AreNumbered, told, told_of, IsCall, IsDueNow}
 use Rattle.orc_checker.specs.Checker.{State, Spells}
-use Rattle.orc_nodes.proofs.Lists.{get-append, get-end}
+use Rattle.orc_term.proofs.Lists.{get-append, get-end}
 use Rattle.orc_checker.proofs.CallsMade.{made_there, is_due}
 
 length-told : (sites : List Site) (calls : List CallMade) → length (told_of sites calls) ≡ length calls

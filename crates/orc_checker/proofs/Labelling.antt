@@ -2,12 +2,12 @@
 use Rattle.std.proofs.Common.{◌≡◌, ℕ, List, [], ◌∷◌, ◌++◌, length, reverse, get_or, Option, refl, sym, ap, ◌∙◌, subst, cond, eq-eqb}
 use Rattle.std.proofs.lemmas.Bool.{ne_eqb}
 use Rattle.std.proofs.lemmas.List.{reverse-append}
-use Rattle.orc_nodes.specs.declared.arena.Node.{Node}
-use Rattle.orc_nodes.specs.declared.arena.Tip.{Tip}
-use Rattle.orc_nodes.specs.declared.arena.Tip.TheVariants.{Gone, Ended, Token, Bears, Waits}
-use Rattle.orc_nodes.specs.declared.arena.Single.TheVariants.{Feeds, Entered, Passed}
-use Rattle.orc_nodes.specs.declared.arena.Double.TheVariants.{Both, Side}
-use Rattle.orc_nodes.specs.declared.arena.Kind.TheVariants.{Leaf}
+use Rattle.orc_term.specs.declared.arena.Node.{Node}
+use Rattle.orc_term.specs.declared.arena.Tip.{Tip}
+use Rattle.orc_term.specs.declared.arena.Tip.TheVariants.{Gone, Ended, Token, Bears, Waits}
+use Rattle.orc_term.specs.declared.arena.Single.TheVariants.{Feeds, Entered, Passed}
+use Rattle.orc_term.specs.declared.arena.Double.TheVariants.{Both, Side}
+use Rattle.orc_term.specs.declared.arena.Kind.TheVariants.{Leaf}
 use Rattle.orc_rules.specs.declared.param.Param.TheVariants.{Is}
 use Rattle.orc_rules.specs.declared.entry.Entry.{Entry}
 use Rattle.orc_rules.specs.declared.entry.Label.{Label}
@@ -15,17 +15,17 @@ use Rattle.orc_rules.specs.Term.{Term, param}
 use Rattle.orc_rules.specs.Marked.{Marked, token, Replaces, here, in_left, in_right, in_feeding, in_main, in_side, in_entered}
 use Rattle.orc_rules.specs.Journal.{Place}
 use Rattle.orc_rules.specs.Timed.{Context}
-use Rattle.orc_nodes.specs.Arena.{Tree, leaf, one, two, place, at, living_kind, spelled, Frame, on_one, on_left, on_right, fit, plug}
-use Rattle.orc_names.specs.Scopes.{Env, env_of, close}
-use Rattle.orc_nodes.specs.Around.{place_of, above}
-use Rattle.orc_nodes.specs.Rising.{Stands, nowhere}
-use Rattle.orc_nodes.specs.Bearers.{Carries}
+use Rattle.orc_term.specs.Arena.{Tree, leaf, one, two, place, at, living_kind, spelled, Frame, on_one, on_left, on_right, fit, plug}
+use Rattle.orc_env.specs.Scopes.{Env, env_of, close}
+use Rattle.orc_term.specs.Around.{place_of, above}
+use Rattle.orc_term.specs.Rising.{Stands, nowhere}
+use Rattle.orc_term.specs.Bearers.{Carries}
 use Rattle.orc_checker.specs.Checker.{State, Spells}
 use Rattle.orc_checker.specs.Labelling.{around_cells, cell_above, AreAround, StandsInside, IsLabel}
-use Rattle.orc_nodes.proofs.Trees.{holds-out}
+use Rattle.orc_term.proofs.Trees.{holds-out}
 use Rattle.orc_checker.proofs.Change.{says_of}
-use Rattle.orc_nodes.proofs.Feeding.{frame_kind, place-fit, fit-out}
-use Rattle.orc_nodes.proofs.Rising.{parent_of, get_or-some, at_root, not_root, differ}
+use Rattle.orc_term.proofs.Feeding.{frame_kind, place-fit, fit-out}
+use Rattle.orc_term.proofs.Rising.{parent_of, get_or-some, at_root, not_root, differ}
 
 module _ (code : ℕ → Term) (env : ℕ → Env) where
   -- a part is replaced in the whole, inside the right sides around it

@@ -1,16 +1,16 @@
 -- Where no token of the list can move, none can.
 use Rattle.std.proofs.Common.{◌≡◌, ◌≤◌, ◌<◌, ℕ, List, length, get_or, refl, ap, sym, ◌∙◌, arith, Bool, true, false}
 use Rattle.orc_rules.specs.Term.{Term, Definition}
-use Rattle.orc_nodes.specs.declared.arena.Node.{Node}
-use Rattle.orc_names.specs.declared.names.Bound.{Bound}
-use Rattle.orc_names.specs.declared.names.Scope.{Scope}
-use Rattle.orc_nodes.specs.declared.arena.Kind.{Kind}
-use Rattle.orc_nodes.specs.declared.arena.Kind.TheVariants.{Leaf, One, Two}
-use Rattle.orc_nodes.specs.declared.arena.Tip.TheVariants.{Gone, Ended, Token, Bears, Waits}
-use Rattle.orc_nodes.specs.declared.arena.Single.TheVariants.{Feeds, Entered, Passed}
-use Rattle.orc_nodes.specs.declared.arena.Double.TheVariants.{Both, Side}
-use Rattle.orc_nodes.specs.Settling.{kind_at}
-use Rattle.orc_nodes.specs.Hints.{restless, AreListed}
+use Rattle.orc_term.specs.declared.arena.Node.{Node}
+use Rattle.orc_env.specs.declared.names.Bound.{Bound}
+use Rattle.orc_env.specs.declared.names.Scope.{Scope}
+use Rattle.orc_term.specs.declared.arena.Kind.{Kind}
+use Rattle.orc_term.specs.declared.arena.Kind.TheVariants.{Leaf, One, Two}
+use Rattle.orc_term.specs.declared.arena.Tip.TheVariants.{Gone, Ended, Token, Bears, Waits}
+use Rattle.orc_term.specs.declared.arena.Single.TheVariants.{Feeds, Entered, Passed}
+use Rattle.orc_term.specs.declared.arena.Double.TheVariants.{Both, Side}
+use Rattle.orc_term.specs.Settling.{kind_at}
+use Rattle.orc_term.specs.Hints.{restless, AreListed}
 use Rattle.orc_checker.specs.Stillness.{token_moves}
 
 module _ (defs : List Definition) (code : ℕ → Term) (cells : List Bound) (scopes : List Scope) where

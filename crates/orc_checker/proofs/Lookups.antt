@@ -3,16 +3,16 @@ use Rattle.std.proofs.Common.{◌≡◌, ℕ, zero, suc, List, Option, Some, Non
 use Rattle.std.specs.Prelude.{slice_get, option_map}
 use Rattle.orc_rules.specs.declared.value.Value.{Value}
 use Rattle.orc_rules.specs.Numbered.{mark, call, cell}
-use Rattle.orc_nodes.specs.declared.arena.Node.{Node}
-use Rattle.orc_nodes.specs.declared.arena.Kind.{Kind}
-use Rattle.orc_nodes.specs.declared.arena.Kind.TheVariants.{Leaf, One, Two}
-use Rattle.orc_nodes.specs.declared.arena.Tip.{Tip}
-use Rattle.orc_nodes.specs.declared.arena.Tip.TheVariants.{Gone, Ended, Token, Bears, Waits}
-use Rattle.orc_nodes.specs.declared.arena.Single.TheVariants.{Entered}
-use Rattle.orc_nodes.specs.declared.arena.Double.TheVariants.{Side}
+use Rattle.orc_term.specs.declared.arena.Node.{Node}
+use Rattle.orc_term.specs.declared.arena.Kind.{Kind}
+use Rattle.orc_term.specs.declared.arena.Kind.TheVariants.{Leaf, One, Two}
+use Rattle.orc_term.specs.declared.arena.Tip.{Tip}
+use Rattle.orc_term.specs.declared.arena.Tip.TheVariants.{Gone, Ended, Token, Bears, Waits}
+use Rattle.orc_term.specs.declared.arena.Single.TheVariants.{Entered}
+use Rattle.orc_term.specs.declared.arena.Double.TheVariants.{Side}
 use Rattle.orc_checker.specs.declared.rest.Called.{Called}
-use Rattle.orc_nodes.specs.Arena.{at}
-use Rattle.orc_nodes.specs.Bearers.{Carries}
+use Rattle.orc_term.specs.Arena.{at}
+use Rattle.orc_term.specs.Bearers.{Carries}
 use Rattle.orc_checker.specs.Calls.{Rest, IsCall}
 use Rattle.orc_checker.specs.Index.{name_of, call_place, node_by, otherwise_with, pruning_with, tip_with, waits_with, Tables, IsPut, AreIndexed}
 use Rattle.orc_checker.specs.Refusing.{NoToken, NoCall, NoPruning, NoOtherwise}

@@ -3,14 +3,14 @@ use Rattle.std.proofs.Common.{◌≡◌, ℕ, List, [], length, Some, refl, sym,
 use Rattle.std.specs.Prelude.{slice_get, slice_set, ◌&&◌}
 use Rattle.orc_rules.specs.declared.entry.Entry.TheVariants as entry
 use Rattle.orc_rules.specs.declared.param.Param.TheVariants as is
-use Rattle.orc_nodes.specs.declared.arena.Node.{Node}
-use Rattle.orc_names.specs.declared.names.Bound.{Bound}
-use Rattle.orc_names.specs.declared.names.Bound.TheVariants.{Cell, Void}
-use Rattle.orc_nodes.specs.declared.arena.Single.TheVariants.{Passed}
-use Rattle.orc_nodes.specs.declared.arena.Double.{Double}
-use Rattle.orc_nodes.specs.declared.arena.Double.TheVariants.{Side}
-use Rattle.orc_nodes.specs.declared.arena.Kind.{Kind}
-use Rattle.orc_nodes.specs.declared.arena.Kind.TheVariants.{One, Two}
+use Rattle.orc_term.specs.declared.arena.Node.{Node}
+use Rattle.orc_env.specs.declared.names.Bound.{Bound}
+use Rattle.orc_env.specs.declared.names.Bound.TheVariants.{Cell, Void}
+use Rattle.orc_term.specs.declared.arena.Single.TheVariants.{Passed}
+use Rattle.orc_term.specs.declared.arena.Double.{Double}
+use Rattle.orc_term.specs.declared.arena.Double.TheVariants.{Side}
+use Rattle.orc_term.specs.declared.arena.Kind.{Kind}
+use Rattle.orc_term.specs.declared.arena.Kind.TheVariants.{One, Two}
 use Rattle.orc_rules.specs.Term.{fill}
 use Rattle.orc_rules.specs.Marked.{in_opened, erase, fill_marked, Replaces, here}
 use Rattle.orc_rules.specs.Idle.{has_halted}
@@ -18,27 +18,27 @@ use Rattle.orc_rules.specs.Nodes.{Listing, code}
 use Rattle.orc_rules.specs.Sites.{Table}
 use Rattle.orc_rules.specs.Numbered.{IsNumbered, cell, times}
 use Rattle.orc_rules.proofs.Tests.{halted_by_test}
-use Rattle.orc_nodes.specs.Arena.{Tree, leaf, one, two, place, count, at, Holds, StandOnce, IsTopped, spelled, plug}
-use Rattle.orc_names.specs.Scopes.{env_of, given}
-use Rattle.orc_nodes.specs.Around.{above}
-use Rattle.orc_nodes.specs.Rising.{Stands}
-use Rattle.orc_names.specs.Names.{AreOrdered}
-use Rattle.orc_nodes.specs.Settling.{flag, HasFlags}
-use Rattle.orc_nodes.specs.Dropping.{AreNodesOf, IsDropped}
+use Rattle.orc_term.specs.Arena.{Tree, leaf, one, two, place, count, at, Holds, StandOnce, IsTopped, spelled, plug}
+use Rattle.orc_env.specs.Scopes.{env_of, given}
+use Rattle.orc_term.specs.Around.{above}
+use Rattle.orc_term.specs.Rising.{Stands}
+use Rattle.orc_env.specs.Names.{AreOrdered}
+use Rattle.orc_term.specs.Settling.{flag, HasFlags}
+use Rattle.orc_term.specs.Dropping.{AreNodesOf, IsDropped}
 use Rattle.orc_checker.specs.Checker.{State, Applies, context}
-use Rattle.orc_names.specs.Parameters.{AreOwn}
-use Rattle.orc_nodes.proofs.Trees.{hit, count-plug, holds-out, living-most, place-plug, node}
-use Rattle.orc_nodes.proofs.Feeding.{own_kind}
+use Rattle.orc_env.specs.Parameters.{AreOwn}
+use Rattle.orc_term.proofs.Trees.{hit, count-plug, holds-out, living-most, place-plug, node}
+use Rattle.orc_term.proofs.Feeding.{own_kind}
 use Rattle.orc_checker.proofs.Opening.{keeps_free}
-use Rattle.orc_nodes.proofs.Settling.{flag_says, flagged-out}
+use Rattle.orc_term.proofs.Settling.{flag_says, flagged-out}
 use Rattle.orc_checker.proofs.Flagging.{reflag}
-use Rattle.orc_names.proofs.Filling.{code-stays}
+use Rattle.orc_env.proofs.Filling.{code-stays}
 use Rattle.orc_checker.proofs.Binding.{replaces_in}
-use Rattle.orc_names.proofs.Inside.{Confined}
-use Rattle.orc_nodes.proofs.Leaving.{Drops, drops, pruned_holds, pruned_once}
+use Rattle.orc_env.proofs.Inside.{Confined}
+use Rattle.orc_term.proofs.Leaving.{Drops, drops, pruned_holds, pruned_once}
 use Rattle.orc_checker.proofs.Ending.{Over, own_filled, left_filled, stays_so, ends_drawn}
 use Rattle.orc_checker.proofs.Resuming.{at_node}
-use Rattle.orc_names.proofs.Reached.{reached_numbered, reached_confined}
+use Rattle.orc_env.proofs.Reached.{reached_numbered, reached_confined}
 
 double_or : Double → Kind → Double
 double_or d (Two e i j) = e

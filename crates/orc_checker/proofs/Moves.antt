@@ -2,32 +2,32 @@
 use Rattle.std.proofs.Common.{◌≡◌, ◌≤◌, ◌+◌, ℕ, suc, List, [], ◌∷◌, ◌++◌, length, refl, sym, ap, ◌∙◌, subst, inr, arith, length-append, length-set}
 use Rattle.std.specs.Prelude.{slice_get, slice_set, ◌&&◌}
 use Rattle.orc_rules.specs.declared.entry.Entry.TheVariants as entry
-use Rattle.orc_nodes.specs.declared.arena.Tip.{Tip}
-use Rattle.orc_nodes.specs.declared.arena.Tip.TheVariants.{Token, Ended}
-use Rattle.orc_nodes.specs.declared.arena.Single.{Single}
-use Rattle.orc_nodes.specs.declared.arena.Single.TheVariants.{Feeds, Entered}
-use Rattle.orc_nodes.specs.declared.arena.Double.{Double}
-use Rattle.orc_nodes.specs.declared.arena.Double.TheVariants.{Both}
-use Rattle.orc_nodes.specs.declared.arena.Kind.{Kind}
-use Rattle.orc_nodes.specs.declared.arena.Kind.TheVariants.{Leaf, One, Two}
+use Rattle.orc_term.specs.declared.arena.Tip.{Tip}
+use Rattle.orc_term.specs.declared.arena.Tip.TheVariants.{Token, Ended}
+use Rattle.orc_term.specs.declared.arena.Single.{Single}
+use Rattle.orc_term.specs.declared.arena.Single.TheVariants.{Feeds, Entered}
+use Rattle.orc_term.specs.declared.arena.Double.{Double}
+use Rattle.orc_term.specs.declared.arena.Double.TheVariants.{Both}
+use Rattle.orc_term.specs.declared.arena.Kind.{Kind}
+use Rattle.orc_term.specs.declared.arena.Kind.TheVariants.{Leaf, One, Two}
 use Rattle.orc_rules.specs.Term.{Term, stop, par, seq, other}
 use Rattle.orc_rules.specs.Marked.{Marked, ended, token, in_par, in_seq, in_other, Replaces, here}
-use Rattle.orc_nodes.specs.Arena.{Tree, leaf, one, two, hits, at, TipIn, SingleIn, living, living_kind, spelled, plug}
-use Rattle.orc_names.specs.Scopes.{Env, env_of, close, without}
+use Rattle.orc_term.specs.Arena.{Tree, leaf, one, two, hits, at, TipIn, SingleIn, living, living_kind, spelled, plug}
+use Rattle.orc_env.specs.Scopes.{Env, env_of, close, without}
 use Rattle.orc_checker.specs.Checker.{State, Draws, Spells, Enters, AreCells}
-use Rattle.orc_names.specs.Names.{AreOrdered}
+use Rattle.orc_env.specs.Names.{AreOrdered}
 use Rattle.orc_checker.specs.Calls.{Keeps}
-use Rattle.orc_nodes.specs.Halting.{halt_flag}
-use Rattle.orc_nodes.specs.Settling.{HasFlags, Reflags}
+use Rattle.orc_term.specs.Halting.{halt_flag}
+use Rattle.orc_term.specs.Settling.{HasFlags, Reflags}
 use Rattle.orc_checker.proofs.Flagging.{reflag_leaf, reflag_one, reflag_two}
 use Rattle.orc_rules.specs.Idle.{has_halted}
 use Rattle.orc_rules.specs.Journal.{Place, Moves}
 use Rattle.orc_rules.specs.Timed.{Context}
-use Rattle.orc_nodes.proofs.Trees.{holds-out, node}
-use Rattle.orc_nodes.proofs.Lists.{get-set_same, get-set_other, get-append, get-end, living-set, living-push}
+use Rattle.orc_term.proofs.Trees.{holds-out, node}
+use Rattle.orc_term.proofs.Lists.{get-set_same, get-set_other, get-append, get-end, living-set, living-push}
 use Rattle.orc_checker.proofs.Change.{says_of, Becomes, changed}
 use Rattle.orc_checker.proofs.Spelling.{replaces}
-use Rattle.orc_names.proofs.Closing.{close-stop, close-par, close-seq, close-other}
+use Rattle.orc_env.proofs.Closing.{close-stop, close-par, close-seq, close-other}
 
 -- the scopes that are there stay
 pub record Grows (s s' : State) : Type 0 where

@@ -14,22 +14,22 @@ use Rattle.orc_rules.specs.Marked.{Marked, ended, token, Emits, emits}
 use Rattle.orc_rules.specs.Timed.{Context}
 use Rattle.orc_rules.specs.Journal.{Place}
 use Rattle.orc_rules.specs.Refusal.{Stands}
-use Rattle.orc_names.specs.declared.names.Bound.{Bound}
-use Rattle.orc_names.specs.declared.names.Scope.{Scope}
-use Rattle.orc_names.specs.Scopes.{Env, close, close_param, env_of}
-use Rattle.orc_names.proofs.Scopes.{close-of-param, close-site, values-more}
+use Rattle.orc_env.specs.declared.names.Bound.{Bound}
+use Rattle.orc_env.specs.declared.names.Scope.{Scope}
+use Rattle.orc_env.specs.Scopes.{Env, close, close_param, env_of}
+use Rattle.orc_env.proofs.Scopes.{close-of-param, close-site, values-more}
 use Rattle.orc_calls.specs.Due.{DueNow}
-use Rattle.orc_nodes.specs.declared.arena.Kind.TheVariants.{Leaf, One, Two}
-use Rattle.orc_nodes.specs.declared.arena.Tip.{Tip}
-use Rattle.orc_nodes.specs.declared.arena.Single.TheVariants.{Entered}
-use Rattle.orc_nodes.specs.declared.arena.Double.TheVariants.{Side}
+use Rattle.orc_term.specs.declared.arena.Kind.TheVariants.{Leaf, One, Two}
+use Rattle.orc_term.specs.declared.arena.Tip.{Tip}
+use Rattle.orc_term.specs.declared.arena.Single.TheVariants.{Entered}
+use Rattle.orc_term.specs.declared.arena.Double.TheVariants.{Side}
 use Rattle.orc_checker.specs.declared.next.Next.{Next}
 use Rattle.orc_checker.specs.declared.next.Next.TheVariants as next
-use Rattle.orc_nodes.specs.declared.walk.Taker.{Taker}
-use Rattle.orc_nodes.specs.declared.walk.Taker.TheVariants.{Whole, Fed, Bound as To}
-use Rattle.orc_nodes.specs.Arena.{at, living_kind, of_tip, spelled, plug}
-use Rattle.orc_nodes.specs.Rising.{act_of, IsTaker}
-use Rattle.orc_nodes.specs.Settling.{flag}
+use Rattle.orc_term.specs.declared.walk.Taker.{Taker}
+use Rattle.orc_term.specs.declared.walk.Taker.TheVariants.{Whole, Fed, Bound as To}
+use Rattle.orc_term.specs.Arena.{at, living_kind, of_tip, spelled, plug}
+use Rattle.orc_term.specs.Rising.{act_of, IsTaker}
+use Rattle.orc_term.specs.Settling.{flag}
 use Rattle.orc_checker.specs.Stillness.{params_in}
 use Rattle.orc_checker.specs.Checker.{State, Spells}
 use Rattle.orc_checker.specs.Offers.{AddsValues, Allows, HasAt, IsOperandAt, IsPublished, Offers, taken}

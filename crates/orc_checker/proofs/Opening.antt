@@ -3,30 +3,30 @@ use Rattle.std.proofs.Common.{◌≡◌, ◌≤◌, ◌+◌, ℕ, zero, suc, Lis
 use Rattle.std.specs.Prelude.{slice_get, slice_set, ◌&&◌}
 use Rattle.orc_rules.specs.declared.entry.Entry.TheVariants as entry
 use Rattle.orc_rules.specs.declared.param.Param.TheVariants as is
-use Rattle.orc_names.specs.declared.names.Bound.{Bound}
-use Rattle.orc_names.specs.declared.names.Bound.TheVariants.{Cell}
-use Rattle.orc_names.specs.declared.names.Scope.{Scope}
-use Rattle.orc_nodes.specs.declared.arena.Tip.TheVariants.{Token}
-use Rattle.orc_nodes.specs.declared.arena.Double.TheVariants.{Side}
-use Rattle.orc_nodes.specs.declared.arena.Kind.TheVariants.{Leaf, Two}
+use Rattle.orc_env.specs.declared.names.Bound.{Bound}
+use Rattle.orc_env.specs.declared.names.Bound.TheVariants.{Cell}
+use Rattle.orc_env.specs.declared.names.Scope.{Scope}
+use Rattle.orc_term.specs.declared.arena.Tip.TheVariants.{Token}
+use Rattle.orc_term.specs.declared.arena.Double.TheVariants.{Side}
+use Rattle.orc_term.specs.declared.arena.Kind.TheVariants.{Leaf, Two}
 use Rattle.orc_rules.specs.Term.{Term, prune, put}
 use Rattle.orc_rules.specs.Marked.{token, in_opened, Replaces}
 use Rattle.orc_rules.specs.Timed.{Context}
 use Rattle.orc_rules.specs.Journal.{Place, next}
-use Rattle.orc_nodes.specs.Arena.{leaf, two, at, spelled}
-use Rattle.orc_names.specs.Scopes.{Env, current, env_of, close, without}
+use Rattle.orc_term.specs.Arena.{leaf, two, at, spelled}
+use Rattle.orc_env.specs.Scopes.{Env, current, env_of, close, without}
 use Rattle.orc_checker.specs.Checker.{State, Enters, AreCells, numbers}
-use Rattle.orc_names.specs.Parameters.{AreOwn}
-use Rattle.orc_names.proofs.Parameters.{ordered_push}
-use Rattle.orc_names.specs.Names.{AreOrdered}
+use Rattle.orc_env.specs.Parameters.{AreOwn}
+use Rattle.orc_env.proofs.Parameters.{ordered_push}
+use Rattle.orc_env.specs.Names.{AreOrdered}
 use Rattle.orc_checker.specs.Calls.{Rest, Keeps}
-use Rattle.orc_nodes.specs.Halting.{halt_flag}
-use Rattle.orc_nodes.specs.Settling.{Settles}
+use Rattle.orc_term.specs.Halting.{halt_flag}
+use Rattle.orc_term.specs.Settling.{Settles}
 use Rattle.orc_checker.proofs.Flagging.{reflag_two_settled}
 use Rattle.orc_rules.specs.Idle.{has_halted}
-use Rattle.orc_names.proofs.Closing.{close-prune, close-more}
+use Rattle.orc_env.proofs.Closing.{close-prune, close-more}
 use Rattle.orc_checker.proofs.Growth.{env-kept, env-new, current-push, env-current}
-use Rattle.orc_nodes.proofs.Trees.{node}
+use Rattle.orc_term.proofs.Trees.{node}
 use Rattle.orc_checker.proofs.Moves.{over_two, turn, scope_there}
 
 -- what is kept besides the term stays where no cancel comes due

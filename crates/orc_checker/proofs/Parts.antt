@@ -5,15 +5,15 @@ use Rattle.orc_rules.specs.Marked.{Marked, ended, token, in_call, in_par, in_seq
 use Rattle.orc_rules.specs.Journal.{Place}
 use Rattle.orc_rules.specs.Refusal.{Stands, HasToken, HasCall, HasCell, HasOther}
 use Rattle.orc_rules.specs.Timed.{Context}
-use Rattle.orc_names.specs.Scopes.{Env, env_of}
-use Rattle.orc_nodes.specs.declared.arena.Node.{Node}
-use Rattle.orc_nodes.specs.declared.arena.Kind.TheVariants.{Leaf, One, Two}
-use Rattle.orc_nodes.specs.declared.arena.Tip.{Tip}
-use Rattle.orc_nodes.specs.declared.arena.Tip.TheVariants.{Gone, Ended, Token, Bears, Waits}
-use Rattle.orc_nodes.specs.declared.arena.Single.TheVariants.{Feeds, Entered, Passed}
-use Rattle.orc_nodes.specs.declared.arena.Double.TheVariants.{Both, Side}
-use Rattle.orc_nodes.specs.Arena.{Tree, leaf, one, two, place, at, Holds, of_tip, spelled}
-use Rattle.orc_nodes.specs.Bearers.{Carries}
+use Rattle.orc_env.specs.Scopes.{Env, env_of}
+use Rattle.orc_term.specs.declared.arena.Node.{Node}
+use Rattle.orc_term.specs.declared.arena.Kind.TheVariants.{Leaf, One, Two}
+use Rattle.orc_term.specs.declared.arena.Tip.{Tip}
+use Rattle.orc_term.specs.declared.arena.Tip.TheVariants.{Gone, Ended, Token, Bears, Waits}
+use Rattle.orc_term.specs.declared.arena.Single.TheVariants.{Feeds, Entered, Passed}
+use Rattle.orc_term.specs.declared.arena.Double.TheVariants.{Both, Side}
+use Rattle.orc_term.specs.Arena.{Tree, leaf, one, two, place, at, Holds, of_tip, spelled}
+use Rattle.orc_term.specs.Bearers.{Carries}
 use Rattle.orc_checker.specs.Checker.{State, Spells}
 use Rattle.orc_checker.specs.Refusing.{NoToken, NoCall, NoPruning, NoOtherwise}
 

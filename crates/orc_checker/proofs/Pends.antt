@@ -5,13 +5,13 @@ use Rattle.orc_rules.specs.Term.{Term, stop, param, site, call, par, seq, prune,
 use Rattle.orc_rules.specs.Marked.{erase}
 use Rattle.orc_rules.specs.Timed.{IsIn}
 use Rattle.orc_rules.specs.Lost.{IsSource}
-use Rattle.orc_nodes.specs.declared.arena.Node.{Node}
-use Rattle.orc_nodes.specs.declared.arena.Kind.TheVariants.{Leaf}
-use Rattle.orc_nodes.specs.declared.arena.Tip.TheVariants.{Gone, Ended, Token, Bears, Waits}
-use Rattle.orc_nodes.specs.declared.arena.Single.TheVariants.{Feeds, Entered, Passed}
-use Rattle.orc_nodes.specs.declared.arena.Double.TheVariants.{Both, Side}
-use Rattle.orc_nodes.specs.Arena.{Tree, leaf, one, two, Holds, at, spelled, Frame, on_one, on_left, on_right, plug}
-use Rattle.orc_names.specs.Scopes.{Env, given, close}
+use Rattle.orc_term.specs.declared.arena.Node.{Node}
+use Rattle.orc_term.specs.declared.arena.Kind.TheVariants.{Leaf}
+use Rattle.orc_term.specs.declared.arena.Tip.TheVariants.{Gone, Ended, Token, Bears, Waits}
+use Rattle.orc_term.specs.declared.arena.Single.TheVariants.{Feeds, Entered, Passed}
+use Rattle.orc_term.specs.declared.arena.Double.TheVariants.{Both, Side}
+use Rattle.orc_term.specs.Arena.{Tree, leaf, one, two, Holds, at, spelled, Frame, on_one, on_left, on_right, plug}
+use Rattle.orc_env.specs.Scopes.{Env, given, close}
 
 -- what is put in leaves the calls that pend
 pub pending_put : (q : Param) (x : ℕ) (f : Term) → pending_of (put q x f) ≡ pending_of f

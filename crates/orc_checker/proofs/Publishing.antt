@@ -3,31 +3,31 @@ use Rattle.std.proofs.Common.{◌≡◌, ℕ, List, [], ◌∷◌, length, refl,
 use Rattle.std.specs.Prelude.{slice_set}
 use Rattle.orc_rules.specs.declared.value.Value.{Value}
 use Rattle.orc_rules.specs.declared.entry.Entry.TheVariants as entry
-use Rattle.orc_nodes.specs.declared.arena.Tip.{Tip}
-use Rattle.orc_nodes.specs.declared.arena.Tip.TheVariants.{Ended}
-use Rattle.orc_nodes.specs.declared.arena.Kind.TheVariants.{Leaf}
-use Rattle.orc_nodes.specs.declared.arena.Single.TheVariants.{Feeds, Entered, Passed}
-use Rattle.orc_nodes.specs.declared.arena.Double.TheVariants.{Both, Side}
-use Rattle.orc_nodes.specs.declared.walk.Taker.TheVariants.{Whole}
+use Rattle.orc_term.specs.declared.arena.Tip.{Tip}
+use Rattle.orc_term.specs.declared.arena.Tip.TheVariants.{Ended}
+use Rattle.orc_term.specs.declared.arena.Kind.TheVariants.{Leaf}
+use Rattle.orc_term.specs.declared.arena.Single.TheVariants.{Feeds, Entered, Passed}
+use Rattle.orc_term.specs.declared.arena.Double.TheVariants.{Both, Side}
+use Rattle.orc_term.specs.declared.walk.Taker.TheVariants.{Whole}
 use Rattle.orc_rules.specs.Term.{Term}
 use Rattle.orc_rules.specs.Step.{publishes}
 use Rattle.orc_rules.specs.Marked.{erase, ended, Emits, emits, passes, on_main}
 use Rattle.orc_rules.specs.Marked.{on_left as emits_left, on_right as emits_right}
-use Rattle.orc_nodes.specs.Arena.{Tree, leaf, one, two, place, Holds, StandOnce, IsTopped, at, living_kind, spelled, Frame, on_one, on_left, on_right, plug}
-use Rattle.orc_names.specs.Scopes.{Env, env_of}
-use Rattle.orc_nodes.specs.Rising.{takes, rest, under, risen, IsTaker, Rises}
+use Rattle.orc_term.specs.Arena.{Tree, leaf, one, two, place, Holds, StandOnce, IsTopped, at, living_kind, spelled, Frame, on_one, on_left, on_right, plug}
+use Rattle.orc_env.specs.Scopes.{Env, env_of}
+use Rattle.orc_term.specs.Rising.{takes, rest, under, risen, IsTaker, Rises}
 use Rattle.orc_checker.specs.Checker.{State, Enters, AreCells}
-use Rattle.orc_nodes.specs.Bearers.{BearsValue}
-use Rattle.orc_names.specs.Names.{AreOrdered}
+use Rattle.orc_term.specs.Bearers.{BearsValue}
+use Rattle.orc_env.specs.Names.{AreOrdered}
 use Rattle.orc_checker.specs.Calls.{Keeps}
-use Rattle.orc_nodes.proofs.Trees.{topped-plug, place-plug, node}
-use Rattle.orc_nodes.specs.Settling.{flag, HasFlags, Settles}
-use Rattle.orc_nodes.proofs.Settling.{flag_says, flagged-out, flag-set_same}
+use Rattle.orc_term.proofs.Trees.{topped-plug, place-plug, node}
+use Rattle.orc_term.specs.Settling.{flag, HasFlags, Settles}
+use Rattle.orc_term.proofs.Settling.{flag_says, flagged-out, flag-set_same}
 use Rattle.orc_checker.proofs.Flagging.{risen_flags}
 use Rattle.orc_rules.specs.Idle.{has_halted}
 use Rattle.orc_checker.proofs.Change.{changed}
 use Rattle.orc_checker.proofs.Moves.{written, Stays, staying}
-use Rattle.orc_nodes.proofs.Rising.{plug-under}
+use Rattle.orc_term.proofs.Rising.{plug-under}
 
 module _ (code : ℕ → Term) (env : ℕ → Env) where
   -- what goes up is published by the part that it comes to

@@ -26,22 +26,22 @@ use Rattle.orc_rules.specs.Tests.{TickByTest}
 use Rattle.orc_rules.proofs.Idle.{halted_test}
 use Rattle.orc_rules.proofs.Standing.{cell_one, other_one, token_one}
 use Rattle.orc_calls.specs.Due.{IsNotDue}
-use Rattle.orc_names.specs.Names.{AreOrdered}
-use Rattle.orc_names.specs.Scopes.{Env, close, env_of}
-use Rattle.orc_names.proofs.Closing.{close-stop, close-par, close-other, close-seq, close-prune}
-use Rattle.orc_names.proofs.Scopes.{close-of-param, close-site, close-call}
-use Rattle.orc_names.proofs.Reached.{reached_numbered}
-use Rattle.orc_nodes.specs.declared.arena.Kind.TheVariants.{Leaf, One, Two}
-use Rattle.orc_nodes.specs.declared.arena.Single.TheVariants.{Entered}
-use Rattle.orc_nodes.specs.declared.arena.Double.TheVariants.{Side}
+use Rattle.orc_env.specs.Names.{AreOrdered}
+use Rattle.orc_env.specs.Scopes.{Env, close, env_of}
+use Rattle.orc_env.proofs.Closing.{close-stop, close-par, close-other, close-seq, close-prune}
+use Rattle.orc_env.proofs.Scopes.{close-of-param, close-site, close-call}
+use Rattle.orc_env.proofs.Reached.{reached_numbered}
+use Rattle.orc_term.specs.declared.arena.Kind.TheVariants.{Leaf, One, Two}
+use Rattle.orc_term.specs.declared.arena.Single.TheVariants.{Entered}
+use Rattle.orc_term.specs.declared.arena.Double.TheVariants.{Side}
 use Rattle.orc_checker.specs.declared.rest.Called.{Called}
-use Rattle.orc_nodes.specs.declared.arena.Tip.TheVariants.{Token, Bears}
-use Rattle.orc_nodes.specs.Arena.{at}
+use Rattle.orc_term.specs.declared.arena.Tip.TheVariants.{Token, Bears}
+use Rattle.orc_term.specs.Arena.{at}
 use Rattle.orc_checker.specs.Calls.{IsCall, IsDueNow}
 use Rattle.orc_checker.specs.Checker.{State, Spells, context, numbers, IsReached}
 use Rattle.orc_checker.specs.NextDue.{IsNext}
 use Rattle.orc_checker.specs.Refusing.{IsRightlyRefused, Lacks, LacksSpot, NoToken, Presumes}
-use Rattle.orc_nodes.specs.Settling.{flag}
+use Rattle.orc_term.specs.Settling.{flag}
 use Rattle.orc_checker.proofs.CallsMade.{kept_length}
 use Rattle.orc_checker.proofs.KeptCalls.{answer_found, due_found}
 use Rattle.orc_checker.proofs.Offered.{token_stands}

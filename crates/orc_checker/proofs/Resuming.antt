@@ -2,32 +2,32 @@
 use Rattle.std.proofs.Common.{◌≡◌, ◌+◌, ℕ, suc, List, [], ◌∷◌, length, Option, Some, refl, sym, ap, ◌∙◌, subst, arith, inr, true}
 use Rattle.std.specs.Prelude.{slice_get, slice_set}
 use Rattle.orc_rules.specs.declared.entry.Entry.TheVariants as entry
-use Rattle.orc_nodes.specs.declared.arena.Node.{Node}
-use Rattle.orc_nodes.specs.declared.arena.Tip.{Tip}
-use Rattle.orc_nodes.specs.declared.arena.Tip.TheVariants.{Token}
-use Rattle.orc_nodes.specs.declared.arena.Single.{Single}
-use Rattle.orc_nodes.specs.declared.arena.Single.TheVariants.{Entered}
-use Rattle.orc_nodes.specs.declared.arena.Kind.{Kind}
-use Rattle.orc_nodes.specs.declared.arena.Kind.TheVariants.{Leaf, One}
+use Rattle.orc_term.specs.declared.arena.Node.{Node}
+use Rattle.orc_term.specs.declared.arena.Tip.{Tip}
+use Rattle.orc_term.specs.declared.arena.Tip.TheVariants.{Token}
+use Rattle.orc_term.specs.declared.arena.Single.{Single}
+use Rattle.orc_term.specs.declared.arena.Single.TheVariants.{Entered}
+use Rattle.orc_term.specs.declared.arena.Kind.{Kind}
+use Rattle.orc_term.specs.declared.arena.Kind.TheVariants.{Leaf, One}
 use Rattle.orc_rules.specs.Term.{Term}
 use Rattle.orc_rules.specs.Marked.{token, in_other, erase, Replaces, here}
 use Rattle.orc_rules.specs.Idle.{has_halted}
 use Rattle.orc_rules.proofs.Tests.{halted_by_test}
-use Rattle.orc_nodes.specs.Arena.{Tree, leaf, one, two, place, count, at, Holds, living, StandOnce, IsTopped, spelled, Frame, plug}
-use Rattle.orc_names.specs.Scopes.{env_of, close}
-use Rattle.orc_nodes.specs.Around.{above}
-use Rattle.orc_nodes.specs.Halting.{halt_flag}
-use Rattle.orc_nodes.specs.Settling.{flag, HasFlags, Settles}
-use Rattle.orc_nodes.specs.Dropping.{AreNodesOf, IsDropped}
-use Rattle.orc_names.specs.Names.{AreOrdered}
+use Rattle.orc_term.specs.Arena.{Tree, leaf, one, two, place, count, at, Holds, living, StandOnce, IsTopped, spelled, Frame, plug}
+use Rattle.orc_env.specs.Scopes.{env_of, close}
+use Rattle.orc_term.specs.Around.{above}
+use Rattle.orc_term.specs.Halting.{halt_flag}
+use Rattle.orc_term.specs.Settling.{flag, HasFlags, Settles}
+use Rattle.orc_term.specs.Dropping.{AreNodesOf, IsDropped}
+use Rattle.orc_env.specs.Names.{AreOrdered}
 use Rattle.orc_checker.specs.Checker.{State, Enters, AreCells}
-use Rattle.orc_nodes.proofs.Trees.{hit, count-plug, holds-out, living-most, spot, topped-plug, place-plug, node}
-use Rattle.orc_nodes.proofs.Feeding.{own, own_kind}
+use Rattle.orc_term.proofs.Trees.{hit, count-plug, holds-out, living-most, spot, topped-plug, place-plug, node}
+use Rattle.orc_term.proofs.Feeding.{own, own_kind}
 use Rattle.orc_checker.proofs.Opening.{keeps_free}
-use Rattle.orc_nodes.proofs.Settling.{flag_says, flagged-out}
+use Rattle.orc_term.proofs.Settling.{flag_says, flagged-out}
 use Rattle.orc_checker.proofs.Flagging.{reflag_settled, flag-set_at}
 use Rattle.orc_checker.proofs.Spelling.{replaces}
-use Rattle.orc_nodes.proofs.Leaving.{Drops, drops, resumed_holds, resumed_once}
+use Rattle.orc_term.proofs.Leaving.{Drops, drops, resumed_holds, resumed_once}
 
 single_or : Single → Kind → Single
 single_or d (One s i) = s

@@ -4,44 +4,44 @@ use Rattle.std.specs.Prelude.{slice_set}
 use Rattle.orc_rules.specs.declared.value.Value.{Value}
 use Rattle.orc_rules.specs.declared.param.Param.TheVariants.{Is}
 use Rattle.orc_rules.specs.declared.entry.Entry.TheVariants as entry
-use Rattle.orc_nodes.specs.declared.arena.Node.{Node}
-use Rattle.orc_names.specs.declared.names.Scope.{Scope}
-use Rattle.orc_names.specs.declared.names.Bound.TheVariants as bound
-use Rattle.orc_nodes.specs.declared.arena.Tip.{Tip}
-use Rattle.orc_nodes.specs.declared.arena.Tip.TheVariants.{Ended, Token}
-use Rattle.orc_nodes.specs.declared.arena.Kind.{Kind}
-use Rattle.orc_nodes.specs.declared.arena.Kind.TheVariants.{Leaf, One}
-use Rattle.orc_nodes.specs.declared.arena.Single.{Single}
-use Rattle.orc_nodes.specs.declared.arena.Single.TheVariants.{Feeds, Entered, Passed}
-use Rattle.orc_nodes.specs.declared.arena.Double.TheVariants.{Both, Side}
-use Rattle.orc_nodes.specs.declared.walk.Taker.{Taker}
-use Rattle.orc_nodes.specs.declared.walk.Taker.TheVariants.{Whole, Fed}
-use Rattle.orc_nodes.specs.declared.walk.Taker.TheVariants as taker
+use Rattle.orc_term.specs.declared.arena.Node.{Node}
+use Rattle.orc_env.specs.declared.names.Scope.{Scope}
+use Rattle.orc_env.specs.declared.names.Bound.TheVariants as bound
+use Rattle.orc_term.specs.declared.arena.Tip.{Tip}
+use Rattle.orc_term.specs.declared.arena.Tip.TheVariants.{Ended, Token}
+use Rattle.orc_term.specs.declared.arena.Kind.{Kind}
+use Rattle.orc_term.specs.declared.arena.Kind.TheVariants.{Leaf, One}
+use Rattle.orc_term.specs.declared.arena.Single.{Single}
+use Rattle.orc_term.specs.declared.arena.Single.TheVariants.{Feeds, Entered, Passed}
+use Rattle.orc_term.specs.declared.arena.Double.TheVariants.{Both, Side}
+use Rattle.orc_term.specs.declared.walk.Taker.{Taker}
+use Rattle.orc_term.specs.declared.walk.Taker.TheVariants.{Whole, Fed}
+use Rattle.orc_term.specs.declared.walk.Taker.TheVariants as taker
 use Rattle.orc_rules.specs.Term.{Term, param, put}
 use Rattle.orc_rules.specs.Step.{publishes, silent}
 use Rattle.orc_rules.specs.Marked.{erase, token, ended, in_seq, in_par, Emits, emits, is_fed}
-use Rattle.orc_nodes.specs.Arena.{Tree, leaf, one, place, Holds, StandOnce, IsTopped, at, SingleIn, living_kind, spelled, Frame, on_one, on_left, on_right, fit, plug}
-use Rattle.orc_names.specs.Scopes.{Env, env_of, close, without}
-use Rattle.orc_nodes.specs.Around.{above}
-use Rattle.orc_nodes.proofs.Feeding.{place-fit}
-use Rattle.orc_nodes.specs.Rising.{takes, rest, under, risen, nowhere, IsTaker, Rises}
-use Rattle.orc_nodes.specs.Grafting.{grafted, Grafts}
+use Rattle.orc_term.specs.Arena.{Tree, leaf, one, place, Holds, StandOnce, IsTopped, at, SingleIn, living_kind, spelled, Frame, on_one, on_left, on_right, fit, plug}
+use Rattle.orc_env.specs.Scopes.{Env, env_of, close, without}
+use Rattle.orc_term.specs.Around.{above}
+use Rattle.orc_term.proofs.Feeding.{place-fit}
+use Rattle.orc_term.specs.Rising.{takes, rest, under, risen, nowhere, IsTaker, Rises}
+use Rattle.orc_term.specs.Grafting.{grafted, Grafts}
 use Rattle.orc_checker.specs.Checker.{State, Enters, AreCells}
-use Rattle.orc_nodes.specs.Bearers.{BearsValue}
-use Rattle.orc_names.specs.Names.{AreOrdered}
+use Rattle.orc_term.specs.Bearers.{BearsValue}
+use Rattle.orc_env.specs.Names.{AreOrdered}
 use Rattle.orc_checker.specs.Calls.{Keeps}
 use Rattle.orc_rules.specs.Idle.{has_halted}
-use Rattle.orc_nodes.specs.Halting.{halt_flag}
-use Rattle.orc_nodes.specs.Settling.{flag, HasFlags, Settles}
-use Rattle.orc_nodes.proofs.Settling.{flag_says, flagged-out, flag-set_same}
+use Rattle.orc_term.specs.Halting.{halt_flag}
+use Rattle.orc_term.specs.Settling.{flag, HasFlags, Settles}
+use Rattle.orc_term.proofs.Settling.{flag_says, flagged-out, flag-set_same}
 use Rattle.orc_checker.proofs.Flagging.{sent_flags}
-use Rattle.orc_nodes.proofs.Trees.{holds-out, topped-plug, place-plug, node}
-use Rattle.orc_nodes.proofs.Lists.{get-more}
+use Rattle.orc_term.proofs.Trees.{holds-out, topped-plug, place-plug, node}
+use Rattle.orc_term.proofs.Lists.{get-more}
 use Rattle.orc_checker.proofs.Change.{changed}
 use Rattle.orc_checker.proofs.Moves.{written, Grows}
-use Rattle.orc_nodes.proofs.Rising.{plug-under, get_or-some}
-use Rattle.orc_names.proofs.Closing.{close-more}
-use Rattle.orc_names.proofs.Scopes.{env-kept, env-new}
+use Rattle.orc_term.proofs.Rising.{plug-under, get_or-some}
+use Rattle.orc_env.proofs.Closing.{close-more}
+use Rattle.orc_env.proofs.Scopes.{env-kept, env-new}
 use Rattle.orc_checker.proofs.Spelling.{spelled-kept, taken}
 use Rattle.orc_checker.proofs.Publishing.{goes_up, place-risen, topped-risen}
 

@@ -5,20 +5,20 @@ use Rattle.orc_rules.specs.Term.{Term}
 use Rattle.orc_rules.specs.Idle.{has_halted}
 use Rattle.orc_rules.specs.Marked.{Marked, in_opened, in_other, erase, Replaces, here}
 use Rattle.orc_rules.specs.Refusal.{Stands}
-use Rattle.orc_names.specs.Scopes.{Env, close, env_of}
-use Rattle.orc_nodes.specs.declared.arena.Node.{Node}
-use Rattle.orc_nodes.specs.declared.arena.Kind.{Kind}
-use Rattle.orc_nodes.specs.declared.arena.Kind.TheVariants.{Leaf, One, Two}
-use Rattle.orc_nodes.specs.declared.arena.Single.TheVariants.{Feeds, Entered, Passed}
-use Rattle.orc_nodes.specs.declared.arena.Double.TheVariants.{Both, Side}
-use Rattle.orc_nodes.specs.Arena.{Tree, leaf, one, two, place, at, Holds, StandOnce, living, living_kind, of_tip, spelled, Frame, plug}
-use Rattle.orc_nodes.specs.Around.{above}
-use Rattle.orc_nodes.specs.Rising.{Stands as StandsAt}
-use Rattle.orc_nodes.specs.Settling.{flag, Flagged}
+use Rattle.orc_env.specs.Scopes.{Env, close, env_of}
+use Rattle.orc_term.specs.declared.arena.Node.{Node}
+use Rattle.orc_term.specs.declared.arena.Kind.{Kind}
+use Rattle.orc_term.specs.declared.arena.Kind.TheVariants.{Leaf, One, Two}
+use Rattle.orc_term.specs.declared.arena.Single.TheVariants.{Feeds, Entered, Passed}
+use Rattle.orc_term.specs.declared.arena.Double.TheVariants.{Both, Side}
+use Rattle.orc_term.specs.Arena.{Tree, leaf, one, two, place, at, Holds, StandOnce, living, living_kind, of_tip, spelled, Frame, plug}
+use Rattle.orc_term.specs.Around.{above}
+use Rattle.orc_term.specs.Rising.{Stands as StandsAt}
+use Rattle.orc_term.specs.Settling.{flag, Flagged}
 use Rattle.orc_checker.specs.Checker.{State, Draws}
-use Rattle.orc_nodes.proofs.Trees.{spot, holds-out}
+use Rattle.orc_term.proofs.Trees.{spot, holds-out}
 use Rattle.orc_checker.proofs.Spelling.{replaces}
-use Rattle.orc_nodes.proofs.Settling.{flag_says, flagged-out}
+use Rattle.orc_term.proofs.Settling.{flag_says, flagged-out}
 
 -- what a node shows of its part
 abbrev pub Shows : (ℕ → Term) → State → Kind → Marked → Type 0

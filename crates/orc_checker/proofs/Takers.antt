@@ -5,11 +5,11 @@ use Rattle.orc_rules.specs.Term.{Term}
 use Rattle.orc_rules.specs.Step.{Act, publishes, IsInner, within}
 use Rattle.orc_rules.specs.Marked.{Marked, in_opened, Emits, on_feeding, is_fed, on_main, on_side, is_bound, on_entered, passes}
 use Rattle.orc_rules.specs.Marked.{on_left as emits_left, on_right as emits_right}
-use Rattle.orc_nodes.specs.declared.arena.Single.TheVariants.{Feeds, Entered, Passed}
-use Rattle.orc_nodes.specs.declared.arena.Double.TheVariants.{Both, Side}
-use Rattle.orc_nodes.specs.Arena.{Tree, one, two, spelled, Frame, on_one, on_left, on_right, plug}
-use Rattle.orc_names.specs.Scopes.{Env}
-use Rattle.orc_nodes.specs.Rising.{takes, act_of}
+use Rattle.orc_term.specs.declared.arena.Single.TheVariants.{Feeds, Entered, Passed}
+use Rattle.orc_term.specs.declared.arena.Double.TheVariants.{Both, Side}
+use Rattle.orc_term.specs.Arena.{Tree, one, two, spelled, Frame, on_one, on_left, on_right, plug}
+use Rattle.orc_env.specs.Scopes.{Env}
+use Rattle.orc_term.specs.Rising.{takes, act_of}
 
 module _ (code : ℕ → Term) (env : ℕ → Env) where
   -- what is taken below stays so above

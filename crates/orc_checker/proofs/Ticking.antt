@@ -12,18 +12,18 @@ use Rattle.orc_rules.specs.Journal.{Place, moment}
 use Rattle.orc_rules.specs.Lost.{IsSource}
 use Rattle.orc_rules.specs.Pending.{PendsDue, IsNextDue}
 use Rattle.orc_rules.specs.Tests.{TickByTest}
-use Rattle.orc_nodes.specs.declared.arena.Node.{Node}
-use Rattle.orc_nodes.specs.declared.arena.Kind.TheVariants.{Leaf}
-use Rattle.orc_nodes.specs.declared.arena.Tip.TheVariants.{Waits}
+use Rattle.orc_term.specs.declared.arena.Node.{Node}
+use Rattle.orc_term.specs.declared.arena.Kind.TheVariants.{Leaf}
+use Rattle.orc_term.specs.declared.arena.Tip.TheVariants.{Waits}
 use Rattle.orc_checker.specs.declared.rest.Called.{Called}
-use Rattle.orc_nodes.specs.Arena.{at, leaf, spelled}
-use Rattle.orc_names.specs.Scopes.{env_of}
+use Rattle.orc_term.specs.Arena.{at, leaf, spelled}
+use Rattle.orc_env.specs.Scopes.{env_of}
 use Rattle.orc_checker.specs.Calls.{AreNumbered, told, told_of}
 use Rattle.orc_checker.specs.Checker.{State, Spells, Follows}
-use Rattle.orc_nodes.specs.Settling.{kind_at}
+use Rattle.orc_term.specs.Settling.{kind_at}
 use Rattle.orc_checker.specs.NextDue.{IsDueAt, IsNext}
 use Rattle.orc_checker.specs.Stillness.{DoStir}
-use Rattle.orc_nodes.proofs.Lists.{get-append, get-end, get-more}
+use Rattle.orc_term.proofs.Lists.{get-append, get-end, get-more}
 use Rattle.orc_checker.proofs.Change.{says_of as found_there}
 use Rattle.orc_checker.proofs.Pends.{waits_for, pends_around}
 use Rattle.orc_checker.proofs.Moving.{kind_of, moves_are}

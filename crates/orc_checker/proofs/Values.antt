@@ -16,16 +16,16 @@ use Rattle.orc_rules.specs.Timed.{Context}
 use Rattle.orc_rules.specs.Journal.{Place}
 use Rattle.orc_rules.specs.Refusal.{HasToken, Meets}
 use Rattle.orc_rules.proofs.Standing.{act_one, emits_token, token_one}
-use Rattle.orc_names.proofs.Reached.{reached_numbered}
-use Rattle.orc_nodes.specs.declared.arena.Kind.TheVariants.{Leaf}
-use Rattle.orc_nodes.specs.declared.arena.Tip.{Tip}
-use Rattle.orc_nodes.specs.declared.walk.Taker.{Taker}
-use Rattle.orc_nodes.specs.declared.walk.Taker.TheVariants.{Whole, Fed, Bound}
-use Rattle.orc_nodes.specs.Arena.{at, living_kind, Frame, Tree}
-use Rattle.orc_nodes.specs.Bearers.{BearsValue}
+use Rattle.orc_env.proofs.Reached.{reached_numbered}
+use Rattle.orc_term.specs.declared.arena.Kind.TheVariants.{Leaf}
+use Rattle.orc_term.specs.declared.arena.Tip.{Tip}
+use Rattle.orc_term.specs.declared.walk.Taker.{Taker}
+use Rattle.orc_term.specs.declared.walk.Taker.TheVariants.{Whole, Fed, Bound}
+use Rattle.orc_term.specs.Arena.{at, living_kind, Frame, Tree}
+use Rattle.orc_term.specs.Bearers.{BearsValue}
 use Rattle.orc_checker.specs.Checker.{State, context}
 use Rattle.orc_checker.specs.Refusing.{IsRightlyRefused, LacksBearer}
-use Rattle.orc_nodes.specs.Rising.{act_of, IsTaker, Stands}
+use Rattle.orc_term.specs.Rising.{act_of, IsTaker, Stands}
 use Rattle.orc_checker.proofs.Bearers.{carried_token}
 use Rattle.orc_checker.proofs.Offered.{published_up, token_stands}
 use Rattle.orc_checker.proofs.Refusing.{lacks_token}

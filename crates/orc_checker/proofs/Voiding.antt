@@ -4,8 +4,8 @@ use Rattle.std.specs.Prelude.{slice_set}
 use Rattle.orc_rules.specs.declared.entry.Entry.TheVariants as entry
 use Rattle.orc_rules.specs.declared.param.Param.{Param}
 use Rattle.orc_rules.specs.declared.param.Param.TheVariants.{Name, Is, Cell, Void}
-use Rattle.orc_nodes.specs.declared.arena.Tip.TheVariants.{Token, Ended}
-use Rattle.orc_nodes.specs.declared.arena.Kind.TheVariants.{Leaf}
+use Rattle.orc_term.specs.declared.arena.Tip.TheVariants.{Token, Ended}
+use Rattle.orc_term.specs.declared.arena.Kind.TheVariants.{Leaf}
 use Rattle.orc_rules.specs.declared.param.Operand.{Operand}
 use Rattle.orc_rules.specs.declared.program.TermNode.{TermNode}
 use Rattle.orc_rules.specs.declared.program.TermNode.TheVariants as on
@@ -14,14 +14,14 @@ use Rattle.orc_rules.specs.Term.{Term, stop, param, site, call, par, seq, prune,
 use Rattle.orc_rules.specs.Idle.{has_halted, has_void}
 use Rattle.orc_rules.specs.Journal.{Place, IsVoid}
 use Rattle.orc_rules.specs.Marked.{ended}
-use Rattle.orc_nodes.specs.Arena.{leaf, at}
-use Rattle.orc_names.specs.Scopes.{Env, env_of, close}
+use Rattle.orc_term.specs.Arena.{leaf, at}
+use Rattle.orc_env.specs.Scopes.{Env, env_of, close}
 use Rattle.orc_checker.specs.Checker.{State, Enters}
-use Rattle.orc_names.specs.Names.{AreOrdered}
-use Rattle.orc_nodes.specs.Settling.{Settles}
+use Rattle.orc_env.specs.Names.{AreOrdered}
+use Rattle.orc_term.specs.Settling.{Settles}
 use Rattle.orc_checker.proofs.Flagging.{reflag_leaf_settled}
 use Rattle.orc_checker.proofs.Refusing.{sort, sort_under, operand_node, site_node}
-use Rattle.orc_nodes.proofs.Trees.{node}
+use Rattle.orc_term.proofs.Trees.{node}
 use Rattle.orc_checker.proofs.Moves.{Stays, staying, written, token_moves}
 
 -- the test finds a void one

@@ -7,14 +7,14 @@ use Rattle.orc_rules.specs.Term.{Term, Definition, stop, param, site, call, par,
 use Rattle.orc_rules.specs.Idle.{has_halted, can_move}
 use Rattle.orc_rules.specs.Lost.{IsSource}
 use Rattle.orc_rules.specs.Nodes.{ArePartsFirst, HasParts, node_of}
-use Rattle.orc_nodes.specs.Arena.{hits}
-use Rattle.orc_names.specs.Scopes.{Env, close}
-use Rattle.orc_nodes.specs.Halting.{halt_flag}
-use Rattle.orc_nodes.specs.Settling.{flag}
+use Rattle.orc_term.specs.Arena.{hits}
+use Rattle.orc_env.specs.Scopes.{Env, close}
+use Rattle.orc_term.specs.Halting.{halt_flag}
+use Rattle.orc_term.specs.Settling.{flag}
 use Rattle.orc_checker.specs.Stillness.{Wakes}
-use Rattle.orc_nodes.proofs.Trees.{hit, hits-both}
-use Rattle.orc_names.proofs.Closing.{close-stop, close-par, close-seq}
-use Rattle.orc_nodes.proofs.Settling.{flag-set_same, flag-set_other}
+use Rattle.orc_term.proofs.Trees.{hit, hits-both}
+use Rattle.orc_env.proofs.Closing.{close-stop, close-par, close-seq}
+use Rattle.orc_term.proofs.Settling.{flag-set_same, flag-set_other}
 use Rattle.orc_checker.proofs.Halting.{parts_in}
 
 pub below_or : (k n : ℕ) → k < n + 1 → (k < n) ⊎ (k ≡ n)

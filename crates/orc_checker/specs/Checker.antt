@@ -1,8 +1,8 @@
 -- The state of the checker, and the places that it spells.
 use Rattle.std.specs.Prelude.{◌≡◌, ℕ, zero, suc, Bool, List, [], ◌∷◌, length}
-use Rattle.orc_nodes.specs.declared.arena.Node.{Node}
-use Rattle.orc_names.specs.declared.names.Bound.{Bound}
-use Rattle.orc_names.specs.declared.names.Scope.{Scope}
+use Rattle.orc_term.specs.declared.arena.Node.{Node}
+use Rattle.orc_env.specs.declared.names.Bound.{Bound}
+use Rattle.orc_env.specs.declared.names.Scope.{Scope}
 use Rattle.orc_rules.specs.declared.entry.Entry.{Entry}
 use Rattle.orc_rules.specs.Term.{Term}
 use Rattle.orc_rules.specs.Nodes.{Listing, code, source, definitions}
@@ -10,12 +10,12 @@ use Rattle.orc_rules.specs.Sites.{Site, Table}
 use Rattle.orc_rules.specs.Marked.{Marked}
 use Rattle.orc_rules.specs.Timed.{Context}
 use Rattle.orc_rules.specs.Journal.{Place, Leads, Journal, begin}
-use Rattle.orc_nodes.specs.Arena.{Tree, Holds, StandOnce, IsTopped, spelled, place}
-use Rattle.orc_names.specs.Scopes.{env_of}
-use Rattle.orc_names.specs.Names.{AreOrdered}
-use Rattle.orc_names.specs.Parameters.{AreOwn}
+use Rattle.orc_term.specs.Arena.{Tree, Holds, StandOnce, IsTopped, spelled, place}
+use Rattle.orc_env.specs.Scopes.{env_of}
+use Rattle.orc_env.specs.Names.{AreOrdered}
+use Rattle.orc_env.specs.Parameters.{AreOwn}
 use Rattle.orc_checker.specs.Calls.{Rest, Keeps}
-use Rattle.orc_nodes.specs.Settling.{HasFlags}
+use Rattle.orc_term.specs.Settling.{HasFlags}
 
 -- what callers of the checker see
 pub record State : Type 0 where

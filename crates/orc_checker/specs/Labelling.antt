@@ -9,12 +9,12 @@ use Rattle.orc_rules.specs.Nodes.{Listing, code, source}
 use Rattle.orc_rules.specs.Sites.{Table}
 use Rattle.orc_rules.specs.Marked.{token, Replaces}
 use Rattle.orc_rules.specs.Journal.{Place, Leads}
-use Rattle.orc_nodes.specs.declared.arena.Node.{Node}
-use Rattle.orc_nodes.specs.declared.arena.Kind.{Kind}
-use Rattle.orc_nodes.specs.declared.arena.Kind.TheVariants.{Two}
-use Rattle.orc_nodes.specs.declared.arena.Double.TheVariants.{Both, Side}
-use Rattle.orc_nodes.specs.Arena.{Tree, Frame, on_one, on_left, on_right}
-use Rattle.orc_nodes.specs.Rising.{Stands}
+use Rattle.orc_term.specs.declared.arena.Node.{Node}
+use Rattle.orc_term.specs.declared.arena.Kind.{Kind}
+use Rattle.orc_term.specs.declared.arena.Kind.TheVariants.{Two}
+use Rattle.orc_term.specs.declared.arena.Double.TheVariants.{Both, Side}
+use Rattle.orc_term.specs.Arena.{Tree, Frame, on_one, on_left, on_right}
+use Rattle.orc_term.specs.Rising.{Stands}
 use Rattle.orc_checker.specs.Checker.{State, Spells, context, IsReached}
 
 -- the cells inside whose right sides the hole stands, the outermost first, before those in cs

@@ -12,14 +12,14 @@ use Rattle.orc_rules.specs.Marked.{token}
 use Rattle.orc_rules.specs.Timed.{Context}
 use Rattle.orc_rules.specs.Journal.{Place, IsVoid}
 use Rattle.orc_rules.specs.Refusal.{Stands, Fits}
-use Rattle.orc_names.specs.declared.names.Bound.{Bound}
-use Rattle.orc_names.specs.declared.names.Scope.{Scope}
-use Rattle.orc_nodes.specs.declared.arena.Node.{Node}
+use Rattle.orc_env.specs.declared.names.Bound.{Bound}
+use Rattle.orc_env.specs.declared.names.Scope.{Scope}
+use Rattle.orc_term.specs.declared.arena.Node.{Node}
 use Rattle.orc_checker.specs.declared.next.Next.{Next}
 use Rattle.orc_checker.specs.declared.next.Next.TheVariants as next
-use Rattle.orc_nodes.specs.declared.walk.Taker.{Taker}
-use Rattle.orc_nodes.specs.declared.walk.Taker.TheVariants.{Whole, Fed, Bound as To}
-use Rattle.orc_nodes.specs.Rising.{IsTaker}
+use Rattle.orc_term.specs.declared.walk.Taker.{Taker}
+use Rattle.orc_term.specs.declared.walk.Taker.TheVariants.{Whole, Fed, Bound as To}
+use Rattle.orc_term.specs.Rising.{IsTaker}
 use Rattle.orc_checker.specs.Stillness.{params_in}
 
 -- a variable, a value or a call of a site

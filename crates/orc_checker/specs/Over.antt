@@ -7,10 +7,10 @@ use Rattle.orc_rules.specs.Marked.{Marked, in_opened, in_other, erase}
 use Rattle.orc_rules.specs.Timed.{Context, IsIn, IsDue}
 use Rattle.orc_rules.specs.Journal.{Place}
 use Rattle.orc_rules.specs.Refusal.{Stands}
-use Rattle.orc_nodes.specs.declared.arena.Kind.{Kind}
-use Rattle.orc_nodes.specs.declared.arena.Kind.TheVariants.{One, Two}
-use Rattle.orc_nodes.specs.declared.arena.Single.TheVariants.{Entered}
-use Rattle.orc_nodes.specs.declared.arena.Double.TheVariants.{Side as Pruned}
+use Rattle.orc_term.specs.declared.arena.Kind.{Kind}
+use Rattle.orc_term.specs.declared.arena.Kind.TheVariants.{One, Two}
+use Rattle.orc_term.specs.declared.arena.Single.TheVariants.{Entered}
+use Rattle.orc_term.specs.declared.arena.Double.TheVariants.{Side as Pruned}
 use Rattle.orc_checker.specs.declared.sides.Side.{Side}
 use Rattle.orc_checker.specs.declared.sides.Side.TheVariants.{Right, Left}
 

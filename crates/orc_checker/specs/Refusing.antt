@@ -11,14 +11,14 @@ use Rattle.orc_rules.specs.Term.{Term}
 use Rattle.orc_rules.specs.Sites.{Table}
 use Rattle.orc_rules.specs.Journal.{Place}
 use Rattle.orc_rules.specs.Refusal.{Meets}
-use Rattle.orc_nodes.specs.declared.arena.Node.{Node}
-use Rattle.orc_nodes.specs.declared.arena.Kind.TheVariants.{Leaf, One, Two}
-use Rattle.orc_nodes.specs.declared.arena.Tip.{Tip}
-use Rattle.orc_nodes.specs.declared.arena.Tip.TheVariants.{Bears, Waits}
-use Rattle.orc_nodes.specs.declared.arena.Single.TheVariants.{Entered}
-use Rattle.orc_nodes.specs.declared.arena.Double.TheVariants.{Side}
-use Rattle.orc_nodes.specs.Arena.{at}
-use Rattle.orc_nodes.specs.Bearers.{BearsOther, Carries}
+use Rattle.orc_term.specs.declared.arena.Node.{Node}
+use Rattle.orc_term.specs.declared.arena.Kind.TheVariants.{Leaf, One, Two}
+use Rattle.orc_term.specs.declared.arena.Tip.{Tip}
+use Rattle.orc_term.specs.declared.arena.Tip.TheVariants.{Bears, Waits}
+use Rattle.orc_term.specs.declared.arena.Single.TheVariants.{Entered}
+use Rattle.orc_term.specs.declared.arena.Double.TheVariants.{Side}
+use Rattle.orc_term.specs.Arena.{at}
+use Rattle.orc_term.specs.Bearers.{BearsOther, Carries}
 use Rattle.orc_checker.specs.Checker.{State, Spells, context, IsReached}
 
 -- the entry breaks the condition of that reason at each place that s spells and that a journal of the program and its sites leads to

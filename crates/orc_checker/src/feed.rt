@@ -6,23 +6,23 @@ ghost use Rattle.orc_rules.specs.declared.entry.Entry.TheVariants as entry;
 ghost use Rattle.orc_rules.specs.Sites.{Table};
 ghost use Rattle.orc_checker.specs.Checker.{Enters};
 ghost use Rattle.orc_checker.specs.Refusing.{IsRightlyRefused};
-ghost use Rattle.orc_nodes.specs.Grafting.{Grafts};
+ghost use Rattle.orc_term.specs.Grafting.{Grafts};
 ghost use Rattle.orc_checker.specs.Index.{name_of, Renames};
 ghost use Rattle.orc_checker.specs.NextDue.{waits, NoMoreWait};
-ghost use Rattle.orc_nodes.specs.Sides.{NoNewSides};
-ghost use Rattle.orc_nodes.specs.declared.arena.Kind.TheVariants.{Leaf as AtLeaf};
+ghost use Rattle.orc_term.specs.Sides.{NoNewSides};
+ghost use Rattle.orc_term.specs.declared.arena.Kind.TheVariants.{Leaf as AtLeaf};
 
 use crate::marked::Marked;
 use crate::pruning::{reserve_scope, scope_count};
-use orc_names::{Bound, Scope, StoredScope};
-use orc_nodes::arena::{Double, Kind, Node, Single, Tip};
-use orc_nodes::flags::{push_flag, settle};
-use orc_nodes::nodes::Nodes;
-use orc_nodes::room::{push_within, reserve};
-use orc_nodes::walk::{Taker, rise, way_up};
+use orc_env::{Bound, Scope, StoredScope};
 use orc_rules::entry::RuleFault;
 use orc_rules::program::Program;
 use orc_rules::value::Value;
+use orc_term::arena::{Double, Kind, Node, Single, Tip};
+use orc_term::flags::{push_flag, settle};
+use orc_term::nodes::Nodes;
+use orc_term::room::{push_within, reserve};
+use orc_term::walk::{Taker, rise, way_up};
 
 /// Puts a new `|` above the node `at`, which is on its left, and a new node on its right. The node keeps its number.
 fn graft(nodes: &mut Nodes, at: u32, tip: Tip)

@@ -2,10 +2,10 @@
 
 ghost use Rattle.std.specs.Prelude.{◌≡◌, ◌≤◌, ◌++◌, ◌∷◌, [], List, Bool, length, IfOk};
 ghost use Rattle.orc_rules.specs.Nodes.{code, node_of};
-ghost use Rattle.orc_nodes.specs.Halting.{halt_flag, node_flag, AreHalts};
+ghost use Rattle.orc_term.specs.Halting.{halt_flag, node_flag, AreHalts};
 
-use orc_nodes::flags::flag_at;
 use orc_rules::program::{Program, TermNode};
+use orc_term::flags::flag_at;
 use std::alloc::{AllocError, Global};
 use std::marker::Model;
 

@@ -8,12 +8,12 @@ ghost use Rattle.orc_checker.specs.Checker.{Spells};
 ghost use Rattle.orc_checker.specs.Labelling.{cell_above, AreAround, IsLabel, Shows, StandsInside};
 
 use crate::marked::Marked;
-use orc_nodes::arena::{Double, Kind};
-use orc_nodes::nodes::Nodes;
 use orc_rules::answers::Answers;
 use orc_rules::entry::{Entry, Label, RuleFault};
 use orc_rules::program::Program;
 use orc_rules::value::Answer;
+use orc_term::arena::{Double, Kind};
+use orc_term::nodes::Nodes;
 use std::alloc::{AllocError, Global};
 
 /// Adds the cell of the node above, where the node at `place` is its right side. The error is refused memory.

@@ -1,7 +1,7 @@
 // How deep a marked term nests.
 
 ghost use Rattle.std.specs.Prelude.{◌≡◌, IfSome};
-ghost use Rattle.orc_nodes.specs.Ranks.{AreLevelsAtMost};
+ghost use Rattle.orc_term.specs.Ranks.{AreLevelsAtMost};
 
 use crate::marked::Marked;
 

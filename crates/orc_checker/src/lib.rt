@@ -1,7 +1,6 @@
 //! The checker: a marked term that takes a journal's entries, one after another.
 #![tactic(auto)]
 
-mod calling;
 mod cancel;
 mod due;
 mod feed;
@@ -18,12 +17,13 @@ mod otherwise;
 mod pending;
 mod pruning;
 mod publish;
+mod queries;
 mod quiet;
-mod reading;
 pub mod rest;
 mod routines;
 mod scopes;
 pub mod sides;
+mod site_calls;
 mod status;
 mod stillness;
 mod tick;

@@ -3,8 +3,8 @@
 ghost use Rattle.std.specs.Prelude.{◌≡◌, slice_get};
 ghost use Rattle.orc_checker.specs.Index.{node_by, pruning_with, otherwise_with, tip_with, waits_with};
 
-use orc_nodes::arena::{Double, Kind, Node, Single, Tip};
-use orc_nodes::nodes::Nodes;
+use orc_term::arena::{Double, Kind, Node, Single, Tip};
+use orc_term::nodes::Nodes;
 
 /// The node that a table of places gives for a number, with its place.
 pub(crate) fn node_by(nodes: &Nodes, places: &Vec<u32>, number: u64) -> Option<(u32, Node)>

@@ -3,31 +3,31 @@
 ghost use Rattle.std.specs.Prelude.{◌≡◌, ℕ, suc, [], length, Some, IfOk, IfErr, IfSome, IfNone, OnErr};
 ghost use Rattle.orc_rules.specs.Journal.{begin};
 ghost use Rattle.orc_rules.specs.Nodes.{code, source};
-ghost use Rattle.orc_names.specs.Names.{AreOrdered, Means};
-ghost use Rattle.orc_names.specs.declared.names.Bound.TheVariants.{Is as IsValue};
-ghost use Rattle.orc_nodes.specs.Arena.{at, living_kind};
+ghost use Rattle.orc_env.specs.Names.{AreOrdered, Means};
+ghost use Rattle.orc_env.specs.declared.names.Bound.TheVariants.{Is as IsValue};
+ghost use Rattle.orc_term.specs.Arena.{at, living_kind};
 ghost use Rattle.orc_checker.specs.Checker.{Applies, Begins};
-ghost use Rattle.orc_nodes.specs.Bearers.{BearsOther, BearsValue, Carries};
+ghost use Rattle.orc_term.specs.Bearers.{BearsOther, BearsValue, Carries};
 ghost use Rattle.orc_checker.specs.Refusing.{IsRightlyRefused, Lacks, LacksBearer, LacksSpot, NoToken, Presumes};
 ghost use Rattle.orc_rules.specs.declared.value.Value.{Value as TheValue};
 ghost use Rattle.orc_rules.specs.declared.entry.RuleFault.TheVariants as reason;
-ghost use Rattle.orc_nodes.specs.declared.arena.Kind.TheVariants.{Leaf as AtLeaf};
-ghost use Rattle.orc_nodes.specs.declared.arena.Tip.TheVariants.{Token as IsToken};
+ghost use Rattle.orc_term.specs.declared.arena.Kind.TheVariants.{Leaf as AtLeaf};
+ghost use Rattle.orc_term.specs.declared.arena.Tip.TheVariants.{Token as IsToken};
 
 use crate::due::Due;
 use crate::halts::Halts;
 use crate::lookup::{node_by, tip_with};
 use crate::rest::Rest;
-use orc_names::{Bound, StoredScope, meaning};
-use orc_nodes::arena::{Kind, Node, Single, Tip};
-use orc_nodes::candidates::Candidates;
-use orc_nodes::nodes::Nodes;
-use orc_nodes::room::{fits, push_within};
+use orc_env::{Bound, StoredScope, meaning};
 use orc_rules::answers::Answers;
 use orc_rules::entry::{Entry, RuleFault};
 use orc_rules::param::Operand;
 use orc_rules::program::{Program, TermNode};
 use orc_rules::value::Value;
+use orc_term::arena::{Kind, Node, Single, Tip};
+use orc_term::candidates::Candidates;
+use orc_term::nodes::Nodes;
+use orc_term::room::{fits, push_within};
 use std::alloc::{AllocError, Global};
 use std::marker::Model;
 
@@ -71,7 +71,7 @@ impl Model for Marked {
     ghost use Rattle.orc_checker.specs.Checker.{State};
     ghost use Rattle.orc_checker.specs.Index.{AreIndexed};
     ghost use Rattle.orc_checker.specs.NextDue.{AreNoted};
-    ghost use Rattle.orc_nodes.specs.Sides.{AreKnown};
+    ghost use Rattle.orc_term.specs.Sides.{AreKnown};
 
     ghost Value = { State };
 

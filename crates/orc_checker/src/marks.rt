@@ -8,11 +8,11 @@ ghost use Rattle.orc_checker.specs.Refusing.{IsRightlyRefused};
 ghost use Rattle.orc_rules.specs.declared.entry.Entry.TheVariants as entry;
 
 use crate::marked::{Marked, expect_after, token_node};
-use orc_nodes::arena::{Double, Kind, Node, Single, Tip};
-use orc_nodes::flags::push_flag;
-use orc_nodes::room::{fits, push_within, reserve_numbered};
 use orc_rules::entry::RuleFault;
 use orc_rules::program::{Program, TermNode};
+use orc_term::arena::{Double, Kind, Node, Single, Tip};
+use orc_term::flags::push_flag;
+use orc_term::room::{fits, push_within, reserve_numbered};
 
 impl Marked {
     /// `end S`.

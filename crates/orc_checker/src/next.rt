@@ -6,8 +6,8 @@ ghost use Rattle.orc_rules.specs.Nodes.{code, definitions};
 ghost use Rattle.orc_rules.specs.Term.{Definition, site as site_of};
 ghost use Rattle.orc_rules.specs.Timed.{Context};
 ghost use Rattle.orc_rules.specs.declared.limits.TheConstants.{MOST_ARGUMENTS};
-ghost use Rattle.orc_names.specs.Names.{AreOrdered};
-ghost use Rattle.orc_names.specs.Scopes.{close, env_of};
+ghost use Rattle.orc_env.specs.Names.{AreOrdered};
+ghost use Rattle.orc_env.specs.Scopes.{close, env_of};
 ghost use Rattle.orc_checker.specs.Checker.{Spells};
 ghost use Rattle.orc_checker.specs.Offers.{AddsValues, Allows, AwaitsAt, IsOperandAt, IsPublished, Offers};
 ghost use Rattle.orc_checker.specs.Stillness.{params_in};
@@ -15,12 +15,12 @@ ghost use Rattle.orc_checker.specs.Stillness.{params_in};
 use crate::marked::Marked;
 use crate::routines::definition;
 use crate::void::has_void;
-use orc_names::{Bound, StoredScope, meaning};
-use orc_nodes::arena::Tip;
-use orc_nodes::walk::{Taker, way_up};
+use orc_env::{Bound, StoredScope, meaning};
 use orc_rules::param::Operand;
 use orc_rules::program::{Program, TermNode};
 use orc_rules::value::{Args, Value};
+use orc_term::arena::Tip;
+use orc_term::walk::{Taker, way_up};
 
 /// What a token can do next.
 #[derive(Drop)]

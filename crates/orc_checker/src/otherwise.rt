@@ -2,12 +2,12 @@
 
 ghost use Rattle.std.specs.Prelude.{◌≡◌, ℕ, [], IfOk, IfErr, IfSome, IfNone, OnErr};
 ghost use Rattle.orc_rules.specs.Term.{Term};
-ghost use Rattle.orc_nodes.specs.Arena.{at};
+ghost use Rattle.orc_term.specs.Arena.{at};
 ghost use Rattle.orc_checker.specs.Checker.{Enters};
-ghost use Rattle.orc_nodes.specs.Dropping.{AreNodesOf};
+ghost use Rattle.orc_term.specs.Dropping.{AreNodesOf};
 ghost use Rattle.orc_checker.specs.Refusing.{IsRightlyRefused, Lacks, NoOtherwise};
-ghost use Rattle.orc_nodes.specs.declared.arena.Kind.TheVariants.{One as AtOne};
-ghost use Rattle.orc_nodes.specs.declared.arena.Single.TheVariants.{Entered as IsEntered};
+ghost use Rattle.orc_term.specs.declared.arena.Kind.TheVariants.{One as AtOne};
+ghost use Rattle.orc_term.specs.declared.arena.Single.TheVariants.{Entered as IsEntered};
 ghost use Rattle.orc_rules.specs.declared.entry.Entry.TheVariants as entry;
 ghost use Rattle.orc_rules.specs.declared.entry.RuleFault.TheVariants as reason;
 ghost use Rattle.orc_rules.specs.Sites.{Table};
@@ -15,11 +15,11 @@ ghost use Rattle.orc_rules.specs.Nodes.{Listing};
 
 use crate::lookup::{node_by, otherwise_with};
 use crate::marked::Marked;
-use orc_nodes::arena::{Kind, Node, Tip};
-use orc_nodes::flags::settle;
-use orc_nodes::room::{push_within, reserve};
-use orc_nodes::side::{drop_nodes, nodes_of};
 use orc_rules::entry::RuleFault;
+use orc_term::arena::{Kind, Node, Tip};
+use orc_term::flags::settle;
+use orc_term::room::{push_within, reserve};
+use orc_term::side::{drop_nodes, nodes_of};
 
 /// Where an entered otherwise stands: its node with the one above it and that of its left side, and its right side: the program's node in a scope.
 #[derive(Clone, Copy)]

@@ -8,8 +8,8 @@ use crate::due::Due;
 use crate::kept::Kept;
 use crate::rest::Rest;
 use orc_calls::due_time;
-use orc_nodes::arena::{Kind, Tip};
-use orc_nodes::nodes::Nodes;
+use orc_term::arena::{Kind, Tip};
+use orc_term::nodes::Nodes;
 
 /// When the call of that number is due.
 fn due_of(calls: &Vec<Kept>, call: u64) -> Option<u64>

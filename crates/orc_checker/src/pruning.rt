@@ -4,26 +4,26 @@ ghost use Rattle.std.specs.Prelude.{◌≡◌, ◌+◌, ◌<◌, ◌≤◌, ◌^
 ghost use Rattle.orc_rules.specs.Nodes.{code};
 ghost use Rattle.orc_rules.specs.Sites.{Table};
 ghost use Rattle.orc_checker.specs.Checker.{Applies, Enters};
-ghost use Rattle.orc_nodes.specs.Dropping.{calls_at, AreNodesOf, AreRising};
-ghost use Rattle.orc_nodes.specs.Arena.{at};
+ghost use Rattle.orc_term.specs.Dropping.{calls_at, AreNodesOf, AreRising};
+ghost use Rattle.orc_term.specs.Arena.{at};
 ghost use Rattle.orc_checker.specs.Refusing.{IsRightlyRefused, Lacks, NoPruning};
-ghost use Rattle.orc_names.specs.declared.names.Bound.TheVariants.{Cell as IsCell};
-ghost use Rattle.orc_nodes.specs.declared.arena.Double.TheVariants.{Side as IsSide};
-ghost use Rattle.orc_nodes.specs.declared.arena.Kind.TheVariants.{Two as AtTwo};
+ghost use Rattle.orc_env.specs.declared.names.Bound.TheVariants.{Cell as IsCell};
+ghost use Rattle.orc_term.specs.declared.arena.Double.TheVariants.{Side as IsSide};
+ghost use Rattle.orc_term.specs.declared.arena.Kind.TheVariants.{Two as AtTwo};
 ghost use Rattle.orc_rules.specs.declared.entry.Entry.TheVariants as entry;
 ghost use Rattle.orc_rules.specs.declared.entry.RuleFault.TheVariants as reason;
 
 use crate::lookup::{node_by, pruning_with};
 use crate::marked::{Marked, Spot, expect_after, token_node};
-use orc_names::{Bound, Scope, StoredScope};
-use orc_nodes::arena::{Double, Kind, Node, Single};
-use orc_nodes::flags::{both, flag_at, push_flag, settle};
-use orc_nodes::room::{fits, push_within, reserve_numbered};
-use orc_nodes::side::{drop_nodes, falling_calls, nodes_of};
-use orc_nodes::walk::{Taker, way_up};
+use orc_env::{Bound, Scope, StoredScope};
 use orc_rules::entry::RuleFault;
 use orc_rules::program::{Program, TermNode};
 use orc_rules::value::Value;
+use orc_term::arena::{Double, Kind, Node, Single};
+use orc_term::flags::{both, flag_at, push_flag, settle};
+use orc_term::room::{fits, push_within, reserve_numbered};
+use orc_term::side::{drop_nodes, falling_calls, nodes_of};
+use orc_term::walk::{Taker, way_up};
 use std::alloc::AllocError;
 
 /// Where a pruning stands: its node with the one above it, and those of its sides.

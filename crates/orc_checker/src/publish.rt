@@ -8,12 +8,12 @@ ghost use Rattle.orc_checker.specs.Refusing.{IsRightlyRefused};
 ghost use Rattle.orc_rules.specs.declared.entry.Entry.TheVariants as entry;
 
 use crate::marked::Marked;
-use orc_nodes::arena::{Kind, Node, Tip};
-use orc_nodes::flags::settle;
-use orc_nodes::walk::{Taker, rise, way_up};
 use orc_rules::entry::RuleFault;
 use orc_rules::program::Program;
 use orc_rules::value::Value;
+use orc_term::arena::{Kind, Node, Tip};
+use orc_term::flags::settle;
+use orc_term::walk::{Taker, rise, way_up};
 
 impl Marked {
     /// `publish S V`.

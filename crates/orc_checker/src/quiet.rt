@@ -11,9 +11,9 @@ ghost use Rattle.orc_checker.specs.Checker.{Spells};
 
 use crate::marked::Marked;
 use crate::stillness::can_some_move;
-use orc_nodes::candidates::ended_side;
 use orc_rules::laws::{program_is_source, tests_are_right};
 use orc_rules::program::Program;
+use orc_term::candidates::ended_side;
 
 impl Marked {
     /// The least due time of the pending calls, in units of logical time. None where none of them is ever due.

@@ -9,10 +9,10 @@ ghost use Rattle.orc_rules.specs.declared.entry.RuleFault.TheVariants as reason;
 
 use crate::kept::Kept;
 use orc_calls::{Counts, check_due};
-use orc_nodes::room::push_within;
 use orc_rules::answers::Answers;
 use orc_rules::entry::RuleFault;
 use orc_rules::value::{Answer, Args, Found};
+use orc_term::room::push_within;
 use std::alloc::{AllocError, Global};
 use std::marker::Model;
 

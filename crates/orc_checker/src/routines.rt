@@ -6,20 +6,20 @@ ghost use Rattle.orc_rules.specs.Program.{IsProgram};
 ghost use Rattle.orc_rules.specs.Programs.{routine_of};
 ghost use Rattle.orc_rules.specs.Sites.{Table};
 ghost use Rattle.orc_checker.specs.Checker.{Applies};
-ghost use Rattle.orc_names.specs.Parameters.{Adds};
+ghost use Rattle.orc_env.specs.Parameters.{Adds};
 ghost use Rattle.orc_checker.specs.Parameters.{LacksArguments};
 ghost use Rattle.orc_checker.specs.Refusing.{IsRightlyRefused};
 ghost use Rattle.orc_rules.specs.declared.entry.Entry.TheVariants as entry;
 ghost use Rattle.orc_rules.specs.declared.entry.RuleFault.TheVariants as reason;
 
 use crate::marked::Marked;
-use orc_names::{Bound, Scope, StoredScope, meaning, outer_number};
-use orc_nodes::arena::{Kind, Node, Tip};
-use orc_nodes::flags::settle;
-use orc_nodes::room::{fits, push_within};
+use orc_env::{Bound, Scope, StoredScope, meaning, outer_number};
 use orc_rules::entry::RuleFault;
 use orc_rules::param::Operand;
 use orc_rules::program::{Definition, Program, TermNode};
+use orc_term::arena::{Kind, Node, Tip};
+use orc_term::flags::settle;
+use orc_term::room::{fits, push_within};
 use std::alloc::Global;
 
 /// The definition of a number.

@@ -9,10 +9,10 @@ ghost use Rattle.orc_checker.specs.Over.{side_of, FindsSide, LeftIs, PendsUntil,
 
 use crate::marked::Marked;
 use orc_calls::due_time;
-use orc_nodes::arena::{Double, Kind, Single};
-use orc_nodes::candidates::ended_side;
 use orc_rules::laws::program_is_source;
 use orc_rules::value::{Answer, Found};
+use orc_term::arena::{Double, Kind, Single};
+use orc_term::candidates::ended_side;
 
 /// A side that ends an opened pruning or an entered otherwise once it has halted, by the number of the cell or of the otherwise.
 #[derive(Clone, Copy)]

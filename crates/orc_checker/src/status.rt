@@ -7,10 +7,10 @@ ghost use Rattle.orc_rules.specs.Timed.{Context};
 ghost use Rattle.orc_rules.specs.Idle.{has_halted};
 ghost use Rattle.orc_rules.specs.Nodes.{Listing, code};
 ghost use Rattle.orc_checker.specs.Checker.{Spells};
-ghost use Rattle.orc_nodes.specs.Settling.{flag};
+ghost use Rattle.orc_term.specs.Settling.{flag};
 
 use crate::marked::Marked;
-use orc_nodes::flags::flag_at;
+use orc_term::flags::flag_at;
 
 impl Marked {
     /// Whether the term has halted.

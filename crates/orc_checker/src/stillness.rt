@@ -4,21 +4,21 @@ ghost use Rattle.std.specs.Prelude.{◌≡◌, ◌≤◌, ◌||◌, ℕ, true, f
 ghost use Rattle.orc_rules.specs.Idle.{is_ready, has_void};
 ghost use Rattle.orc_rules.specs.Nodes.{code, definitions, param_of};
 ghost use Rattle.orc_rules.specs.Term.{values_of};
-ghost use Rattle.orc_names.specs.Scopes.{close_param, env_of};
-ghost use Rattle.orc_nodes.specs.Halting.{AreHalts};
-ghost use Rattle.orc_names.specs.Names.{AreOrdered};
+ghost use Rattle.orc_env.specs.Scopes.{close_param, env_of};
+ghost use Rattle.orc_term.specs.Halting.{AreHalts};
+ghost use Rattle.orc_env.specs.Names.{AreOrdered};
 ghost use Rattle.orc_checker.specs.Stillness.{params_in, term_moves, token_moves, DoMove, Wakes};
 
 use crate::halts::Halts;
 use crate::routines::definition;
 use crate::void::has_void;
-use orc_names::{Bound, StoredScope, meaning};
-use orc_nodes::arena::{Kind, Tip};
-use orc_nodes::flags::{flag_at, write_flag};
-use orc_nodes::nodes::Nodes;
+use orc_env::{Bound, StoredScope, meaning};
 use orc_rules::laws::program_is_source;
 use orc_rules::param::Operand;
 use orc_rules::program::{Program, TermNode};
+use orc_term::arena::{Kind, Tip};
+use orc_term::flags::{flag_at, write_flag};
+use orc_term::nodes::Nodes;
 
 /// Whether a token on an operand can move in a scope: it is a value, or void.
 fn is_ready(scopes: &[StoredScope], cells: &[Bound], operand: Operand, scope: usize) -> bool

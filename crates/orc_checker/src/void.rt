@@ -5,21 +5,21 @@ ghost use Rattle.orc_rules.specs.Idle.{has_halted, has_void};
 ghost use Rattle.orc_rules.specs.Journal.{IsVoid};
 ghost use Rattle.orc_rules.specs.Nodes.{code, param_of};
 ghost use Rattle.orc_rules.specs.Term.{param};
-ghost use Rattle.orc_names.specs.Scopes.{close, close_param, env_of};
+ghost use Rattle.orc_env.specs.Scopes.{close, close_param, env_of};
 ghost use Rattle.orc_rules.specs.Sites.{Table};
 ghost use Rattle.orc_checker.specs.Checker.{Enters};
 ghost use Rattle.orc_checker.specs.Refusing.{IsRightlyRefused};
-ghost use Rattle.orc_names.specs.Names.{AreOrdered};
+ghost use Rattle.orc_env.specs.Names.{AreOrdered};
 ghost use Rattle.orc_checker.specs.Stillness.{params_in};
 ghost use Rattle.orc_rules.specs.declared.entry.Entry.TheVariants as entry;
 
 use crate::marked::{Marked, Spot};
-use orc_names::{Bound, StoredScope, meaning};
-use orc_nodes::arena::{Kind, Node, Tip};
-use orc_nodes::flags::settle;
+use orc_env::{Bound, StoredScope, meaning};
 use orc_rules::entry::RuleFault;
 use orc_rules::param::Operand;
 use orc_rules::program::{Program, TermNode};
+use orc_term::arena::{Kind, Node, Tip};
+use orc_term::flags::settle;
 
 /// Whether an operand is void in a scope.
 fn is_void(scopes: &[StoredScope], cells: &[Bound], operand: Operand, scope: usize) -> bool

@@ -3,9 +3,9 @@
 use crate::picture::Subject;
 use crate::story::{Called, Kind};
 use orc_lex::token::Span;
-use orc_page::Page;
+use orc_report::Page;
 use orc_rules::entry::Entry;
-use orc_sketch::Purpose;
+use orc_source_map::Purpose;
 use std::alloc::{AllocError, Global};
 
 /// How many columns of a left side are shown, where it is longer than `LONGEST`.

@@ -2,11 +2,11 @@
 
 use crate::markup::Markup;
 use crate::picture::Picture;
+use crate::scale::PARTS;
 use crate::story::{End, Kind};
 use crate::svg::class_of;
 use crate::text::say_small;
-use orc_page::Page;
-use orc_scale::PARTS;
+use orc_report::Page;
 use std::alloc::Global;
 
 /// Where the next sign is written: across in parts, down in pixels, and how wide the sheet is.

@@ -2,7 +2,7 @@
 //!
 //! `draw` takes a program's tree, the table that answered its calls, and a journal that was checked against both, and gives
 //! a picture as SVG or as rows of text. It replays the journal on the tree's sketch (`story`), picks the rows (`rows`), shares the
-//! width among the times (`slots`, over `orc_scale`), and writes the marks (`text`, `svg`). It works in whole numbers, never recurs, and takes
+//! width among the times (`slots`, over `scale`), and writes the marks (`text`, `svg`). It works in whole numbers, never recurs, and takes
 //! time in proportion to the journal, but for its searches by entry.
 #![tactic(auto)]
 
@@ -12,6 +12,8 @@ mod legend;
 mod markup;
 mod picture;
 mod rows;
+mod scale;
+mod slot;
 mod slots;
 mod story;
 mod style;

@@ -1,7 +1,7 @@
 //! What a picture's text has beside a page's words: templates with places in them, and escaped letters.
 
-use orc_page::Page;
-use orc_scale::PARTS;
+use crate::scale::PARTS;
+use orc_report::Page;
 
 /// Pieces of SVG.
 pub(crate) trait Markup {

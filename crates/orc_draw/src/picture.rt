@@ -7,11 +7,11 @@ use crate::slots::Slots;
 use crate::story::{Event, Moment, Shown, Span, Story};
 use crate::{svg, text};
 use orc_journal::Journal;
-use orc_page::{Page, digits};
+use orc_report::{Page, digits};
 use orc_rules::answers::Answers;
 use orc_rules::entry::State;
 use orc_rules::value::Value;
-use orc_sketch::Sketch;
+use orc_source_map::Sketch;
 use orc_syntax::Ast;
 use std::alloc::{AllocError, Global};
 

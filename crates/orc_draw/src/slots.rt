@@ -1,8 +1,8 @@
 //! Where each entry stands across a picture: its time, and its slot among the entries of that time.
 
 use crate::rows::Rows;
+use crate::slot::{Instant, Slot};
 use crate::story::{Event, Moment, Shown};
-use orc_scale::{Instant, Slot};
 use std::alloc::{AllocError, Global};
 
 /// The instants in order, and the slots in the order of their entries.

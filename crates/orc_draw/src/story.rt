@@ -8,7 +8,7 @@ use orc_rules::answers::Answers;
 use orc_rules::entry::Entry;
 use orc_rules::limits::MOST_ROWS;
 use orc_rules::value::{Args, Value};
-use orc_sketch::{Purpose, Shape, Sketch, Trail, Way};
+use orc_source_map::{Purpose, Shape, Sketch, Trail, Way};
 use std::alloc::Global;
 use std::collections::HashMap;
 
@@ -305,9 +305,9 @@ impl<'a> Story<'a> {
                 return;
             };
             match step.way {
-                Way::Feed(_) | Way::Aid(_) => return,
+                Way::SeqLeft(_) | Way::PruneRight(_) => return,
                 Way::Then(_) => {}
-                Way::Try(mark) => {
+                Way::OtherwiseLeft(mark) => {
                     if let Some(span) = self.others.get(&mark).copied() {
                         self.set_first_end(span, End::Left, at);
                     }
@@ -323,12 +323,12 @@ impl<'a> Story<'a> {
         for _step in 0..self.trail.steps().len() {
             let home = self.trail.step(self.trail.step(number)?.home)?;
             let span = match home.way {
-                Way::Aid(cell) => self.cells.get(&cell).copied(),
-                Way::Try(mark) | Way::Then(mark) => self.others.get(&mark).copied(),
-                Way::Feed(_) => None,
+                Way::PruneRight(cell) => self.cells.get(&cell).copied(),
+                Way::OtherwiseLeft(mark) | Way::Then(mark) => self.others.get(&mark).copied(),
+                Way::SeqLeft(_) => None,
             };
             match (home.way, span) {
-                (Way::Try(_), Some(span)) if self.is_left(span) => number = home.outer,
+                (Way::OtherwiseLeft(_), Some(span)) if self.is_left(span) => number = home.outer,
                 _ => return span,
             }
         }

@@ -4,11 +4,11 @@ use crate::legend::Legend;
 use crate::markup::Markup;
 use crate::picture::{Picture, Publications, Theme};
 use crate::rows::Row;
+use crate::scale::{Measure, PARTS, Scale};
 use crate::story::{Called, End, Kind, Moment, Shown, Span};
 use crate::style::{DARK, FAMILY, LIGHT};
 use crate::text::{say_end, say_fate};
-use orc_page::{Page, digits};
-use orc_scale::{Measure, PARTS, Scale};
+use orc_report::{Page, digits};
 use std::alloc::{AllocError, Global};
 
 // In pixels: the top of the plot and of the first row, and the line of the publications.

@@ -2,9 +2,9 @@
 
 use crate::picture::Picture;
 use crate::rows::Row;
+use crate::scale::{Measure, PARTS, Scale};
 use crate::story::{Called, End, Kind, Moment, Span};
-use orc_page::{Page, digits};
-use orc_scale::{Measure, PARTS, Scale};
+use orc_report::{Page, digits};
 use std::alloc::{AllocError, Global};
 
 // The widest label, and the columns that belong to no label, number or plot: blanks between them, and what stands behind a bar.

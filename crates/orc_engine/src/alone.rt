@@ -6,17 +6,17 @@ ghost use Rattle.orc_rules.specs.Named.{HasNames};
 ghost use Rattle.orc_rules.specs.Nodes.{definitions, source};
 ghost use Rattle.orc_rules.specs.Program.{IsProgram};
 ghost use Rattle.orc_outcome.specs.Outcome.{IsPlayed};
-ghost use Rattle.orc_desk.specs.Faults.{IsOwn};
+ghost use Rattle.orc_scheduler.specs.Faults.{IsOwn};
 ghost use Rattle.orc_engine.specs.Ranges.{IsInRange};
-ghost use Rattle.orc_desk.specs.Stops.{Stops};
+ghost use Rattle.orc_scheduler.specs.Stops.{Stops};
 
-use orc_desk::{Desk, EngineFault, Stop};
 use orc_graph::Graph;
 use orc_ledger::{Ledger, Program as Naming};
 use orc_outcome::Played;
 use orc_rules::answers::Answers;
 use orc_rules::limits::MOST_ENTRIES;
 use orc_rules::program::Program;
+use orc_scheduler::{EngineFault, Scheduler, Stop};
 use std::alloc::Global;
 use std::marker::Brand;
 
@@ -88,25 +88,25 @@ fn run_graph<P: Naming>(
     let Ok(ledger) = Ledger::<P>::begin(alloc, keeps, limit, graph.root()) else {
         return Err(EngineFault::Memory);
     };
-    let mut desk = Desk::new(alloc, ledger, keeps, false);
+    let mut scheduler = Scheduler::new(alloc, ledger, keeps, false);
     if let Some(number) = order {
-        desk.follow(number);
+        scheduler.follow(number);
     }
-    let stop = play(&mut desk, graph, answers);
-    desk.finish(program, graph, answers, stop, keeps_text)
+    let stop = play(&mut scheduler, graph, answers);
+    scheduler.finish(program, graph, answers, stop, keeps_text)
 }
 
 // Turns until the run stops.
-fn play<P: Naming>(desk: &mut Desk<P>, graph: &Graph, answers: &Answers) -> Stop
+fn play<P: Naming>(scheduler: &mut Scheduler<P>, graph: &Graph, answers: &Answers) -> Stop
     requires graph { graph.now ≡ P.listing }
     requires answers { answers.now.sites ≡ P.sites }
-    ensures stops { Stops P.listing desk.new.ledger result }
+    ensures stops { Stops P.listing scheduler.new.ledger result }
 {
-    if let Err(stop) = desk.begin() {
+    if let Err(stop) = scheduler.begin() {
         return stop;
     }
     loop {
-        if let Err(stop) = desk.go(graph, answers) {
+        if let Err(stop) = scheduler.go(graph, answers) {
             return stop;
         }
     }

@@ -1,8 +1,8 @@
 //! A batch of jobs, dealt out to the threads of a crew: each has a queue of them, and takes from those of the others when its own is empty.
 
-use orc_desk::Job;
 use orc_ledger::Program as Naming;
-use orc_pool::{Hand, hands};
+use orc_pool::{WorkerQueue, worker_queues};
+use orc_scheduler::SubRunJob;
 use std::alloc::{AllocError, Global};
 use std::sync::atomic::{AtomicUsize, Ordering};
 
@@ -10,24 +10,24 @@ use std::sync::atomic::{AtomicUsize, Ordering};
 #[derive(Drop)]
 pub(crate) struct Dealt<'j, P: Naming> {
     pub place: usize,
-    pub job: &'j mut Job<P>,
+    pub job: &'j mut SubRunJob<P>,
 }
 
-/// Deals jobs out in turn to as many hands as there are workers, or as jobs where there are fewer; each hand begins with its first one. A job for which there
+/// Deals jobs out in turn to the queues of as many workers as there are, or as jobs where there are fewer; each queue begins with its first one. A job for which there
 /// is no room is dealt to nobody. The error is refused memory.
 pub(crate) fn deal<'j, P: Naming>(
     alloc: Global,
-    jobs: &'j mut [Job<P>],
+    jobs: &'j mut [SubRunJob<P>],
     workers: usize,
-) -> Result<Vec<Hand<Dealt<'j, P>>>, AllocError> {
+) -> Result<Vec<WorkerQueue<Dealt<'j, P>>>, AllocError> {
     let count = workers.min(jobs.len()).max(1);
-    let mut hands = hands(alloc, count)?;
+    let mut worker_queues = worker_queues(alloc, count)?;
     for (place, job) in jobs.iter_mut().enumerate().rev() {
-        if let Some(hand) = hands.get_mut(place % count) {
-            let _refused = hand.push(Dealt { place, job });
+        if let Some(worker_queue) = worker_queues.get_mut(place % count) {
+            let _refused = worker_queue.push(Dealt { place, job });
         }
     }
-    Ok(hands)
+    Ok(worker_queues)
 }
 
 /// The place of a job that has won a race. Of several that win at one time it may be any: what it says is for haste alone.
@@ -58,7 +58,7 @@ impl Won {
 }
 
 /// What came of jobs that stand behind a winner is forgotten: which of them were done depends on the threads.
-pub(crate) fn forget_losers<P: Naming>(jobs: &mut [Job<P>]) {
+pub(crate) fn forget_losers<P: Naming>(jobs: &mut [SubRunJob<P>]) {
     let mut is_won = false;
     for job in jobs {
         if is_won {

@@ -6,20 +6,20 @@ ghost use Rattle.orc_outcome.specs.Outcome.{IsPlayed};
 ghost use Rattle.orc_rules.specs.Named.{HasNames};
 ghost use Rattle.orc_rules.specs.Nodes.{definitions, source};
 ghost use Rattle.orc_rules.specs.Program.{IsProgram};
-ghost use Rattle.orc_desk.specs.Faults.{IsOwn};
+ghost use Rattle.orc_scheduler.specs.Faults.{IsOwn};
 ghost use Rattle.orc_engine.specs.Ranges.{IsInRange};
 
-use crate::crew;
-use crate::floor::Floor;
-use crate::hub::Hub;
+use crate::context::Context;
+use crate::parallel;
+use crate::shared::Shared;
 use crate::worker::Worker;
-use orc_desk::{Desk, EngineFault};
 use orc_graph::Graph;
 use orc_ledger::{Ledger, Program as Naming};
 use orc_outcome::Played;
 use orc_rules::answers::Answers;
 use orc_rules::limits::{MOST_ENTRIES, MOST_WORKERS};
 use orc_rules::program::Program;
+use orc_scheduler::{EngineFault, Scheduler};
 use orc_site::{Gate, Sites};
 use std::alloc::Global;
 use std::marker::Brand;
@@ -32,7 +32,7 @@ use std::thread::{Scope, Threads};
 ///
 /// Each call goes through `gate`, is made by `sites` and polled outside every lock, and `sites` is told which ones are cancelled. Where neither may
 /// wait for another thread, the calling thread does everything, and no other is started: there would be nothing for it to do. Where the sites go by
-/// the table and the gate is open, nobody is asked, and it is a run of [`run_crew`](crate::run_crew).
+/// the table and the gate is open, nobody is asked, and it is a run of [`run_parallel`](crate::run_parallel).
 ///
 /// The fault is Range where there are no workers or over `MOST_WORKERS`, or the limit is 0 or over `MOST_ENTRIES`, and then alone; Site where the
 /// sites answered a call otherwise than the table says, or not when it was due; Broken where something is left that no worker has; Memory as of
@@ -65,7 +65,7 @@ where
     };
     let limit = limit as usize;
     if sites.goes_by_table() && gate.is_open() {
-        return crew::run_graph(
+        return parallel::run_graph(
             rt, alloc, program, &graph, answers, workers, keeps_text, limit,
         );
     }
@@ -104,14 +104,14 @@ where
     let Ok(ledger) = Ledger::<P>::begin(alloc, true, limit, graph.root()) else {
         return Err(EngineFault::Memory);
     };
-    let mut desk = Desk::new(alloc, ledger, true, true);
-    if desk.begin().is_err() {
+    let mut scheduler = Scheduler::new(alloc, ledger, true, true);
+    if scheduler.begin().is_err() {
         return Err(EngineFault::Memory);
     }
-    let floor = Mutex::new(Floor::new(alloc, desk));
-    play(rt, alloc, graph, answers, &floor, sites, gate, workers);
-    let (desk, stop) = floor.into_inner().into_desk();
-    match desk.finish(program, graph, answers, stop, keeps_text) {
+    let shared = Mutex::new(Shared::new(alloc, scheduler));
+    play(rt, alloc, graph, answers, &shared, sites, gate, workers);
+    let (scheduler, stop) = shared.into_inner().into_desk();
+    match scheduler.finish(program, graph, answers, stop, keeps_text) {
         Ok(Some(played)) => Ok(played),
         Ok(None) => unreachable!(),
         Err(fault) => Err(fault),
@@ -124,7 +124,7 @@ fn play<'x, P, R, S, G>(
     alloc: Global,
     graph: &'x Graph,
     answers: &'x Answers,
-    floor: &'x Mutex<Floor<P, S::Call>>,
+    shared: &'x Mutex<Shared<P, S::Call>>,
     sites: &'x S,
     gate: &'x G,
     workers: usize,
@@ -138,22 +138,22 @@ where
     requires graph { graph.now ≡ P.listing }
     requires answers { answers.now.sites ≡ P.sites }
 {
-    let bell = Condvar::new();
+    let wakeups = Condvar::new();
     let others = if sites.may_wait() || gate.may_wait() {
         workers.saturating_sub(1)
     } else {
         0
     };
-    let hub = Hub {
+    let context = Context {
         alloc,
         graph,
         answers,
-        floor,
-        bell: &bell,
+        shared,
+        wakeups: &wakeups,
         sites,
         gate,
     };
-    run_all(rt, Worker::first(rt, &hub), others);
+    run_all(rt, Worker::first(rt, &context), others);
 }
 
 // The first worker's thread is the calling one. Another that can't be started is left out.

@@ -1,10 +1,10 @@
 //! One of several workers.
 
-use crate::floor::{Errand, News};
-use crate::hub::Hub;
+use crate::context::Context;
 use crate::poller::{Polled, Poller};
-use orc_desk::Stop;
+use crate::shared::{CallEvent, OutsideWork};
 use orc_ledger::{LedgerFault, Program as Naming};
+use orc_scheduler::Stop;
 use orc_site::{Gate, Request, Sites};
 use std::mem;
 use std::sync::Wait;
@@ -13,16 +13,16 @@ use std::sync::Wait;
 #[derive(Drop)]
 pub(crate) struct Worker<'h, P: Naming, R: Wait, S: Sites, G: Gate> {
     rt: &'h R,
-    hub: &'h Hub<'h, P, S, G>,
+    context: &'h Context<'h, P, S, G>,
     is_first: bool,
 }
 
 impl<'h, P: Naming, R: Wait, S: Sites, G: Gate> Worker<'h, P, R, S, G> {
     /// The first worker of a run.
-    pub(crate) fn first(rt: &'h R, hub: &'h Hub<'h, P, S, G>) -> Worker<'h, P, R, S, G> {
+    pub(crate) fn first(rt: &'h R, context: &'h Context<'h, P, S, G>) -> Worker<'h, P, R, S, G> {
         Worker {
             rt,
-            hub,
+            context,
             is_first: true,
         }
     }
@@ -31,32 +31,36 @@ impl<'h, P: Naming, R: Wait, S: Sites, G: Gate> Worker<'h, P, R, S, G> {
     pub(crate) fn another(&self) -> Worker<'h, P, R, S, G> {
         Worker {
             rt: self.rt,
-            hub: self.hub,
+            context: self.context,
             is_first: false,
         }
     }
 
     /// Works until the run is over. Where memory is refused before it begins another worker is left out, and with the first one the run stops.
     pub(crate) fn work(self) {
-        let Worker { rt, hub, is_first } = self;
-        let Ok(poller) = Poller::new(hub.alloc) else {
+        let Worker {
+            rt,
+            context,
+            is_first,
+        } = self;
+        let Ok(poller) = Poller::new(context.alloc) else {
             if is_first {
-                hub.stop(rt, Stop::Refused(LedgerFault::Memory));
+                context.stop(rt, Stop::Refused(LedgerFault::Memory));
             }
             return;
         };
-        hub.join(rt);
+        context.join(rt);
         let mut shift = Shift {
             rt,
-            hub,
+            context,
             poller,
-            news: News::None,
-            cancelled: Vec::new(hub.alloc),
+            event: CallEvent::None,
+            cancelled: Vec::new(context.alloc),
             is_outside: false,
         };
         for _ in rt.forever() {
-            let errand = shift.turn();
-            if shift.is_over(errand) {
+            let work = shift.turn();
+            if shift.do_work(work) {
                 return;
             }
         }
@@ -67,10 +71,10 @@ impl<'h, P: Naming, R: Wait, S: Sites, G: Gate> Worker<'h, P, R, S, G> {
 #[derive(Drop)]
 struct Shift<'h, P: Naming, R: Wait, S: Sites, G: Gate> {
     rt: &'h R,
-    hub: &'h Hub<'h, P, S, G>,
+    context: &'h Context<'h, P, S, G>,
     poller: Poller,
     // What came of its last call.
-    news: News<S::Call>,
+    event: CallEvent<S::Call>,
     // The calls that were cancelled in its turn.
     cancelled: Vec<u64>,
     is_outside: bool,
@@ -78,36 +82,41 @@ struct Shift<'h, P: Naming, R: Wait, S: Sites, G: Gate> {
 
 impl<P: Naming, R: Wait, S: Sites, G: Gate> Shift<'_, P, R, S, G> {
     // A turn under the lock. Before it goes outside others are called, which may be waited for there.
-    fn turn(&mut self) -> Errand<S::Call> {
-        let news = mem::replace(&mut self.news, News::None);
-        let mut floor = self.hub.floor.lock(self.rt);
+    fn turn(&mut self) -> OutsideWork<S::Call> {
+        let event = mem::replace(&mut self.event, CallEvent::None);
+        let mut shared = self.context.shared.lock(self.rt);
         if self.is_outside {
-            floor.come_back();
+            shared.come_back();
             self.is_outside = false;
         }
-        let errand = floor.work(self.hub.graph, self.hub.answers, news, &mut self.cancelled);
-        match &errand {
-            Errand::Over => self.hub.bell.notify_all(),
-            Errand::Rest => self.hub.rest(self.rt, floor),
-            Errand::None if self.cancelled.is_empty() => {}
-            Errand::None | Errand::Make(_) | Errand::Ask(_, _, _) => {
+        let work = shared.work(
+            self.context.graph,
+            self.context.answers,
+            event,
+            &mut self.cancelled,
+        );
+        match &work {
+            OutsideWork::Over => self.context.wakeups.notify_all(),
+            OutsideWork::Rest => self.context.rest(self.rt, shared),
+            OutsideWork::None if self.cancelled.is_empty() => {}
+            OutsideWork::None | OutsideWork::Make(_) | OutsideWork::Ask(_, _, _) => {
                 self.is_outside = true;
-                let calls = floor.go_outside();
-                drop(floor);
-                self.hub.ring(calls);
+                let calls = shared.go_outside();
+                drop(shared);
+                self.context.notify(calls);
             }
         }
-        errand
+        work
     }
 
     // What is to be done outside the lock. Whether the run is over.
-    fn is_over(&mut self, errand: Errand<S::Call>) -> bool {
+    fn do_work(&mut self, work: OutsideWork<S::Call>) -> bool {
         self.cancel();
-        match errand {
-            Errand::None | Errand::Rest => {}
-            Errand::Make(request) => self.news = self.make(request),
-            Errand::Ask(number, now, call) => self.news = self.ask(number, now, call),
-            Errand::Over => return true,
+        match work {
+            OutsideWork::None | OutsideWork::Rest => {}
+            OutsideWork::Make(request) => self.event = self.make(request),
+            OutsideWork::Ask(number, now, call) => self.event = self.ask(number, now, call),
+            OutsideWork::Over => return true,
         }
         false
     }
@@ -115,32 +124,32 @@ impl<P: Naming, R: Wait, S: Sites, G: Gate> Shift<'_, P, R, S, G> {
     // Tells the sites which calls were cancelled.
     fn cancel(&mut self) {
         for number in self.cancelled.iter() {
-            self.hub.sites.cancel(*number);
+            self.context.sites.cancel(*number);
         }
         self.cancelled.clear();
     }
 
     // Makes a call, and asks for its answer.
-    fn make(&self, request: Request) -> News<S::Call> {
-        self.hub.gate.pass(request.number);
-        let Ok(mut call) = self.hub.sites.call(&request) else {
-            return News::Refused;
+    fn make(&self, request: Request) -> CallEvent<S::Call> {
+        self.context.gate.pass(request.number);
+        let Ok(mut call) = self.context.sites.call(&request) else {
+            return CallEvent::Refused;
         };
         match self.poller.ask(&mut call, request.made_at) {
-            Polled::Answered(answer) => News::Answered(request.number, answer),
-            Polled::Late => News::Late(request.number),
-            Polled::Waits(due) => match Box::new(self.hub.alloc, call) {
-                Ok(call) => News::Waits(request.number, due, call),
-                Err(_) => News::Refused,
+            Polled::Answered(answer) => CallEvent::Answered(request.number, answer),
+            Polled::Late => CallEvent::Late(request.number),
+            Polled::Waits(due) => match Box::new(self.context.alloc, call) {
+                Ok(call) => CallEvent::Waits(request.number, due, call),
+                Err(_) => CallEvent::Refused,
             },
         }
     }
 
     // Asks a call again, which is due.
-    fn ask(&self, number: u64, now: u64, mut call: Box<S::Call>) -> News<S::Call> {
+    fn ask(&self, number: u64, now: u64, mut call: Box<S::Call>) -> CallEvent<S::Call> {
         match self.poller.ask(&mut *call, now) {
-            Polled::Answered(answer) => News::Answered(number, answer),
-            Polled::Late | Polled::Waits(_) => News::Late(number),
+            Polled::Answered(answer) => CallEvent::Answered(number, answer),
+            Polled::Late | Polled::Waits(_) => CallEvent::Late(number),
         }
     }
 }

@@ -5,7 +5,7 @@ use Rattle.std.specs.Option.{option_to_list}
 use Rattle.orc_rules.specs.Timed.{IsIn}
 use Rattle.orc_indexes.specs.Same.{weight}
 use Rattle.orc_indexes.specs.Parking.{is_set, notes_at, one}
-use Rattle.orc_indexes.specs.declared.parking.Note.{Note}
+use Rattle.orc_indexes.specs.declared.wait_index.Note.{Note}
 use Rattle.orc_indexes.proofs.Lists.{weight-set}
 
 -- ---- flags

@@ -1,7 +1,7 @@
 -- Which slots hold a token that is known to wait, and for which cells.
 use Rattle.std.specs.Prelude.{ℕ, List, [], Bool, false, cond, slice_index_or}
 use Rattle.orc_rules.specs.Timed.{IsIn}
-use Rattle.orc_indexes.specs.declared.parking.Note.{Note}
+use Rattle.orc_indexes.specs.declared.wait_index.Note.{Note}
 
 -- what callers see of it: by slot whether its token is known to wait, and by cell the tokens that wait for it
 pub record Parked : Type 0 where

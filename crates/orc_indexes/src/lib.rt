@@ -5,9 +5,9 @@
 mod chains;
 mod dues;
 mod memory;
-mod parking;
+mod wait_index;
 
 pub use chains::Chains;
 pub use dues::Dues;
 pub use memory::{push_within, reserve};
-pub use parking::{Note, Parking};
+pub use wait_index::{Note, Parking};

@@ -3,7 +3,7 @@ use Rattle.std.proofs.Common.{◌<◌, ◌+◌, ℕ, List, [], ◌∷◌, ◌++�
 use Rattle.std.proofs.lemmas.List.{map_more}
 use Rattle.orc_rules.specs.declared.entry.Entry.{Entry}
 use Rattle.orc_rules.specs.Sites.{Site}
-use Rattle.orc_graft.specs.Moved.{IsLocal, AreLocal, IsSilent, AreSilent}
+use Rattle.orc_subrun.specs.Moved.{IsLocal, AreLocal, IsSilent, AreSilent}
 
 local_push : (sites : List Site) (es : List Entry) (e : Entry) → AreLocal sites es → IsLocal sites e → AreLocal sites (es ++ e ∷ [])
 local_push sites [] e are is = (is, tt)

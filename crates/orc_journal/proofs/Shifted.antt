@@ -9,14 +9,14 @@ use Rattle.orc_rules.specs.declared.value.Value.TheVariants.{Signal}
 use Rattle.orc_rules.specs.declared.entry.Entry.{Entry}
 use Rattle.orc_rules.specs.declared.entry.Entry.TheVariants.{End, Fork, Seq, Other, Def, Void, Open, Send, Call, Return, Bind, Right, Publish}
 use Rattle.orc_rules.specs.declared.kind.Kind.TheVariants as kinds
-use Rattle.orc_graft.specs.declared.numbering.Numbering.{Numbering}
-use Rattle.orc_graft.specs.Moved.{mark_in, moved}
-use Rattle.orc_graft.proofs.Marks.{later_mark}
+use Rattle.orc_subrun.specs.declared.numbers.Numbering.{Numbering}
+use Rattle.orc_subrun.specs.Moved.{mark_in, moved}
+use Rattle.orc_subrun.proofs.Marks.{later_mark}
 use Rattle.orc_journal.specs.declared.journal.Version.{Version}
 use Rattle.orc_journal.specs.declared.rows.Called.{Called}
 use Rattle.orc_journal.specs.declared.rows.Row.{Row}
 use Rattle.orc_journal.specs.declared.rows.Row.TheVariants.{Narrow, Wide}
-use Rattle.orc_journal.specs.declared.shifting.Shift.{Shift}
+use Rattle.orc_journal.specs.declared.shift.Shift.{Shift}
 use Rattle.orc_journal.specs.Rows.{Contents, no_call, value_at, call_by, entry_of, grown, HasArguments, HasCall, IsWithin, AreWithin, Keeps, StandsFor}
 use Rattle.orc_journal.specs.Shifts.{mark_by, row_by, called_by, shift_to, IsMovable, Shifts}
 use Rattle.orc_journal.specs.Written.{Written, journal_with}

@@ -1,11 +1,11 @@
 -- How a part's rows move behind those of the journal around it.
 use Rattle.std.specs.Prelude.{◌≡◌, ◌≤◌, ℕ, ◌+◌, ◌-◌, length, cond, nat_eq}
 use Rattle.orc_rules.specs.declared.kind.Kind.TheVariants as kinds
-use Rattle.orc_graft.specs.declared.numbering.Numbering.{Numbering}
+use Rattle.orc_subrun.specs.declared.numbers.Numbering.{Numbering}
 use Rattle.orc_journal.specs.declared.rows.Called.{Called}
 use Rattle.orc_journal.specs.declared.rows.Row.{Row}
 use Rattle.orc_journal.specs.declared.rows.Row.TheVariants.{Narrow}
-use Rattle.orc_journal.specs.declared.shifting.Shift.{Shift}
+use Rattle.orc_journal.specs.declared.shift.Shift.{Shift}
 use Rattle.orc_journal.specs.Rows.{Contents}
 
 -- the part's first mark is the token's

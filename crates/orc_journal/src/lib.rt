@@ -1,10 +1,10 @@
 //! Journals in memory: each entry in a row of few bytes, and the entries of a part put behind others under new numbers.
 #![tactic(auto)]
 
-mod grafting;
 mod journal;
 mod room;
 mod rows;
-mod shifting;
+mod shift;
+mod sub_journal;
 
 pub use journal::{Journal, Version};

@@ -2,8 +2,8 @@
 use Rattle.std.specs.Prelude.{List}
 use Rattle.orc_rules.specs.Nodes.{Listing}
 use Rattle.orc_rules.specs.Sites.{Site}
-use Rattle.orc_records.specs.Records.{Records, Lawful}
-use Rattle.orc_records.specs.Next.{AreGrouped, numbers_of}
+use Rattle.orc_ledger_spec.specs.Records.{Records, Lawful}
+use Rattle.orc_ledger_spec.specs.Next.{AreGrouped, numbers_of}
 
 -- the journal leads to a place that the records spell, and their groups are nested as their sides
 pub record Stands (l : Listing) (sites : List Site) (s : Records) : Type 0 where

@@ -5,20 +5,20 @@ ghost use Rattle.orc_rules.specs.Nodes.{code, definitions};
 ghost use Rattle.orc_rules.specs.declared.entry.Entry.TheVariants.{Call as Calls};
 ghost use Rattle.orc_rules.specs.declared.value.Found.TheVariants.{After};
 ghost use Rattle.orc_calls.specs.Counting.{CountsCall};
-ghost use Rattle.orc_records.specs.AtOnce.{IsCalled};
-ghost use Rattle.orc_records.specs.Calls.{IsRefused};
-ghost use Rattle.orc_chronicle.specs.Chronicles.{chronicle_with};
-ghost use Rattle.orc_graft.specs.Moved.{IsSilent};
-ghost use Rattle.orc_paths.specs.Doing.{IsCall};
-ghost use Rattle.orc_records.specs.Doing.{term_of, what_of};
+ghost use Rattle.orc_ledger_spec.specs.AtOnce.{IsCalled};
+ghost use Rattle.orc_ledger_spec.specs.Calls.{IsRefused};
+ghost use Rattle.orc_log.specs.Logs.{log_with};
+ghost use Rattle.orc_subrun.specs.Moved.{IsSilent};
+ghost use Rattle.orc_frames.specs.Doing.{IsCall};
+ghost use Rattle.orc_ledger_spec.specs.Doing.{term_of, what_of};
 ghost use Rattle.orc_tables.specs.Tokens.{IsHeld};
 
 use crate::ledger::Ledger;
 use orc_calls::Counts;
-use orc_chronicle::{Chronicle, Program};
+use orc_frames::Action;
 use orc_graph::Graph;
-use orc_paths::What;
-use orc_records::{Called, Halted, LedgerFault};
+use orc_ledger_spec::{Called, Halted, LedgerFault};
+use orc_log::{Log, Program};
 use orc_rules::answers::Answers;
 use orc_rules::entry::Entry;
 use orc_rules::value::{Answer, Args, Found};
@@ -37,7 +37,7 @@ fn answer_at_once(found: Found) -> Option<Answer>
 // Writes a call, which is counted, and its answer. Where memory is refused nothing changes.
 #[inline(always)]
 fn write_answered<P: Program>(
-    journal: &mut Chronicle<P>,
+    journal: &mut Log<P>,
     counts: &mut Counts,
     answers: &Answers,
     token: u64,
@@ -48,7 +48,7 @@ fn write_answered<P: Program>(
 ) -> Result<(), LedgerFault>
     requires answers { answers.now.sites ≡ P.sites }
     requires silent { IsSilent answer.now }
-    ensures added { OnOk result (journal.new ≡ chronicle_with (chronicle_with journal.old (Calls token call site args.now ∷ [])) (answer.now ∷ [])) }
+    ensures added { OnOk result (journal.new ≡ log_with (log_with journal.old (Calls token call site args.now ∷ [])) (answer.now ∷ [])) }
     ensures counted { OnOk result (CountsCall answers.now.sites site args.now counts.old counts.new) }
     ensures refused { OnErr result ((journal.new ≡ journal.old) × (counts.new ≡ counts.old)) }
     ensures why { IfErr result (λ fault. fault ≡ LedgerFault.Memory) }
@@ -89,7 +89,7 @@ impl<P: Program> Ledger<P> {
         requires graph { graph.now ≡ P.listing }
         requires answers { answers.now.sites ≡ P.sites }
         requires held { IsHeld self.old.slots slot token }
-        requires calls { what_of (code P.listing) (definitions P.listing) self.old token ≡ What.Call }
+        requires calls { what_of (code P.listing) (definitions P.listing) self.old token ≡ Action.Call }
         ensures done { IfOk result (λ called. IsCalled P.listing P.sites self.old slot token called self.new) }
         ensures refused { OnErr result (self.new ≡ self.old) }
         ensures why { IfErr result (λ fault. IsRefused self.old 0 0 0 fault) }

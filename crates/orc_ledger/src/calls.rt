@@ -4,13 +4,13 @@ ghost use Rattle.std.specs.Prelude.{◌≡◌, ◌<◌, Some, None, IfOk, IfErr,
 ghost use Rattle.orc_rules.specs.Timed.{IsIn};
 ghost use Rattle.orc_rules.specs.declared.value.Answer.TheVariants.{Value as Gives, Halt};
 ghost use Rattle.orc_calls.specs.Due.{DueNow};
-ghost use Rattle.orc_records.specs.Answers.{IsReturned, IsUnanswered, Pends};
+ghost use Rattle.orc_ledger_spec.specs.Answers.{IsReturned, IsUnanswered, Pends};
 ghost use Rattle.orc_tables.specs.declared.records.Call.{Call as Its};
 
 use crate::ledger::{Ledger, write};
 use orc_calls::check_due;
-use orc_chronicle::Program;
-use orc_records::{LedgerFault, ReturnFault};
+use orc_ledger_spec::{LedgerFault, ReturnFault};
+use orc_log::Program;
 use orc_rules::entry::Entry;
 use orc_rules::value::{Answer, Value};
 use orc_tables::{Call, Standing, Token};

@@ -3,18 +3,18 @@
 ghost use Rattle.std.specs.Prelude.{◌≡◌, ◌+◌, ◌≤◌, ◌++◌, [], ℕ, true, false, length, map, vec_len, vec_capacity, slice_index_or, IfOk, IfErr, OnErr, OnOk};
 ghost use Rattle.orc_rules.specs.Nodes.{code, param_of};
 ghost use Rattle.orc_rules.specs.Term.{call};
-ghost use Rattle.orc_records.specs.Calls.{IsRefused};
+ghost use Rattle.orc_ledger_spec.specs.Calls.{IsRefused};
 ghost use Rattle.orc_tables.specs.Tokens.{IsHeld};
-ghost use Rattle.orc_records.specs.Parameters.{IsCalled, IsUndone};
+ghost use Rattle.orc_ledger_spec.specs.Parameters.{IsCalled, IsUndone};
 ghost use Rattle.orc_tables.specs.declared.records.Standing.TheVariants.{At};
 ghost use Rattle.orc_tables.specs.declared.records.Token.{Token as Its};
 
 use crate::ledger::{Ledger, write};
-use orc_chronicle::Program;
+use orc_env::StoredScope;
+use orc_frames::parameter_scopes;
 use orc_graph::Graph;
-use orc_names::StoredScope;
-use orc_paths::parameter_scopes;
-use orc_records::LedgerFault;
+use orc_ledger_spec::LedgerFault;
+use orc_log::Program;
 use orc_rules::entry::Entry;
 use orc_tables::{Standing, Token};
 

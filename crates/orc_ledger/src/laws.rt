@@ -1,11 +1,11 @@
 //! Laws of a ledger: each function's contract is the law.
 
-ghost use Rattle.orc_records.specs.Moves.{CallsFit};
-ghost use Rattle.orc_records.specs.Offered.{NothingIsLost};
+ghost use Rattle.orc_ledger_spec.specs.Moves.{CallsFit};
+ghost use Rattle.orc_ledger_spec.specs.Offered.{NothingIsLost};
 ghost use Rattle.orc_ledger.specs.Stood.{Stands};
 
 use crate::ledger::Ledger;
-use orc_chronicle::Program;
+use orc_log::Program;
 
 /// Nothing of Orc is lost, in one statement. Of each entry with which the ledger's journal may go on by the rules:
 ///

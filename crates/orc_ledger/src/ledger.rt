@@ -5,20 +5,20 @@ ghost use Rattle.orc_rules.specs.Timed.{IsIn};
 ghost use Rattle.orc_rules.specs.declared.limits.TheConstants.{MOST_ENTRIES};
 ghost use Rattle.orc_tables.specs.Tokens.{IsHeld};
 ghost use Rattle.orc_journal.specs.declared.journal.Version.TheVariants.{Two};
-ghost use Rattle.orc_records.specs.Begun.{begun};
-ghost use Rattle.orc_records.specs.Brought.{FullIsCrowded};
-ghost use Rattle.orc_records.specs.Calls.{HasRoom, IsRefused};
-ghost use Rattle.orc_chronicle.specs.Chronicles.{chronicle_with};
+ghost use Rattle.orc_ledger_spec.specs.Begun.{begun};
+ghost use Rattle.orc_ledger_spec.specs.Brought.{FullIsCrowded};
+ghost use Rattle.orc_ledger_spec.specs.Calls.{HasRoom, IsRefused};
+ghost use Rattle.orc_log.specs.Logs.{log_with};
 ghost use Rattle.orc_rules.specs.Trace.{published};
-ghost use Rattle.orc_records.specs.Whole.{IsWhole};
+ghost use Rattle.orc_ledger_spec.specs.Whole.{IsWhole};
 ghost use Rattle.orc_tables.specs.declared.records.Token.{Token as Its};
 
 use orc_calls::Counts;
-use orc_chronicle::{Chronicle, Program};
+use orc_env::{Bound, StoredScope};
 use orc_indexes::{push_within, reserve};
 use orc_journal::Journal;
-use orc_names::{Bound, StoredScope};
-use orc_records::LedgerFault;
+use orc_ledger_spec::LedgerFault;
+use orc_log::{Log, Program};
 use orc_rules::answers::Answers;
 use orc_rules::entry::Entry;
 use orc_rules::limits::{MOST_FRAMES, MOST_GROUPS, MOST_TOKENS};
@@ -30,7 +30,7 @@ use std::marker::{Model, PhantomData};
 /// The records of a run, with its journal.
 pub struct Ledger<P: Program> {
     pub(crate) limit: usize,
-    pub(crate) journal: Chronicle<P>,
+    pub(crate) journal: Log<P>,
     pub(crate) entries: usize,
     pub(crate) next_mark: u64,
     pub(crate) time: u64,
@@ -47,8 +47,8 @@ pub struct Ledger<P: Program> {
 }
 
 impl<P: Program> Model for Ledger<P> {
-    ghost use Rattle.orc_records.specs.Records.{Records};
-    ghost use Rattle.orc_records.specs.Kept.{IsKept};
+    ghost use Rattle.orc_ledger_spec.specs.Records.{Records};
+    ghost use Rattle.orc_ledger_spec.specs.Kept.{IsKept};
     ghost use Rattle.orc_tables.specs.Tokens.{live};
 
     ghost Value = { Records };
@@ -91,11 +91,8 @@ impl<P: Program> Drop for Ledger<P> {
 
 // Writes an entry. Where memory is refused nothing changes.
 #[inline(always)]
-pub(crate) fn write<P: Program>(
-    journal: &mut Chronicle<P>,
-    entry: &Entry,
-) -> Result<(), LedgerFault>
-    ensures added { OnOk result (journal.new ≡ chronicle_with journal.old (entry.now ∷ [])) }
+pub(crate) fn write<P: Program>(journal: &mut Log<P>, entry: &Entry) -> Result<(), LedgerFault>
+    ensures added { OnOk result (journal.new ≡ log_with journal.old (entry.now ∷ [])) }
     ensures refused { OnErr result (journal.new ≡ journal.old) }
     ensures why { IfErr result (λ fault. fault ≡ LedgerFault.Memory) }
 {
@@ -139,7 +136,7 @@ impl<P: Program> Ledger<P> {
         let calls = Pending::begin(alloc)?;
         Ok(Ledger {
             limit,
-            journal: Chronicle::new(alloc, keeps),
+            journal: Log::new(alloc, keeps),
             entries: 0,
             next_mark: 2,
             time: 0,
@@ -182,18 +179,18 @@ impl<P: Program> Ledger<P> {
         ensures entries { result.entries ≡ self.journal }
         ensures version { result.version ≡ Two }
     {
-        self.into_chronicle().into_journal()
+        self.into_log().into_journal()
     }
 
     /// The values that the journal's entries publish, in order, and nothing else of the ledger. The error is refused memory.
     pub fn into_published(self) -> Result<Vec<Value>, AllocError>
         ensures { IfOk result (λ values. values.items ≡ published self.journal) }
     {
-        self.into_chronicle().into_published()
+        self.into_log().into_published()
     }
 
     // The journal, as much of it as is held, and nothing else of the ledger.
-    pub(crate) fn into_chronicle(self) -> Chronicle<P>
+    pub(crate) fn into_log(self) -> Log<P>
         ensures entries { result.entries ≡ self.journal }
         ensures version { result.version ≡ Two }
     {

@@ -2,30 +2,30 @@
 #![tactic(auto)]
 
 mod at_once;
-mod awaiting;
 mod calls;
 mod definitions;
-mod halting;
+mod halts;
 mod laws;
 mod ledger;
 mod marks;
 mod moves;
 mod next;
 mod onward;
-mod parts;
 mod publications;
 mod requests;
 mod rules;
 mod sides;
+mod sub_runs;
 mod time;
 mod view;
+mod waits;
 
 pub use laws::{calls_fit, offered, stands};
 pub use ledger::Ledger;
-pub use orc_chronicle::Program;
-pub use orc_paths::{Taker, What};
-pub use orc_records::{
+pub use orc_frames::{Action, Taker};
+pub use orc_ledger_spec::{
     Called, HaltFault, Halted, LedgerFault, Moved, Next, Passed, Request, ReturnFault,
 };
-pub use orc_tables::{Call, Entered, Group, Side, Standing, Step, Token};
-pub use parts::{Part, Task};
+pub use orc_log::Program;
+pub use orc_tables::{Call, Frame, Group, Side, Standing, Step, Token};
+pub use sub_runs::{SubRun, SubRunTask};

@@ -4,21 +4,21 @@ ghost use Rattle.std.specs.Prelude.{◌≡◌, ◌+◌, ℕ, length, IfOk, IfErr
 ghost use Rattle.orc_rules.specs.Nodes.{code};
 ghost use Rattle.orc_rules.specs.Term.{stop, par, seq, prune, other};
 ghost use Rattle.orc_rules.specs.Journal.{IsVoid};
-ghost use Rattle.orc_records.specs.Records.{its_env};
-ghost use Rattle.orc_paths.specs.Paths.{standing};
+ghost use Rattle.orc_ledger_spec.specs.Records.{its_env};
+ghost use Rattle.orc_frames.specs.Paths.{standing};
 ghost use Rattle.orc_tables.specs.Steps.{group_at, depth_at};
 ghost use Rattle.orc_tables.specs.Tokens.{IsHeld};
-ghost use Rattle.orc_records.specs.Calls.{IsRefused, IsFree, IsEnded, IsVoided, IsForked, IsFed, IsTried, IsOpened, born};
+ghost use Rattle.orc_ledger_spec.specs.Calls.{IsRefused, IsFree, IsEnded, IsVoided, IsForked, IsFed, IsTried, IsOpened, born};
 ghost use Rattle.orc_tables.specs.declared.records.Standing.TheVariants.{At};
 
 use crate::ledger::{Ledger, write};
-use orc_chronicle::Program;
+use orc_env::{Bound, Scope, StoredScope, outer_number};
 use orc_indexes::{push_within, reserve};
-use orc_names::{Bound, Scope, StoredScope, outer_number};
-use orc_records::LedgerFault;
+use orc_ledger_spec::LedgerFault;
+use orc_log::Program;
 use orc_rules::entry::Entry;
 use orc_rules::limits::MOST_FRAMES;
-use orc_tables::{Entered, Side, Standing, Step, Token};
+use orc_tables::{Frame, Side, Standing, Step, Token};
 
 impl<P: Program> Ledger<P> {
     /// `stop`: the token goes.
@@ -133,7 +133,7 @@ impl<P: Program> Ledger<P> {
         self.next_mark = mark + 1;
         let step = self.steps.len() + 1;
         self.steps.push(Step {
-            entered: Entered::Feed(name, right, scope),
+            entered: Frame::SeqLeft(name, right, scope),
             outer: token.step,
             group,
             depth: depth + 1,
@@ -186,7 +186,7 @@ impl<P: Program> Ledger<P> {
         );
         self.groups.join(number);
         self.steps.push(Step {
-            entered: Entered::Try(token.serial),
+            entered: Frame::OtherwiseLeft(token.serial),
             outer: token.step,
             group: number,
             depth,
@@ -255,7 +255,7 @@ impl<P: Program> Ledger<P> {
             }),
         );
         self.steps.push(Step {
-            entered: Entered::Aid(cell),
+            entered: Frame::PruneRight(cell),
             outer: token.step,
             group: number,
             depth: 0,

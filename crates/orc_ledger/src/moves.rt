@@ -8,23 +8,23 @@ ghost use Rattle.orc_rules.specs.declared.value.Value.{Value as ValueOf};
 ghost use Rattle.orc_rules.specs.Nodes.{code, param_of, unfold_node};
 ghost use Rattle.orc_graph.specs.Graph.{term_node};
 ghost use Rattle.orc_rules.specs.Journal.{IsVoid};
-ghost use Rattle.orc_names.specs.Scopes.{close, close_param, given, without};
-ghost use Rattle.orc_paths.specs.Spelling.{whole, feeding, aiding};
+ghost use Rattle.orc_env.specs.Scopes.{close, close_param, given, without};
+ghost use Rattle.orc_frames.specs.Spelling.{whole, feeding, aiding};
 ghost use Rattle.orc_tables.specs.Tokens.{IsHeld};
-ghost use Rattle.orc_paths.specs.Taking.{Takes, IsOnWay, HasStep, taker, reach};
-ghost use Rattle.orc_records.specs.Records.{its_env, its_path};
-ghost use Rattle.orc_paths.specs.Paths.{standing, has_left};
+ghost use Rattle.orc_frames.specs.Taking.{Takes, IsOnWay, HasStep, taker, reach};
+ghost use Rattle.orc_ledger_spec.specs.Records.{its_env, its_path};
+ghost use Rattle.orc_frames.specs.Paths.{standing, has_left};
 ghost use Rattle.orc_tables.specs.Steps.{group_at};
-ghost use Rattle.orc_paths.specs.Doing.{scan, closed};
-ghost use Rattle.orc_tables.specs.declared.records.Entered.TheVariants.{Aid};
-ghost use Rattle.orc_records.specs.Moves.{StandsAt, IsThere, Moves, IsHindered};
+ghost use Rattle.orc_frames.specs.Doing.{scan, closed};
+ghost use Rattle.orc_tables.specs.declared.records.Frame.TheVariants.{PruneRight};
+ghost use Rattle.orc_ledger_spec.specs.Moves.{StandsAt, IsThere, Moves, IsHindered};
 
 use crate::ledger::Ledger;
-use orc_chronicle::Program;
+use orc_env::{Bound, StoredScope, meaning};
+use orc_frames::{Action, Taker, are_values, call_with, find_taker, take_values};
 use orc_graph::{Graph, Node};
-use orc_names::{Bound, StoredScope, meaning};
-use orc_paths::{Taker, What, are_values, call_with, find_taker, take_values};
-use orc_records::{LedgerFault, Moved};
+use orc_ledger_spec::{LedgerFault, Moved};
+use orc_log::Program;
 use orc_rules::param::Operand;
 use orc_rules::value::{Args, Value};
 use orc_tables::{Standing, Token};
@@ -59,7 +59,7 @@ impl<P: Program> Ledger<P> {
     // Whether each operand of a call has a value.
     #[inline(always)]
     pub(crate) fn have_values(&self, operands: &[Operand], scope: usize) -> bool
-        ensures { result ≡ true → scan false Nothing (closed (its_env (code P.listing) self.now scope) operands.now) ≡ What.Call }
+        ensures { result ≡ true → scan false Nothing (closed (its_env (code P.listing) self.now scope) operands.now) ≡ Action.Call }
     {
         are_values(&self.scopes, &self.cells, operands, scope)
     }
@@ -75,7 +75,7 @@ impl<P: Program> Ledger<P> {
     }
 
     // What a call of a site with these operands does.
-    pub(crate) fn scan(&self, operands: &[Operand], scope: usize) -> What
+    pub(crate) fn scan(&self, operands: &[Operand], scope: usize) -> Action
         ensures { result ≡ scan false Nothing (closed (its_env (code P.listing) self.now scope) operands.now) }
     {
         call_with(&self.scopes, &self.cells, operands, scope, false, None)
@@ -266,7 +266,7 @@ impl<P: Program> Ledger<P> {
         requires held { IsHeld self.old.slots slot token }
         requires form { standing (code P.listing) (its_env (code P.listing) self.old) token.standing ≡ param (Is value) }
         requires takes { taker (its_path (code P.listing) self.old token.step) ≡ aiding cell (its_path (code P.listing) self.old outer) }
-        requires side { HasStep self.old.steps (Aid cell) outer }
+        requires side { HasStep self.old.steps (PruneRight cell) outer }
         ensures done { IfOk result (λ m. Moves P.listing self.old slot token m cancelled.new.items self.new) }
         ensures refused { OnErr result (self.new ≡ self.old) }
         ensures why { IfErr result (λ fault. IsHindered P.listing self.old token fault) }
@@ -292,10 +292,12 @@ impl<P: Program> Ledger<P> {
     {
         match self.taker_of(token) {
             Taker::Whole => self.move_publish(slot, token, value),
-            Taker::Feed(name, right, scope, outer) => {
+            Taker::SeqLeft(name, right, scope, outer) => {
                 self.move_send(slot, token, value, name, right, scope, outer)
             }
-            Taker::Aid(cell, outer) => self.move_bind(slot, token, value, cell, outer, cancelled),
+            Taker::PruneRight(cell, outer) => self.move_bind(
+                slot, token, value, cell, outer, cancelled,
+            ),
         }
     }
 
@@ -344,8 +346,8 @@ impl<P: Program> Ledger<P> {
             return Ok(Moved::Calls);
         }
         match self.scan(operands, scope) {
-            What::Call => Ok(Moved::Calls),
-            What::Void => self.move_void(slot, token),
+            Action::Call => Ok(Moved::Calls),
+            Action::Void => self.move_void(slot, token),
             _ => Ok(Moved::Waits),
         }
     }

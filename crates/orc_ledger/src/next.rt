@@ -2,20 +2,20 @@
 
 ghost use Rattle.std.specs.Prelude.{◌≡◌, ◌≤◌, ◌↔◌, true, false, MatchOption};
 ghost use Rattle.orc_rules.specs.Nodes.{code, definitions};
-ghost use Rattle.orc_paths.specs.Doing.{is_wait};
+ghost use Rattle.orc_frames.specs.Doing.{is_wait};
 ghost use Rattle.orc_indexes.specs.Same.{only};
 ghost use Rattle.orc_tables.specs.Tokens.{is_live, IsHeld};
 ghost use Rattle.orc_tables.specs.declared.records.Group.{Group as Its};
-ghost use Rattle.orc_records.specs.Doing.{what_of};
-ghost use Rattle.orc_records.specs.Halting.{IsGroup};
-ghost use Rattle.orc_records.specs.Next.{numbers_of, ready, ready_one, empty_groups, open_empty, members, next_of};
-ghost use Rattle.orc_records.specs.Spoken.{spoken, IsRight};
+ghost use Rattle.orc_ledger_spec.specs.Doing.{what_of};
+ghost use Rattle.orc_ledger_spec.specs.Halting.{IsGroup};
+ghost use Rattle.orc_ledger_spec.specs.Next.{numbers_of, ready, ready_one, empty_groups, open_empty, members, next_of};
+ghost use Rattle.orc_ledger_spec.specs.Spoken.{spoken, IsRight};
 
 use crate::ledger::Ledger;
-use orc_chronicle::Program;
+use orc_frames::Action;
 use orc_graph::Graph;
-use orc_paths::What;
-use orc_records::Next;
+use orc_ledger_spec::Next;
+use orc_log::Program;
 use orc_tables::Token;
 
 impl<P: Program> Ledger<P> {
@@ -30,7 +30,7 @@ impl<P: Program> Ledger<P> {
             return false;
         }
         match self.what(graph, slot) {
-            What::Wait(_) => false,
+            Action::Wait(_) => false,
             _ => true,
         }
     }

@@ -3,18 +3,18 @@
 ghost use Rattle.std.specs.Prelude.{◌≡◌, ℕ, List, [], map, true, false, slice_index_or, IfOk, IfErr, OnErr};
 ghost use Rattle.orc_rules.specs.Nodes.{code, param_of};
 ghost use Rattle.orc_rules.specs.Term.{seq, site as calls};
-ghost use Rattle.orc_records.specs.Moves.{StandsAt, Moves, IsHindered};
-ghost use Rattle.orc_records.specs.Passing.{GoesOn, Passes};
-ghost use Rattle.orc_records.specs.Vacant.{IsVacant, Sheds};
-ghost use Rattle.orc_records.specs.declared.results.Moved.TheVariants.{Sent};
+ghost use Rattle.orc_ledger_spec.specs.Moves.{StandsAt, Moves, IsHindered};
+ghost use Rattle.orc_ledger_spec.specs.Passing.{GoesOn, Passes};
+ghost use Rattle.orc_ledger_spec.specs.Vacant.{IsVacant, Sheds};
+ghost use Rattle.orc_ledger_spec.specs.declared.results.Moved.TheVariants.{Sent};
 ghost use Rattle.orc_tables.specs.Tokens.{IsHeld};
 ghost use Rattle.orc_tables.specs.declared.records.Standing.TheVariants.{On};
 
 use crate::ledger::Ledger;
-use orc_chronicle::Program;
+use orc_frames::Taker;
 use orc_graph::{Graph, Node};
-use orc_paths::Taker;
-use orc_records::{Called, LedgerFault, Passed};
+use orc_ledger_spec::{Called, LedgerFault, Passed};
+use orc_log::Program;
 use orc_rules::answers::Answers;
 use orc_rules::value::{Args, Value};
 use orc_tables::{Standing, Token};
@@ -29,14 +29,14 @@ impl<P: Program> Ledger<P> {
         ensures not { result ≡ false → self.new ≡ self.old }
     {
         match self.taker_of(token) {
-            Taker::Feed(name, right, scope, outer) => {
+            Taker::SeqLeft(name, right, scope, outer) => {
                 match self.send(slot, token, value, name, right, scope, outer) {
                     Ok(()) => true,
                     Err(_) => false,
                 }
             }
             Taker::Whole => false,
-            Taker::Aid(_, _) => false,
+            Taker::PruneRight(_, _) => false,
         }
     }
 

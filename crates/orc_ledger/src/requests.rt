@@ -4,22 +4,22 @@ ghost use Rattle.std.specs.Prelude.{◌≡◌, ◌<◌, ◌++◌, ◌∷◌, [],
 ghost use Rattle.orc_rules.specs.Nodes.{code, definitions};
 ghost use Rattle.orc_rules.specs.declared.entry.Entry.TheVariants.{Call as Calls};
 ghost use Rattle.orc_calls.specs.Counting.{CountsCall};
-ghost use Rattle.orc_records.specs.Answers.{Pends};
-ghost use Rattle.orc_records.specs.Calls.{IsRefused};
-ghost use Rattle.orc_chronicle.specs.Chronicles.{chronicle_with};
+ghost use Rattle.orc_ledger_spec.specs.Answers.{Pends};
+ghost use Rattle.orc_ledger_spec.specs.Calls.{IsRefused};
+ghost use Rattle.orc_log.specs.Logs.{log_with};
 ghost use Rattle.orc_tables.specs.PendingCalls.{has_number};
-ghost use Rattle.orc_paths.specs.Doing.{IsCall};
-ghost use Rattle.orc_records.specs.Doing.{term_of, what_of};
-ghost use Rattle.orc_records.specs.Requests.{IsAsked, IsMade, IsNextCall};
+ghost use Rattle.orc_frames.specs.Doing.{IsCall};
+ghost use Rattle.orc_ledger_spec.specs.Doing.{term_of, what_of};
+ghost use Rattle.orc_ledger_spec.specs.Requests.{IsAsked, IsMade, IsNextCall};
 ghost use Rattle.orc_indexes.specs.Same.{weight};
 ghost use Rattle.orc_tables.specs.Tokens.{IsHeld};
 
 use crate::ledger::Ledger;
 use orc_calls::Counts;
-use orc_chronicle::{Chronicle, Program};
+use orc_frames::Action;
 use orc_graph::{Graph, Node};
-use orc_paths::What;
-use orc_records::{LedgerFault, Request};
+use orc_ledger_spec::{LedgerFault, Request};
+use orc_log::{Log, Program};
 use orc_rules::answers::Answers;
 use orc_rules::entry::Entry;
 use orc_rules::value::Args;
@@ -27,7 +27,7 @@ use orc_tables::{Call, Standing, Token};
 
 // Writes a call and counts it. Where memory is refused nothing changes.
 fn write_call<P: Program>(
-    journal: &mut Chronicle<P>,
+    journal: &mut Log<P>,
     counts: &mut Counts,
     answers: &Answers,
     token: u64,
@@ -36,7 +36,7 @@ fn write_call<P: Program>(
     args: &Args,
 ) -> Result<(), LedgerFault>
     requires answers { answers.now.sites ≡ P.sites }
-    ensures added { OnOk result (journal.new ≡ chronicle_with journal.old (Calls token call site args.now ∷ [])) }
+    ensures added { OnOk result (journal.new ≡ log_with journal.old (Calls token call site args.now ∷ [])) }
     ensures counted { OnOk result (CountsCall answers.now.sites site args.now counts.old counts.new) }
     ensures refused { OnErr result ((journal.new ≡ journal.old) × (counts.new ≡ counts.old)) }
     ensures why { IfErr result (λ fault. fault ≡ LedgerFault.Memory) }
@@ -59,7 +59,7 @@ impl<P: Program> Ledger<P> {
     // The site that a token calls. Its arguments are put into `args`.
     pub(crate) fn ask(&self, graph: &Graph, token: Token, args: &mut Args) -> u32
         requires graph { graph.now ≡ P.listing }
-        requires calls { what_of (code P.listing) (definitions P.listing) self.now token ≡ What.Call }
+        requires calls { what_of (code P.listing) (definitions P.listing) self.now token ≡ Action.Call }
         ensures { IsCall result args.new (term_of (code P.listing) self.now token) }
     {
         let Standing::At(node, scope) = token.standing else {
@@ -142,7 +142,7 @@ impl<P: Program> Ledger<P> {
         requires graph { graph.now ≡ P.listing }
         requires answers { answers.now.sites ≡ P.sites }
         requires held { IsHeld self.old.slots slot token }
-        requires calls { what_of (code P.listing) (definitions P.listing) self.old token ≡ What.Call }
+        requires calls { what_of (code P.listing) (definitions P.listing) self.old token ≡ Action.Call }
         ensures done { IfOk result (λ c. IsMade P.listing P.sites self.old token c self.new) }
         ensures args { IfOk result (λ _. (m : ℕ) × IsCall m args.new (term_of (code P.listing) self.old token)) }
         ensures refused { OnErr result (self.new ≡ self.old) }

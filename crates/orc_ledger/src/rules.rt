@@ -6,16 +6,16 @@ ghost use Rattle.orc_rules.specs.Term.{Halted};
 ghost use Rattle.orc_rules.specs.Marked.{erase};
 ghost use Rattle.orc_rules.specs.Timed.{IsQuiet};
 ghost use Rattle.orc_rules.specs.Journal.{Place, moment};
-ghost use Rattle.orc_records.specs.Records.{context};
-ghost use Rattle.orc_records.specs.Answers.{IsAt};
-ghost use Rattle.orc_records.specs.Doing.{what_of};
-ghost use Rattle.orc_records.specs.Next.{members, numbers_of};
-ghost use Rattle.orc_records.specs.Whole.{is_rule};
+ghost use Rattle.orc_ledger_spec.specs.Records.{context};
+ghost use Rattle.orc_ledger_spec.specs.Answers.{IsAt};
+ghost use Rattle.orc_ledger_spec.specs.Doing.{what_of};
+ghost use Rattle.orc_ledger_spec.specs.Next.{members, numbers_of};
+ghost use Rattle.orc_ledger_spec.specs.Whole.{is_rule};
 
 use crate::ledger::Ledger;
-use orc_chronicle::Program;
+use orc_frames::Action;
 use orc_graph::Graph;
-use orc_paths::What;
+use orc_log::Program;
 use orc_tables::Token;
 
 impl<P: Program> Ledger<P> {
@@ -29,14 +29,14 @@ impl<P: Program> Ledger<P> {
             return false;
         }
         match self.what(graph, token) {
-            What::Halt | What::Fork | What::Seq | What::Other | What::Wait(_) => false,
-            What::Prune
-            | What::Def
-            | What::Void
-            | What::Publish(_)
-            | What::Send(_)
-            | What::Bind(_, _)
-            | What::Call => true,
+            Action::Halt | Action::Fork | Action::Seq | Action::Other | Action::Wait(_) => false,
+            Action::Prune
+            | Action::Def
+            | Action::Void
+            | Action::Publish(_)
+            | Action::Send(_)
+            | Action::Bind(_, _)
+            | Action::Call => true,
         }
     }
 

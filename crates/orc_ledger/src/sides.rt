@@ -6,22 +6,22 @@ ghost use Rattle.orc_rules.specs.Term.{param};
 ghost use Rattle.orc_rules.specs.declared.param.Param.TheVariants.{Is};
 ghost use Rattle.orc_rules.specs.declared.entry.Entry.TheVariants.{Bind, Cancel, Lost};
 ghost use Rattle.orc_rules.specs.Timed.{IsIn};
-ghost use Rattle.orc_records.specs.Next.{members, numbers_of};
+ghost use Rattle.orc_ledger_spec.specs.Next.{members, numbers_of};
 ghost use Rattle.orc_tables.specs.declared.records.Side.TheVariants.{Left, Right};
 ghost use Rattle.orc_tables.specs.declared.records.Standing.TheVariants.{At};
 ghost use Rattle.orc_tables.specs.Tokens.{IsHeld};
-ghost use Rattle.orc_paths.specs.Spelling.{Path, aiding};
-ghost use Rattle.orc_paths.specs.Taking.{taker};
-ghost use Rattle.orc_records.specs.Records.{its_env, its_path, is_over};
-ghost use Rattle.orc_paths.specs.Paths.{standing, has_left};
+ghost use Rattle.orc_frames.specs.Spelling.{Path, aiding};
+ghost use Rattle.orc_frames.specs.Taking.{taker};
+ghost use Rattle.orc_ledger_spec.specs.Records.{its_env, its_path, is_over};
+ghost use Rattle.orc_frames.specs.Paths.{standing, has_left};
 ghost use Rattle.orc_tables.specs.Steps.{group_at};
-ghost use Rattle.orc_records.specs.Calls.{Drops, Closes, Resumes, AreCancelled, IsRefused};
-ghost use Rattle.orc_chronicle.specs.Chronicles.{chronicle_with};
+ghost use Rattle.orc_ledger_spec.specs.Calls.{Drops, Closes, Resumes, AreCancelled, IsRefused};
+ghost use Rattle.orc_log.specs.Logs.{log_with};
 
 use crate::ledger::{Ledger, write};
-use orc_chronicle::{Chronicle, Program};
-use orc_names::Bound;
-use orc_records::LedgerFault;
+use orc_env::Bound;
+use orc_ledger_spec::LedgerFault;
+use orc_log::{Log, Program};
 use orc_rules::entry::Entry;
 use orc_rules::value::Value;
 use orc_tables::{
@@ -40,13 +40,13 @@ fn settle(cells: &mut Vec<Bound>, cell: u64, bound: Bound)
 
 // Writes a bind and the cancels of these calls. Where memory is refused nothing changes.
 fn write_bind<P: Program>(
-    journal: &mut Chronicle<P>,
+    journal: &mut Log<P>,
     token: u64,
     cell: u64,
     value: Value,
     cancelled: &Vec<u64>,
 ) -> Result<(), LedgerFault>
-    ensures added { OnOk result (journal.new ≡ chronicle_with journal.old (Bind token cell value ∷ map Cancel cancelled.now.items)) }
+    ensures added { OnOk result (journal.new ≡ log_with journal.old (Bind token cell value ∷ map Cancel cancelled.now.items)) }
     ensures refused { OnErr result (journal.new ≡ journal.old) }
     ensures why { IfErr result (λ fault. fault ≡ LedgerFault.Memory) }
 {

@@ -6,11 +6,11 @@ ghost use Rattle.orc_rules.specs.declared.entry.Entry.TheVariants.{Tick};
 ghost use Rattle.orc_tables.specs.PendingCalls.{due_of, next_due};
 ghost use Rattle.orc_tables.specs.PendingCalls.{IsDueBeyond, IsLeastBeyond};
 ghost use Rattle.orc_tables.specs.declared.records.Call.{Call as Its};
-ghost use Rattle.orc_records.specs.Answers.{IsDueNow, MayTick, IsStopped, Pends};
+ghost use Rattle.orc_ledger_spec.specs.Answers.{IsDueNow, MayTick, IsStopped, Pends};
 
 use crate::ledger::{Ledger, write};
-use orc_chronicle::Program;
-use orc_records::LedgerFault;
+use orc_ledger_spec::LedgerFault;
+use orc_log::Program;
 use orc_rules::entry::Entry;
 use orc_rules::value::{Answer, Found};
 use orc_tables::Call;

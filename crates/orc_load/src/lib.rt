@@ -6,7 +6,7 @@
 #![tactic(auto)]
 
 mod fault;
-mod loading;
+mod loader;
 
 pub use fault::LoadFault;
-pub use loading::{Loaded, load};
+pub use loader::{Loaded, load};

@@ -12,7 +12,7 @@ use Rattle.orc_rules.specs.Trace.{published}
 use Rattle.orc_journal.specs.declared.journal.Version.TheVariants.{Two}
 use Rattle.orc_journal.specs.Sizes.{IsCrowded}
 use Rattle.orc_journal.specs.Written.{count}
-use Rattle.orc_lines.specs.Texts.{AreOf, journal_text}
+use Rattle.orc_journal_text.specs.Texts.{AreOf, journal_text}
 use Rattle.orc_outcome.specs.declared.end.End.{End}
 use Rattle.orc_outcome.specs.declared.end.End.TheVariants as ends
 use Rattle.orc_outcome.specs.declared.end.Summary.{Summary}

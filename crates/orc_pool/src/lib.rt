@@ -7,15 +7,15 @@
 //! That a thief finds nothing is no evidence that a queue is empty.
 #![tactic(auto)]
 
-mod hand;
 mod history;
 pub mod laws;
 mod own;
 mod queues;
 mod theft;
+mod worker_queue;
 
-pub use hand::{Hand, hands};
 pub use history::{Event, View};
 pub use own::Own;
 pub use queues::Queues;
 pub use theft::Theft;
+pub use worker_queue::{WorkerQueue, worker_queues};

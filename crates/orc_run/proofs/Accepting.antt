@@ -33,11 +33,11 @@ use Rattle.orc_site.specs.declared.script.ScriptFault.TheVariants as script
 use Rattle.orc_site.specs.Script.{Says, Rule, IsGood, AreRules, script_table, IsFault as IsScriptFault}
 use Rattle.orc_journal.specs.declared.journal.Version.{Version}
 use Rattle.orc_journal.specs.declared.journal.Version.TheVariants.{One, Two}
-use Rattle.orc_lines.specs.declared.text.JournalFault.{JournalFault}
-use Rattle.orc_lines.specs.declared.text.JournalFault.TheVariants as journal
+use Rattle.orc_journal_text.specs.declared.text.JournalFault.{JournalFault}
+use Rattle.orc_journal_text.specs.declared.text.JournalFault.TheVariants as journal
 use Rattle.orc_journal.specs.Written.{Written}
-use Rattle.orc_lines.specs.Texts.{header, entry_lines, AreOf, NoLine, IsJournal, IsFault as IsBadText}
-use Rattle.orc_lines.proofs.Stripping.{strip, whole_same}
+use Rattle.orc_journal_text.specs.Texts.{header, entry_lines, AreOf, NoLine, IsJournal, IsFault as IsBadText}
+use Rattle.orc_journal_text.proofs.Stripping.{strip, whole_same}
 use Rattle.orc_checker.specs.Checker.{context as context_of}
 use Rattle.orc_verdict.specs.Verdicts.{records_cancels}
 use Rattle.orc_load.specs.Loading.{IsProgramOf, SpellsTree}
@@ -47,9 +47,9 @@ use Rattle.orc_run.specs.Checked.{verdict_line, StandsSo, IsOfRun}
 use Rattle.orc_outcome.specs.declared.end.End.{End}
 use Rattle.orc_outcome.specs.declared.end.End.TheVariants as ends
 use Rattle.orc_outcome.specs.declared.end.Summary.{Summary}
-use Rattle.orc_words.specs.declared.job.Options.{Options}
-use Rattle.orc_words.specs.declared.job.Wanted.{Wanted}
-use Rattle.orc_words.specs.declared.job.Wanted.TheVariants as wanted
+use Rattle.orc_cli.specs.declared.job.Options.{Options}
+use Rattle.orc_cli.specs.declared.job.Wanted.{Wanted}
+use Rattle.orc_cli.specs.declared.job.Wanted.TheVariants as wanted
 
 -- ---- a source and a script are read in one way
 

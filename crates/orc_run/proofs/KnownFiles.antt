@@ -3,7 +3,7 @@ use Rattle.std.proofs.Common.{◌≡◌, ◌∙◌, ℕ, List, refl, sym, subst}
 use Rattle.std.specs.declared.option.Option.{Option}
 use Rattle.std.specs.declared.option.Option.TheVariants.{None, Some}
 use Rattle.std.specs.Io.KnownBytes.{Keeps}
-use Rattle.orc_lines.specs.Pieces.{MayCome}
+use Rattle.orc_journal_text.specs.Pieces.{MayCome}
 use Rattle.orc_run.specs.Inputs.{IsHeld, IsRead}
 
 -- no read changes a file

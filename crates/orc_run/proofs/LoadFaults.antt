@@ -9,18 +9,18 @@ use Rattle.orc_load.specs.Loading.{IsLoadFault, Loads}
 use Rattle.orc_load.specs.declared.fault.LoadFault.{LoadFault}
 use Rattle.orc_load.specs.declared.fault.LoadFault.TheVariants as load
 use Rattle.orc_run.specs.Running.{IsFaultOf, IsOther, LeavesAtFault, of_load}
-use Rattle.orc_lines.specs.Pieces.{MayCome}
-use Rattle.orc_lines.proofs.Coming.{some_may_come}
+use Rattle.orc_journal_text.specs.Pieces.{MayCome}
+use Rattle.orc_journal_text.proofs.Coming.{some_may_come}
 use Rattle.orc_run.specs.Checked.{IsBeyond, IsCheckFault, IsJudged, IsOfRun, IsRefusal, IsUnchecked, IsUnjudged, LeavesUnchecked, LeavesUnjudged}
-use Rattle.orc_run.specs.declared.judging.Unchecked.{Unchecked}
-use Rattle.orc_run.specs.declared.judging.Unchecked.TheVariants.{Fault, Unread}
+use Rattle.orc_run.specs.declared.judge.Unchecked.{Unchecked}
+use Rattle.orc_run.specs.declared.judge.Unchecked.TheVariants.{Fault, Unread}
 use Rattle.orc_run.specs.Drawn.{IsUndrawable, LeavesUndrawn}
-use Rattle.orc_run.specs.declared.drawing.Undrawn.{Undrawn}
-use Rattle.orc_run.specs.declared.drawing.Undrawn.TheVariants as undrawn
+use Rattle.orc_run.specs.declared.picture.Undrawn.{Undrawn}
+use Rattle.orc_run.specs.declared.picture.Undrawn.TheVariants as undrawn
 use Rattle.orc_outcome.specs.declared.end.Summary.{Summary}
 use Rattle.orc_run.specs.declared.faults.RunFault.{RunFault}
 use Rattle.orc_run.specs.declared.faults.RunFault.TheVariants as fault
-use Rattle.orc_words.specs.declared.job.Options.{Options}
+use Rattle.orc_cli.specs.declared.job.Options.{Options}
 use Rattle.orc_run.proofs.Accepting.{names_beyond, script_beyond, syntax_beyond}
 
 pub of_run : (source script : List ℕ) (f : LoadFault) → IsLoadFault source script f → IsFaultOf source script (of_load f)

@@ -10,36 +10,36 @@ use Rattle.orc_site.specs.declared.script.ScriptFault.{ScriptFault}
 use Rattle.orc_site.specs.declared.script.ScriptFault.TheVariants as script
 use Rattle.orc_rules.specs.declared.entry.RuleFault.{RuleFault}
 use Rattle.orc_rules.specs.declared.entry.RuleFault.TheVariants as reason
-use Rattle.orc_lines.specs.declared.text.JournalFault.{JournalFault}
-use Rattle.orc_lines.specs.declared.text.JournalFault.TheVariants as journal
+use Rattle.orc_journal_text.specs.declared.text.JournalFault.{JournalFault}
+use Rattle.orc_journal_text.specs.declared.text.JournalFault.TheVariants as journal
 use Rattle.orc_outcome.specs.Status.{end_status_of}
 use Rattle.orc_outcome.specs.declared.end.End.{End}
 use Rattle.orc_outcome.specs.declared.end.End.TheVariants as ends
 use Rattle.orc_run.specs.Commands.{HasEnded, IsDone, IsUnread, LeavesUndone, WasCut}
 use Rattle.orc_run.specs.Failures.{failure_status}
-use Rattle.orc_desk.specs.declared.fault.EngineFault.{EngineFault}
-use Rattle.orc_desk.specs.declared.fault.EngineFault.TheVariants as engine
+use Rattle.orc_scheduler.specs.declared.fault.EngineFault.{EngineFault}
+use Rattle.orc_scheduler.specs.declared.fault.EngineFault.TheVariants as engine
 use Rattle.orc_rules.specs.Faults.{reason_status}
 use Rattle.orc_syntax.specs.Faults.{syntax_status}
 use Rattle.orc_scope.specs.Faults.{scope_status}
 use Rattle.orc_site.specs.Faults.{script_status}
-use Rattle.orc_lines.specs.Faults.{journal_status}
-use Rattle.orc_desk.specs.Faults.{engine_status}
+use Rattle.orc_journal_text.specs.Faults.{journal_status}
+use Rattle.orc_scheduler.specs.Faults.{engine_status}
 use Rattle.orc_run.specs.Running.{LeavesAtFault}
 use Rattle.orc_run.specs.Status.{read_status_of}
 use Rattle.orc_run.specs.Checked.{LeavesUnchecked, LeavesUnjudged}
-use Rattle.orc_run.specs.declared.judging.Unchecked.TheVariants.{Fault}
+use Rattle.orc_run.specs.declared.judge.Unchecked.TheVariants.{Fault}
 use Rattle.orc_run.specs.Drawn.{LeavesUndrawn}
 use Rattle.orc_run.specs.Printed.{LeavesUnprinted}
 use Rattle.orc_run.specs.Surveyed.{LeavesUnsurveyed}
-use Rattle.orc_words.specs.declared.job.Options.{Options}
-use Rattle.orc_words.specs.declared.job.Job.{Job}
-use Rattle.orc_words.specs.declared.job.Job.TheVariants as job
+use Rattle.orc_cli.specs.declared.job.Options.{Options}
+use Rattle.orc_cli.specs.declared.job.Job.{Job}
+use Rattle.orc_cli.specs.declared.job.Job.TheVariants as job
 use Rattle.orc_run.specs.declared.inputs.ReadFault.{ReadFault}
 use Rattle.orc_run.specs.declared.inputs.ReadFault.TheVariants as read
 use Rattle.orc_run.specs.declared.failures.Failure.{Failure}
 use Rattle.orc_run.specs.declared.failures.Failure.TheVariants as failure
-use Rattle.orc_run.specs.declared.drawing.Undrawn.TheVariants as undrawn
+use Rattle.orc_run.specs.declared.picture.Undrawn.TheVariants as undrawn
 use Rattle.orc_run.specs.declared.faults.RunFault.{RunFault}
 use Rattle.orc_run.specs.declared.faults.RunFault.TheVariants as fault
 

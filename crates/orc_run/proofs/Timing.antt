@@ -8,8 +8,8 @@ use Rattle.orc_rules.specs.declared.entry.Entry.TheVariants.{End, Fork, Seq, Oth
 use Rattle.orc_rules.specs.Digits.{Gives}
 use Rattle.orc_rules.specs.Text.{word, fields, line, Fits}
 use Rattle.orc_journal.specs.declared.journal.Version.TheVariants.{Two}
-use Rattle.orc_lines.specs.Texts.{AreOf, entry_lines}
-use Rattle.orc_lines.proofs.Codes.{same_some}
+use Rattle.orc_journal_text.specs.Texts.{AreOf, entry_lines}
+use Rattle.orc_journal_text.proofs.Codes.{same_some}
 use Rattle.orc_run.specs.Times.{timed, timed_line}
 
 -- the lines of these entries are left, and what they publish from this time on is left to tell

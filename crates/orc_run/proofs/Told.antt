@@ -9,8 +9,8 @@ use Rattle.orc_load.specs.Loading.{IsProgramOf}
 use Rattle.orc_outcome.specs.Outcome.{IsPlayed}
 use Rattle.orc_outcome.specs.declared.end.Summary.{Summary}
 use Rattle.orc_run.specs.Running.{IsTold, Shows, written}
-use Rattle.orc_words.specs.Wanted.{keeps_journal}
-use Rattle.orc_words.specs.declared.job.Options.{Options}
+use Rattle.orc_cli.specs.Wanted.{keeps_journal}
+use Rattle.orc_cli.specs.declared.job.Options.{Options}
 
 module _ (l : Listing) (t : Table) (options : Options) (s : Summary) (values : List Value) (text : List ℕ) (played : IsPlayed l t (keeps_journal options.wanted) options.limit s values text) where
   -- what is written of its journal is told of it

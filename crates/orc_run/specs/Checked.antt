@@ -13,9 +13,9 @@ use Rattle.orc_syntax.specs.declared.fault.SyntaxFault.TheVariants as syntax
 use Rattle.orc_scope.specs.declared.fault.FaultKind.TheVariants as scope
 use Rattle.orc_site.specs.declared.script.ScriptFault.TheVariants as script
 use Rattle.orc_site.specs.Script.{Says}
-use Rattle.orc_lines.specs.declared.text.JournalFault.TheVariants as journal
+use Rattle.orc_journal_text.specs.declared.text.JournalFault.TheVariants as journal
 use Rattle.orc_journal.specs.Written.{Written}
-use Rattle.orc_lines.specs.Texts.{IsJournal, IsFault as IsBadText}
+use Rattle.orc_journal_text.specs.Texts.{IsJournal, IsFault as IsBadText}
 use Rattle.orc_checker.specs.Checker.{context}
 use Rattle.orc_verdict.specs.Verdicts.{records_cancels, IsCutShort}
 use Rattle.orc_load.specs.Loading.{IsProgramOf}
@@ -24,11 +24,11 @@ use Rattle.orc_run.specs.Running.{IsUnloaded, Runs}
 use Rattle.orc_outcome.specs.declared.end.End.{End}
 use Rattle.orc_outcome.specs.declared.end.End.TheVariants as ends
 use Rattle.orc_outcome.specs.declared.end.Summary.{Summary}
-use Rattle.orc_words.specs.declared.job.Options.{Options}
-use Rattle.orc_words.specs.declared.job.Wanted.TheVariants as wanted
+use Rattle.orc_cli.specs.declared.job.Options.{Options}
+use Rattle.orc_cli.specs.declared.job.Wanted.TheVariants as wanted
 use Rattle.orc_run.specs.declared.faults.RunFault.{RunFault}
-use Rattle.orc_run.specs.declared.judging.Unchecked.{Unchecked}
-use Rattle.orc_run.specs.declared.judging.Unchecked.TheVariants as unchecked
+use Rattle.orc_run.specs.declared.judge.Unchecked.{Unchecked}
+use Rattle.orc_run.specs.declared.judge.Unchecked.TheVariants as unchecked
 use Rattle.orc_run.specs.declared.faults.RunFault.TheVariants as fault
 
 -- the line of a yes: how many entries there are, and where the run stands

@@ -12,12 +12,12 @@ use Rattle.orc_run.specs.Inputs.{IsHeld, IsRead}
 use Rattle.orc_run.specs.Printed.{Prints}
 use Rattle.orc_run.specs.Running.{Ran}
 use Rattle.orc_run.specs.Surveyed.{HasSurveyed}
-use Rattle.orc_words.specs.declared.job.Job.{Job}
-use Rattle.orc_words.specs.declared.job.Job.TheVariants as job
+use Rattle.orc_cli.specs.declared.job.Job.{Job}
+use Rattle.orc_cli.specs.declared.job.Job.TheVariants as job
 use Rattle.orc_run.specs.declared.failures.Failure.{Failure}
 use Rattle.orc_run.specs.declared.failures.Failure.TheVariants as failure
 use Rattle.orc_run.specs.declared.faults.RunFault.TheVariants as fault
-use Rattle.orc_words.specs.declared.job.Options.{Options}
+use Rattle.orc_cli.specs.declared.job.Options.{Options}
 
 -- what was written is the whole text of a run of the file's program with the script's sites, and the status says how it ended; `holds` says what is known of the files
 abbrev pub HasRun : (List ℕ → Option (List ℕ)) → List ℕ → Option (List ℕ) → Options → Option (List ℕ) → Option (List ℕ) → ℕ → Type 0

@@ -6,8 +6,8 @@ use Rattle.orc_rules.specs.declared.entry.State.{State}
 use Rattle.orc_journal.specs.Written.{Written}
 use Rattle.orc_run.specs.Checked.{IsCheckFault, IsJudged}
 use Rattle.orc_run.specs.Output.{AppendsPrefix}
-use Rattle.orc_run.specs.declared.drawing.Undrawn.{Undrawn}
-use Rattle.orc_run.specs.declared.drawing.Undrawn.TheVariants as undrawn
+use Rattle.orc_run.specs.declared.picture.Undrawn.{Undrawn}
+use Rattle.orc_run.specs.declared.picture.Undrawn.TheVariants as undrawn
 use Rattle.orc_run.specs.declared.faults.RunFault.TheVariants as fault
 
 -- the check accepts the journal

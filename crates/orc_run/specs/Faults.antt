@@ -4,9 +4,9 @@ use Rattle.orc_rules.specs.Faults.{reason_status}
 use Rattle.orc_syntax.specs.Faults.{syntax_line, syntax_status}
 use Rattle.orc_scope.specs.Faults.{scope_line, scope_status}
 use Rattle.orc_site.specs.Faults.{script_line, script_status}
-use Rattle.orc_lines.specs.Faults.{journal_line, journal_status}
+use Rattle.orc_journal_text.specs.Faults.{journal_line, journal_status}
 use Rattle.orc_verdict.specs.Faults.{check_line}
-use Rattle.orc_desk.specs.Faults.{engine_line, engine_status}
+use Rattle.orc_scheduler.specs.Faults.{engine_line, engine_status}
 use Rattle.orc_run.specs.declared.faults.RunFault.{RunFault}
 use Rattle.orc_run.specs.declared.faults.RunFault.TheVariants as fault
 

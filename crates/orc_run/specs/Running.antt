@@ -9,20 +9,20 @@ use Rattle.orc_rules.specs.Trace.{published}
 use Rattle.orc_rules.specs.declared.entry.Entry.{Entry}
 use Rattle.orc_rules.specs.declared.value.Value.{Value}
 use Rattle.orc_journal.specs.declared.journal.Version.TheVariants.{Two}
-use Rattle.orc_lines.specs.Texts.{AreOf}
+use Rattle.orc_journal_text.specs.Texts.{AreOf}
 use Rattle.orc_site.specs.Script.{Says}
 use Rattle.orc_load.specs.Loading.{IsProgramOf, Loads, IsLoadFault}
 use Rattle.orc_load.specs.declared.fault.LoadFault.{LoadFault}
 use Rattle.orc_load.specs.declared.fault.LoadFault.TheVariants as load
 use Rattle.orc_outcome.specs.Outcome.{Outcome, IsRun, Tells, text_of}
 use Rattle.orc_outcome.specs.declared.end.Summary.{Summary}
-use Rattle.orc_desk.specs.Faults.{IsOwn}
+use Rattle.orc_scheduler.specs.Faults.{IsOwn}
 use Rattle.orc_run.specs.Output.{AppendsPrefix}
 use Rattle.orc_run.specs.Times.{IsTextOf, timed}
-use Rattle.orc_words.specs.Wanted.{keeps_journal}
-use Rattle.orc_words.specs.declared.job.Options.{Options}
-use Rattle.orc_words.specs.declared.job.Wanted.{Wanted}
-use Rattle.orc_words.specs.declared.job.Wanted.TheVariants as wanted
+use Rattle.orc_cli.specs.Wanted.{keeps_journal}
+use Rattle.orc_cli.specs.declared.job.Options.{Options}
+use Rattle.orc_cli.specs.declared.job.Wanted.{Wanted}
+use Rattle.orc_cli.specs.declared.job.Wanted.TheVariants as wanted
 use Rattle.orc_run.specs.declared.faults.RunFault.{RunFault}
 use Rattle.orc_run.specs.declared.faults.RunFault.TheVariants as fault
 

@@ -6,9 +6,9 @@ use Rattle.orc_rules.specs.Sites.{Table}
 use Rattle.orc_rules.specs.Nodes.{Listing}
 use Rattle.orc_site.specs.Script.{Says}
 use Rattle.orc_load.specs.Loading.{IsProgramOf}
-use Rattle.orc_survey.specs.Lines.{lines}
-use Rattle.orc_survey.specs.Survey.{IsSurvey}
-use Rattle.orc_survey.specs.declared.seen.Seen.{Seen}
+use Rattle.orc_orders.specs.Lines.{lines}
+use Rattle.orc_orders.specs.Survey.{IsSurvey}
+use Rattle.orc_orders.specs.declared.seen.Seen.{Seen}
 use Rattle.orc_run.specs.Output.{AppendsPrefix}
 use Rattle.orc_run.specs.declared.faults.RunFault.{RunFault}
 use Rattle.orc_run.specs.declared.faults.RunFault.TheVariants as fault

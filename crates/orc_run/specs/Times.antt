@@ -5,7 +5,7 @@ use Rattle.orc_rules.specs.declared.value.Value.{Value}
 use Rattle.orc_rules.specs.declared.entry.Entry.{Entry}
 use Rattle.orc_rules.specs.declared.entry.Entry.TheVariants.{Publish, Tick}
 use Rattle.orc_journal.specs.declared.journal.Version.TheVariants.{Two}
-use Rattle.orc_lines.specs.Texts.{AreOf}
+use Rattle.orc_journal_text.specs.Texts.{AreOf}
 use Rattle.orc_outcome.specs.Outcome.{text_of}
 
 -- the line of a value that is published at this time

@@ -6,7 +6,7 @@ ghost use Rattle.orc_run.specs.Running.{of_load};
 
 use crate::output::WriteFault;
 use orc_engine::EngineFault;
-use orc_lines::JournalFault;
+use orc_journal_text::JournalFault;
 use orc_load::LoadFault;
 use orc_scope::ScopeFault;
 use orc_site::ScriptFault;

@@ -7,8 +7,8 @@ ghost use Rattle.std.specs.Io.KnownBytes.{Keeps};
 ghost use Rattle.orc_run.specs.Inputs.{IsHeld};
 ghost use Rattle.orc_run.specs.Status.{read_status_of};
 
-use orc_explain::Unread;
-use orc_words::STANDARD_INPUT;
+use orc_cli::STANDARD_INPUT;
+use orc_explain_fault::Unread;
 use std::io::Read;
 
 /// What a file is called where something is told of it.

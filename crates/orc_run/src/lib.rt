@@ -2,31 +2,31 @@
 #![tactic(auto)]
 
 mod commands;
-mod drawing;
-mod ending;
 mod explained;
 mod failures;
 mod faults;
 mod inputs;
-mod judging;
+mod judge;
+mod outcomes;
 mod output;
-mod printing;
+mod picture;
+mod printer;
 mod publications;
-mod running;
-mod surveying;
+mod run_end;
+mod runner;
 mod times;
 
 pub use commands::command;
-pub use drawing::{Undrawn, draw_text};
 pub use explained::Explained;
 pub use failures::{Failure, report};
 pub use faults::RunFault;
 pub use inputs::{Files, ReadFault};
-pub use judging::{Unchecked, check_read, check_text};
-pub use orc_explain::Unread;
+pub use judge::{Unchecked, check_read, check_text};
+pub use orc_cli::{Options, STANDARD_INPUT, SurveyOptions, Wanted};
+pub use orc_explain_fault::Unread;
 pub use orc_outcome::{End, Summary};
-pub use orc_words::{Options, STANDARD_INPUT, SurveyOptions, Wanted};
+pub use outcomes::survey_text;
 pub use output::{WriteFault, write_text};
-pub use printing::print_text;
-pub use running::run_text;
-pub use surveying::survey_text;
+pub use picture::{Undrawn, draw_text};
+pub use printer::print_text;
+pub use runner::run_text;

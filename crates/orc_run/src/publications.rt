@@ -6,7 +6,7 @@ ghost use Rattle.orc_rules.specs.Text.{output};
 ghost use Rattle.orc_run.specs.Output.{AppendsPrefix};
 
 use crate::output::{WriteFault, write_text};
-use orc_lines::write_publication;
+use orc_journal_text::write_publication;
 use orc_rules::value::Value;
 use std::alloc::{AllocError, Global};
 use std::io::Write;

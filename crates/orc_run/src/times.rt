@@ -7,7 +7,7 @@ ghost use Rattle.orc_run.specs.Output.{AppendsPrefix};
 ghost use Rattle.orc_run.specs.Times.{IsTextOf, timed, timed_line};
 
 use crate::output::{WriteFault, write_text};
-use orc_lines::{read_entry, write_value};
+use orc_journal_text::{read_entry, write_value};
 use orc_rules::answers::Answers;
 use orc_rules::entry::Entry;
 use orc_rules::value::Value;

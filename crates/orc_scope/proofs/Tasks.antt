@@ -2,7 +2,7 @@
 use Rattle.std.proofs.Common.{◌≡◌, ℕ, List, [], ◌∷◌, ◌++◌, length, take, reverse, Option, Some, refl, sym, ap, subst, ◌∙◌, arith}
 use Rattle.std.proofs.lemmas.List.{reverse-append, length-append, take-append-le}
 use Rattle.std.proofs.Math.Seq.{take-length}
-use Rattle.orc_scope.specs.declared.looking.Task.{Task as CodeTask}
+use Rattle.orc_scope.specs.declared.finder.Task.{Task as CodeTask}
 use Rattle.orc_scope.specs.Scope.{bound}
 use Rattle.orc_scope.specs.Looking.{Task, task, tasks_of, Fits, bind_of}
 

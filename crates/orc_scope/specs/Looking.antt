@@ -5,9 +5,9 @@ use Rattle.orc_syntax.specs.declared.tree.Definition.{Definition}
 use Rattle.orc_syntax.specs.Ast.{text_of}
 use Rattle.orc_lex.specs.declared.token.Plain.TheVariants as plains
 use Rattle.orc_scope.specs.declared.fault.ScopeFault.{ScopeFault}
-use Rattle.orc_scope.specs.declared.looking.Task.{Task as CodeTask}
+use Rattle.orc_scope.specs.declared.finder.Task.{Task as CodeTask}
 use Rattle.orc_scope.specs.declared.known.Known.{Known as CodeKnown}
-use Rattle.orc_scope.specs.declared.looking.Looking.{Looking}
+use Rattle.orc_scope.specs.declared.finder.Looking.{Looking}
 use Rattle.orc_syntax.specs.Tree.{Seq, Par, Prune, Other, Sort, leaf, variable, call, operation, val, Item}
 use Rattle.orc_scope.specs.Scope.{Known, meaning, name_faults, call_faults, number_faults, bound, text_if}
 

@@ -2,7 +2,7 @@
 use Rattle.std.specs.Prelude.{◌≡◌, ◌<◌, ℕ, List, [], ◌∷◌, ◌++◌, length, map, reverse, Option, Some, None}
 use Rattle.orc_scope.specs.declared.nodes.Piece.{Piece}
 use Rattle.orc_scope.specs.declared.nodes.Piece.TheVariants as pieces
-use Rattle.orc_scope.specs.declared.writing.Writing.{Writing}
+use Rattle.orc_scope.specs.declared.writer.Writing.{Writing}
 use Rattle.orc_rules.specs.Nodes.{param_of}
 use Rattle.orc_rules.specs.Term.{Term, param}
 use Rattle.orc_scope.specs.Listed.{terms, term_at}

@@ -8,8 +8,8 @@ ghost use Rattle.orc_scope.specs.Looking.{known_of, bind_of};
 ghost use Rattle.orc_scope.specs.Program.{repeated as repeated_of, text, name_of, parameter_faults, definition_faults, definitions_faults, faults_with, bound_names as names_bound, sort_names, variables as variables_of, size_of_define, sizes, sizes_of};
 
 use crate::fault::{FaultKind, ScopeFault, lesser};
+use crate::finder::{Looking, number_fault, one};
 use crate::known::Known;
-use crate::looking::{Looking, number_fault, one};
 use crate::names::Names;
 use orc_syntax::{Ast, Definition, Name, Node, Operator, Part, Span};
 use std::alloc::{AllocError, Global};

@@ -9,18 +9,18 @@
 //! stack doesn't.
 #![tactic(auto)]
 
-mod checking;
+mod checker;
 mod definitions;
 pub mod fault;
+mod finder;
 mod known;
 pub mod laws;
-mod looking;
 mod names;
 mod nodes;
 mod numbers;
-mod writing;
+mod writer;
 
-pub use checking::check;
+pub use checker::check;
 pub use definitions::variables;
 pub use fault::{FaultKind, ScopeFault};
 pub use names::Names;

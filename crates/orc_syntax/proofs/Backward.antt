@@ -5,9 +5,9 @@ use Rattle.orc_syntax.specs.Tree.{Link, Seq, Par, Prune, Other, Tree, Leaf, Vari
 use Rattle.orc_syntax.specs.Printing.{sign, bracketed, text, arguments, others, definition}
 use Rattle.orc_syntax.specs.Grammar.{level, left_level, right_level}
 use Rattle.orc_syntax.specs.Backward.{Task, visit, say, more, given, opening, closing, signs, operated, valued, parts, says, visits, entered, back, task, waiting, said, piece_text}
-use Rattle.orc_syntax.specs.declared.printing.Task as code
-use Rattle.orc_syntax.specs.declared.printing.Task.TheVariants as tasks
-use Rattle.orc_syntax.specs.declared.printing.Piece.{Piece}
+use Rattle.orc_syntax.specs.declared.printer.Task as code
+use Rattle.orc_syntax.specs.declared.printer.Task.TheVariants as tasks
+use Rattle.orc_syntax.specs.declared.printer.Piece.{Piece}
 use Rattle.orc_syntax.specs.declared.tree.Node.{Node}
 use Rattle.orc_syntax.specs.declared.tree.Definition.{Definition}
 use Rattle.orc_syntax.specs.Ast.{label, IsExpr, IsDefinition, AreDefinitions, item as node_item}

@@ -1,10 +1,10 @@
 -- Printing from the end: the nodes of a tree from the last to the first.
 use Rattle.std.specs.Prelude.{ℕ, zero, suc, List, [], ◌∷◌, ◌++◌, Bool, true, false, nat_lt, Option, Some, None, codes, map, reverse}
 use Rattle.std.specs.Fmt.{signed_decimal}
-use Rattle.orc_syntax.specs.declared.printing.Task as code
-use Rattle.orc_syntax.specs.declared.printing.Task.TheVariants as tasks
-use Rattle.orc_syntax.specs.declared.printing.Piece.{Piece}
-use Rattle.orc_syntax.specs.declared.printing.Piece.TheVariants as pieces
+use Rattle.orc_syntax.specs.declared.printer.Task as code
+use Rattle.orc_syntax.specs.declared.printer.Task.TheVariants as tasks
+use Rattle.orc_syntax.specs.declared.printer.Piece.{Piece}
+use Rattle.orc_syntax.specs.declared.printer.Piece.TheVariants as pieces
 use Rattle.orc_syntax.specs.Tree.{Link, Seq, Par, Prune, Other, Sort, leaf, variable, call, operation, val, Item}
 use Rattle.orc_syntax.specs.Printing.{plain_text}
 use Rattle.orc_syntax.specs.Grammar.{level, left_level, right_level}

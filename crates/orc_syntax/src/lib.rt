@@ -9,13 +9,13 @@
 
 mod depth;
 pub mod fault;
-mod printing;
+mod printer;
 mod reader;
 mod source;
 pub mod tree;
 
 pub use fault::SyntaxFault;
 pub use orc_lex::token::{Plain, Span, What};
-pub use printing::{print, printed_again};
+pub use printer::{print, printed_again};
 pub use source::{one_source, only_limits, parse, parts_inside};
 pub use tree::{Ast, Definition, Expr, Name, Node, Operator, Part};

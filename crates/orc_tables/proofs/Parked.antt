@@ -6,7 +6,7 @@ use Rattle.orc_rules.specs.Timed.{IsIn}
 use Rattle.orc_indexes.specs.Same.{weight}
 use Rattle.orc_indexes.specs.Parking.{Parked, is_set, notes_at, one, IsNoted}
 use Rattle.orc_tables.specs.Tokens.{Slots, live, is_live, IsHeld, AreHeld, IsParked, StayParked, StayBut}
-use Rattle.orc_indexes.specs.declared.parking.Note.{Note}
+use Rattle.orc_indexes.specs.declared.wait_index.Note.{Note}
 use Rattle.orc_tables.specs.declared.records.Token.{Token}
 use Rattle.orc_indexes.proofs.Lists.{set-elsewhere}
 use Rattle.orc_indexes.proofs.Flags.{was-set}

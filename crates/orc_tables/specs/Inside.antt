@@ -1,7 +1,7 @@
 -- What stands inside the right side of a cell, by the steps alone.
 use Rattle.std.specs.Prelude.{ℕ, zero, suc, List, Bool, false, nat_eq, ◌||◌, Option, Some, [], ◌∷◌, cond, ◌&&◌, None}
-use Rattle.orc_tables.specs.declared.records.Entered.{Entered}
-use Rattle.orc_tables.specs.declared.records.Entered.TheVariants.{Feed, Aid, Try}
+use Rattle.orc_tables.specs.declared.records.Frame.{Frame}
+use Rattle.orc_tables.specs.declared.records.Frame.TheVariants.{SeqLeft, PruneRight, OtherwiseLeft}
 use Rattle.orc_tables.specs.declared.records.Step.{Step}
 use Rattle.orc_tables.specs.Tokens.{is_live}
 use Rattle.orc_tables.specs.declared.records.Token.{Token}
@@ -10,10 +10,10 @@ use Rattle.orc_tables.specs.declared.records.Side.{Side}
 use Rattle.orc_tables.specs.declared.records.Side.TheVariants.{Right, Left}
 use Rattle.orc_tables.specs.Steps.{step_at}
 
-abbrev pub aids : ℕ → Entered → Bool
-aids c (Feed x g scope) = false
-aids c (Aid d) = nat_eq c d
-aids c (Try n) = false
+abbrev pub aids : ℕ → Frame → Bool
+aids c (SeqLeft x g scope) = false
+aids c (PruneRight d) = nat_eq c d
+aids c (OtherwiseLeft n) = false
 
 module _ (c : ℕ) (ss : List Step) where
   abbrev pub is_on : (ℕ → Bool) → Option Step → Bool

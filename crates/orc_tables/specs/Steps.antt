@@ -1,7 +1,7 @@
 -- Steps inwards: the group and the depth of a token that took one last, what takes its publications, and which otherwises these leave.
 use Rattle.std.specs.Prelude.{◌≡◌, ◌≤◌, ◌<◌, ℕ, zero, suc, List, Bool, true, false, cond, Option, Some, None, slice_get, slice_set, length}
-use Rattle.orc_tables.specs.declared.records.Entered.{Entered}
-use Rattle.orc_tables.specs.declared.records.Entered.TheVariants.{Feed, Aid, Try}
+use Rattle.orc_tables.specs.declared.records.Frame.{Frame}
+use Rattle.orc_tables.specs.declared.records.Frame.TheVariants.{SeqLeft, PruneRight, OtherwiseLeft}
 use Rattle.orc_tables.specs.declared.records.Step.{Step}
 
 -- what callers see of a table of steps: the steps, and room for so many more
@@ -41,10 +41,10 @@ abbrev pub AreOutwards : List Step → Type 0
 AreOutwards steps = (k : ℕ) (p : Step) → slice_get steps k ≡ Some p → p.outer ≤ k
 
 -- ---- what takes a publication
-abbrev pub is_try : Entered → Bool
-is_try (Feed x g scope) = false
-is_try (Aid c) = false
-is_try (Try n) = true
+abbrev pub is_try : Frame → Bool
+is_try (SeqLeft x g scope) = false
+is_try (PruneRight c) = false
+is_try (OtherwiseLeft n) = true
 
 abbrev pub past_try : (ℕ → ℕ) → ℕ → Option Step → ℕ
 past_try outwards i None = i

@@ -3,17 +3,17 @@
 #![tactic(auto)]
 
 mod crowd;
+mod exits;
 mod groups;
-mod leaving;
 mod pending;
 mod records;
 mod steps;
 mod tokens;
 
 pub use crowd::Crowd;
+pub use exits::{leave_calls, leave_groups, leave_tokens, list_side, side_group, take_out};
 pub use groups::Groups;
-pub use leaving::{leave_calls, leave_groups, leave_tokens, list_side, side_group, take_out};
 pub use pending::Pending;
-pub use records::{Call, Entered, Group, Side, Standing, Step, Token};
+pub use records::{Call, Frame, Group, Side, Standing, Step, Token};
 pub use steps::Steps;
 pub use tokens::Tokens;

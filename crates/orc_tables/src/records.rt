@@ -32,16 +32,16 @@ pub struct Call {
 /// What a step enters: the left side of a `>x>` with its name, the node of its right side and its scope; the right side of a cell; the
 /// left side of an otherwise.
 #[derive(Clone, Copy)]
-pub enum Entered {
-    Feed(u32, u32, usize),
-    Aid(u64),
-    Try(u64),
+pub enum Frame {
+    SeqLeft(u32, u32, usize),
+    PruneRight(u64),
+    OtherwiseLeft(u64),
 }
 
 /// One step inwards from another one.
 #[derive(Clone, Copy)]
 pub struct Step {
-    pub entered: Entered,
+    pub entered: Frame,
     pub outer: usize,
     /// The number of the group in which a token at this step stands; the program's own is 0.
     pub group: u32,

@@ -6,7 +6,7 @@ ghost use Rattle.orc_tables.specs.Steps.{step_at, group_at, depth_at, taker_at, 
 ghost use Rattle.orc_tables.specs.Inside.{aids, stands_inside, side_inside};
 ghost use Rattle.orc_tables.specs.declared.records.Step.{Step as Its};
 
-use crate::records::{Entered, Side, Step};
+use crate::records::{Frame, Side, Step};
 use orc_indexes::{push_within, reserve};
 use std::alloc::{AllocError, Global};
 use std::marker::Model;
@@ -31,20 +31,20 @@ impl Model for Steps {
     ghost invariant = { λ s. AreLinked s.items.items s.takers.items };
 }
 
-fn is_try(entered: Entered) -> bool
+fn is_try(entered: Frame) -> bool
     ensures { result ≡ tries entered }
 {
     match entered {
-        Entered::Try(_) => true,
+        Frame::OtherwiseLeft(_) => true,
         _ => false,
     }
 }
 
-fn is_aid(entered: Entered, cell: u64) -> bool
+fn is_aid(entered: Frame, cell: u64) -> bool
     ensures { result ≡ aids cell entered }
 {
     match entered {
-        Entered::Aid(other) => cell == other,
+        Frame::PruneRight(other) => cell == other,
         _ => false,
     }
 }

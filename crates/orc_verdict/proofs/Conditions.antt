@@ -17,23 +17,23 @@ use Rattle.orc_rules.specs.Refusal.{Stands, HasToken, HasCall, HasCell, HasOther
 use Rattle.orc_rules.proofs.Numbered.{once_same, times_part}
 use Rattle.orc_rules.proofs.Idle.{halted_test, test_halted}
 use Rattle.orc_rules.proofs.Standing.{cell_one, other_one, token_no_other}
-use Rattle.orc_nodes.specs.declared.arena.Node.{Node}
-use Rattle.orc_nodes.specs.declared.arena.Kind.{Kind}
-use Rattle.orc_nodes.specs.declared.arena.Kind.TheVariants.{Leaf, One, Two}
-use Rattle.orc_nodes.specs.declared.arena.Tip.{Tip}
-use Rattle.orc_nodes.specs.declared.arena.Tip.TheVariants.{Gone, Ended, Token, Bears, Waits}
-use Rattle.orc_nodes.specs.declared.arena.Single.TheVariants.{Feeds, Entered, Passed}
-use Rattle.orc_nodes.specs.declared.arena.Double.TheVariants.{Both, Side}
-use Rattle.orc_nodes.specs.declared.walk.Taker.{Taker}
-use Rattle.orc_nodes.specs.Arena.{Frame, Tree, living_kind, of_tip, spelled}
-use Rattle.orc_names.specs.Scopes.{Env, close, env_of}
-use Rattle.orc_nodes.specs.Rising.{takes, act_of, Stands as StandsAt}
-use Rattle.orc_nodes.specs.Settling.{flag}
+use Rattle.orc_term.specs.declared.arena.Node.{Node}
+use Rattle.orc_term.specs.declared.arena.Kind.{Kind}
+use Rattle.orc_term.specs.declared.arena.Kind.TheVariants.{Leaf, One, Two}
+use Rattle.orc_term.specs.declared.arena.Tip.{Tip}
+use Rattle.orc_term.specs.declared.arena.Tip.TheVariants.{Gone, Ended, Token, Bears, Waits}
+use Rattle.orc_term.specs.declared.arena.Single.TheVariants.{Feeds, Entered, Passed}
+use Rattle.orc_term.specs.declared.arena.Double.TheVariants.{Both, Side}
+use Rattle.orc_term.specs.declared.walk.Taker.{Taker}
+use Rattle.orc_term.specs.Arena.{Frame, Tree, living_kind, of_tip, spelled}
+use Rattle.orc_env.specs.Scopes.{Env, close, env_of}
+use Rattle.orc_term.specs.Rising.{takes, act_of, Stands as StandsAt}
+use Rattle.orc_term.specs.Settling.{flag}
 use Rattle.orc_checker.specs.Checker.{State, Spells}
-use Rattle.orc_verdict.specs.declared.finding.Name.{Name}
-use Rattle.orc_verdict.specs.declared.finding.Name.TheVariants.{Mark, Call, Cell}
-use Rattle.orc_verdict.specs.declared.finding.Part.{Part}
-use Rattle.orc_verdict.specs.declared.standing.Standing.{Standing}
+use Rattle.orc_verdict.specs.declared.finder.Name.{Name}
+use Rattle.orc_verdict.specs.declared.finder.Name.TheVariants.{Mark, Call, Cell}
+use Rattle.orc_verdict.specs.declared.finder.Part.{Part}
+use Rattle.orc_verdict.specs.declared.position.Standing.{Standing}
 use Rattle.orc_verdict.specs.Finding.{name_at, Has, HasNone, is_leaf, is_one}
 use Rattle.orc_verdict.specs.Standing.{under, summary, mark_of, args_of, fits_as}
 use Rattle.orc_verdict.specs.Reasons.{right_flag, left_flag, IsRightOver, IsLeftOver}

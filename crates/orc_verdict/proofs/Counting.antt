@@ -9,7 +9,7 @@ use Rattle.orc_rules.specs.Timed.{Context}
 use Rattle.orc_rules.specs.Journal.{Place, next}
 use Rattle.orc_rules.specs.Refusal.{IsCounted}
 use Rattle.orc_rules.specs.Term.{Term}
-use Rattle.orc_names.specs.declared.names.Bound.{Bound}
+use Rattle.orc_env.specs.declared.names.Bound.{Bound}
 use Rattle.orc_checker.specs.Checker.{State, Spells, AreCells, numbers}
 use Rattle.orc_checker.proofs.CallsMade.{kept_length}
 use Rattle.orc_verdict.specs.Reasons.{counted_as}

@@ -20,11 +20,11 @@ use Rattle.orc_rules.specs.Timed.{Context}
 use Rattle.orc_rules.specs.Journal.{Place, IsVoid}
 use Rattle.orc_rules.specs.Refusal.{Stands, HasToken, Fits}
 use Rattle.orc_rules.proofs.Standing.{token_one, emits_token, act_one}
-use Rattle.orc_nodes.specs.declared.walk.Taker.{Taker}
-use Rattle.orc_nodes.specs.declared.walk.Taker.TheVariants.{Whole, Fed, Bound}
-use Rattle.orc_nodes.specs.Rising.{act_of}
-use Rattle.orc_names.proofs.Scopes.{values-more}
-use Rattle.orc_verdict.specs.declared.standing.Standing.TheVariants.{Nothing, On}
+use Rattle.orc_term.specs.declared.walk.Taker.{Taker}
+use Rattle.orc_term.specs.declared.walk.Taker.TheVariants.{Whole, Fed, Bound}
+use Rattle.orc_term.specs.Rising.{act_of}
+use Rattle.orc_env.proofs.Scopes.{values-more}
+use Rattle.orc_verdict.specs.declared.position.Standing.TheVariants.{Nothing, On}
 use Rattle.orc_verdict.specs.Standing.{are_these, summary, mark_of, args_of, is_sent, is_bound, is_whole, is_value, is_void, is_call, is_stop, is_par, is_seq, is_prune, is_other, is_known, fits_as}
 
 -- two values that are the same

@@ -9,3 +9,5 @@ pub mod Levels
 pub mod Nesting
 pub mod Parts
 pub mod Reading
+pub mod Sides
+mod Taken

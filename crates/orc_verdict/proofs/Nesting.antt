@@ -5,21 +5,21 @@ use Rattle.orc_rules.specs.Marked.{erase}
 use Rattle.orc_rules.specs.Refusal.{depth}
 use Rattle.orc_rules.specs.Timed.{Context}
 use Rattle.orc_rules.specs.Journal.{Place}
-use Rattle.orc_nodes.specs.declared.arena.Node.{Node}
-use Rattle.orc_nodes.specs.declared.arena.Kind.{Kind}
-use Rattle.orc_nodes.specs.declared.arena.Kind.TheVariants.{Leaf, One, Two}
-use Rattle.orc_nodes.specs.declared.arena.Tip.TheVariants.{Gone, Ended, Token, Bears, Waits}
-use Rattle.orc_nodes.specs.declared.arena.Single.TheVariants.{Feeds, Entered, Passed}
-use Rattle.orc_nodes.specs.declared.arena.Double.TheVariants.{Both, Side}
-use Rattle.orc_nodes.specs.Arena.{Tree, leaf, one, two, place, Holds, spelled}
-use Rattle.orc_names.specs.Scopes.{Env, given, close, without, env_of}
+use Rattle.orc_term.specs.declared.arena.Node.{Node}
+use Rattle.orc_term.specs.declared.arena.Kind.{Kind}
+use Rattle.orc_term.specs.declared.arena.Kind.TheVariants.{Leaf, One, Two}
+use Rattle.orc_term.specs.declared.arena.Tip.TheVariants.{Gone, Ended, Token, Bears, Waits}
+use Rattle.orc_term.specs.declared.arena.Single.TheVariants.{Feeds, Entered, Passed}
+use Rattle.orc_term.specs.declared.arena.Double.TheVariants.{Both, Side}
+use Rattle.orc_term.specs.Arena.{Tree, leaf, one, two, place, Holds, spelled}
+use Rattle.orc_env.specs.Scopes.{Env, given, close, without, env_of}
 use Rattle.orc_checker.specs.Checker.{State, Spells}
-use Rattle.orc_nodes.specs.Dropping.{parts_of}
-use Rattle.orc_nodes.specs.Settling.{kind_at}
+use Rattle.orc_term.specs.Dropping.{parts_of}
+use Rattle.orc_term.specs.Settling.{kind_at}
 use Rattle.orc_checker.proofs.Moving.{kind_of}
 use Rattle.orc_rules.specs.Term.{put}
 use Rattle.orc_verdict.specs.Depth.{own_levels, step_down, with_levels}
-use Rattle.orc_nodes.specs.Ranks.{levels_below, AreLevelsAtMost}
+use Rattle.orc_term.specs.Ranks.{levels_below, AreLevelsAtMost}
 use Rattle.orc_verdict.specs.Heights.{height, AreHeights, AreAtMost}
 use Rattle.orc_verdict.proofs.Deepening.{put_depth}
 

@@ -4,18 +4,18 @@ use Rattle.std.specs.Prelude.{slice_get}
 use Rattle.orc_rules.specs.Term.{Term}
 use Rattle.orc_rules.specs.Marked.{Marked}
 use Rattle.orc_rules.specs.Numbered.{mark, cell, once, times}
-use Rattle.orc_nodes.specs.declared.arena.Node.{Node}
-use Rattle.orc_nodes.specs.declared.arena.Kind.TheVariants.{Leaf, One, Two}
-use Rattle.orc_nodes.specs.declared.arena.Tip.{Tip}
-use Rattle.orc_nodes.specs.declared.arena.Tip.TheVariants.{Gone, Ended, Token, Bears, Waits}
-use Rattle.orc_nodes.specs.declared.arena.Single.TheVariants.{Feeds, Entered, Passed}
-use Rattle.orc_nodes.specs.declared.arena.Double.TheVariants.{Both, Side}
-use Rattle.orc_nodes.specs.Arena.{Tree, leaf, one, two, place, Holds, of_tip, spelled}
-use Rattle.orc_names.specs.Scopes.{Env, env_of}
+use Rattle.orc_term.specs.declared.arena.Node.{Node}
+use Rattle.orc_term.specs.declared.arena.Kind.TheVariants.{Leaf, One, Two}
+use Rattle.orc_term.specs.declared.arena.Tip.{Tip}
+use Rattle.orc_term.specs.declared.arena.Tip.TheVariants.{Gone, Ended, Token, Bears, Waits}
+use Rattle.orc_term.specs.declared.arena.Single.TheVariants.{Feeds, Entered, Passed}
+use Rattle.orc_term.specs.declared.arena.Double.TheVariants.{Both, Side}
+use Rattle.orc_term.specs.Arena.{Tree, leaf, one, two, place, Holds, of_tip, spelled}
+use Rattle.orc_env.specs.Scopes.{Env, env_of}
 use Rattle.orc_checker.specs.Checker.{State, Draws}
-use Rattle.orc_nodes.proofs.Trees.{missed}
-use Rattle.orc_verdict.specs.declared.finding.Name.{Name}
-use Rattle.orc_verdict.specs.declared.finding.Name.TheVariants.{Mark, Call, Cell}
+use Rattle.orc_term.proofs.Trees.{missed}
+use Rattle.orc_verdict.specs.declared.finder.Name.{Name}
+use Rattle.orc_verdict.specs.declared.finder.Name.TheVariants.{Mark, Call, Cell}
 use Rattle.orc_verdict.specs.Finding.{name_at, named, HasNone, LacksAt}
 
 module _ (code : ℕ → Term) (s : State) (m : Marked) (d : Draws code s m) where

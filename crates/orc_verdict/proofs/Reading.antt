@@ -3,11 +3,11 @@ use Rattle.std.proofs.Common.{List, ℕ, ◌++◌, Option}
 use Rattle.std.specs.Io.KnownBytes.{Consumes}
 use Rattle.orc_rules.specs.Nodes.{Listing}
 use Rattle.orc_rules.specs.Sites.{Table}
-use Rattle.orc_lines.specs.declared.lines.LinesFault.{LinesFault}
-use Rattle.orc_lines.specs.declared.lines.LinesFault.TheVariants.{Text, Unread}
-use Rattle.orc_lines.specs.Lines.{IsLinesFault}
-use Rattle.orc_lines.specs.Pieces.{MayCome}
-use Rattle.orc_lines.proofs.Coming.{may_come, some_may_come}
+use Rattle.orc_journal_text.specs.declared.lines.LinesFault.{LinesFault}
+use Rattle.orc_journal_text.specs.declared.lines.LinesFault.TheVariants.{Text, Unread}
+use Rattle.orc_journal_text.specs.Lines.{IsLinesFault}
+use Rattle.orc_journal_text.specs.Pieces.{MayCome}
+use Rattle.orc_journal_text.proofs.Coming.{may_come, some_may_come}
 use Rattle.orc_verdict.specs.declared.lines.TextFault.{TextFault}
 use Rattle.orc_verdict.specs.Lines.{IsTextFault, text_fault_of}
 

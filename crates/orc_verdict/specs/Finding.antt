@@ -1,16 +1,16 @@
 -- The nodes that have a name.
 use Rattle.std.specs.Prelude.{◌≡◌, ℕ, List, Bool, true, false, Option, Some, None, slice_get}
 use Rattle.orc_rules.specs.Numbered.{Name as RuleName, mark, call, cell}
-use Rattle.orc_nodes.specs.declared.arena.Node.{Node}
-use Rattle.orc_nodes.specs.declared.arena.Kind.{Kind}
-use Rattle.orc_nodes.specs.declared.arena.Kind.TheVariants.{Leaf, One, Two}
-use Rattle.orc_nodes.specs.declared.arena.Tip.TheVariants.{Token, Bears, Waits}
-use Rattle.orc_nodes.specs.declared.arena.Single.TheVariants.{Entered}
-use Rattle.orc_nodes.specs.declared.arena.Double.TheVariants.{Side}
-use Rattle.orc_nodes.specs.Arena.{at}
-use Rattle.orc_verdict.specs.declared.finding.Name.{Name}
-use Rattle.orc_verdict.specs.declared.finding.Name.TheVariants.{Mark, Call, Cell}
-use Rattle.orc_verdict.specs.declared.finding.Part.{Part}
+use Rattle.orc_term.specs.declared.arena.Node.{Node}
+use Rattle.orc_term.specs.declared.arena.Kind.{Kind}
+use Rattle.orc_term.specs.declared.arena.Kind.TheVariants.{Leaf, One, Two}
+use Rattle.orc_term.specs.declared.arena.Tip.TheVariants.{Token, Bears, Waits}
+use Rattle.orc_term.specs.declared.arena.Single.TheVariants.{Entered}
+use Rattle.orc_term.specs.declared.arena.Double.TheVariants.{Side}
+use Rattle.orc_term.specs.Arena.{at}
+use Rattle.orc_verdict.specs.declared.finder.Name.{Name}
+use Rattle.orc_verdict.specs.declared.finder.Name.TheVariants.{Mark, Call, Cell}
+use Rattle.orc_verdict.specs.declared.finder.Part.{Part}
 
 -- the name that a node shows
 abbrev pub name_at : Kind → Option Name

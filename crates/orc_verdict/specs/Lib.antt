@@ -8,3 +8,5 @@ pub mod Standing
 pub mod Verdicts
 pub mod Faults
 pub mod Applying
+pub mod Allowed
+pub mod Numbers

@@ -6,10 +6,10 @@ use Rattle.orc_rules.specs.Nodes.{Listing, source}
 use Rattle.orc_rules.specs.Sites.{Table}
 use Rattle.orc_rules.specs.Verdict.{IsFault}
 use Rattle.orc_journal.specs.declared.journal.Version.{Version}
-use Rattle.orc_lines.specs.declared.lines.LinesFault.{LinesFault}
-use Rattle.orc_lines.specs.declared.lines.LinesFault.TheVariants as lines_fault
+use Rattle.orc_journal_text.specs.declared.lines.LinesFault.{LinesFault}
+use Rattle.orc_journal_text.specs.declared.lines.LinesFault.TheVariants as lines_fault
 use Rattle.orc_journal.specs.Written.{Written}
-use Rattle.orc_lines.specs.Texts.{IsJournal, IsFault as IsBadText}
+use Rattle.orc_journal_text.specs.Texts.{IsJournal, IsFault as IsBadText}
 use Rattle.orc_checker.specs.Checker.{context}
 use Rattle.orc_verdict.specs.declared.verdict.CheckFault.{CheckFault}
 use Rattle.orc_verdict.specs.declared.lines.TextFault.{TextFault}

@@ -15,9 +15,9 @@ use Rattle.orc_rules.specs.Journal.{Place}
 use Rattle.orc_rules.specs.Refusal.{Stands, HasToken, HasCall, HasCell, HasOther, Meets, IsRefused}
 use Rattle.orc_rules.specs.Term.{Term, Halted}
 use Rattle.orc_rules.specs.Marked.{Marked, in_opened, in_other, erase}
-use Rattle.orc_nodes.specs.declared.arena.Kind.{Kind}
-use Rattle.orc_nodes.specs.declared.arena.Kind.TheVariants.{One, Two}
-use Rattle.orc_nodes.specs.Settling.{flag}
+use Rattle.orc_term.specs.declared.arena.Kind.{Kind}
+use Rattle.orc_term.specs.declared.arena.Kind.TheVariants.{One, Two}
+use Rattle.orc_term.specs.Settling.{flag}
 use Rattle.orc_checker.specs.Checker.{State, Spells, context, IsReached}
 use Rattle.orc_verdict.specs.declared.reasons.Asked.{Asked}
 use Rattle.orc_verdict.specs.declared.reasons.Asked.TheVariants.{Token, Call, Cell, TokenAndCell, Otherwise, Nothing}

@@ -8,14 +8,14 @@ use Rattle.orc_rules.specs.declared.entry.Entry.TheVariants as entry
 use Rattle.orc_rules.specs.Term.{Term, Definition, stop, param, site, call, par, seq, prune, other, pending, opened}
 use Rattle.orc_rules.specs.Sites.{value_eq}
 use Rattle.orc_rules.specs.Idle.{has_void}
-use Rattle.orc_nodes.specs.declared.arena.Kind.{Kind}
-use Rattle.orc_nodes.specs.declared.arena.Kind.TheVariants.{Leaf}
-use Rattle.orc_nodes.specs.declared.arena.Tip.TheVariants.{Token, Bears}
-use Rattle.orc_nodes.specs.declared.walk.Taker.{Taker}
-use Rattle.orc_nodes.specs.declared.walk.Taker.TheVariants.{Whole, Fed, Bound}
-use Rattle.orc_names.specs.Scopes.{Env, close}
-use Rattle.orc_verdict.specs.declared.standing.Standing.{Standing}
-use Rattle.orc_verdict.specs.declared.standing.Standing.TheVariants.{Nothing, Stop, On, Site, Call, Par, Seq, Prune, Other}
+use Rattle.orc_term.specs.declared.arena.Kind.{Kind}
+use Rattle.orc_term.specs.declared.arena.Kind.TheVariants.{Leaf}
+use Rattle.orc_term.specs.declared.arena.Tip.TheVariants.{Token, Bears}
+use Rattle.orc_term.specs.declared.walk.Taker.{Taker}
+use Rattle.orc_term.specs.declared.walk.Taker.TheVariants.{Whole, Fed, Bound}
+use Rattle.orc_env.specs.Scopes.{Env, close}
+use Rattle.orc_verdict.specs.declared.position.Standing.{Standing}
+use Rattle.orc_verdict.specs.declared.position.Standing.TheVariants.{Nothing, Stop, On, Site, Call, Par, Seq, Prune, Other}
 
 -- whether a parameter is this value
 abbrev pub is_this : Param → Value → Bool

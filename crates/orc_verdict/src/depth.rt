@@ -7,16 +7,16 @@ ghost use Rattle.orc_rules.specs.Nodes.{Listing, code};
 ghost use Rattle.orc_rules.specs.Refusal.{depth};
 ghost use Rattle.orc_rules.specs.Timed.{Context};
 ghost use Rattle.orc_checker.specs.Checker.{Spells};
-ghost use Rattle.orc_nodes.specs.Dropping.{parts_of};
-ghost use Rattle.orc_nodes.specs.Settling.{kind_at};
+ghost use Rattle.orc_term.specs.Dropping.{parts_of};
+ghost use Rattle.orc_term.specs.Settling.{kind_at};
 ghost use Rattle.orc_verdict.specs.Depth.{own_levels, step_down, with_levels, IsAllowed};
 ghost use Rattle.orc_verdict.specs.Heights.{AreHeights, AreAtMost};
 
 use crate::heights::Heights;
 use orc_checker::Marked;
-use orc_nodes::arena::{Kind, Single, Tip};
-use orc_nodes::slot::Slot;
 use orc_rules::limits::MOST_LEVELS;
+use orc_term::arena::{Kind, Single, Tip};
+use orc_term::slot::Slot;
 use std::alloc::{AllocError, Global};
 
 // A node's kind, gone where there is none.

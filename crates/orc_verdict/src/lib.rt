@@ -1,21 +1,27 @@
 //! The verdict on a whole journal; why an entry is refused, exactly, and how deep a marked term nests.
 #![tactic(auto)]
 
-mod applying;
+mod allowed;
+mod application;
 mod depth;
 mod due;
-mod finding;
+mod finder;
 mod heights;
 mod lines;
+mod moves;
+mod numbers;
+mod position;
 mod reasons;
-mod standing;
 mod ticks;
 mod verdict;
 
-pub use applying::apply;
+pub use allowed::{Allowed, entry_of};
+pub use application::apply;
 pub use depth::depth_of;
 pub use heights::Heights;
 pub use lines::{Checked, TextFault, check_lines};
+pub use moves::{return_entry, side_entry, token_entry};
+pub use numbers::{Numbers, numbers_of};
+pub use position::mark_named;
 pub use reasons::first_reason;
-pub use standing::mark_named;
 pub use verdict::{CheckFault, Verdict, check_journal};

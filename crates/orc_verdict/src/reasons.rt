@@ -7,16 +7,16 @@ ghost use Rattle.orc_rules.specs.declared.entry.RuleFault.TheVariants as reason;
 ghost use Rattle.orc_verdict.specs.Reasons.{asked_by, counted_as, cancel_of, answer_of, tick_of, right_flag, left_flag, IsRightOver, IsLeftOver, Says, Tests, RefusedFor, MeetsAll};
 
 use crate::due::{is_answer, is_due};
-use crate::finding::{Name, find, is_leaf, is_one};
-use crate::standing::{args_named, fits_standing, mark_named, standing_of};
+use crate::finder::{Name, find, is_leaf, is_one};
+use crate::position::{args_named, fits_standing, mark_named, standing_of};
 use crate::ticks::can_tick;
 use orc_checker::Marked;
-use orc_nodes::arena::Kind;
 use orc_rules::answers::Answers;
 use orc_rules::entry::{Entry, RuleFault};
 use orc_rules::laws::journal_is_numbered;
 use orc_rules::program::Program;
 use orc_rules::value::Answer;
+use orc_term::arena::Kind;
 
 /// What an entry asks to be there.
 #[derive(Clone, Copy)]

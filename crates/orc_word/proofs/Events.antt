@@ -18,7 +18,7 @@ use Rattle.orc_word.specs.Ties.{core_bit, word_at, as_pass, core_of, with_openin
 use Rattle.orc_word.proofs.Numbers.{more_count, more_bit, less_count, less_bit, bit_small, set_count, set_bit}
 use Rattle.orc_word.proofs.Keeps.{room, names_own}
 use Rattle.orc_word.proofs.Lists.{item-le}
-use Rattle.orc_counts.specs.Machine as machine
+use Rattle.orc_word.specs.Machine as machine
 
 idle_stance : (v : Stance) → w.IsIdle v → as_pass v ≡ machine.idle
 idle_stance (Supplies k) i = absurd i

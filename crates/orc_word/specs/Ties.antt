@@ -9,7 +9,7 @@ use Rattle.orc_word.specs.declared.bits.Bits.{Bits}
 use Rattle.orc_word.specs.declared.bits.Bit.{Bit}
 use Rattle.orc_word.specs.declared.bits.Bit.TheVariants.{Published, Killed}
 use Rattle.orc_word.specs.Words as w
-use Rattle.orc_counts.specs.Machine as machine
+use Rattle.orc_word.specs.Machine as machine
 
 abbrev pub core_bit : Bit → machine.Bit
 core_bit Published = machine.published

@@ -1,16 +1,16 @@
 use Rattle.std.proofs.Common.{refl, ◌+◌, ◌∷◌, ◌++◌, [], ◌∙◌, ap, sym, subst, length, arith, length-append, get_or}
-use Rattle.orc_nodes.specs.declared.arena.Node.{Node}
-use Rattle.orc_nodes.specs.declared.arena.Kind.TheVariants.{Leaf, Two}
-use Rattle.orc_nodes.specs.declared.arena.Double.TheVariants.{Both}
-use Rattle.orc_nodes.specs.Hints.{IsBeside, lifted}
-use Rattle.orc_nodes.proofs.Trees.{node}
-use Rattle.orc_nodes.proofs.Hints.{length_lifted}
-use Rattle.orc_nodes.specs.Rising.{nowhere}
-use Rattle.orc_nodes.specs.Sides.{is_side}
-use Rattle.orc_nodes.proofs.KeptSides.{sides_on, sides_more, sides_lifted}
+use Rattle.orc_term.specs.declared.arena.Node.{Node}
+use Rattle.orc_term.specs.declared.arena.Kind.TheVariants.{Leaf, Two}
+use Rattle.orc_term.specs.declared.arena.Double.TheVariants.{Both}
+use Rattle.orc_term.specs.Hints.{IsBeside, lifted}
+use Rattle.orc_term.proofs.Trees.{node}
+use Rattle.orc_term.proofs.Hints.{length_lifted}
+use Rattle.orc_term.specs.Rising.{nowhere}
+use Rattle.orc_term.specs.Sides.{is_side}
+use Rattle.orc_term.proofs.KeptSides.{sides_on, sides_more, sides_lifted}
 use Rattle.orc_checker.proofs.Moving.{kind_of}
 use Rattle.orc_checker.proofs.Noting.{wait_on, wait_more, wait_lifted}
-use Rattle.orc_nodes.proofs.Feeding.{beside_there, grafts}
+use Rattle.orc_term.proofs.Feeding.{beside_there, grafts}
 use Rattle.orc_checker.proofs.Indexed.{names_lifted, names_more, names_on}
 use Rattle.orc_checker.proofs.feed.graft.Goals as goal
 

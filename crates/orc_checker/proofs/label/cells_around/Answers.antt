@@ -1,6 +1,6 @@
 use Rattle.std.proofs.Common.{◌++◌, ◌∙◌, ap, sym, subst, get_or}
-use Rattle.orc_nodes.specs.declared.arena.Node.{Node}
-use Rattle.orc_nodes.specs.Rising.{nowhere}
+use Rattle.orc_term.specs.declared.arena.Node.{Node}
+use Rattle.orc_term.specs.Rising.{nowhere}
 use Rattle.orc_checker.specs.Labelling.{cell_above, AreAround}
 use Rattle.orc_checker.proofs.Labelling.{Collects, collects_none, collects_on, collects_all}
 use Rattle.orc_checker.proofs.label.cells_around.Goals as goal

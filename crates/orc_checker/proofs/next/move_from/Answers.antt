@@ -5,10 +5,10 @@ use Rattle.orc_rules.specs.Idle.{can_move, is_ready}
 use Rattle.orc_rules.specs.Journal.{IsVoid}
 use Rattle.orc_rules.specs.Nodes.{code, definitions, unfold_node, param_of}
 use Rattle.orc_rules.specs.Term.{Term, Definition, param, site}
-use Rattle.orc_names.specs.Names.{Means}
-use Rattle.orc_names.specs.Scopes.{close, close_param, env_of}
-use Rattle.orc_names.proofs.Closing.{close-stop, close-par, close-seq, close-prune, close-other}
-use Rattle.orc_names.proofs.Scopes.{close-of-param, close-site, close-call}
+use Rattle.orc_env.specs.Names.{Means}
+use Rattle.orc_env.specs.Scopes.{close, close_param, env_of}
+use Rattle.orc_env.proofs.Closing.{close-stop, close-par, close-seq, close-prune, close-other}
+use Rattle.orc_env.proofs.Scopes.{close-of-param, close-site, close-call}
 use Rattle.orc_checker.specs.Offers.{Allows, IsAsking}
 use Rattle.orc_checker.specs.Stillness.{params_in}
 use Rattle.orc_checker.proofs.next.move_from.Goals as goal

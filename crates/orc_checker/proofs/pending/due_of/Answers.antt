@@ -4,7 +4,7 @@ use Rattle.orc_checker.specs.declared.rest.Called.{Called}
 use Rattle.orc_checker.specs.NextDue.{IsTime, IsDueOf}
 use Rattle.orc_calls.specs.Due.{due_by}
 use Rattle.orc_calls.proofs.Times.{is_due}
-use Rattle.orc_nodes.proofs.Hints.{some_or}
+use Rattle.orc_term.proofs.Hints.{some_or}
 use Rattle.orc_checker.proofs.pending.due_of.Goals as goal
 
 time_never : (c : Called) (o : Option ℕ) → o ≡ due_by c.at c.found → IfNone o ((t : ℕ) → IsTime c t → ⊥)

@@ -1,8 +1,8 @@
 use Rattle.std.proofs.Common.{◌≡◌, ap, sym, ◌∙◌}
-use Rattle.orc_nodes.specs.declared.arena.Node.{Node}
-use Rattle.orc_nodes.specs.declared.arena.Kind.TheVariants.{Leaf}
-use Rattle.orc_nodes.specs.declared.arena.Tip.TheVariants.{Waits}
-use Rattle.orc_nodes.specs.Settling.{kind_at}
+use Rattle.orc_term.specs.declared.arena.Node.{Node}
+use Rattle.orc_term.specs.declared.arena.Kind.TheVariants.{Leaf}
+use Rattle.orc_term.specs.declared.arena.Tip.TheVariants.{Waits}
+use Rattle.orc_term.specs.Settling.{kind_at}
 use Rattle.orc_checker.proofs.Earliest.{waits_never}
 use Rattle.orc_checker.proofs.pending.waits_until.Goals as goal
 

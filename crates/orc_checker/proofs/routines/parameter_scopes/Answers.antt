@@ -2,9 +2,9 @@ use Rattle.std.proofs.Common.{◌≡◌, ◌-◌, ◌+◌, ◌<◌, suc, ap, sym
 use Rattle.std.specs.Prelude.{drop}
 use Rattle.std.proofs.Math.Seq.{drop-length}
 use Rattle.orc_rules.specs.declared.param.Operand.TheVariants.{Name}
-use Rattle.orc_names.specs.declared.names.Scope.{Scope}
-use Rattle.orc_names.specs.Parameters.{Adds}
-use Rattle.orc_names.proofs.Parameters.{adds-none, adds-drop}
+use Rattle.orc_env.specs.declared.names.Scope.{Scope}
+use Rattle.orc_env.specs.Parameters.{Adds}
+use Rattle.orc_env.proofs.Parameters.{adds-none, adds-drop}
 use Rattle.orc_checker.proofs.routines.parameter_scopes.Goals as goal
 
 pub loop-left-init : goal.loop-left-init

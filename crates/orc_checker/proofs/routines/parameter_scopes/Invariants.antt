@@ -1,5 +1,5 @@
 use Rattle.std.specs.Prelude.{◌≡◌, ◌≤◌, length, drop}
-use Rattle.orc_names.specs.Parameters.{Adds}
+use Rattle.orc_env.specs.Parameters.{Adds}
 use Rattle.orc_checker.proofs.routines.parameter_scopes.Given as goal
 
 abbrev pub invariant-loop-left : goal.invariant-loop-left

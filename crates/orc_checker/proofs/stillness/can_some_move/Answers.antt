@@ -1,11 +1,11 @@
 use Rattle.std.proofs.Common.{◌≡◌, ◌<◌, ◌∙◌, ap, sym, subst, get_or, arith, ⊎_elim}
 use Rattle.std.proofs.lemmas.List.{get_or_read}
 use Rattle.orc_rules.specs.Nodes.{code, definitions}
-use Rattle.orc_nodes.specs.declared.arena.Node.{Node}
-use Rattle.orc_nodes.specs.Halting.{AreHalts}
-use Rattle.orc_nodes.specs.Settling.{kind_at}
+use Rattle.orc_term.specs.declared.arena.Node.{Node}
+use Rattle.orc_term.specs.Halting.{AreHalts}
+use Rattle.orc_term.specs.Settling.{kind_at}
 use Rattle.orc_checker.specs.Stillness.{token_moves}
-use Rattle.orc_nodes.proofs.Hints.{next_or}
+use Rattle.orc_term.proofs.Hints.{next_or}
 use Rattle.orc_checker.proofs.Listing.{none_moves}
 use Rattle.orc_checker.proofs.stillness.can_some_move.Goals as goal
 

@@ -1,8 +1,8 @@
 use Rattle.std.proofs.Common.{◌≡◌, ◌<◌, ℕ, get_or, false}
 use Rattle.orc_rules.specs.Nodes.{code, definitions}
-use Rattle.orc_nodes.specs.Halting.{AreHalts}
-use Rattle.orc_names.specs.Names.{AreOrdered}
-use Rattle.orc_nodes.specs.Settling.{kind_at}
+use Rattle.orc_term.specs.Halting.{AreHalts}
+use Rattle.orc_env.specs.Names.{AreOrdered}
+use Rattle.orc_term.specs.Settling.{kind_at}
 use Rattle.orc_checker.specs.Stillness.{token_moves}
 use Rattle.orc_checker.proofs.stillness.can_some_move.Given as goal
 

@@ -2,9 +2,9 @@ use Rattle.std.proofs.Common.{◌≤◌, ◌∙◌, length, map, ap, sym, subst,
 use Rattle.orc_rules.specs.Idle.{can_move}
 use Rattle.orc_rules.specs.Nodes.{code, definitions, param_of, unfold_node}
 use Rattle.orc_rules.specs.Term.{site}
-use Rattle.orc_names.specs.Scopes.{close, env_of}
+use Rattle.orc_env.specs.Scopes.{close, env_of}
 use Rattle.orc_checker.specs.Stillness.{term_moves, Wakes}
-use Rattle.orc_names.proofs.Scopes.{close-of-param, close-site}
+use Rattle.orc_env.proofs.Scopes.{close-of-param, close-site}
 use Rattle.orc_checker.proofs.Waking.{looks_first, none_active}
 use Rattle.orc_checker.proofs.stillness.can_term_move.Goals as goal
 

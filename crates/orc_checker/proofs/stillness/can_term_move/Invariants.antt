@@ -1,7 +1,7 @@
 use Rattle.std.proofs.Common.{◌≡◌, length}
 use Rattle.orc_rules.specs.Nodes.{code, definitions}
-use Rattle.orc_nodes.specs.Halting.{AreHalts}
-use Rattle.orc_names.specs.Names.{AreOrdered}
+use Rattle.orc_term.specs.Halting.{AreHalts}
+use Rattle.orc_env.specs.Names.{AreOrdered}
 use Rattle.orc_checker.specs.Stillness.{term_moves}
 use Rattle.orc_checker.proofs.Waking.{AreCleared, Looks}
 use Rattle.orc_checker.proofs.stillness.can_term_move.Given as goal

@@ -3,11 +3,11 @@ use Rattle.std.specs.Prelude.{◌||◌, is_some}
 use Rattle.orc_rules.specs.Idle.{can_move}
 use Rattle.orc_rules.specs.Nodes.{code, unfold_node, param_of, HasParts, definitions}
 use Rattle.orc_rules.specs.Term.{site}
-use Rattle.orc_names.specs.Scopes.{close, env_of}
+use Rattle.orc_env.specs.Scopes.{close, env_of}
 use Rattle.orc_checker.specs.Stillness.{term_moves}
-use Rattle.orc_names.proofs.Closing.{close-stop, close-par, close-seq, close-other, close-prune}
-use Rattle.orc_names.proofs.Scopes.{close-of-param, close-site, close-call}
-use Rattle.orc_nodes.proofs.Settling.{close_halted}
+use Rattle.orc_env.proofs.Closing.{close-stop, close-par, close-seq, close-other, close-prune}
+use Rattle.orc_env.proofs.Scopes.{close-of-param, close-site, close-call}
+use Rattle.orc_term.proofs.Settling.{close_halted}
 use Rattle.orc_checker.proofs.Waking.{wakes_itself, wakes_one, wakes_two, parts_total}
 use Rattle.orc_checker.proofs.stillness.wakes.Goals as goal
 

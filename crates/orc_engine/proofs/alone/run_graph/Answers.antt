@@ -2,9 +2,9 @@ use Rattle.std.proofs.Common.{sym, subst, IfErr}
 use Rattle.orc_rules.specs.Named.{HasNames}
 use Rattle.orc_rules.specs.Nodes.{definitions, source}
 use Rattle.orc_rules.specs.Program.{IsProgram}
-use Rattle.orc_desk.specs.Stops.{Stops}
-use Rattle.orc_desk.specs.Faults.{IsOwn}
-use Rattle.orc_desk.proofs.Stopping.{weaker-fault}
+use Rattle.orc_scheduler.specs.Stops.{Stops}
+use Rattle.orc_scheduler.specs.Faults.{IsOwn}
+use Rattle.orc_scheduler.proofs.Stopping.{weaker-fault}
 use Rattle.orc_engine.proofs.alone.run_graph.Goals as goal
 
 pub returns-clause-sound : goal.returns-clause-sound
@@ -12,6 +12,6 @@ returns-clause-sound g c =
     let l = g.P.Program.listing in
     let t = c.args.answers.now in
     let stop = c.play-stop.result in
-    let s = c.play-stop.new.desk.ledger in
+    let s = c.play-stop.new.scheduler.ledger in
     subst (λ p. IfErr c.finish.result (λ f. IsOwn f → IsProgram (definitions p) (source p) → HasNames p t → ⊥)) (sym c.requires.program)
     (weaker-fault c.finish.result (λ f. IsOwn f → Stops l s stop → IsProgram (definitions l) (source l) → HasNames l t → ⊥) (λ f. IsOwn f → IsProgram (definitions l) (source l) → HasNames l t → ⊥) (λ f h own is has. h own c.play-stop.ensures.stops is has) c.finish.ensures.sound)

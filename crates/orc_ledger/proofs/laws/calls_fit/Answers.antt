@@ -1,4 +1,4 @@
-use Rattle.orc_records.proofs.Fitting.{call-fits}
+use Rattle.orc_ledger_spec.proofs.Fitting.{call-fits}
 use Rattle.orc_tables.proofs.Slots.{live-in}
 use Rattle.orc_ledger.proofs.laws.calls_fit.Goals as goal
 

@@ -1,4 +1,4 @@
-use Rattle.orc_records.proofs.Joint.{nothing-lost}
+use Rattle.orc_ledger_spec.proofs.Joint.{nothing-lost}
 use Rattle.orc_ledger.proofs.laws.offered.Goals as goal
 
 pub returns : goal.returns

@@ -2,7 +2,7 @@ use Rattle.std.proofs.Common.{◌≡◌, ℕ, List, sym, ap, subst, ◌∙◌, t
 use Rattle.std.specs.Prelude.{slice_get}
 use Rattle.orc_rules.specs.Timed.{IsIn}
 use Rattle.orc_indexes.specs.Parking.{is_set, notes_at}
-use Rattle.orc_indexes.specs.declared.parking.Note.{Note}
+use Rattle.orc_indexes.specs.declared.wait_index.Note.{Note}
 use Rattle.orc_indexes.proofs.Flags.{in-either}
 use Rattle.orc_tables.proofs.tokens.wake.Goals as goal
 

@@ -1,8 +1,8 @@
 use Rattle.std.proofs.Common.{◌≡◌, ◌+◌, ◌∙◌, ◌++◌, ◌-◌, ◌∷◌, [], ap, sym, subst, arith, max, take}
 use Rattle.std.specs.Prelude.{vec_len}
 use Rattle.orc_rules.specs.Nodes.{code}
-use Rattle.orc_nodes.specs.Arena.{Tree, Holds, place}
-use Rattle.orc_nodes.specs.Dropping.{parts_of}
+use Rattle.orc_term.specs.Arena.{Tree, Holds, place}
+use Rattle.orc_term.specs.Dropping.{parts_of}
 use Rattle.orc_verdict.specs.Depth.{own_levels, step_down, with_levels}
 use Rattle.orc_verdict.proofs.Nesting.{IsLooked, looks_first, looks_on, looks_all, place_depth, tree_depth}
 use Rattle.orc_verdict.proofs.depth.depth_of.Goals as goal

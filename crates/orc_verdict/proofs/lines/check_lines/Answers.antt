@@ -4,7 +4,7 @@ use Rattle.std.proofs.lemmas.Result.{err_from_is_err_and}
 use Rattle.orc_rules.specs.Nodes.{code, source}
 use Rattle.orc_rules.specs.Journal.{begin}
 use Rattle.orc_journal.specs.declared.journal.Version.{Version}
-use Rattle.orc_lines.proofs.Coming.{may_come}
+use Rattle.orc_journal_text.proofs.Coming.{may_come}
 use Rattle.orc_checker.specs.Checker.{Begins, Spells, context}
 use Rattle.orc_verdict.specs.Heights.{height}
 use Rattle.orc_verdict.specs.Lines.{IsRefusedAt, IsTextFault}

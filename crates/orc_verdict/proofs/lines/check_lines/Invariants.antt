@@ -1,7 +1,7 @@
 use Rattle.std.proofs.Common.{List, ℕ}
 use Rattle.std.specs.Io.KnownBytes.{Consumes}
 use Rattle.orc_rules.specs.declared.entry.Entry.{Entry}
-use Rattle.orc_lines.specs.Lines.{HasRead, to_read}
+use Rattle.orc_journal_text.specs.Lines.{HasRead, to_read}
 use Rattle.orc_verdict.specs.Verdicts.{records_cancels}
 use Rattle.orc_verdict.proofs.Judging.{AreDone}
 use Rattle.orc_verdict.proofs.lines.check_lines.Given as goal

@@ -1,7 +1,7 @@
 use Rattle.std.proofs.Common.{◌≡◌, ◌∙◌, sym, ap, Some}
 use Rattle.std.proofs.lemmas.Bool.Decides.{Decides-at}
 use Rattle.orc_rules.specs.Nodes.{source, code, definitions}
-use Rattle.orc_names.specs.Scopes.{env_of}
+use Rattle.orc_env.specs.Scopes.{env_of}
 use Rattle.orc_checker.specs.Checker.{context}
 use Rattle.orc_verdict.specs.Standing.{fits_as, mark_of, summary, under}
 use Rattle.orc_verdict.proofs.Conditions.{fits_found, fits_none, takes_is}

@@ -1,15 +1,15 @@
 use Rattle.std.proofs.Common.{refl, sym, ◌∙◌, ap, rules, length, length-set}
 use Rattle.std.specs.Prelude.{slice_set}
-use Rattle.orc_nodes.specs.declared.arena.Kind.TheVariants.{Leaf}
-use Rattle.orc_nodes.specs.declared.arena.Tip.TheVariants.{Bears}
+use Rattle.orc_term.specs.declared.arena.Kind.TheVariants.{Leaf}
+use Rattle.orc_term.specs.declared.arena.Tip.TheVariants.{Bears}
 use Rattle.orc_checker.specs.Checker.{State}
 use Rattle.orc_checker.specs.Calls.{Rest}
-use Rattle.orc_nodes.proofs.Trees.{node}
+use Rattle.orc_term.proofs.Trees.{node}
 use Rattle.orc_checker.proofs.Answering.{one_more}
 use Rattle.orc_checker.proofs.CallEntries.{return-enters, due_at}
-use Rattle.orc_nodes.proofs.Hints.{can_wake}
+use Rattle.orc_term.proofs.Hints.{can_wake}
 use Rattle.orc_checker.proofs.Noting.{still_noted, same_wait, wait_on, wait_written}
-use Rattle.orc_nodes.proofs.KeptSides.{known_kept, flags_same, sides_same, sides_on, sides_woken}
+use Rattle.orc_term.proofs.KeptSides.{known_kept, flags_same, sides_same, sides_on, sides_woken}
 use Rattle.orc_checker.proofs.Indexed.{indexed_token}
 use Rattle.std.proofs.lemmas.Result.{err_from_is_err_and}
 use Rattle.orc_rules.specs.declared.entry.Entry.TheVariants as entry

@@ -1,8 +1,8 @@
 use Rattle.std.proofs.Common.{◌∙◌, ap, subst, refl}
 use Rattle.orc_rules.specs.Nodes.{code}
-use Rattle.orc_names.specs.Names.{Means}
-use Rattle.orc_names.specs.Scopes.{close, env_of}
-use Rattle.orc_nodes.specs.declared.arena.Tip.TheVariants.{Token}
+use Rattle.orc_env.specs.Names.{Means}
+use Rattle.orc_env.specs.Scopes.{close, env_of}
+use Rattle.orc_term.specs.declared.arena.Tip.TheVariants.{Token}
 use Rattle.orc_checker.specs.Checker.{State}
 use Rattle.orc_checker.proofs.Offered.{has_at, token_stands}
 use Rattle.orc_checker.proofs.marked.Marked.awaited.Goals as goal

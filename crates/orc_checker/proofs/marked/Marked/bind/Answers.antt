@@ -1,25 +1,25 @@
 use Rattle.std.proofs.Common.{◌≡◌, ℕ, List, refl, ap, sym, subst, ◌∙◌, length, get_or, reverse, length-set}
 use Rattle.std.specs.Prelude.{IfNone, slice_get, slice_set}
-use Rattle.orc_nodes.specs.declared.arena.Node.{Node}
-use Rattle.orc_names.specs.declared.names.Bound.TheVariants.{Is}
-use Rattle.orc_nodes.specs.declared.walk.Taker.TheVariants.{Bound}
-use Rattle.orc_nodes.specs.Settling.{flag, Settles}
-use Rattle.orc_nodes.specs.Rising.{nowhere, TakesThere, IsTaker, Stands}
-use Rattle.orc_nodes.specs.declared.arena.Single.TheVariants.{Passed}
-use Rattle.orc_nodes.specs.declared.arena.Kind.TheVariants.{One}
+use Rattle.orc_term.specs.declared.arena.Node.{Node}
+use Rattle.orc_env.specs.declared.names.Bound.TheVariants.{Is}
+use Rattle.orc_term.specs.declared.walk.Taker.TheVariants.{Bound}
+use Rattle.orc_term.specs.Settling.{flag, Settles}
+use Rattle.orc_term.specs.Rising.{nowhere, TakesThere, IsTaker, Stands}
+use Rattle.orc_term.specs.declared.arena.Single.TheVariants.{Passed}
+use Rattle.orc_term.specs.declared.arena.Kind.TheVariants.{One}
 use Rattle.orc_checker.specs.Checker.{State}
-use Rattle.orc_nodes.proofs.Trees.{node}
+use Rattle.orc_term.proofs.Trees.{node}
 use Rattle.orc_checker.proofs.Catching.{catch-applies}
-use Rattle.orc_nodes.proofs.Hints.{can_end}
+use Rattle.orc_term.proofs.Hints.{can_end}
 use Rattle.orc_checker.specs.Calls.{Rest}
 use Rattle.orc_checker.proofs.Noting.{still_noted, wait_on, wait_written, wait_dropped}
-use Rattle.orc_nodes.proofs.KeptSides.{known_kept, sides_on, sides_written}
+use Rattle.orc_term.proofs.KeptSides.{known_kept, sides_on, sides_written}
 use Rattle.orc_checker.specs.Index.{name_of}
 use Rattle.orc_checker.proofs.Indexed.{indexed_bound, indexed_calls}
 use Rattle.std.proofs.lemmas.Result.{err_from_is_err_and}
 use Rattle.orc_rules.specs.Step.{binds}
 use Rattle.orc_rules.specs.declared.entry.Entry.TheVariants as entry
-use Rattle.orc_nodes.specs.Arena.{Frame, Tree}
+use Rattle.orc_term.specs.Arena.{Frame, Tree}
 use Rattle.orc_checker.proofs.Values.{asks_bind, bearer_refused, bound_takes, standing_refused, taker_refused}
 use Rattle.orc_rules.specs.declared.entry.RuleFault.TheVariants as reason
 use Rattle.orc_rules.specs.Nodes.{code}

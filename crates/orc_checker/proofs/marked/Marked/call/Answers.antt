@@ -1,26 +1,26 @@
 use Rattle.std.proofs.Common.{◌≡◌, refl, sym, ◌∙◌, ap, subst, map, [], suc, length, length-set}
 use Rattle.std.specs.Prelude.{slice_set, slice_index_or}
-use Rattle.orc_nodes.specs.declared.arena.Kind.TheVariants.{Leaf}
-use Rattle.orc_nodes.specs.declared.arena.Tip.TheVariants.{Waits}
+use Rattle.orc_term.specs.declared.arena.Kind.TheVariants.{Leaf}
+use Rattle.orc_term.specs.declared.arena.Tip.TheVariants.{Waits}
 use Rattle.orc_checker.specs.declared.rest.Called.{Called}
 use Rattle.orc_rules.specs.Nodes.{code, unfold_node, param_of}
 use Rattle.orc_rules.specs.Term.{site, values_of}
-use Rattle.orc_names.specs.Names.{AreArguments, AreOthers}
+use Rattle.orc_env.specs.Names.{AreArguments, AreOthers}
 use Rattle.orc_checker.specs.Checker.{State}
 use Rattle.orc_checker.specs.Calls.{Rest, AddsCall}
 use Rattle.orc_calls.specs.Counting.{NextFound}
-use Rattle.orc_nodes.proofs.Trees.{node}
+use Rattle.orc_term.proofs.Trees.{node}
 use Rattle.orc_checker.proofs.CallEntries.{call-enters}
-use Rattle.orc_nodes.proofs.Hints.{can_turn}
+use Rattle.orc_term.proofs.Hints.{can_turn}
 use Rattle.orc_checker.proofs.Earliest.{noted_call, noted_more}
 use Rattle.orc_checker.proofs.Noting.{still_noted, same_wait}
-use Rattle.orc_nodes.proofs.KeptSides.{known_kept, flags_same, sides_written}
+use Rattle.orc_term.proofs.KeptSides.{known_kept, flags_same, sides_written}
 use Rattle.orc_checker.proofs.Indexed.{indexed_call, indexed_calls}
 use Rattle.std.proofs.lemmas.Result.{err_from_is_err_and}
 use Rattle.orc_rules.specs.declared.entry.Entry.TheVariants as entry
 use Rattle.orc_checker.proofs.Refusing.{IsCallOf, sort, asks_call, call_refused, form_refused, refused_for, site_node, sort_under, spot_refused}
-use Rattle.orc_names.specs.Scopes.{close, close_param, env_of}
-use Rattle.orc_names.proofs.Scopes.{close-site}
+use Rattle.orc_env.specs.Scopes.{close, close_param, env_of}
+use Rattle.orc_env.proofs.Scopes.{close-site}
 use Rattle.orc_checker.proofs.marked.Marked.call.Goals.{then-named-site-via-then-named-site, then-named-site-via-else-named-site+then-not-are_arguments}
 use Rattle.orc_checker.proofs.marked.Marked.call.Goals as goal
 

@@ -3,13 +3,13 @@ use Rattle.orc_rules.specs.Idle.{can_move}
 use Rattle.orc_rules.specs.Marked.{erase}
 use Rattle.orc_rules.specs.Term.{Definition}
 use Rattle.orc_rules.specs.Nodes.{code, definitions}
-use Rattle.orc_nodes.specs.declared.arena.Node.{Node}
-use Rattle.orc_names.specs.declared.names.Bound.{Bound}
-use Rattle.orc_names.specs.declared.names.Scope.{Scope}
+use Rattle.orc_term.specs.declared.arena.Node.{Node}
+use Rattle.orc_env.specs.declared.names.Bound.{Bound}
+use Rattle.orc_env.specs.declared.names.Scope.{Scope}
 use Rattle.orc_checker.specs.Checker.{State}
-use Rattle.orc_nodes.specs.Halting.{AreHalts}
-use Rattle.orc_names.specs.Names.{AreOrdered}
-use Rattle.orc_nodes.specs.Sides.{HasEnded}
+use Rattle.orc_term.specs.Halting.{AreHalts}
+use Rattle.orc_env.specs.Names.{AreOrdered}
+use Rattle.orc_term.specs.Sides.{HasEnded}
 use Rattle.orc_checker.specs.Stillness.{token_moves, DoMove, DoStir}
 use Rattle.orc_checker.proofs.Moving.{tokens_stir, sides_stir}
 use Rattle.orc_checker.proofs.Ticking.{movement}

@@ -2,19 +2,19 @@ use Rattle.std.proofs.Common.{◌≡◌, sym, refl, ap, ◌∙◌, length, subst
 use Rattle.std.specs.Prelude.{IfNone, slice_get, slice_set, slice_index_or}
 use Rattle.orc_rules.specs.Nodes.{code, unfold_node, definition_of, definitions}
 use Rattle.orc_rules.specs.Programs.{routine_of}
-use Rattle.orc_nodes.specs.declared.arena.Kind.TheVariants.{Leaf}
-use Rattle.orc_nodes.specs.declared.arena.Tip.TheVariants.{Token}
-use Rattle.orc_nodes.specs.Settling.{Settles}
-use Rattle.orc_nodes.specs.Halting.{halt_flag}
-use Rattle.orc_names.specs.Parameters.{Adds}
+use Rattle.orc_term.specs.declared.arena.Kind.TheVariants.{Leaf}
+use Rattle.orc_term.specs.declared.arena.Tip.TheVariants.{Token}
+use Rattle.orc_term.specs.Settling.{Settles}
+use Rattle.orc_term.specs.Halting.{halt_flag}
+use Rattle.orc_env.specs.Parameters.{Adds}
 use Rattle.orc_checker.specs.Parameters.{LacksArguments}
 use Rattle.orc_checker.specs.Checker.{State, context}
-use Rattle.orc_nodes.proofs.Trees.{node}
+use Rattle.orc_term.proofs.Trees.{node}
 use Rattle.orc_checker.proofs.Answering.{one_more}
 use Rattle.orc_checker.proofs.Defining.{def-enters}
-use Rattle.orc_nodes.proofs.Hints.{can_turn}
+use Rattle.orc_term.proofs.Hints.{can_turn}
 use Rattle.orc_checker.proofs.Noting.{still_noted, wait_written}
-use Rattle.orc_nodes.proofs.KeptSides.{known_kept, sides_written}
+use Rattle.orc_term.proofs.KeptSides.{known_kept, sides_written}
 use Rattle.orc_checker.proofs.Indexed.{indexed_token}
 use Rattle.std.proofs.lemmas.Result.{err_from_is_err_and}
 use Rattle.orc_rules.specs.declared.entry.Entry.TheVariants as entry

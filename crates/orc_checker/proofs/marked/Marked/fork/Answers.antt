@@ -1,15 +1,15 @@
 use Rattle.std.proofs.Common.{refl, sym, ◌≡◌, ap, ◌∙◌, ◌++◌, ◌∷◌, [], length, suc, arith}
 use Rattle.orc_rules.specs.Nodes.{code, unfold_node}
 use Rattle.orc_checker.specs.Checker.{State}
-use Rattle.orc_nodes.specs.Halting.{halt_flag}
+use Rattle.orc_term.specs.Halting.{halt_flag}
 use Rattle.orc_checker.proofs.Moves.{fork-enters}
 use Rattle.orc_checker.proofs.Answering.{set_two, two_more}
-use Rattle.orc_nodes.proofs.Hints.{can_turn}
-use Rattle.orc_nodes.specs.declared.arena.Node.{Node}
+use Rattle.orc_term.proofs.Hints.{can_turn}
+use Rattle.orc_term.specs.declared.arena.Node.{Node}
 use Rattle.orc_checker.specs.NextDue.{waits}
-use Rattle.orc_nodes.specs.Sides.{is_side}
+use Rattle.orc_term.specs.Sides.{is_side}
 use Rattle.orc_checker.proofs.Noting.{still_noted, same_wait, wait_on, wait_written, wait_more}
-use Rattle.orc_nodes.proofs.KeptSides.{known_two, flags_same, sides_two, length_two}
+use Rattle.orc_term.proofs.KeptSides.{known_two, flags_same, sides_two, length_two}
 use Rattle.orc_checker.specs.Index.{name_of}
 use Rattle.orc_checker.proofs.Indexed.{indexed_two}
 use Rattle.std.proofs.lemmas.Result.{err_from_is_err_and}

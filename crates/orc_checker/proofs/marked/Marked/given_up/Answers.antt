@@ -1,15 +1,15 @@
-use Rattle.orc_nodes.specs.Settling.{Settles}
+use Rattle.orc_term.specs.Settling.{Settles}
 use Rattle.std.proofs.Common.{refl, ◌∙◌, ap, length, subst, true, length-set}
 use Rattle.std.specs.Prelude.{slice_set}
-use Rattle.orc_nodes.specs.declared.arena.Kind.TheVariants.{Leaf}
-use Rattle.orc_nodes.specs.declared.arena.Tip.TheVariants.{Ended}
+use Rattle.orc_term.specs.declared.arena.Kind.TheVariants.{Leaf}
+use Rattle.orc_term.specs.declared.arena.Tip.TheVariants.{Ended}
 use Rattle.orc_checker.specs.Checker.{State}
 use Rattle.orc_checker.specs.Calls.{Rest}
-use Rattle.orc_nodes.proofs.Trees.{node}
+use Rattle.orc_term.proofs.Trees.{node}
 use Rattle.orc_checker.proofs.CallEntries.{halt-enters, due_at}
-use Rattle.orc_nodes.proofs.Hints.{can_rest}
+use Rattle.orc_term.proofs.Hints.{can_rest}
 use Rattle.orc_checker.proofs.Noting.{still_noted, wait_written}
-use Rattle.orc_nodes.proofs.KeptSides.{known_kept, sides_written}
+use Rattle.orc_term.proofs.KeptSides.{known_kept, sides_written}
 use Rattle.orc_checker.proofs.Indexed.{indexed_kept, names_written}
 use Rattle.std.proofs.lemmas.Result.{err_from_is_err_and}
 use Rattle.orc_rules.specs.declared.entry.Entry.TheVariants as entry

@@ -1,10 +1,10 @@
 use Rattle.std.proofs.Common.{None, Some, ap, get_or, sym, subst, ◌∙◌}
-use Rattle.orc_nodes.specs.declared.arena.Node.{Node}
+use Rattle.orc_term.specs.declared.arena.Node.{Node}
 use Rattle.orc_checker.specs.Checker.{State}
 use Rattle.orc_checker.specs.Over.{side_of, FindsSide}
-use Rattle.orc_nodes.specs.Rising.{nowhere}
-use Rattle.orc_nodes.specs.Settling.{kind_at, parent_at}
-use Rattle.orc_nodes.specs.Sides.{HasEnded}
+use Rattle.orc_term.specs.Rising.{nowhere}
+use Rattle.orc_term.specs.Settling.{kind_at, parent_at}
+use Rattle.orc_term.specs.Sides.{HasEnded}
 use Rattle.orc_checker.proofs.Halted.{none_found, side_found}
 use Rattle.orc_checker.proofs.marked.Marked.halted_side.Goals as goal
 

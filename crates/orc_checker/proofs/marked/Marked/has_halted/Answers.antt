@@ -2,10 +2,10 @@ use Rattle.std.proofs.Common.{◌∙◌, ap, sym}
 use Rattle.orc_rules.specs.Marked.{erase}
 use Rattle.orc_rules.specs.Idle.{has_halted}
 use Rattle.orc_rules.specs.Nodes.{code}
-use Rattle.orc_names.specs.Scopes.{env_of}
+use Rattle.orc_env.specs.Scopes.{env_of}
 use Rattle.orc_checker.specs.Checker.{State}
-use Rattle.orc_nodes.specs.Settling.{flag}
-use Rattle.orc_nodes.proofs.Settling.{flag_says}
+use Rattle.orc_term.specs.Settling.{flag}
+use Rattle.orc_term.proofs.Settling.{flag_says}
 use Rattle.orc_checker.proofs.marked.Marked.has_halted.Goals as goal
 
 pub returns : goal.returns

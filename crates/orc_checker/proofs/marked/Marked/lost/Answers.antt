@@ -1,15 +1,15 @@
 use Rattle.std.proofs.Common.{refl, ap, sym, ◌∙◌, length, length-set}
 use Rattle.std.specs.Prelude.{slice_get, slice_set}
-use Rattle.orc_names.specs.declared.names.Bound.TheVariants.{Void}
-use Rattle.orc_nodes.specs.declared.arena.Single.TheVariants.{Passed}
-use Rattle.orc_nodes.specs.declared.arena.Double.TheVariants.{Side}
-use Rattle.orc_nodes.specs.declared.arena.Kind.TheVariants.{One, Two}
+use Rattle.orc_env.specs.declared.names.Bound.TheVariants.{Void}
+use Rattle.orc_term.specs.declared.arena.Single.TheVariants.{Passed}
+use Rattle.orc_term.specs.declared.arena.Double.TheVariants.{Side}
+use Rattle.orc_term.specs.declared.arena.Kind.TheVariants.{One, Two}
 use Rattle.orc_checker.specs.Checker.{State}
-use Rattle.orc_nodes.proofs.Trees.{node}
+use Rattle.orc_term.proofs.Trees.{node}
 use Rattle.orc_checker.proofs.Losing.{lose-applies}
-use Rattle.orc_nodes.proofs.Hints.{can_end, parent_there}
+use Rattle.orc_term.proofs.Hints.{can_end, parent_there}
 use Rattle.orc_checker.proofs.Noting.{still_noted, wait_on, wait_written, wait_dropped}
-use Rattle.orc_nodes.proofs.KeptSides.{known_kept, flags_same, sides_on, sides_written}
+use Rattle.orc_term.proofs.KeptSides.{known_kept, flags_same, sides_on, sides_written}
 use Rattle.orc_checker.specs.Index.{name_of}
 use Rattle.orc_checker.proofs.Indexed.{indexed_bound, kind_there}
 use Rattle.std.proofs.lemmas.Result.{err_from_is_err_and}

@@ -1,17 +1,17 @@
 use Rattle.std.proofs.Common.{Bool, ◌∷◌, ◌++◌, [], ap, sym, ◌∙◌, subst, ℕ, List}
-use Rattle.orc_nodes.specs.declared.arena.Node.{Node}
-use Rattle.orc_names.specs.declared.names.Bound.{Bound}
-use Rattle.orc_names.specs.declared.names.Scope.{Scope}
+use Rattle.orc_term.specs.declared.arena.Node.{Node}
+use Rattle.orc_env.specs.declared.names.Bound.{Bound}
+use Rattle.orc_env.specs.declared.names.Scope.{Scope}
 use Rattle.orc_rules.specs.Nodes.{source}
 use Rattle.orc_rules.specs.Journal.{begin}
 use Rattle.orc_checker.specs.Calls.{Rest}
-use Rattle.orc_nodes.specs.Halting.{halt_flag}
+use Rattle.orc_term.specs.Halting.{halt_flag}
 use Rattle.orc_checker.specs.Checker.{State, Begins}
-use Rattle.orc_nodes.specs.declared.arena.Tip.TheVariants.{Token}
-use Rattle.orc_nodes.specs.declared.arena.Single.TheVariants.{Passed}
-use Rattle.orc_nodes.specs.declared.arena.Kind.TheVariants.{Leaf, One}
-use Rattle.orc_names.specs.declared.names.Bound.TheVariants.{Void}
-use Rattle.orc_nodes.proofs.Trees.{node}
+use Rattle.orc_term.specs.declared.arena.Tip.TheVariants.{Token}
+use Rattle.orc_term.specs.declared.arena.Single.TheVariants.{Passed}
+use Rattle.orc_term.specs.declared.arena.Kind.TheVariants.{Leaf, One}
+use Rattle.orc_env.specs.declared.names.Bound.TheVariants.{Void}
+use Rattle.orc_term.proofs.Trees.{node}
 use Rattle.orc_checker.proofs.Beginning.{spells_first}
 use Rattle.orc_checker.proofs.marked.Marked.new.Goals as goal
 

@@ -1,11 +1,11 @@
 use Rattle.std.proofs.Common.{◌∙◌, ap, sym, subst}
 use Rattle.orc_rules.specs.Nodes.{code, definitions}
 use Rattle.orc_rules.specs.Marked.{token}
-use Rattle.orc_names.specs.Names.{AreOrdered}
-use Rattle.orc_names.specs.Scopes.{close, env_of}
-use Rattle.orc_nodes.specs.declared.arena.Kind.TheVariants.{Leaf}
-use Rattle.orc_nodes.specs.Arena.{living_kind, of_tip}
-use Rattle.orc_nodes.specs.Bearers.{Carries}
+use Rattle.orc_env.specs.Names.{AreOrdered}
+use Rattle.orc_env.specs.Scopes.{close, env_of}
+use Rattle.orc_term.specs.declared.arena.Kind.TheVariants.{Leaf}
+use Rattle.orc_term.specs.Arena.{living_kind, of_tip}
+use Rattle.orc_term.specs.Bearers.{Carries}
 use Rattle.orc_checker.specs.Checker.{State}
 use Rattle.orc_checker.specs.Offers.{Allows}
 use Rattle.orc_checker.proofs.Offered.{if_some, offers_allowed, offers_published, token_stands}

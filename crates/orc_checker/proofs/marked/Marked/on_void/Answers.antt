@@ -4,10 +4,10 @@ use Rattle.orc_rules.specs.Journal.{IsVoid}
 use Rattle.orc_rules.specs.declared.param.Operand.{Operand}
 use Rattle.orc_rules.specs.Nodes.{code, unfold_node, param_of}
 use Rattle.orc_rules.specs.Term.{param, HasVoid}
-use Rattle.orc_names.specs.Scopes.{close, close_param, env_of}
-use Rattle.orc_names.specs.Names.{AreOrdered}
+use Rattle.orc_env.specs.Scopes.{close, close_param, env_of}
+use Rattle.orc_env.specs.Names.{AreOrdered}
 use Rattle.orc_checker.specs.Checker.{State}
-use Rattle.orc_names.proofs.Scopes.{close-of-param, close-site}
+use Rattle.orc_env.proofs.Scopes.{close-of-param, close-site}
 use Rattle.orc_checker.proofs.Voiding.{among_void, void_among, void_not}
 use Rattle.orc_checker.proofs.marked.Marked.on_void.Goals as goal
 

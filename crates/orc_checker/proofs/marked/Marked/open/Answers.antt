@@ -2,22 +2,22 @@ use Rattle.std.proofs.Common.{refl, sym, ◌≡◌, ◌∷◌, ◌++◌, [], ap,
 use Rattle.std.specs.Prelude.{◌&&◌}
 use Rattle.std.proofs.lemmas.Bool.{ne_eqb}
 use Rattle.orc_rules.specs.Nodes.{code, unfold_node}
-use Rattle.orc_names.specs.declared.names.Bound.TheVariants.{Cell}
-use Rattle.orc_names.specs.declared.names.Scope.{Scope}
-use Rattle.orc_nodes.specs.declared.arena.Tip.TheVariants.{Token}
-use Rattle.orc_nodes.specs.declared.arena.Kind.TheVariants.{Leaf}
+use Rattle.orc_env.specs.declared.names.Bound.TheVariants.{Cell}
+use Rattle.orc_env.specs.declared.names.Scope.{Scope}
+use Rattle.orc_term.specs.declared.arena.Tip.TheVariants.{Token}
+use Rattle.orc_term.specs.declared.arena.Kind.TheVariants.{Leaf}
 use Rattle.orc_checker.specs.Checker.{State}
-use Rattle.orc_nodes.specs.Halting.{halt_flag}
-use Rattle.orc_nodes.specs.Settling.{Settles}
-use Rattle.orc_nodes.proofs.Trees.{node}
+use Rattle.orc_term.specs.Halting.{halt_flag}
+use Rattle.orc_term.specs.Settling.{Settles}
+use Rattle.orc_term.proofs.Trees.{node}
 use Rattle.orc_checker.proofs.Opening.{open-enters}
 use Rattle.orc_checker.proofs.Answering.{set_two, two_more}
-use Rattle.orc_nodes.proofs.Hints.{can_turn}
-use Rattle.orc_nodes.specs.declared.arena.Node.{Node}
+use Rattle.orc_term.proofs.Hints.{can_turn}
+use Rattle.orc_term.specs.declared.arena.Node.{Node}
 use Rattle.orc_checker.specs.NextDue.{waits}
-use Rattle.orc_nodes.specs.Sides.{is_side}
+use Rattle.orc_term.specs.Sides.{is_side}
 use Rattle.orc_checker.proofs.Noting.{still_noted, same_wait, wait_on, wait_written, wait_more}
-use Rattle.orc_nodes.proofs.KeptSides.{known_two, sides_two, length_two}
+use Rattle.orc_term.proofs.KeptSides.{known_two, sides_two, length_two}
 use Rattle.orc_checker.specs.Index.{name_of}
 use Rattle.orc_checker.proofs.Indexed.{get_grown, get_last, indexed_two, opened_put}
 use Rattle.std.proofs.lemmas.Result.{err_from_is_err_and}

@@ -3,15 +3,15 @@ use Rattle.std.proofs.lemmas.Bool.{ne_eqb}
 use Rattle.std.specs.Prelude.{slice_get}
 use Rattle.orc_rules.specs.Nodes.{code, unfold_node}
 use Rattle.orc_checker.specs.Checker.{State}
-use Rattle.orc_nodes.specs.Halting.{halt_flag}
+use Rattle.orc_term.specs.Halting.{halt_flag}
 use Rattle.orc_checker.proofs.Moves.{other-enters}
 use Rattle.orc_checker.proofs.Answering.{set_one, one_more}
-use Rattle.orc_nodes.proofs.Hints.{can_turn}
-use Rattle.orc_nodes.specs.declared.arena.Node.{Node}
+use Rattle.orc_term.proofs.Hints.{can_turn}
+use Rattle.orc_term.specs.declared.arena.Node.{Node}
 use Rattle.orc_checker.specs.NextDue.{waits}
-use Rattle.orc_nodes.specs.Sides.{is_side}
+use Rattle.orc_term.specs.Sides.{is_side}
 use Rattle.orc_checker.proofs.Noting.{still_noted, same_wait, wait_on, wait_written, wait_more}
-use Rattle.orc_nodes.proofs.KeptSides.{known_one, flags_same, sides_one, length_one}
+use Rattle.orc_term.proofs.KeptSides.{known_one, flags_same, sides_one, length_one}
 use Rattle.orc_checker.specs.Index.{name_of}
 use Rattle.orc_checker.proofs.Indexed.{indexed_one, kind_read}
 use Rattle.std.proofs.lemmas.Result.{err_from_is_err_and}

@@ -1,24 +1,24 @@
 use Rattle.std.proofs.Common.{refl, ap, ◌∙◌, subst, length, length-set, true}
 use Rattle.std.specs.Prelude.{slice_set}
-use Rattle.orc_nodes.specs.declared.arena.Kind.TheVariants.{Leaf}
-use Rattle.orc_nodes.specs.declared.arena.Tip.TheVariants.{Ended}
+use Rattle.orc_term.specs.declared.arena.Kind.TheVariants.{Leaf}
+use Rattle.orc_term.specs.declared.arena.Tip.TheVariants.{Ended}
 use Rattle.orc_rules.specs.Nodes.{code}
-use Rattle.orc_nodes.specs.Rising.{IsTaker, Rises}
+use Rattle.orc_term.specs.Rising.{IsTaker, Rises}
 use Rattle.orc_checker.specs.Checker.{State}
-use Rattle.orc_nodes.specs.Settling.{Settles}
-use Rattle.orc_nodes.proofs.Trees.{node}
+use Rattle.orc_term.specs.Settling.{Settles}
+use Rattle.orc_term.proofs.Trees.{node}
 use Rattle.orc_checker.proofs.Publishing.{publish-enters}
-use Rattle.orc_nodes.proofs.Hints.{can_publish}
+use Rattle.orc_term.proofs.Hints.{can_publish}
 use Rattle.orc_checker.proofs.Noting.{still_noted, wait_on, wait_written, wait_passed}
-use Rattle.orc_nodes.proofs.KeptSides.{known_kept, sides_on, sides_written, sides_passed}
+use Rattle.orc_term.proofs.KeptSides.{known_kept, sides_on, sides_written, sides_passed}
 use Rattle.orc_checker.proofs.Indexed.{indexed_kept, names_on, names_passed, names_written}
 use Rattle.std.proofs.lemmas.Result.{err_from_is_err_and}
 use Rattle.orc_rules.specs.Step.{publishes}
 use Rattle.orc_rules.specs.declared.entry.Entry.TheVariants as entry
 use Rattle.std.proofs.Common.{ℕ, List}
 use Rattle.std.specs.Prelude.{IfNone}
-use Rattle.orc_nodes.specs.Arena.{Frame, Tree}
-use Rattle.orc_nodes.specs.Rising.{Stands}
+use Rattle.orc_term.specs.Arena.{Frame, Tree}
+use Rattle.orc_term.specs.Rising.{Stands}
 use Rattle.orc_checker.proofs.Values.{asks_publish, bearer_refused, standing_refused, taker_refused, whole_takes}
 use Rattle.orc_checker.proofs.marked.Marked.publish.Goals as goal
 

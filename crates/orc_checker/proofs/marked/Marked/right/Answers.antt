@@ -1,14 +1,14 @@
 use Rattle.std.proofs.Common.{◌++◌, ◌∷◌, [], ap, sym, subst, ◌∙◌, length, arith, length-set, length-append, refl, rules}
 use Rattle.std.specs.Prelude.{slice_set}
-use Rattle.orc_nodes.specs.Settling.{Settles}
-use Rattle.orc_nodes.specs.Halting.{halt_flag}
-use Rattle.orc_nodes.specs.declared.arena.Tip.TheVariants.{Token}
-use Rattle.orc_nodes.specs.declared.arena.Kind.TheVariants.{Leaf}
+use Rattle.orc_term.specs.Settling.{Settles}
+use Rattle.orc_term.specs.Halting.{halt_flag}
+use Rattle.orc_term.specs.declared.arena.Tip.TheVariants.{Token}
+use Rattle.orc_term.specs.declared.arena.Kind.TheVariants.{Leaf}
 use Rattle.orc_checker.specs.Checker.{State}
-use Rattle.orc_nodes.proofs.Trees.{node}
+use Rattle.orc_term.proofs.Trees.{node}
 use Rattle.orc_checker.proofs.Resuming.{resume-enters}
-use Rattle.orc_nodes.proofs.KeptSides.{known_kept, sides_same, sides_on, sides_woken}
-use Rattle.orc_nodes.proofs.Hints.{can_wake}
+use Rattle.orc_term.proofs.KeptSides.{known_kept, sides_same, sides_on, sides_woken}
+use Rattle.orc_term.proofs.Hints.{can_wake}
 use Rattle.orc_checker.proofs.Noting.{still_noted, same_wait, wait_on, wait_written, wait_dropped}
 use Rattle.orc_checker.proofs.Indexed.{indexed_kept, indexed_token, names_dropped}
 use Rattle.std.proofs.lemmas.Result.{err_from_is_err_and}

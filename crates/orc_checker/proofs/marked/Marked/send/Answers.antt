@@ -1,23 +1,23 @@
 use Rattle.std.proofs.Common.{refl, ◌≡◌, ◌+◌, ◌∷◌, ◌++◌, [], Some, ap, sym, ◌∙◌, subst, length, get_or, length-append, length-set, true, false, arith, rules}
 use Rattle.std.specs.Prelude.{slice_set}
-use Rattle.orc_nodes.specs.declared.arena.Node.{Node}
-use Rattle.orc_names.specs.declared.names.Scope.{Scope}
-use Rattle.orc_names.specs.declared.names.Bound.TheVariants.{Is}
-use Rattle.orc_nodes.specs.declared.arena.Kind.TheVariants.{Leaf, One}
-use Rattle.orc_nodes.specs.declared.arena.Tip.TheVariants.{Ended, Token}
+use Rattle.orc_term.specs.declared.arena.Node.{Node}
+use Rattle.orc_env.specs.declared.names.Scope.{Scope}
+use Rattle.orc_env.specs.declared.names.Bound.TheVariants.{Is}
+use Rattle.orc_term.specs.declared.arena.Kind.TheVariants.{Leaf, One}
+use Rattle.orc_term.specs.declared.arena.Tip.TheVariants.{Ended, Token}
 use Rattle.orc_rules.specs.Nodes.{code}
-use Rattle.orc_nodes.specs.Rising.{IsTaker, Rises, nowhere}
-use Rattle.orc_nodes.specs.Grafting.{Grafts}
+use Rattle.orc_term.specs.Rising.{IsTaker, Rises, nowhere}
+use Rattle.orc_term.specs.Grafting.{Grafts}
 use Rattle.orc_checker.specs.Checker.{State}
-use Rattle.orc_nodes.specs.Halting.{halt_flag}
-use Rattle.orc_nodes.specs.Settling.{Settles}
-use Rattle.orc_nodes.proofs.Trees.{node}
+use Rattle.orc_term.specs.Halting.{halt_flag}
+use Rattle.orc_term.specs.Settling.{Settles}
+use Rattle.orc_term.proofs.Trees.{node}
 use Rattle.orc_checker.proofs.Answering.{one_more}
 use Rattle.orc_checker.proofs.Sending.{send-enters}
-use Rattle.orc_nodes.proofs.Hints.{can_publish, one_in}
+use Rattle.orc_term.proofs.Hints.{can_publish, one_in}
 use Rattle.orc_checker.proofs.Noting.{still_noted, same_wait, wait_on, wait_written, wait_passed}
-use Rattle.orc_nodes.specs.Sides.{NoNewSides}
-use Rattle.orc_nodes.proofs.KeptSides.{known_two, sides_same, sides_on, sides_written, sides_passed}
+use Rattle.orc_term.specs.Sides.{NoNewSides}
+use Rattle.orc_term.proofs.KeptSides.{known_two, sides_same, sides_on, sides_written, sides_passed}
 use Rattle.orc_rules.specs.Numbered.{mark}
 use Rattle.orc_checker.specs.Index.{Tables, IsPut}
 use Rattle.orc_checker.proofs.Indexed.{get_grown, get_last, indexed_on, its, names_map, names_on, names_passed, names_same, names_written, put_more}
@@ -26,8 +26,8 @@ use Rattle.orc_rules.specs.Step.{silent}
 use Rattle.orc_rules.specs.declared.entry.Entry.TheVariants as entry
 use Rattle.std.proofs.Common.{ℕ, List}
 use Rattle.std.specs.Prelude.{IfNone}
-use Rattle.orc_nodes.specs.Arena.{Frame, Tree}
-use Rattle.orc_nodes.specs.Rising.{Stands}
+use Rattle.orc_term.specs.Arena.{Frame, Tree}
+use Rattle.orc_term.specs.Rising.{Stands}
 use Rattle.orc_checker.proofs.Values.{asks_send, bearer_refused, fed_takes, standing_refused, taker_refused}
 use Rattle.orc_checker.proofs.Refusing.{mark_refused, refused_for}
 use Rattle.orc_checker.proofs.marked.Marked.send.Goals as goal

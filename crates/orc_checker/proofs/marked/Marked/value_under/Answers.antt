@@ -1,8 +1,8 @@
 use Rattle.std.proofs.Common.{◌∙◌, ap, subst}
 use Rattle.orc_rules.specs.Nodes.{code, unfold_node}
-use Rattle.orc_names.specs.declared.names.Bound.TheVariants.{Is}
+use Rattle.orc_env.specs.declared.names.Bound.TheVariants.{Is}
 use Rattle.orc_checker.specs.Checker.{State}
-use Rattle.orc_names.specs.Names.{AreOrdered, Means}
+use Rattle.orc_env.specs.Names.{AreOrdered, Means}
 use Rattle.orc_checker.proofs.Bearers.{bears_token, other_operand, other_node_under}
 use Rattle.orc_checker.proofs.Offered.{if_some}
 use Rattle.orc_checker.proofs.marked.Marked.value_under.Goals as goal

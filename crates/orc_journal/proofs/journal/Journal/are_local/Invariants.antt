@@ -1,5 +1,5 @@
 use Rattle.std.proofs.Common.{map, take}
-use Rattle.orc_graft.specs.Moved.{AreLocal}
+use Rattle.orc_subrun.specs.Moved.{AreLocal}
 use Rattle.orc_journal.specs.Rows.{entry_of}
 use Rattle.orc_journal.proofs.journal.Journal.are_local.Given as goal
 

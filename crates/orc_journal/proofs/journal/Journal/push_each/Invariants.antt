@@ -1,5 +1,5 @@
 use Rattle.std.proofs.Common.{◌≡◌, map, take}
-use Rattle.orc_graft.specs.Moved.{moved}
+use Rattle.orc_subrun.specs.Moved.{moved}
 use Rattle.orc_journal.specs.Rows.{entry_of}
 use Rattle.orc_journal.specs.Written.{journal_with}
 use Rattle.orc_journal.proofs.journal.Journal.push_each.Given as goal

@@ -1,6 +1,6 @@
 use Rattle.std.proofs.Common.{◌++◌, ◌∷◌, [], List, ap, ◌∙◌}
 use Rattle.std.proofs.lemmas.Result.{err_from_is_err_and}
-use Rattle.orc_graft.specs.Moved.{moved}
+use Rattle.orc_subrun.specs.Moved.{moved}
 use Rattle.orc_journal.specs.declared.rows.Row.{Row}
 use Rattle.orc_journal.specs.Written.{Written, journal_with}
 use Rattle.orc_journal.specs.Rows.{entry_of}

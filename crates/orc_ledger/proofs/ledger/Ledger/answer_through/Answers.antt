@@ -6,20 +6,20 @@ use Rattle.orc_rules.specs.Nodes.{code, definitions}
 use Rattle.orc_rules.specs.Sites.{find}
 use Rattle.orc_rules.specs.Timed.{nth_of}
 use Rattle.orc_indexes.specs.Same.{weight}
-use Rattle.orc_records.specs.Records.{Records}
-use Rattle.orc_records.specs.Calls.{Exchanges}
-use Rattle.orc_paths.specs.Doing.{IsCall}
-use Rattle.orc_records.specs.Doing.{term_of}
+use Rattle.orc_ledger_spec.specs.Records.{Records}
+use Rattle.orc_ledger_spec.specs.Calls.{Exchanges}
+use Rattle.orc_frames.specs.Doing.{IsCall}
+use Rattle.orc_ledger_spec.specs.Doing.{term_of}
 use Rattle.orc_indexes.specs.Same.{is_this}
 use Rattle.orc_tables.specs.OpenGroups.{size_of}
-use Rattle.orc_records.specs.Requests.{IsMade, IsNextCall}
+use Rattle.orc_ledger_spec.specs.Requests.{IsMade, IsNextCall}
 use Rattle.orc_tables.specs.Tokens.{live, IsHeld}
 use Rattle.orc_tables.specs.declared.records.Standing.TheVariants.{On}
 use Rattle.orc_tables.specs.declared.records.Token.{Token}
-use Rattle.orc_records.proofs.AtOnce.{nobody, made, between, made-between, given_kept, halted_kept}
-use Rattle.orc_records.proofs.AtRest.{rest-kept, same-terms}
-use Rattle.orc_records.proofs.Asked.{word-there, called-kept}
-use Rattle.orc_records.proofs.Keeping.{from_one}
+use Rattle.orc_ledger_spec.proofs.AtOnce.{nobody, made, between, made-between, given_kept, halted_kept}
+use Rattle.orc_ledger_spec.proofs.AtRest.{rest-kept, same-terms}
+use Rattle.orc_ledger_spec.proofs.Asked.{word-there, called-kept}
+use Rattle.orc_ledger_spec.proofs.Keeping.{from_one}
 use Rattle.orc_indexes.proofs.Lists.{set-there}
 use Rattle.orc_tables.proofs.Slots.{live-in, removed, replaced}
 use Rattle.orc_ledger.proofs.ledger.Ledger.answer_through.Goals as goal

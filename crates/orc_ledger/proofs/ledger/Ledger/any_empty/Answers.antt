@@ -1,9 +1,9 @@
 use Rattle.std.proofs.Common.{◌≡◌, ℕ, arith, ap, sym, ◌∙◌}
 use Rattle.orc_indexes.proofs.Weight.{weight-in}
 use Rattle.orc_tables.specs.declared.records.Group.{Group}
-use Rattle.orc_records.specs.Records.{Records}
-use Rattle.orc_records.specs.Next.{numbers_of, members, is_empty}
-use Rattle.orc_records.proofs.Scans.{the-found}
+use Rattle.orc_ledger_spec.specs.Records.{Records}
+use Rattle.orc_ledger_spec.specs.Next.{numbers_of, members, is_empty}
+use Rattle.orc_ledger_spec.proofs.Scans.{the-found}
 use Rattle.orc_ledger.proofs.ledger.Ledger.any_empty.Goals as goal
 
 -- the group that is found is counted

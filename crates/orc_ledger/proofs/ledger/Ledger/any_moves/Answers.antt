@@ -4,10 +4,10 @@ use Rattle.orc_rules.specs.Timed.{IsIn}
 use Rattle.orc_tables.specs.Tokens.{live, IsHeld}
 use Rattle.orc_tables.proofs.Slots.{live-in}
 use Rattle.orc_indexes.proofs.Weight.{weight-in}
-use Rattle.orc_records.specs.Records.{Records}
-use Rattle.orc_records.specs.Next.{ready_one}
+use Rattle.orc_ledger_spec.specs.Records.{Records}
+use Rattle.orc_ledger_spec.specs.Next.{ready_one}
 use Rattle.orc_tables.specs.declared.records.Token.{Token}
-use Rattle.orc_records.proofs.Scans.{the-found}
+use Rattle.orc_ledger_spec.proofs.Scans.{the-found}
 use Rattle.orc_ledger.proofs.ledger.Ledger.any_moves.Goals as goal
 
 -- a token that moves is ready

@@ -2,12 +2,12 @@ use Rattle.std.proofs.Common.{◌≡◌, ◌∙◌, List, ap, sym, map, refl}
 use Rattle.orc_rules.specs.declared.param.Operand.{Operand}
 use Rattle.orc_rules.specs.Nodes.{Listing, code, definitions, param_of}
 use Rattle.orc_rules.specs.Term.{site}
-use Rattle.orc_names.specs.Scopes.{close}
-use Rattle.orc_names.proofs.Scopes.{close-site}
-use Rattle.orc_records.specs.Records.{its_env, its_path}
-use Rattle.orc_paths.specs.Paths.{standing}
-use Rattle.orc_paths.specs.Doing.{closed, what_by}
-use Rattle.orc_records.proofs.Asked.{taken-not, site-only, site-called}
+use Rattle.orc_env.specs.Scopes.{close}
+use Rattle.orc_env.proofs.Scopes.{close-site}
+use Rattle.orc_ledger_spec.specs.Records.{its_env, its_path}
+use Rattle.orc_frames.specs.Paths.{standing}
+use Rattle.orc_frames.specs.Doing.{closed, what_by}
+use Rattle.orc_ledger_spec.proofs.Asked.{taken-not, site-only, site-called}
 use Rattle.orc_ledger.proofs.ledger.Ledger.ask.Goals as goal
 
 pub unreachable-requires : goal.unreachable-requires

@@ -5,14 +5,14 @@ use Rattle.orc_rules.specs.declared.param.Param.TheVariants as is
 use Rattle.orc_rules.specs.declared.param.Operand.{Operand}
 use Rattle.orc_rules.specs.Term.{param, site}
 use Rattle.orc_rules.specs.Nodes.{Listing, code, param_of}
-use Rattle.orc_records.specs.Records.{its_env}
-use Rattle.orc_paths.specs.Paths.{standing}
-use Rattle.orc_paths.specs.Doing.{closed}
-use Rattle.orc_paths.specs.Awaiting.{cells_among, cells_of}
+use Rattle.orc_ledger_spec.specs.Records.{its_env}
+use Rattle.orc_frames.specs.Paths.{standing}
+use Rattle.orc_frames.specs.Doing.{closed}
+use Rattle.orc_frames.specs.Awaiting.{cells_among, cells_of}
 use Rattle.orc_tables.specs.declared.records.Standing.{Standing}
-use Rattle.orc_records.specs.Moves.{StandsAt}
-use Rattle.orc_records.proofs.Advancing.{stands-param, stands-site}
-use Rattle.orc_paths.proofs.Waiting.{none-at, none-on}
+use Rattle.orc_ledger_spec.specs.Moves.{StandsAt}
+use Rattle.orc_ledger_spec.proofs.Advancing.{stands-param, stands-site}
+use Rattle.orc_frames.proofs.Waiting.{none-at, none-on}
 use Rattle.orc_ledger.proofs.ledger.Ledger.awaited.Goals as goal
 use Rattle.orc_ledger.proofs.ledger.Ledger.awaited.Goals.{in-At+in_default-node, in_default}
 

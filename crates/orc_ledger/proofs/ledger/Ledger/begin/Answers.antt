@@ -1,21 +1,21 @@
 use Rattle.std.proofs.Common.{◌≡◌, ℕ, List, [], ◌∷◌, ◌++◌, refl, sym, ap, ◌∙◌, subst, arith}
 use Rattle.orc_rules.specs.declared.entry.Entry.{Entry}
-use Rattle.orc_names.specs.declared.names.Bound.{Bound}
-use Rattle.orc_names.specs.declared.names.Bound.TheVariants.{Void}
-use Rattle.orc_names.specs.declared.names.Scope.{Scope}
+use Rattle.orc_env.specs.declared.names.Bound.{Bound}
+use Rattle.orc_env.specs.declared.names.Bound.TheVariants.{Void}
+use Rattle.orc_env.specs.declared.names.Scope.{Scope}
 use Rattle.orc_rules.specs.Journal.{Place}
 use Rattle.orc_calls.specs.Counting.{AreCounted}
-use Rattle.orc_records.specs.Kept.{Kept}
+use Rattle.orc_ledger_spec.specs.Kept.{Kept}
 use Rattle.orc_indexes.specs.Parking.{Parked, is_set}
-use Rattle.orc_records.specs.Begun.{begun}
+use Rattle.orc_ledger_spec.specs.Begun.{begun}
 use Rattle.orc_tables.specs.Tokens.{live}
 use Rattle.orc_tables.specs.declared.records.Standing.TheVariants.{At}
 use Rattle.orc_tables.specs.declared.records.Token.{Token}
 use Rattle.orc_tables.specs.declared.records.Call.{Call}
 use Rattle.orc_tables.specs.declared.records.Step.{Step}
 use Rattle.orc_tables.specs.declared.records.Group.{Group}
-use Rattle.orc_records.proofs.Begun.{begun-lawful, begun-grouped}
-use Rattle.orc_records.proofs.Brought.{begun-brought}
+use Rattle.orc_ledger_spec.proofs.Begun.{begun-lawful, begun-grouped}
+use Rattle.orc_ledger_spec.proofs.Brought.{begun-brought}
 use Rattle.orc_ledger.proofs.ledger.Ledger.begin.Goals as goal
 
 -- records made of lists that are those of a new run

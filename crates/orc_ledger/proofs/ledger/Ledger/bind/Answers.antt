@@ -4,31 +4,31 @@ use Rattle.orc_rules.specs.declared.param.Param.TheVariants as is_
 use Rattle.orc_rules.specs.Term.{param}
 use Rattle.orc_rules.specs.Nodes.{code}
 use Rattle.orc_rules.specs.Timed.{IsIn}
-use Rattle.orc_names.specs.declared.names.Bound.TheVariants.{Is}
+use Rattle.orc_env.specs.declared.names.Bound.TheVariants.{Is}
 use Rattle.orc_indexes.specs.Same.{weight, but}
 use Rattle.orc_tables.specs.Inside.{stands_inside, side_inside}
 use Rattle.orc_tables.specs.Tokens.{live, IsHeld}
-use Rattle.orc_paths.specs.Spelling.{Path, aiding}
-use Rattle.orc_paths.specs.Taking.{taker}
-use Rattle.orc_records.specs.Records.{Records, its_env, its_path}
-use Rattle.orc_paths.specs.Paths.{standing}
+use Rattle.orc_frames.specs.Spelling.{Path, aiding}
+use Rattle.orc_frames.specs.Taking.{taker}
+use Rattle.orc_ledger_spec.specs.Records.{Records, its_env, its_path}
+use Rattle.orc_frames.specs.Paths.{standing}
 use Rattle.orc_tables.specs.Steps.{group_at}
-use Rattle.orc_records.specs.Calls.{Drops, AreCancelled}
+use Rattle.orc_ledger_spec.specs.Calls.{Drops, AreCancelled}
 use Rattle.orc_tables.specs.declared.records.Token.{Token}
 use Rattle.orc_tables.specs.declared.records.Call.{Call}
 use Rattle.orc_tables.specs.declared.records.Group.{Group}
 use Rattle.orc_indexes.proofs.Weight.{weight-but}
 use Rattle.orc_tables.proofs.Slots.{live-in}
-use Rattle.orc_records.proofs.AtRest.{rest-dropped}
-use Rattle.orc_records.proofs.Binding.{bind-lawful, taken-unbound}
+use Rattle.orc_ledger_spec.proofs.AtRest.{rest-dropped}
+use Rattle.orc_ledger_spec.proofs.Binding.{bind-lawful, taken-unbound}
 use Rattle.orc_tables.proofs.Parked.{stay-but}
-use Rattle.orc_records.proofs.Calling.{drops-told}
-use Rattle.orc_records.proofs.Keeping.{counted-kept, cancels_none}
-use Rattle.orc_records.proofs.Grouped.{dropped-grouped}
-use Rattle.orc_records.proofs.Dropped.{drops}
-use Rattle.orc_records.proofs.Subtree.{side-cancelled, slots-listed, numbers-listed, groups-listed}
+use Rattle.orc_ledger_spec.proofs.Calling.{drops-told}
+use Rattle.orc_ledger_spec.proofs.Keeping.{counted-kept, cancels_none}
+use Rattle.orc_ledger_spec.proofs.Grouped.{dropped-grouped}
+use Rattle.orc_ledger_spec.proofs.Dropped.{drops}
+use Rattle.orc_ledger_spec.proofs.Subtree.{side-cancelled, slots-listed, numbers-listed, groups-listed}
 use Rattle.orc_indexes.specs.Same.{is_this}
-use Rattle.orc_records.proofs.Brought.{dropped-brought}
+use Rattle.orc_ledger_spec.proofs.Brought.{dropped-brought}
 use Rattle.orc_ledger.proofs.ledger.Ledger.bind.Goals as goal
 
 pub invariant_of-self-2 : goal.invariant_of-self-2

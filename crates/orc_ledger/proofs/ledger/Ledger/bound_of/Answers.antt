@@ -1,4 +1,4 @@
-use Rattle.orc_records.proofs.Advancing.{free-name}
+use Rattle.orc_ledger_spec.proofs.Advancing.{free-name}
 use Rattle.orc_ledger.proofs.ledger.Ledger.bound_of.Goals as goal
 
 pub returns-clause-free : goal.returns-clause-free

@@ -3,16 +3,16 @@ use Rattle.std.specs.Prelude.{slice_index_or}
 use Rattle.orc_rules.specs.declared.param.Operand.{Operand}
 use Rattle.orc_rules.specs.Nodes.{Listing, code, param_of}
 use Rattle.orc_rules.specs.Term.{values_of}
-use Rattle.orc_names.specs.Scopes.{close}
-use Rattle.orc_names.proofs.Scopes.{close-site}
-use Rattle.orc_records.specs.Records.{Records, its_env}
-use Rattle.orc_records.specs.AtOnce.{IsCalled}
-use Rattle.orc_records.specs.declared.results.Called.TheVariants.{Answered}
-use Rattle.orc_paths.specs.Doing.{closed}
-use Rattle.orc_paths.specs.Paths.{standing}
+use Rattle.orc_env.specs.Scopes.{close}
+use Rattle.orc_env.proofs.Scopes.{close-site}
+use Rattle.orc_ledger_spec.specs.Records.{Records, its_env}
+use Rattle.orc_ledger_spec.specs.AtOnce.{IsCalled}
+use Rattle.orc_ledger_spec.specs.declared.results.Called.TheVariants.{Answered}
+use Rattle.orc_frames.specs.Doing.{closed}
+use Rattle.orc_frames.specs.Paths.{standing}
 use Rattle.orc_tables.specs.Tokens.{live}
 use Rattle.orc_tables.specs.declared.records.Standing.TheVariants.{On}
-use Rattle.orc_records.proofs.AtOnce.{answered-held}
+use Rattle.orc_ledger_spec.proofs.AtOnce.{answered-held}
 use Rattle.orc_ledger.proofs.ledger.Ledger.call_on.Goals as goal
 
 pub answer_through-requires-clause-asks : goal.answer_through-requires-clause-asks

@@ -2,14 +2,14 @@ use Rattle.std.proofs.Common.{◌≡◌, [], ap, subst, ◌∙◌, refl, get_or}
 use Rattle.orc_rules.specs.Nodes.{source}
 use Rattle.orc_rules.specs.Timed.{IsIn, IsIdle}
 use Rattle.orc_rules.specs.Journal.{begin, moment}
-use Rattle.orc_records.specs.Records.{Records, context}
-use Rattle.orc_records.specs.Kept.{Kept}
+use Rattle.orc_ledger_spec.specs.Records.{Records, context}
+use Rattle.orc_ledger_spec.specs.Kept.{Kept}
 use Rattle.orc_tables.specs.Tokens.{live}
 use Rattle.orc_tables.specs.declared.records.Token.{Token}
-use Rattle.orc_records.proofs.Keeping.{journal_one}
+use Rattle.orc_ledger_spec.proofs.Keeping.{journal_one}
 use Rattle.orc_tables.proofs.Placed.{there}
 use Rattle.orc_tables.proofs.Slots.{live-in}
-use Rattle.orc_records.proofs.Using.{not_idle}
+use Rattle.orc_ledger_spec.proofs.Using.{not_idle}
 use Rattle.orc_ledger.proofs.ledger.Ledger.can_use_rule.Goals as goal
 
 pub returns-then-uses_rule : goal.returns-then-uses_rule

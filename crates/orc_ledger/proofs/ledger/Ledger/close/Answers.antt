@@ -2,14 +2,14 @@ use Rattle.std.proofs.Common.{◌≡◌, refl, sym, arith, true, [], append-nil}
 use Rattle.orc_rules.specs.Nodes.{code}
 use Rattle.orc_rules.specs.Timed.{IsIn}
 use Rattle.orc_tables.specs.Tokens.{live}
-use Rattle.orc_records.specs.Records.{Records, is_over}
-use Rattle.orc_records.specs.Calls.{Closes}
-use Rattle.orc_records.specs.Next.{members, numbers_of}
-use Rattle.orc_records.proofs.Closed.{closed-lawful}
-use Rattle.orc_records.proofs.Keeping.{told-kept, counted-kept}
-use Rattle.orc_records.proofs.Grouped.{closed-grouped}
-use Rattle.orc_records.proofs.Sizes.{closed-members}
-use Rattle.orc_records.proofs.Brought.{closed-brought}
+use Rattle.orc_ledger_spec.specs.Records.{Records, is_over}
+use Rattle.orc_ledger_spec.specs.Calls.{Closes}
+use Rattle.orc_ledger_spec.specs.Next.{members, numbers_of}
+use Rattle.orc_ledger_spec.proofs.Closed.{closed-lawful}
+use Rattle.orc_ledger_spec.proofs.Keeping.{told-kept, counted-kept}
+use Rattle.orc_ledger_spec.proofs.Grouped.{closed-grouped}
+use Rattle.orc_ledger_spec.proofs.Sizes.{closed-members}
+use Rattle.orc_ledger_spec.proofs.Brought.{closed-brought}
 use Rattle.orc_ledger.proofs.ledger.Ledger.close.Goals as goal
 
 pub invariant_of-self : goal.invariant_of-self

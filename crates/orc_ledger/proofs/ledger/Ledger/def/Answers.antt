@@ -4,28 +4,28 @@ use Rattle.orc_rules.specs.declared.entry.Entry.TheVariants.{Def}
 use Rattle.orc_rules.specs.declared.param.Operand.{Operand}
 use Rattle.orc_rules.specs.Timed.{IsIn}
 use Rattle.orc_rules.specs.Nodes.{Listing, Routine, definitions, definition_of, code}
-use Rattle.orc_names.specs.declared.names.Bound.{Bound}
-use Rattle.orc_names.specs.declared.names.Scope.{Scope}
+use Rattle.orc_env.specs.declared.names.Bound.{Bound}
+use Rattle.orc_env.specs.declared.names.Scope.{Scope}
 use Rattle.orc_graph.specs.Ranges.{params_at}
 use Rattle.orc_graph.proofs.Runs.{map_get}
 use Rattle.orc_indexes.specs.Same.{weight}
-use Rattle.orc_records.specs.Records.{Records}
+use Rattle.orc_ledger_spec.specs.Records.{Records}
 use Rattle.orc_tables.specs.Tokens.{live, IsHeld}
-use Rattle.orc_records.specs.Calls.{born}
-use Rattle.orc_names.specs.Parameters.{Adds}
-use Rattle.orc_records.specs.Parameters.{IsDefined}
+use Rattle.orc_ledger_spec.specs.Calls.{born}
+use Rattle.orc_env.specs.Parameters.{Adds}
+use Rattle.orc_ledger_spec.specs.Parameters.{IsDefined}
 use Rattle.orc_tables.specs.declared.records.Token.{Token}
-use Rattle.orc_records.proofs.AtRest.{rest-kept, turns-terms}
+use Rattle.orc_ledger_spec.proofs.AtRest.{rest-kept, turns-terms}
 use Rattle.orc_indexes.proofs.Lists.{set-there}
 use Rattle.orc_tables.proofs.Slots.{live-in, replaced}
-use Rattle.orc_records.proofs.Calling.{turns-told}
-use Rattle.orc_records.proofs.Keeping.{counted-kept}
-use Rattle.orc_records.proofs.Made.{turns, later_mark, step_in}
-use Rattle.orc_records.proofs.Bodies.{def-lawful, defined-grouped, routine_there}
+use Rattle.orc_ledger_spec.proofs.Calling.{turns-told}
+use Rattle.orc_ledger_spec.proofs.Keeping.{counted-kept}
+use Rattle.orc_ledger_spec.proofs.Made.{turns, later_mark, step_in}
+use Rattle.orc_ledger_spec.proofs.Bodies.{def-lawful, defined-grouped, routine_there}
 use Rattle.orc_indexes.specs.Same.{is_this}
-use Rattle.orc_records.proofs.Nests.{group-kept}
-use Rattle.orc_records.proofs.Sizes.{turned-members}
-use Rattle.orc_records.proofs.Brought.{turned-flat}
+use Rattle.orc_ledger_spec.proofs.Nests.{group-kept}
+use Rattle.orc_ledger_spec.proofs.Sizes.{turned-members}
+use Rattle.orc_ledger_spec.proofs.Brought.{turned-flat}
 use Rattle.orc_ledger.proofs.ledger.Ledger.def.Goals as goal
 
 -- a definition of the listing is one of the program

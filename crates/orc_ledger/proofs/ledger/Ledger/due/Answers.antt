@@ -2,9 +2,9 @@ use Rattle.std.proofs.Common.{◌≡◌, refl, sym, subst, ◌∙◌, ap}
 use Rattle.orc_rules.specs.Timed.{IsIn}
 use Rattle.orc_indexes.specs.Same.{weight}
 use Rattle.orc_tables.specs.PendingCalls.{has_number, IsLeastBeyond}
-use Rattle.orc_records.specs.Records.{Records}
-use Rattle.orc_records.specs.Kept.{Kept}
-use Rattle.orc_records.proofs.Owed.{none-owed, owed, owed-so, not-none}
+use Rattle.orc_ledger_spec.specs.Records.{Records}
+use Rattle.orc_ledger_spec.specs.Kept.{Kept}
+use Rattle.orc_ledger_spec.proofs.Owed.{none-owed, owed, owed-so, not-none}
 use Rattle.orc_ledger.proofs.ledger.Ledger.due.Goals as goal
 
 pub returns-in_default-clause-due : goal.returns-in_default-clause-due

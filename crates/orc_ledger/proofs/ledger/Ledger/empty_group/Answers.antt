@@ -1,11 +1,11 @@
 use Rattle.std.proofs.Common.{◌≡◌, ◌<◌, ℕ, zero, suc, List, arith, ap, sym, refl, ◌∙◌, get_or, Bool, true, false, subst, length}
 use Rattle.orc_rules.specs.Timed.{IsIn}
 use Rattle.orc_indexes.specs.Same.{weight}
-use Rattle.orc_records.specs.Records.{Records}
-use Rattle.orc_records.specs.Next.{numbers_of, members, is_empty}
+use Rattle.orc_ledger_spec.specs.Records.{Records}
+use Rattle.orc_ledger_spec.specs.Next.{numbers_of, members, is_empty}
 use Rattle.orc_tables.specs.declared.records.Group.{Group}
 use Rattle.orc_indexes.proofs.Weight.{in-got}
-use Rattle.orc_records.proofs.Scans.{none-so-far, none-at-all}
+use Rattle.orc_ledger_spec.proofs.Scans.{none-so-far, none-at-all}
 use Rattle.orc_ledger.proofs.ledger.Ledger.empty_group.Goals as goal
 
 full : (k : ℕ) → (k ≡ 0 → ⊥) → is_empty k ≡ 0

@@ -1,6 +1,6 @@
 use Rattle.std.proofs.Common.{◌≡◌, take}
 use Rattle.orc_indexes.specs.Same.{weight}
-use Rattle.orc_records.specs.Next.{numbers_of, members, is_empty}
+use Rattle.orc_ledger_spec.specs.Next.{numbers_of, members, is_empty}
 use Rattle.orc_tables.specs.declared.records.Group.{Group}
 use Rattle.orc_ledger.proofs.ledger.Ledger.empty_group.Given as goal
 

@@ -4,26 +4,26 @@ use Rattle.orc_rules.specs.declared.entry.Entry.TheVariants.{Seq}
 use Rattle.orc_rules.specs.Timed.{IsIn}
 use Rattle.orc_rules.specs.Nodes.{code, definitions}
 use Rattle.orc_indexes.specs.Same.{weight}
-use Rattle.orc_records.specs.Records.{Records}
+use Rattle.orc_ledger_spec.specs.Records.{Records}
 use Rattle.orc_tables.specs.Steps.{group_at, depth_at}
 use Rattle.orc_tables.specs.Tokens.{live, IsHeld}
-use Rattle.orc_records.specs.Calls.{born, IsFed}
+use Rattle.orc_ledger_spec.specs.Calls.{born, IsFed}
 use Rattle.orc_tables.specs.declared.records.Token.{Token}
-use Rattle.orc_tables.specs.declared.records.Entered.TheVariants.{Feed}
+use Rattle.orc_tables.specs.declared.records.Frame.TheVariants.{SeqLeft}
 use Rattle.orc_tables.specs.declared.records.Step.{Step}
-use Rattle.orc_records.proofs.AtRest.{rest-kept, same-terms}
+use Rattle.orc_ledger_spec.proofs.AtRest.{rest-kept, same-terms}
 use Rattle.orc_indexes.proofs.Lists.{set-there}
 use Rattle.orc_tables.proofs.Slots.{live-in, replaced}
-use Rattle.orc_records.proofs.Calling.{turns-told}
-use Rattle.orc_records.proofs.Keeping.{counted-kept}
-use Rattle.orc_records.proofs.Made.{turns, later_mark}
-use Rattle.orc_records.proofs.Leaves.{feed-lawful}
-use Rattle.orc_records.proofs.Grouped.{fed-grouped}
+use Rattle.orc_ledger_spec.proofs.Calling.{turns-told}
+use Rattle.orc_ledger_spec.proofs.Keeping.{counted-kept}
+use Rattle.orc_ledger_spec.proofs.Made.{turns, later_mark}
+use Rattle.orc_ledger_spec.proofs.Leaves.{feed-lawful}
+use Rattle.orc_ledger_spec.proofs.Grouped.{fed-grouped}
 use Rattle.orc_indexes.specs.Same.{is_this}
-use Rattle.orc_records.proofs.Nests.{group-end}
-use Rattle.orc_records.proofs.Sizes.{turned-members}
-use Rattle.orc_records.proofs.Brought.{turned-deep}
-use Rattle.orc_records.proofs.Advancing.{step-within}
+use Rattle.orc_ledger_spec.proofs.Nests.{group-end}
+use Rattle.orc_ledger_spec.proofs.Sizes.{turned-members}
+use Rattle.orc_ledger_spec.proofs.Brought.{turned-deep}
+use Rattle.orc_ledger_spec.proofs.Advancing.{step-within}
 use Rattle.orc_ledger.proofs.ledger.Ledger.feed.Goals as goal
 
 pub invariant_of-self-2 : goal.invariant_of-self-2
@@ -41,9 +41,9 @@ invariant_of-self-2 g c =
     let room : s.entries < s.limit = rw (← c.self.view_is) at c.in_ok-within.ensures.room in
     let s' : Records = record { limit = b.limit; journal = c.write.new.journal.entries; entries = b.entries + 1; next_mark = b.next_mark + 1; now = b.time; made = b.calls.made; tokens = live c.replace.new.self.items; slots = c.replace.new.self.items; calls = b.calls.items; scopes = b.scopes.items; steps = c.push.new.self.items; groups = b.groups.items; cells = b.cells.items } in
     let journal : s'.journal ≡ s.journal ++ Seq a.token.serial b.next_mark ∷ [] = ap (λ j. j.entries) c.in_ok-write.ensures.added in
-    let step : Step = record { entered = Feed a.name a.right a.scope; outer = a.token.step; group = group_at s.steps a.token.step; depth = depth_at s.steps a.token.step + 1; published = false } in
-    let made : Step = record { entered = Feed a.name a.right a.scope; outer = a.token.step; group = c.group_at-group.result; depth = c.depth_at-depth.result + 1; published = false } in
-    let same : made ≡ step = λ i. record { entered = Feed a.name a.right a.scope; outer = a.token.step; group = c.group_at-group.ensures i; depth = c.depth_at-depth.ensures i + 1; published = false } in
+    let step : Step = record { entered = SeqLeft a.name a.right a.scope; outer = a.token.step; group = group_at s.steps a.token.step; depth = depth_at s.steps a.token.step + 1; published = false } in
+    let made : Step = record { entered = SeqLeft a.name a.right a.scope; outer = a.token.step; group = c.group_at-group.result; depth = c.depth_at-depth.result + 1; published = false } in
+    let same : made ≡ step = λ i. record { entered = SeqLeft a.name a.right a.scope; outer = a.token.step; group = c.group_at-group.ensures i; depth = c.depth_at-depth.ensures i + 1; published = false } in
     let steps : c.push.new.self.items ≡ s.steps ++ step ∷ [] = c.push.ensures.items ∙ ap (λ (z : List Step). z ++ made ∷ []) c.in_ok-reserve.ensures.items ∙ ap (λ z. s.steps ++ z ∷ []) same in
     let count : c.len-step.result + 1 ≡ length s.steps + 1 = omega (arith, c.len-step.ensures.count, ap length c.in_ok-reserve.ensures.items) in
     let first : Token = born s a.token s.next_mark a.left a.scope (length s.steps + 1) in
@@ -80,9 +80,9 @@ returns-clause-done g c =
     let room : s.entries < s.limit = rw (← c.self.view_is) at c.in_ok-within.ensures.room in
     let s' : Records = record { limit = b.limit; journal = c.write.new.journal.entries; entries = b.entries + 1; next_mark = b.next_mark + 1; now = b.time; made = b.calls.made; tokens = live c.replace.new.self.items; slots = c.replace.new.self.items; calls = b.calls.items; scopes = b.scopes.items; steps = c.push.new.self.items; groups = b.groups.items; cells = b.cells.items } in
     let journal : s'.journal ≡ s.journal ++ Seq a.token.serial b.next_mark ∷ [] = ap (λ j. j.entries) c.in_ok-write.ensures.added in
-    let step : Step = record { entered = Feed a.name a.right a.scope; outer = a.token.step; group = group_at s.steps a.token.step; depth = depth_at s.steps a.token.step + 1; published = false } in
-    let made : Step = record { entered = Feed a.name a.right a.scope; outer = a.token.step; group = c.group_at-group.result; depth = c.depth_at-depth.result + 1; published = false } in
-    let same : made ≡ step = λ i. record { entered = Feed a.name a.right a.scope; outer = a.token.step; group = c.group_at-group.ensures i; depth = c.depth_at-depth.ensures i + 1; published = false } in
+    let step : Step = record { entered = SeqLeft a.name a.right a.scope; outer = a.token.step; group = group_at s.steps a.token.step; depth = depth_at s.steps a.token.step + 1; published = false } in
+    let made : Step = record { entered = SeqLeft a.name a.right a.scope; outer = a.token.step; group = c.group_at-group.result; depth = c.depth_at-depth.result + 1; published = false } in
+    let same : made ≡ step = λ i. record { entered = SeqLeft a.name a.right a.scope; outer = a.token.step; group = c.group_at-group.ensures i; depth = c.depth_at-depth.ensures i + 1; published = false } in
     let steps : c.push.new.self.items ≡ s.steps ++ step ∷ [] = c.push.ensures.items ∙ ap (λ (z : List Step). z ++ made ∷ []) c.in_ok-reserve.ensures.items ∙ ap (λ z. s.steps ++ z ∷ []) same in
     let count : c.len-step.result + 1 ≡ length s.steps + 1 = omega (arith, c.len-step.ensures.count, ap length c.in_ok-reserve.ensures.items) in
     let first : Token = born s a.token s.next_mark a.left a.scope (length s.steps + 1) in

@@ -3,12 +3,12 @@ use Rattle.std.specs.Prelude.{slice_index_or}
 use Rattle.std.proofs.lemmas.Result.{err_from_is_err_and}
 use Rattle.orc_rules.specs.Nodes.{Listing, code, param_of}
 use Rattle.orc_rules.specs.Term.{site}
-use Rattle.orc_records.specs.Records.{Records, Sound}
-use Rattle.orc_records.specs.Moves.{Feeds}
-use Rattle.orc_paths.specs.declared.what.What.TheVariants.{Seq}
-use Rattle.orc_records.proofs.Advancing.{word-seq, moves-by, hindered-by}
-use Rattle.orc_records.proofs.Onward.{fed-held, fed-passes}
-use Rattle.orc_records.proofs.Cleared.{through-vacant, halted-vacant}
+use Rattle.orc_ledger_spec.specs.Records.{Records, Sound}
+use Rattle.orc_ledger_spec.specs.Moves.{Feeds}
+use Rattle.orc_frames.specs.declared.action.Action.TheVariants.{Seq}
+use Rattle.orc_ledger_spec.proofs.Advancing.{word-seq, moves-by, hindered-by}
+use Rattle.orc_ledger_spec.proofs.Onward.{fed-held, fed-passes}
+use Rattle.orc_ledger_spec.proofs.Cleared.{through-vacant, halted-vacant}
 use Rattle.orc_ledger.proofs.ledger.Ledger.feed_through.Goals as goal
 
 pub returns-in_err-feed-clause-why : goal.returns-in_err-feed-clause-why

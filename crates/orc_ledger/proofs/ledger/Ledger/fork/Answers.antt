@@ -4,24 +4,24 @@ use Rattle.orc_rules.specs.declared.entry.Entry.TheVariants.{Fork}
 use Rattle.orc_rules.specs.Timed.{IsIn}
 use Rattle.orc_rules.specs.Nodes.{code, definitions}
 use Rattle.orc_indexes.specs.Same.{weight}
-use Rattle.orc_records.specs.Records.{Records}
+use Rattle.orc_ledger_spec.specs.Records.{Records}
 use Rattle.orc_tables.specs.Tokens.{live, IsHeld}
-use Rattle.orc_records.specs.Calls.{born, IsForked, HasRoom}
+use Rattle.orc_ledger_spec.specs.Calls.{born, IsForked, HasRoom}
 use Rattle.orc_tables.specs.declared.records.Token.{Token}
-use Rattle.orc_records.proofs.AtRest.{rest-kept, same-terms}
+use Rattle.orc_ledger_spec.proofs.AtRest.{rest-kept, same-terms}
 use Rattle.orc_tables.proofs.Parked.{stay-on, stay-same}
 use Rattle.orc_indexes.proofs.Lists.{set-there}
 use Rattle.orc_tables.proofs.Slots.{live-in, replaced}
-use Rattle.orc_records.proofs.Calling.{turns-told}
-use Rattle.orc_records.proofs.Keeping.{counted-kept}
-use Rattle.orc_records.proofs.Made.{turns, later_mark, step_in}
-use Rattle.orc_records.proofs.Leaves.{fork-lawful}
-use Rattle.orc_records.proofs.Grouped.{forked-grouped}
+use Rattle.orc_ledger_spec.proofs.Calling.{turns-told}
+use Rattle.orc_ledger_spec.proofs.Keeping.{counted-kept}
+use Rattle.orc_ledger_spec.proofs.Made.{turns, later_mark, step_in}
+use Rattle.orc_ledger_spec.proofs.Leaves.{fork-lawful}
+use Rattle.orc_ledger_spec.proofs.Grouped.{forked-grouped}
 use Rattle.orc_indexes.specs.Same.{is_this}
 use Rattle.orc_tables.specs.OpenGroups.{IsOpen}
-use Rattle.orc_records.proofs.Nests.{group-kept}
-use Rattle.orc_records.proofs.Sizes.{turned-members, open-token, size-few}
-use Rattle.orc_records.proofs.Brought.{turned-flat}
+use Rattle.orc_ledger_spec.proofs.Nests.{group-kept}
+use Rattle.orc_ledger_spec.proofs.Sizes.{turned-members, open-token, size-few}
+use Rattle.orc_ledger_spec.proofs.Brought.{turned-flat}
 use Rattle.orc_ledger.proofs.ledger.Ledger.fork.Goals as goal
 
 pub invariant_of-self-2 : goal.invariant_of-self-2

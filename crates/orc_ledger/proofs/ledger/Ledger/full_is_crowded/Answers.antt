@@ -1,4 +1,4 @@
-use Rattle.orc_records.proofs.Brought.{full-is-crowded}
+use Rattle.orc_ledger_spec.proofs.Brought.{full-is-crowded}
 use Rattle.orc_ledger.proofs.ledger.Ledger.full_is_crowded.Goals as goal
 
 pub returns : goal.returns

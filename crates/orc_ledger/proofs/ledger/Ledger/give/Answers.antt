@@ -5,21 +5,21 @@ use Rattle.orc_rules.specs.Timed.{IsIn}
 use Rattle.orc_calls.specs.Due.{DueNow}
 use Rattle.orc_rules.specs.Nodes.{code, definitions}
 use Rattle.orc_indexes.specs.Same.{weight}
-use Rattle.orc_records.specs.Records.{Records}
+use Rattle.orc_ledger_spec.specs.Records.{Records}
 use Rattle.orc_tables.specs.Tokens.{live}
-use Rattle.orc_records.specs.Calls.{Exchanges}
+use Rattle.orc_ledger_spec.specs.Calls.{Exchanges}
 use Rattle.orc_tables.specs.declared.records.Standing.TheVariants.{On}
 use Rattle.orc_tables.specs.declared.records.Token.{Token}
-use Rattle.orc_records.proofs.AtRest.{rest-kept, same-terms}
+use Rattle.orc_ledger_spec.proofs.AtRest.{rest-kept, same-terms}
 use Rattle.orc_tables.proofs.Parked.{stay-on, stay-same}
-use Rattle.orc_records.proofs.Answered.{due-there}
-use Rattle.orc_records.proofs.Asking.{return-lawful}
-use Rattle.orc_records.proofs.Calling.{returns-told}
-use Rattle.orc_records.proofs.Grouped.{returned-grouped}
-use Rattle.orc_records.proofs.Keeping.{counted-kept, from_one}
-use Rattle.orc_records.proofs.Sizes.{exchanged-members}
+use Rattle.orc_ledger_spec.proofs.Answered.{due-there}
+use Rattle.orc_ledger_spec.proofs.Asking.{return-lawful}
+use Rattle.orc_ledger_spec.proofs.Calling.{returns-told}
+use Rattle.orc_ledger_spec.proofs.Grouped.{returned-grouped}
+use Rattle.orc_ledger_spec.proofs.Keeping.{counted-kept, from_one}
+use Rattle.orc_ledger_spec.proofs.Sizes.{exchanged-members}
 use Rattle.orc_tables.proofs.Slots.{live-in}
-use Rattle.orc_records.proofs.Brought.{exchanged-brought}
+use Rattle.orc_ledger_spec.proofs.Brought.{exchanged-brought}
 use Rattle.orc_ledger.proofs.ledger.Ledger.give.Goals as goal
 
 pub invariant_of-self-2 : goal.invariant_of-self-2

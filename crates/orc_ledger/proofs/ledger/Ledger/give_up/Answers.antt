@@ -3,17 +3,17 @@ use Rattle.orc_rules.specs.declared.value.Answer.TheVariants.{Halt}
 use Rattle.orc_rules.specs.declared.entry.Entry.TheVariants.{ReturnHalt}
 use Rattle.orc_rules.specs.Timed.{IsIn}
 use Rattle.orc_calls.specs.Due.{DueNow}
-use Rattle.orc_records.specs.Records.{Records}
+use Rattle.orc_ledger_spec.specs.Records.{Records}
 use Rattle.orc_tables.specs.Tokens.{live}
-use Rattle.orc_records.specs.Calls.{Exchanges}
-use Rattle.orc_records.proofs.Answered.{due-there}
-use Rattle.orc_records.proofs.Asking.{return_halt-lawful}
-use Rattle.orc_records.proofs.Calling.{returns-told}
-use Rattle.orc_records.proofs.Grouped.{halted-grouped}
-use Rattle.orc_records.proofs.Keeping.{counted-kept}
+use Rattle.orc_ledger_spec.specs.Calls.{Exchanges}
+use Rattle.orc_ledger_spec.proofs.Answered.{due-there}
+use Rattle.orc_ledger_spec.proofs.Asking.{return_halt-lawful}
+use Rattle.orc_ledger_spec.proofs.Calling.{returns-told}
+use Rattle.orc_ledger_spec.proofs.Grouped.{halted-grouped}
+use Rattle.orc_ledger_spec.proofs.Keeping.{counted-kept}
 use Rattle.orc_indexes.specs.Same.{is_this}
-use Rattle.orc_records.proofs.Sizes.{exchanged-members}
-use Rattle.orc_records.proofs.Brought.{exchanged-brought}
+use Rattle.orc_ledger_spec.proofs.Sizes.{exchanged-members}
+use Rattle.orc_ledger_spec.proofs.Brought.{exchanged-brought}
 use Rattle.orc_ledger.proofs.ledger.Ledger.give_up.Goals as goal
 
 pub invariant_of-self-2 : goal.invariant_of-self-2

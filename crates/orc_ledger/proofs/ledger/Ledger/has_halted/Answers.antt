@@ -3,11 +3,11 @@ use Rattle.orc_rules.specs.Nodes.{source}
 use Rattle.orc_rules.specs.Term.{Halted}
 use Rattle.orc_rules.specs.Marked.{erase}
 use Rattle.orc_rules.specs.Journal.{Place, begin}
-use Rattle.orc_records.specs.Records.{Records, context}
-use Rattle.orc_records.specs.Kept.{Kept}
-use Rattle.orc_records.specs.Next.{numbers_of}
-use Rattle.orc_records.proofs.Keeping.{journal_one}
-use Rattle.orc_records.proofs.Ended.{root-halted}
+use Rattle.orc_ledger_spec.specs.Records.{Records, context}
+use Rattle.orc_ledger_spec.specs.Kept.{Kept}
+use Rattle.orc_ledger_spec.specs.Next.{numbers_of}
+use Rattle.orc_ledger_spec.proofs.Keeping.{journal_one}
+use Rattle.orc_ledger_spec.proofs.Ended.{root-halted}
 use Rattle.orc_ledger.proofs.ledger.Ledger.has_halted.Goals as goal
 
 pub returns-clause-halted : goal.returns-clause-halted

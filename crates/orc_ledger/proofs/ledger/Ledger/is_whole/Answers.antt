@@ -1,8 +1,8 @@
 use Rattle.std.proofs.Common.{sym, ◌∙◌}
-use Rattle.orc_records.specs.Records.{Records}
+use Rattle.orc_ledger_spec.specs.Records.{Records}
 use Rattle.orc_tables.specs.Tokens.{live}
-use Rattle.orc_records.specs.Whole.{IsWhole}
-use Rattle.orc_records.proofs.Using.{counted-so}
+use Rattle.orc_ledger_spec.specs.Whole.{IsWhole}
+use Rattle.orc_ledger_spec.proofs.Using.{counted-so}
 use Rattle.orc_ledger.proofs.ledger.Ledger.is_whole.Goals as goal
 
 pub returns : goal.returns

@@ -2,24 +2,24 @@ use Rattle.std.proofs.Common.{◌≡◌, ◌+◌, ◌<◌, ℕ, [], ◌∷◌, �
 use Rattle.orc_rules.specs.declared.entry.Entry.TheVariants.{Lost}
 use Rattle.orc_rules.specs.Nodes.{code}
 use Rattle.orc_rules.specs.Timed.{IsIn}
-use Rattle.orc_names.specs.declared.names.Bound.TheVariants.{Void}
+use Rattle.orc_env.specs.declared.names.Bound.TheVariants.{Void}
 use Rattle.orc_tables.specs.Tokens.{live}
 use Rattle.orc_indexes.specs.Same.{weight, but}
-use Rattle.orc_records.specs.Records.{Records}
+use Rattle.orc_ledger_spec.specs.Records.{Records}
 use Rattle.orc_tables.specs.Steps.{group_at}
-use Rattle.orc_records.specs.Calls.{Drops, group_goes}
-use Rattle.orc_records.specs.Next.{members, numbers_of}
+use Rattle.orc_ledger_spec.specs.Calls.{Drops, group_goes}
+use Rattle.orc_ledger_spec.specs.Next.{members, numbers_of}
 use Rattle.orc_indexes.specs.Same.{is_this}
 use Rattle.orc_tables.specs.declared.records.Group.{Group}
 use Rattle.orc_tables.specs.declared.records.Token.{Token}
-use Rattle.orc_records.proofs.AtRest.{rest-dropped, side-unbound}
-use Rattle.orc_records.proofs.Binding.{lost-lawful}
-use Rattle.orc_records.proofs.Emptied.{right-empty, right-alone}
-use Rattle.orc_records.proofs.Calling.{drops-told}
-use Rattle.orc_records.proofs.Keeping.{counted-kept}
-use Rattle.orc_records.proofs.Grouped.{dropped-grouped}
-use Rattle.orc_records.proofs.Dropped.{drops-empty}
-use Rattle.orc_records.proofs.Brought.{dropped-brought}
+use Rattle.orc_ledger_spec.proofs.AtRest.{rest-dropped, side-unbound}
+use Rattle.orc_ledger_spec.proofs.Binding.{lost-lawful}
+use Rattle.orc_ledger_spec.proofs.Emptied.{right-empty, right-alone}
+use Rattle.orc_ledger_spec.proofs.Calling.{drops-told}
+use Rattle.orc_ledger_spec.proofs.Keeping.{counted-kept}
+use Rattle.orc_ledger_spec.proofs.Grouped.{dropped-grouped}
+use Rattle.orc_ledger_spec.proofs.Dropped.{drops-empty}
+use Rattle.orc_ledger_spec.proofs.Brought.{dropped-brought}
 use Rattle.orc_ledger.proofs.ledger.Ledger.lost.Goals as goal
 
 pub invariant_of-self-2 : goal.invariant_of-self-2

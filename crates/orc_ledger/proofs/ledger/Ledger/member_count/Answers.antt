@@ -1,6 +1,6 @@
 use Rattle.std.proofs.Common.{ap, ◌∙◌}
-use Rattle.orc_records.specs.Records.{Records}
-use Rattle.orc_records.specs.Next.{members, numbers_of}
+use Rattle.orc_ledger_spec.specs.Records.{Records}
+use Rattle.orc_ledger_spec.specs.Next.{members, numbers_of}
 use Rattle.orc_ledger.proofs.ledger.Ledger.member_count.Goals as goal
 
 pub returns : goal.returns

@@ -2,13 +2,13 @@ use Rattle.std.proofs.Common.{◌≡◌, ◌<◌, ◌≤◌, ℕ, length, arith,
 use Rattle.orc_rules.specs.Nodes.{code, definitions}
 use Rattle.orc_indexes.specs.Same.{weight, only}
 use Rattle.orc_tables.specs.Tokens.{is_live, live, IsHeld}
-use Rattle.orc_records.specs.Records.{Records}
-use Rattle.orc_records.specs.Next.{ready_one}
+use Rattle.orc_ledger_spec.specs.Records.{Records}
+use Rattle.orc_ledger_spec.specs.Next.{ready_one}
 use Rattle.orc_tables.specs.declared.records.Token.{Token}
-use Rattle.orc_records.proofs.AtRest.{none-ready}
+use Rattle.orc_ledger_spec.proofs.AtRest.{none-ready}
 use Rattle.orc_tables.proofs.Placed.{there}
 use Rattle.orc_tables.proofs.Slots.{weight-live}
-use Rattle.orc_records.proofs.Scans.{none-so-far, none-at-all}
+use Rattle.orc_ledger_spec.proofs.Scans.{none-so-far, none-at-all}
 use Rattle.orc_ledger.proofs.ledger.Ledger.movable.Goals as goal
 
 pub returns-then-all_wait : goal.returns-then-all_wait

@@ -1,9 +1,9 @@
 use Rattle.orc_rules.specs.declared.param.Param.TheVariants as is
 use Rattle.orc_rules.specs.Nodes.{code}
-use Rattle.orc_names.specs.declared.names.Bound.TheVariants as bound
-use Rattle.orc_names.proofs.Scopes.{close-given}
-use Rattle.orc_records.specs.Records.{its_env}
-use Rattle.orc_records.proofs.Advancing.{stands-param}
+use Rattle.orc_env.specs.declared.names.Bound.TheVariants as bound
+use Rattle.orc_env.proofs.Scopes.{close-given}
+use Rattle.orc_ledger_spec.specs.Records.{its_env}
+use Rattle.orc_ledger_spec.proofs.Advancing.{stands-param}
 use Rattle.orc_ledger.proofs.ledger.Ledger.move_at.Goals as goal
 
 pub move_value-requires-clause-form : goal.move_value-requires-clause-form

@@ -1,8 +1,8 @@
 use Rattle.std.proofs.Common.{ap, refl, ◌∙◌}
-use Rattle.orc_paths.specs.Doing.{taken}
-use Rattle.orc_paths.specs.declared.what.What.TheVariants.{Bind}
+use Rattle.orc_frames.specs.Doing.{taken}
+use Rattle.orc_frames.specs.declared.action.Action.TheVariants.{Bind}
 use Rattle.std.proofs.lemmas.Result.{err_from_is_err_and}
-use Rattle.orc_records.proofs.Advancing.{word-value, moves-by, hindered-by}
+use Rattle.orc_ledger_spec.proofs.Advancing.{word-value, moves-by, hindered-by}
 use Rattle.orc_ledger.proofs.ledger.Ledger.move_bind.Goals as goal
 
 pub returns-clause-done : goal.returns-clause-done

@@ -1,10 +1,10 @@
 use Rattle.std.proofs.Common.{ap, sym, refl, ◌∙◌}
 use Rattle.std.specs.Prelude.{slice_get, option_map}
 use Rattle.orc_rules.specs.Nodes.{Listing, Routine}
-use Rattle.orc_paths.specs.declared.what.What.TheVariants.{Def, Wait}
+use Rattle.orc_frames.specs.declared.action.Action.TheVariants.{Def, Wait}
 use Rattle.std.proofs.lemmas.Result.{err_from_is_err_and}
-use Rattle.orc_paths.proofs.Forms.{defined, undefined}
-use Rattle.orc_records.proofs.Advancing.{word-call, moves-by, hindered-by}
+use Rattle.orc_frames.proofs.Forms.{defined, undefined}
+use Rattle.orc_ledger_spec.proofs.Advancing.{word-call, moves-by, hindered-by}
 use Rattle.orc_ledger.proofs.ledger.Ledger.move_def.Goals as goal
 
 pub returns-in-None-clause-done : goal.returns-in-None-clause-done

@@ -1,6 +1,6 @@
-use Rattle.orc_paths.specs.declared.what.What.TheVariants.{Halt}
+use Rattle.orc_frames.specs.declared.action.Action.TheVariants.{Halt}
 use Rattle.std.proofs.lemmas.Result.{err_from_is_err_and}
-use Rattle.orc_records.proofs.Advancing.{word-stop, moves-by, hindered-by}
+use Rattle.orc_ledger_spec.proofs.Advancing.{word-stop, moves-by, hindered-by}
 use Rattle.orc_ledger.proofs.ledger.Ledger.move_end.Goals as goal
 
 pub returns-clause-done : goal.returns-clause-done

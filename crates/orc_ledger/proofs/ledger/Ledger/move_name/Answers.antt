@@ -1,7 +1,7 @@
 use Rattle.std.proofs.Common.{refl}
 use Rattle.orc_rules.specs.declared.param.Param.TheVariants as is
-use Rattle.orc_paths.specs.declared.what.What.TheVariants.{Wait}
-use Rattle.orc_records.proofs.Advancing.{stands-param, word-param, void-param, moves-by}
+use Rattle.orc_frames.specs.declared.action.Action.TheVariants.{Wait}
+use Rattle.orc_ledger_spec.proofs.Advancing.{stands-param, word-param, void-param, moves-by}
 use Rattle.orc_ledger.proofs.ledger.Ledger.move_name.Goals as goal
 
 pub move_value-requires-clause-form : goal.move_value-requires-clause-form

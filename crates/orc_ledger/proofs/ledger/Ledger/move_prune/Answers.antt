@@ -1,7 +1,7 @@
 use Rattle.orc_rules.specs.Nodes.{code}
-use Rattle.orc_paths.specs.declared.what.What.TheVariants.{Prune}
+use Rattle.orc_frames.specs.declared.action.Action.TheVariants.{Prune}
 use Rattle.std.proofs.lemmas.Result.{err_from_is_err_and}
-use Rattle.orc_records.proofs.Advancing.{word-prune, moves-by, hindered-by}
+use Rattle.orc_ledger_spec.proofs.Advancing.{word-prune, moves-by, hindered-by}
 use Rattle.orc_ledger.proofs.ledger.Ledger.move_prune.Goals as goal
 
 pub returns-clause-done : goal.returns-clause-done

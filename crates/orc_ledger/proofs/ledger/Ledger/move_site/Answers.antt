@@ -2,10 +2,10 @@ use Rattle.std.proofs.Common.{◌≡◌, List, [], ap, sym, refl, ◌∙◌, fal
 use Rattle.std.specs.Prelude.{slice_index_or}
 use Rattle.orc_rules.specs.declared.param.Operand.{Operand}
 use Rattle.orc_rules.specs.Nodes.{Listing, code}
-use Rattle.orc_records.specs.Records.{its_env}
-use Rattle.orc_paths.specs.Doing.{scan, closed}
-use Rattle.orc_paths.specs.declared.what.What.TheVariants.{Call, Wait}
-use Rattle.orc_records.proofs.Advancing.{word-site, void-site, site-waits, moves-by}
+use Rattle.orc_ledger_spec.specs.Records.{its_env}
+use Rattle.orc_frames.specs.Doing.{scan, closed}
+use Rattle.orc_frames.specs.declared.action.Action.TheVariants.{Call, Wait}
+use Rattle.orc_ledger_spec.proofs.Advancing.{word-site, void-site, site-waits, moves-by}
 use Rattle.orc_ledger.proofs.ledger.Ledger.move_site.Goals as goal
 
 pub move_void-requires-clause-void : goal.move_void-requires-clause-void

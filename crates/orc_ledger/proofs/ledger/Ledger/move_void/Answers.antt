@@ -1,6 +1,6 @@
-use Rattle.orc_paths.specs.declared.what.What.TheVariants.{Void}
+use Rattle.orc_frames.specs.declared.action.Action.TheVariants.{Void}
 use Rattle.std.proofs.lemmas.Result.{err_from_is_err_and}
-use Rattle.orc_records.proofs.Advancing.{word-void, moves-by, hindered-by}
+use Rattle.orc_ledger_spec.proofs.Advancing.{word-void, moves-by, hindered-by}
 use Rattle.orc_ledger.proofs.ledger.Ledger.move_void.Goals as goal
 
 pub returns-clause-done : goal.returns-clause-done

@@ -1,4 +1,4 @@
-use Rattle.orc_records.proofs.Spoken.{is-right}
+use Rattle.orc_ledger_spec.proofs.Spoken.{is-right}
 use Rattle.orc_ledger.proofs.ledger.Ledger.next.Goals as goal
 
 pub returns-clause-right : goal.returns-clause-right

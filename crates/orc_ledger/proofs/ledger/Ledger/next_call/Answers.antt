@@ -1,9 +1,9 @@
 use Rattle.std.proofs.Common.{refl}
-use Rattle.orc_records.specs.Records.{Records}
-use Rattle.orc_records.specs.Requests.{IsNextCall}
+use Rattle.orc_ledger_spec.specs.Records.{Records}
+use Rattle.orc_ledger_spec.specs.Requests.{IsNextCall}
 use Rattle.orc_tables.specs.Tokens.{live}
 use Rattle.orc_tables.specs.declared.records.Call.{Call}
-use Rattle.orc_records.proofs.Asked.{next-there}
+use Rattle.orc_ledger_spec.proofs.Asked.{next-there}
 use Rattle.orc_ledger.proofs.ledger.Ledger.next_call.Goals as goal
 
 pub returns : goal.returns

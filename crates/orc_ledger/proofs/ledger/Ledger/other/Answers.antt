@@ -4,29 +4,29 @@ use Rattle.orc_rules.specs.declared.entry.Entry.TheVariants.{Other}
 use Rattle.orc_rules.specs.Timed.{IsIn}
 use Rattle.orc_rules.specs.Nodes.{code, definitions}
 use Rattle.orc_indexes.specs.Same.{weight, None}
-use Rattle.orc_records.specs.Records.{Records}
+use Rattle.orc_ledger_spec.specs.Records.{Records}
 use Rattle.orc_tables.specs.Steps.{depth_at}
 use Rattle.orc_tables.specs.Tokens.{live, IsHeld}
-use Rattle.orc_records.specs.Calls.{born, IsFree, IsTried, HasRoom}
+use Rattle.orc_ledger_spec.specs.Calls.{born, IsFree, IsTried, HasRoom}
 use Rattle.orc_tables.specs.declared.records.Token.{Token}
-use Rattle.orc_tables.specs.declared.records.Entered.TheVariants.{Try}
+use Rattle.orc_tables.specs.declared.records.Frame.TheVariants.{OtherwiseLeft}
 use Rattle.orc_tables.specs.declared.records.Step.{Step}
 use Rattle.orc_tables.specs.declared.records.Side.TheVariants.{Left}
 use Rattle.orc_tables.specs.declared.records.Group.{Group}
-use Rattle.orc_records.proofs.AtRest.{rest-kept, rest-same, same-terms}
+use Rattle.orc_ledger_spec.proofs.AtRest.{rest-kept, rest-same, same-terms}
 use Rattle.orc_indexes.proofs.Lists.{set-there}
 use Rattle.orc_tables.proofs.Slots.{live-in, replaced}
-use Rattle.orc_records.proofs.Calling.{turns-told}
-use Rattle.orc_records.proofs.Keeping.{counted-kept}
-use Rattle.orc_records.proofs.Made.{turns, later_mark, step_in}
-use Rattle.orc_records.proofs.Leaves.{try-lawful}
-use Rattle.orc_records.proofs.Grouped.{tried-grouped}
+use Rattle.orc_ledger_spec.proofs.Calling.{turns-told}
+use Rattle.orc_ledger_spec.proofs.Keeping.{counted-kept}
+use Rattle.orc_ledger_spec.proofs.Made.{turns, later_mark, step_in}
+use Rattle.orc_ledger_spec.proofs.Leaves.{try-lawful}
+use Rattle.orc_ledger_spec.proofs.Grouped.{tried-grouped}
 use Rattle.orc_indexes.specs.Same.{is_this}
 use Rattle.orc_tables.specs.OpenGroups.{IsOpen, size_of}
-use Rattle.orc_records.proofs.Nests.{group-kept, group-end}
-use Rattle.orc_records.proofs.Sizes.{turned-members, open-new, size-few, kept-still}
-use Rattle.orc_records.proofs.Brought.{turned-deep}
-use Rattle.orc_records.proofs.Advancing.{step-within}
+use Rattle.orc_ledger_spec.proofs.Nests.{group-kept, group-end}
+use Rattle.orc_ledger_spec.proofs.Sizes.{turned-members, open-new, size-few, kept-still}
+use Rattle.orc_ledger_spec.proofs.Brought.{turned-deep}
+use Rattle.orc_ledger_spec.proofs.Advancing.{step-within}
 use Rattle.orc_ledger.proofs.ledger.Ledger.other.Goals as goal
 
 pub invariant_of-self-2 : goal.invariant_of-self-2
@@ -47,10 +47,10 @@ invariant_of-self-2 g c =
     let room : s.entries < s.limit = rw (← c.self.view_is) at c.in_ok-within.ensures.room in
     let s' : Records = record { limit = b.limit; journal = c.write.new.journal.entries; entries = b.entries + 1; next_mark = b.next_mark + 1; now = b.time; made = b.calls.made; tokens = live c.replace.new.self.items; slots = c.replace.new.self.items; calls = b.calls.items; scopes = b.scopes.items; steps = c.push.new.self.items; groups = c.join.new.self.items; cells = b.cells.items } in
     let journal : s'.journal ≡ s.journal ++ Other a.token.serial b.next_mark ∷ [] = ap (λ j. j.entries) c.in_ok-write.ensures.added in
-    let step : Step = record { entered = Try a.token.serial; outer = a.token.step; group = number; depth = depth_at s.steps a.token.step; published = false } in
-    let made : Step = record { entered = Try a.token.serial; outer = a.token.step; group = number; depth = c.depth_at-depth.result; published = false } in
+    let step : Step = record { entered = OtherwiseLeft a.token.serial; outer = a.token.step; group = number; depth = depth_at s.steps a.token.step; published = false } in
+    let made : Step = record { entered = OtherwiseLeft a.token.serial; outer = a.token.step; group = number; depth = c.depth_at-depth.result; published = false } in
     let deep : c.depth_at-depth.result ≡ depth_at s.steps a.token.step = c.depth_at-depth.ensures ∙ ap (λ z. depth_at z a.token.step) c.in_ok-reserve.ensures.items in
-    let same : made ≡ step = λ i. record { entered = Try a.token.serial; outer = a.token.step; group = number; depth = deep i; published = false } in
+    let same : made ≡ step = λ i. record { entered = OtherwiseLeft a.token.serial; outer = a.token.step; group = number; depth = deep i; published = false } in
     let steps : c.push.new.self.items ≡ s.steps ++ step ∷ [] = c.push.ensures.items ∙ ap (λ (z : List Step). z ++ made ∷ []) c.in_ok-reserve.ensures.items ∙ ap (λ z. s.steps ++ z ∷ []) same in
     let group : Group = record { side = Left a.token.serial a.right a.scope; outer = a.token.step; number = number } in
     let groups : c.join.new.self.items ≡ s.groups ++ group ∷ [] = c.join.ensures.items ∙ c.open-number.ensures.items ∙ ap (λ (z : List Group). z ++ group ∷ []) groups_so in
@@ -92,10 +92,10 @@ returns-clause-done g c =
     let room : s.entries < s.limit = rw (← c.self.view_is) at c.in_ok-within.ensures.room in
     let s' : Records = record { limit = b.limit; journal = c.write.new.journal.entries; entries = b.entries + 1; next_mark = b.next_mark + 1; now = b.time; made = b.calls.made; tokens = live c.replace.new.self.items; slots = c.replace.new.self.items; calls = b.calls.items; scopes = b.scopes.items; steps = c.push.new.self.items; groups = c.join.new.self.items; cells = b.cells.items } in
     let journal : s'.journal ≡ s.journal ++ Other a.token.serial b.next_mark ∷ [] = ap (λ j. j.entries) c.in_ok-write.ensures.added in
-    let step : Step = record { entered = Try a.token.serial; outer = a.token.step; group = number; depth = depth_at s.steps a.token.step; published = false } in
-    let made : Step = record { entered = Try a.token.serial; outer = a.token.step; group = number; depth = c.depth_at-depth.result; published = false } in
+    let step : Step = record { entered = OtherwiseLeft a.token.serial; outer = a.token.step; group = number; depth = depth_at s.steps a.token.step; published = false } in
+    let made : Step = record { entered = OtherwiseLeft a.token.serial; outer = a.token.step; group = number; depth = c.depth_at-depth.result; published = false } in
     let deep : c.depth_at-depth.result ≡ depth_at s.steps a.token.step = c.depth_at-depth.ensures ∙ ap (λ z. depth_at z a.token.step) c.in_ok-reserve.ensures.items in
-    let same : made ≡ step = λ i. record { entered = Try a.token.serial; outer = a.token.step; group = number; depth = deep i; published = false } in
+    let same : made ≡ step = λ i. record { entered = OtherwiseLeft a.token.serial; outer = a.token.step; group = number; depth = deep i; published = false } in
     let steps : c.push.new.self.items ≡ s.steps ++ step ∷ [] = c.push.ensures.items ∙ ap (λ (z : List Step). z ++ made ∷ []) c.in_ok-reserve.ensures.items ∙ ap (λ z. s.steps ++ z ∷ []) same in
     let group : Group = record { side = Left a.token.serial a.right a.scope; outer = a.token.step; number = number } in
     let groups : c.join.new.self.items ≡ s.groups ++ group ∷ [] = c.join.ensures.items ∙ c.open-number.ensures.items ∙ ap (λ (z : List Group). z ++ group ∷ []) groups_so in

@@ -1,14 +1,14 @@
 use Rattle.std.proofs.Common.{◌≡◌, refl, sym, ap, ◌∙◌, true}
 use Rattle.std.specs.Prelude.{slice_get}
 use Rattle.orc_rules.specs.Nodes.{code, definitions}
-use Rattle.orc_records.specs.AtRest.{waits}
-use Rattle.orc_paths.specs.Awaiting.{cells_of}
-use Rattle.orc_paths.specs.Doing.{is_wait}
-use Rattle.orc_records.specs.Doing.{what_of, term_of}
-use Rattle.orc_records.specs.Records.{Records, its_path}
+use Rattle.orc_ledger_spec.specs.AtRest.{waits}
+use Rattle.orc_frames.specs.Awaiting.{cells_of}
+use Rattle.orc_frames.specs.Doing.{is_wait}
+use Rattle.orc_ledger_spec.specs.Doing.{what_of, term_of}
+use Rattle.orc_ledger_spec.specs.Records.{Records, its_path}
 use Rattle.orc_tables.specs.Tokens.{live, IsHeld}
-use Rattle.orc_records.proofs.AtRest.{waits-any, same-terms, rest-parked}
-use Rattle.orc_records.proofs.Sizes.{kept-still}
+use Rattle.orc_ledger_spec.proofs.AtRest.{waits-any, same-terms, rest-parked}
+use Rattle.orc_ledger_spec.proofs.Sizes.{kept-still}
 use Rattle.orc_tables.proofs.Slots.{live-in}
 use Rattle.orc_ledger.proofs.ledger.Ledger.park.Goals as goal
 

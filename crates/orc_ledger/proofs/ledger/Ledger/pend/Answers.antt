@@ -2,14 +2,14 @@ use Rattle.std.proofs.Common.{◌<◌, ◌+◌, [], ◌∷◌, refl, ap, arith, 
 use Rattle.orc_rules.specs.declared.entry.Entry.TheVariants as entry
 use Rattle.orc_rules.specs.Nodes.{code, definitions}
 use Rattle.orc_indexes.specs.Same.{weight}
-use Rattle.orc_records.specs.Records.{Records}
-use Rattle.orc_records.specs.Calls.{Exchanges}
-use Rattle.orc_paths.specs.Doing.{IsCall}
-use Rattle.orc_records.specs.Doing.{term_of}
-use Rattle.orc_records.specs.Requests.{IsMade, IsNextCall}
+use Rattle.orc_ledger_spec.specs.Records.{Records}
+use Rattle.orc_ledger_spec.specs.Calls.{Exchanges}
+use Rattle.orc_frames.specs.Doing.{IsCall}
+use Rattle.orc_ledger_spec.specs.Doing.{term_of}
+use Rattle.orc_ledger_spec.specs.Requests.{IsMade, IsNextCall}
 use Rattle.orc_tables.specs.Tokens.{live, IsHeld}
-use Rattle.orc_records.proofs.AtRest.{rest-kept, same-terms}
-use Rattle.orc_records.proofs.Asked.{word-there, which-there, called-kept}
+use Rattle.orc_ledger_spec.proofs.AtRest.{rest-kept, same-terms}
+use Rattle.orc_ledger_spec.proofs.Asked.{word-there, which-there, called-kept}
 use Rattle.orc_tables.proofs.Slots.{live-in, removed}
 use Rattle.orc_ledger.proofs.ledger.Ledger.pend.Goals as goal
 

@@ -3,36 +3,36 @@ use Rattle.std.specs.Prelude.{slice_get, slice_set}
 use Rattle.orc_rules.specs.declared.entry.Entry.TheVariants.{Open}
 use Rattle.orc_rules.specs.Timed.{IsIn}
 use Rattle.orc_rules.specs.Nodes.{code, definitions}
-use Rattle.orc_names.specs.declared.names.Bound.{Bound}
-use Rattle.orc_names.specs.declared.names.Bound.TheVariants.{Cell}
-use Rattle.orc_names.specs.declared.names.Scope.{Scope}
-use Rattle.orc_names.specs.Scopes.{current}
+use Rattle.orc_env.specs.declared.names.Bound.{Bound}
+use Rattle.orc_env.specs.declared.names.Bound.TheVariants.{Cell}
+use Rattle.orc_env.specs.declared.names.Scope.{Scope}
+use Rattle.orc_env.specs.Scopes.{current}
 use Rattle.orc_indexes.specs.Same.{weight, None}
-use Rattle.orc_records.specs.Records.{Records}
+use Rattle.orc_ledger_spec.specs.Records.{Records}
 use Rattle.orc_tables.specs.Steps.{group_at}
 use Rattle.orc_tables.specs.Tokens.{live, IsHeld}
-use Rattle.orc_records.specs.Calls.{born, IsFree, IsOpened, HasRoom}
+use Rattle.orc_ledger_spec.specs.Calls.{born, IsFree, IsOpened, HasRoom}
 use Rattle.orc_tables.specs.declared.records.Token.{Token}
-use Rattle.orc_tables.specs.declared.records.Entered.TheVariants.{Aid}
+use Rattle.orc_tables.specs.declared.records.Frame.TheVariants.{PruneRight}
 use Rattle.orc_tables.specs.declared.records.Step.{Step}
 use Rattle.orc_tables.specs.declared.records.Side.TheVariants.{Right}
 use Rattle.orc_tables.specs.declared.records.Group.{Group}
-use Rattle.orc_records.proofs.AtRest.{rest-kept, rest-same, turns-terms}
+use Rattle.orc_ledger_spec.proofs.AtRest.{rest-kept, rest-same, turns-terms}
 use Rattle.orc_tables.proofs.Parked.{stay-on, stay-same}
 use Rattle.orc_indexes.proofs.Lists.{set-there}
 use Rattle.orc_tables.proofs.Slots.{live-in, replaced}
-use Rattle.orc_records.proofs.Calling.{turns-told}
-use Rattle.orc_records.proofs.Keeping.{counted-kept}
-use Rattle.orc_records.proofs.Made.{turns, later_mark, step_in}
-use Rattle.orc_records.proofs.Leaves.{open-lawful, current-push}
-use Rattle.orc_records.proofs.Grouped.{opened-grouped}
+use Rattle.orc_ledger_spec.proofs.Calling.{turns-told}
+use Rattle.orc_ledger_spec.proofs.Keeping.{counted-kept}
+use Rattle.orc_ledger_spec.proofs.Made.{turns, later_mark, step_in}
+use Rattle.orc_ledger_spec.proofs.Leaves.{open-lawful, current-push}
+use Rattle.orc_ledger_spec.proofs.Grouped.{opened-grouped}
 use Rattle.orc_indexes.specs.Same.{is_this}
 use Rattle.orc_tables.specs.OpenGroups.{IsOpen, size_of}
-use Rattle.orc_records.proofs.Nests.{group-kept, group-end}
-use Rattle.orc_records.proofs.Sizes.{turned-members, open-token, open-more, open-new, size-few, kept-still}
+use Rattle.orc_ledger_spec.proofs.Nests.{group-kept, group-end}
+use Rattle.orc_ledger_spec.proofs.Sizes.{turned-members, open-token, open-more, open-new, size-few, kept-still}
 use Rattle.orc_indexes.proofs.Weight.{one-most}
-use Rattle.orc_records.proofs.Brought.{turned-deep}
-use Rattle.orc_records.proofs.Advancing.{step-within}
+use Rattle.orc_ledger_spec.proofs.Brought.{turned-deep}
+use Rattle.orc_ledger_spec.proofs.Advancing.{step-within}
 use Rattle.orc_ledger.proofs.ledger.Ledger.prune.Goals as goal
 
 pub invariant_of-self-2 : goal.invariant_of-self-2
@@ -59,8 +59,8 @@ invariant_of-self-2 g c =
     let entry : s'.journal ≡ s.journal ++ Open a.token.serial (length s.cells) b.next_mark (b.next_mark + 1) ∷ [] = journal ∙ ap (λ (n : ℕ). s.journal ++ Open a.token.serial n b.next_mark (b.next_mark + 1) ∷ []) cell in
     let name : Scope = record { name = a.name; bound = Cell (length s.cells); outer = a.scope } in
     let scopes : c.push_within.new.items.items ≡ s.scopes ++ name ∷ [] = c.push_within.ensures.items ∙ ap (λ (z : Scope). c.reserve-2.new.items.items ++ z ∷ []) (c.new.ensures ∙ ap (λ (n : ℕ). record { name = a.name; bound = Cell c.len-cell.result; outer = n }) c.in_ok-outer.ensures.number) ∙ ap (λ (z : List Scope). z ++ record { name = a.name; bound = Cell c.len-cell.result; outer = a.scope } ∷ []) c.in_ok-reserve-2.ensures.items ∙ ap (λ (n : ℕ). s.scopes ++ record { name = a.name; bound = Cell n; outer = a.scope } ∷ []) cell in
-    let step : Step = record { entered = Aid (length s.cells); outer = a.token.step; group = number; depth = 0; published = false } in
-    let steps : c.push.new.self.items ≡ s.steps ++ step ∷ [] = c.push.ensures.items ∙ ap (λ (z : List Step). z ++ record { entered = Aid c.len-cell.result; outer = a.token.step; group = number; depth = 0; published = false } ∷ []) c.in_ok-reserve-3.ensures.items ∙ ap (λ (n : ℕ). s.steps ++ record { entered = Aid n; outer = a.token.step; group = number; depth = 0; published = false } ∷ []) cell in
+    let step : Step = record { entered = PruneRight (length s.cells); outer = a.token.step; group = number; depth = 0; published = false } in
+    let steps : c.push.new.self.items ≡ s.steps ++ step ∷ [] = c.push.ensures.items ∙ ap (λ (z : List Step). z ++ record { entered = PruneRight c.len-cell.result; outer = a.token.step; group = number; depth = 0; published = false } ∷ []) c.in_ok-reserve-3.ensures.items ∙ ap (λ (n : ℕ). s.steps ++ record { entered = PruneRight n; outer = a.token.step; group = number; depth = 0; published = false } ∷ []) cell in
     let group : Group = record { side = Right (length s.cells); outer = a.token.step; number = number } in
     let groups : c.join-2.new.self.items ≡ s.groups ++ group ∷ [] = c.join-2.ensures.items ∙ c.join.ensures.items ∙ c.open-number.ensures.items ∙ ap (λ (z : List Group). z ++ record { side = Right c.len-cell.result; outer = a.token.step; number = number } ∷ []) groups_so ∙ ap (λ (n : ℕ). s.groups ++ record { side = Right n; outer = a.token.step; number = number } ∷ []) cell in
     let cells : c.push_within-2.new.items.items ≡ s.cells ++ Cell (length s.cells) ∷ [] = c.push_within-2.ensures.items ∙ ap (λ (z : List Bound). z ++ Cell c.len-cell.result ∷ []) c.in_ok-reserve-4.ensures.items ∙ ap (λ (n : ℕ). s.cells ++ Cell n ∷ []) cell in
@@ -108,8 +108,8 @@ returns-clause-done g c =
     let entry : s'.journal ≡ s.journal ++ Open a.token.serial (length s.cells) b.next_mark (b.next_mark + 1) ∷ [] = journal ∙ ap (λ (n : ℕ). s.journal ++ Open a.token.serial n b.next_mark (b.next_mark + 1) ∷ []) cell in
     let name : Scope = record { name = a.name; bound = Cell (length s.cells); outer = a.scope } in
     let scopes : c.push_within.new.items.items ≡ s.scopes ++ name ∷ [] = c.push_within.ensures.items ∙ ap (λ (z : Scope). c.reserve-2.new.items.items ++ z ∷ []) (c.new.ensures ∙ ap (λ (n : ℕ). record { name = a.name; bound = Cell c.len-cell.result; outer = n }) c.in_ok-outer.ensures.number) ∙ ap (λ (z : List Scope). z ++ record { name = a.name; bound = Cell c.len-cell.result; outer = a.scope } ∷ []) c.in_ok-reserve-2.ensures.items ∙ ap (λ (n : ℕ). s.scopes ++ record { name = a.name; bound = Cell n; outer = a.scope } ∷ []) cell in
-    let step : Step = record { entered = Aid (length s.cells); outer = a.token.step; group = number; depth = 0; published = false } in
-    let steps : c.push.new.self.items ≡ s.steps ++ step ∷ [] = c.push.ensures.items ∙ ap (λ (z : List Step). z ++ record { entered = Aid c.len-cell.result; outer = a.token.step; group = number; depth = 0; published = false } ∷ []) c.in_ok-reserve-3.ensures.items ∙ ap (λ (n : ℕ). s.steps ++ record { entered = Aid n; outer = a.token.step; group = number; depth = 0; published = false } ∷ []) cell in
+    let step : Step = record { entered = PruneRight (length s.cells); outer = a.token.step; group = number; depth = 0; published = false } in
+    let steps : c.push.new.self.items ≡ s.steps ++ step ∷ [] = c.push.ensures.items ∙ ap (λ (z : List Step). z ++ record { entered = PruneRight c.len-cell.result; outer = a.token.step; group = number; depth = 0; published = false } ∷ []) c.in_ok-reserve-3.ensures.items ∙ ap (λ (n : ℕ). s.steps ++ record { entered = PruneRight n; outer = a.token.step; group = number; depth = 0; published = false } ∷ []) cell in
     let group : Group = record { side = Right (length s.cells); outer = a.token.step; number = number } in
     let groups : c.join-2.new.self.items ≡ s.groups ++ group ∷ [] = c.join-2.ensures.items ∙ c.join.ensures.items ∙ c.open-number.ensures.items ∙ ap (λ (z : List Group). z ++ record { side = Right c.len-cell.result; outer = a.token.step; number = number } ∷ []) groups_so ∙ ap (λ (n : ℕ). s.groups ++ record { side = Right n; outer = a.token.step; number = number } ∷ []) cell in
     let cells : c.push_within-2.new.items.items ≡ s.cells ++ Cell (length s.cells) ∷ [] = c.push_within-2.ensures.items ∙ ap (λ (z : List Bound). z ++ Cell c.len-cell.result ∷ []) c.in_ok-reserve-4.ensures.items ∙ ap (λ (n : ℕ). s.cells ++ Cell n ∷ []) cell in

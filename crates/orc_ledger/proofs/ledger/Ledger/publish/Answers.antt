@@ -5,24 +5,24 @@ use Rattle.orc_rules.specs.Nodes.{code, definitions}
 use Rattle.orc_rules.specs.Term.{param}
 use Rattle.orc_rules.specs.declared.param.Param.TheVariants as is_
 use Rattle.orc_indexes.specs.Same.{weight}
-use Rattle.orc_paths.specs.Spelling.{whole}
-use Rattle.orc_paths.specs.Taking.{taker, crossed}
-use Rattle.orc_records.specs.Records.{Records, its_env, its_path}
-use Rattle.orc_paths.specs.Paths.{standing}
+use Rattle.orc_frames.specs.Spelling.{whole}
+use Rattle.orc_frames.specs.Taking.{taker, crossed}
+use Rattle.orc_ledger_spec.specs.Records.{Records, its_env, its_path}
+use Rattle.orc_frames.specs.Paths.{standing}
 use Rattle.orc_tables.specs.Tokens.{live, IsHeld}
-use Rattle.orc_records.specs.Calls.{Crosses}
-use Rattle.orc_paths.specs.Taking.{Publishes}
+use Rattle.orc_ledger_spec.specs.Calls.{Crosses}
+use Rattle.orc_frames.specs.Taking.{Publishes}
 use Rattle.orc_tables.specs.declared.records.Token.{Token}
-use Rattle.orc_records.proofs.AtRest.{rest-kept, same-terms}
+use Rattle.orc_ledger_spec.proofs.AtRest.{rest-kept, same-terms}
 use Rattle.orc_tables.proofs.Slots.{live-in, removed}
-use Rattle.orc_records.proofs.Calling.{crosses-told}
-use Rattle.orc_records.proofs.Keeping.{counted-kept}
-use Rattle.orc_records.proofs.Made.{crosses, step_in}
-use Rattle.orc_records.proofs.Sending.{publish-lawful}
-use Rattle.orc_records.proofs.Grouped.{published-grouped}
+use Rattle.orc_ledger_spec.proofs.Calling.{crosses-told}
+use Rattle.orc_ledger_spec.proofs.Keeping.{counted-kept}
+use Rattle.orc_ledger_spec.proofs.Made.{crosses, step_in}
+use Rattle.orc_ledger_spec.proofs.Sending.{publish-lawful}
+use Rattle.orc_ledger_spec.proofs.Grouped.{published-grouped}
 use Rattle.orc_indexes.specs.Same.{is_this}
-use Rattle.orc_records.proofs.Sizes.{crossed-members}
-use Rattle.orc_records.proofs.Brought.{crossed-brought}
+use Rattle.orc_ledger_spec.proofs.Sizes.{crossed-members}
+use Rattle.orc_ledger_spec.proofs.Brought.{crossed-brought}
 use Rattle.orc_ledger.proofs.ledger.Ledger.publish.Goals as goal
 
 pub leave_others-requires-clause-within : goal.leave_others-requires-clause-within

@@ -3,9 +3,9 @@ use Rattle.std.specs.Prelude.{slice_get}
 use Rattle.std.proofs.lemmas.Option.{slice_get_past}
 use Rattle.orc_rules.specs.declared.entry.Entry.TheVariants.{Call as Calls}
 use Rattle.orc_rules.specs.Timed.{IsIn}
-use Rattle.orc_records.specs.Records.{Records, is_call}
+use Rattle.orc_ledger_spec.specs.Records.{Records, is_call}
 use Rattle.orc_tables.specs.Tokens.{live}
-use Rattle.orc_records.proofs.Recorded.{some-only, call-only, entry-there, asked-there}
+use Rattle.orc_ledger_spec.proofs.Recorded.{some-only, call-only, entry-there, asked-there}
 use Rattle.orc_ledger.proofs.ledger.Ledger.request.Goals as goal
 
 pub unreachable-requires : goal.unreachable-requires

@@ -1,9 +1,9 @@
 use Rattle.std.proofs.Common.{◌≡◌, ◌≤◌, ◌<◌, rules}
 use Rattle.orc_rules.specs.Timed.{IsIn}
 use Rattle.orc_calls.specs.Due.{DueNow}
-use Rattle.orc_records.specs.Records.{Records}
+use Rattle.orc_ledger_spec.specs.Records.{Records}
 use Rattle.orc_tables.specs.Tokens.{live}
-use Rattle.orc_records.proofs.Answered.{not-due, due-now, now-due}
+use Rattle.orc_ledger_spec.proofs.Answered.{not-due, due-now, now-due}
 use Rattle.orc_ledger.proofs.ledger.Ledger.returned.Goals as goal
 
 pub returns-in-Err-clause-why : goal.returns-in-Err-clause-why

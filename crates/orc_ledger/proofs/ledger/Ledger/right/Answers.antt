@@ -4,24 +4,24 @@ use Rattle.orc_rules.specs.Timed.{IsIn}
 use Rattle.orc_rules.specs.Nodes.{code, definitions}
 use Rattle.orc_indexes.specs.Same.{weight}
 use Rattle.orc_tables.specs.Tokens.{live}
-use Rattle.orc_records.specs.Records.{Records}
-use Rattle.orc_paths.specs.Paths.{has_left}
-use Rattle.orc_records.specs.Calls.{Resumes}
-use Rattle.orc_records.specs.Next.{members, numbers_of}
+use Rattle.orc_ledger_spec.specs.Records.{Records}
+use Rattle.orc_frames.specs.Paths.{has_left}
+use Rattle.orc_ledger_spec.specs.Calls.{Resumes}
+use Rattle.orc_ledger_spec.specs.Next.{members, numbers_of}
 use Rattle.orc_tables.specs.declared.records.Standing.TheVariants.{At}
 use Rattle.orc_tables.specs.declared.records.Token.{Token}
-use Rattle.orc_records.proofs.AtRest.{rest-kept, same-terms}
+use Rattle.orc_ledger_spec.proofs.AtRest.{rest-kept, same-terms}
 use Rattle.orc_tables.proofs.Parked.{stay-on, stay-same}
-use Rattle.orc_records.proofs.Emptied.{left-empty}
-use Rattle.orc_records.proofs.Resuming.{right-lawful}
-use Rattle.orc_records.proofs.Calling.{resumes-told}
-use Rattle.orc_records.proofs.Keeping.{counted-kept}
-use Rattle.orc_records.proofs.Grouped.{resumed-grouped}
-use Rattle.orc_records.proofs.Closed.{mark-later}
+use Rattle.orc_ledger_spec.proofs.Emptied.{left-empty}
+use Rattle.orc_ledger_spec.proofs.Resuming.{right-lawful}
+use Rattle.orc_ledger_spec.proofs.Calling.{resumes-told}
+use Rattle.orc_ledger_spec.proofs.Keeping.{counted-kept}
+use Rattle.orc_ledger_spec.proofs.Grouped.{resumed-grouped}
+use Rattle.orc_ledger_spec.proofs.Closed.{mark-later}
 use Rattle.orc_tables.specs.OpenGroups.{size_of}
-use Rattle.orc_records.proofs.Sizes.{resumed-members}
+use Rattle.orc_ledger_spec.proofs.Sizes.{resumed-members}
 use Rattle.orc_tables.proofs.Slots.{live-in}
-use Rattle.orc_records.proofs.Brought.{resumed-brought}
+use Rattle.orc_ledger_spec.proofs.Brought.{resumed-brought}
 use Rattle.orc_ledger.proofs.ledger.Ledger.right.Goals as goal
 
 pub add-slot-requires-clause-serial : goal.add-slot-requires-clause-serial

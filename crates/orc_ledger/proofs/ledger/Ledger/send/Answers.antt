@@ -5,31 +5,31 @@ use Rattle.orc_rules.specs.Timed.{IsIn}
 use Rattle.orc_rules.specs.Nodes.{code, definitions}
 use Rattle.orc_rules.specs.Term.{param}
 use Rattle.orc_rules.specs.declared.param.Param.TheVariants as is_
-use Rattle.orc_names.specs.Scopes.{close, without}
-use Rattle.orc_names.specs.declared.names.Bound.TheVariants.{Is}
-use Rattle.orc_names.specs.declared.names.Scope.{Scope}
+use Rattle.orc_env.specs.Scopes.{close, without}
+use Rattle.orc_env.specs.declared.names.Bound.TheVariants.{Is}
+use Rattle.orc_env.specs.declared.names.Scope.{Scope}
 use Rattle.orc_indexes.specs.Same.{weight}
-use Rattle.orc_paths.specs.Spelling.{feeding}
-use Rattle.orc_paths.specs.Taking.{taker, crossed, reach}
-use Rattle.orc_records.specs.Records.{Records, its_env, its_path}
-use Rattle.orc_paths.specs.Paths.{standing}
+use Rattle.orc_frames.specs.Spelling.{feeding}
+use Rattle.orc_frames.specs.Taking.{taker, crossed, reach}
+use Rattle.orc_ledger_spec.specs.Records.{Records, its_env, its_path}
+use Rattle.orc_frames.specs.Paths.{standing}
 use Rattle.orc_tables.specs.Tokens.{live, IsHeld}
-use Rattle.orc_records.specs.Calls.{Crosses, HasRoom}
-use Rattle.orc_paths.specs.Taking.{Publishes}
+use Rattle.orc_ledger_spec.specs.Calls.{Crosses, HasRoom}
+use Rattle.orc_frames.specs.Taking.{Publishes}
 use Rattle.orc_tables.specs.declared.records.Standing.TheVariants.{At}
 use Rattle.orc_tables.specs.declared.records.Token.{Token}
-use Rattle.orc_records.proofs.AtRest.{rest-kept, crosses-terms}
+use Rattle.orc_ledger_spec.proofs.AtRest.{rest-kept, crosses-terms}
 use Rattle.orc_indexes.proofs.Lists.{set-there}
 use Rattle.orc_tables.proofs.Slots.{live-in, replaced}
-use Rattle.orc_records.proofs.Calling.{crosses-told}
-use Rattle.orc_records.proofs.Keeping.{counted-kept}
-use Rattle.orc_records.proofs.Made.{crosses, step_in, later_mark}
-use Rattle.orc_records.proofs.Sending.{send-lawful}
-use Rattle.orc_records.proofs.Grouped.{sent-grouped}
+use Rattle.orc_ledger_spec.proofs.Calling.{crosses-told}
+use Rattle.orc_ledger_spec.proofs.Keeping.{counted-kept}
+use Rattle.orc_ledger_spec.proofs.Made.{crosses, step_in, later_mark}
+use Rattle.orc_ledger_spec.proofs.Sending.{send-lawful}
+use Rattle.orc_ledger_spec.proofs.Grouped.{sent-grouped}
 use Rattle.orc_indexes.specs.Same.{is_this}
 use Rattle.orc_tables.specs.OpenGroups.{IsOpen}
-use Rattle.orc_records.proofs.Sizes.{crossed-members, open-reach, size-few}
-use Rattle.orc_records.proofs.Brought.{crossed-brought}
+use Rattle.orc_ledger_spec.proofs.Sizes.{crossed-members, open-reach, size-few}
+use Rattle.orc_ledger_spec.proofs.Brought.{crossed-brought}
 use Rattle.orc_ledger.proofs.ledger.Ledger.send.Goals as goal
 
 pub leave_others-requires-clause-within : goal.leave_others-requires-clause-within

@@ -1,10 +1,10 @@
 use Rattle.std.proofs.Common.{◌≡◌, ◌≤◌, List, length, ap, sym, subst}
 use Rattle.orc_tables.specs.Tokens.{live}
 use Rattle.orc_tables.specs.declared.records.Step.{Step}
-use Rattle.orc_records.specs.Records.{Records}
-use Rattle.orc_records.specs.Kept.{Kept}
-use Rattle.orc_records.specs.Vacant.{IsVacant, Sheds}
-use Rattle.orc_records.proofs.Vacant.{longer, some_last, vacant-kept}
+use Rattle.orc_ledger_spec.specs.Records.{Records}
+use Rattle.orc_ledger_spec.specs.Kept.{Kept}
+use Rattle.orc_ledger_spec.specs.Vacant.{IsVacant, Sheds}
+use Rattle.orc_ledger_spec.proofs.Vacant.{longer, some_last, vacant-kept}
 use Rattle.orc_ledger.proofs.ledger.Ledger.shed.Goals as goal
 
 pub drop_last-requires : goal.drop_last-requires

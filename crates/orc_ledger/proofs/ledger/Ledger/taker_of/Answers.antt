@@ -1,11 +1,11 @@
 use Rattle.std.proofs.Common.{arith}
 use Rattle.orc_rules.specs.Nodes.{code}
-use Rattle.orc_records.specs.Records.{Records, its_env}
-use Rattle.orc_paths.specs.Paths.{has_left}
+use Rattle.orc_ledger_spec.specs.Records.{Records, its_env}
+use Rattle.orc_frames.specs.Paths.{has_left}
 use Rattle.orc_tables.specs.Tokens.{live, IsHeld}
-use Rattle.orc_paths.specs.Taking.{Takes, IsOnWay, IsEntered}
+use Rattle.orc_frames.specs.Taking.{Takes, IsOnWay, IsEntered}
 use Rattle.orc_tables.proofs.Slots.{live-in}
-use Rattle.orc_records.proofs.Advancing.{step-within, is-there}
+use Rattle.orc_ledger_spec.proofs.Advancing.{step-within, is-there}
 use Rattle.orc_ledger.proofs.ledger.Ledger.taker_of.Goals as goal
 
 pub find_taker-requires-clause-within : goal.find_taker-requires-clause-within

@@ -2,9 +2,9 @@ use Rattle.std.proofs.Common.{◌≡◌, ◌∙◌, List, ap, sym, map, refl}
 use Rattle.orc_rules.specs.declared.param.Operand.{Operand}
 use Rattle.orc_rules.specs.Nodes.{Listing, code, param_of}
 use Rattle.orc_rules.specs.Term.{call}
-use Rattle.orc_records.specs.Records.{its_env}
-use Rattle.orc_paths.specs.Paths.{standing}
-use Rattle.orc_records.proofs.Apart.{called}
+use Rattle.orc_ledger_spec.specs.Records.{its_env}
+use Rattle.orc_frames.specs.Paths.{standing}
+use Rattle.orc_ledger_spec.proofs.Apart.{called}
 use Rattle.orc_ledger.proofs.ledger.Ledger.task.Goals as goal
 
 pub returns-clause-stands : goal.returns-clause-stands

@@ -1,15 +1,15 @@
 use Rattle.std.proofs.Common.{◌≡◌, ◌+◌, ◌<◌, [], ◌∷◌, ◌++◌, refl, sym, ap, subst, ◌∙◌}
 use Rattle.orc_rules.specs.declared.entry.Entry.TheVariants.{Tick}
-use Rattle.orc_records.specs.Kept.{Kept}
-use Rattle.orc_records.specs.Records.{Records}
+use Rattle.orc_ledger_spec.specs.Kept.{Kept}
+use Rattle.orc_ledger_spec.specs.Records.{Records}
 use Rattle.orc_tables.specs.Tokens.{live}
-use Rattle.orc_records.specs.Answers.{MayTick}
-use Rattle.orc_records.proofs.Answered.{ticks-there}
-use Rattle.orc_records.proofs.Calling.{tick-told}
-use Rattle.orc_records.proofs.Grouped.{ticked-grouped}
-use Rattle.orc_records.proofs.Keeping.{counted-kept}
-use Rattle.orc_records.proofs.Passing.{ticked, tick-lawful}
-use Rattle.orc_records.proofs.Brought.{grown-brought}
+use Rattle.orc_ledger_spec.specs.Answers.{MayTick}
+use Rattle.orc_ledger_spec.proofs.Answered.{ticks-there}
+use Rattle.orc_ledger_spec.proofs.Calling.{tick-told}
+use Rattle.orc_ledger_spec.proofs.Grouped.{ticked-grouped}
+use Rattle.orc_ledger_spec.proofs.Keeping.{counted-kept}
+use Rattle.orc_ledger_spec.proofs.Passing.{ticked, tick-lawful}
+use Rattle.orc_ledger_spec.proofs.Brought.{grown-brought}
 use Rattle.orc_ledger.proofs.ledger.Ledger.tick.Goals as goal
 
 pub invariant_of-self-2 : goal.invariant_of-self-2

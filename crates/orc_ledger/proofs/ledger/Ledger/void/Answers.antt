@@ -4,21 +4,21 @@ use Rattle.orc_rules.specs.Timed.{IsIn}
 use Rattle.orc_rules.specs.Nodes.{code, definitions}
 use Rattle.orc_rules.specs.Journal.{IsVoid}
 use Rattle.orc_indexes.specs.Same.{weight}
-use Rattle.orc_records.specs.Records.{Records, its_env}
-use Rattle.orc_paths.specs.Paths.{standing}
+use Rattle.orc_ledger_spec.specs.Records.{Records, its_env}
+use Rattle.orc_frames.specs.Paths.{standing}
 use Rattle.orc_tables.specs.Tokens.{live, IsHeld}
-use Rattle.orc_records.specs.Calls.{IsVoided}
+use Rattle.orc_ledger_spec.specs.Calls.{IsVoided}
 use Rattle.orc_tables.specs.declared.records.Token.{Token}
-use Rattle.orc_records.proofs.AtRest.{rest-kept, same-terms}
+use Rattle.orc_ledger_spec.proofs.AtRest.{rest-kept, same-terms}
 use Rattle.orc_tables.proofs.Slots.{live-in, removed}
-use Rattle.orc_records.proofs.Calling.{turns-told}
-use Rattle.orc_records.proofs.Keeping.{counted-kept}
-use Rattle.orc_records.proofs.Made.{turns}
-use Rattle.orc_records.proofs.Passing.{void-lawful}
-use Rattle.orc_records.proofs.Grouped.{turned-grouped}
+use Rattle.orc_ledger_spec.proofs.Calling.{turns-told}
+use Rattle.orc_ledger_spec.proofs.Keeping.{counted-kept}
+use Rattle.orc_ledger_spec.proofs.Made.{turns}
+use Rattle.orc_ledger_spec.proofs.Passing.{void-lawful}
+use Rattle.orc_ledger_spec.proofs.Grouped.{turned-grouped}
 use Rattle.orc_indexes.specs.Same.{is_this}
-use Rattle.orc_records.proofs.Sizes.{turned-members}
-use Rattle.orc_records.proofs.Brought.{turned-flat}
+use Rattle.orc_ledger_spec.proofs.Sizes.{turned-members}
+use Rattle.orc_ledger_spec.proofs.Brought.{turned-flat}
 use Rattle.orc_ledger.proofs.ledger.Ledger.void.Goals as goal
 
 pub invariant_of-self-2 : goal.invariant_of-self-2

@@ -1,7 +1,7 @@
 use Rattle.std.proofs.Common.{◌∙◌, List, sym, ap, subst, inl, inr}
 use Rattle.orc_rules.specs.Timed.{IsIn}
 use Rattle.orc_indexes.specs.Parking.{is_set, notes_at}
-use Rattle.orc_indexes.specs.declared.parking.Note.{Note}
+use Rattle.orc_indexes.specs.declared.wait_index.Note.{Note}
 use Rattle.orc_indexes.proofs.Flags.{now-set}
 use Rattle.orc_tables.proofs.tokens.Tokens.park.Goals as goal
 

@@ -1,0 +1,8 @@
+use Rattle.std.proofs.Common.{◌≡◌, ◌≤◌, ◌+◌, length, vec_len, vec_capacity}
+use Rattle.orc_indexes.specs.Same.{weight}
+use Rattle.orc_book.specs.Held.{bag}
+use Rattle.orc_book.proofs.Loose.{AreSettling}
+use Rattle.orc_book.proofs.settle.settle_all.Given as goal
+
+abbrev pub invariant-loop-number : goal.invariant-loop-number
+invariant-loop-number g l = AreSettling l.ledger l.initial.posts.items l.posts.items l.number × (vec_len l.leave + weight bag l.posts.items ≤ vec_len l.initial.leave + weight bag l.initial.posts.items) × (vec_capacity l.leave ≡ vec_capacity l.initial.leave)

@@ -1,0 +1,141 @@
+//! A cell is bound: what stood inside its right side goes.
+ghost use Rattle.std.specs.Prelude.{◌≡◌, ◌≤◌, ◌+◌, ◌⊎◌, ℕ, List, true, IfOk, IfErr, IfSome, OnOk, vec_len, vec_capacity};
+ghost use Rattle.orc_rules.specs.Nodes.{code, definitions};
+ghost use Rattle.orc_rules.specs.Timed.{IsIn};
+ghost use Rattle.orc_rules.specs.declared.value.Value.{Value as ValueOf};
+ghost use Rattle.orc_indexes.specs.Same.{weight};
+ghost use Rattle.orc_tables.specs.declared.records.Token.{Token as Its};
+ghost use Rattle.orc_ledger_spec.specs.Doing.{what_of};
+ghost use Rattle.orc_ledger_spec.specs.Moves.{Moves};
+ghost use Rattle.orc_ledger_spec.specs.declared.results.Moved.TheVariants as moved;
+ghost use Rattle.orc_word.specs.Views.{group_of};
+ghost use Rattle.orc_book.specs.Held.{IsToken, HasWinner, bag};
+
+use crate::book::Book;
+use crate::post::Post;
+use crate::settle::{bury_missing, clear_missing, settle_all};
+use crate::token::{BookFault, Refused, Token, fault_of};
+use orc_graph::Graph;
+use orc_ledger::{Action, stands};
+use orc_log::Program;
+use orc_tables::Token as Record;
+use orc_word::{Bit, Groups, Naming, Pass};
+use std::alloc::AllocError;
+
+// How many passes are held.
+fn count_held<J: Naming>(posts: &[Post<J>]) -> Option<usize>
+    ensures { IfSome result (λ count. count ≡ weight bag posts.now) }
+{
+    // It recurses over the posts, which are `MOST_GROUPS` at most.
+    match posts {
+        [] => Some(0),
+        [post, posts @ ..] => count_held(posts)?.checked_add(post.held()),
+    }
+}
+
+// Makes room for all passes that are held, and one more.
+pub(crate) fn reserve_all<J: Naming>(
+    posts: &Vec<Post<J>>,
+    leave: &mut Vec<Pass<J>>,
+) -> Result<(), AllocError>
+    ensures items { leave.new.items ≡ leave.old.items }
+    ensures room { OnOk result (vec_len leave.new + weight bag posts.now.items + 1 ≤ vec_capacity leave.new) }
+{
+    let Some(count) = count_held(posts.as_slice()) else {
+        return Err(AllocError);
+    };
+    let Some(count) = count.checked_add(1) else {
+        return Err(AllocError);
+    };
+    leave.try_reserve(count)
+}
+
+impl<P: Program + Naming> Book<P> {
+    // The cell that a token binds next, if it does.
+    fn binds_next(&self, graph: &Graph, its: &Record) -> Option<u64>
+        requires graph { graph.now ≡ P.listing }
+        ensures { IfSome result (λ c. (v : ValueOf) × (what_of (code P.listing) (definitions P.listing) self.now.ledger its.now ≡ Action.Bind c v)) }
+    {
+        match self.ledger.what(graph, its) {
+            Action::Bind(cell, _) => Some(cell),
+            _ => None,
+        }
+    }
+
+    /// A cell takes what the token publishes: all that stands inside its right side goes. The token's pass has won the mark that its group is killed, and
+    /// is to be left with those of all records that went.
+    pub fn bind(
+        &mut self,
+        groups: &Groups<P>,
+        graph: &Graph,
+        token: Token<P>,
+        leave: &mut Vec<Pass<P>>,
+    ) -> Result<(), Refused<Token<P>>>
+        requires graph { graph.now ≡ P.listing }
+        ensures done { OnOk result ((t : Its) × (c : ℕ) × (g : ℕ) × (ks : List ℕ) × IsToken self.old token.slot token.serial token.pass t × Moves P.listing self.old.ledger token.slot t (moved.Bound c g) ks self.new.ledger) }
+        ensures won { OnOk result (HasWinner leave.new.items (group_of token.pass)) }
+        ensures refused { IfErr result (λ r. (self.new ≡ self.old) × (r.back.serial ≡ token.serial) × (r.back.slot ≡ token.slot) × (group_of r.back.pass ≡ group_of token.pass)) }
+    {
+        let Some(its) = self.record_of(&token) else {
+            return Err(Refused {
+                why: BookFault::Gone,
+                back: token,
+            });
+        };
+        let group = self.ledger.group_of_token(&its);
+        if self.out_of(group) < 1 {
+            return Err(Refused {
+                why: BookFault::Gone,
+                back: token,
+            });
+        }
+        let Some(_cell) = self.binds_next(graph, &its) else {
+            return Err(Refused {
+                why: BookFault::Wrong,
+                back: token,
+            });
+        };
+        if self.ledger.entries() >= self.ledger.limit() {
+            return Err(Refused {
+                why: BookFault::Limit,
+                back: token,
+            });
+        }
+        if reserve_all(&self.posts, leave).is_err() {
+            return Err(Refused {
+                why: BookFault::Memory,
+                back: token,
+            });
+        }
+        let Token {
+            serial,
+            slot,
+            mut pass,
+        } = token;
+        if !groups.mark(&mut pass, Bit::Killed) {
+            return Err(Refused {
+                why: BookFault::Gone,
+                back: Token { serial, slot, pass },
+            });
+        }
+        stands(&self.ledger);
+        match self
+            .ledger
+            .advance(graph, slot, its, &mut self.scopes, &mut self.cancelled)
+        {
+            Ok(_bound) => {
+                stands(&self.ledger);
+                clear_missing(&self.ledger, &mut self.posts);
+                let buried = bury_missing(&self.ledger, &mut self.posts, &mut self.stands);
+                self.dying = self.dying.saturating_add(buried);
+                settle_all(&self.ledger, &mut self.posts, leave);
+                leave.push_reserved(pass);
+                Ok(())
+            }
+            Err(fault) => Err(Refused {
+                why: fault_of(fault),
+                back: Token { serial, slot, pass },
+            }),
+        }
+    }
+}

@@ -1,0 +1,136 @@
+//! Groups that were left last.
+ghost use Rattle.std.specs.Prelude.{◌≡◌, ◌≤◌, ◌+◌, ◌⊎◌, ℕ, IfOk, IfErr, OnErr, MatchOption, Some};
+ghost use Rattle.orc_rules.specs.Nodes.{code};
+ghost use Rattle.orc_rules.specs.Term.{Halted};
+ghost use Rattle.orc_rules.specs.Marked.{erase};
+ghost use Rattle.orc_rules.specs.Journal.{Place};
+ghost use Rattle.orc_ledger_spec.specs.Answers.{IsAt};
+ghost use Rattle.orc_ledger_spec.specs.Halting.{HasHalted};
+ghost use Rattle.orc_ledger_spec.specs.declared.results.Halted.{Halted as ItsHalted};
+ghost use Rattle.orc_tables.specs.declared.records.Token.{Token as Its};
+ghost use Rattle.orc_book.specs.Held.{IsToken, Rises};
+
+use crate::bind::reserve_all;
+use crate::book::Book;
+use crate::post::{out_in, send_at, take_at};
+use crate::settle::{clear_missing, settle_all};
+use crate::token::{BookFault, Refused, Token, fault_of};
+use crate::word_state::{Kind, free, kind_of};
+use orc_ledger::stands;
+use orc_ledger_spec::{HaltFault, Halted as HasEnded};
+use orc_log::Program;
+use orc_word::{Last, Naming, Pass};
+
+/// What has become of a group that was left last.
+#[derive(Drop)]
+pub enum Ended<P: Naming> {
+    /// It was the program's own: the run has halted.
+    Run,
+    /// It was the left side of an otherwise: a token on the right side is out.
+    Token(Token<P>),
+    /// It is gone, and its pass to the group round it is to be left.
+    Group,
+}
+
+impl<P: Program + Naming> Book<P> {
+    /// A group that was left last is closed. Its number is free again.
+    pub fn halt(
+        &mut self,
+        last: Last<P>,
+        leave: &mut Vec<Pass<P>>,
+    ) -> Result<Ended<P>, Refused<Last<P>>>
+        ensures done { IfOk result (λ e. (self.new.ledger ≡ self.old.ledger) ⊎ ((n : ℕ) × (h : ItsHalted) × HasHalted (code P.listing) self.old.ledger self.new.ledger n h)) }
+        ensures run { IfOk result (λ e. e ≡ Ended.Run → (p : Place) → IsAt P.listing P.sites self.new.ledger p → Halted (erase p.marked)) }
+        ensures refused { IfErr result (λ r. (self.new ≡ self.old) × (r.back ≡ last)) }
+    {
+        let word = last.group();
+        match kind_of(&self.stands, word) {
+            Kind::Free => Err(Refused {
+                why: BookFault::Gone,
+                back: last,
+            }),
+            Kind::Dying => {
+                if leave.try_reserve(1).is_err() {
+                    return Err(Refused {
+                        why: BookFault::Memory,
+                        back: last,
+                    });
+                }
+                if let Some(pass) = free(&mut self.stands, word) {
+                    leave.push_reserved(pass);
+                }
+                self.dying = self.dying.saturating_sub(1);
+                self.words.add(word);
+                Ok(Ended::Group)
+            }
+            Kind::Open(0) => {
+                if self.ledger.has_halted() {
+                    Ok(Ended::Run)
+                } else {
+                    Err(Refused {
+                        why: BookFault::Live,
+                        back: last,
+                    })
+                }
+            }
+            Kind::Open(number) => match self.halt_group(number, leave) {
+                Ok(born) => {
+                    let _none = free(&mut self.stands, word);
+                    self.words.add(word);
+                    match born {
+                        Some(token) => Ok(Ended::Token(token)),
+                        None => Ok(Ended::Group),
+                    }
+                }
+                Err(why) => Err(Refused { why, back: last }),
+            },
+        }
+    }
+
+    /// The group with this number, in which nobody is, ends. Where it was the left side of an otherwise that no publication has left, a token stands on the
+    /// right side, and is out. Else the group's pass to the one round it is to be left.
+    pub(crate) fn halt_group(
+        &mut self,
+        number: u32,
+        leave: &mut Vec<Pass<P>>,
+    ) -> Result<Option<Token<P>>, BookFault>
+        ensures done { IfOk result (λ token. (h : ItsHalted) × HasHalted (code P.listing) self.old.ledger self.new.ledger number h) }
+        ensures born { IfOk result (λ token. Rises self.new token) }
+        ensures refused { OnErr result (self.new ≡ self.old) }
+    {
+        if reserve_all(&self.posts, leave).is_err() {
+            return Err(BookFault::Memory);
+        }
+        stands(&self.ledger);
+        match self.ledger.halt(number) {
+            Ok(HasEnded::Lost(_, _)) => {
+                stands(&self.ledger);
+                clear_missing(&self.ledger, &mut self.posts);
+                settle_all(&self.ledger, &mut self.posts, leave);
+                Ok(None)
+            }
+            Ok(HasEnded::Closed(parent)) => {
+                let Some(pass) = take_at(&mut self.posts, parent) else {
+                    unreachable!()
+                };
+                leave.push_reserved(pass);
+                Ok(None)
+            }
+            Ok(HasEnded::Resumed(slot)) => {
+                let Some(its) = self.ledger.held(slot) else {
+                    unreachable!()
+                };
+                let group = self.ledger.group_of_token(&its);
+                let out = out_in(&self.posts, group);
+                let _tokens = self.ledger.token_count();
+                let Some(pass) = send_at(&mut self.posts, group, out + 1) else {
+                    unreachable!()
+                };
+                Ok(Some(self.born(slot, pass)))
+            }
+            Err(HaltFault::Gone) => Err(BookFault::Gone),
+            Err(HaltFault::Live) => Err(BookFault::Live),
+            Err(HaltFault::Refused(fault)) => Err(fault_of(fault)),
+        }
+    }
+}

@@ -1,0 +1,119 @@
+//! What a book has of groups that the ledger has no more goes.
+ghost use Rattle.std.specs.Prelude.{◌≡◌, ◌+◌, ◌≤◌, ℕ, true, false, length, vec_len, vec_capacity};
+ghost use Rattle.orc_rules.specs.declared.limits.TheConstants.{MOST_GROUPS};
+ghost use Rattle.orc_indexes.specs.Same.{weight};
+ghost use Rattle.orc_book.specs.Held.{AreHeld, AreLoose, IsLoose, IsThere, IsMissing, bag};
+
+use crate::post::{Post, clear_at, place_in, settle_at, spare_at, word_in};
+use crate::word_state::{Kind, Stand, bury, kind_of};
+use orc_ledger::Ledger;
+use orc_log::Program;
+use orc_word::{Naming, Pass};
+
+// Whether a number is that of an open group, or the program's own.
+fn is_there<P: Program>(ledger: &Ledger<P>, number: u32) -> bool
+    ensures there { result ≡ true → IsThere ledger.now number }
+    ensures missing { result ≡ false → IsMissing ledger.now number }
+{
+    if number == 0 {
+        return true;
+    }
+    match ledger.group_with(number) {
+        Some(_) => true,
+        None => false,
+    }
+}
+
+// Nobody is kept or out of a group that is there no more.
+pub(crate) fn clear_missing<P: Program, J: Naming>(ledger: &Ledger<P>, posts: &mut Vec<Post<J>>)
+    requires few { length posts.old.items ≡ MOST_GROUPS }
+    requires loose { AreLoose posts.old.items ledger.now }
+    ensures loose { (i : ℕ) → IsLoose ledger.now posts.new.items i }
+    ensures bags { weight bag posts.new.items ≡ weight bag posts.old.items }
+    ensures count { length posts.new.items ≡ length posts.old.items }
+{
+    let count = posts.len();
+    for number in 0..count {
+        let number = number as u32;
+        if !is_there(ledger, number) {
+            clear_at(posts, number);
+        }
+    }
+}
+
+// A word whose group is there no more stands for a killed one, with a pass of the group that was round it.
+fn bury_one<P: Program, J: Naming>(
+    ledger: &Ledger<P>,
+    posts: &mut Vec<Post<J>>,
+    stands: &mut Vec<Stand<J>>,
+    word: u32,
+    parent: u32,
+) -> bool
+    requires loose { (i : ℕ) → IsLoose ledger.now posts.old.items i }
+    ensures loose { (i : ℕ) → IsLoose ledger.now posts.new.items i }
+    ensures bags { weight bag posts.new.items ≤ weight bag posts.old.items }
+    ensures count { length posts.new.items ≡ length posts.old.items }
+{
+    let above = word_in(posts, parent);
+    let pass = spare_at(posts, parent, ledger.member_count(parent) as usize);
+    bury(stands, word, above, pass);
+    true
+}
+
+// The words whose groups are there no more stand for killed ones. Gives how many.
+pub(crate) fn bury_missing<P: Program, J: Naming>(
+    ledger: &Ledger<P>,
+    posts: &mut Vec<Post<J>>,
+    stands: &mut Vec<Stand<J>>,
+) -> usize
+    requires few { length posts.old.items ≡ MOST_GROUPS }
+    requires loose { (i : ℕ) → IsLoose ledger.now posts.old.items i }
+    ensures loose { (i : ℕ) → IsLoose ledger.now posts.new.items i }
+    ensures bags { weight bag posts.new.items ≤ weight bag posts.old.items }
+    ensures count { length posts.new.items ≡ length posts.old.items }
+{
+    let count = posts.len();
+    let mut buried: usize = 0;
+    for number in 0..count {
+        let number = number as u32;
+        if is_there(ledger, number) {
+            continue;
+        }
+        if let Some((word, parent)) = place_in(posts, number)
+            && is_open(stands, word, number)
+            && bury_one(ledger, posts, stands, word, parent)
+        {
+            buried = buried.saturating_add(1);
+        }
+    }
+    buried
+}
+
+// Whether a word stands for the open group with this number.
+fn is_open<J: Naming>(stands: &Vec<Stand<J>>, word: u32, number: u32) -> bool {
+    match kind_of(stands, word) {
+        Kind::Open(open) => open == number,
+        _ => false,
+    }
+}
+
+// Each group's passes that are too many are to be left.
+pub(crate) fn settle_all<P: Program, J: Naming>(
+    ledger: &Ledger<P>,
+    posts: &mut Vec<Post<J>>,
+    leave: &mut Vec<Pass<J>>,
+)
+    requires few { length posts.old.items ≡ MOST_GROUPS }
+    requires loose { (i : ℕ) → IsLoose ledger.now posts.old.items i }
+    requires room { vec_len leave.old + weight bag posts.old.items ≤ vec_capacity leave.old }
+    ensures held { AreHeld posts.new.items ledger.now }
+    ensures room { vec_len leave.new + weight bag posts.new.items ≤ vec_len leave.old + weight bag posts.old.items }
+    ensures capacity { vec_capacity leave.new ≡ vec_capacity leave.old }
+{
+    let count = posts.len();
+    for number in 0..count {
+        let number = number as u32;
+        let members = ledger.member_count(number) as usize;
+        settle_at(posts, number, members, leave);
+    }
+}

@@ -1,0 +1,184 @@
+// Calls of sites, and their answers.
+
+ghost use Rattle.std.specs.Prelude.{◌≡◌, ℕ, [], length, suc, IfOk, IfErr, IfSome, IfNone, OnErr};
+ghost use Rattle.orc_rules.specs.Term.{Term};
+ghost use Rattle.orc_rules.specs.Nodes.{code};
+ghost use Rattle.orc_rules.specs.declared.entry.Entry.TheVariants as entry;
+ghost use Rattle.orc_rules.specs.declared.entry.RuleFault.TheVariants as reason;
+ghost use Rattle.orc_term.specs.Arena.{at};
+ghost use Rattle.orc_checker.specs.Calls.{IsCall};
+ghost use Rattle.orc_checker.specs.Checker.{EntersBy};
+ghost use Rattle.orc_checker.specs.Refusing.{IsRightlyRefused, Lacks, NoCall};
+ghost use Rattle.orc_term.specs.declared.arena.Kind.TheVariants.{Leaf as AtLeaf};
+ghost use Rattle.orc_term.specs.declared.arena.Tip.TheVariants.{Waits};
+ghost use Rattle.orc_rules.specs.Nodes.{Listing};
+
+use crate::lookup::waits_with;
+use crate::marked::Marked;
+use crate::rest::{Called, is_due_now};
+use orc_calls::due_time;
+use orc_env::are_arguments;
+use orc_rules::answers::Answers;
+use orc_rules::entry::RuleFault;
+use orc_rules::program::{Program, TermNode};
+use orc_rules::value::{Answer, Args, Value};
+use orc_term::arena::{Kind, Node, Tip};
+use orc_term::flags::settle;
+use orc_term::room::{push_within, reserve};
+
+/// A call that pends: its node, the one above it, and what is known of it.
+#[derive(Clone, Copy)]
+pub(crate) struct Pending {
+    pub at: u32,
+    pub parent: u32,
+    pub called: Called,
+}
+
+impl Marked {
+    /// `call S K M(args)`.
+    pub(crate) fn call(
+        &mut self,
+        program: &Program,
+        answers: &Answers,
+        s: u64,
+        k: u64,
+        site: u32,
+        args: &Args,
+    ) -> Result<(), RuleFault>
+        ensures done { IfOk result (λ _. EntersBy answers.now.sites (code program.now) (entry.Call s k site args.now) self.old self.new) }
+        ensures refused { OnErr result (self.new ≡ self.old) }
+        ensures reason { IfErr result (λ r. IsRightlyRefused program.now answers.now (entry.Call s k site args.now) self.old r) }
+    {
+        let spot = self.spot(s)?;
+        let TermNode::Site(named, list) = program.node(spot.node as usize) else {
+            return Err(RuleFault::Form);
+        };
+        let operands = program.operands(list);
+        if named != site
+            || !are_arguments(
+                &self.scopes,
+                &self.cells,
+                operands,
+                args.as_slice(),
+                spot.scope as usize,
+            )
+        {
+            return Err(RuleFault::Form);
+        }
+        self.expect_call(k)?;
+        let called = Called {
+            found: self.rest.found(answers, site, args),
+            at: self.rest.time(),
+            node: spot.at,
+        };
+        self.due.note(due_time(called.found, called.at), spot.at)?;
+        self.rest.add(called, answers, site, args)?;
+        self.nodes.write_node(
+            spot.at as usize,
+            Node {
+                kind: Kind::Leaf(Tip::Waits(k)),
+                parent: spot.parent,
+            },
+        );
+        Ok(())
+    }
+
+    /// The error is Number: `k` isn't the next call.
+    fn expect_call(&self, k: u64) -> Result<(), RuleFault>
+        ensures next { IfOk result (λ _. k ≡ suc (length self.now.rest.calls)) }
+        ensures refused { IfErr result (λ r. (r ≡ reason.Number) × (k ≡ suc (length self.now.rest.calls) → ⊥)) }
+    {
+        if k != 0 && k - 1 == self.rest.calls_made() as u64 {
+            Ok(())
+        } else {
+            Err(RuleFault::Number)
+        }
+    }
+
+    /// Where call `k` pends.
+    pub(crate) fn find_call(&self, k: u64) -> Option<Pending>
+        ensures there { IfSome result (λ w. at self.now.nodes w.parent w.at (AtLeaf (Waits k))) }
+        ensures call { IfSome result (λ w. IsCall self.now.rest k w.called) }
+        ensures missing { IfNone result (NoCall self.now.nodes k) }
+    {
+        let called = self.rest.call(k)?;
+        let node = self.nodes.get(called.node as usize)?;
+        if !waits_with(node.kind, k) {
+            return None;
+        }
+        Some(Pending {
+            at: called.node,
+            parent: node.parent,
+            called,
+        })
+    }
+
+    /// The same, while no cancel is due.
+    fn pending(&self, k: u64) -> Result<Pending, RuleFault>
+        ensures free { IfOk result (λ _. self.now.rest.to_cancel ≡ []) }
+        ensures there { IfOk result (λ w. at self.now.nodes w.parent w.at (AtLeaf (Waits k))) }
+        ensures call { IfOk result (λ w. IsCall self.now.rest k w.called) }
+        ensures refused { IfErr result (Lacks self.now (NoCall self.now.nodes k)) }
+    {
+        if self.rest.has_cancels() {
+            return Err(RuleFault::Cancel);
+        }
+        self.find_call(k).ok_or(RuleFault::Mark)
+    }
+
+    // Both returns ask when the next call is due, so that calls which pend no more don't stay noted until the next tick.
+
+    /// `return K A V`.
+    pub(crate) fn answered(
+        &mut self,
+        answers: &Answers,
+        k: u64,
+        a: u64,
+        v: Value,
+    ) -> Result<(), RuleFault>
+        ensures done { IfOk result (λ _. (c : ℕ → Term) → EntersBy answers.now.sites c (entry.Return k a v) self.old self.new) }
+        ensures refused { OnErr result (self.new ≡ self.old) }
+        ensures reason { IfErr result (λ r. (l : Listing) → IsRightlyRefused l answers.now (entry.Return k a v) self.old r) }
+    {
+        let pending = self.pending(k)?;
+        self.expect_mark(a)?;
+        is_due_now(pending.called, Answer::Value(v), self.rest.time())?;
+        reserve(&mut self.nodes, &mut self.flags, &mut self.marks).map_err(|_| RuleFault::Memory)?;
+        self.nodes.wake(
+            pending.at,
+            Node {
+                kind: Kind::Leaf(Tip::Bears(a, v)),
+                parent: pending.parent,
+            },
+        );
+        push_within(&mut self.marks, pending.at);
+        let _due = self.rest.next_due(&self.nodes, &mut self.due);
+        Ok(())
+    }
+
+    /// `return K halt`.
+    pub(crate) fn given_up(&mut self, answers: &Answers, k: u64) -> Result<(), RuleFault>
+        ensures done { IfOk result (λ _. (c : ℕ → Term) → EntersBy answers.now.sites c (entry.ReturnHalt k) self.old self.new) }
+        ensures refused { OnErr result (self.new ≡ self.old) }
+        ensures reason { IfErr result (λ r. (l : Listing) → IsRightlyRefused l answers.now (entry.ReturnHalt k) self.old r) }
+    {
+        let pending = self.pending(k)?;
+        is_due_now(pending.called, Answer::Halt, self.rest.time())?;
+        self.nodes.write_node(
+            pending.at as usize,
+            Node {
+                kind: Kind::Leaf(Tip::Ended),
+                parent: pending.parent,
+            },
+        );
+        settle(
+            &self.nodes,
+            &mut self.flags,
+            &mut self.candidates,
+            pending.at,
+            true,
+        );
+        let _due = self.rest.next_due(&self.nodes, &mut self.due);
+        Ok(())
+    }
+}

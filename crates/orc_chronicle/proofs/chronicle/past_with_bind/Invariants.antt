@@ -1,5 +1,0 @@
--- The items are those that the caller picks.
-use Rattle.orc_chronicle.proofs.chronicle.past_with_bind.Given as goal
-
-abbrev pub ghost-past_of : goal.ghost-past_of
-ghost-past_of g a = g.items

@@ -1,0 +1,22 @@
+-- Which files of a command line are standard input.
+use Rattle.std.specs.Prelude.{ℕ, List, Bool, false, ◌&&◌, ◌||◌, bytes_eq, codes, Option, Some, None, option_map}
+use Rattle.orc_cli.specs.declared.job.Job.{Job}
+use Rattle.orc_cli.specs.declared.job.Job.TheVariants as job
+
+abbrev pub names_input : List ℕ → Bool
+names_input path = bytes_eq path (codes "-")
+
+abbrev pub may_name_input : Option (List ℕ) → Bool
+may_name_input (Some path) = names_input path
+may_name_input None = false
+
+abbrev pub two_of : Bool → Bool → Bool → Bool
+two_of a b c = (a && b) || ((a || b) && c)
+
+-- more than one file of the job is standard input
+abbrev pub shares : Job → Bool
+shares (job.Run file script options) = names_input file.now && may_name_input (option_map (λ p. p.now) script)
+shares (job.Outcomes file script options) = names_input file.now && may_name_input (option_map (λ p. p.now) script)
+shares (job.Check file journal script) = two_of (names_input file.now) (names_input journal.now) (may_name_input (option_map (λ p. p.now) script))
+shares (job.Draw file journal script options) = two_of (names_input file.now) (names_input journal.now) (may_name_input (option_map (λ p. p.now) script))
+shares (job.Print file) = false

@@ -1,0 +1,356 @@
+//! What a command line may say.
+
+ghost use Rattle.std.specs.Prelude.{◌≡◌, IfOk, false};
+ghost use Rattle.orc_cli.specs.Inputs.{shares};
+
+use crate::job::{Asked, Job, Options, SurveyOptions, Wanted};
+use clap::error::ErrorKind;
+use clap::{Arg, ArgAction, ArgMatches, Command, Error, value_parser};
+use orc_draw::{Form, Theme};
+use orc_rules::limits::{DEFAULT_ENTRIES, DEFAULT_WORKERS, MOST_ENTRIES, MOST_WORKERS};
+use std::alloc::{AllocError, Global};
+use std::convert::AsStr;
+
+/// In how many orders `outcomes` runs a program at most, and where nothing is said.
+const MOST_ORDERS: i64 = 10_000;
+
+const DEFAULT_ORDERS: u64 = 100;
+
+const VERSION: &str = "0.1.0 (proved with logic dac8208d650f15bf)";
+
+/// What stands below the list of commands.
+const CODES: &str = "Faults, each one line on standard error, a code with its place:
+  S, C  the source's text, its names    (a byte, counted from 0)
+  L, J  the script, the journal's text  (a line, counted from 1)
+  K     an entry of the journal         (counted from 1)
+  E     the engine
+
+Status:
+  0  halted, or done                    4  cut by a limit
+  1  a fault in one of the files        5  memory was refused
+  2  the command line was refused       6  a file or the output failed
+  3  quiet: it waits for ever           7  the engine is at fault";
+
+// What an option takes: a number from 1 to `most`, or else the default.
+#[derive(Drop)]
+struct Range {
+    most: i64,
+    default: String,
+    help: String,
+}
+
+impl Range {
+    // The error is refused memory.
+    fn new(alloc: Global, what: &str, most: i64, default: u64) -> Result<Range, AllocError> {
+        Ok(Range {
+            most,
+            default: format!(in alloc; "{default}")?,
+            help: format!(in alloc; "{what}, 1 to {most}")?,
+        })
+    }
+}
+
+/// The numbers that options take, which a command borrows.
+pub struct Ranges {
+    workers: Range,
+    orders: Range,
+    limit: Range,
+}
+
+// Written out, so that a caller's proof sees one call and not the drop of each field.
+impl Drop for Ranges {
+    fn drop(self) {
+        let Ranges {
+            workers: _,
+            orders: _,
+            limit: _,
+        } = self;
+    }
+}
+
+impl Ranges {
+    /// The error is refused memory.
+    pub fn new(alloc: Global) -> Result<Ranges, AllocError> {
+        let workers = "The number of workers";
+        let orders = "In how many orders the program is run";
+        let limit = "The greatest number of journal entries";
+        Ok(Ranges {
+            workers: Range::new(alloc, workers, MOST_WORKERS as i64, DEFAULT_WORKERS as u64)?,
+            orders: Range::new(alloc, orders, MOST_ORDERS, DEFAULT_ORDERS)?,
+            limit: Range::new(alloc, limit, MOST_ENTRIES as i64, DEFAULT_ENTRIES)?,
+        })
+    }
+}
+
+fn file_argument<'a>(alloc: Global) -> Arg<'a> {
+    Arg::new(alloc, "file")
+        .value_name("FILE")
+        .required(true)
+        .help("The program's source text; - is standard input")
+}
+
+fn script_argument<'a>(alloc: Global) -> Arg<'a> {
+    Arg::new(alloc, "script")
+        .long("script")
+        .value_name("F")
+        .help("The answers of the program's own sites; - is standard input [default: none]")
+}
+
+fn number_argument<'a>(alloc: Global, name: &'static str, range: &'a Range) -> Arg<'a> {
+    Arg::new(alloc, name)
+        .long(name)
+        .value_name("N")
+        .value_parser(value_parser!(u64).range(1..=range.most))
+        .default_value(range.default.as_str())
+        .help(range.help.as_str())
+}
+
+fn order_argument<'a>(alloc: Global) -> Result<Arg<'a>, AllocError> {
+    Arg::new(alloc, "order")
+        .long("order")
+        .value_name("N")
+        .value_parser(value_parser!(u64))
+        .help("Take another order where the rules leave it free, on one worker")
+        .conflicts_with("workers")
+}
+
+fn times_flag<'a>(alloc: Global) -> Result<Arg<'a>, AllocError> {
+    Arg::new(alloc, "times")
+        .long("times")
+        .action(ArgAction::SetTrue)
+        .help("Write the time of each value behind it")
+        .conflicts_with("journal")
+}
+
+fn journal_flag<'a>(alloc: Global) -> Arg<'a> {
+    Arg::new(alloc, "journal")
+        .long("journal")
+        .action(ArgAction::SetTrue)
+        .help("Write the run's journal instead of what it publishes")
+}
+
+/// What `--explain` does where a run may end in more ways than one.
+const EXPLAIN_RUN: &str = "Explain what went wrong, or how the run ended";
+
+const EXPLAIN: &str = "Explain what went wrong, below its line";
+
+fn explain_flag<'a>(alloc: Global, help: &'static str) -> Arg<'a> {
+    Arg::new(alloc, "explain")
+        .long("explain")
+        .action(ArgAction::SetTrue)
+        .help(help)
+}
+
+fn journal_argument<'a>(alloc: Global) -> Arg<'a> {
+    Arg::new(alloc, "journal")
+        .value_name("JOURNAL")
+        .required(true)
+        .help("The journal's text; - is standard input")
+}
+
+fn text_flag<'a>(alloc: Global) -> Arg<'a> {
+    Arg::new(alloc, "text")
+        .long("text")
+        .action(ArgAction::SetTrue)
+        .help("Draw with letters instead of as SVG")
+}
+
+fn width_argument<'a>(alloc: Global) -> Result<Arg<'a>, AllocError> {
+    Arg::new(alloc, "width")
+        .long("width")
+        .value_name("N")
+        .value_parser(value_parser!(u64).range(60..=400))
+        .default_value("80")
+        .help("With --text: about how many columns wide, 60 to 400")
+        .requires_arg("text")
+}
+
+fn all_flag<'a>(alloc: Global) -> Arg<'a> {
+    Arg::new(alloc, "all")
+        .long("all")
+        .action(ArgAction::SetTrue)
+        .help("Give each call of a built-in site a row too")
+}
+
+/// The words for the colours.
+const THEMES: [&str; 3] = ["auto", "light", "dark"];
+
+fn theme_argument<'a>(alloc: Global) -> Arg<'a> {
+    Arg::new(alloc, "theme")
+        .long("theme")
+        .value_name("COLOURS")
+        .value_parser(THEMES.as_slice())
+        .default_value("auto")
+        .help("The colours of the SVG")
+}
+
+fn run_command<'a>(alloc: Global, ranges: &'a Ranges) -> Result<Command<'a>, AllocError> {
+    Command::new(alloc, "run")
+        .about("Run a program and write what it publishes")
+        .arg(file_argument(alloc))?
+        .arg(script_argument(alloc))?
+        .arg(number_argument(alloc, "workers", &ranges.workers))?
+        .arg(order_argument(alloc)?)?
+        .arg(number_argument(alloc, "limit", &ranges.limit))?
+        .arg(times_flag(alloc)?)?
+        .arg(journal_flag(alloc))?
+        .arg(explain_flag(alloc, EXPLAIN_RUN))
+}
+
+fn outcomes_command<'a>(alloc: Global, ranges: &'a Ranges) -> Result<Command<'a>, AllocError> {
+    Command::new(alloc, "outcomes")
+        .about("Run a program in many orders and write what came of them")
+        .arg(file_argument(alloc))?
+        .arg(script_argument(alloc))?
+        .arg(number_argument(alloc, "workers", &ranges.workers))?
+        .arg(number_argument(alloc, "orders", &ranges.orders))?
+        .arg(number_argument(alloc, "limit", &ranges.limit))?
+        .arg(explain_flag(alloc, EXPLAIN))
+}
+
+fn check_command<'a>(alloc: Global) -> Result<Command<'a>, AllocError> {
+    Command::new(alloc, "check")
+        .about("Check a journal against a program, by the rules")
+        .arg(file_argument(alloc))?
+        .arg(journal_argument(alloc))?
+        .arg(script_argument(alloc))?
+        .arg(explain_flag(alloc, EXPLAIN))
+}
+
+fn draw_command<'a>(alloc: Global) -> Result<Command<'a>, AllocError> {
+    Command::new(alloc, "draw")
+        .about("Draw what happened in a run, from its journal")
+        .arg(file_argument(alloc))?
+        .arg(journal_argument(alloc))?
+        .arg(script_argument(alloc))?
+        .arg(text_flag(alloc))?
+        .arg(width_argument(alloc)?)?
+        .arg(all_flag(alloc))?
+        .arg(theme_argument(alloc))?
+        .arg(explain_flag(alloc, EXPLAIN))
+}
+
+fn print_command<'a>(alloc: Global) -> Result<Command<'a>, AllocError> {
+    Command::new(alloc, "print")
+        .about("Write a program in its plain form")
+        .arg(file_argument(alloc))?
+        .arg(explain_flag(alloc, EXPLAIN))
+}
+
+fn orc_command<'a>(alloc: Global, ranges: &'a Ranges) -> Result<Command<'a>, AllocError> {
+    Command::new(alloc, "orc")
+        .version(VERSION)
+        .about("Run programs of the Orc calculus, and check their journals")
+        .after_help(CODES)
+        .subcommand_required(true)
+        .arg_required_else_help(true)
+        .subcommand(run_command(alloc, ranges)?)?
+        .subcommand(outcomes_command(alloc, ranges)?)?
+        .subcommand(check_command(alloc)?)?
+        .subcommand(draw_command(alloc)?)?
+        .subcommand(print_command(alloc)?)
+}
+
+fn wanted_of(given: &ArgMatches) -> Wanted {
+    if given.get_flag("journal") {
+        Wanted::Journal
+    } else if given.get_flag("times") {
+        Wanted::Times
+    } else {
+        Wanted::Values
+    }
+}
+
+// How a program is run. An order is one worker's.
+fn options_of(given: &ArgMatches) -> Option<Options> {
+    let order = given.get_one::<u64>("order");
+    let workers = match order {
+        Some(_) => 1,
+        None => given.get_one::<u64>("workers")?,
+    };
+    Some(Options {
+        workers,
+        order,
+        limit: given.get_one::<u64>("limit")?,
+        wanted: wanted_of(given),
+    })
+}
+
+fn survey_options_of(given: &ArgMatches) -> Option<SurveyOptions> {
+    Some(SurveyOptions {
+        workers: given.get_one::<u64>("workers")?,
+        orders: given.get_one::<u64>("orders")?,
+        limit: given.get_one::<u64>("limit")?,
+    })
+}
+
+fn form_of(given: &ArgMatches) -> Option<Form> {
+    if given.get_flag("text") {
+        return Some(Form::Text(given.get_one::<u64>("width")?));
+    }
+    let theme = match given.get_str("theme")? {
+        "light" => Theme::Light,
+        "dark" => Theme::Dark,
+        _ => Theme::Auto,
+    };
+    Some(Form::Svg(theme))
+}
+
+// What the words of a command ask for. None where the command has no arm here.
+fn job_of<'a>(name: &str, given: &ArgMatches<'a>) -> Option<Job<'a>> {
+    let file = given.get_str("file")?;
+    match name {
+        "run" => Some(Job::Run {
+            file,
+            script: given.get_str("script"),
+            options: options_of(given)?,
+        }),
+        "outcomes" => Some(Job::Outcomes {
+            file,
+            script: given.get_str("script"),
+            options: survey_options_of(given)?,
+        }),
+        "check" => Some(Job::Check {
+            file,
+            journal: given.get_str("journal")?,
+            script: given.get_str("script"),
+        }),
+        "draw" => Some(Job::Draw {
+            file,
+            journal: given.get_str("journal")?,
+            script: given.get_str("script"),
+            options: orc_draw::Options {
+                form: form_of(given)?,
+                all: given.get_flag("all"),
+            },
+        }),
+        "print" => Some(Job::Print { file }),
+        _ => None,
+    }
+}
+
+/// Why a command line is refused that names standard input for two files.
+const SHARED: &str = "'-' stands for more than one file, and standard input can be read only once";
+
+/// Reads a command line, whose first word is the program's name. One that is taken names standard input for one file at most. An error asks for
+/// help or for the version, or refuses it.
+pub fn read_words<'a, S: AsStr>(
+    alloc: Global,
+    words: &'a [S],
+    ranges: &'a Ranges,
+) -> Result<Asked<'a>, Error>
+    ensures once { IfOk result (λ asked. shares asked.job ≡ false) }
+{
+    let mut command = orc_command(alloc, ranges)?;
+    let matches = command.try_get_matches_from_mut(words)?;
+    if let Some((name, given)) = matches.subcommand() {
+        if let Some(job) = job_of(name, given) {
+            if job.shares_input() {
+                return Err(command.error(ErrorKind::ArgumentConflict, SHARED)?);
+            }
+            let explain = given.get_flag("explain");
+            return Ok(Asked { job, explain });
+        }
+    }
+    Err(command.error(ErrorKind::MissingSubcommand, "no such command")?)
+}

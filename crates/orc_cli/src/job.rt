@@ -1,0 +1,137 @@
+//! What a command line asks for.
+
+ghost use Rattle.std.specs.Prelude.{◌≡◌, option_map};
+ghost use Rattle.orc_cli.specs.Inputs.{names_input, may_name_input, two_of, shares};
+ghost use Rattle.orc_cli.specs.Wanted.{keeps_journal};
+
+/// What stands for standard input where a file is named. A file of this name is `./-`.
+pub const STANDARD_INPUT: &str = "-";
+
+/// A job, and whether what went wrong is to be explained.
+#[derive(Clone, Copy, Debug)]
+pub struct Asked<'a> {
+    pub job: Job<'a>,
+    pub explain: bool,
+}
+
+/// What a command line asks for.
+#[derive(Clone, Copy, Debug)]
+pub enum Job<'a> {
+    Run {
+        file: &'a str,
+        script: Option<&'a str>,
+        options: Options,
+    },
+    Outcomes {
+        file: &'a str,
+        script: Option<&'a str>,
+        options: SurveyOptions,
+    },
+    Check {
+        file: &'a str,
+        journal: &'a str,
+        script: Option<&'a str>,
+    },
+    Draw {
+        file: &'a str,
+        journal: &'a str,
+        script: Option<&'a str>,
+        options: orc_draw::Options,
+    },
+    Print {
+        file: &'a str,
+    },
+}
+
+fn is_input(path: &str) -> bool
+    ensures { result ≡ names_input path.now }
+{
+    path == STANDARD_INPUT
+}
+
+fn may_be_input(path: Option<&str>) -> bool
+    ensures { result ≡ may_name_input (option_map (λ p. p.now) path.entry) }
+{
+    match path {
+        Some(path) => is_input(path),
+        None => false,
+    }
+}
+
+fn are_two(a: bool, b: bool, c: bool) -> bool
+    ensures { result ≡ two_of a b c }
+{
+    a && b || (a || b) && c
+}
+
+impl Job<'_> {
+    /// Whether standard input is named for more than one file. It can be read only once.
+    pub(crate) fn shares_input(&self) -> bool
+        ensures { result ≡ shares self.now }
+    {
+        match *self {
+            Job::Run { file, script, .. } | Job::Outcomes { file, script, .. } => {
+                is_input(file) && may_be_input(script)
+            }
+            Job::Check {
+                file,
+                journal,
+                script,
+            }
+            | Job::Draw {
+                file,
+                journal,
+                script,
+                ..
+            } => are_two(is_input(file), is_input(journal), may_be_input(script)),
+            Job::Print { .. } => false,
+        }
+    }
+}
+
+/// How a program is run in many orders.
+#[derive(Clone, Copy, Debug, PartialEq, Eq)]
+pub struct SurveyOptions {
+    /// How many workers make these runs, each one at a time, 1 to `MOST_WORKERS`.
+    pub workers: u64,
+    /// How many orders there are.
+    pub orders: u64,
+    /// The most entries that a run's journal may have, cancels not counted.
+    pub limit: u64,
+}
+
+/// How a program is run.
+#[derive(Clone, Copy, Debug, PartialEq, Eq)]
+pub struct Options {
+    /// How many workers run it, 1 to `MOST_WORKERS`.
+    pub workers: u64,
+    /// Which order one worker takes where the rules leave it free. Several don't ask for it.
+    pub order: Option<u64>,
+    /// The most entries that the run's journal may have, cancels not counted.
+    pub limit: u64,
+    /// What is written of it.
+    pub wanted: Wanted,
+}
+
+/// What is written of a run.
+#[derive(Clone, Copy, Debug, PartialEq, Eq)]
+pub enum Wanted {
+    /// A line for each value that it published.
+    Values,
+    /// The same, each with the time at which it came.
+    Times,
+    /// Its journal.
+    Journal,
+}
+
+impl Wanted {
+    /// Whether the run's journal is kept for it.
+    pub fn keeps_journal(self) -> bool
+        ensures { result ≡ keeps_journal self }
+    {
+        match self {
+            Wanted::Values => false,
+            Wanted::Times | Wanted::Journal => true,
+        }
+    }
+}

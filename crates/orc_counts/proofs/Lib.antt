@@ -1,4 +1,0 @@
-pub mod Lists
-pub mod Invariant
-pub mod Marks
-pub mod Runs

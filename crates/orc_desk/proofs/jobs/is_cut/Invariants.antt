@@ -1,8 +1,0 @@
--- What may come yet, in entries and groups, and then in turns.
-use Rattle.std.proofs.Common.{◌+◌, ◌*◌, ◌^◌}
-use Rattle.std.specs.VecDeque.{deque_len}
-use Rattle.orc_desk.specs.Stops.{left}
-use Rattle.orc_desk.proofs.jobs.is_cut.Given as goal
-
-abbrev pub decreases-loop : goal.decreases-loop
-decreases-loop g l = 2 ^ 64 * left l.desk.ledger + deque_len l.desk.ready.handles

@@ -1,7 +1,0 @@
--- The entries so far lead to a place that the marked term spells.
-use Rattle.std.proofs.Common.{take}
-use Rattle.orc_desk.specs.Ends.{IsSpelt}
-use Rattle.orc_desk.proofs.quiet.is_quiet_at.Given as goal
-
-abbrev pub invariant-loop-at : goal.invariant-loop-at
-invariant-loop-at l = IsSpelt l.program l.answers (take l.at l.journal.entries) l.marked

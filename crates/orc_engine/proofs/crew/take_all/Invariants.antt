@@ -1,7 +1,0 @@
--- The run is further, or as far, and no more turns come.
-use Rattle.std.specs.VecDeque.{deque_len}
-use Rattle.orc_desk.specs.Stops.{HasSpread}
-use Rattle.orc_engine.proofs.crew.take_all.Given as goal
-
-abbrev pub invariant-loop-job : goal.invariant-loop-job
-invariant-loop-job g l = HasSpread l.fn.desk.ledger (deque_len l.fn.desk.ready.handles) l.desk.ledger (deque_len l.desk.ready.handles)

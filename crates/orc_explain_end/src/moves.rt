@@ -1,0 +1,179 @@
+//! What can come next in a run, and what waits.
+
+use crate::replay::Replay;
+use orc_rules::entry::Entry;
+use orc_rules::limits::MOST_ARGUMENTS;
+use orc_rules::program::Program;
+use orc_verdict::{return_entry, token_entry};
+use std::alloc::{AllocError, Global};
+
+/// How many entries are kept.
+const KEPT: usize = 4;
+
+/// A cell for which tokens wait.
+#[derive(Clone, Copy)]
+pub(crate) struct Wait {
+    pub cell: u64,
+    /// How many tokens wait for it, and the one with the least number.
+    pub tokens: u64,
+    pub first: u64,
+    // The one that was counted last.
+    last: u64,
+}
+
+/// What can come next in a run.
+pub(crate) struct Moves {
+    /// The first few entries that can: those of tokens by their numbers, `lost` and `right`, returns, or else a tick.
+    pub entries: Vec<Entry>,
+    /// How many can come in all.
+    pub count: u64,
+    /// The tokens, and those that wait, by their numbers.
+    pub tokens: u64,
+    pub waiting: Vec<u64>,
+    /// The cells for which some wait, by their numbers.
+    pub waits: Vec<Wait>,
+    /// How many right sides of prunings and left sides of otherwises are open.
+    pub sides: u64,
+}
+
+impl Drop for Moves {
+    fn drop(self) {
+        let Moves {
+            entries: _,
+            count: _,
+            tokens: _,
+            waiting: _,
+            waits: _,
+            sides: _,
+        } = self;
+    }
+}
+
+impl Moves {
+    /// What can come next where a run stands. The error is refused memory.
+    pub(crate) fn new(
+        alloc: Global,
+        program: &Program,
+        replay: &mut Replay,
+    ) -> Result<Moves, AllocError> {
+        let mut moves = Moves {
+            entries: Vec::new(alloc),
+            count: 0,
+            tokens: 0,
+            waiting: Vec::new(alloc),
+            waits: Vec::new(alloc),
+            sides: 0,
+        };
+        for _cell in &replay.cells {
+            let cell = (moves.waits.len() as u64).saturating_add(1);
+            moves.waits.push(Wait {
+                cell,
+                tokens: 0,
+                first: 0,
+                last: 0,
+            })?;
+        }
+        moves.add_tokens(program, replay)?;
+        moves.add_sides(replay)?;
+        moves.add_returns(replay)?;
+        if moves.count == 0 {
+            if let Some(time) = replay.marked.next_due() {
+                moves.add(Entry::Tick(time))?;
+            }
+        }
+        Ok(moves)
+    }
+
+    fn add(&mut self, entry: Entry) -> Result<(), AllocError> {
+        self.count = self.count.saturating_add(1);
+        if self.entries.len() < KEPT {
+            self.entries.push(entry)?;
+        }
+        Ok(())
+    }
+
+    fn add_tokens(&mut self, program: &Program, replay: &Replay) -> Result<(), AllocError> {
+        for mark in 1..replay.marked.new_mark() {
+            if replay.trail.token(mark).is_some() {
+                // One that was dropped with a side can do nothing.
+                if let Some(next) = replay.marked.next(program, mark) {
+                    self.tokens = self.tokens.saturating_add(1);
+                    match token_entry(&replay.marked, mark, next) {
+                        Some(entry) => self.add(entry)?,
+                        None => self.wait(program, replay, mark)?,
+                    }
+                }
+            }
+        }
+        Ok(())
+    }
+
+    // A token waits for cells.
+    fn wait(&mut self, program: &Program, replay: &Replay, token: u64) -> Result<(), AllocError> {
+        self.waiting.push(token)?;
+        for position in 0..MOST_ARGUMENTS {
+            if let Some(cell) = replay.marked.awaited(program, token, position) {
+                self.wait_for(cell, token);
+            }
+        }
+        Ok(())
+    }
+
+    fn wait_for(&mut self, cell: u64, token: u64) {
+        let at = (cell as usize).saturating_sub(1);
+        if let Some(wait) = self.waits.get_mut(at) {
+            if wait.last != token {
+                wait.last = token;
+                wait.tokens = wait.tokens.saturating_add(1);
+                if wait.first == 0 {
+                    wait.first = token;
+                }
+            }
+        }
+    }
+
+    fn add_sides(&mut self, replay: &Replay) -> Result<(), AllocError> {
+        let mut cell: u64 = 0;
+        for _cell in &replay.cells {
+            cell = cell.saturating_add(1);
+            if let Some(has_halted) = replay.marked.right_has_halted(cell) {
+                self.add_side(has_halted, Entry::Lost(cell))?;
+            }
+        }
+        for mark in 1..replay.marked.new_mark() {
+            if replay.trail.is_entered(mark) {
+                if let Some(has_halted) = replay.marked.left_has_halted(mark) {
+                    let entry = Entry::Right(mark, replay.marked.new_mark());
+                    self.add_side(has_halted, entry)?;
+                }
+            }
+        }
+        Ok(())
+    }
+
+    // A side that has halted may end, so that it isn't open.
+    fn add_side(&mut self, has_halted: bool, entry: Entry) -> Result<(), AllocError> {
+        if has_halted {
+            self.add(entry)?;
+        } else {
+            self.sides = self.sides.saturating_add(1);
+        }
+        Ok(())
+    }
+
+    fn add_returns(&mut self, replay: &Replay) -> Result<(), AllocError> {
+        let mut call: u64 = 0;
+        for made in &replay.calls {
+            call = call.saturating_add(1);
+            if made.is_out {
+                match replay.marked.due(call) {
+                    Some((answer, time)) if time == replay.marked.now() => {
+                        self.add(return_entry(&replay.marked, call, answer))?;
+                    }
+                    _ => {}
+                }
+            }
+        }
+        Ok(())
+    }
+}

@@ -1,0 +1,503 @@
+//! What looks like a mistake in a run that has halted, and isn't one of the language.
+
+use crate::replay::{Loss, Made};
+use crate::rules::{Rule, Rules};
+use crate::scene::{Scene, begin, name_of};
+use orc_explain_fault::said_of;
+use orc_report::Page;
+use orc_rules::builtin::is_same;
+use orc_rules::entry::Entry;
+use orc_rules::value::Value;
+use std::alloc::{AllocError, Global};
+use std::collections::HashMap;
+
+/// How many remarks of a kind are told.
+const SHOWN: u64 = 4;
+
+/// Calls that were made at one spot, and for which the same is to be said.
+#[derive(Clone, Copy)]
+struct Group {
+    first: Made,
+    // The number of the first one.
+    number: u64,
+    count: u64,
+}
+
+/// Such calls, those of each spot together, in the order of the first ones.
+struct Groups {
+    list: Vec<Group>,
+    // The place in the list of a spot's group.
+    places: HashMap<usize, usize>,
+}
+
+impl Drop for Groups {
+    fn drop(self) {
+        let Groups { list: _, places: _ } = self;
+    }
+}
+
+impl Groups {
+    fn new(alloc: Global) -> Groups {
+        Groups {
+            list: Vec::new(alloc),
+            places: HashMap::new(alloc),
+        }
+    }
+
+    fn add(&mut self, made: Made, number: u64) -> Result<(), AllocError> {
+        let place = self.places.get(&made.spot).copied();
+        match place {
+            Some(place) => {
+                if let Some(group) = self.list.get_mut(place) {
+                    group.count = group.count.saturating_add(1);
+                }
+            }
+            None => {
+                self.places.insert(made.spot, self.list.len())?;
+                self.list.push(Group {
+                    first: made,
+                    number,
+                    count: 1,
+                })?;
+            }
+        }
+        Ok(())
+    }
+}
+
+/// What is to be said of a run's calls, and of the lines of its script.
+struct Remarks {
+    // Calls of built-in sites with the wrong kinds or number of arguments.
+    wrong: Groups,
+    // Calls of a script's sites that no line answers.
+    unanswered: Groups,
+    // Other calls that halted.
+    halted: Groups,
+    // Whether a line of the script has answered a call, by the lines' places in their list.
+    used: Vec<bool>,
+}
+
+impl Drop for Remarks {
+    fn drop(self) {
+        let Remarks {
+            wrong: _,
+            unanswered: _,
+            halted: _,
+            used: _,
+        } = self;
+    }
+}
+
+// The arguments that a built-in site takes.
+#[derive(Clone, Copy)]
+enum Taken {
+    Numbers,
+    Values,
+    Truth,
+    Time,
+}
+
+impl Taken {
+    fn fits(self, args: &[Value]) -> bool {
+        match self {
+            Taken::Numbers => matches!(args, [Value::Number(_), Value::Number(_)]),
+            Taken::Values => args.len() == 2,
+            Taken::Truth => matches!(args, [Value::Truth(_)]),
+            Taken::Time => matches!(args, [Value::Number(_)]),
+        }
+    }
+
+    fn words(self) -> &'static str {
+        match self {
+            Taken::Numbers => "two numbers",
+            Taken::Values => "two values",
+            Taken::Truth => "`true` or `false`",
+            Taken::Time => "a number of units of time",
+        }
+    }
+}
+
+/// What the built-in sites take.
+const SITES: [(&[u8], Taken); 7] = [
+    (b"Add", Taken::Numbers),
+    (b"Sub", Taken::Numbers),
+    (b"Lt", Taken::Numbers),
+    (b"Eq", Taken::Values),
+    (b"Ift", Taken::Truth),
+    (b"Iff", Taken::Truth),
+    (b"Rwait", Taken::Time),
+];
+
+/// Why a call of a built-in site halts that has the arguments that it takes.
+const HALTS: [(&[u8], &str); 5] = [
+    (b"Add", "the sum is out of range"),
+    (b"Sub", "the difference is out of range"),
+    (b"Ift", "`Ift` goes on where it is given `true`"),
+    (b"Iff", "`Iff` goes on where it is given `false`"),
+    (b"Rwait", "the time is negative"),
+];
+
+// What a built-in site takes, where the arguments are something else.
+fn wanted(name: &[u8], args: &[Value]) -> Option<&'static str> {
+    for (site, taken) in SITES.iter() {
+        if *site == name && !taken.fits(args) {
+            return Some(taken.words());
+        }
+    }
+    None
+}
+
+// Whether an earlier line answers all calls that a later one would.
+fn hides(rules: &Rules, earlier: &Rule, later: &Rule) -> bool {
+    let hiding = rules.patterns(earlier);
+    let hidden = rules.patterns(later);
+    earlier.name == later.name
+        && hiding.len() == hidden.len()
+        && hiding.iter().zip(hidden.iter()).all(|(pattern, other)| match (pattern, other) {
+            (None, _) => true,
+            (Some(a), Some(b)) => is_same(*a, *b),
+            (Some(_), None) => false,
+        })
+}
+
+// The first argument that a line's patterns don't take, from 1, with its pattern; and how many there are.
+fn differences(patterns: &[Option<Value>], args: &[Value]) -> (u64, Option<(u64, Value)>) {
+    let mut count: u64 = 0;
+    let mut first = None;
+    let mut place: u64 = 0;
+    for (pattern, arg) in patterns.iter().zip(args.iter()) {
+        place = place.saturating_add(1);
+        if let Some(value) = *pattern {
+            if !is_same(value, *arg) {
+                count = count.saturating_add(1);
+                if first.is_none() {
+                    first = Some((place, value));
+                }
+            }
+        }
+    }
+    (count, first)
+}
+
+// The line that is nearest to a call: of those for as many arguments the one with the fewest other values, else the first of the site.
+fn nearest<'a>(rules: &Rules<'a>, name: &[u8], args: &[Value]) -> Option<Rule<'a>> {
+    let mut nearest: Option<Rule<'a>> = None;
+    let mut least: u64 = 0;
+    for rule in &rules.list {
+        if rule.name == name {
+            let far = distance(rules.patterns(rule), args);
+            if nearest.is_none() || far < least {
+                nearest = Some(*rule);
+                least = far;
+            }
+        }
+    }
+    nearest
+}
+
+// How many of a call's arguments a line's patterns don't take, the most there can be where they are for others.
+fn distance(patterns: &[Option<Value>], args: &[Value]) -> u64 {
+    if patterns.len() == args.len() {
+        differences(patterns, args).0
+    } else {
+        u64::MAX
+    }
+}
+
+// Why a line doesn't answer a call.
+fn missed(page: &mut Page, rules: &Rules, rule: &Rule, args: &[Value]) {
+    let patterns = rules.patterns(rule);
+    page.say_number("; the nearest one, line ", rule.number as u64, "");
+    if patterns.len() != args.len() {
+        page.say(", is for ");
+        page.count(patterns.len() as u64, "argument");
+        return;
+    }
+    let (_count, first) = differences(patterns, args);
+    if let Some((place, value)) = first {
+        page.say(", wants ");
+        page.value(value);
+        page.say_number(" as argument ", place, "");
+    }
+}
+
+impl Remarks {
+    fn new(alloc: Global, scene: &Scene, rules: &Rules) -> Result<Remarks, AllocError> {
+        let mut remarks = Remarks {
+            wrong: Groups::new(alloc),
+            unanswered: Groups::new(alloc),
+            halted: Groups::new(alloc),
+            used: Vec::new(alloc),
+        };
+        remarks.read(scene, rules)?;
+        Ok(remarks)
+    }
+
+    fn read(&mut self, scene: &Scene, rules: &Rules) -> Result<(), AllocError> {
+        for _rule in &rules.list {
+            self.used.push(false)?;
+        }
+        let mut number: u64 = 0;
+        for made in &scene.replay.calls {
+            number = number.saturating_add(1);
+            self.add(scene, rules, *made, number)?;
+        }
+        Ok(())
+    }
+
+    fn add(
+        &mut self,
+        scene: &Scene,
+        rules: &Rules,
+        made: Made,
+        number: u64,
+    ) -> Result<(), AllocError> {
+        let Some(Entry::Call(_, _, site, args)) = scene.journal.get(made.entry) else {
+            return Ok(());
+        };
+        let name = name_of(scene.ended.answers, site);
+        if scene.ended.answers.is_scripted(site) {
+            self.scripted(rules, name, args.as_slice(), made, number)
+        } else if wanted(name, args.as_slice()).is_some() {
+            self.wrong.add(made, number)
+        } else {
+            self.other(made, number)
+        }
+    }
+
+    // A call that its site could answer.
+    fn other(&mut self, made: Made, number: u64) -> Result<(), AllocError> {
+        if made.has_halted {
+            self.halted.add(made, number)
+        } else {
+            Ok(())
+        }
+    }
+
+    fn scripted(
+        &mut self,
+        rules: &Rules,
+        name: &[u8],
+        args: &[Value],
+        made: Made,
+        number: u64,
+    ) -> Result<(), AllocError> {
+        match rules.first(name, args) {
+            Some(place) => {
+                if let Some(used) = self.used.get_mut(place) {
+                    *used = true;
+                }
+                self.other(made, number)
+            }
+            None => self.unanswered.add(made, number),
+        }
+    }
+
+    fn unused(&self) -> u64 {
+        let mut count: u64 = 0;
+        for used in &self.used {
+            if !*used {
+                count = count.saturating_add(1);
+            }
+        }
+        count
+    }
+
+    fn is_empty(&self) -> bool {
+        self.wrong.list.is_empty() && self.unanswered.list.is_empty() && self.unused() == 0
+    }
+}
+
+impl Scene<'_, '_> {
+    /// What is to be said of a run that has halted. Nothing at all where nothing looks wrong.
+    pub(crate) fn halted(&self, page: &mut Page) {
+        let Ok(rules) = Rules::new(self.alloc, self.subject.script_text()) else {
+            page.refuse();
+            return;
+        };
+        match Remarks::new(self.alloc, self, &rules) {
+            Ok(remarks) => self.remarks(page, &remarks, &rules),
+            Err(_) => page.refuse(),
+        }
+    }
+
+    fn remarks(&self, page: &mut Page, remarks: &Remarks, rules: &Rules) {
+        let is_silent = self.ended.summary.published == 0;
+        if !is_silent && remarks.is_empty() {
+            return;
+        }
+        begin(page, self.ended.summary);
+        if is_silent {
+            page.note("nothing was published\n");
+        }
+        self.wrong_calls(page, &remarks.wrong);
+        self.unanswered_calls(page, &remarks.unanswered, rules);
+        if is_silent {
+            self.halted_calls(page, &remarks.halted, rules);
+            self.losses(page);
+        }
+        self.unused_lines(page, remarks, rules);
+    }
+
+    // `call 3, Ift(3), in line 1, column 5 halted`, the first call of a group.
+    fn halted_call(&self, page: &mut Page, group: &Group) {
+        page.note("");
+        page.say_number("call ", group.number, ", ");
+        self.call(page, group.first.entry);
+        page.say(", made in ");
+        self.place(page, group.first.spot);
+        page.say(", halted: ");
+    }
+
+    // How many calls more were made there.
+    fn others(&self, page: &mut Page, group: &Group) {
+        if group.count > 1 {
+            page.say("; so did ");
+            page.count(group.count.saturating_sub(1), "more call");
+            page.say(" there");
+        }
+        page.say("\n");
+    }
+
+    fn wrong_calls(&self, page: &mut Page, groups: &Groups) {
+        let mut shown: u64 = 0;
+        for group in groups.list.iter().take(SHOWN as usize) {
+            shown = shown.saturating_add(1);
+            self.halted_call(page, group);
+            self.site_takes(page, group.first.entry);
+            self.others(page, group);
+        }
+        self.rest(page, groups.list.len() as u64, shown);
+    }
+
+    // What a call's site takes.
+    fn site_takes(&self, page: &mut Page, entry: usize) {
+        if let Some(Entry::Call(_, _, site, args)) = self.journal.get(entry) {
+            let name = name_of(self.ended.answers, site);
+            page.say_word("`", name, "` takes ");
+            page.say(wanted(name, args.as_slice()).unwrap_or("other values"));
+        }
+    }
+
+    fn unanswered_calls(&self, page: &mut Page, groups: &Groups, rules: &Rules) {
+        let mut shown: u64 = 0;
+        for group in groups.list.iter().take(SHOWN as usize) {
+            shown = shown.saturating_add(1);
+            self.halted_call(page, group);
+            page.say("no line of the script answers it");
+            self.nearest_line(page, group.first.entry, rules);
+            self.others(page, group);
+        }
+        self.rest(page, groups.list.len() as u64, shown);
+    }
+
+    fn nearest_line(&self, page: &mut Page, entry: usize, rules: &Rules) {
+        if let Some(Entry::Call(_, _, site, args)) = self.journal.get(entry) {
+            let name = name_of(self.ended.answers, site);
+            if let Some(rule) = nearest(rules, name, args.as_slice()) {
+                missed(page, rules, &rule, args.as_slice());
+            }
+        }
+    }
+
+    fn halted_calls(&self, page: &mut Page, groups: &Groups, rules: &Rules) {
+        let mut shown: u64 = 0;
+        for group in groups.list.iter().take(SHOWN as usize) {
+            shown = shown.saturating_add(1);
+            self.halted_call(page, group);
+            self.halting(page, group.first.entry, rules);
+            self.others(page, group);
+        }
+        self.rest(page, groups.list.len() as u64, shown);
+    }
+
+    // Why a call halted that its site could answer: its line of the script says so, or the built-in site does.
+    fn halting(&self, page: &mut Page, entry: usize, rules: &Rules) {
+        if let Some(Entry::Call(_, _, site, args)) = self.journal.get(entry) {
+            let name = name_of(self.ended.answers, site);
+            match rules.first(name, args.as_slice()) {
+                Some(place) => {
+                    page.say_number("line ", rules.number(place), " of the script says halt");
+                }
+                None => page.say(said_of(name, HALTS.as_slice()).unwrap_or("its site says halt")),
+            }
+        }
+    }
+
+    // Where tokens came to nothing, since values were lost.
+    fn losses(&self, page: &mut Page) {
+        for loss in &self.replay.losses {
+            self.loss(page, *loss);
+        }
+        let others = self.replay.other_losses;
+        if others > 0 {
+            page.note("");
+            page.say_number("and ", others, " more\n");
+        }
+    }
+
+    fn loss(&self, page: &mut Page, loss: Loss) {
+        page.note("`");
+        self.words(page, loss.spot);
+        page.say("` (");
+        self.place(page, loss.spot);
+        page.say(") came to nothing: ");
+        match loss.cell {
+            Some(cell) => {
+                self.cell(page, cell);
+                page.say(", has ended without a value");
+            }
+            None => page.say("what stands for a parameter has ended without a value"),
+        }
+        if loss.count > 1 {
+            page.say("; so did ");
+            page.count(loss.count.saturating_sub(1), "more part");
+            page.say(" there");
+        }
+        page.say("\n");
+    }
+
+    fn unused_lines(&self, page: &mut Page, remarks: &Remarks, rules: &Rules) {
+        let mut shown: u64 = 0;
+        for (place, rule) in rules.list.iter().enumerate() {
+            if !remarks.used.get(place).copied().unwrap_or(true) && shown < SHOWN {
+                shown = shown.saturating_add(1);
+                page.note("line ");
+                page.number(rule.number as u64);
+                page.say(" of the script answered no call");
+                self.hidden(page, rules, place, rule);
+                page.say("\n");
+            }
+        }
+        self.rest(page, remarks.unused(), shown);
+    }
+
+    // That an earlier line hides a line, or that its site was never called.
+    fn hidden(&self, page: &mut Page, rules: &Rules, place: usize, rule: &Rule) {
+        for earlier in rules.list.iter().take(place) {
+            if hides(rules, earlier, rule) {
+                let number = earlier.number as u64;
+                page.say_number(
+                    ": line ",
+                    number,
+                    " comes first and answers all of its calls",
+                );
+                return;
+            }
+        }
+        if !self.is_called(rule.name) {
+            page.say_word(": `", rule.name, "` was never called");
+        }
+    }
+
+    fn is_called(&self, name: &[u8]) -> bool {
+        for made in &self.replay.calls {
+            if let Some(Entry::Call(_, _, site, _)) = self.journal.get(made.entry) {
+                if name_of(self.ended.answers, site) == name {
+                    return true;
+                }
+            }
+        }
+        false
+    }
+}

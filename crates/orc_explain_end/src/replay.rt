@@ -1,0 +1,277 @@
+//! A journal that is replayed on a program's sketch: where its tokens, its calls and its cells stand in the source.
+
+use crate::ended::Ended;
+use orc_checker::Marked;
+use orc_env::{Bound, meaning};
+use orc_journal::Journal;
+use orc_rules::entry::Entry;
+use orc_rules::param::{Operand, Param};
+use orc_rules::program::{Program, TermNode};
+use orc_source_map::{Purpose, Shape, Sketch, Token, Trail, Way};
+use orc_term::arena::{Kind, Tip};
+use std::alloc::{AllocError, Global};
+
+/// How many spots with lost values are noted.
+const MOST_LOSSES: usize = 4;
+
+/// A call that was made.
+#[derive(Clone, Copy)]
+pub(crate) struct Made {
+    pub spot: usize,
+    pub step: usize,
+    /// The place of its entry in the journal, from 0.
+    pub entry: usize,
+    /// Whether it has neither returned nor was cancelled.
+    pub is_out: bool,
+    /// Whether it has returned without an answer.
+    pub has_halted: bool,
+}
+
+/// The tokens that came to nothing at a spot, since a value that they needed was lost.
+#[derive(Clone, Copy)]
+pub(crate) struct Loss {
+    pub spot: usize,
+    /// The cell from which the first of them would have had its value. None where it was lost before a definition was called with it.
+    pub cell: Option<u64>,
+    /// How many they are.
+    pub count: u64,
+}
+
+/// A cell, whose pruning stands at a spot.
+#[derive(Clone, Copy)]
+pub(crate) struct Cell<'a> {
+    pub purpose: Purpose<'a>,
+    pub spot: usize,
+}
+
+/// A journal's run, at its end.
+pub(crate) struct Replay<'a> {
+    pub marked: Marked,
+    pub trail: Trail,
+    /// The calls, call 1 first.
+    pub calls: Vec<Made>,
+    /// The cells, cell 1 first.
+    pub cells: Vec<Cell<'a>>,
+    /// Where values were lost, at the first few spots.
+    pub losses: Vec<Loss>,
+    /// How many tokens came to nothing by that at other spots.
+    pub other_losses: u64,
+    /// How often a definition was called.
+    pub definitions: u64,
+}
+
+impl Drop for Replay<'_> {
+    fn drop(self) {
+        let Replay {
+            marked: _,
+            trail: _,
+            calls: _,
+            cells: _,
+            losses: _,
+            other_losses: _,
+            definitions: _,
+        } = self;
+    }
+}
+
+const NO_TOKEN: Token = Token {
+    spot: None,
+    call: None,
+    step: 0,
+};
+
+impl<'a> Replay<'a> {
+    /// The run of a journal. The error is refused memory, or an entry that the rules refuse, which no run's journal has.
+    pub(crate) fn new(
+        alloc: Global,
+        ended: &Ended,
+        sketch: &Sketch<'a>,
+        journal: &Journal,
+    ) -> Result<Replay<'a>, AllocError> {
+        let mut replay = Replay {
+            marked: Marked::new(alloc, ended.program, true)?,
+            trail: Trail::new(alloc, sketch)?,
+            calls: Vec::new(alloc),
+            cells: Vec::new(alloc),
+            losses: Vec::new(alloc),
+            other_losses: 0,
+            definitions: 0,
+        };
+        replay.read(ended, sketch, journal)?;
+        Ok(replay)
+    }
+
+    fn read(
+        &mut self,
+        ended: &Ended,
+        sketch: &Sketch<'a>,
+        journal: &Journal,
+    ) -> Result<(), AllocError> {
+        for at in 0..journal.len() {
+            let Some(entry) = journal.get(at) else {
+                return Ok(());
+            };
+            if let Entry::Void(s) = entry {
+                self.add_loss(ended.program, s)?;
+            }
+            if self
+                .marked
+                .step(ended.program, ended.answers, &entry)
+                .is_err()
+            {
+                return Err(AllocError);
+            }
+            self.note(sketch, &entry, at)?;
+            self.trail.follow(sketch, &entry)?;
+        }
+        Ok(())
+    }
+
+    // What an entry makes besides tokens, or ends.
+    fn note(&mut self, sketch: &Sketch<'a>, entry: &Entry, at: usize) -> Result<(), AllocError> {
+        match entry {
+            Entry::Call(s, _, _, _) => return self.add_call(*s, at),
+            Entry::Return(k, _, _) | Entry::Cancel(k) => self.end_call(*k, false),
+            Entry::ReturnHalt(k) => self.end_call(*k, true),
+            Entry::Open(s, _, _, _) => return self.add_cell(sketch, *s),
+            Entry::Def(_, _) => self.definitions = self.definitions.saturating_add(1),
+            _ => {}
+        }
+        Ok(())
+    }
+
+    fn add_call(&mut self, mark: u64, entry: usize) -> Result<(), AllocError> {
+        let token = self.token(mark);
+        self.calls.push(Made {
+            spot: token.spot.unwrap_or(0),
+            step: token.step,
+            entry,
+            is_out: true,
+            has_halted: false,
+        })?;
+        Ok(())
+    }
+
+    fn end_call(&mut self, call: u64, has_halted: bool) {
+        if let Some(made) = self.calls.get_mut((call as usize).saturating_sub(1)) {
+            made.is_out = false;
+            made.has_halted = has_halted;
+        }
+    }
+
+    // A token comes to nothing, since a value that it needs was lost.
+    fn add_loss(&mut self, program: &Program, token: u64) -> Result<(), AllocError> {
+        let spot = self.token(token).spot.unwrap_or(0);
+        for place in 0..self.losses.len() {
+            if let Some(loss) = self.losses.get_mut(place) {
+                if loss.spot == spot {
+                    loss.count = loss.count.saturating_add(1);
+                    return Ok(());
+                }
+            }
+        }
+        if self.losses.len() < MOST_LOSSES {
+            let cell = self.lost_cell(program, token);
+            self.losses.push(Loss {
+                spot,
+                cell,
+                count: 1,
+            })?;
+        } else {
+            self.other_losses = self.other_losses.saturating_add(1);
+        }
+        Ok(())
+    }
+
+    // The cell of the first lost value that a token needs.
+    fn lost_cell(&self, program: &Program, token: u64) -> Option<u64> {
+        let (number, scope) = self.node_of(token)?;
+        match program.node(number) {
+            TermNode::Operand(operand) => self.cell_of(operand, scope),
+            TermNode::Site(_, list) => {
+                for operand in program.operands(list) {
+                    if matches!(self.marked.param(*operand, scope), Param::Void) {
+                        return self.cell_of(*operand, scope);
+                    }
+                }
+                None
+            }
+            _ => None,
+        }
+    }
+
+    // The cell that was put for an operand, whatever has become of it.
+    fn cell_of(&self, operand: Operand, scope: usize) -> Option<u64> {
+        match meaning(self.marked.scopes(), &[], operand, scope) {
+            Some(Bound::Cell(cell)) => Some(cell),
+            _ => None,
+        }
+    }
+
+    /// The program's node on which a token stands, and its scope.
+    pub(crate) fn node_of(&self, token: u64) -> Option<(usize, usize)> {
+        for slot in self.marked.nodes() {
+            match slot.node().kind {
+                Kind::Leaf(Tip::Token(mark, number, scope)) if mark == token => {
+                    return Some((number as usize, scope as usize));
+                }
+                _ => {}
+            }
+        }
+        None
+    }
+
+    fn add_cell(&mut self, sketch: &Sketch<'a>, mark: u64) -> Result<(), AllocError> {
+        let Shape::Prune(_, _, purpose) = self.trail.shape(sketch, mark) else {
+            return Ok(());
+        };
+        let spot = self.token(mark).spot.unwrap_or(0);
+        self.cells.push(Cell { purpose, spot })?;
+        Ok(())
+    }
+
+    /// The token of a mark, one that stands nowhere where there is none.
+    pub(crate) fn token(&self, mark: u64) -> Token {
+        self.trail.token(mark).unwrap_or(NO_TOKEN)
+    }
+
+    /// The spot of a token; that of the whole program where it stands on a call's answer.
+    pub(crate) fn spot(&self, mark: u64, sketch: &Sketch) -> usize {
+        match self.token(mark).spot {
+            Some(spot) => spot,
+            None => sketch.main(),
+        }
+    }
+
+    /// Which steps are inside the right side of a cell's pruning, from step 0 on. The error is refused memory.
+    pub(crate) fn inside(&self, alloc: Global, cell: u64) -> Result<Vec<bool>, AllocError> {
+        let mut inside: Vec<bool> = Vec::new(alloc);
+        inside.push(false)?;
+        for step in self.trail.steps() {
+            let is_inside = match step.way {
+                Way::PruneRight(other) if other == cell => true,
+                _ => inside.get(step.outer).copied().unwrap_or(false),
+            };
+            inside.push(is_inside)?;
+        }
+        Ok(inside)
+    }
+
+    /// The most left sides of `>x>` that stand round one step, counted out to the next right side of a pruning. The error is refused memory.
+    pub(crate) fn frames(&self, alloc: Global) -> Result<u64, AllocError> {
+        let mut frames: Vec<u64> = Vec::new(alloc);
+        let mut most: u64 = 0;
+        frames.push(0)?;
+        for step in self.trail.steps() {
+            let outer = frames.get(step.outer).copied().unwrap_or(0);
+            let here = match step.way {
+                Way::PruneRight(_) => 0,
+                Way::SeqLeft(_) => outer.saturating_add(1),
+                Way::OtherwiseLeft(_) | Way::Then(_) => outer,
+            };
+            most = most.max(here);
+            frames.push(here)?;
+        }
+        Ok(most)
+    }
+}

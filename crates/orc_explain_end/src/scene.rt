@@ -1,0 +1,204 @@
+//! What is told of a run: its calls, entries and terms in words.
+
+use crate::ended::Ended;
+use crate::replay::Replay;
+use orc_explain_fault::span_at;
+use orc_journal::Journal;
+use orc_journal_text::{has_line, write_entry};
+use orc_outcome::{End, Summary};
+use orc_report::{Page, Subject, place_of};
+use orc_rules::answers::Answers;
+use orc_rules::entry::Entry;
+use orc_rules::param::Param;
+use orc_rules::program::TermNode;
+use orc_source_map::{Purpose, Sketch};
+use std::alloc::Global;
+
+/// How many columns of a term are shown.
+const TERM: usize = 28;
+
+/// A run that has ended, replayed.
+#[derive(Clone, Copy)]
+pub(crate) struct Scene<'s, 'a> {
+    pub alloc: Global,
+    pub subject: &'s Subject<'a>,
+    pub ended: &'s Ended<'s>,
+    pub sketch: &'s Sketch<'a>,
+    pub journal: &'s Journal,
+    pub replay: &'s Replay<'a>,
+}
+
+/// The line of an end.
+pub(crate) fn begin(page: &mut Page, summary: Summary) {
+    page.say(match summary.end {
+        End::Halted => "orc: Halted",
+        End::Quiet => "orc: Quiet",
+        End::Limit => "orc: Limit",
+        End::Full => "orc: Full",
+        End::Memory => "orc: Memory",
+    });
+    page.say(" at time ");
+    reach(page, summary);
+}
+
+/// How far a run came.
+pub(crate) fn reach(page: &mut Page, summary: Summary) {
+    page.number(summary.now);
+    page.say_number(", after ", summary.entries, "");
+    page.say(if summary.entries == 1 {
+        " entry\n"
+    } else {
+        " entries\n"
+    });
+}
+
+/// `and N more`, where there are more than were shown.
+pub(crate) fn say_more(page: &mut Page, all: u64, shown: u64) {
+    if all > shown {
+        page.say_number(" and ", all.saturating_sub(shown), " more");
+    }
+}
+
+/// The name of a site.
+pub(crate) fn name_of(answers: &Answers, site: u32) -> &[u8] {
+    match answers.name(site) {
+        Some(name) => name,
+        None => b"",
+    }
+}
+
+impl Scene<'_, '_> {
+    /// A line that says how many were left out.
+    pub(crate) fn rest(&self, page: &mut Page, all: u64, shown: u64) {
+        if all > shown {
+            page.note("");
+            page.say_number("and ", all.saturating_sub(shown), " more\n");
+        }
+    }
+
+    /// `line L, column C` of a spot.
+    pub(crate) fn place(&self, page: &mut Page, spot: usize) {
+        let source = self.subject.source;
+        page.place(source.text, self.sketch.span(spot).start);
+    }
+
+    /// `line L` of a place of the source.
+    pub(crate) fn line(&self, page: &mut Page, at: usize) {
+        let source = self.subject.source;
+        let text = source.text;
+        let place = place_of(text, at.min(text.len()));
+        page.say_number("line ", place.line as u64, "");
+    }
+
+    /// A call that was made, as `NAME(a, b)`, by the place of its entry.
+    pub(crate) fn call(&self, page: &mut Page, entry: usize) {
+        if let Some(Entry::Call(_, _, site, args)) = self.journal.get(entry) {
+            page.word(name_of(self.ended.answers, site));
+            page.values(args.as_slice());
+        }
+    }
+
+    /// The line of an entry.
+    pub(crate) fn entry(&self, page: &mut Page, entry: &Entry) {
+        if has_line(entry, self.ended.answers) {
+            let mut text = Vec::new(self.alloc);
+            match write_entry(entry, self.ended.answers, &mut text) {
+                Ok(_) => page.word(text.trim_ascii_end()),
+                Err(_) => page.refuse(),
+            }
+        }
+    }
+
+    // The purpose of a cell.
+    fn purpose(&self, cell: u64) -> Purpose<'_> {
+        let at = (cell as usize).saturating_sub(1);
+        match self.replay.cells.get(at) {
+            Some(cell) => cell.purpose,
+            None => Purpose::Nothing,
+        }
+    }
+
+    /// What a cell's value is for.
+    pub(crate) fn cell(&self, page: &mut Page, cell: u64) {
+        match self.purpose(cell) {
+            Purpose::Variable(name) => {
+                page.say_word("`", name.text, "`, named in ");
+                self.line(page, name.span.start);
+            }
+            Purpose::Argument(place, name) => {
+                page.say_number("argument ", place as u64, "");
+                page.say_word(" of `", name.text, "`, called in ");
+                self.line(page, name.span.start);
+            }
+            Purpose::Nothing => page.say("the value of a `<<`"),
+        }
+    }
+
+    /// What a token stands on: a call with its values put in, else the source's text, cut.
+    pub(crate) fn term(&self, page: &mut Page, token: u64, spot: usize) {
+        let span = self.sketch.span(spot);
+        let source = self.subject.source;
+        let Some((number, scope)) = self.replay.node_of(token) else {
+            return;
+        };
+        match self.ended.program.node(number) {
+            TermNode::Call(_, list) | TermNode::Site(_, list) => {
+                page.word(source.part(span_at(source.text, span.start)));
+                self.operands(page, list, scope);
+            }
+            _ => self.words(page, spot),
+        }
+    }
+
+    /// The source's text of a spot, in one line and cut.
+    pub(crate) fn words(&self, page: &mut Page, spot: usize) {
+        squeeze(page, self.subject.source.part(self.sketch.span(spot)));
+    }
+
+    fn operands(&self, page: &mut Page, list: usize, scope: usize) {
+        page.say("(");
+        for (i, operand) in self.ended.program.operands(list).iter().enumerate() {
+            if i > 0 {
+                page.say(", ");
+            }
+            match self.replay.marked.param(*operand, scope) {
+                Param::Is(value) => page.value(value),
+                Param::Cell(cell) => self.awaited(page, cell),
+                Param::Void | Param::Name(_) => page.say("void"),
+            }
+        }
+        page.say(")");
+    }
+
+    // A cell without a value, as it stands in a term.
+    fn awaited(&self, page: &mut Page, cell: u64) {
+        if let Purpose::Variable(name) = self.purpose(cell) {
+            page.word(name.text);
+        }
+        page.say_number("#", cell, "");
+    }
+}
+
+// A part of a source in one line, with one blank for all between two words, cut where it is long.
+fn squeeze(page: &mut Page, text: &[u8]) {
+    let mut shown: usize = 0;
+    let mut is_apart = false;
+    for byte in text {
+        match *byte {
+            b' ' | b'\t' | b'\r' | b'\n' => is_apart = true,
+            byte => {
+                if is_apart {
+                    page.say(" ");
+                    shown = shown.saturating_add(1);
+                    is_apart = false;
+                }
+                if shown >= TERM {
+                    page.say("..");
+                    return;
+                }
+                page.byte(byte);
+                shown = shown.saturating_add(1);
+            }
+        }
+    }
+}

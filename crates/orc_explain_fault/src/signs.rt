@@ -1,0 +1,136 @@
+//! Characters that begin nothing (S2).
+
+use crate::hint::{Hint, say_hint};
+use orc_lex::token::Span;
+use orc_report::{Document, Page, begins_character};
+
+const COMMENT: &str = "a comment is `-- ..` to the end of the line, or `{- .. -}`";
+
+const NO_PRODUCT: &str = "there is no product: a script can answer for a site of your own";
+
+const NO_QUOTIENT: &str = "there is no quotient: a script can answer for a site of your own";
+
+const NO_LISTS: &str = "there are no lists";
+
+const BRACKETS: &str = "brackets are `(` and `)`; a comment is `{- .. -}`";
+
+/// The bytes of a byte order mark, which some editors put first into a file.
+pub(crate) const ORDER_MARK: &[u8] = b"\xEF\xBB\xBF";
+
+/// What to do about them.
+pub(crate) const NO_ORDER_MARK: &str =
+    "this is a byte order mark: save the file as UTF-8 without one";
+
+// What is said of signs, the first that fits.
+const HINTS: [(&[u8], &str); 20] = [
+    (ORDER_MARK, NO_ORDER_MARK),
+    (b"//", COMMENT),
+    (b"/*", COMMENT),
+    (b"#", COMMENT),
+    (
+        b"&&",
+        "there is no sign for \"and\": `Ift(a) >> Ift(b) >> ..` goes on where both are true",
+    ),
+    (
+        b"&",
+        "both side by side is `f | g`; to wait for both is `val a = f val b = g ..`",
+    ),
+    (b"+", "`Add(a, b)` is a sum"),
+    (
+        b"-",
+        "`Sub(a, b)` is a difference; a `-` belongs to a number where a digit follows",
+    ),
+    (b"*", NO_PRODUCT),
+    (b"/", NO_QUOTIENT),
+    (
+        b"\"",
+        "there are no texts: values are whole numbers, `true`, `false` and `signal`",
+    ),
+    (b"'", "there are no texts, and no `'` in names"),
+    (b"[", NO_LISTS),
+    (b"]", NO_LISTS),
+    (b"{", BRACKETS),
+    (b"}", BRACKETS),
+    (b"!", "`Iff(b)` goes on where b is false"),
+    (b".", "numbers are whole, and there are no fields"),
+    (b":", "there are no types, and no records"),
+    (b"_", "a name begins with a letter"),
+];
+
+// Two signs that are read as one elsewhere.
+const SIGN_PAIRS: [&[u8]; 3] = [b"//", b"/*", b"&&"];
+
+fn is_pair(text: &[u8], at: usize) -> bool {
+    let rest = text.get(at..).unwrap_or(b"");
+    SIGN_PAIRS.iter().any(|pair| rest.starts_with(*pair))
+}
+
+// Where the character that begins there ends.
+fn character_end(text: &[u8], at: usize) -> usize {
+    let rest = text.get(at..).unwrap_or(b"");
+    let more = rest.get(1..).unwrap_or(b"");
+    let length = match more.iter().position(|byte| begins_character(*byte)) {
+        Some(end) => end,
+        None => more.len(),
+    };
+    at.saturating_add(1).saturating_add(length).min(text.len())
+}
+
+// The number of the character that these bytes are.
+fn code(bytes: &[u8]) -> Option<u32> {
+    match str::from_utf8(bytes) {
+        Ok(text) => text.chars().next().map(|sign| sign as u32),
+        Err(_) => None,
+    }
+}
+
+// What is said of a character that begins nothing.
+fn hint(text: &[u8], at: usize) -> Option<&'static str> {
+    let rest = text.get(at..).unwrap_or(b"");
+    for (signs, said) in HINTS.iter() {
+        if rest.starts_with(*signs) {
+            return Some(*said);
+        }
+    }
+    match rest.first() {
+        Some(128..=255) => Some(
+            "signs and names are ASCII; a text that was copied may hold other quotes, dashes or blanks",
+        ),
+        _ => None,
+    }
+}
+
+// A character by itself, or by its number where it can't be shown.
+fn say_character(page: &mut Page, bytes: &[u8]) {
+    match bytes {
+        [33..=126, ..] => page.say_word("`", bytes, "`"),
+        _ => say_unshown(page, bytes),
+    }
+}
+
+fn say_unshown(page: &mut Page, bytes: &[u8]) {
+    match code(bytes) {
+        Some(code) if code < 128 => page.say_number("the control character ", code as u64, ""),
+        Some(code) => {
+            page.say("the character U+");
+            page.code(code);
+        }
+        None => page.say("this character"),
+    }
+}
+
+/// A character that begins nothing.
+pub(crate) fn say_stray(page: &mut Page, document: &Document, at: usize) {
+    let end = if is_pair(document.text, at) {
+        at.saturating_add(2)
+    } else {
+        character_end(document.text, at)
+    };
+    let span = Span { start: at, end };
+    page.point(document, span);
+    say_character(page, document.part(span));
+    page.say(" begins nothing that a program is made of\n");
+    if let Some(words) = hint(document.text, at) {
+        say_hint(page, document, Hint::plain(words));
+    }
+}

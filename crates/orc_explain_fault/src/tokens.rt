@@ -1,0 +1,84 @@
+//! The tokens before a place of a source.
+
+use orc_lex::lexer::{Piece, piece_at};
+use orc_lex::token::{Kind, Plain, Span, Token};
+use orc_report::{Document, Page};
+use std::alloc::{AllocError, Global};
+
+/// The tokens of a source up to a place, and the one that begins there.
+#[derive(Drop)]
+pub(crate) struct Tokens<'a> {
+    /// Those before the place.
+    pub before: Vec<Token<'a>>,
+    /// The token at the place; none at the end of the text.
+    pub here: Option<Token<'a>>,
+}
+
+impl<'a> Tokens<'a> {
+    /// The tokens of a source as far as they can be read, up to a place. The error is refused memory.
+    pub(crate) fn new(
+        alloc: Global,
+        text: &'a [u8],
+        place: usize,
+    ) -> Result<Tokens<'a>, AllocError> {
+        let mut tokens = Tokens {
+            before: Vec::new(alloc),
+            here: None,
+        };
+        tokens.read(text, place)?;
+        Ok(tokens)
+    }
+
+    fn read(&mut self, text: &'a [u8], place: usize) -> Result<(), AllocError> {
+        let mut at: usize = 0;
+        // Each piece has a byte at least.
+        for _piece in 0..text.len() {
+            if at >= text.len() || at > place {
+                return Ok(());
+            }
+            match piece_at(text, at) {
+                Piece::Gap(end) => at = end,
+                Piece::Token(token) => {
+                    if at == place {
+                        self.here = Some(token);
+                        return Ok(());
+                    }
+                    self.before.push(token)?;
+                    at = token.span.end;
+                }
+                Piece::Unread(_) => return Ok(()),
+            }
+        }
+        Ok(())
+    }
+
+    /// The n-th token before the place, counted back from 1.
+    pub(crate) fn back(&self, n: usize) -> Option<Token<'a>> {
+        let at = self.before.len().checked_sub(n)?;
+        self.before.get(at).copied()
+    }
+}
+
+/// A token by its kind and its text.
+pub(crate) fn say_token(page: &mut Page, document: &Document, token: &Token) {
+    let before = match token.kind {
+        Kind::Name(_) => "the name `",
+        Kind::Plain(Plain::Number(_)) => "the number `",
+        Kind::Plain(_) | Kind::Def | Kind::Val => "the word `",
+        _ => "`",
+    };
+    page.say_word(before, document.part(token.span), "`");
+}
+
+/// The token that begins at a place, as wide as a byte where none does.
+pub fn span_at(text: &[u8], at: usize) -> Span {
+    if at < text.len() {
+        if let Piece::Token(token) = piece_at(text, at) {
+            return token.span;
+        }
+    }
+    Span {
+        start: at,
+        end: at.saturating_add(1),
+    }
+}

@@ -1,0 +1,182 @@
+//! What has become of what an entry names.
+
+use crate::named::{Named, named_by, place_of, stands_at};
+use orc_checker::Marked;
+use orc_report::Page;
+use orc_rules::entry::Entry;
+use orc_term::arena::{Kind, Single};
+use orc_verdict::numbers_of;
+
+/// What has become of a token, a call, a cell or an otherwise, with the number of the entry that did it.
+#[derive(Clone, Copy)]
+pub(crate) enum Fate {
+    /// It stands, or never stood.
+    Nothing,
+    UsedUp(u64),
+    Returned(u64),
+    Cancelled(u64),
+    /// A `bind` dropped the side in which it stood.
+    Bound(u64),
+    /// A `lost` or a `right` dropped the side in which it stood.
+    Ended(u64),
+    /// The left side of the otherwise published.
+    Left(u64),
+}
+
+impl Fate {
+    // The words round the number of the entry that did it.
+    fn words(self) -> Option<(&'static str, u64, &'static str)> {
+        match self {
+            Fate::Nothing => None,
+            Fate::UsedUp(entry) => Some((": entry ", entry, " used it up")),
+            Fate::Returned(entry) => Some((": it has returned at entry ", entry, "")),
+            Fate::Cancelled(entry) => Some((": it was cancelled at entry ", entry, "")),
+            Fate::Bound(entry) => Some((": the bind at entry ", entry, " dropped it")),
+            Fate::Ended(entry) => Some((": the end of its side at entry ", entry, " dropped it")),
+            Fate::Left(entry) => Some((": the publication at entry ", entry, " left it")),
+        }
+    }
+}
+
+/// One that is watched while entries are applied.
+#[derive(Clone, Copy)]
+pub(crate) struct Watch {
+    pub named: Named,
+    pub fate: Fate,
+    place: Option<usize>,
+}
+
+// Whether an entry brings it.
+fn is_brought(named: Named, entry: &Entry) -> bool {
+    let new = numbers_of(entry);
+    match named {
+        Named::Token(mark) => new.mark == Some(mark) || new.second == Some(mark),
+        Named::Call(call) => new.call == Some(call),
+        Named::Cell(cell) => new.cell == Some(cell),
+        Named::Otherwise(mark) => matches!(entry, Entry::Other(number, _) if *number == mark),
+        Named::Nothing => false,
+    }
+}
+
+// Whether an entry uses it up.
+fn is_used(named: Named, entry: &Entry) -> bool {
+    match (named, named_by(entry)) {
+        (Named::Token(mark), Named::Token(used)) => mark == used,
+        (Named::Call(call), Named::Call(used)) => call == used,
+        (Named::Cell(cell), Named::Cell(used)) => cell == used,
+        (Named::Otherwise(mark), Named::Otherwise(used)) => mark == used,
+        (Named::Cell(cell), Named::Token(_)) => {
+            matches!(entry, Entry::Bind(_, bound, _) if *bound == cell)
+        }
+        _ => false,
+    }
+}
+
+impl Watch {
+    /// Watches it from the beginning of a run on.
+    pub(crate) fn new(named: Named, marked: &Marked) -> Watch {
+        Watch {
+            named,
+            fate: Fate::Nothing,
+            place: place_of(marked, named),
+        }
+    }
+
+    /// Takes note of an entry that was applied as that number.
+    pub(crate) fn note(&mut self, marked: &Marked, entry: &Entry, number: u64) {
+        match (self.named, self.fate, entry) {
+            (Named::Call(call), Fate::Bound(_), Entry::Cancel(cancelled)) if *cancelled == call => {
+                self.fate = Fate::Cancelled(number);
+            }
+            _ => {}
+        }
+        match self.place {
+            None if is_brought(self.named, entry) => self.place = place_of(marked, self.named),
+            Some(place) if !stands_at(marked, place, self.named) => {
+                if let Fate::Nothing = self.fate {
+                    self.fate = self.ended_by(marked, place, entry, number);
+                }
+            }
+            _ => {}
+        }
+    }
+
+    // What the entry has done that took it away.
+    fn ended_by(&self, marked: &Marked, place: usize, entry: &Entry, number: u64) -> Fate {
+        if is_used(self.named, entry) {
+            return match self.named {
+                Named::Call(_) => Fate::Returned(number),
+                _ => Fate::UsedUp(number),
+            };
+        }
+        if let Some(slot) = marked.nodes().get(place) {
+            if let Kind::One(Single::Passed, _) = slot.node().kind {
+                return Fate::Left(number);
+            }
+        }
+        match entry {
+            Entry::Bind(_, _, _) => Fate::Bound(number),
+            _ => Fate::Ended(number),
+        }
+    }
+
+    /// Whether it stands.
+    pub(crate) fn stands(&self) -> bool {
+        match (self.place, self.fate) {
+            (Some(_), Fate::Nothing) => true,
+            _ => false,
+        }
+    }
+
+    // How many of its kind there have been.
+    fn numbers(&self, marked: &Marked) -> u64 {
+        let next = match self.named {
+            Named::Token(_) | Named::Otherwise(_) => marked.new_mark(),
+            Named::Call(_) => marked.new_call(),
+            Named::Cell(_) => marked.new_cell(),
+            Named::Nothing => 1,
+        };
+        next.saturating_sub(1)
+    }
+
+    fn number(&self) -> u64 {
+        match self.named {
+            Named::Token(number)
+            | Named::Call(number)
+            | Named::Cell(number)
+            | Named::Otherwise(number) => number,
+            Named::Nothing => 0,
+        }
+    }
+
+    /// Says that it isn't there, and why.
+    pub(crate) fn say(&self, marked: &Marked, page: &mut Page) {
+        page.say(match self.named {
+            Named::Token(_) | Named::Nothing => "no mark ",
+            Named::Call(_) => "no call ",
+            Named::Cell(_) => "no cell ",
+            Named::Otherwise(_) => "no otherwise ",
+        });
+        page.number(self.number());
+        page.say(" now");
+        match self.fate.words() {
+            Some((before, entry, behind)) => page.say_number(before, entry, behind),
+            None => self.say_numbers(marked, page),
+        }
+        page.say("\n");
+    }
+
+    // Says why it never stood.
+    fn say_numbers(&self, marked: &Marked, page: &mut Page) {
+        let last = self.numbers(marked);
+        if last == 0 {
+            page.say(": there was none before");
+        } else if self.number() == 0 {
+            page.say(": numbers begin with 1");
+        } else if self.number() > last {
+            page.say_number(": numbers go up to ", last, "");
+        } else {
+            page.say(": no otherwise was entered by this mark");
+        }
+    }
+}

@@ -1,0 +1,66 @@
+//! The lines of entries.
+
+use orc_journal_text::{has_line, write_entry};
+use orc_lex::token::Span;
+use orc_report::Page;
+use orc_rules::answers::Answers;
+use orc_rules::entry::Entry;
+use std::alloc::{AllocError, Global};
+
+/// The line of an entry, without its LF; empty where there is no entry. The error is refused memory.
+pub(crate) fn line_of(
+    alloc: Global,
+    answers: &Answers,
+    entry: Option<&Entry>,
+) -> Result<Vec<u8>, AllocError> {
+    let mut line = Vec::new(alloc);
+    if let Some(entry) = entry {
+        if has_line(entry, answers) {
+            write_entry(entry, answers, &mut line)?;
+        }
+    }
+    let _line_feed = line.pop();
+    Ok(line)
+}
+
+/// Writes the line of an entry.
+pub(crate) fn say_entry(page: &mut Page, alloc: Global, answers: &Answers, entry: &Entry) {
+    match line_of(alloc, answers, Some(entry)) {
+        Ok(line) => say_bytes(page, line.as_slice()),
+        Err(_) => page.refuse(),
+    }
+}
+
+fn say_bytes(page: &mut Page, bytes: &[u8]) {
+    for byte in bytes {
+        page.byte(*byte);
+    }
+}
+
+/// The whole of a line.
+pub(crate) fn whole(line: &[u8]) -> Span {
+    Span {
+        start: 0,
+        end: line.len(),
+    }
+}
+
+/// The n-th word of a line, counted from 0; its end where there are fewer.
+pub(crate) fn field(line: &[u8], n: usize) -> Span {
+    let mut number: usize = 0;
+    let mut start: usize = 0;
+    for (at, byte) in line.iter().enumerate() {
+        if *byte == b' ' {
+            if number == n {
+                return Span { start, end: at };
+            }
+            number = number.saturating_add(1);
+            start = at.saturating_add(1);
+        }
+    }
+    let end = line.len();
+    Span {
+        start: if number == n { start } else { end },
+        end,
+    }
+}

@@ -1,0 +1,69 @@
+//! What an entry names, and where that stands.
+
+use orc_checker::Marked;
+use orc_rules::entry::Entry;
+use orc_term::arena::{Double, Kind, Single, Tip};
+use orc_verdict::mark_named;
+
+/// What an entry asks to be there.
+#[derive(Clone, Copy)]
+pub(crate) enum Named {
+    Token(u64),
+    Call(u64),
+    Cell(u64),
+    Otherwise(u64),
+    Nothing,
+}
+
+/// What an entry names first.
+pub(crate) fn named_by(entry: &Entry) -> Named {
+    if let Some(mark) = mark_named(entry) {
+        return Named::Token(mark);
+    }
+    match entry {
+        Entry::Return(call, _, _) | Entry::ReturnHalt(call) => Named::Call(*call),
+        Entry::Lost(cell) => Named::Cell(*cell),
+        Entry::Right(otherwise, _) => Named::Otherwise(*otherwise),
+        _ => Named::Nothing,
+    }
+}
+
+/// The cell that a `bind` names beside its token.
+pub(crate) fn bound_by(entry: &Entry) -> Named {
+    match entry {
+        Entry::Bind(_, cell, _) => Named::Cell(*cell),
+        _ => Named::Nothing,
+    }
+}
+
+// Whether a node is what is named.
+fn is_named(kind: Kind, named: Named) -> bool {
+    match (kind, named) {
+        (Kind::Leaf(Tip::Token(mark, _, _)), Named::Token(token)) => mark == token,
+        (Kind::Leaf(Tip::Bears(mark, _)), Named::Token(token)) => mark == token,
+        (Kind::Leaf(Tip::Waits(number)), Named::Call(call)) => number == call,
+        (Kind::Two(Double::Side(number), _, _), Named::Cell(cell)) => number == cell,
+        (Kind::One(Single::Entered(mark, _, _), _), Named::Otherwise(other)) => {
+            mark as u64 == other
+        }
+        _ => false,
+    }
+}
+
+/// Whether the node at a place is what is named.
+pub(crate) fn stands_at(marked: &Marked, place: usize, named: Named) -> bool {
+    match marked.nodes().get(place) {
+        Some(slot) => is_named(slot.node().kind, named),
+        None => false,
+    }
+}
+
+/// The node that is named. It looks at all nodes.
+pub(crate) fn place_of(marked: &Marked, named: Named) -> Option<usize> {
+    for (place, slot) in marked.nodes().iter().enumerate() {
+        if is_named(slot.node().kind, named) {
+            return Some(place);
+        }
+    }
+    None
+}

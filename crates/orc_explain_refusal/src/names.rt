@@ -1,0 +1,125 @@
+//! The names of a running program: of variables, definitions, sites and cells.
+
+use crate::sign::Sign;
+use orc_checker::Marked;
+use orc_env::{Bound, StoredScope};
+use orc_report::Page;
+use orc_rules::answers::Answers;
+use orc_scope::{Names as Variables, variables};
+use orc_syntax::Ast;
+use std::alloc::{AllocError, Global};
+
+/// The names of a program, and the variable of each of its cells.
+pub(crate) struct Names<'r, 's> {
+    ast: &'r Ast<'s>,
+    answers: &'r Answers,
+    variables: Variables<'s>,
+    cells: Vec<Option<u32>>,
+}
+
+// Written out, so that a caller's proof sees one call and not the drop of each field.
+impl Drop for Names<'_, '_> {
+    fn drop(self) {
+        let Names {
+            ast: _,
+            answers: _,
+            variables: _,
+            cells: _,
+        } = self;
+    }
+}
+
+// The variable of each cell below a number: the first scope that has the cell is the one in which its pruning was opened.
+fn cells_of(
+    alloc: Global,
+    scopes: &[StoredScope],
+    next: u64,
+) -> Result<Vec<Option<u32>>, AllocError> {
+    let mut cells = Vec::new(alloc);
+    for _cell in 0..next {
+        cells.push(None)?;
+    }
+    for scope in scopes {
+        if let Bound::Cell(cell) = scope.bound() {
+            if let Some(name) = cells.get_mut(cell as usize) {
+                if name.is_none() {
+                    *name = Some(scope.name());
+                }
+            }
+        }
+    }
+    Ok(cells)
+}
+
+impl<'r, 's> Names<'r, 's> {
+    /// The names of a program and of the cells of its marked term. The error is refused memory.
+    pub(crate) fn new(
+        alloc: Global,
+        ast: &'r Ast<'s>,
+        answers: &'r Answers,
+        marked: &Marked,
+    ) -> Result<Names<'r, 's>, AllocError> {
+        Ok(Names {
+            ast,
+            answers,
+            variables: variables(alloc, ast)?,
+            cells: cells_of(alloc, marked.scopes(), marked.new_cell())?,
+        })
+    }
+
+    /// The place among a call's arguments, from 0, for which a number stands that no variable has.
+    pub(crate) fn argument(&self, name: u32) -> Option<usize> {
+        (name as usize).checked_sub(self.variables.len())
+    }
+
+    /// Writes the name of a variable, nothing for a number that none has.
+    pub(crate) fn say_variable(&self, page: &mut Page, name: u32) {
+        if let Some(text) = self.variables.get(name as usize) {
+            page.word(text);
+        }
+    }
+
+    /// Writes a cell: its variable and its number.
+    pub(crate) fn say_cell(&self, page: &mut Page, cell: u64) {
+        if let Some(Some(name)) = self.cells.get(cell as usize) {
+            self.say_variable(page, *name);
+        }
+        page.say("#");
+        page.number(cell);
+    }
+
+    /// Writes a sign, with the name that it binds where that is a variable.
+    pub(crate) fn say_sign(&self, page: &mut Page, sign: Sign) {
+        match sign {
+            Sign::Par => page.say(" | "),
+            Sign::Other => page.say(" ; "),
+            Sign::Seq(name) => self.say_binder(page, " >", name, "> "),
+            Sign::Prune(name) => self.say_binder(page, " <", name, "< "),
+            Sign::Opened(cell) => {
+                page.say(" <");
+                self.say_cell(page, cell);
+                page.say("< ");
+            }
+        }
+    }
+
+    fn say_binder(&self, page: &mut Page, before: &str, name: u32, behind: &str) {
+        page.say(before);
+        if self.argument(name).is_none() {
+            self.say_variable(page, name);
+        }
+        page.say(behind);
+    }
+
+    pub(crate) fn say_definition(&self, page: &mut Page, definition: u32) {
+        if let Some(definition) = self.ast.definitions.get(definition as usize) {
+            page.word(definition.name.text);
+        }
+    }
+
+    pub(crate) fn say_site(&self, page: &mut Page, site: u32) {
+        if let Some(name) = self.answers.name(site) {
+            page.word(name);
+        }
+    }
+}

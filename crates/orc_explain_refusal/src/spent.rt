@@ -1,0 +1,51 @@
+//! The parts of a marked term in which nothing is left to tell.
+
+use orc_checker::Marked;
+use orc_term::arena::{Kind, Tip};
+use std::alloc::{AllocError, Global};
+
+/// For each node of a marked term whether a token stands in it, where it has halted.
+#[derive(Drop)]
+pub(crate) struct Spent {
+    is_held: Vec<bool>,
+}
+
+impl Spent {
+    /// The error is refused memory.
+    pub(crate) fn new(alloc: Global, marked: &Marked) -> Result<Spent, AllocError> {
+        let mut is_held = Vec::new(alloc);
+        for _node in marked.nodes() {
+            is_held.push(false)?;
+        }
+        let mut spent = Spent { is_held };
+        for (place, slot) in marked.nodes().iter().enumerate() {
+            if let Kind::Leaf(Tip::Token(_, _, _)) = slot.node().kind {
+                spent.hold(marked, place);
+            }
+        }
+        Ok(spent)
+    }
+
+    // A token stands in the node at a place and in those above it. All calls together look at each node once.
+    fn hold(&mut self, marked: &Marked, from: usize) {
+        let mut place = from;
+        for _node in marked.nodes() {
+            let Some(is_held) = self.is_held.get_mut(place) else {
+                return;
+            };
+            if *is_held || !marked.part_has_halted(place) {
+                return;
+            }
+            *is_held = true;
+            match marked.nodes().get(place) {
+                Some(slot) if place != 0 => place = slot.node().parent as usize,
+                _ => return,
+            }
+        }
+    }
+
+    /// Whether the part at a node has halted, and no token stands in it.
+    pub(crate) fn is_spent(&self, marked: &Marked, place: usize) -> bool {
+        marked.part_has_halted(place) && self.is_held.get(place) == Some(&false)
+    }
+}

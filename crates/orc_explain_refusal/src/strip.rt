@@ -1,0 +1,286 @@
+//! A term in one line, with what stands under it.
+
+use crate::names::Names;
+use crate::replay::Replay;
+use crate::sign::Sign;
+use crate::spent::Spent;
+use crate::task::Task;
+use crate::way::Way;
+use orc_journal::Journal;
+use orc_report::Page;
+use orc_rules::program::Program;
+use std::alloc::Global;
+
+/// A part off the way to what is named that takes more columns is left out.
+const LONGEST_PART: usize = 28;
+
+/// What is written behind the place that is shown, in columns.
+const AHEAD: usize = 300;
+
+/// Where a mark's number goes.
+#[derive(Clone, Copy)]
+pub(crate) struct Note {
+    pub column: usize,
+    pub mark: u64,
+}
+
+/// A part that is left out where it is long: where it began, and how many nodes of the program were seen in it.
+#[derive(Clone, Copy)]
+struct Part {
+    start: usize,
+    seen: usize,
+    is_long: bool,
+}
+
+/// Where what is named stands in the line, in columns.
+#[derive(Clone, Copy)]
+pub(crate) struct Stretch {
+    pub start: usize,
+    pub end: usize,
+}
+
+/// A term that is written from its left to its right, as far as it is shown.
+pub(crate) struct Strip<'r, 's> {
+    pub program: &'r Program,
+    pub replay: &'r Replay,
+    pub journal: &'r Journal,
+    pub names: &'r Names<'r, 's>,
+    pub way: &'r Way,
+    pub spent: &'r Spent,
+    pub page: Page,
+    pub notes: Vec<Note>,
+    pub named: Option<Stretch>,
+    /// Whether something stands behind what was written.
+    pub is_cut: bool,
+    /// The variables of the source that is being written.
+    pub bound: Vec<u32>,
+    tasks: Vec<Task>,
+    parts: Vec<Part>,
+    most: usize,
+}
+
+// Written out, so that a caller's proof sees one call and not the drop of each field.
+impl Drop for Strip<'_, '_> {
+    fn drop(self) {
+        let Strip {
+            program: _,
+            replay: _,
+            journal: _,
+            names: _,
+            way: _,
+            spent: _,
+            page: _,
+            notes: _,
+            named: _,
+            is_cut: _,
+            bound: _,
+            tasks: _,
+            parts: _,
+            most: _,
+        } = self;
+    }
+}
+
+impl<'r, 's> Strip<'r, 's> {
+    /// The term before an entry. Where memory is refused, its page says so.
+    pub(crate) fn new(
+        alloc: Global,
+        program: &'r Program,
+        replay: &'r Replay,
+        journal: &'r Journal,
+        names: &'r Names<'r, 's>,
+        way: &'r Way,
+        spent: &'r Spent,
+    ) -> Strip<'r, 's> {
+        let mut strip = Strip {
+            program,
+            replay,
+            journal,
+            names,
+            way,
+            spent,
+            page: Page::new(alloc),
+            notes: Vec::new(alloc),
+            named: None,
+            is_cut: false,
+            bound: Vec::new(alloc),
+            tasks: Vec::new(alloc),
+            parts: Vec::new(alloc),
+            most: AHEAD,
+        };
+        strip.begin();
+        strip.write();
+        strip
+    }
+
+    fn begin(&mut self) {
+        match self.way.top() {
+            Some(top) => {
+                // What stands left of the named part is short.
+                self.most = usize::MAX;
+                self.push(Task::Way(top, 0));
+            }
+            None => self.push(Task::Node(0, 0)),
+        }
+    }
+
+    fn write(&mut self) {
+        for _task in 0..u64::MAX {
+            if self.page.len() > self.most {
+                self.is_cut = true;
+                return;
+            }
+            match self.tasks.pop() {
+                Some(task) if !self.page.is_refused() => self.act(task),
+                _ => return,
+            }
+        }
+    }
+
+    fn act(&mut self, task: Task) {
+        match task {
+            Task::Open => self.open(),
+            Task::Close => self.close(),
+            Task::Bind(name) => self.bind(name),
+            Task::Unbind => {
+                let _name = self.bound.pop();
+            }
+            _ if self.is_long() => {}
+            _ => self.write_part(task),
+        }
+    }
+
+    // Writes a part that isn't left out, as far as its own parts.
+    fn write_part(&mut self, task: Task) {
+        match task {
+            Task::Node(at, level) => self.node(at, level),
+            Task::Way(at, level) => self.way_node(at, level),
+            Task::Source(node, scope, level) => {
+                self.see();
+                self.source(node, scope, level);
+            }
+            Task::Operand(operand, scope) => self.operand(operand, scope),
+            Task::Sign(sign) => self.names.say_sign(&mut self.page, sign),
+            Task::Say(text) => self.page.say(text),
+            Task::Underline(start) => {
+                let end = self.page.len();
+                self.named = Some(Stretch { start, end });
+            }
+            Task::Open | Task::Close | Task::Bind(_) | Task::Unbind => {}
+        }
+    }
+
+    /// Lets a part wait, which is then written next.
+    pub(crate) fn push(&mut self, task: Task) {
+        if self.tasks.push(task).is_err() {
+            self.page.refuse();
+        }
+    }
+
+    fn bind(&mut self, name: u32) {
+        if self.bound.push(name).is_err() {
+            self.page.refuse();
+        }
+    }
+
+    /// From here on the line goes on for so long that all that is shown is written.
+    pub(crate) fn begin_named(&mut self) {
+        let start = self.page.len();
+        self.most = start.saturating_add(AHEAD);
+        self.push(Task::Underline(start));
+    }
+
+    fn open(&mut self) {
+        let part = Part {
+            start: self.page.len(),
+            seen: 0,
+            is_long: self.is_long(),
+        };
+        if self.parts.push(part).is_err() {
+            self.page.refuse();
+        }
+    }
+
+    // Ends a part: it is left out where it has become long.
+    fn close(&mut self) {
+        let is_long = self.is_long();
+        let Some(part) = self.parts.pop() else {
+            return;
+        };
+        if !is_long {
+            return;
+        }
+        self.page.truncate(part.start);
+        self.forget_notes(part.start);
+        self.page.say("..");
+    }
+
+    // Takes back the notes from a column on.
+    fn forget_notes(&mut self, start: usize) {
+        for _note in 0..self.notes.len() {
+            match self.notes.last() {
+                Some(note) if note.column >= start => {
+                    let _note = self.notes.pop();
+                }
+                _ => break,
+            }
+        }
+    }
+
+    // Whether the part that is being written is left out: each node of the program takes a column at least.
+    fn is_long(&self) -> bool {
+        match self.parts.last() {
+            Some(part) => {
+                part.is_long
+                    || part.seen > LONGEST_PART
+                    || self.page.len().saturating_sub(part.start) > LONGEST_PART
+            }
+            None => false,
+        }
+    }
+
+    fn see(&mut self) {
+        if let Some(part) = self.parts.last_mut() {
+            part.seen = part.seen.saturating_add(1);
+        }
+    }
+
+    /// Lets an operation wait with its parts, in brackets where its place wants a tighter form.
+    pub(crate) fn push_joined(&mut self, sign: Sign, wanted: usize, left: Side, right: Side) {
+        let is_inner = sign.levels().own < wanted;
+        if is_inner {
+            self.push(Task::Say(")"));
+        }
+        self.push_side(right, sign.bound_right());
+        self.push(Task::Sign(sign));
+        self.push_side(left, sign.bound_left());
+        if is_inner {
+            self.push(Task::Say("("));
+        }
+    }
+
+    // Lets a side wait in which this name is bound.
+    fn push_side(&mut self, side: Side, name: Option<u32>) {
+        if side.is_part {
+            self.push(Task::Close);
+        }
+        match name {
+            Some(name) => {
+                self.push(Task::Unbind);
+                self.push(side.task);
+                self.push(Task::Bind(name));
+            }
+            None => self.push(side.task),
+        }
+        if side.is_part {
+            self.push(Task::Open);
+        }
+    }
+}
+
+/// A side of an operation, left out where it is a part that is long.
+#[derive(Clone, Copy)]
+pub(crate) struct Side {
+    pub task: Task,
+    pub is_part: bool,
+}

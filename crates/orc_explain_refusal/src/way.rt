@@ -1,0 +1,142 @@
+//! The way down a marked term to the part that an entry names.
+
+use crate::named::{Named, place_of};
+use crate::spent::Spent;
+use orc_checker::Marked;
+use orc_rules::entry::{Entry, RuleFault};
+use orc_term::arena::{Double, Kind, Node, Single};
+use std::alloc::{AllocError, Global};
+
+/// So many levels above the named part are shown at most.
+const LEVELS: usize = 12;
+
+/// What stands behind the carets.
+#[derive(Clone, Copy)]
+pub(crate) enum Label {
+    Mark(u64),
+    Call(u64),
+    Nothing,
+}
+
+/// The nodes from the named part upward as far as they are shown, none where nothing is named.
+#[derive(Drop)]
+pub(crate) struct Way {
+    nodes: Vec<usize>,
+    label: Label,
+    is_inner: bool,
+}
+
+// The side that an entry says has halted.
+fn side_of(marked: &Marked, entry: &Entry) -> Option<usize> {
+    let named = match entry {
+        Entry::Lost(cell) => Named::Cell(*cell),
+        Entry::Right(otherwise, _) => Named::Otherwise(*otherwise),
+        _ => return None,
+    };
+    let slot = marked.nodes().get(place_of(marked, named)?)?;
+    match slot.node().kind {
+        Kind::Two(_, _, right) => Some(right as usize),
+        Kind::One(_, left) => Some(left as usize),
+        Kind::Leaf(_) => None,
+    }
+}
+
+// Whether nothing is written for a node but one of its parts.
+fn is_silent(marked: &Marked, spent: &Spent, above: Node, part: usize) -> bool {
+    match above.kind {
+        Kind::One(Single::Passed, _) => true,
+        Kind::Two(Double::Both, left, right) => {
+            let (left, right) = (left as usize, right as usize);
+            spent.is_spent(marked, if left == part { right } else { left })
+        }
+        _ => false,
+    }
+}
+
+impl Way {
+    /// The way to what a refused entry names. The error is refused memory.
+    pub(crate) fn new(
+        alloc: Global,
+        marked: &Marked,
+        spent: &Spent,
+        entry: Option<&Entry>,
+        named: Named,
+        why: RuleFault,
+    ) -> Result<Way, AllocError> {
+        let mut way = Way {
+            nodes: Vec::new(alloc),
+            label: Label::Nothing,
+            is_inner: false,
+        };
+        let place = match (why, entry) {
+            (RuleFault::Halted, Some(entry)) => side_of(marked, entry),
+            _ => way.place_named(marked, named),
+        };
+        if let Some(place) = place {
+            way.climb(marked, spent, place)?;
+        }
+        Ok(way)
+    }
+
+    // Where a token or a call stands.
+    fn place_named(&mut self, marked: &Marked, named: Named) -> Option<usize> {
+        self.label = match named {
+            Named::Token(mark) => Label::Mark(mark),
+            Named::Call(call) => Label::Call(call),
+            Named::Cell(_) | Named::Otherwise(_) | Named::Nothing => return None,
+        };
+        place_of(marked, named)
+    }
+
+    fn climb(&mut self, marked: &Marked, spent: &Spent, from: usize) -> Result<(), AllocError> {
+        let mut place = from;
+        let mut levels: usize = 0;
+        self.nodes.push(place)?;
+        for _node in 0..marked.nodes().len() {
+            if place == 0 {
+                return Ok(());
+            }
+            let Some(slot) = marked.nodes().get(place) else {
+                return Ok(());
+            };
+            let parent = slot.node().parent as usize;
+            let Some(above) = marked.nodes().get(parent) else {
+                return Ok(());
+            };
+            if !is_silent(marked, spent, above.node(), place) {
+                if levels == LEVELS {
+                    self.is_inner = true;
+                    return Ok(());
+                }
+                levels = levels.saturating_add(1);
+            }
+            self.nodes.push(parent)?;
+            place = parent;
+        }
+        Ok(())
+    }
+
+    /// Whether a part is named, so that the others are shortened.
+    pub(crate) fn is_short(&self) -> bool {
+        !self.nodes.is_empty()
+    }
+
+    /// The place of the highest node that is shown. None where nothing is named.
+    pub(crate) fn top(&self) -> Option<usize> {
+        self.nodes.len().checked_sub(1)
+    }
+
+    /// The node of that place, where the named one is 0.
+    pub(crate) fn node(&self, place: usize) -> Option<usize> {
+        self.nodes.get(place).copied()
+    }
+
+    pub(crate) fn label(&self) -> Label {
+        self.label
+    }
+
+    /// Whether nodes above it aren't shown.
+    pub(crate) fn is_inner(&self) -> bool {
+        self.is_inner
+    }
+}

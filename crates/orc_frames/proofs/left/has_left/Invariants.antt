@@ -1,0 +1,12 @@
+use Rattle.std.proofs.Common.{◌≡◌, ◌≤◌, ◌-◌, length, drop}
+use Rattle.orc_frames.specs.Paths.{has_left}
+use Rattle.orc_frames.proofs.left.has_left.Given as goal
+
+abbrev pub invariant-loop-at : goal.invariant-loop-at
+invariant-loop-at l = record {
+  within : l.at ≤ length l.steps.items;
+  rest : has_left l.steps.items l.number ≡ has_left (drop l.at l.steps.items) l.number;
+}
+
+abbrev pub decreases-loop-at : goal.decreases-loop-at
+decreases-loop-at l = length l.steps.items - l.at

@@ -1,0 +1,65 @@
+-- The path of each step: what is round a token that took it last.
+use Rattle.std.specs.Prelude.{ℕ, List, [], ◌∷◌, ◌++◌, Bool, false, cond, nat_eq, nat_lt, not, ◌&&◌, ◌||◌, slice_index_or, Option, Some, None}
+use Rattle.orc_rules.specs.declared.param.Param.TheVariants.{Is}
+use Rattle.orc_rules.specs.Term.{Term, param}
+use Rattle.orc_env.specs.Scopes.{Env, close, without}
+use Rattle.orc_frames.specs.Spelling.{Path, whole, feeding, aiding, trying}
+use Rattle.orc_tables.specs.declared.records.Standing.{Standing}
+use Rattle.orc_tables.specs.declared.records.Standing.TheVariants.{At, On}
+use Rattle.orc_tables.specs.declared.records.Frame.{Frame}
+use Rattle.orc_tables.specs.declared.records.Frame.TheVariants.{SeqLeft, PruneRight, OtherwiseLeft}
+use Rattle.orc_tables.specs.declared.records.Step.{Step}
+
+-- over the program's terms and the scopes' environments
+module _ (code : ℕ → Term) (env : ℕ → Env) where
+  -- the term under a token
+  abbrev pub standing : Standing → Term
+  standing (At node scope) = close (env scope) (code node)
+  standing (On v) = param (Is v)
+
+  -- one step inwards
+  abbrev pub inwards : Frame → Path → Path
+  inwards (SeqLeft x g scope) p = feeding x (close (without x (env scope)) (code g)) p
+  inwards (PruneRight c) p = aiding c p
+  inwards (OtherwiseLeft n) p = trying n p
+
+  -- the path that each step leads to, after those that are there
+  abbrev pub paths_from : List Path → List Step → List Path
+  paths_from ps [] = ps
+  paths_from ps (s ∷ ss) = paths_from (ps ++ inwards s.entered (slice_index_or ps s.outer whole) ∷ []) ss
+
+  -- the path of step i; there is no step 0
+  abbrev pub path : List Step → ℕ → Path
+  path ss i = slice_index_or (paths_from (whole ∷ []) ss) i whole
+
+abbrev pub is_number : ℕ → Frame → Bool
+is_number n (SeqLeft x g scope) = false
+is_number n (PruneRight c) = false
+is_number n (OtherwiseLeft m) = nat_eq n m
+
+-- this step enters otherwise n, and a publication has left it there
+abbrev pub is_left : ℕ → Option Step → Bool
+is_left n (Some s) = s.published && is_number n s.entered
+is_left n None = false
+
+-- a publication has left otherwise n
+abbrev pub has_left : List Step → ℕ → Bool
+has_left [] n = false
+has_left (s ∷ ss) n = (s.published && is_number n s.entered) || has_left ss n
+
+-- ---- the records name what is there
+abbrev pub is_out : ℕ → Standing → Bool
+is_out n (At node scope) = nat_lt n scope
+is_out n (On v) = false
+
+abbrev pub entered_out : ℕ → ℕ → Frame → Bool
+entered_out n next (SeqLeft x g scope) = nat_lt n scope
+entered_out n next (PruneRight c) = false
+entered_out n next (OtherwiseLeft m) = not (nat_lt m next)
+
+abbrev pub step_out : ℕ → ℕ → Step → Bool
+step_out n next p = entered_out n next p.entered
+
+-- how often a number is a step's otherwise's
+abbrev pub tries : ℕ → Step → ℕ
+tries m p = cond (is_number m p.entered) 1 0

@@ -1,0 +1,160 @@
+//! What a token does next.
+
+ghost use Rattle.std.specs.Prelude.{◌≡◌, ℕ, Bool, true, false, None as Nothing};
+ghost use Rattle.orc_rules.specs.Term.{Term};
+ghost use Rattle.orc_rules.specs.Nodes.{param_of, code, definitions};
+ghost use Rattle.orc_env.specs.Scopes.{Env, env_of, close, close_param};
+ghost use Rattle.orc_env.specs.Names.{AreOrdered};
+ghost use Rattle.orc_frames.specs.Spelling.{seen};
+ghost use Rattle.orc_frames.specs.Paths.{path, has_left};
+ghost use Rattle.orc_tables.specs.Steps.{AreOutwards};
+ghost use Rattle.orc_frames.specs.Doing.{taken, of_param, what_by, scan, closed};
+
+use crate::takers::{Taker, find_taker};
+use orc_env::{Bound, StoredScope, meaning};
+use orc_graph::{Graph, Node};
+use orc_rules::param::Operand;
+use orc_rules::value::Value;
+use orc_tables::Steps;
+
+/// What a token can do next: a move of marks, an entry of its own, or to wait for a cell (0: for nothing that ever comes).
+#[derive(Clone, Copy)]
+pub enum Action {
+    Halt,
+    Fork,
+    Seq,
+    Prune,
+    Other,
+    Def,
+    Void,
+    Publish(Value),
+    Send(Value),
+    Bind(u64, Value),
+    Call,
+    Wait(u64),
+}
+
+/// What a token does that publishes this value from a step, by what takes it; past the last step nothing does.
+pub fn taken_from(steps: &Steps, from: usize, value: Value) -> Action
+    requires { AreOutwards steps.now.items }
+    ensures { (code : ℕ → Term) (env : ℕ → Env) (left : ℕ → Bool) → result ≡ taken value (seen left (path code env steps.now.items from)) }
+{
+    if from > steps.len() {
+        return Action::Publish(value);
+    }
+    match find_taker(steps, from) {
+        Taker::Whole => Action::Publish(value),
+        Taker::SeqLeft(_, _, _, _) => Action::Send(value),
+        Taker::PruneRight(cell, _) => Action::Bind(cell, value),
+    }
+}
+
+/// Whether each operand of a call has a value.
+pub fn are_values(
+    scopes: &[StoredScope],
+    cells: &[Bound],
+    operands: &[Operand],
+    scope: usize,
+) -> bool
+    requires { AreOrdered scopes.now }
+    ensures { result ≡ true → scan false Nothing (closed (env_of cells.now scopes.now scope) operands.now) ≡ Action.Call }
+{
+    match operands {
+        [] => true,
+        [operand, operands @ ..] => match meaning(scopes, cells, *operand, scope) {
+            Some(Bound::Is(_)) => are_values(scopes, cells, operands, scope),
+            Some(Bound::Void) => false,
+            Some(Bound::Cell(_)) => false,
+            None => false,
+        },
+    }
+}
+
+/// What a call of a site does, with these operands still to look at: `waits` where one before them isn't a value, `first` the first cell before them.
+pub fn call_with(
+    scopes: &[StoredScope],
+    cells: &[Bound],
+    operands: &[Operand],
+    scope: usize,
+    waits: bool,
+    first: Option<u64>,
+) -> Action
+    requires { AreOrdered scopes.now }
+    ensures { result ≡ scan waits first (closed (env_of cells.now scopes.now scope) operands.now) }
+{
+    match operands {
+        [] => {
+            if waits {
+                Action::Wait(first.unwrap_or(0))
+            } else {
+                Action::Call
+            }
+        }
+        [operand, operands @ ..] => match meaning(scopes, cells, *operand, scope) {
+            Some(Bound::Is(_)) => call_with(scopes, cells, operands, scope, waits, first),
+            Some(Bound::Void) => Action::Void,
+            Some(Bound::Cell(cell)) => {
+                call_with(scopes, cells, operands, scope, true, first.or(Some(cell)))
+            }
+            None => call_with(scopes, cells, operands, scope, true, first),
+        },
+    }
+}
+
+// What a token does whose term is an operand.
+fn stand_on(
+    scopes: &[StoredScope],
+    cells: &[Bound],
+    steps: &Steps,
+    operand: Operand,
+    scope: usize,
+    from: usize,
+) -> Action
+    requires ordered { AreOrdered scopes.now }
+    requires outwards { AreOutwards steps.now.items }
+    ensures { (code : ℕ → Term) (env : ℕ → Env) (left : ℕ → Bool) → result ≡ of_param (seen left (path code env steps.now.items from)) (close_param (env_of cells.now scopes.now scope) (param_of operand)) }
+{
+    match meaning(scopes, cells, operand, scope) {
+        Some(Bound::Is(value)) => taken_from(steps, from, value),
+        Some(Bound::Cell(cell)) => Action::Wait(cell),
+        Some(Bound::Void) => Action::Void,
+        None => Action::Wait(0),
+    }
+}
+
+/// What a token does at a node.
+pub fn stand_at(
+    graph: &Graph,
+    scopes: &[StoredScope],
+    cells: &[Bound],
+    steps: &Steps,
+    node: u32,
+    scope: usize,
+    from: usize,
+) -> Action
+    requires ordered { AreOrdered scopes.now }
+    requires outwards { AreOutwards steps.now.items }
+    ensures { result ≡ what_by (definitions graph.now) (seen (has_left steps.now.items) (path (code graph.now) (env_of cells.now scopes.now) steps.now.items from)) (close (env_of cells.now scopes.now scope) (code graph.now node)) }
+{
+    match graph.node(node as usize) {
+        Node::Stop => Action::Halt,
+        Node::Name(name) => stand_on(scopes, cells, steps, Operand::Name(name), scope, from),
+        Node::Is(value) => taken_from(steps, from, value),
+        Node::Site(_, list) => call_with(
+            scopes,
+            cells,
+            graph.operands(list as usize),
+            scope,
+            false,
+            None,
+        ),
+        Node::Call(definition, _) => match graph.body(definition as usize) {
+            Some(_) => Action::Def,
+            None => Action::Wait(0),
+        },
+        Node::Par(_, _) => Action::Fork,
+        Node::Seq(_, _, _) => Action::Seq,
+        Node::Prune(_, _, _) => Action::Prune,
+        Node::Other(_, _) => Action::Other,
+    }
+}

@@ -1,0 +1,38 @@
+//! The values of a call's arguments.
+
+ghost use Rattle.std.specs.Prelude.{◌≡◌, ◌≤◌, List, Some, length, true, false};
+ghost use Rattle.orc_rules.specs.Term.{values_of};
+ghost use Rattle.orc_rules.specs.declared.limits.TheConstants.{MOST_ARGUMENTS};
+ghost use Rattle.orc_rules.specs.declared.value.Value.{Value};
+ghost use Rattle.orc_env.specs.Names.{AreOrdered};
+ghost use Rattle.orc_env.specs.Scopes.{env_of};
+ghost use Rattle.orc_frames.specs.Doing.{closed};
+
+use orc_env::{Bound, StoredScope, meaning};
+use orc_rules::param::Operand;
+use orc_rules::value::Args;
+
+/// Puts the values of operands into `args`, if each of them has one. Whether each has one.
+pub fn take_values(
+    scopes: &[StoredScope],
+    cells: &[Bound],
+    operands: &[Operand],
+    scope: usize,
+    args: &mut Args,
+) -> bool
+    requires ordered { AreOrdered scopes.now }
+    requires few { length operands.now ≤ MOST_ARGUMENTS }
+    ensures values { result ≡ true → values_of (closed (env_of cells.now scopes.now scope) operands.now) ≡ Some args.new }
+    ensures none { result ≡ false → (vs : List Value) → values_of (closed (env_of cells.now scopes.now scope) operands.now) ≡ Some vs → ⊥ }
+{
+    args.clear();
+    for operand in operands {
+        match meaning(scopes, cells, *operand, scope) {
+            Some(Bound::Is(value)) => args.push(value),
+            Some(Bound::Cell(_)) => return false,
+            Some(Bound::Void) => return false,
+            None => return false,
+        }
+    }
+    true
+}

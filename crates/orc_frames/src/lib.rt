@@ -1,0 +1,16 @@
+//! What is round a token: the path of its steps outwards, what takes its publication, and what stands for its names; and so what it does next.
+#![tactic(auto)]
+
+mod action;
+mod arguments;
+mod left;
+mod parameters;
+mod takers;
+mod waits;
+
+pub use action::{Action, are_values, call_with, stand_at, taken_from};
+pub use arguments::take_values;
+pub use left::{has_left, left_at};
+pub use parameters::parameter_scopes;
+pub use takers::{Taker, find_taker, leave_others};
+pub use waits::list_cells;

@@ -1,0 +1,48 @@
+//! The scopes of a definition's parameters.
+
+ghost use Rattle.std.specs.Prelude.{◌+◌, IfOk, IfSome, IfNone};
+ghost use Rattle.orc_env.specs.Parameters.{Adds};
+ghost use Rattle.orc_frames.specs.Parameters.{Misfit};
+
+use orc_env::{Bound, Scope, StoredScope, meaning, outer_number};
+use orc_indexes::{push_within, reserve};
+use orc_rules::param::Operand;
+use std::alloc::AllocError;
+
+/// The scopes of a definition's parameters, written over `added`: the last parameter first, each the outer of the next. Gives the number of the
+/// last scope; None where the operands are not as many, or one of them isn't bound.
+pub fn parameter_scopes(
+    scopes: &[StoredScope],
+    cells: &[Bound],
+    params: &[u32],
+    operands: &[Operand],
+    scope: usize,
+    added: &mut Vec<StoredScope>,
+) -> Result<Option<usize>, AllocError>
+    ensures adds { IfOk result (λ last. IfSome last (λ n. Adds cells.now scopes.now scope params.now operands.now added.new.items n)) }
+    ensures misfit { IfOk result (λ last. IfNone last (Misfit cells.now scopes.now scope params.now operands.now)) }
+{
+    added.clear();
+    if params.len() != operands.len() {
+        return Ok(None);
+    }
+    let mut outer = 0;
+    let mut left = params.len();
+    while left > 0 {
+        left -= 1;
+        let Some(bound) = meaning(scopes, cells, operands[left], scope) else {
+            return Ok(None);
+        };
+        reserve(added)?;
+        push_within(
+            added,
+            StoredScope::new(Scope {
+                name: params[left],
+                bound,
+                outer,
+            }),
+        );
+        outer = outer_number(scopes.len() + added.len())?;
+    }
+    Ok(Some(outer as usize))
+}

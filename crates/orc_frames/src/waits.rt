@@ -1,0 +1,38 @@
+//! The cells for which a call waits.
+
+ghost use Rattle.std.specs.Prelude.{◌≡◌, OnOk};
+ghost use Rattle.orc_env.specs.Names.{AreOrdered};
+ghost use Rattle.orc_env.specs.Scopes.{env_of};
+ghost use Rattle.orc_frames.specs.Awaiting.{cells_among};
+ghost use Rattle.orc_frames.specs.Doing.{closed};
+
+use orc_env::{Bound, StoredScope, meaning};
+use orc_indexes::{push_within, reserve};
+use orc_rules::param::Operand;
+use std::alloc::AllocError;
+
+/// Writes the unbound cells among these operands over `listed`, in their order. Where memory is refused what is listed isn't known.
+pub fn list_cells(
+    scopes: &[StoredScope],
+    cells: &[Bound],
+    operands: &[Operand],
+    scope: usize,
+    listed: &mut Vec<u64>,
+) -> Result<(), AllocError>
+    requires { AreOrdered scopes.now }
+    ensures listed { OnOk result (listed.new.items ≡ cells_among (closed (env_of cells.now scopes.now scope) operands.now)) }
+{
+    listed.clear();
+    for operand in operands {
+        match meaning(scopes, cells, *operand, scope) {
+            Some(Bound::Cell(cell)) => {
+                reserve(listed)?;
+                push_within(listed, cell);
+            }
+            Some(Bound::Is(_)) => {}
+            Some(Bound::Void) => {}
+            None => {}
+        }
+    }
+    Ok(())
+}

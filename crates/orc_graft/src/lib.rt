@@ -1,9 +1,0 @@
-//! A call of a definition with values is a program of its own. Here its run is a part of the run around it: the entries that it made apart, under
-//! the numbers that they have there.
-#![tactic(auto)]
-
-mod laws;
-mod numbering;
-
-pub use laws::{part_is_grafted, program_is_still};
-pub use numbering::Numbering;

@@ -1,0 +1,206 @@
+//! Which slots hold a token that is known to wait, and the tokens that wait for each cell.
+
+ghost use Rattle.std.specs.Prelude.{◌≡◌, ◌++◌, ◌∷◌, [], ◌<◌, ℕ, length, map, true, false, vec_len, vec_items, OnOk, MatchOption, slice_set};
+ghost use Rattle.orc_indexes.specs.Same.{weight};
+ghost use Rattle.orc_rules.specs.Timed.{IsIn};
+ghost use Rattle.orc_indexes.specs.Parking.{is_set, notes_at, one};
+ghost use Rattle.orc_indexes.specs.declared.wait_index.Note.{Note as Its};
+
+use std::alloc::{AllocError, Global};
+use std::marker::Model;
+
+/// A token that waits for a cell: its slot, and its serial, which tells whether it is still there.
+#[derive(Clone, Copy)]
+pub struct Note {
+    pub slot: usize,
+    pub serial: u64,
+}
+
+/// By slot whether its token is known to wait, and by cell the tokens that wait for it. A note may stay whose token is gone.
+pub struct Parking {
+    alloc: Global,
+    flags: Vec<bool>,
+    // How many flags are set.
+    count: usize,
+    notes: Vec<Vec<Note>>,
+}
+
+// Written out, so that a caller's proof sees one call and not the drop of each field.
+impl Drop for Parking {
+    fn drop(self) {
+        let Parking {
+            alloc: _,
+            flags: _,
+            count: _,
+            notes: _,
+        } = self;
+    }
+}
+
+impl Model for Parking {
+    ghost use Rattle.std.specs.Prelude.{◌≡◌, map, vec_items};
+    ghost use Rattle.orc_indexes.specs.Same.{weight};
+    ghost use Rattle.orc_indexes.specs.Parking.{Parked, one};
+
+    ghost Value = { Parked };
+
+    ghost view = { λ p. record { flags = p.flags.items; notes = map vec_items p.notes.items } };
+
+    ghost invariant = { λ p. p.count ≡ weight one p.flags.items };
+}
+
+// Whether a flag is set.
+#[inline(always)]
+fn is_set(flags: &Vec<bool>, slot: usize) -> bool
+    ensures { result ≡ is_set flags.now.items slot }
+{
+    match flags.get(slot) {
+        Some(flag) => *flag,
+        None => false,
+    }
+}
+
+#[inline(always)]
+fn write_flag(flags: &mut Vec<bool>, slot: usize, value: bool)
+    ensures { flags.new.items ≡ slice_set flags.old.items slot value }
+{
+    if let Some(flag) = flags.get_mut(slot) {
+        *flag = value;
+    }
+}
+
+// A flag for each slot up to this one. Those that come aren't set.
+fn reach_slot(flags: &mut Vec<bool>, slot: usize) -> Result<(), AllocError>
+    ensures same { (k : ℕ) → is_set flags.new.items k ≡ is_set flags.old.items k }
+    ensures count { weight one flags.new.items ≡ weight one flags.old.items }
+    ensures there { OnOk result (slot < vec_len flags.new) }
+{
+    while flags.len() <= slot {
+        match flags.push(false) {
+            Ok(()) => {}
+            Err(_) => return Err(AllocError),
+        }
+    }
+    Ok(())
+}
+
+// A list for each cell up to this one.
+fn reach_cell(alloc: Global, notes: &mut Vec<Vec<Note>>, cell: usize) -> Result<(), AllocError>
+    ensures same { (c : ℕ) → notes_at (map vec_items notes.new.items) c ≡ notes_at (map vec_items notes.old.items) c }
+    ensures there { OnOk result (cell < vec_len notes.new) }
+{
+    while notes.len() <= cell {
+        if notes.push(Vec::new(alloc)).is_err() {
+            return Err(AllocError);
+        }
+    }
+    Ok(())
+}
+
+// Adds a note to a cell's list.
+fn write_note(notes: &mut Vec<Vec<Note>>, cell: usize, note: Note) -> Result<(), AllocError>
+    requires there { cell < vec_len notes.old }
+    ensures noted { OnOk result (IsIn note (notes_at (map vec_items notes.new.items) cell)) }
+    ensures kept { (c : ℕ) (n : Its) → IsIn n (notes_at (map vec_items notes.old.items) c) → IsIn n (notes_at (map vec_items notes.new.items) c) }
+{
+    let list = &mut notes[cell];
+    match list.push(note) {
+        Ok(()) => Ok(()),
+        Err(_) => Err(AllocError),
+    }
+}
+
+// Takes the last note out of a cell's list.
+fn take_note(notes: &mut Vec<Vec<Note>>, cell: usize) -> Option<Note>
+    ensures note { MatchOption result (notes_at (map vec_items notes.old.items) cell ≡ []) (λ n. notes_at (map vec_items notes.old.items) cell ≡ notes_at (map vec_items notes.new.items) cell ++ n ∷ []) }
+    ensures others { (c : ℕ) → (c ≡ cell → ⊥) → notes_at (map vec_items notes.new.items) c ≡ notes_at (map vec_items notes.old.items) c }
+{
+    match notes.get_mut(cell) {
+        Some(list) => list.pop(),
+        None => None,
+    }
+}
+
+impl Parking {
+    /// No token is known to wait.
+    pub fn new(alloc: Global) -> Parking
+        ensures { result ≡ record { flags = []; notes = [] } }
+    {
+        Parking {
+            alloc,
+            flags: Vec::new(alloc),
+            count: 0,
+            notes: Vec::new(alloc),
+        }
+    }
+
+    /// How many tokens are known to wait.
+    pub fn len(&self) -> usize
+        ensures { result ≡ weight one self.now.flags }
+    {
+        self.count
+    }
+
+    /// Whether the token in this slot is known to wait.
+    pub fn is_set(&self, slot: usize) -> bool
+        ensures { result ≡ is_set self.now.flags slot }
+    {
+        is_set(&self.flags, slot)
+    }
+
+    /// The token in this slot is not known to wait.
+    #[inline(always)]
+    pub fn clear(&mut self, slot: usize)
+        ensures flags { self.new.flags ≡ slice_set self.old.flags slot false }
+        ensures notes { self.new.notes ≡ self.old.notes }
+    {
+        if !is_set(&self.flags, slot) {
+            return;
+        }
+        self.count -= 1;
+        write_flag(&mut self.flags, slot, false);
+    }
+
+    /// The token in this slot is known to wait.
+    pub fn set(&mut self, slot: usize)
+        requires there { slot < length self.old.flags }
+        ensures flags { self.new.flags ≡ slice_set self.old.flags slot true }
+        ensures notes { self.new.notes ≡ self.old.notes }
+    {
+        let len = self.flags.len();
+        prove!(slot < len);
+        if is_set(&self.flags, slot) {
+            return;
+        }
+        self.count += 1;
+        write_flag(&mut self.flags, slot, true);
+    }
+
+    /// Makes room for what is known of the token in this slot.
+    pub fn reach(&mut self, slot: usize) -> Result<(), AllocError>
+        ensures flags { (k : ℕ) → is_set self.new.flags k ≡ is_set self.old.flags k }
+        ensures notes { self.new.notes ≡ self.old.notes }
+        ensures there { OnOk result (slot < length self.new.flags) }
+    {
+        reach_slot(&mut self.flags, slot)
+    }
+
+    /// Notes a token with a cell for which it waits.
+    pub fn note(&mut self, cell: u64, note: Note) -> Result<(), AllocError>
+        ensures flags { self.new.flags ≡ self.old.flags }
+        ensures noted { OnOk result (IsIn note (notes_at self.new.notes cell)) }
+        ensures kept { (c : ℕ) (n : Its) → IsIn n (notes_at self.old.notes c) → IsIn n (notes_at self.new.notes c) }
+    {
+        reach_cell(self.alloc, &mut self.notes, cell as usize)?;
+        write_note(&mut self.notes, cell as usize, note)
+    }
+
+    /// Takes a note out of those of a cell.
+    pub fn take(&mut self, cell: u64) -> Option<Note>
+        ensures flags { self.new.flags ≡ self.old.flags }
+        ensures note { MatchOption result (notes_at self.old.notes cell ≡ []) (λ n. notes_at self.old.notes cell ≡ notes_at self.new.notes cell ++ n ∷ []) }
+        ensures others { (c : ℕ) → (c ≡ cell → ⊥) → notes_at self.new.notes c ≡ notes_at self.old.notes c }
+    {
+        take_note(&mut self.notes, cell as usize)
+    }
+}

@@ -1,0 +1,213 @@
+//! The rows of a part's journal, moved behind those of the journal around it.
+
+ghost use Rattle.std.specs.Prelude.{◌≡◌, ◌+◌, ◌≤◌, ◌++◌, [], true, false, length, map, IfOk, IfSome, OnErr, OnSome, vec_len, vec_capacity};
+ghost use Rattle.std.specs.List.{All};
+ghost use Rattle.orc_subrun.specs.Moved.{moved};
+ghost use Rattle.orc_journal.specs.Rows.{grown, Keeps};
+ghost use Rattle.orc_journal.specs.Shifts.{called_by, mark_by, row_by, IsMovable, Shifts};
+ghost use Rattle.orc_journal.specs.Written.{journal_with};
+
+use crate::journal::Journal;
+use crate::rows::{Called, Row, Tables, short};
+use orc_rules::kind::Kind;
+use orc_subrun::Numbering;
+use std::alloc::AllocError;
+
+/// What is added to a part's numbers: to its marks but the first one, which is the token's, to its calls and its cells, and to the places of its
+/// values and of what it called.
+#[derive(Clone, Copy)]
+pub struct Shift {
+    pub token: u32,
+    pub marks: u32,
+    pub calls: u32,
+    pub cells: u32,
+    pub values: u32,
+    pub called: u32,
+}
+
+impl Shift {
+    // The mark that stands for the part's own one. None where it doesn't fit 32 bits, as in the other two.
+    #[inline(always)]
+    fn mark(self, own: u32) -> Option<u32>
+        ensures { IfSome result (λ mark. mark ≡ mark_by self own) }
+    {
+        if own == 1 {
+            return Some(self.token);
+        }
+        self.marks.checked_add(own)
+    }
+
+    // Makes a part's row that of the same entry here. None where a number doesn't fit 32 bits, for a wide row, and where an opened pruning's marks
+    // wouldn't follow one another any more, since one of them is the first mark; then some numbers may have moved.
+    #[inline(always)]
+    fn move_row(self, row: &mut Row) -> Option<()>
+        ensures moved { OnSome result (row.new ≡ row_by self row.old) }
+        ensures movable { OnSome result (IsMovable row.old) }
+    {
+        let Row::Narrow(kind, a, b, c) = row else {
+            return None;
+        };
+        match *kind {
+            Kind::End | Kind::Void => *a = self.mark(*a)?,
+            Kind::Fork => {
+                *a = self.mark(*a)?;
+                *b = self.mark(*b)?;
+                *c = self.mark(*c)?;
+            }
+            Kind::Seq | Kind::Other | Kind::Def | Kind::Right => {
+                *a = self.mark(*a)?;
+                *b = self.mark(*b)?;
+            }
+            Kind::Open => {
+                if *c < 2 {
+                    return None;
+                }
+                *a = self.mark(*a)?;
+                *b = self.cells.checked_add(*b)?;
+                *c = self.marks.checked_add(*c)?;
+            }
+            Kind::Send => {
+                *a = self.mark(*a)?;
+                *b = self.mark(*b)?;
+                *c = self.values.checked_add(*c)?;
+            }
+            Kind::Call => {
+                *a = self.mark(*a)?;
+                *b = self.calls.checked_add(*b)?;
+                *c = self.called.checked_add(*c)?;
+            }
+            Kind::Return => {
+                *a = self.calls.checked_add(*a)?;
+                *b = self.mark(*b)?;
+                *c = self.values.checked_add(*c)?;
+            }
+            Kind::ReturnHalt => *a = self.calls.checked_add(*a)?,
+            Kind::Bind => {
+                *a = self.mark(*a)?;
+                *b = self.cells.checked_add(*b)?;
+                *c = self.values.checked_add(*c)?;
+            }
+            Kind::Lost => *a = self.cells.checked_add(*a)?,
+            Kind::Publish => {
+                *a = self.mark(*a)?;
+                *c = self.values.checked_add(*c)?;
+            }
+            Kind::Tick | Kind::Cancel => {}
+        }
+        Some(())
+    }
+
+    // The same site and arguments, which stand behind the values that were there.
+    #[inline(always)]
+    fn called(self, called: Called) -> Option<Called>
+        ensures { IfSome result (λ c. c ≡ called_by self called) }
+    {
+        let start = self.values.checked_add(called.start)?;
+        Some(Called {
+            site: called.site,
+            start,
+            count: called.count,
+        })
+    }
+}
+
+// Makes a part's rows those of the same entries here, as far as each has one.
+fn move_rows(rows: &mut [Row], shift: Shift) -> Option<()>
+    ensures len { length rows.new ≡ length rows.old }
+    ensures moved { OnSome result (rows.new ≡ map (row_by shift) rows.old) }
+    ensures movable { OnSome result (All IsMovable rows.old) }
+{
+    for row in rows.iter_mut() {
+        shift.move_row(row)?;
+    }
+    Some(())
+}
+
+// Adds a part's rows, and moves them there. The answer is whether each has a moved one. If not, or if memory is refused, nothing changes.
+fn push_rows(rows: &mut Vec<Row>, part: &[Row], shift: Shift) -> Result<bool, AllocError>
+    ensures added { IfOk result (λ fit. fit ≡ true → rows.new.items ≡ rows.old.items ++ map (row_by shift) part.now) }
+    ensures movable { IfOk result (λ fit. fit ≡ true → All IsMovable part.now) }
+    ensures unfit { IfOk result (λ fit. fit ≡ false → rows.new.items ≡ rows.old.items) }
+    ensures refused { OnErr result (rows.new.items ≡ rows.old.items) }
+{
+    let len = rows.len();
+    rows.extend_from_slice(part)?;
+    let moved = move_rows(&mut rows[len..], shift);
+    if moved.is_none() {
+        rows.truncate(len);
+        return Ok(false);
+    }
+    Ok(true)
+}
+
+// Adds the moved calls. The answer is whether the places of all their arguments fit 32 bits. If not, nothing changes.
+fn push_calls(calls: &mut Vec<Called>, part: &[Called], shift: Shift) -> bool
+    requires room { vec_len calls.old + length part.now ≤ vec_capacity calls.old }
+    ensures added { result ≡ true → calls.new.items ≡ calls.old.items ++ map (called_by shift) part.now }
+    ensures refused { result ≡ false → calls.new.items ≡ calls.old.items }
+{
+    let len = calls.len();
+    for called in part {
+        let Some(moved) = shift.called(*called) else {
+            calls.truncate(len);
+            return false;
+        };
+        calls.push_reserved(moved);
+    }
+    true
+}
+
+impl Tables {
+    // What is added to a part's numbers. None where a number doesn't fit 32 bits, or the part has a wide row.
+    fn shift(&self, part: &Tables, numbering: Numbering) -> Option<Shift>
+        ensures { IfSome result (λ s. Shifts self.now part.now numbering s) }
+    {
+        if part.wides.len() > 0 {
+            return None;
+        }
+        let before = numbering.mark.checked_sub(2)?;
+        Some(Shift {
+            token: short(numbering.token)?,
+            marks: short(before)?,
+            calls: short(numbering.calls)?,
+            cells: short(numbering.cells)?,
+            values: short(self.values.len() as u64)?,
+            called: short(self.calls.len() as u64)?,
+        })
+    }
+
+    // Puts a part's values and calls behind the others. The answer is whether the places of all arguments fit 32 bits. The error is refused memory.
+    fn append(&mut self, part: &Tables, shift: Shift) -> Result<bool, AllocError>
+        ensures kept { Keeps self.old self.new }
+        ensures added { IfOk result (λ fit. fit ≡ true → self.new ≡ grown self.old part.now.values (map (called_by shift) part.now.calls) []) }
+    {
+        self.calls.try_reserve(part.calls.len())?;
+        if !push_calls(&mut self.calls, &part.calls, shift) {
+            return Ok(false);
+        }
+        self.values.extend_from_slice(&part.values)?;
+        Ok(true)
+    }
+}
+
+impl Journal {
+    // Adds a part's entries by its rows, each moved in one step. The answer is whether all of them have rows of 32-bit numbers, there and here. If not,
+    // or if memory is refused, nothing changes.
+    pub(crate) fn push_shifted(
+        &mut self,
+        part: &Journal,
+        numbering: Numbering,
+    ) -> Result<bool, AllocError>
+        ensures added { IfOk result (λ fit. fit ≡ true → self.new ≡ journal_with self.old (map (moved numbering) part.now.entries)) }
+        ensures unfit { IfOk result (λ fit. fit ≡ false → self.new ≡ self.old) }
+        ensures refused { OnErr result (self.new ≡ self.old) }
+    {
+        let Some(shift) = self.tables.shift(&part.tables, numbering) else {
+            return Ok(false);
+        };
+        if !self.tables.append(&part.tables, shift)? {
+            return Ok(false);
+        }
+        push_rows(&mut self.rows, &part.rows, shift)
+    }
+}

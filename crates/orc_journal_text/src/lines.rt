@@ -1,0 +1,202 @@
+//! The entries of a journal's text, one after another.
+
+ghost use Rattle.std.specs.Prelude.{◌≡◌, ◌<◌, ◌^◌, ◌+◌, ◌-◌, ◌++◌, ◌∷◌, [], if◌then◌else◌, List, ℕ, true, false, IfOk, IfErr, IfSome, OnErr, Some};
+ghost use Rattle.std.specs.Io.KnownBytes.{Consumes};
+ghost use Rattle.orc_rules.specs.Digits.{Gives};
+ghost use Rattle.orc_rules.specs.Text.{line, Fits};
+ghost use Rattle.orc_rules.specs.declared.entry.Entry.{Entry as EntryOf};
+ghost use Rattle.orc_journal_text.specs.Lines.{HasRead, HasTooMany, IsLinesFault, to_read};
+ghost use Rattle.orc_journal_text.specs.Pieces.{MayCome};
+ghost use Rattle.orc_journal_text.specs.Reading.{header_at};
+ghost use Rattle.orc_journal.specs.Written.{counts};
+ghost use Rattle.orc_journal_text.specs.Texts.{is_of, IsJournal, NoLine};
+ghost use Rattle.orc_journal_text.specs.declared.lines.LinesFault.TheVariants.{Text};
+ghost use Rattle.orc_journal_text.specs.declared.text.JournalFault.TheVariants.{Long};
+
+use crate::pieces::Pieces;
+use crate::reader::{after, read_entry};
+use crate::text::JournalFault;
+use orc_journal::Version;
+use orc_rules::answers::Answers;
+use orc_rules::entry::Entry;
+use orc_rules::limits::MOST_ENTRIES;
+use std::alloc::Global;
+use std::io::Read;
+use std::marker::Model;
+
+/// Why the entries of a text aren't read to its end.
+#[derive(Clone, Copy, PartialEq, Eq, Debug)]
+pub enum LinesFault {
+    /// It isn't the text of a journal.
+    Text(JournalFault),
+    /// It couldn't be read.
+    Unread,
+}
+
+/// A journal's text as far as its entries were read. It is read piece by piece, and nothing of it is kept.
+#[derive(Drop)]
+pub struct Lines<R: Read + Drop> {
+    version: Version,
+    pieces: Pieces<R>,
+    read: usize,
+    counted: u64,
+}
+
+impl<R: Read + Drop> Model for Lines<R> {
+    ghost use Rattle.std.specs.Prelude.{◌≤◌, ◌<◌, ◌+◌, ◌^◌, length};
+    ghost use Rattle.orc_rules.specs.declared.limits.TheConstants.{LONGEST_JOURNAL, MOST_ENTRIES};
+    ghost use Rattle.orc_journal_text.specs.Lines.{Left};
+
+    ghost Value = { Left };
+
+    ghost view = { λ l. record { version = l.version; coming = l.pieces; read = l.read; counted = l.counted } };
+
+    ghost invariant = { λ l. (l.read + length l.pieces.rest ≤ l.pieces.came) × (l.pieces.came < LONGEST_JOURNAL + 2 ^ 63) × (l.counted ≤ MOST_ENTRIES) };
+}
+
+// The version of the first line, and what follows it.
+fn read_header(text: &[u8]) -> Option<(Version, &[u8])>
+    ensures { Gives (λ x. (x.0, x.1.now)) result (header_at text.now) }
+{
+    if let Some(rest) = after(b"orc-journal 1\n", text) {
+        return Some((Version::One, rest));
+    }
+    let rest = after(b"orc-journal 2\n", text)?;
+    Some((Version::Two, rest))
+}
+
+/// Whether an entry may stand in a journal of that version.
+pub(crate) fn is_known(version: Version, entry: &Entry) -> bool
+    ensures { result ≡ is_of version entry.now }
+{
+    !matches!((version, entry), (Version::One, Entry::Cancel(_)))
+}
+
+// How many entries count for the limit, with one more.
+fn count_with(counted: u64, entry: &Entry) -> u64
+    requires { counted < 2 ^ 63 }
+    ensures { result ≡ (if counts entry.now then counted + 1 else counted) }
+{
+    if matches!(entry, Entry::Cancel(_)) {
+        counted
+    } else {
+        counted + 1
+    }
+}
+
+// Puts the entry of that version whose line stands first into `entry`, and gives the bytes behind the line.
+fn next_entry<'a>(
+    version: Version,
+    bytes: &'a [u8],
+    answers: &Answers,
+    entry: &mut Entry,
+) -> Option<&'a [u8]>
+    ensures found { IfSome result (λ r. (bytes.now ≡ line answers.now.names entry.new ++ r.now) × Fits answers.now.names entry.new × (is_of version entry.new ≡ true)) }
+    ensures only { (e : EntryOf) (rest : List ℕ) → Fits answers.now.names e → is_of version e ≡ true → bytes.now ≡ line answers.now.names e ++ rest → Gives {Y = EntryOf × List ℕ} (λ r. (entry.new, r.now)) result (Some (e, rest)) }
+{
+    let rest = read_entry(bytes, answers, entry)?;
+    if is_known(version, entry) {
+        Some(rest)
+    } else {
+        None
+    }
+}
+
+impl<R: Read + Drop> Lines<R> {
+    /// A text of which no entry was read. The fault is one of its first line, or of its length.
+    pub fn new(alloc: Global, source: R) -> Result<Lines<R>, LinesFault>
+        ensures begun { IfOk result (λ l. (piece : List ℕ) × Consumes (R.remaining source) l.coming.left piece × ((names : List (List ℕ)) → HasRead names piece l [])) }
+        ensures fault { IfErr result (λ f. (names : List (List ℕ)) → IsLinesFault names (R.remaining source) [] f) }
+    {
+        let Ok(mut pieces) = Pieces::new(alloc, source) else {
+            return Err(LinesFault::Text(JournalFault::Memory));
+        };
+        loop {
+            if let Some((version, rest)) = read_header(pieces.rest()) {
+                let left = rest.len();
+                pieces.keep_last(left);
+                return Ok(Lines {
+                    version,
+                    pieces,
+                    read: 0,
+                    counted: 0,
+                });
+            }
+            if !pieces.fill()? {
+                return Err(LinesFault::Text(JournalFault::Header));
+            }
+        }
+    }
+
+    /// The version of the text.
+    pub fn version(&self) -> Version
+        ensures { result ≡ self.now.version }
+    {
+        self.version
+    }
+
+    /// How many entries were read.
+    pub fn read(&self) -> usize
+        ensures count { result ≡ self.now.read }
+        ensures fits { result < 2 ^ 64 - 1 }
+    {
+        self.read
+    }
+
+    // Puts the entry whose line stands first in what has come into `entry`. Ok(false) where none does; nothing is used then, but `entry` may have
+    // become another one.
+    fn take_line(&mut self, answers: &Answers, entry: &mut Entry) -> Result<bool, LinesFault>
+        ensures version { self.new.version ≡ self.old.version }
+        ensures left { self.new.coming.left ≡ self.old.coming.left }
+        ensures more { IfOk result (λ some. some ≡ true → (text : List ℕ) (es : List EntryOf) → HasRead answers.now.names text self.old es → HasRead answers.now.names text self.new (es ++ entry.new ∷ [])) }
+        ensures less { IfOk result (λ some. some ≡ true → to_read self.new < to_read self.old) }
+        ensures none { IfOk result (λ some. some ≡ false → (self.new ≡ self.old) × NoLine answers.now.names self.old.version self.old.coming.rest) }
+        ensures same { OnErr result (self.new ≡ self.old) }
+        ensures fault { IfErr result (λ f. (f ≡ Text Long) × ((text : List ℕ) (es : List EntryOf) → HasRead answers.now.names text self.old es → HasTooMany answers.now.names text self.old.version)) }
+    {
+        let Some(behind) = next_entry(self.version, self.pieces.rest(), answers, entry) else {
+            return Ok(false);
+        };
+        let left = behind.len();
+        let counted = count_with(self.counted, entry);
+        if counted > MOST_ENTRIES {
+            return Err(LinesFault::Text(JournalFault::Long));
+        }
+        self.pieces.keep_last(left);
+        self.read += 1;
+        self.counted = counted;
+        Ok(true)
+    }
+
+    /// Puts the next entry into `entry`. Ok(false) at the end of the text. The fault is that of the whole text: its next line is none of an
+    /// entry of the table's sites, or there are more entries or bytes than a journal may have; or it can't be read. Then `entry` may have become
+    /// another one.
+    pub fn next(&mut self, answers: &Answers, entry: &mut Entry) -> Result<bool, LinesFault>
+        ensures version { self.new.version ≡ self.old.version }
+        ensures more { IfOk result (λ some. some ≡ true → (piece : List ℕ) × Consumes self.old.coming.left self.new.coming.left piece × ((text : List ℕ) (es : List EntryOf) → HasRead answers.now.names text self.old es → HasRead answers.now.names (text ++ piece) self.new (es ++ entry.new ∷ []))) }
+        ensures less { IfOk result (λ some. some ≡ true → to_read self.new < to_read self.old) }
+        ensures same { IfOk result (λ some. some ≡ false → self.new.read ≡ self.old.read) }
+        ensures end { IfOk result (λ some. some ≡ false → (piece : List ℕ) × MayCome self.old.coming.left piece × ((text : List ℕ) (es : List EntryOf) → HasRead answers.now.names text self.old es → IsJournal answers.now.names (text ++ piece) (record { version = self.old.version; entries = es }))) }
+        ensures fault { IfErr result (λ f. (text : List ℕ) (es : List EntryOf) → HasRead answers.now.names text self.old es → IsLinesFault answers.now.names self.old.coming.left text f) }
+    {
+        while !self.take_line(answers, entry)? {
+            if !self.pieces.fill()? {
+                if self.pieces.rest().is_empty() {
+                    return Ok(false);
+                }
+                return Err(LinesFault::Text(JournalFault::Line(self.read + 2)));
+            }
+        }
+        Ok(true)
+    }
+
+    /// Reads the entries that are left. The fault is that of the whole text, as `next` gives it.
+    pub fn finish(&mut self, answers: &Answers) -> Result<(), LinesFault>
+        ensures end { IfOk result (λ _. (piece : List ℕ) × MayCome self.old.coming.left piece × ((text : List ℕ) (es : List EntryOf) → HasRead answers.now.names text self.old es → (more : List EntryOf) × IsJournal answers.now.names (text ++ piece) (record { version = self.old.version; entries = es ++ more }))) }
+        ensures fault { IfErr result (λ f. (text : List ℕ) (es : List EntryOf) → HasRead answers.now.names text self.old es → IsLinesFault answers.now.names self.old.coming.left text f) }
+    {
+        let mut entry = Entry::Tick(0);
+        while self.next(answers, &mut entry)? {}
+        Ok(())
+    }
+}

@@ -1,0 +1,474 @@
+//! Reading entries from lines.
+
+ghost use Rattle.std.specs.Prelude.{◌≡◌, ◌++◌, ◌∷◌, [], List, length, option_map, ℕ, IfSome, Some, ◌<◌, ◌≤◌, ◌^◌, ◌-◌, negsuc};
+ghost use Rattle.orc_rules.specs.Digits.{Gives, digits_at};
+ghost use Rattle.orc_journal_text.specs.Reading.{after, is_plain, number_at, value_at, number_field, value_field, pair_field, sent_field, outcome_field, split_name, name_at, values_at, arguments_at, call_field, all_kinds, kind_from, fields_at, entry_at};
+ghost use Rattle.orc_rules.specs.Text.{line, Fits};
+ghost use Rattle.orc_rules.specs.declared.limits.TheConstants.{MOST_ARGUMENTS};
+ghost use Rattle.orc_rules.specs.declared.entry.Entry.{Entry as EntryOf};
+ghost use Rattle.orc_rules.specs.declared.kind.Kind.TheVariants.{End, Fork, Seq, Other, Def, Void, Open, Send, Call, Return, ReturnHalt, Bind, Lost, Right, Publish, Tick, Cancel};
+
+use orc_rules::answers::Answers;
+use orc_rules::digits::digits_at;
+use orc_rules::entry::Entry;
+use orc_rules::kind::Kind;
+use orc_rules::limits::MOST_ARGUMENTS;
+use orc_rules::value::{Args, Value};
+
+// The bytes after a text.
+pub(crate) fn after<'a>(text: &[u8], bytes: &'a [u8]) -> Option<&'a [u8]>
+    ensures { Gives (λ r. r.now) result (after text.now bytes.now) }
+{
+    let mut left = text;
+    let mut rest = bytes;
+    while let [c, others @ ..] = left {
+        let [b, behind @ ..] = rest else {
+            return None;
+        };
+        if *b != *c {
+            return None;
+        }
+        left = others;
+        rest = behind;
+    }
+    Some(rest)
+}
+
+// Whether a digit stands first, and no second one after a zero.
+fn is_plain(bytes: &[u8]) -> bool
+    ensures { result ≡ is_plain bytes.now }
+{
+    match bytes {
+        [] => false,
+        [c] => c.is_ascii_digit(),
+        [c, d, ..] => c.is_ascii_digit() && !(*c == b'0' && d.is_ascii_digit()),
+    }
+}
+
+// The number in decimal that stands first, with no leading zeros.
+#[tactic(auto, unfolding(crate::specs::Reading::number_at))]
+fn number_at(bytes: &[u8]) -> Option<(u64, &[u8])>
+    ensures { Gives (λ x. (x.0, x.1.now)) result (number_at bytes.now) }
+{
+    if is_plain(bytes) {
+        digits_at(bytes)
+    } else {
+        None
+    }
+}
+
+fn negated(number: u64) -> i64
+    requires some { 0 < number }
+    requires fits { number - 1 < 2 ^ 63 }
+    ensures { result ≡ negsuc (number - 1) }
+{
+    let below = (number - 1) as i64;
+    -1 - below
+}
+
+#[tactic(auto, unfolding(crate::specs::Reading::value_at))]
+fn value_at(bytes: &[u8]) -> Option<(Value, &[u8])>
+    ensures { Gives (λ x. (x.0, x.1.now)) result (value_at bytes.now) }
+{
+    if let Some(rest) = after(b"true", bytes) {
+        return Some((Value::Truth(true), rest));
+    }
+    if let Some(rest) = after(b"false", bytes) {
+        return Some((Value::Truth(false), rest));
+    }
+    if let Some(rest) = after(b"signal", bytes) {
+        return Some((Value::Signal, rest));
+    }
+    if let Some(rest) = after(b"-", bytes) {
+        let (number, rest) = number_at(rest)?;
+        if number > 0 && number - 1 < 1 << 63 {
+            return Some((Value::Number(negated(number)), rest));
+        }
+        return None;
+    }
+    let (number, rest) = number_at(bytes)?;
+    if number < 1 << 63 {
+        return Some((Value::Number(number as i64), rest));
+    }
+    None
+}
+
+#[tactic(auto, unfolding(crate::specs::Reading::number_field))]
+fn number_field(bytes: &[u8]) -> Option<(u64, &[u8])>
+    ensures { Gives (λ x. (x.0, x.1.now)) result (number_field bytes.now) }
+{
+    number_at(after(b" ", bytes)?)
+}
+
+#[tactic(auto, unfolding(crate::specs::Reading::value_field))]
+fn value_field(bytes: &[u8]) -> Option<(Value, &[u8])>
+    ensures { Gives (λ x. (x.0, x.1.now)) result (value_field bytes.now) }
+{
+    value_at(after(b" ", bytes)?)
+}
+
+#[tactic(auto, unfolding(crate::specs::Reading::pair_field))]
+fn pair_field(bytes: &[u8]) -> Option<((u64, u64), &[u8])>
+    ensures { Gives (λ x. (x.0, x.1.now)) result (pair_field bytes.now) }
+{
+    let (first, rest) = number_field(bytes)?;
+    let (second, rest) = number_field(rest)?;
+    Some(((first, second), rest))
+}
+
+#[tactic(auto, unfolding(crate::specs::Reading::sent_field))]
+fn sent_field(bytes: &[u8]) -> Option<((u64, Value), &[u8])>
+    ensures { Gives (λ x. (x.0, x.1.now)) result (sent_field bytes.now) }
+{
+    let (mark, rest) = number_field(bytes)?;
+    let (value, rest) = value_field(rest)?;
+    Some(((mark, value), rest))
+}
+
+// ` halt`, or a mark and a value.
+#[tactic(auto, unfolding(crate::specs::Reading::outcome_field))]
+fn outcome_field(bytes: &[u8]) -> Option<(Option<(u64, Value)>, &[u8])>
+    ensures { Gives (λ x. (x.0, x.1.now)) result (outcome_field bytes.now) }
+{
+    if let Some(rest) = after(b" halt", bytes) {
+        return Some((None, rest));
+    }
+    let (sent, rest) = sent_field(bytes)?;
+    Some((Some(sent), rest))
+}
+
+// The bytes before the first bracket, and the others.
+fn split_name(bytes: &[u8]) -> (&[u8], &[u8])
+    ensures { (result.0.now, result.1.now) ≡ split_name bytes.now }
+{
+    let mut end = 0;
+    while end < bytes.len() && bytes[end] != b'(' {
+        end += 1;
+    }
+    bytes.split_at(end)
+}
+
+// A site's number by its name.
+#[tactic(auto, unfolding(crate::specs::Reading::name_at))]
+fn name_at<'a>(bytes: &'a [u8], answers: &Answers) -> Option<(u32, &'a [u8])>
+    ensures { Gives (λ x. (x.0, x.1.now)) result (name_at answers.now.names bytes.now) }
+{
+    let (name, rest) = split_name(bytes);
+    let site = answers.site_named(name)?;
+    Some((site, rest))
+}
+
+// The arguments of a call are put into `args`.
+#[tactic(auto, unfolding(crate::specs::Reading::arguments_at))]
+fn arguments_at<'a>(bytes: &'a [u8], args: &mut Args) -> Option<&'a [u8]>
+    ensures { Gives (λ r. (args.new, r.now)) result (arguments_at bytes.now) }
+{
+    let rest = after(b"(", bytes)?;
+    if let Some(rest) = after(b")", rest) {
+        args.clear();
+        return Some(rest);
+    }
+    values_at(rest, args)
+}
+
+// One to `MOST_ARGUMENTS` values with commas between them, and the bracket.
+fn values_at<'a>(bytes: &'a [u8], args: &mut Args) -> Option<&'a [u8]>
+    ensures { Gives (λ r. (args.new, r.now)) result (values_at MOST_ARGUMENTS bytes.now) }
+{
+    args.clear();
+    let mut rest = bytes;
+    for _ in 0..MOST_ARGUMENTS {
+        let (value, behind) = value_at(rest)?;
+        args.push(value);
+        if let Some(behind) = after(b")", behind) {
+            return Some(behind);
+        }
+        rest = after(b", ", behind)?;
+    }
+    None
+}
+
+#[tactic(auto, unfolding(crate::specs::Reading::call_field))]
+fn call_field<'a>(bytes: &'a [u8], answers: &Answers, args: &mut Args) -> Option<(u32, &'a [u8])>
+    ensures { Gives (λ x. ((x.0, args.new), x.1.now)) result (call_field answers.now.names bytes.now) }
+{
+    let (site, rest) = name_at(after(b" ", bytes)?, answers)?;
+    let rest = arguments_at(rest, args)?;
+    Some((site, rest))
+}
+
+// The word of this kind.
+fn word_at(kind: Kind, bytes: &[u8]) -> Option<(Kind, &[u8])>
+    ensures { Gives (λ x. (x.0, x.1.now)) result (kind_from (kind ∷ []) bytes.now) }
+{
+    match after(kind.word(), bytes) {
+        Some(rest) => Some((kind, rest)),
+        None => None,
+    }
+}
+
+// The word of one of two kinds.
+fn either_at(kind: Kind, other: Kind, bytes: &[u8]) -> Option<(Kind, &[u8])>
+    ensures { Gives (λ x. (x.0, x.1.now)) result (kind_from (kind ∷ other ∷ []) bytes.now) }
+{
+    match after(kind.word(), bytes) {
+        Some(rest) => Some((kind, rest)),
+        None => word_at(other, bytes),
+    }
+}
+
+// The word with which a line begins, by its first letter.
+fn kind_at(bytes: &[u8]) -> Option<(Kind, &[u8])>
+    ensures { Gives (λ x. (x.0, x.1.now)) result (kind_from all_kinds bytes.now) }
+{
+    let [first, ..] = bytes else {
+        return None;
+    };
+    match *first {
+        b'c' => either_at(Kind::Call, Kind::Cancel, bytes),
+        b'r' => either_at(Kind::Return, Kind::Right, bytes),
+        b's' => either_at(Kind::Send, Kind::Seq, bytes),
+        b'o' => either_at(Kind::Open, Kind::Other, bytes),
+        b'f' => word_at(Kind::Fork, bytes),
+        b'p' => word_at(Kind::Publish, bytes),
+        b'e' => word_at(Kind::End, bytes),
+        b'b' => word_at(Kind::Bind, bytes),
+        b'd' => word_at(Kind::Def, bytes),
+        b'v' => word_at(Kind::Void, bytes),
+        b'l' => word_at(Kind::Lost, bytes),
+        b't' => word_at(Kind::Tick, bytes),
+        _ => None,
+    }
+}
+
+// The fields of an entry are put into `entry`, which is overwritten in its place: it has room for the arguments of a call, and to copy it takes longer
+// than to read a line. Each kind has a function of its own, since one for all would clear the room of all their fields at each line.
+
+#[inline(never)]
+#[tactic(auto, unfolding(crate::specs::Reading::fields_at))]
+fn call_at<'a>(bytes: &'a [u8], answers: &Answers, entry: &mut Entry) -> Option<&'a [u8]>
+    ensures { Gives (λ r. (entry.new, r.now)) result (fields_at answers.now.names Call bytes.now) }
+{
+    let (s, rest) = number_field(bytes)?;
+    let (k, rest) = number_field(rest)?;
+    let mut args = Args::new();
+    let (site, rest) = call_field(rest, answers, &mut args)?;
+    *entry = Entry::Call(s, k, site, args);
+    Some(rest)
+}
+
+#[inline(never)]
+#[tactic(auto, unfolding(crate::specs::Reading::fields_at))]
+fn end_at<'a>(bytes: &'a [u8], entry: &mut Entry) -> Option<&'a [u8]>
+    ensures { (names : List (List ℕ)) → Gives (λ r. (entry.new, r.now)) result (fields_at names End bytes.now) }
+{
+    let (s, rest) = number_field(bytes)?;
+    *entry = Entry::End(s);
+    Some(rest)
+}
+
+#[inline(never)]
+#[tactic(auto, unfolding(crate::specs::Reading::fields_at))]
+fn fork_at<'a>(bytes: &'a [u8], entry: &mut Entry) -> Option<&'a [u8]>
+    ensures { (names : List (List ℕ)) → Gives (λ r. (entry.new, r.now)) result (fields_at names Fork bytes.now) }
+{
+    let (s, rest) = number_field(bytes)?;
+    let ((a, b), rest) = pair_field(rest)?;
+    *entry = Entry::Fork(s, a, b);
+    Some(rest)
+}
+
+#[inline(never)]
+#[tactic(auto, unfolding(crate::specs::Reading::fields_at))]
+fn seq_at<'a>(bytes: &'a [u8], entry: &mut Entry) -> Option<&'a [u8]>
+    ensures { (names : List (List ℕ)) → Gives (λ r. (entry.new, r.now)) result (fields_at names Seq bytes.now) }
+{
+    let ((s, a), rest) = pair_field(bytes)?;
+    *entry = Entry::Seq(s, a);
+    Some(rest)
+}
+
+#[inline(never)]
+#[tactic(auto, unfolding(crate::specs::Reading::fields_at))]
+fn other_at<'a>(bytes: &'a [u8], entry: &mut Entry) -> Option<&'a [u8]>
+    ensures { (names : List (List ℕ)) → Gives (λ r. (entry.new, r.now)) result (fields_at names Other bytes.now) }
+{
+    let ((s, a), rest) = pair_field(bytes)?;
+    *entry = Entry::Other(s, a);
+    Some(rest)
+}
+
+#[inline(never)]
+#[tactic(auto, unfolding(crate::specs::Reading::fields_at))]
+fn def_at<'a>(bytes: &'a [u8], entry: &mut Entry) -> Option<&'a [u8]>
+    ensures { (names : List (List ℕ)) → Gives (λ r. (entry.new, r.now)) result (fields_at names Def bytes.now) }
+{
+    let ((s, a), rest) = pair_field(bytes)?;
+    *entry = Entry::Def(s, a);
+    Some(rest)
+}
+
+#[inline(never)]
+#[tactic(auto, unfolding(crate::specs::Reading::fields_at))]
+fn void_at<'a>(bytes: &'a [u8], entry: &mut Entry) -> Option<&'a [u8]>
+    ensures { (names : List (List ℕ)) → Gives (λ r. (entry.new, r.now)) result (fields_at names Void bytes.now) }
+{
+    let (s, rest) = number_field(bytes)?;
+    *entry = Entry::Void(s);
+    Some(rest)
+}
+
+#[inline(never)]
+#[tactic(auto, unfolding(crate::specs::Reading::fields_at))]
+fn open_at<'a>(bytes: &'a [u8], entry: &mut Entry) -> Option<&'a [u8]>
+    ensures { (names : List (List ℕ)) → Gives (λ r. (entry.new, r.now)) result (fields_at names Open bytes.now) }
+{
+    let (s, rest) = number_field(bytes)?;
+    let (c, rest) = number_field(rest)?;
+    let ((a, b), rest) = pair_field(rest)?;
+    *entry = Entry::Open(s, c, a, b);
+    Some(rest)
+}
+
+#[inline(never)]
+#[tactic(auto, unfolding(crate::specs::Reading::fields_at))]
+fn send_at<'a>(bytes: &'a [u8], entry: &mut Entry) -> Option<&'a [u8]>
+    ensures { (names : List (List ℕ)) → Gives (λ r. (entry.new, r.now)) result (fields_at names Send bytes.now) }
+{
+    let (s, rest) = number_field(bytes)?;
+    let ((a, v), rest) = sent_field(rest)?;
+    *entry = Entry::Send(s, a, v);
+    Some(rest)
+}
+
+#[inline(never)]
+#[tactic(auto, unfolding(crate::specs::Reading::fields_at))]
+fn return_at<'a>(bytes: &'a [u8], entry: &mut Entry) -> Option<&'a [u8]>
+    ensures value { (names : List (List ℕ)) → Gives (λ r. (entry.new, r.now)) result (fields_at names Return bytes.now) }
+    ensures halt { (names : List (List ℕ)) → Gives (λ r. (entry.new, r.now)) result (fields_at names ReturnHalt bytes.now) }
+{
+    let (k, rest) = number_field(bytes)?;
+    let (outcome, rest) = outcome_field(rest)?;
+    match outcome {
+        None => {
+            *entry = Entry::ReturnHalt(k);
+        }
+        Some((a, v)) => {
+            *entry = Entry::Return(k, a, v);
+        }
+    }
+    Some(rest)
+}
+
+#[inline(never)]
+#[tactic(auto, unfolding(crate::specs::Reading::fields_at))]
+fn bind_at<'a>(bytes: &'a [u8], entry: &mut Entry) -> Option<&'a [u8]>
+    ensures { (names : List (List ℕ)) → Gives (λ r. (entry.new, r.now)) result (fields_at names Bind bytes.now) }
+{
+    let (s, rest) = number_field(bytes)?;
+    let ((c, v), rest) = sent_field(rest)?;
+    *entry = Entry::Bind(s, c, v);
+    Some(rest)
+}
+
+#[inline(never)]
+#[tactic(auto, unfolding(crate::specs::Reading::fields_at))]
+fn lost_at<'a>(bytes: &'a [u8], entry: &mut Entry) -> Option<&'a [u8]>
+    ensures { (names : List (List ℕ)) → Gives (λ r. (entry.new, r.now)) result (fields_at names Lost bytes.now) }
+{
+    let (c, rest) = number_field(bytes)?;
+    *entry = Entry::Lost(c);
+    Some(rest)
+}
+
+#[inline(never)]
+#[tactic(auto, unfolding(crate::specs::Reading::fields_at))]
+fn right_at<'a>(bytes: &'a [u8], entry: &mut Entry) -> Option<&'a [u8]>
+    ensures { (names : List (List ℕ)) → Gives (λ r. (entry.new, r.now)) result (fields_at names Right bytes.now) }
+{
+    let ((s, a), rest) = pair_field(bytes)?;
+    *entry = Entry::Right(s, a);
+    Some(rest)
+}
+
+#[inline(never)]
+#[tactic(auto, unfolding(crate::specs::Reading::fields_at))]
+fn publish_at<'a>(bytes: &'a [u8], entry: &mut Entry) -> Option<&'a [u8]>
+    ensures { (names : List (List ℕ)) → Gives (λ r. (entry.new, r.now)) result (fields_at names Publish bytes.now) }
+{
+    let ((s, v), rest) = sent_field(bytes)?;
+    *entry = Entry::Publish(s, v);
+    Some(rest)
+}
+
+#[inline(never)]
+#[tactic(auto, unfolding(crate::specs::Reading::fields_at))]
+fn tick_at<'a>(bytes: &'a [u8], entry: &mut Entry) -> Option<&'a [u8]>
+    ensures { (names : List (List ℕ)) → Gives (λ r. (entry.new, r.now)) result (fields_at names Tick bytes.now) }
+{
+    let (t, rest) = number_field(bytes)?;
+    *entry = Entry::Tick(t);
+    Some(rest)
+}
+
+#[inline(never)]
+#[tactic(auto, unfolding(crate::specs::Reading::fields_at))]
+fn cancel_at<'a>(bytes: &'a [u8], entry: &mut Entry) -> Option<&'a [u8]>
+    ensures { (names : List (List ℕ)) → Gives (λ r. (entry.new, r.now)) result (fields_at names Cancel bytes.now) }
+{
+    let (k, rest) = number_field(bytes)?;
+    *entry = Entry::Cancel(k);
+    Some(rest)
+}
+
+// The fields of an entry of this kind.
+fn fields_at<'a>(
+    kind: Kind,
+    bytes: &'a [u8],
+    answers: &Answers,
+    entry: &mut Entry,
+) -> Option<&'a [u8]>
+    ensures { Gives (λ r. (entry.new, r.now)) result (fields_at answers.now.names kind bytes.now) }
+{
+    match kind {
+        Kind::End => end_at(bytes, entry),
+        Kind::Fork => fork_at(bytes, entry),
+        Kind::Seq => seq_at(bytes, entry),
+        Kind::Other => other_at(bytes, entry),
+        Kind::Def => def_at(bytes, entry),
+        Kind::Void => void_at(bytes, entry),
+        Kind::Open => open_at(bytes, entry),
+        Kind::Send => send_at(bytes, entry),
+        Kind::Call => call_at(bytes, answers, entry),
+        Kind::Return => return_at(bytes, entry),
+        Kind::ReturnHalt => return_at(bytes, entry),
+        Kind::Bind => bind_at(bytes, entry),
+        Kind::Lost => lost_at(bytes, entry),
+        Kind::Right => right_at(bytes, entry),
+        Kind::Publish => publish_at(bytes, entry),
+        Kind::Tick => tick_at(bytes, entry),
+        Kind::Cancel => cancel_at(bytes, entry),
+    }
+}
+
+// The entry whose line stands first.
+#[tactic(auto, unfolding(crate::specs::Reading::entry_at))]
+fn entry_at<'a>(bytes: &'a [u8], answers: &Answers, entry: &mut Entry) -> Option<&'a [u8]>
+    ensures { Gives (λ r. (entry.new, r.now)) result (entry_at answers.now.names bytes.now) }
+{
+    let (kind, rest) = kind_at(bytes)?;
+    let rest = fields_at(kind, rest, answers, entry)?;
+    after(b"\n", rest)
+}
+
+/// Puts the entry whose line stands first into `entry`, and gives the bytes after the line. None exactly where no line of an entry stands
+/// first; then `entry` may have become another one.
+pub fn read_entry<'a>(bytes: &'a [u8], answers: &Answers, entry: &mut Entry) -> Option<&'a [u8]>
+    // What is read was written so.
+    ensures found { IfSome result (λ r. (bytes.now ≡ line answers.now.names entry.new ++ r.now) × Fits answers.now.names entry.new) }
+    // What is written so is read, whatever follows it.
+    ensures only { (e : EntryOf) (rest : List ℕ) → Fits answers.now.names e → bytes.now ≡ line answers.now.names e ++ rest → Gives {Y = EntryOf × List ℕ} (λ r. (entry.new, r.now)) result (Some (e, rest)) }
+{
+    answers.are_apart();
+    entry_at(bytes, answers, entry)
+}

@@ -1,0 +1,89 @@
+//! Groups that halt: nobody is in them any more.
+
+ghost use Rattle.std.specs.Prelude.{◌≡◌, Some, IfOk, OnErr, IfErr, MatchOption};
+ghost use Rattle.orc_rules.specs.Nodes.{code};
+ghost use Rattle.orc_rules.specs.Timed.{IsIn};
+ghost use Rattle.orc_tables.specs.Steps.{group_at};
+ghost use Rattle.orc_frames.specs.Paths.{has_left};
+ghost use Rattle.orc_ledger_spec.specs.Halting.{HasHalted, IsHinderedAt};
+ghost use Rattle.orc_tables.specs.declared.records.Group.{Group as Its};
+
+use crate::ledger::Ledger;
+use orc_frames::{has_left, left_at};
+use orc_ledger_spec::{HaltFault, Halted, LedgerFault};
+use orc_log::Program;
+use orc_tables::{Call, Group, Side, Token};
+
+impl<P: Program> Ledger<P> {
+    /// The open group with this number.
+    pub fn group_with(&self, number: u32) -> Option<Group>
+        ensures { MatchOption result ((g : Its) → IsIn g self.now.groups → g.number ≡ number → ⊥) (λ g. IsIn g self.now.groups × (g.number ≡ number)) }
+    {
+        self.groups.get(number)
+    }
+
+    // The group round a group.
+    fn parent_of(&self, group: Group) -> u32
+        ensures { result ≡ group_at self.now.steps group.outer }
+    {
+        self.steps.group_at(group.outer)
+    }
+
+    // Whether a publication has left the otherwise of a group.
+    fn was_left(&self, group: u32, number: u64) -> bool
+        ensures { result ≡ has_left self.now.steps number }
+    {
+        // The hint is right; were it not, this would only take longer.
+        match left_at(&self.steps, self.groups.hint(group), number) {
+            Some(left) => left,
+            None => has_left(&self.steps, number),
+        }
+    }
+
+    /// The group with this number, which has halted, ends. A cell's right side is lost: the cell has no value. The left side of an otherwise
+    /// starts the right side, unless a publication has left it: its group goes then, and no entry says so.
+    pub fn halt(&mut self, number: u32) -> Result<Halted, HaltFault>
+        ensures done { IfOk result (λ h. HasHalted (code P.listing) self.old self.new number h) }
+        ensures refused { OnErr result (self.new ≡ self.old) }
+        ensures why { IfErr result (λ fault. IsHinderedAt self.old number fault) }
+    {
+        let group = match self.group_with(number) {
+            Some(group) => group,
+            None => return Err(HaltFault::Gone),
+        };
+        if !self.is_empty(number) {
+            return Err(HaltFault::Live);
+        }
+        let parent = self.parent_of(group);
+        match group.side {
+            Side::Right(cell) => match self.lost(group, cell) {
+                Ok(()) => Ok(Halted::Lost(cell, parent)),
+                Err(fault) => Err(HaltFault::Refused(fault)),
+            },
+            Side::Left(other, node, scope) => {
+                if self.was_left(number, other) {
+                    self.close(group);
+                    return Ok(Halted::Closed(parent));
+                }
+                match self.right(group, other, node, scope) {
+                    Ok(slot) => Ok(Halted::Resumed(slot)),
+                    Err(fault) => Err(HaltFault::Refused(fault)),
+                }
+            }
+        }
+    }
+
+    /// The group in which a call pends.
+    pub fn group_of_call(&self, call: &Call) -> u32
+        ensures { result ≡ group_at self.now.steps call.now.step }
+    {
+        self.steps.group_at(call.step)
+    }
+
+    /// The group in which a token stands.
+    pub fn group_of_token(&self, token: &Token) -> u32
+        ensures { result ≡ group_at self.now.steps token.now.step }
+    {
+        self.steps.group_at(token.step)
+    }
+}

@@ -1,0 +1,370 @@
+//! Parts of a run that are made apart: a call of a definition with values is a program of its own, which a ledger of its own can run. Where it is over,
+//! or has come to one value, its entries are taken in, as if they had been made here.
+
+ghost use Rattle.std.specs.Prelude.{◌≡◌, ◌≤◌, ◌<◌, ◌+◌, ◌-◌, ◌^◌, ◌++◌, ◌⊎◌, ℕ, true, false, length, None, IfOk, IfErr, IfSome, MatchOption, OnErr, vec_len, vec_capacity, option_to_list};
+ghost use Rattle.orc_rules.specs.Nodes.{code, definitions, source};
+ghost use Rattle.orc_subrun.specs.Moved.{AreSilent};
+ghost use Rattle.orc_frames.specs.declared.action.Action.TheVariants.{Publish};
+ghost use Rattle.orc_tables.specs.OpenGroups.{size_of};
+ghost use Rattle.orc_indexes.specs.Same.{is_this, weight};
+ghost use Rattle.orc_tables.specs.Tokens.{live, IsHeld, StayParked};
+ghost use Rattle.orc_tables.specs.declared.records.Token.{Token as Its};
+ghost use Rattle.orc_ledger_spec.specs.Doing.{what_of};
+ghost use Rattle.orc_ledger_spec.specs.Parts.{call_of, cells_from, comers, Fits, IsOver, StandsFor, TakesIn, IsUntaken};
+
+use crate::ledger::Ledger;
+use orc_env::Bound;
+use orc_frames::Action;
+use orc_graph::{Graph, Node};
+use orc_ledger_spec::{LedgerFault, Yield};
+use orc_log::{Log, Program};
+use orc_rules::answers::Answers;
+use orc_rules::value::{Args, Value};
+use orc_subrun::Numbering;
+use orc_tables::{Groups, Standing, Token, Tokens};
+use std::alloc::AllocError;
+use std::marker::{Model, PhantomData};
+
+/// A call of a definition with values.
+#[derive(Drop)]
+pub struct SubRunTask {
+    pub definition: u32,
+    pub args: Args,
+    /// Whether the whole run publishes what the call publishes.
+    pub is_outermost: bool,
+}
+
+impl SubRunTask {
+    /// The same call again.
+    pub fn copied(&self) -> SubRunTask
+        ensures { result ≡ self.now }
+    {
+        SubRunTask {
+            definition: self.definition,
+            args: self.args.copied(),
+            is_outermost: self.is_outermost,
+        }
+    }
+}
+
+/// What came of a call of a definition with values, whose run was made apart: its entries, its next mark, how many calls of sites it has made and
+/// cells it has opened, by its own numbers. Its run is over, or all that is left of it is a token on a value, and it has published nothing.
+pub struct SubRun<P: Program> {
+    definition: u32,
+    args: Args,
+    journal: Log<P>,
+    // Whether it is known to have published nothing.
+    is_silent: bool,
+    next_mark: u64,
+    calls: u64,
+    cells: usize,
+    left: Option<Yield>,
+    program: PhantomData<P>,
+}
+
+impl<P: Program> Model for SubRun<P> {
+    ghost use Rattle.std.specs.Prelude.{◌≡◌, true};
+    ghost use Rattle.orc_subrun.specs.Moved.{AreSilent};
+    ghost use Rattle.orc_ledger_spec.specs.Parts.{Apart, IsOver};
+
+    ghost Value = { Apart };
+
+    ghost view = { λ p. record { definition = p.definition; args = p.args; entries = p.journal.entries; mark = p.next_mark; calls = p.calls; cells = p.cells; left = p.left } };
+
+    ghost invariant = { λ p. IsOver P.listing P.sites (record { definition = p.definition; args = p.args; entries = p.journal.entries; mark = p.next_mark; calls = p.calls; cells = p.cells; left = p.left }) × (p.is_silent ≡ true → AreSilent p.journal.entries) };
+}
+
+// Written out, so that each exit of a function that has a part drops it by one call.
+impl<P: Program> Drop for SubRun<P> {
+    fn drop(self) {
+        let SubRun {
+            definition: _,
+            args: _,
+            journal,
+            is_silent: _,
+            next_mark: _,
+            calls: _,
+            cells: _,
+            left: _,
+            program: _,
+        } = self;
+        drop(journal);
+    }
+}
+
+impl<P: Program> SubRun<P> {
+    /// How many entries it has.
+    pub fn len(&self) -> usize
+        ensures { result ≡ length self.now.entries }
+    {
+        self.journal.len()
+    }
+
+    /// Whether its call has come to a value: a token on it is left.
+    pub fn has_value(&self) -> bool
+        ensures { MatchOption self.now.left (result ≡ false) (λ _. result ≡ true) }
+    {
+        self.left.is_some()
+    }
+
+    /// Whether it came of this call, and may be taken in where that stands: what has published something may only where the whole run publishes that.
+    pub fn is_of(&self, task: &SubRunTask) -> bool
+        ensures { result ≡ true → (self.now.definition ≡ task.now.definition) × (self.now.args ≡ task.now.args) × (self.now.left ≡ None → (task.now.is_outermost ≡ true) ⊎ AreSilent self.now.entries) }
+    {
+        self.definition == task.definition
+            && are_same(self.args.as_slice(), task.args.as_slice())
+            && (task.is_outermost || self.is_silent)
+    }
+}
+
+// Whether the values are the same, as many and in the same order.
+fn are_same(values: &[Value], others: &[Value]) -> bool
+    ensures { result ≡ true → values.now ≡ others.now }
+{
+    // It recurses over the arguments of one call, which are `MOST_ARGUMENTS` at most.
+    match values {
+        [] => others.is_empty(),
+        [value, values @ ..] => match others {
+            [other, others @ ..] if *value == *other => are_same(values, others),
+            _ => false,
+        },
+    }
+}
+
+// Makes room for so many cells.
+fn reserve_cells(cells: &mut Vec<Bound>, count: usize) -> Result<(), LedgerFault>
+    ensures items { cells.new.items ≡ cells.old.items }
+    ensures room { IfOk result (λ _. vec_len cells.new + count ≤ vec_capacity cells.new) }
+    ensures why { IfErr result (λ fault. fault ≡ LedgerFault.Memory) }
+{
+    match cells.try_reserve(count) {
+        Ok(()) => Ok(()),
+        Err(AllocError) => Err(LedgerFault::Memory),
+    }
+}
+
+// Adds so many cells that stand for themselves.
+fn add_cells(cells: &mut Vec<Bound>, count: usize)
+    requires room { vec_len cells.old + count ≤ vec_capacity cells.old }
+    ensures { cells.new.items ≡ cells.old.items ++ cells_from (length cells.old.items) count }
+{
+    for _cell in 0..count {
+        let number = cells.len() as u64;
+        cells.push_reserved(Bound::Cell(number));
+    }
+}
+
+// The token that comes in the place of this one, if one is left of a part.
+fn comer_of(numbering: Numbering, token: Token, left: Option<Yield>) -> Option<Token>
+    requires marks { IfSome left (λ y. (2 ≤ y.mark) × (numbering.mark + y.mark < 2 ^ 64)) }
+    requires next { 1 ≤ numbering.mark }
+    ensures comes { option_to_list result ≡ comers numbering token left }
+    ensures serial { IfSome result (λ t. 1 ≤ t.serial) }
+{
+    match left {
+        Some(left) => Some(Token {
+            serial: numbering.mark + left.mark - 2,
+            standing: Standing::On(left.value),
+            step: token.step,
+        }),
+        None => None,
+    }
+}
+
+// The token of this slot and group goes, or another one comes in its place.
+fn exchange(
+    tokens: &mut Tokens,
+    groups: &mut Groups,
+    slot: usize,
+    token: Token,
+    group: u32,
+    comer: Option<Token>,
+)
+    requires held { IsHeld tokens.old.items slot token }
+    requires serial { IfSome comer (λ t. 1 ≤ t.serial) }
+    ensures tokens { (w : Its → ℕ) → weight w (live tokens.new.items) + w token ≡ weight w (live tokens.old.items) + weight w (option_to_list comer) }
+    ensures parked { StayParked tokens.old tokens.new }
+    ensures groups { groups.new.items ≡ groups.old.items }
+    ensures sizes { (j : ℕ) → size_of groups.new.sizes j ≡ size_of groups.old.sizes j + weight (λ (t : Its). is_this j group) (option_to_list comer) - is_this j group }
+{
+    let _ = token;
+    match comer {
+        Some(comer) => tokens.replace(slot, comer, group),
+        None => {
+            tokens.remove(slot);
+            groups.leave(group);
+        }
+    }
+}
+
+impl<P: Program> Ledger<P> {
+    /// The call of a definition with values at which a token stands.
+    pub fn task(&self, graph: &Graph, token: &Token) -> Option<SubRunTask>
+        requires graph { graph.now ≡ P.listing }
+        ensures stands { IfSome result (λ task. StandsFor P.listing self.now token.now task.definition task.args) }
+        ensures outermost { IfSome result (λ task. task.is_outermost ≡ true → token.now.step ≡ 0) }
+    {
+        let Standing::At(node, scope) = token.standing else {
+            return None;
+        };
+        let Node::Call(definition, list) = graph.node(node as usize) else {
+            return None;
+        };
+        let mut args = Args::new();
+        if !self.take_values(graph.operands(list as usize), scope, &mut args) {
+            return None;
+        }
+        Some(SubRunTask {
+            definition,
+            args,
+            is_outermost: token.step == 0,
+        })
+    }
+
+    // Whether nothing is left of the run: no token, no call that pends and no open side.
+    fn is_over(&self) -> bool
+        ensures { result ≡ true → (length self.now.tokens ≡ 0) × (length self.now.calls ≡ 0) × (length self.now.groups ≡ 0) × (2 ≤ self.now.next_mark) }
+    {
+        self.tokens.len() == 0
+            && self.calls.len() == 0
+            && self.groups.len() == 0
+            && self.next_mark >= 2
+    }
+
+    // The value of the token in this slot and its mark, if the run would publish the value next and nothing else is left of it.
+    fn yielded(&self, graph: &Graph, slot: usize) -> Option<Yield>
+        requires graph { graph.now ≡ P.listing }
+        ensures alone { IfSome result (λ _. (length self.now.tokens ≡ 1) × (length self.now.calls ≡ 0) × (length self.now.groups ≡ 0) × (2 ≤ self.now.next_mark)) }
+        ensures token { IfSome result (λ y. (t : Its) × IsHeld self.now.slots slot t × (t.step ≡ 0) × (t.serial ≡ y.mark) × (2 ≤ y.mark) × (what_of (code P.listing) (definitions P.listing) self.now t ≡ Publish y.value)) }
+    {
+        if self.tokens.len() != 1
+            || self.calls.len() > 0
+            || self.groups.len() > 0
+            || self.next_mark < 2
+        {
+            return None;
+        }
+        let token = self.tokens.held(slot)?;
+        if token.step > 0 || token.serial < 2 {
+            return None;
+        }
+        match self.what(graph, &token) {
+            Action::Publish(value) => Some(Yield {
+                mark: token.serial,
+                value,
+            }),
+            _ => None,
+        }
+    }
+
+    // The part that the run of a task is, of which no more is left than this.
+    fn part_of<W: Program>(
+        self,
+        task: SubRunTask,
+        is_silent: bool,
+        left: Option<Yield>,
+    ) -> SubRun<W>
+        requires silent { is_silent ≡ true → AreSilent self.journal }
+        requires sites { P.sites ≡ W.sites }
+        requires keeps { P.keeps ≡ W.keeps }
+        requires over { IsOver W.listing W.sites (record { definition = task.definition; args = task.args; entries = self.journal; mark = self.next_mark; calls = self.made; cells = length self.cells - 1; left = left }) }
+        ensures { (result.definition ≡ task.definition) × (result.args ≡ task.args) }
+    {
+        let next_mark = self.next_mark;
+        let calls = self.calls.next_number() - 1;
+        let cells = self.cells.len() - 1;
+        let SubRunTask {
+            definition,
+            args,
+            is_outermost: _,
+        } = task;
+        SubRun {
+            definition,
+            args,
+            journal: self.into_log().named::<W>(),
+            is_silent,
+            next_mark,
+            calls,
+            cells,
+            left,
+            program: PhantomData,
+        }
+    }
+
+    /// What came of a task whose run this was, for the run of `W` that has it to do. None where what is round it could bear on an entry, since it has passed
+    /// time, cancelled a call or called a site that a script answers; and where something of it is left, but for a token in the slot `last` on a value that
+    /// the run would publish next, if it has published nothing.
+    pub fn into_sub_run<W: Program>(
+        self,
+        graph: &Graph,
+        answers: &Answers,
+        task: SubRunTask,
+        last: Option<usize>,
+    ) -> Option<SubRun<W>>
+        requires graph { graph.now ≡ P.listing }
+        requires answers { answers.now.sites ≡ W.sites }
+        requires sites { P.sites ≡ W.sites }
+        requires keeps { P.keeps ≡ W.keeps }
+        requires definitions { definitions P.listing ≡ definitions W.listing }
+        requires call { source P.listing ≡ call_of task.definition task.args }
+        ensures { IfSome result (λ part. (part.definition ≡ task.definition) × (part.args ≡ task.args)) }
+    {
+        if !self.journal.are_local(answers) {
+            return None;
+        }
+        let is_silent = self.journal.is_silent();
+        if self.is_over() {
+            return Some(self.part_of(task, is_silent, None));
+        }
+        if !is_silent {
+            return None;
+        }
+        let last = self.yielded(graph, last?)?;
+        Some(self.part_of(task, true, Some(last)))
+    }
+
+    /// A part is taken in where its token stood: its entries stand behind the journal, under the numbers that they have here, and the token is
+    /// gone, or one stands in its slot on the value to which the call has come. The fault is Limit where the limit has no room for all of the entries, else
+    /// Memory; nothing has changed then.
+    pub fn append_sub_run(
+        &mut self,
+        slot: usize,
+        token: Token,
+        part: &SubRun<P>,
+    ) -> Result<(), LedgerFault>
+        requires held { IsHeld self.old.slots slot token }
+        requires stands { StandsFor P.listing self.old token part.now.definition part.now.args }
+        requires fits { Fits part.now token }
+        ensures done { IfOk result (λ _. TakesIn self.old self.new token part.now) }
+        ensures refused { OnErr result (self.new ≡ self.old) }
+        ensures why { IfErr result (λ fault. IsUntaken self.old part.now fault) }
+    {
+        let entries = part.journal.len();
+        if entries > self.limit - self.entries {
+            return Err(LedgerFault::Limit);
+        }
+        let numbering = Numbering {
+            token: token.serial,
+            mark: self.next_mark,
+            calls: self.calls.next_number() - 1,
+            cells: self.cells.len() as u64 - 1,
+        };
+        let comer = comer_of(numbering, token, part.left);
+        let group = self.steps.group_at(token.step);
+        reserve_cells(&mut self.cells, part.cells)?;
+        self.journal
+            .append(&part.journal, numbering, &mut self.calls, part.calls)?;
+        self.entries += entries;
+        self.next_mark = self.next_mark + part.next_mark - 2;
+        add_cells(&mut self.cells, part.cells);
+        exchange(
+            &mut self.tokens,
+            &mut self.groups,
+            slot,
+            token,
+            group,
+            comer,
+        );
+        Ok(())
+    }
+}

@@ -1,0 +1,81 @@
+//! The cells for which a token waits.
+
+ghost use Rattle.std.specs.Prelude.{◌≡◌, OnOk, IfErr};
+ghost use Rattle.orc_rules.specs.Nodes.{code};
+ghost use Rattle.orc_frames.specs.Awaiting.{cells_among, cells_of};
+ghost use Rattle.orc_frames.specs.Doing.{closed};
+ghost use Rattle.orc_ledger_spec.specs.Doing.{term_of};
+ghost use Rattle.orc_ledger_spec.specs.Records.{its_env};
+ghost use Rattle.orc_tables.specs.Tokens.{IsHeld};
+
+use crate::ledger::Ledger;
+use orc_frames::{Action, list_cells};
+use orc_graph::{Graph, Node};
+use orc_ledger_spec::LedgerFault;
+use orc_log::Program;
+use orc_rules::param::Operand;
+use orc_tables::{Standing, Token};
+
+impl<P: Program> Ledger<P> {
+    // The same in a scope of the ledger.
+    fn list_awaited(
+        &self,
+        operands: &[Operand],
+        scope: usize,
+        listed: &mut Vec<u64>,
+    ) -> Result<(), LedgerFault>
+        ensures listed { OnOk result (listed.new.items ≡ cells_among (closed (its_env (code P.listing) self.now scope) operands.now)) }
+        ensures why { IfErr result (λ fault. fault ≡ LedgerFault.Memory) }
+    {
+        Ok(list_cells(&self.scopes, &self.cells, operands, scope, listed)?)
+    }
+
+    /// Writes the cells for which a token waits over `listed`: that of its variable, or each one among the arguments of its call of a site, in their
+    /// order, as often as it stands there. A token that waits for no cell has none. The only fault is `Memory`, and what is listed is then not known.
+    pub fn awaited(
+        &self,
+        graph: &Graph,
+        token: &Token,
+        listed: &mut Vec<u64>,
+    ) -> Result<(), LedgerFault>
+        requires { graph.now ≡ P.listing }
+        ensures listed { OnOk result (listed.new.items ≡ cells_of (term_of (code P.listing) self.now token.now)) }
+        ensures why { IfErr result (λ fault. fault ≡ LedgerFault.Memory) }
+    {
+        if let Standing::At(node, scope) = token.standing {
+            match graph.node(node as usize) {
+                Node::Name(name) => {
+                    return self.list_awaited(&[Operand::Name(name)], scope, listed);
+                }
+                Node::Site(_, list) => {
+                    return self.list_awaited(graph.operands(list as usize), scope, listed);
+                }
+                _ => {}
+            }
+        }
+        listed.clear();
+        Ok(())
+    }
+
+    /// Lists the cells for which a token waits, as `awaited` does, and parks it: `next` need not look at it until one of these cells is bound or
+    /// lost. A token that can move isn't parked. The only fault is `Memory`; what is listed is then not known, and the token isn't parked.
+    pub fn park(
+        &mut self,
+        graph: &Graph,
+        slot: usize,
+        token: Token,
+        listed: &mut Vec<u64>,
+    ) -> Result<(), LedgerFault>
+        requires graph { graph.now ≡ P.listing }
+        requires held { IsHeld self.old.slots slot token }
+        ensures listed { OnOk result (listed.new.items ≡ cells_of (term_of (code P.listing) self.old token)) }
+        ensures same { self.new ≡ self.old }
+        ensures why { IfErr result (λ fault. fault ≡ LedgerFault.Memory) }
+    {
+        self.awaited(graph, &token, listed)?;
+        match self.what(graph, &token) {
+            Action::Wait(_) => Ok(self.tokens.park(slot, token.serial, listed)?),
+            _ => Ok(()),
+        }
+    }
+}

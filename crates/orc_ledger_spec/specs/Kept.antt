@@ -1,0 +1,34 @@
+-- What every call of a ledger keeps.
+use Rattle.std.specs.Prelude.{◌≡◌, ℕ, List}
+use Rattle.orc_rules.specs.Nodes.{Listing, code, definitions}
+use Rattle.orc_rules.specs.Sites.{Site}
+use Rattle.orc_calls.specs.Counting.{AreCounted}
+use Rattle.orc_journal.specs.declared.journal.Version.{Version}
+use Rattle.orc_journal.specs.declared.journal.Version.TheVariants.{Two}
+use Rattle.orc_ledger_spec.specs.Brought.{AreBrought}
+use Rattle.orc_ledger_spec.specs.Records.{Records, Lawful}
+use Rattle.orc_ledger_spec.specs.Next.{AreGrouped, numbers_of, AreSizes}
+use Rattle.orc_ledger_spec.specs.Told.{AreTold}
+use Rattle.orc_indexes.specs.Parking.{Parked}
+use Rattle.orc_ledger_spec.specs.AtRest.{AreAtRest}
+
+pub record Kept (l : Listing) (sites : List Site) (counts : List (List ℕ × ℕ)) (sizes : List ℕ) (s : Records) : Type 0 where
+  -- the journal leads from the program's term to a place that the records spell
+  pub lawful : Lawful l sites s
+  -- each token, call and side is in the group of its step, and groups are nested as their sides
+  pub grouped : AreGrouped (numbers_of s) s
+  -- of each pending call the table of sites says what its record has
+  pub told : AreTold sites lawful.place.calls s.calls
+  -- of the calls that were made those which scripts answer are counted
+  pub counted : AreCounted sites counts lawful.place.calls
+  -- of each group's number it is known how many members it has
+  pub sized : AreSizes sizes s
+  -- the journal has brought what is there
+  pub brought : AreBrought s
+
+-- and that each token which is said to wait does, that the journal is of the second version, and that the limit is the run's
+pub record IsKept (l : Listing) (sites : List Site) (limit : ℕ) (v : Version) (counts : List (List ℕ × ℕ)) (sizes : List ℕ) (q : Parked) (s : Records) : Type 0 where
+  pub kept : Kept l sites counts sizes s
+  pub rest : AreAtRest (code l) (definitions l) s q
+  pub version : v ≡ Two
+  pub limited : s.limit ≡ limit

@@ -1,0 +1,7 @@
+use denote.RattleType.{RattleType}
+use denote.Param.Send.{IsSend}
+use Rattle.orc_log.specs.contracts.ghost_list.GhostList.{the_row}
+
+-- it owns nothing
+pub send : (T : RattleType) → IsSend (the_row T)
+send T = record { owned = λ d vs. ((λ vss. (tt, ((λ uss. (tt, tt)), tt))), tt); leaving = λ k f vs. tt }

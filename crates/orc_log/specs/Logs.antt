@@ -1,0 +1,28 @@
+-- The journal of a run of which only the last entries need to be held.
+use Rattle.std.specs.Prelude.{◌≡◌, ◌≤◌, ◌++◌, ◌^◌, ℕ, Bool, true, false, List, [], length}
+use Rattle.orc_rules.specs.declared.entry.Entry.{Entry}
+use Rattle.orc_rules.specs.declared.value.Value.{Value}
+use Rattle.orc_rules.specs.Sites.{Site}
+use Rattle.orc_rules.specs.Trace.{published}
+use Rattle.orc_subrun.specs.Moved.{AreLocal}
+use Rattle.orc_journal.specs.declared.journal.Version.{Version}
+
+-- its version, and its entries from the first on
+pub record Logged : Type 0 where
+  pub version : Version
+  pub entries : List Entry
+
+-- one with more entries behind its own
+abbrev pub log_with : Logged → List Entry → Logged
+log_with c es = record { version = c.version; entries = c.entries ++ es }
+
+-- what is known of the entries where they aren't held: how many they are, what they publish, and whether they are known to be local; a journal that is
+-- kept has all of its entries held, and any other one has none
+pub record IsKnown (sites : List Site) (keeps : Bool) (past : List Entry) (passed : ℕ) (values : List Value) (is_local : Bool) (held : ℕ) : Type 0 where
+  pub count : length past ≡ passed
+  pub publishes : published past ≡ values
+  pub local : is_local ≡ true → AreLocal sites past
+  pub whole : keeps ≡ true → past ≡ []
+  pub none : keeps ≡ false → held ≡ 0
+  pub few : passed ≤ 2 ^ 62
+  pub room : held ≤ 2 ^ 62

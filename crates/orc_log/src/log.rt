@@ -1,0 +1,446 @@
+//! The journal of a run, which holds all of its entries or none. Of those that aren't held it is known how many they are, what they publish and whether
+//! something round the run bears on them; which they are clauses say, and no code.
+
+ghost use Rattle.std.specs.Prelude.{◌≡◌, ◌≢◌, ◌+◌, ◌≤◌, ◌^◌, ◌++◌, ◌∷◌, [], ℕ, List, true, false, length, map, take, drop, IfOk, IfSome, IfNone, OnOk, OnErr};
+ghost use Rattle.std.specs.List.{slice_get};
+ghost use Rattle.orc_rules.specs.declared.entry.Entry.{Entry as EntryOf};
+ghost use Rattle.orc_rules.specs.declared.entry.Entry.TheVariants.{Call, Bind, Cancel};
+ghost use Rattle.orc_rules.specs.declared.limits.TheConstants.{MOST_ARGUMENTS};
+ghost use Rattle.orc_rules.specs.Trace.{published};
+ghost use Rattle.orc_rules.specs.Sites.{Site};
+ghost use Rattle.orc_subrun.specs.Moved.{moved, IsLocal, AreLocal, AreSilent};
+ghost use Rattle.orc_log.specs.Logs.{log_with};
+
+use crate::ghost_list::{GhostList, ghost_list_of};
+use crate::program::Program;
+use orc_journal::{Journal, Version};
+use orc_rules::answers::Answers;
+use orc_rules::entry::Entry;
+use orc_rules::value::Value;
+use orc_subrun::Numbering;
+use orc_tables::Pending;
+use std::alloc::{AllocError, Global};
+use std::marker::{Model, PhantomData};
+
+/// The most entries: more than any memory has room for.
+const MOST: usize = 1 << 62;
+
+/// The journal of a run. Where the run keeps it, it holds all entries; else none.
+#[derive(Drop)]
+pub struct Log<P: Program> {
+    alloc: Global,
+    keeps: bool,
+    // The entries, where they are held.
+    held: Journal,
+    // What is known of them where they aren't: which they are, how many, what they publish, and whether all are known to be local.
+    past: GhostList<Entry>,
+    passed: usize,
+    published: Vec<Value>,
+    is_local: bool,
+    program: PhantomData<P>,
+}
+
+impl<P: Program> Model for Log<P> {
+    ghost use Rattle.std.specs.Prelude.{◌≡◌, length, ◌++◌};
+    ghost use Rattle.orc_log.specs.Logs.{Logged, IsKnown};
+
+    ghost Value = { Logged };
+
+    ghost view = { λ c. record { version = c.held.version; entries = c.past.items ++ c.held.entries } };
+
+    ghost invariant = { λ c. (c.keeps ≡ P.keeps) × IsKnown P.sites c.keeps c.past.items c.passed c.published.items c.is_local (length c.held.entries) };
+}
+
+// The past with an entry behind it.
+fn past_with_entry(past: &GhostList<Entry>, entry: &Entry) -> GhostList<Entry>
+    ghost items: { List EntryOf }
+    ensures { result.items ≡ items }
+{
+    let _ = past;
+    let _ = entry;
+    ghost_list_of::<Entry>()
+}
+
+// The same with a call.
+fn past_with_call(
+    past: &GhostList<Entry>,
+    token: u64,
+    call: u64,
+    site: u32,
+    args: &[Value],
+) -> GhostList<Entry>
+    ghost items: { List EntryOf }
+    ensures { result.items ≡ items }
+{
+    let _ = past;
+    let _ = (token, call, site);
+    let _ = args;
+    ghost_list_of::<Entry>()
+}
+
+// The same with a bind and its cancels.
+fn past_with_bind(
+    past: &GhostList<Entry>,
+    token: u64,
+    cell: u64,
+    value: Value,
+    cancelled: &[u64],
+) -> GhostList<Entry>
+    ghost items: { List EntryOf }
+    ensures { result.items ≡ items }
+{
+    let _ = past;
+    let _ = (token, cell);
+    let _ = value;
+    let _ = cancelled;
+    ghost_list_of::<Entry>()
+}
+
+// The first of its entries, so many.
+fn first_of_past(past: &GhostList<Entry>, len: usize) -> GhostList<Entry>
+    ghost items: { List EntryOf }
+    ensures { result.items ≡ items }
+{
+    let _ = past;
+    let _ = len;
+    ghost_list_of::<Entry>()
+}
+
+// The same with a part's entries under these numbers.
+fn past_with_part<P: Program>(
+    past: &GhostList<Entry>,
+    part: &Log<P>,
+    numbering: Numbering,
+) -> GhostList<Entry>
+    ghost items: { List EntryOf }
+    ensures { result.items ≡ items }
+{
+    let _ = past;
+    let _ = part;
+    let _ = numbering;
+    ghost_list_of::<Entry>()
+}
+
+// Whether so many more may be held.
+#[inline(always)]
+fn has_room(held: &Journal, more: usize) -> bool
+    ensures { result ≡ true → length held.now.entries + more ≤ 2 ^ 62 }
+{
+    more <= MOST && held.len() <= MOST - more
+}
+
+// Counts so many more, if they may be so many. The error leaves the count as it was.
+#[inline(always)]
+fn count_more(count: &mut usize, more: usize) -> Result<(), AllocError>
+    requires { count.old ≤ 2 ^ 62 }
+    ensures counted { OnOk result (count.new ≡ count.old + more) }
+    ensures few { count.new ≤ 2 ^ 62 }
+    ensures refused { OnErr result (count.new ≡ count.old) }
+{
+    if more > MOST - *count {
+        return Err(AllocError);
+    }
+    *count += more;
+    Ok(())
+}
+
+// Whether an entry is none that is local wherever it stands.
+#[inline(always)]
+fn may_bear(entry: &Entry) -> bool
+    ensures { result ≡ false → (sites : List Site) → IsLocal sites entry.now }
+{
+    matches!(
+        entry,
+        Entry::Tick(_) | Entry::Cancel(_) | Entry::Call(_, _, _, _)
+    )
+}
+
+// Adds the value that an entry publishes, if it publishes one. The error is refused memory, and then nothing changes.
+#[inline(always)]
+fn add_published(values: &mut Vec<Value>, entry: &Entry) -> Result<(), AllocError>
+    ensures added { OnOk result (values.new.items ≡ values.old.items ++ published (entry.now ∷ [])) }
+    ensures refused { OnErr result (values.new.items ≡ values.old.items) }
+{
+    match entry {
+        Entry::Publish(_, value) => match values.push(*value) {
+            Ok(()) => Ok(()),
+            Err(_) => Err(AllocError),
+        },
+        _ => Ok(()),
+    }
+}
+
+// Puts a part's entries behind others under these numbers, and gives its calls of sites, so many as were `made`, the next numbers. Where memory is refused
+// nothing changes.
+fn append_held(
+    held: &mut Journal,
+    part: &Journal,
+    numbering: Numbering,
+    calls: &mut Pending,
+    made: u64,
+) -> Result<(), AllocError>
+    ensures items { calls.new.items ≡ calls.old.items }
+    ensures version { held.new.version ≡ held.old.version }
+    ensures added { OnOk result (held.new.entries ≡ held.old.entries ++ map (moved numbering) part.now.entries) }
+    ensures made { OnOk result (calls.new.made ≡ calls.old.made + made) }
+    ensures refused { OnErr result ((held.new ≡ held.old) × (calls.new.made ≡ calls.old.made)) }
+    ensures room { OnOk result (length held.new.entries ≤ 2 ^ 62) }
+{
+    if !has_room(held, part.len()) {
+        return Err(AllocError);
+    }
+    let len = held.len();
+    held.append(part, numbering)?;
+    let passed = calls.pass_numbers(made);
+    if passed.is_err() {
+        held.truncate(len);
+    }
+    passed
+}
+
+impl<P: Program> Log<P> {
+    /// No entries. Those that come are held where the run `keeps` its journal.
+    pub fn new(alloc: Global, keeps: bool) -> Log<P>
+        requires { keeps ≡ P.keeps }
+        ensures { result ≡ record { version = Version.Two; entries = [] } }
+    {
+        Log {
+            alloc,
+            keeps,
+            held: Journal::new(alloc, Version::Two),
+            past: ghost_list_of::<Entry>(),
+            passed: 0,
+            published: Vec::new(alloc),
+            is_local: true,
+            program: PhantomData,
+        }
+    }
+
+    /// How many entries there are, held or not.
+    #[inline(always)]
+    pub fn len(&self) -> usize
+        ensures entries { result ≡ length self.now.entries }
+    {
+        self.passed + self.held.len()
+    }
+
+    /// Adds an entry at the end. The error is refused memory, and then nothing changes.
+    #[inline(always)]
+    pub fn push(&mut self, entry: &Entry) -> Result<(), AllocError>
+        ensures added { OnOk result (self.new ≡ log_with self.old (entry.now ∷ [])) }
+        ensures refused { OnErr result (self.new ≡ self.old) }
+    {
+        if self.keeps {
+            if !has_room(&self.held, 1) {
+                return Err(AllocError);
+            }
+            return self.held.push(entry);
+        }
+        if self.passed >= MOST {
+            return Err(AllocError);
+        }
+        add_published(&mut self.published, entry)?;
+        self.past = past_with_entry(&self.past, entry);
+        self.passed += 1;
+        if may_bear(entry) {
+            self.is_local = false;
+        }
+        Ok(())
+    }
+
+    /// Adds a `call` as `push` does, without an `Entry`: the arguments, `MOST_ARGUMENTS` at most, are copied once.
+    #[inline(always)]
+    pub fn push_call(
+        &mut self,
+        answers: &Answers,
+        token: u64,
+        call: u64,
+        site: u32,
+        args: &[Value],
+    ) -> Result<(), AllocError>
+        requires answers { answers.now.sites ≡ P.sites }
+        requires few { length args.now ≤ MOST_ARGUMENTS }
+        ensures added { OnOk result (self.new ≡ log_with self.old (Call token call site args.now ∷ [])) }
+        ensures refused { OnErr result (self.new ≡ self.old) }
+    {
+        if self.keeps {
+            if !has_room(&self.held, 1) {
+                return Err(AllocError);
+            }
+            return self.held.push_call(token, call, site, args);
+        }
+        count_more(&mut self.passed, 1)?;
+        self.past = past_with_call(&self.past, token, call, site, args);
+        if answers.is_scripted(site) {
+            self.is_local = false;
+        }
+        Ok(())
+    }
+
+    /// Adds a `bind` and, behind it, the cancels of these calls in their order. The error is refused memory, and then nothing changes.
+    pub fn push_bind(
+        &mut self,
+        token: u64,
+        cell: u64,
+        value: Value,
+        cancelled: &[u64],
+    ) -> Result<(), AllocError>
+        ensures added { OnOk result (self.new ≡ log_with self.old (Bind token cell value ∷ map Cancel cancelled.now)) }
+        ensures refused { OnErr result (self.new ≡ self.old) }
+    {
+        let more = cancelled.len().saturating_add(1);
+        if self.keeps {
+            if !has_room(&self.held, more) {
+                return Err(AllocError);
+            }
+            return self.held.push_bind(token, cell, value, cancelled);
+        }
+        count_more(&mut self.passed, more)?;
+        self.past = past_with_bind(&self.past, token, cell, value, cancelled);
+        self.is_local &= cancelled.is_empty();
+        Ok(())
+    }
+
+    /// Keeps the first `len` entries alone, all where there are no more. Those that go publish nothing.
+    pub fn truncate(&mut self, len: usize)
+        requires { AreSilent (drop len self.old.entries) }
+        ensures { self.new ≡ record { version = self.old.version; entries = take len self.old.entries } }
+    {
+        if self.keeps {
+            self.held.truncate(len);
+        } else if len < self.passed {
+            self.past = first_of_past(&self.past, len);
+            self.passed = len;
+        }
+    }
+
+    /// Whether all entries are known to be local: nothing around the run whose they are bears on them.
+    pub fn are_local(&self, answers: &Answers) -> bool
+        requires { answers.now.sites ≡ P.sites }
+        ensures { result ≡ true → AreLocal P.sites self.now.entries }
+    {
+        self.is_local && self.held.are_local(answers)
+    }
+
+    /// Whether no entry is a publication.
+    pub fn is_silent(&self) -> bool
+        ensures { result ≡ true → AreSilent self.now.entries }
+    {
+        self.published.is_empty() && self.held.is_silent()
+    }
+
+    /// Puts a part's entries behind under these numbers, and gives its calls of sites, so many as were `made`, the next numbers. Where memory is refused
+    /// nothing changes.
+    pub fn append(
+        &mut self,
+        part: &Log<P>,
+        numbering: Numbering,
+        calls: &mut Pending,
+        made: u64,
+    ) -> Result<(), AllocError>
+        ensures items { calls.new.items ≡ calls.old.items }
+        ensures version { OnOk result (self.new.version ≡ self.old.version) }
+        ensures added { OnOk result (self.new.entries ≡ self.old.entries ++ map (moved numbering) part.now.entries) }
+        ensures made { OnOk result (calls.new.made ≡ calls.old.made + made) }
+        ensures refused { OnErr result ((self.new ≡ self.old) × (calls.new.made ≡ calls.old.made)) }
+    {
+        if self.keeps {
+            append_held(&mut self.held, &part.held, numbering, calls, made)
+        } else {
+            self.append_known(part, numbering, calls, made)
+        }
+    }
+
+    // The same where none is held: what is known of the part's entries is known of these then.
+    fn append_known(
+        &mut self,
+        part: &Log<P>,
+        numbering: Numbering,
+        calls: &mut Pending,
+        made: u64,
+    ) -> Result<(), AllocError>
+        requires { P.keeps ≡ false }
+        ensures items { calls.new.items ≡ calls.old.items }
+        ensures version { OnOk result (self.new.version ≡ self.old.version) }
+        ensures added { OnOk result (self.new.entries ≡ self.old.entries ++ map (moved numbering) part.now.entries) }
+        ensures made { OnOk result (calls.new.made ≡ calls.old.made + made) }
+        ensures refused { OnErr result ((self.new ≡ self.old) × (calls.new.made ≡ calls.old.made)) }
+    {
+        let passed = self.passed;
+        count_more(&mut self.passed, part.passed)?;
+        let known = self.published.len();
+        match self.published.extend_from_slice(&part.published) {
+            Ok(()) => {}
+            Err(_) => {
+                self.passed = passed;
+                return Err(AllocError);
+            }
+        }
+        match calls.pass_numbers(made) {
+            Ok(()) => {}
+            Err(_) => {
+                self.passed = passed;
+                self.published.truncate(known);
+                return Err(AllocError);
+            }
+        }
+        self.past = past_with_part(&self.past, part, numbering);
+        self.is_local = false;
+        Ok(())
+    }
+
+    /// The entry at a place, from 0, if it is held.
+    pub fn get(&self, at: usize) -> Option<Entry>
+        ensures held { IfSome result (λ entry. slice_get self.now.entries at ≡ Some entry) }
+        ensures none { IfNone result (P.keeps ≡ true → length self.now.entries ≤ at) }
+    {
+        if self.keeps { self.held.get(at) } else { None }
+    }
+
+    /// The journal, which is held whole.
+    pub fn journal(&self) -> &Journal
+        requires { P.keeps ≡ true }
+        ensures entries { result.now.entries ≡ self.now.entries }
+        ensures version { result.now.version ≡ self.now.version }
+    {
+        &self.held
+    }
+
+    /// The same, and nothing else.
+    pub fn into_journal(self) -> Journal
+        requires { P.keeps ≡ true }
+        ensures entries { result.entries ≡ self.entries }
+        ensures version { result.version ≡ self.version }
+    {
+        self.held
+    }
+
+    /// The values that its entries publish, in order. The error is refused memory.
+    pub fn into_published(self) -> Result<Vec<Value>, AllocError>
+        ensures { IfOk result (λ values. values.items ≡ published self.entries) }
+    {
+        if self.keeps {
+            self.held.published(self.alloc)
+        } else {
+            Ok(self.published)
+        }
+    }
+
+    /// The same journal as that of another run, of the same sites, which keeps as much.
+    pub fn named<W: Program>(self) -> Log<W>
+        requires sites { P.sites ≡ W.sites }
+        requires keeps { P.keeps ≡ W.keeps }
+        ensures { result ≡ self }
+    {
+        Log {
+            alloc: self.alloc,
+            keeps: self.keeps,
+            held: self.held,
+            past: self.past,
+            passed: self.passed,
+            published: self.published,
+            is_local: self.is_local,
+            program: PhantomData,
+        }
+    }
+}

@@ -1,2 +1,0 @@
-pub mod Sides
-mod Taken

@@ -1,9 +1,0 @@
-use Rattle.std.proofs.Common.{◌-◌, length}
-use Rattle.orc_nodes.specs.Hints.{AreListed}
-use Rattle.orc_nodes.proofs.nodes.keep_restless.Given as goal
-
-abbrev pub invariant-loop-next : goal.invariant-loop-next
-invariant-loop-next l = AreListed l.items.items l.initial.list.items → AreListed l.items.items l.list.items
-
-abbrev pub decreases-loop-next : goal.decreases-loop-next
-decreases-loop-next l = length l.list.items - l.next

@@ -1,0 +1,186 @@
+//! A program's runs in many orders.
+
+ghost use Rattle.std.specs.Prelude.{◌≡◌, ◌≤◌, ◌<◌, ◌+◌, ◌^◌, ◌↔◌, length, Err, IfOk, IfErr, OnOk};
+ghost use Rattle.std.specs.List.{All};
+ghost use Rattle.orc_rules.specs.Named.{HasNames};
+ghost use Rattle.orc_rules.specs.Nodes.{definitions, source};
+ghost use Rattle.orc_rules.specs.Program.{IsProgram};
+ghost use Rattle.orc_scheduler.specs.Faults.{IsOwn};
+ghost use Rattle.orc_engine.specs.Ranges.{IsInRange};
+ghost use Rattle.orc_orders.specs.Survey.{Came, Counts, IsOfRun, IsSurvey};
+ghost use Rattle.orc_orders.specs.Tried.{IsTried};
+
+use crate::seen::{Seen, count};
+use orc_engine::{EngineFault, run_alone};
+use orc_outcome::{End, Played};
+use orc_rules::answers::Answers;
+use orc_rules::limits::{MOST_ENTRIES, MOST_WORKERS};
+use orc_rules::program::Program;
+use std::alloc::{AllocError, Global};
+use std::thread;
+use std::thread::Threads;
+
+/// So many orders are run before what came of them is counted.
+const BATCH: u64 = 64;
+
+/// The runs of a batch are shared out among threads where they have so many entries in all, as far as those before them tell. A thread that begins may wait
+/// longer for a processor than a shorter batch takes.
+const WORTH: u64 = 50_000;
+
+/// And they are fewer where they have more entries than so many: what they publish is held until it is counted.
+const ROOM: u64 = 4_000_000;
+
+/// What came of the run in an order.
+#[derive(Drop)]
+struct Trial {
+    came: Result<Played, EngineFault>,
+}
+
+// Places for so many of them. Until its order is run a place holds that memory was refused. The error is refused memory.
+fn places(alloc: Global, number: u64) -> Result<Vec<Trial>, AllocError>
+    ensures { IfOk result (λ trials. length trials.items ≡ number) }
+{
+    let mut trials = Vec::new(alloc);
+    for _place in 0..number {
+        trials.push(Trial {
+            came: Err(EngineFault::Memory),
+        })?;
+    }
+    Ok(trials)
+}
+
+// What is run in each order, with what its sites answer, and how many entries a run's journal may have.
+#[derive(Drop)]
+struct Surveyor<'s, R> {
+    rt: &'s R,
+    alloc: Global,
+    program: &'s Program,
+    answers: &'s Answers,
+    limit: u64,
+}
+
+impl<R: Threads + Sync> Surveyor<'_, R> {
+    // Runs so many orders, from `first` on, on so many threads. The error is refused memory.
+    #[tactic(auto, using(crate::proofs::Lent::filled))]
+    fn run(&self, threads: usize, first: u64, number: u64) -> Result<Vec<Trial>, AllocError>
+        requires threads { 0 < threads }
+        ensures all { IfOk result (λ trials. length trials.items ≡ number) }
+        ensures tried { IfOk result (λ trials. All (IsTried self.now.program.now self.now.answers.now self.now.limit) trials.items) }
+    {
+        let mut trials = places(self.alloc, number)?;
+        thread::for_each_mut(
+            self.rt,
+            &mut trials,
+            threads,
+            &|at: usize, trial: &mut Trial|
+                ensures { IsTried self.entry.now.program.now self.entry.now.answers.now self.entry.now.limit trial.exit.now }
+            {
+                let order = first.wrapping_add(at as u64);
+                trial.came = run_alone(
+                    self.alloc,
+                    self.program,
+                    self.answers,
+                    Some(order),
+                    false,
+                    self.limit,
+                );
+            },
+        );
+        Ok(trials)
+    }
+
+    // Counts what the run in an order came to, and tells how many entries it had. A run for which memory is refused tells nothing of the program.
+    fn count(&self, trial: &Trial, order: u64, seen: &mut Vec<Seen>) -> Result<u64, EngineFault>
+        requires tried { IsTried self.now.program.now self.now.answers.now self.now.limit trial.now }
+        ensures counted { OnOk result ((c : Came) × IsOfRun self.now.program.now self.now.answers.now self.now.limit c × Counts order c seen.old.items seen.new.items) }
+        ensures range { IfErr result (λ fault. fault ≡ EngineFault.Range → IsInRange 1 self.now.limit → ⊥) }
+        ensures sound { IfErr result (λ fault. IsOwn fault → IsProgram (definitions self.now.program.now) (source self.now.program.now) → HasNames self.now.program.now self.now.answers.now → ⊥) }
+    {
+        let played = match &trial.came {
+            Ok(played) => played,
+            Err(fault) => return Err(*fault),
+        };
+        let end = played.summary.end;
+        let values = played.published.as_slice();
+        if end == End::Memory || count(self.alloc, seen, order, end, values).is_err() {
+            return Err(EngineFault::Memory);
+        }
+        Ok(played.summary.entries)
+    }
+
+    // Runs so many orders, from `first` on, and counts what they came to. Tells how many entries they had on average.
+    #[tactic(auto, using(crate::proofs::Counting::one_order_more))]
+    fn go(
+        &self,
+        threads: usize,
+        first: u64,
+        number: u64,
+        seen: &mut Vec<Seen>,
+    ) -> Result<u64, EngineFault>
+        requires threads { 0 < threads }
+        requires some { 0 < number }
+        requires room { first + number < 2 ^ 64 }
+        ensures counted { OnOk result (IsSurvey self.now.program.now self.now.answers.now self.now.limit first seen.old.items → IsSurvey self.now.program.now self.now.answers.now self.now.limit (first + number) seen.new.items) }
+        ensures range { IfErr result (λ fault. fault ≡ EngineFault.Range → IsInRange 1 self.now.limit → ⊥) }
+        ensures sound { IfErr result (λ fault. IsOwn fault → IsProgram (definitions self.now.program.now) (source self.now.program.now) → HasNames self.now.program.now self.now.answers.now → ⊥) }
+    {
+        let Ok(trials) = self.run(threads, first, number) else {
+            return Err(EngineFault::Memory);
+        };
+        let mut entries: u64 = 0;
+        for order in first..first + number {
+            let trial = &trials[(order - first) as usize];
+            entries = entries.saturating_add(self.count(trial, order, seen)?);
+        }
+        Ok(entries / number)
+    }
+}
+
+/// Runs a program in so many orders, from 0 on, and tells each outcome that came up, in the order in which they came up first. Each run has at most
+/// `limit` entries, cancels not counted. The runs are made on `workers` threads, of which the calling one is one; what is told is the same on any number
+/// of them.
+///
+/// The fault is Range where there are no workers or over `MOST_WORKERS`, or the limit is 0 or over `MOST_ENTRIES`, and then alone; or Memory where memory
+/// was refused. No other comes, if the program is one that the scope check takes with the names of its sites.
+#[tactic(auto, using(crate::proofs::Counting::none_yet))]
+pub fn survey<R: Threads + Sync>(
+    rt: &R,
+    alloc: Global,
+    program: &Program,
+    answers: &Answers,
+    workers: usize,
+    orders: u64,
+    limit: u64,
+) -> Result<Vec<Seen>, EngineFault>
+    ensures surveyed { IfOk result (λ seen. IsSurvey program.now answers.now limit orders seen.items) }
+    ensures range { result ≡ Err EngineFault.Range ↔ (IsInRange workers limit → ⊥) }
+    ensures sound { IfErr result (λ fault. IsOwn fault → IsProgram (definitions program.now) (source program.now) → HasNames program.now answers.now → ⊥) }
+{
+    if workers < 1 || workers > MOST_WORKERS || limit < 1 || limit > MOST_ENTRIES {
+        return Err(EngineFault::Range);
+    }
+    let surveyor = Surveyor {
+        rt,
+        alloc,
+        program,
+        answers,
+        limit,
+    };
+    let mut seen = Vec::new(alloc);
+    let mut next = 0;
+    // The first run shows how long they are.
+    let mut batch = 1;
+    let mut threads = 1;
+    while next < orders {
+        let number = batch.min(orders - next);
+        let mean = surveyor.go(threads, next, number, &mut seen)?;
+        next += number;
+        batch = (ROOM / mean.max(1)).clamp(workers as u64, BATCH);
+        threads = if mean.saturating_mul(batch) < WORTH {
+            1
+        } else {
+            workers
+        };
+    }
+    Ok(seen)
+}

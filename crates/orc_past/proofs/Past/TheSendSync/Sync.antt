@@ -1,8 +1,0 @@
-use denote.RattleType.{RattleType}
-use denote.Param.Send.{IsSync, part_keyless}
-use Rattle.orc_past.specs.contracts.Past.{the_row}
-use Rattle.orc_past.proofs.Past.TheSendSync.Send.{send}
-
--- it owns nothing
-pub sync : (T : RattleType) → IsSync (the_row T)
-sync T = record { shared = λ d b o κ q. part_keyless (the_row T) (send T) q d b o }

@@ -1,4 +1,0 @@
-use Rattle.orc_plain.proofs.plain.play.Goals as goal
-
-pub returns : goal.returns
-returns c = c.played.ensures _ _ _ _ (c.in_ok-end.ensures c.args.keeps_text (c.in-Ok.ensures c.args.answers.now))

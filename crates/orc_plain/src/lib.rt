@@ -1,9 +1,0 @@
-//! The plain engine: a run, entry by entry, each applied to the marked term by the rules.
-#![tactic(auto)]
-
-mod agenda;
-mod history;
-mod lines;
-mod plain;
-
-pub use plain::play;

@@ -1,0 +1,23 @@
+-- What a clause says of a worker's queue and its rights to steal.
+use Rattle.std.specs.Prelude.{◌≡◌, ◌⊎◌, ℕ, List, [], ◌∷◌, Some, length, map, replicate, slice_get, slice_set, true}
+use Rattle.orc_pool.specs.declared.history.View.{View}
+use Rattle.orc_pool.specs.declared.worker_queue.WorkerQueue.{WorkerQueue}
+use Rattle.orc_pool.specs.History.{view_of, IsPop, IsTheft, WasEmpty}
+use Rattle.orc_pool.specs.Words.{Name, own_name, own_view, theft_name, theft_view}
+
+module _ {T : Type 0} where
+  -- what the worker knows of each queue as a thief
+  abbrev pub stolen_views : WorkerQueue T → List (View T)
+  stolen_views worker_queue = map theft_view worker_queue.thefts.items
+
+  -- the task stood last in the hand's own queue, or first in another one
+  abbrev pub IsTaken : WorkerQueue T → T → WorkerQueue T → Type 0
+  IsTaken before task after =
+      (IsPop (own_view before.own) (task ∷ []) (own_view after.own) × (stolen_views after ≡ stolen_views before))
+      ⊎ (WasEmpty (own_view before.own) × (own_view after.own ≡ own_view before.own) × (from : ℕ) × (v w : View T) × (slice_get (stolen_views before) from ≡ Some v) × IsTheft v (task ∷ []) w × (stolen_views after ≡ slice_set (stolen_views before) from w))
+
+  -- each worker has a queue of its own, which is empty, and may steal from all
+  abbrev pub AreDealt : ℕ → List (WorkerQueue T) → Type 0
+  AreDealt count worker_queues = (queues : List Name) × (length queues ≡ count) × (map (λ h. own_name h.own) worker_queues ≡ queues)
+      × (map (λ h. own_view h.own) worker_queues ≡ replicate count (view_of true [] []))
+      × (map (λ h. map theft_name h.thefts.items) worker_queues ≡ replicate count queues)

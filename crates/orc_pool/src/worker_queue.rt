@@ -1,0 +1,85 @@
+//! A worker's side of the queues: the end of its own one, and the rights to steal from all of them.
+ghost use Rattle.std.specs.Prelude.{◌≡◌, [], ◌∷◌, length, map, IfOk, MatchResult, MatchOption};
+ghost use Rattle.orc_pool.specs.History.{IsPush, WasEmpty};
+ghost use Rattle.orc_pool.specs.Words.{own_view, names, theft_name};
+ghost use Rattle.orc_pool.specs.WorkerQueues.{AreDealt, IsTaken, stolen_views};
+
+use crate::own::Own;
+use crate::queues::Queues;
+use crate::theft::Theft;
+use std::alloc::{AllocError, Global};
+
+/// A worker's side of the queues: it pushes to and pops from its own, and steals from the others.
+#[derive(Drop)]
+pub struct WorkerQueue<T: Drop> {
+    // Which queue is its own, from 0.
+    at: usize,
+    pub(crate) own: Own<T>,
+    // One for each queue, in order.
+    pub(crate) thefts: Vec<Theft<T>>,
+}
+
+impl<T: Drop> WorkerQueue<T> {
+    /// Pushes a task to its own queue. Gives it back where the queue could not grow.
+    pub fn push(&mut self, task: T) -> Result<(), T>
+        ensures rule { MatchResult result (λ _. IsPush (own_view self.old.own) (task ∷ []) (own_view self.new.own)) (λ back. (back ≡ task) × (own_view self.new.own ≡ own_view self.old.own)) }
+        ensures others { self.new.thefts ≡ self.old.thefts }
+    {
+        self.own.push(task)
+    }
+
+    /// The next task: the one that was pushed last of those in its own queue, or else the first one of another queue, of which the next one is asked first.
+    /// None only where its own queue was empty at one moment of the call.
+    pub fn next(&mut self) -> Option<T>
+        ensures { MatchOption result (WasEmpty (own_view self.old.own) × (own_view self.new.own ≡ own_view self.old.own) × (stolen_views self.new ≡ stolen_views self.old)) (λ task. IsTaken self.old task self.new) }
+    {
+        if let Some(task) = self.own.pop() {
+            return Some(task);
+        }
+        let count = self.thefts.len();
+        for step in 1..count {
+            if let Some(task) = self.thefts[(self.at % count + step) % count].steal() {
+                return Some(task);
+            }
+        }
+        None
+    }
+}
+
+/// A worker queue for each of so many workers, all empty. The error is refused memory.
+pub fn worker_queues<T: Drop>(
+    alloc: Global,
+    count: usize,
+) -> Result<Vec<WorkerQueue<T>>, AllocError>
+    ensures { IfOk result (λ worker_queues. AreDealt count worker_queues.items) }
+{
+    let mut queues = Queues::new(alloc, count)?;
+    let mut worker_queues = Vec::with_capacity(alloc, count)?;
+    for at in 0..count {
+        let thefts = thefts_of(alloc, &queues, count)?;
+        let Some(own) = queues.own(at) else {
+            unreachable!();
+        };
+        worker_queues.push(WorkerQueue { at, own, thefts })?;
+    }
+    Ok(worker_queues)
+}
+
+// The right to steal from each of the queues, in order.
+fn thefts_of<T: Drop>(
+    alloc: Global,
+    queues: &Queues<T>,
+    count: usize,
+) -> Result<Vec<Theft<T>>, AllocError>
+    requires { length (names queues.now) ≡ count }
+    ensures { IfOk result (λ thefts. map theft_name thefts.items ≡ names queues.now) }
+{
+    let mut thefts = Vec::with_capacity(alloc, count)?;
+    for from in 0..count {
+        let Some(theft) = queues.theft(from)? else {
+            unreachable!();
+        };
+        thefts.push(theft)?;
+    }
+    Ok(thefts)
+}

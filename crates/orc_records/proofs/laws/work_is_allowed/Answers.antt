@@ -1,5 +1,0 @@
-use Rattle.orc_records.proofs.Working.{work-allowed}
-use Rattle.orc_records.proofs.laws.work_is_allowed.Goals as goal
-
-pub returns : goal.returns
-returns c = λ l sites s L told n G h. work-allowed l sites s L told n G h

@@ -1,0 +1,151 @@
+//! What can come next in a run: the tokens that can move, in the order of their turns, and the calls by their due times.
+
+use orc_checker::{Marked, Side};
+use orc_rules::entry::Entry;
+use orc_rules::limits::MOST_ARGUMENTS;
+use orc_rules::program::Program;
+use orc_verdict::{numbers_of, return_entry, side_entry, token_entry};
+use std::alloc::{AllocError, Global};
+use std::cmp::Reverse;
+use std::collections::{BTreeMap, BinaryHeap, VecDeque};
+
+/// A token whose turn comes; `listed` where it stands in the lists of all cells for which it still waits.
+#[derive(Clone, Copy)]
+struct Turn {
+    token: u64,
+    listed: bool,
+}
+
+/// Tokens take their turns one after another, so none is starved. A token that waits stands in the list of each of its cells: a call
+/// moves once one of its arguments is void, whichever that is.
+#[derive(Drop)]
+pub struct Agenda {
+    tokens: VecDeque<Turn>,
+    waiting: BTreeMap<u64, Vec<u64>>,
+    /// The due time and the number of each call that has one, the least first.
+    due: BinaryHeap<Reverse<(u64, u64)>>,
+}
+
+/// What comes next in a run.
+#[derive(Drop)]
+pub enum Choice {
+    Entry(Entry),
+    /// No token can move, and no call will ever be due.
+    Nothing,
+}
+
+impl Agenda {
+    /// The agenda of a run's beginning: token 1.
+    pub fn new(alloc: Global) -> Result<Agenda, AllocError> {
+        let mut tokens = VecDeque::new(alloc);
+        tokens.push_back(Turn {
+            token: 1,
+            listed: false,
+        })?;
+        Ok(Agenda {
+            tokens,
+            waiting: BTreeMap::new(alloc),
+            due: BinaryHeap::new(alloc),
+        })
+    }
+
+    /// An entry that can come next, while no cancel is due: a move of a token, else the end of `side`, which has halted, else a return that is
+    /// due now, else a tick.
+    pub fn choose(
+        &mut self,
+        program: &Program,
+        marked: &Marked,
+        side: Option<Side>,
+    ) -> Result<Choice, AllocError> {
+        for _ in 0..self.tokens.len() {
+            let Some(turn) = self.tokens.pop_front() else {
+                break;
+            };
+            if let Some(next) = marked.next(program, turn.token) {
+                match token_entry(marked, turn.token, next) {
+                    Some(entry) => return Ok(Choice::Entry(entry)),
+                    None if turn.listed => {}
+                    None => self.wait(program, marked, turn.token)?,
+                }
+            }
+        }
+        if let Some(side) = side {
+            if let Some(entry) = side_entry(marked, side) {
+                return Ok(Choice::Entry(entry));
+            }
+        }
+        Ok(self.choose_call(marked))
+    }
+
+    // Puts a token that waits into the lists of its cells.
+    fn wait(&mut self, program: &Program, marked: &Marked, token: u64) -> Result<(), AllocError> {
+        let alloc = *self.tokens.allocator();
+        for position in 0..MOST_ARGUMENTS {
+            if let Some(cell) = marked.awaited(program, token, position) {
+                let tokens = self.waiting.entry(cell)?.or_insert(Vec::new(alloc));
+                tokens.push(token)?;
+            }
+        }
+        Ok(())
+    }
+
+    // A new token takes its turn after the others.
+    fn join(&mut self, token: u64) -> Result<(), AllocError> {
+        self.tokens.push_back(Turn {
+            token,
+            listed: false,
+        })?;
+        Ok(())
+    }
+
+    // The return of a call that is due now, else a tick to the least due time.
+    fn choose_call(&mut self, marked: &Marked) -> Choice {
+        for _ in 0..self.due.len() {
+            let Some(&Reverse((at, call))) = self.due.peek() else {
+                break;
+            };
+            let answer = marked.due(call);
+            if answer.is_some() && marked.now() < at {
+                return Choice::Entry(Entry::Tick(at));
+            }
+            self.due.pop();
+            if let Some((answer, _)) = answer {
+                return Choice::Entry(return_entry(marked, call, answer));
+            }
+        }
+        Choice::Nothing
+    }
+
+    /// Takes note of what an entry has made: new tokens, a call, or tokens that wait no more.
+    pub fn note(&mut self, entry: &Entry, marked: &Marked) -> Result<(), AllocError> {
+        let new = numbers_of(entry);
+        if let Some(mark) = new.mark {
+            self.join(mark)?;
+        }
+        if let Some(second) = new.second {
+            self.join(second)?;
+        }
+        if let Some(call) = new.call {
+            if let Some((_, at)) = marked.due(call) {
+                self.due.push(Reverse((at, call)))?;
+            }
+        }
+        match entry {
+            Entry::Bind(_, cell, _) | Entry::Lost(cell) => self.wake(*cell),
+            _ => Ok(()),
+        }
+    }
+
+    // The tokens that waited for a cell can move.
+    fn wake(&mut self, cell: u64) -> Result<(), AllocError> {
+        if let Some(tokens) = self.waiting.remove(&cell) {
+            for token in tokens {
+                self.tokens.push_back(Turn {
+                    token,
+                    listed: true,
+                })?;
+            }
+        }
+        Ok(())
+    }
+}

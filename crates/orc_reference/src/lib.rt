@@ -1,0 +1,9 @@
+//! The plain engine: a run, entry by entry, each applied to the marked term by the rules.
+#![tactic(auto)]
+
+mod agenda;
+mod history;
+mod lines;
+mod reference;
+
+pub use reference::play;

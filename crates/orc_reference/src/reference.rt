@@ -1,0 +1,114 @@
+//! The loop of the engine.
+
+ghost use Rattle.std.specs.Prelude.{◌≡◌, ◌+◌, ◌<◌, ◌≤◌, ◌^◌, ℕ, Bool, IfOk, OnOk};
+ghost use Rattle.orc_outcome.specs.Outcome.{IsPlayed};
+ghost use Rattle.orc_reference.specs.Stories.{IsReached, HasEnded, Settles};
+ghost use Rattle.orc_rules.specs.Sites.{Table};
+
+use crate::agenda::{Agenda, Choice};
+use crate::history::History;
+use orc_outcome::{End, PlayFault, Played};
+use orc_rules::answers::Answers;
+use orc_rules::entry::{Entry, RuleFault};
+use orc_rules::program::Program;
+use std::alloc::Global;
+
+// How a run ends where nothing can come next.
+fn rest(history: &mut History, program: &Program) -> Result<End, PlayFault>
+    ensures { (t : Table) (keeps : Bool) (turns limit : ℕ) → turns ≤ limit → IsReached program.now t keeps turns history.old → IfOk result (HasEnded program.now t keeps limit history.new) }
+{
+    if history.marked().has_halted() {
+        return Ok(End::Halted);
+    }
+    if history.is_quiet(program) {
+        return Ok(End::Quiet);
+    }
+    Err(PlayFault::Broken)
+}
+
+// How a run ends whose journal has as many entries as the limit.
+fn cut(history: &mut History, program: &Program, limit: u64) -> End
+    ensures { (t : Table) (keeps : Bool) → IsReached program.now t keeps limit history.old → HasEnded program.now t keeps limit history.new result }
+{
+    if !history.is_quiet(program) {
+        return End::Limit;
+    }
+    End::Quiet
+}
+
+// Records the cancels that are due, one after another.
+fn settle(history: &mut History, program: &Program, answers: &Answers) -> Result<(), PlayFault>
+    ensures { OnOk result (Settles program.now answers.now history.old history.new) }
+{
+    // Each call is cancelled once at most.
+    for _turn in 0..history.marked().new_call() {
+        match history.marked().next_cancel() {
+            None => return Ok(()),
+            Some(call) => {
+                let cancel = Entry::Cancel(call);
+                let Ok(()) = history.record(program, answers, &cancel) else {
+                    return Err(PlayFault::Broken);
+                };
+            }
+        }
+    }
+    Err(PlayFault::Broken)
+}
+
+// Adds entries until nothing can come next or the journal has `limit` of them, cancels not counted.
+fn proceed(
+    history: &mut History,
+    agenda: &mut Agenda,
+    program: &Program,
+    answers: &Answers,
+    limit: u64,
+) -> Result<End, PlayFault>
+    ensures { (keeps : Bool) → IsReached program.now answers.now keeps 0 history.old → IfOk result (HasEnded program.now answers.now keeps limit history.new) }
+{
+    for _turn in 0..limit {
+        let side = history.halted_side();
+        let entry = match agenda.choose(program, history.marked(), side) {
+            Ok(Choice::Entry(entry)) => entry,
+            Ok(Choice::Nothing) => return rest(history, program),
+            Err(_) => return Ok(End::Memory),
+        };
+        match history.record(program, answers, &entry) {
+            Ok(()) => {}
+            Err(RuleFault::Memory) => return Ok(End::Memory),
+            Err(_) => return Err(PlayFault::Broken),
+        }
+        settle(history, program, answers)?;
+        if agenda.note(&entry, history.marked()).is_err() {
+            return Ok(End::Memory);
+        }
+    }
+    let side = history.halted_side();
+    match agenda.choose(program, history.marked(), side) {
+        Ok(Choice::Entry(_)) => Ok(cut(history, program, limit)),
+        Ok(Choice::Nothing) => rest(history, program),
+        Err(_) => Ok(End::Memory),
+    }
+}
+
+/// Runs a program: entries that the rules allow, one after another, until nothing can come next or the journal has `limit` of them, cancels not
+/// counted. The cancels of a bind follow it at once. The journal's text is kept where `keeps_text`.
+///
+/// The fault is Memory where memory was refused before the run began; or Broken where the rules refuse an entry that was to come next.
+pub fn play(
+    alloc: Global,
+    program: &Program,
+    answers: &Answers,
+    keeps_text: bool,
+    limit: u64,
+) -> Result<Played, PlayFault>
+    ensures { IfOk result (λ p. IsPlayed program.now answers.now keeps_text limit p.summary p.published.items p.text.items) }
+{
+    let Ok(mut history) = History::new(alloc, program, keeps_text) else {
+        return Err(PlayFault::Memory);
+    };
+    let Ok(mut agenda) = Agenda::new(alloc) else {
+        return Err(PlayFault::Memory);
+    };
+    let end = proceed(&mut history, &mut agenda, program, answers, limit)?;
+    Ok(history.played(end))
+}

@@ -1,0 +1,292 @@
+//! A call of a definition that is run apart by a ledger of its own, and taken in.
+
+ghost use Rattle.std.specs.Prelude.{◌≡◌, ◌≤◌, true, false};
+ghost use Rattle.orc_rules.specs.declared.limits.TheConstants.{MOST_ENTRIES};
+ghost use Rattle.orc_rules.specs.Nodes.{definitions, source};
+ghost use Rattle.orc_ledger_spec.specs.Parts.{call_of};
+
+use orc_graph::Graph;
+use orc_journal_text::write_journal;
+use orc_ledger::{Action, Called, Ledger, LedgerFault, Moved, Part, Program as Naming, SubRunTask};
+use orc_load::load;
+use orc_rules::answers::Answers;
+use orc_rules::value::{Args, Value};
+use std::alloc::Global;
+use std::marker::Brand;
+use std::test::Fail;
+
+// So many slots are looked at for tokens.
+const SLOTS: usize = 4;
+
+// What a call's own run comes to, in which each token moves in turn, if it is over within so many rounds, or comes to one value where the call's publications
+// are not the run's. Where entries aren't kept each is forgotten at once.
+fn run_apart<Q: Naming, P: Naming>(
+    alloc: Global,
+    graph: &Graph,
+    answers: &Answers,
+    keeps: bool,
+    task: SubRunTask,
+    limit: usize,
+) -> Option<Part<P>>
+    requires keeps { keeps ≡ P.keeps }
+    requires limit { (1 ≤ limit) × (limit ≤ MOST_ENTRIES) }
+    requires named { limit ≡ Q.limit }
+    requires graph { graph.now ≡ Q.listing }
+    requires answers { answers.now.sites ≡ Q.sites }
+    requires sites { Q.sites ≡ P.sites }
+    requires kept { Q.keeps ≡ P.keeps }
+    requires definitions { definitions Q.listing ≡ definitions P.listing }
+    requires call { source Q.listing ≡ call_of task.definition task.args }
+{
+    let mut ledger = Ledger::<Q>::begin(alloc, keeps, limit, graph.root()).ok()?;
+    let mut last = None;
+    for _round in 0..limit {
+        for slot in 0..SLOTS {
+            let Some(token) = ledger.held(slot) else {
+                continue;
+            };
+            if !task.is_outermost && matches!(ledger.what(graph, &token), Action::Publish(_)) {
+                last = Some(slot);
+            } else if !move_on(alloc, &mut ledger, graph, answers, slot) {
+                return None;
+            }
+        }
+    }
+    ledger.into_sub_run::<P>(graph, answers, task, last)
+}
+
+// Whether the token in a slot could move, or waits, or there is none.
+fn move_on<Q: Naming>(
+    alloc: Global,
+    ledger: &mut Ledger<Q>,
+    graph: &Graph,
+    answers: &Answers,
+    slot: usize,
+) -> bool
+    requires graph { graph.now ≡ Q.listing }
+    requires answers { answers.now.sites ≡ Q.sites }
+{
+    let Some(token) = ledger.held(slot) else {
+        return true;
+    };
+    let mut scopes = Vec::new(alloc);
+    let mut cancelled = Vec::new(alloc);
+    let mut args = Args::new();
+    match ledger.advance(graph, slot, token, &mut scopes, &mut cancelled) {
+        Ok(Moved::Calls) => matches!(
+            ledger.call_through(graph, answers, slot, token, &mut args),
+            Ok(Called::Answered(_))
+        ),
+        Ok(_) => true,
+        Err(_) => false,
+    }
+}
+
+// What comes of a task's own run, if it is over within a hundred entries.
+fn part_of<P: Naming>(
+    alloc: Global,
+    graph: &Graph,
+    answers: &Answers,
+    keeps: bool,
+    task: SubRunTask,
+) -> Option<Part<P>>
+    requires keeps { keeps ≡ P.keeps }
+    requires graph { graph.now ≡ P.listing }
+    requires answers { answers.now.sites ≡ P.sites }
+{
+    let own = graph
+        .for_call(alloc, task.definition, task.args.as_slice())
+        .ok()?;
+    run_apart::<Brand, P>(alloc, &own, answers, keeps, task, 100)
+}
+
+// The slot of the first token that stands at a call of a definition with values, once each token has moved as often as it takes.
+fn at_call<P: Naming>(
+    alloc: Global,
+    ledger: &mut Ledger<P>,
+    graph: &Graph,
+    answers: &Answers,
+) -> Option<usize>
+    requires graph { graph.now ≡ P.listing }
+    requires answers { answers.now.sites ≡ P.sites }
+{
+    for _round in 0..10_usize {
+        for slot in 0..SLOTS {
+            let Some(token) = ledger.held(slot) else {
+                continue;
+            };
+            if ledger.task(graph, &token).is_some() {
+                return Some(slot);
+            }
+            if !move_on(alloc, ledger, graph, answers, slot) {
+                return None;
+            }
+        }
+    }
+    None
+}
+
+// A token stands at a call of a definition, which is run apart and taken in, where the limit has room for so many entries.
+fn taken<P: Naming>(
+    alloc: Global,
+    graph: &Graph,
+    answers: &Answers,
+    keeps: bool,
+    limit: usize,
+) -> Option<Result<Ledger<P>, LedgerFault>>
+    requires keeps { keeps ≡ P.keeps }
+    requires limit { (1 ≤ limit) × (limit ≤ MOST_ENTRIES) }
+    requires named { limit ≡ P.limit }
+    requires graph { graph.now ≡ P.listing }
+    requires answers { answers.now.sites ≡ P.sites }
+{
+    let mut ledger = Ledger::<P>::begin(alloc, keeps, limit, graph.root()).ok()?;
+    let slot = at_call(alloc, &mut ledger, graph, answers)?;
+    let token = ledger.held(slot)?;
+    let task = ledger.task(graph, &token)?;
+    let part = part_of::<P>(alloc, graph, answers, keeps, task.copied())?;
+    if !part.is_of(&task) {
+        return None;
+    }
+    match ledger.append_sub_run(slot, token, &part) {
+        Ok(()) => Some(Ok(ledger)),
+        Err(fault) => Some(Err(fault)),
+    }
+}
+
+// The text of the journal then.
+fn text_named<P: Naming>(
+    alloc: Global,
+    graph: &Graph,
+    answers: &Answers,
+    limit: usize,
+) -> Option<Result<Vec<u8>, LedgerFault>>
+    requires keeps { P.keeps ≡ true }
+    requires limit { (1 ≤ limit) × (limit ≤ MOST_ENTRIES) }
+    requires named { limit ≡ P.limit }
+    requires graph { graph.now ≡ P.listing }
+    requires answers { answers.now.sites ≡ P.sites }
+{
+    let ledger = match taken::<P>(alloc, graph, answers, true, limit)? {
+        Ok(ledger) => ledger,
+        Err(fault) => return Some(Err(fault)),
+    };
+    let mut text = Vec::new(alloc);
+    match write_journal(&ledger.into_journal(), answers, &mut text) {
+        Ok(true) => Some(Ok(text)),
+        _ => None,
+    }
+}
+
+// What a run has come to that doesn't keep its journal.
+#[derive(Drop)]
+struct Known {
+    values: Vec<Value>,
+    entries: usize,
+}
+
+// The same of a journal that isn't kept.
+fn known_named<P: Naming>(
+    alloc: Global,
+    graph: &Graph,
+    answers: &Answers,
+    limit: usize,
+) -> Option<Known>
+    requires keeps { P.keeps ≡ false }
+    requires limit { (1 ≤ limit) × (limit ≤ MOST_ENTRIES) }
+    requires named { limit ≡ P.limit }
+    requires graph { graph.now ≡ P.listing }
+    requires answers { answers.now.sites ≡ P.sites }
+{
+    let Ok(ledger) = taken::<P>(alloc, graph, answers, false, limit)? else {
+        return None;
+    };
+    let entries = ledger.journal_len();
+    let values = ledger.into_published().ok()?;
+    Some(Known { values, entries })
+}
+
+fn text_of(alloc: Global, source: &[u8], limit: usize) -> Option<Result<Vec<u8>, LedgerFault>> {
+    let loaded = load(alloc, source, b"").ok()?;
+    let graph = Graph::build(alloc, &loaded.program).ok()?;
+    if limit < 1 || limit > 100 {
+        return None;
+    }
+    text_named::<Brand>(alloc, &graph, &loaded.answers, limit)
+}
+
+fn known_of(alloc: Global, source: &[u8], limit: usize) -> Option<Known> {
+    let loaded = load(alloc, source, b"").ok()?;
+    let graph = Graph::build(alloc, &loaded.program).ok()?;
+    if limit < 1 || limit > 100 {
+        return None;
+    }
+    known_named::<Brand>(alloc, &graph, &loaded.answers, limit)
+}
+
+const SOURCE: &[u8] = b"def f(n) = Add(n, 1)\nf(4)";
+
+// The rules allow these entries in this order alone.
+const JOURNAL: &[u8] = b"orc-journal 2\ndef 1 2\ncall 2 1 Add(4, 1)\nreturn 1 3 5\npublish 3 5\n";
+
+#[test]
+fn what_is_run_apart_stands_in_its_place(rt: HostRuntime) -> Result<(), Fail> {
+    let alloc = rt.alloc();
+    let text = text_of(alloc, SOURCE, 4);
+    assert!(rt; matches!(&text, Some(Ok(text)) if text.as_slice() == JOURNAL));
+    // One entry more than there is room for.
+    let text = text_of(alloc, SOURCE, 3);
+    assert!(rt; matches!(text, Some(Err(LedgerFault::Limit))));
+    // What isn't over is no part.
+    assert!(rt; text_of(alloc, b"def f() = f()\nf()", 100).is_none());
+    Ok(())
+}
+
+// The rules allow these entries, one journal each: that of a call whose run opens a cell, of one in a right side and of one in the left side of a `>x>`, and of
+// two that come to nothing there.
+const OPENS: &[u8] = b"orc-journal 2\ndef 1 2\nopen 2 1 3 4\nbind 4 1 4\npublish 3 4\n";
+
+const BINDS: &[u8] = b"orc-journal 2\nopen 1 1 2 3\ndef 3 4\nopen 4 2 5 6\nbind 6 2 4\n";
+
+const SENDS: &[u8] = b"orc-journal 2\nseq 1 2\ndef 2 3\ncall 3 1 Add(4, 1)\nreturn 1 4 5\n";
+
+const ENDS_RIGHT: &[u8] = b"orc-journal 2\nopen 1 1 2 3\ndef 3 4\nend 4\n";
+
+const ENDS_LEFT: &[u8] = b"orc-journal 2\nseq 1 2\ndef 2 3\nend 3\n";
+
+#[test]
+fn a_call_opens_cells_and_comes_to_a_value_or_to_nothing_wherever_it_stands(
+    rt: HostRuntime,
+) -> Result<(), Fail> {
+    let alloc = rt.alloc();
+    let cases: [(&[u8], &[u8]); 5] = [
+        (b"def f(n) = x <x< n\nf(4)", OPENS),
+        (b"def f(n) = x <x< n\ny <y< f(4)", BINDS),
+        (b"def f(n) = Add(n, 1)\nf(4) >x> Add(x, 10)", SENDS),
+        (b"def f() = stop\ny <y< f()", ENDS_RIGHT),
+        (b"def f() = stop\nf() >x> x", ENDS_LEFT),
+    ];
+    for (source, journal) in cases {
+        let text = text_of(alloc, source, 100);
+        assert!(rt;
+            matches!(&text, Some(Ok(text)) if text.as_slice() == journal),
+            "at {source:?}"
+        );
+    }
+    // A call that comes to two values is no part where the run doesn't publish them.
+    assert!(rt; text_of(alloc, b"def f(n) = n | 1\nf(4) >x> x", 100).is_none());
+    Ok(())
+}
+
+#[test]
+fn a_part_whose_journal_is_not_kept_counts_and_publishes(rt: HostRuntime) -> Result<(), Fail> {
+    let alloc = rt.alloc();
+    let known = known_of(alloc, SOURCE, 4);
+    assert!(rt;
+        matches!(&known, Some(known) if known.values.as_slice() == [Value::Number(5)].as_slice())
+    );
+    assert!(rt; matches!(&known, Some(known) if known.entries == 4));
+    // One entry more than there is room for.
+    assert!(rt; known_of(alloc, SOURCE, 3).is_none());
+    Ok(())
+}

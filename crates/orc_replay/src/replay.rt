@@ -1,0 +1,488 @@
+//! Journals replayed by calls of the ledger, entry by entry.
+
+ghost use Rattle.std.specs.Prelude.{◌≡◌, ◌<◌, true, IfSome, vec_len};
+
+use orc_env::StoredScope;
+use orc_graph::Graph;
+use orc_journal::{Journal, Version};
+use orc_journal_text::write_journal;
+use orc_ledger::{
+    Action, HaltFault, Halted, Ledger, LedgerFault, Moved, Next, Program as Naming, ReturnFault,
+};
+use orc_rules::answers::Answers;
+use orc_rules::entry::{Entry, State};
+use orc_rules::limits::{MOST_ENTRIES, MOST_GROUPS};
+use orc_rules::program::Program;
+use orc_rules::value::{Answer, Args};
+use std::alloc::Global;
+use std::marker::Brand;
+
+/// Why an entry isn't replayed.
+#[derive(Clone, Copy, Debug, PartialEq, Eq)]
+pub enum Odd {
+    /// The ledger has no such token, call or side.
+    Gone,
+    /// The token's word is another one.
+    Word,
+    /// Somebody is in the side that the entry leaves: by the rules he may do nothing but make moves of marks.
+    Live,
+    /// The call has another answer, or is due at another time.
+    Wrong,
+    /// Something else comes next than this tick.
+    Time,
+    /// Another entry was written.
+    Other,
+    /// A limit is reached.
+    Limit,
+    Memory,
+}
+
+/// The entry that isn't replayed, from 1, and why.
+#[derive(Clone, Copy, Debug, PartialEq, Eq)]
+pub struct Stop {
+    pub at: usize,
+    pub why: Odd,
+}
+
+// The right side of a cell, or the left side of an otherwise.
+#[derive(Clone, Copy, PartialEq, Eq)]
+enum Side {
+    Right(u64),
+    Left(u64),
+}
+
+// An open group, the number of the one round it, and whether a publication has left it.
+#[derive(Clone, Copy)]
+struct Open {
+    number: u32,
+    side: Side,
+    parent: u32,
+    left: bool,
+}
+
+/// A run whose entries are told one after another.
+pub struct Replay<P: Naming> {
+    pub ledger: Ledger<P>,
+    // The slot of each token by its serial; there is no serial 0.
+    slots: Vec<usize>,
+    groups: Vec<Open>,
+    // Lent to the ledger's calls.
+    scopes: Vec<StoredScope>,
+    cancelled: Vec<u64>,
+    args: Args,
+}
+
+// Written out, so that each exit of a function that has a run drops it by one call.
+impl<P: Naming> Drop for Replay<P> {
+    fn drop(self) {
+        let Replay {
+            ledger,
+            slots,
+            groups,
+            scopes,
+            cancelled,
+            args,
+        } = self;
+        drop(ledger);
+        drop(slots);
+        drop(groups);
+        drop(scopes);
+        drop(cancelled);
+        drop(args);
+    }
+}
+
+impl From<LedgerFault> for Odd {
+    fn from(fault: LedgerFault) -> Odd {
+        match fault {
+            LedgerFault::Full | LedgerFault::Limit => Odd::Limit,
+            LedgerFault::Memory => Odd::Memory,
+        }
+    }
+}
+
+// Whether a token's word is the entry.
+fn says(what: Action, entry: &Entry) -> bool {
+    match (what, entry) {
+        (Action::Halt, Entry::End(_)) => true,
+        (Action::Fork, Entry::Fork(_, _, _)) => true,
+        (Action::Seq, Entry::Seq(_, _)) => true,
+        (Action::Other, Entry::Other(_, _)) => true,
+        (Action::Prune, Entry::Open(_, _, _, _)) => true,
+        (Action::Def, Entry::Def(_, _)) => true,
+        (Action::Void, Entry::Void(_)) => true,
+        (Action::Call, Entry::Call(_, _, _, _)) => true,
+        (Action::Publish(value), Entry::Publish(_, v)) => value == *v,
+        (Action::Send(value), Entry::Send(_, _, v)) => value == *v,
+        (Action::Bind(cell, value), Entry::Bind(_, c, v)) => cell == *c && value == *v,
+        _ => false,
+    }
+}
+
+impl<P: Naming> Replay<P> {
+    /// Token 1 stands at the program's main term.
+    pub fn begin(alloc: Global, graph: &Graph) -> Result<Replay<P>, Odd>
+        requires keeps { P.keeps ≡ true }
+        requires graph { graph.now ≡ P.listing }
+        requires limit { P.limit ≡ MOST_ENTRIES }
+    {
+        let ledger = Ledger::begin(alloc, true, MOST_ENTRIES as usize, graph.root())?;
+        let mut slots = Vec::new(alloc);
+        for _serial in 0..2 {
+            if slots.push(0).is_err() {
+                return Err(Odd::Memory);
+            }
+        }
+        Ok(Replay {
+            ledger,
+            slots,
+            groups: Vec::new(alloc),
+            scopes: Vec::new(alloc),
+            cancelled: Vec::new(alloc),
+            args: Args::new(),
+        })
+    }
+
+    /// Has the ledger do what an entry says, by the call for its kind. A `cancel` comes with its bind.
+    pub fn enter(&mut self, graph: &Graph, answers: &Answers, entry: &Entry) -> Result<(), Odd>
+        requires graph { graph.now ≡ P.listing }
+        requires answers { answers.now.sites ≡ P.sites }
+    {
+        match entry {
+            Entry::End(serial)
+            | Entry::Fork(serial, _, _)
+            | Entry::Seq(serial, _)
+            | Entry::Other(serial, _)
+            | Entry::Def(serial, _)
+            | Entry::Void(serial)
+            | Entry::Open(serial, _, _, _)
+            | Entry::Send(serial, _, _)
+            | Entry::Call(serial, _, _, _)
+            | Entry::Bind(serial, _, _)
+            | Entry::Publish(serial, _) => self.advance(graph, answers, *serial, entry)?,
+            Entry::Return(number, _, value) => self.answer(*number, Answer::Value(*value))?,
+            Entry::ReturnHalt(number) => self.answer(*number, Answer::Halt)?,
+            Entry::Lost(cell) => self.halt(Side::Right(*cell))?,
+            Entry::Right(number, _) => self.halt(Side::Left(*number))?,
+            Entry::Tick(time) => self.tick(graph, *time)?,
+            Entry::Cancel(_) => return Err(Odd::Other),
+        }
+        self.close_left()
+    }
+
+    // A token does what its word says, which is the entry.
+    fn advance(
+        &mut self,
+        graph: &Graph,
+        answers: &Answers,
+        serial: u64,
+        entry: &Entry,
+    ) -> Result<(), Odd>
+        requires graph { graph.now ≡ P.listing }
+        requires answers { answers.now.sites ≡ P.sites }
+    {
+        let Some(slot) = self.slots.get(serial as usize).copied() else {
+            return Err(Odd::Gone);
+        };
+        let Some(token) = self.ledger.held(slot) else {
+            return Err(Odd::Gone);
+        };
+        if token.serial != serial {
+            return Err(Odd::Gone);
+        }
+        if !says(self.ledger.what(graph, &token), entry) {
+            return Err(Odd::Word);
+        }
+        let group = self.ledger.group_of_token(&token);
+        let moved = self
+            .ledger
+            .advance(graph, slot, token, &mut self.scopes, &mut self.cancelled)?;
+        match moved {
+            Moved::Calls => {
+                self.ledger
+                    .call(graph, answers, slot, token, &mut self.args)?;
+                Ok(())
+            }
+            moved => self.follow(entry, slot, group, moved),
+        }
+    }
+
+    // Notes what a token's move has done, which stood in this slot and group.
+    fn follow(&mut self, entry: &Entry, slot: usize, group: u32, moved: Moved) -> Result<(), Odd> {
+        match moved {
+            Moved::On => {
+                let inner = self.stand(slot)?;
+                match entry {
+                    Entry::Other(number, _) => self.note(inner, Side::Left(*number), group),
+                    _ => Ok(()),
+                }
+            }
+            Moved::Forked(right) => {
+                self.stand(slot)?;
+                let inner = self.stand(right)?;
+                match entry {
+                    Entry::Open(_, cell, _, _) => self.note(inner, Side::Right(*cell), group),
+                    _ => Ok(()),
+                }
+            }
+            Moved::Sent(_) => {
+                let outer = self.stand(slot)?;
+                self.leave(group, outer)
+            }
+            Moved::Gone(_) => match entry {
+                Entry::Publish(_, _) => self.leave(group, 0),
+                _ => Ok(()),
+            },
+            Moved::Bound(cell, _) => self.drop_side(cell),
+            Moved::Calls | Moved::Waits => Err(Odd::Word),
+        }
+    }
+
+    // The token in a slot is the newest one. Gives its group.
+    fn stand(&mut self, slot: usize) -> Result<u32, Odd> {
+        let Some(token) = self.ledger.held(slot) else {
+            return Err(Odd::Gone);
+        };
+        if token.serial != self.slots.len() as u64 {
+            return Err(Odd::Other);
+        }
+        if self.slots.push(slot).is_err() {
+            return Err(Odd::Memory);
+        }
+        Ok(self.ledger.group_of_token(&token))
+    }
+
+    fn note(&mut self, number: u32, side: Side, parent: u32) -> Result<(), Odd> {
+        let group = Open {
+            number,
+            side,
+            parent,
+            left: false,
+        };
+        match self.groups.push(group) {
+            Ok(()) => Ok(()),
+            Err(_) => Err(Odd::Memory),
+        }
+    }
+
+    fn place_of(&self, number: u32) -> Option<usize> {
+        self.groups.iter().position(|open| open.number == number)
+    }
+
+    // A publication leaves the left sides from one group out to another.
+    fn leave(&mut self, from: u32, to: u32) -> Result<(), Odd> {
+        let mut number = from;
+        for _outwards in 0..MOST_GROUPS {
+            if number == to {
+                return Ok(());
+            }
+            let Some(open) = self.groups.iter_mut().find(|open| open.number == number) else {
+                return Err(Odd::Other);
+            };
+            if let Side::Right(_) = open.side {
+                return Err(Odd::Other);
+            }
+            open.left = true;
+            number = open.parent;
+        }
+        Err(Odd::Other)
+    }
+
+    // The groups inside the right side of a cell are gone, its own too.
+    fn drop_side(&mut self, cell: u64) -> Result<(), Odd> {
+        let Some(place) = self
+            .groups
+            .iter()
+            .position(|open| open.side == Side::Right(cell))
+        else {
+            return Err(Odd::Other);
+        };
+        self.groups.swap_remove(place);
+        for _inwards in 0..MOST_GROUPS {
+            let Some(place) = self.orphan() else {
+                return Ok(());
+            };
+            self.groups.swap_remove(place);
+        }
+        Err(Odd::Other)
+    }
+
+    // A group whose parent is gone.
+    fn orphan(&self) -> Option<usize>
+        ensures { IfSome result (λ place. place < vec_len self.now.groups) }
+    {
+        self.groups.iter().position(|open| open.parent != 0 && self.place_of(open.parent).is_none())
+    }
+
+    // Groups that a publication has left, and in which nobody is, go without an entry.
+    fn close_left(&mut self) -> Result<(), Odd> {
+        for _outwards in 0..MOST_GROUPS {
+            let Some(place) = self
+                .groups
+                .iter()
+                .position(|open| open.left && self.ledger.is_empty(open.number))
+            else {
+                return Ok(());
+            };
+            let open = self.groups.swap_remove(place);
+            match self.ledger.halt(open.number) {
+                Ok(Halted::Closed(parent)) if parent == open.parent => {}
+                _ => return Err(Odd::Other),
+            }
+        }
+        Err(Odd::Other)
+    }
+
+    // A side halts: a cell is lost, or a right side starts.
+    fn halt(&mut self, side: Side) -> Result<(), Odd> {
+        let Some(place) = self.groups.iter().position(|open| open.side == side) else {
+            return Err(Odd::Gone);
+        };
+        match self.ledger.halt(self.groups[place].number) {
+            Ok(Halted::Lost(_, _)) => {
+                self.groups.swap_remove(place);
+                Ok(())
+            }
+            Ok(Halted::Resumed(slot)) => {
+                self.groups.swap_remove(place);
+                self.stand(slot)?;
+                Ok(())
+            }
+            Ok(Halted::Closed(_)) => Err(Odd::Other),
+            Err(HaltFault::Gone) => Err(Odd::Gone),
+            Err(HaltFault::Live) => Err(Odd::Live),
+            Err(HaltFault::Refused(fault)) => Err(Odd::from(fault)),
+        }
+    }
+
+    fn answer(&mut self, number: u64, answer: Answer) -> Result<(), Odd> {
+        match self.ledger.returned(number, answer) {
+            Ok(Some(slot)) => {
+                self.stand(slot)?;
+                Ok(())
+            }
+            Ok(None) => Ok(()),
+            Err(ReturnFault::Gone) => Err(Odd::Gone),
+            Err(ReturnFault::Wrong) => Err(Odd::Wrong),
+            Err(ReturnFault::Limit) => Err(Odd::Limit),
+            Err(ReturnFault::Memory) => Err(Odd::Memory),
+        }
+    }
+
+    fn tick(&mut self, graph: &Graph, wanted: u64) -> Result<(), Odd>
+        requires { graph.now ≡ P.listing }
+    {
+        let next = self.ledger.next(graph);
+        self.ledger.is_whole();
+        match next {
+            Next::Ticks(time) if time == wanted => {
+                self.ledger.tick(time)?;
+                Ok(())
+            }
+            _ => Err(Odd::Time),
+        }
+    }
+
+    /// Where the entries have led, as the ledger says it.
+    pub fn state(&mut self, graph: &Graph) -> State
+        requires { graph.now ≡ P.listing }
+    {
+        if self.ledger.has_halted() {
+            return State::Halted;
+        }
+        match self.ledger.next(graph) {
+            Next::Quiet => State::Quiet,
+            Next::Work | Next::Ticks(_) => State::Running,
+        }
+    }
+
+    // Has the ledger do what the entries say, but for those that it has written already: the cancels behind a bind.
+    fn follow_journal(
+        &mut self,
+        graph: &Graph,
+        answers: &Answers,
+        journal: &Journal,
+    ) -> Result<(), Stop>
+        requires graph { graph.now ≡ P.listing }
+        requires answers { answers.now.sites ≡ P.sites }
+    {
+        for at in 0..journal.len() {
+            let Some(entry) = journal.get(at) else {
+                return Ok(());
+            };
+            if self.ledger.journal_len() <= at
+                && let Err(why) = self.enter(graph, answers, &entry)
+            {
+                return Err(Stop {
+                    at: at.saturating_add(1),
+                    why,
+                });
+            }
+        }
+        Ok(())
+    }
+}
+
+// Whether two journals have one text.
+fn are_same(alloc: Global, answers: &Answers, one: &Journal, other: &Journal) -> Option<bool> {
+    let mut text = Vec::new(alloc);
+    let mut other_text = Vec::new(alloc);
+    let whole = write_journal(one, answers, &mut text).ok()?;
+    let other_whole = write_journal(other, answers, &mut other_text).ok()?;
+    Some(whole && other_whole && text.as_slice() == other_text.as_slice())
+}
+
+fn replay_named<P: Naming>(
+    alloc: Global,
+    graph: &Graph,
+    answers: &Answers,
+    journal: &Journal,
+) -> Result<State, Stop>
+    requires graph { graph.now ≡ P.listing }
+    requires answers { answers.now.sites ≡ P.sites }
+    requires limit { P.limit ≡ MOST_ENTRIES }
+    requires keeps { P.keeps ≡ true }
+{
+    let mut replay = match Replay::<P>::begin(alloc, graph) {
+        Ok(replay) => replay,
+        Err(why) => return Err(Stop { at: 0, why }),
+    };
+    replay.follow_journal(graph, answers, journal)?;
+    let at = journal.len();
+    match are_same(alloc, answers, replay.ledger.journal(), journal) {
+        Some(true) => Ok(replay.state(graph)),
+        Some(false) => Err(Stop {
+            at,
+            why: Odd::Other,
+        }),
+        None => Err(Stop {
+            at,
+            why: Odd::Memory,
+        }),
+    }
+}
+
+/// Replays a journal of the second version, entry by entry, by calls of a ledger that begins with the program: each entry is done by the call for its
+/// kind, and groups that a publication has left are closed as soon as nobody is in them. Ok where that writes this journal, with what the ledger says
+/// of the place to which it has led. An entry that leaves a side, or a tick, which comes before moves of marks that are still to be made, is Live or
+/// Time: the rules allow it, and the ledger makes these moves first.
+pub fn replay_journal(
+    alloc: Global,
+    program: &Program,
+    answers: &Answers,
+    journal: &Journal,
+) -> Result<State, Stop> {
+    if journal.version() != Version::Two {
+        return Err(Stop {
+            at: 0,
+            why: Odd::Other,
+        });
+    }
+    let Ok(graph) = Graph::build(alloc, program) else {
+        return Err(Stop {
+            at: 0,
+            why: Odd::Memory,
+        });
+    };
+    replay_named::<Brand>(alloc, &graph, answers, journal)
+}

@@ -1,0 +1,426 @@
+//! Rows by calls of the ledger: what it writes, what comes next, and what it refuses.
+
+ghost use Rattle.std.specs.Prelude.{◌≡◌, true};
+ghost use Rattle.orc_rules.specs.declared.limits.TheConstants.{MOST_ENTRIES};
+
+use crate::replay::{Odd, Replay, Stop};
+use crate::replay_text;
+use orc_graph::Graph;
+use orc_journal_text::{read_entry, write_journal};
+use orc_ledger::{Action, Ledger, LedgerFault, Next, Program as Naming, ReturnFault};
+use orc_load::load;
+use orc_rules::answers::Answers;
+use orc_rules::entry::{Entry, State};
+use orc_rules::value::{Answer, Value};
+use std::alloc::{AllocError, Global};
+use std::marker::Brand;
+use std::test::Fail;
+
+/// What is done with a ledger, or asked of it.
+#[derive(Clone, Copy)]
+enum Step<'a> {
+    /// These entries are done, a line each. Cancels are not: they come with a bind.
+    Does(&'a str),
+    /// The token with this mark waits.
+    Waits(u64),
+    /// This comes next.
+    Next(Next),
+    /// The call with the least number that is due now.
+    Due(Option<u64>),
+    /// This answer of a call is refused.
+    Refuses(u64, Answer, ReturnFault),
+    /// The call with this number was made then, and is that one of its site with its arguments, from 1.
+    Asked(u64, u64, u64),
+    /// Whether the term has halted.
+    Halted(bool),
+}
+
+/// A program, and the steps of its run.
+#[derive(Clone, Copy)]
+struct Row<'a> {
+    source: &'a str,
+    script: &'a str,
+    steps: &'a [Step<'a>],
+}
+
+const SIGNAL: Answer = Answer::Value(Value::Signal);
+
+const fn number(n: i64) -> Answer {
+    Answer::Value(Value::Number(n))
+}
+
+// What the token with this mark does next.
+fn word<P: Naming>(ledger: &Ledger<P>, graph: &Graph, serial: u64) -> Option<Action>
+    requires { graph.now ≡ P.listing }
+{
+    for slot in 0..100_usize {
+        if let Some(token) = ledger.held(slot)
+            && token.serial == serial
+        {
+            return Some(ledger.what(graph, &token));
+        }
+    }
+    None
+}
+
+// Whether the lines are entries, and the ledger has done them.
+fn does<P: Naming>(replay: &mut Replay<P>, graph: &Graph, answers: &Answers, lines: &str) -> bool
+    requires graph { graph.now ≡ P.listing }
+    requires answers { answers.now.sites ≡ P.sites }
+{
+    let mut entry = Entry::Tick(0);
+    let mut rest = lines.as_bytes();
+    for _line in 0..lines.len() {
+        let Some(behind) = read_entry(rest, answers, &mut entry) else {
+            return rest.is_empty();
+        };
+        let is_done = matches!(entry, Entry::Cancel(_))
+            || replay.enter(graph, answers, &entry).is_ok();
+        if !is_done {
+            return false;
+        }
+        rest = behind;
+    }
+    rest.is_empty()
+}
+
+fn is_so<P: Naming>(replay: &mut Replay<P>, graph: &Graph, answers: &Answers, step: &Step) -> bool
+    requires graph { graph.now ≡ P.listing }
+    requires answers { answers.now.sites ≡ P.sites }
+{
+    match *step {
+        Step::Does(lines) => does(replay, graph, answers, lines),
+        Step::Waits(serial) => {
+            matches!(word(&replay.ledger, graph, serial), Some(Action::Wait(_)))
+        }
+        Step::Next(next) => replay.ledger.next(graph) == next,
+        Step::Due(number) => replay.ledger.due_beyond(0) == number,
+        Step::Refuses(call, answer, fault) => { replay.ledger.returned(call, answer) == Err(fault) }
+        Step::Asked(call, made_at, nth) => match replay.ledger.request(call) {
+            Some(request) => request.made_at == made_at && request.nth == nth,
+            None => false,
+        },
+        Step::Halted(halted) => replay.ledger.has_halted() == halted,
+    }
+}
+
+// Whether the journal has exactly the lines of the steps.
+fn has_lines<P: Naming>(
+    alloc: Global,
+    ledger: &Ledger<P>,
+    answers: &Answers,
+    steps: &[Step],
+) -> Result<bool, AllocError>
+    requires { P.keeps ≡ true }
+{
+    let mut wanted = Vec::from_slice(alloc, b"orc-journal 2\n")?;
+    for step in steps {
+        if let Step::Does(lines) = step {
+            wanted.extend_from_slice(lines.as_bytes())?;
+        }
+    }
+    let mut text = Vec::new(alloc);
+    let whole = write_journal(ledger.journal(), answers, &mut text)?;
+    Ok(whole && text.as_slice() == wanted.as_slice())
+}
+
+// The first step that isn't so, from 0; their number where the journal has other lines.
+fn wrong_step<P: Naming>(
+    alloc: Global,
+    graph: &Graph,
+    answers: &Answers,
+    steps: &[Step],
+) -> Option<usize>
+    requires graph { graph.now ≡ P.listing }
+    requires answers { answers.now.sites ≡ P.sites }
+    requires limit { P.limit ≡ MOST_ENTRIES }
+    requires keeps { P.keeps ≡ true }
+{
+    let Ok(mut replay) = Replay::<P>::begin(alloc, graph) else {
+        return Some(0);
+    };
+    for (at, step) in steps.iter().enumerate() {
+        if !is_so(&mut replay, graph, answers, step) {
+            return Some(at);
+        }
+    }
+    match has_lines(alloc, &replay.ledger, answers, steps) {
+        Ok(true) => None,
+        _ => Some(steps.len()),
+    }
+}
+
+fn fault_of(alloc: Global, row: &Row) -> Option<usize> {
+    let Ok(loaded) = load(alloc, row.source.as_bytes(), row.script.as_bytes()) else {
+        return Some(0);
+    };
+    let Ok(graph) = Graph::build(alloc, &loaded.program) else {
+        return Some(0);
+    };
+    wrong_step::<Brand>(alloc, &graph, &loaded.answers, row.steps)
+}
+
+// The first row of which a step isn't so.
+fn first_wrong<'a>(alloc: Global, rows: &'a [Row<'a>]) -> Option<(&'a str, usize)> {
+    for row in rows {
+        if let Some(step) = fault_of(alloc, row) {
+            return Some((row.source, step));
+        }
+    }
+    None
+}
+
+#[test]
+fn tokens_wait_and_cells_are_lost(rt: HostRuntime) -> Result<(), Fail> {
+    let rows = [
+        // The inner x is bound first, and the call still waits for the outer one.
+        Row {
+            source: "def g(a) = Add(a, x) <x< 1\ng(x) <x< 10",
+            script: "",
+            steps: &[
+                Step::Does("open 1 1 2 3\ndef 2 4\nopen 4 2 5 6\n"),
+                Step::Waits(5),
+                Step::Does("bind 6 2 1\n"),
+                Step::Waits(5),
+                Step::Does("bind 3 1 10\ncall 5 1 Add(10, 1)\nreturn 1 7 11\npublish 7 11\n"),
+                Step::Halted(true),
+            ],
+        },
+        Row {
+            source: "(Add(x, 1) <x< stop) ; 7",
+            script: "",
+            steps: &[
+                Step::Does("other 1 2\nopen 2 1 3 4\n"),
+                Step::Waits(3),
+                Step::Does("end 4\nlost 1\nvoid 3\nright 1 5\n"),
+                Step::Halted(false),
+                Step::Does("publish 5 7\n"),
+                Step::Halted(true),
+            ],
+        },
+        // Either value may be bound.
+        Row {
+            source: "x <x< (1 | 2)",
+            script: "",
+            steps: &[Step::Does("open 1 1 2 3\nfork 3 4 5\nbind 4 1 1\npublish 2 1\n")],
+        },
+        Row {
+            source: "x <x< (1 | 2)",
+            script: "",
+            steps: &[Step::Does("open 1 1 2 3\nfork 3 4 5\nbind 5 1 2\npublish 2 2\n")],
+        },
+    ];
+    assert_eq!(rt; first_wrong(rt.alloc(), rows.as_slice()), None);
+    Ok(())
+}
+
+#[test]
+fn calls_are_answered_when_they_are_due(rt: HostRuntime) -> Result<(), Fail> {
+    let rows = [
+        Row {
+            source: "(Rwait(3) >> Ift(false)) ; 9",
+            script: "",
+            steps: &[
+                Step::Does("other 1 2\nseq 2 3\ncall 3 1 Rwait(3)\n"),
+                Step::Asked(1, 0, 1),
+                Step::Refuses(1, SIGNAL, ReturnFault::Wrong),
+                Step::Due(None),
+                Step::Next(Next::Ticks(3)),
+                Step::Does("tick 3\n"),
+                Step::Due(Some(1)),
+                Step::Next(Next::Work),
+                Step::Refuses(1, number(5), ReturnFault::Wrong),
+                Step::Does("return 1 4 signal\nsend 4 5 signal\ncall 5 2 Ift(false)\n"),
+                Step::Does("return 2 halt\nright 1 6\npublish 6 9\n"),
+                Step::Refuses(1, SIGNAL, ReturnFault::Gone),
+                Step::Halted(true),
+            ],
+        },
+        // A call that is cancelled is gone.
+        Row {
+            source: "x <x< (Rwait(0) | 1)",
+            script: "",
+            steps: &[
+                Step::Does("open 1 1 2 3\nfork 3 4 5\ncall 4 1 Rwait(0)\nbind 5 1 1\ncancel 1\n"),
+                Step::Refuses(1, SIGNAL, ReturnFault::Gone),
+                Step::Does("publish 2 1\n"),
+                Step::Halted(true),
+            ],
+        },
+        Row {
+            source: "x <x< (1 | Add(2, 3))",
+            script: "",
+            steps: &[
+                Step::Does("open 1 1 2 3\nfork 3 4 5\ncall 5 1 Add(2, 3)\n"),
+                Step::Due(Some(1)),
+                Step::Does("bind 4 1 1\ncancel 1\n"),
+                Step::Due(None),
+                Step::Does("publish 2 1\n"),
+            ],
+        },
+        // Of two calls that are due the one made last may be answered first.
+        Row {
+            source: "Flip() | Flip() | Flip() | Flip()",
+            script: "Flip() = 1 then halt then 3 after 2",
+            steps: &[
+                Step::Does("fork 1 2 3\nfork 2 4 5\nfork 4 6 7\n"),
+                Step::Does("call 6 1 Flip()\ncall 7 2 Flip()\ncall 5 3 Flip()\ncall 3 4 Flip()\n"),
+                Step::Asked(2, 0, 2),
+                Step::Asked(4, 0, 4),
+                Step::Refuses(2, number(1), ReturnFault::Wrong),
+                Step::Refuses(3, number(3), ReturnFault::Wrong),
+                Step::Does("return 2 halt\nreturn 1 8 1\npublish 8 1\n"),
+                Step::Next(Next::Ticks(2)),
+                Step::Does("tick 2\nreturn 4 9 3\nreturn 3 10 3\npublish 10 3\npublish 9 3\n"),
+                Step::Halted(true),
+            ],
+        },
+        // A sequence of answers counts for each list of arguments.
+        Row {
+            source: "Flip(1) | Flip(2)",
+            script: "Flip(_) = 1 then 2",
+            steps: &[
+                Step::Does("fork 1 2 3\ncall 2 1 Flip(1)\ncall 3 2 Flip(2)\n"),
+                Step::Asked(1, 0, 1),
+                Step::Asked(2, 0, 1),
+                Step::Refuses(2, number(2), ReturnFault::Wrong),
+                Step::Does("return 2 4 1\n"),
+            ],
+        },
+        Row {
+            source: "A() | A()",
+            script: "A() = never then 1",
+            steps: &[
+                Step::Does("fork 1 2 3\ncall 2 1 A()\ncall 3 2 A()\n"),
+                Step::Due(Some(2)),
+                Step::Does("return 2 4 1\npublish 4 1\n"),
+                Step::Next(Next::Quiet),
+                Step::Halted(false),
+            ],
+        },
+    ];
+    assert_eq!(rt; first_wrong(rt.alloc(), rows.as_slice()), None);
+    Ok(())
+}
+
+// Where the first token and those after it in its slot have moved until one is refused: how many entries there are, and why.
+fn refused_at<P: Naming>(alloc: Global, graph: &Graph, limit: usize) -> Option<(usize, LedgerFault)>
+    requires keeps { P.keeps ≡ true }
+    requires graph { graph.now ≡ P.listing }
+    requires limit { limit ≡ P.limit }
+{
+    if limit < 1 || limit > 10_000_000 {
+        return None;
+    }
+    let mut ledger = Ledger::<P>::begin(alloc, true, limit, graph.root()).ok()?;
+    let mut scopes = Vec::new(alloc);
+    let mut cancelled = Vec::new(alloc);
+    for _entry in 0..limit {
+        let token = ledger.held(0)?;
+        if let Err(fault) = ledger.advance(graph, 0, token, &mut scopes, &mut cancelled) {
+            return Some((ledger.entries(), fault));
+        }
+    }
+    Some((ledger.entries(), LedgerFault::Limit))
+}
+
+fn refused(alloc: Global, source: &[u8], limit: usize) -> Option<(usize, LedgerFault)> {
+    let loaded = load(alloc, source, b"").ok()?;
+    let graph = Graph::build(alloc, &loaded.program).ok()?;
+    refused_at::<Brand>(alloc, &graph, limit)
+}
+
+#[test]
+fn limits_refuse_the_entry_past_them(rt: HostRuntime) -> Result<(), Fail> {
+    let alloc = rt.alloc();
+    let feeds = b"def f() = f() >> 1\nf()";
+    let others = b"def f() = f() ; 1\nf()";
+    assert_eq!(rt;
+        refused(alloc, feeds, 100_000),
+        Some((8_193, LedgerFault::Full))
+    );
+    assert_eq!(rt;
+        refused(alloc, others, 100_000),
+        Some((2_047, LedgerFault::Full))
+    );
+    assert_eq!(rt;
+        refused(alloc, others, 100),
+        Some((100, LedgerFault::Limit))
+    );
+    Ok(())
+}
+
+// A journal that the rules allow, with an entry before moves of marks that the ledger makes first.
+#[test]
+fn moves_of_marks_come_first(rt: HostRuntime) -> Result<(), Fail> {
+    let rows: [(&[u8], &[u8], Stop); 3] = [
+        (
+            b"stop <x< stop",
+            b"orc-journal 2\nopen 1 1 2 3\nlost 1\nend 2\n",
+            Stop {
+                at: 2,
+                why: Odd::Live,
+            },
+        ),
+        (
+            b"stop ; 1",
+            b"orc-journal 2\nother 1 2\nright 1 3\npublish 3 1\n",
+            Stop {
+                at: 2,
+                why: Odd::Live,
+            },
+        ),
+        (
+            b"Rwait(1) | stop",
+            b"orc-journal 2\nfork 1 2 3\ncall 2 1 Rwait(1)\ntick 1\n",
+            Stop {
+                at: 3,
+                why: Odd::Time,
+            },
+        ),
+    ];
+    for (source, journal, stop) in rows {
+        assert_eq!(rt;
+            replay_text(rt.alloc(), source, b"", journal),
+            Err(stop),
+            "at {source:?}"
+        );
+    }
+    Ok(())
+}
+
+#[test]
+fn replays_what_was_written(rt: HostRuntime) -> Result<(), Fail> {
+    let rows: [(&[u8], &[u8], &[u8], usize, State); 3] = [
+        (
+            b"(1 | 2) >x> Add(x, 10)",
+            b"",
+            b"orc-journal 2\nseq 1 2\nfork 2 3 4\nsend 3 5 1\ncall 5 1 Add(1, 10)\nreturn 1 6 11\npublish 6 11\nsend 4 7 2\ncall 7 2 Add(2, 10)\nreturn 2 8 12\npublish 8 12\n",
+            10,
+            State::Halted,
+        ),
+        (
+            b"OtherwiseLeft() ; OtherwiseLeft() ; OtherwiseLeft() ; 0",
+            b"OtherwiseLeft() = halt then halt then 5",
+            b"orc-journal 2\nother 1 2\nother 2 3\nother 3 4\ncall 4 1 OtherwiseLeft()\nreturn 1 halt\nright 3 5\ncall 5 2 OtherwiseLeft()\nreturn 2 halt\nright 2 6\ncall 6 3 OtherwiseLeft()\nreturn 3 7 5\npublish 7 5\n",
+            12,
+            State::Halted,
+        ),
+        // A publication leaves the otherwise, whose group goes without an entry, and the cell is lost after it.
+        (
+            b"x <x< ((1 ; 2) >y> stop)",
+            b"",
+            b"orc-journal 2\nopen 1 1 2 3\nseq 3 4\nother 4 5\nsend 5 6 1\nend 6\nlost 1\nvoid 2\n",
+            7,
+            State::Halted,
+        ),
+    ];
+    for (source, script, journal, entries, state) in rows {
+        assert_eq!(rt;
+            replay_text(rt.alloc(), source, script, journal),
+            Ok((entries, state)),
+            "at {source:?}"
+        );
+    }
+    Ok(())
+}

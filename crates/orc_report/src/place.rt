@@ -1,0 +1,79 @@
+//! Lines and columns.
+
+ghost use Rattle.std.specs.Prelude.{◌≡◌, ◌≢◌, ℕ, ◌+◌, ◌-◌, ◌<◌, ◌≤◌, length, slice_index, slice_range};
+ghost use Rattle.std.specs.List.{count_by};
+ghost use Rattle.orc_report.specs.Place.{is_line_feed, begins_character, BeginsLine};
+
+/// Where a byte of a text stands.
+#[derive(Clone, Copy, Debug, PartialEq, Eq)]
+pub struct Place {
+    /// Its line, counted from 1.
+    pub line: usize,
+    /// Its column in characters, counted from 1.
+    pub column: usize,
+    /// The place of its line's first byte.
+    pub start: usize,
+}
+
+/// Whether a byte of UTF-8 begins a character.
+pub fn begins_character(byte: u8) -> bool
+    ensures { result ≡ begins_character byte }
+{
+    byte < 128 || byte >= 192
+}
+
+// Where the line of a byte begins.
+fn line_start(text: &[u8], at: usize) -> usize
+    requires { at ≤ length text.now }
+    ensures { BeginsLine text.now result at }
+{
+    let mut start = at;
+    while start > 0 && text[start - 1] != b'\n' {
+        start -= 1;
+    }
+    start
+}
+
+// How many line feeds these bytes have.
+fn line_feeds(bytes: &[u8]) -> usize
+    ensures value { result ≡ count_by is_line_feed bytes.now }
+    ensures bound { result ≤ length bytes.now }
+{
+    let mut count: usize = 0;
+    for byte in bytes {
+        if *byte == b'\n' {
+            count += 1;
+        }
+    }
+    count
+}
+
+/// How many characters begin in these bytes.
+pub(crate) fn characters(bytes: &[u8]) -> usize
+    ensures value { result ≡ count_by begins_character bytes.now }
+    ensures bound { result ≤ length bytes.now }
+{
+    let mut count: usize = 0;
+    for byte in bytes {
+        if begins_character(*byte) {
+            count += 1;
+        }
+    }
+    count
+}
+
+/// The line and the column of a byte of a text, or of the text's end. Lines end with LF. Columns count the characters of UTF-8 that begin
+/// before the byte in its line.
+pub fn place_of(text: &[u8], at: usize) -> Place
+    requires { at ≤ length text.now }
+    ensures line { result.line ≡ 1 + count_by is_line_feed (slice_range text.now 0 at) }
+    ensures start { BeginsLine text.now result.start at }
+    ensures column { result.column ≡ 1 + count_by begins_character (slice_range text.now result.start at) }
+{
+    let start = line_start(text, at);
+    Place {
+        line: 1 + line_feeds(&text[..at]),
+        column: 1 + characters(&text[start..at]),
+        start,
+    }
+}

@@ -1,4 +1,0 @@
-use Rattle.orc_rows.proofs.parts.a_supply_of_two_gives_two.Given as goal
-
-abbrev pub ghosts-takes : goal.ghosts-takes
-ghosts-takes g a = record { table = a.made.table.shared.table_id }

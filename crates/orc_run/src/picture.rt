@@ -1,0 +1,85 @@
+//! From a journal's text to its picture.
+
+ghost use Rattle.std.specs.Prelude.{IfOk, IfErr, OnOk};
+ghost use Rattle.orc_run.specs.Drawn.{Draws, IsUndrawable, IsUndrawnFor, LeavesUndrawn};
+
+use crate::faults::RunFault;
+use crate::judge::{Judged, judge};
+use crate::output::{WriteFault, write_text};
+use orc_draw::{DrawFault, Options, Subject, draw};
+use orc_syntax::{Ast, parse};
+use std::alloc::Global;
+use std::io::Write;
+
+/// Why no picture was written.
+#[derive(Clone, Copy, Debug, PartialEq, Eq)]
+pub enum Undrawn {
+    /// The source, the script or the journal is at fault, or the output.
+    Fault(RunFault),
+    /// The picture would have too many rows.
+    Rows,
+}
+
+// The picture of a journal that was checked. Refused memory is a fault of the output: it was for a text that was to be written.
+fn picture_of<'a>(
+    alloc: Global,
+    name: &'a str,
+    source: &'a [u8],
+    ast: Ast<'a>,
+    judged: Judged,
+    options: Options,
+) -> Result<String, Undrawn>
+    ensures { IfErr result IsUndrawable }
+{
+    let Judged {
+        answers,
+        journal,
+        state,
+    } = judged;
+    let subject = Subject {
+        name,
+        source,
+        ast,
+        answers,
+        journal,
+        state,
+    };
+    draw(alloc, &subject, options).map_err(|fault| match fault {
+        DrawFault::Rows => Undrawn::Rows,
+        DrawFault::Memory => Undrawn::Fault(RunFault::Write(WriteFault)),
+    })
+}
+
+/// Draws a journal's text, which is first checked against the program that a source spells, with the built-in sites and those of a script,
+/// and writes the picture, which is called by the name.
+///
+/// A fault is answered where `check_text` answers it, and the same one; where memory for the picture is refused or the output isn't taken
+/// whole; and where the picture would have over `MOST_ROWS` rows. Nothing is written then, but at a fault of the output a prefix of a picture.
+pub fn draw_text<W: Write>(
+    alloc: Global,
+    name: &str,
+    source: &[u8],
+    script: &[u8],
+    journal: &[u8],
+    options: Options,
+    out: &mut W,
+) -> Result<(), Undrawn>
+    ensures drawn { OnOk result (Draws source.now script.now journal.now (W.contents out.old) (W.contents out.new)) }
+    ensures undrawn { IfErr result (LeavesUndrawn source.now script.now journal.now (W.contents out.old) (W.contents out.new)) }
+    ensures cause { IfErr result (IsUndrawnFor source.now script.now journal.now) }
+{
+    let judged = match judge(alloc, source, script, journal) {
+        Ok(judged) => judged,
+        Err(fault) => return Err(Undrawn::Fault(fault)),
+    };
+    // The check has kept no tree.
+    let ast = match parse(alloc, source) {
+        Ok(ast) => ast,
+        Err(fault) => return Err(Undrawn::Fault(RunFault::Syntax(fault))),
+    };
+    let picture = picture_of(alloc, name, source, ast, judged, options)?;
+    match write_text(out, picture.as_str().as_bytes()) {
+        Ok(()) => Ok(()),
+        Err(fault) => Err(Undrawn::Fault(RunFault::Write(fault))),
+    }
+}

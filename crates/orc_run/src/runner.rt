@@ -1,0 +1,125 @@
+//! From a source text to what its run published.
+
+ghost use Rattle.std.specs.Prelude.{◌≡◌, ◌↔◌, ℕ, List, length, Err, IfOk, IfErr, OnOk, OnErr};
+ghost use Rattle.std.specs.Io.KnownBytes.{Appends};
+ghost use Rattle.orc_rules.specs.declared.entry.Entry.{Entry};
+ghost use Rattle.orc_rules.specs.Named.{HasNames};
+ghost use Rattle.orc_rules.specs.Nodes.{definitions, source};
+ghost use Rattle.orc_rules.specs.Program.{IsProgram};
+ghost use Rattle.orc_outcome.specs.Outcome.{IsPlayed};
+ghost use Rattle.orc_scheduler.specs.Faults.{IsOwn};
+ghost use Rattle.orc_engine.specs.Ranges.{IsInRange};
+ghost use Rattle.orc_run.specs.Output.{AppendsPrefix};
+ghost use Rattle.orc_run.specs.Running.{Ran, LeavesAtFault, IsFaultOf, IsOther, IsOwnOf, Shows, written};
+ghost use Rattle.orc_cli.specs.Wanted.{keeps_journal};
+
+use crate::faults::RunFault;
+use crate::output::{WriteFault, write_text};
+use crate::publications::write_values;
+use crate::times::write_times;
+// The engine. Another one with the same contract takes its place here.
+use orc_cli::{Options, Wanted};
+use orc_engine::{EngineFault, run_alone, run_pool};
+use orc_load::{Loaded, load};
+use orc_outcome::{Played, Summary};
+use orc_rules::answers::Answers;
+use orc_site::{Open, Scripted};
+use std::alloc::Global;
+use std::io::Write;
+use std::sync::Wait;
+use std::thread::Threads;
+
+/// Runs a program.
+pub fn play<R: Threads + Wait + Sync>(
+    rt: &R,
+    alloc: Global,
+    loaded: &Loaded,
+    options: &Options,
+) -> Result<Played, EngineFault>
+    ensures ran { IfOk result (λ p. IsPlayed loaded.now.program loaded.now.answers (keeps_journal options.now.wanted) options.now.limit p.summary p.published.items p.text.items) }
+    ensures range { result ≡ Err EngineFault.Range ↔ (IsInRange options.now.workers options.now.limit → ⊥) }
+    ensures sound { IfErr result (λ fault. IsOwn fault → IsProgram (definitions loaded.now.program) (source loaded.now.program) → HasNames loaded.now.program loaded.now.answers → ⊥) }
+{
+    if options.workers == 1 {
+        return run_alone(
+            alloc,
+            &loaded.program,
+            &loaded.answers,
+            options.order,
+            options.wanted.keeps_journal(),
+            options.limit,
+        );
+    }
+    run_pool(
+        rt,
+        alloc,
+        &loaded.program,
+        &loaded.answers,
+        &Scripted::new(&loaded.answers),
+        &Open,
+        options.workers as usize,
+        options.wanted.keeps_journal(),
+        options.limit,
+    )
+}
+
+fn run_program<R: Threads + Wait + Sync>(
+    rt: &R,
+    alloc: Global,
+    loaded: &Loaded,
+    options: &Options,
+) -> Result<Played, RunFault>
+    ensures ran { IfOk result (λ p. IsPlayed loaded.now.program loaded.now.answers (keeps_journal options.now.wanted) options.now.limit p.summary p.published.items p.text.items) }
+    ensures fault { IfErr result IsOther }
+    ensures range { IfErr result (λ f. f ≡ RunFault.Engine EngineFault.Range → IsInRange options.now.workers options.now.limit → ⊥) }
+    ensures sound { IfErr result (λ f. IsOwnOf f → IsProgram (definitions loaded.now.program) (source loaded.now.program) → HasNames loaded.now.program loaded.now.answers → ⊥) }
+{
+    play(rt, alloc, loaded, options).map_err(RunFault::Engine)
+}
+
+// Writes what is wanted of a run.
+fn write_run<W: Write>(
+    alloc: Global,
+    answers: &Answers,
+    played: &Played,
+    wanted: Wanted,
+    out: &mut W,
+) -> Result<(), WriteFault>
+    ensures ok { OnOk result ((es : List Entry) → Shows wanted answers.now.names played.now.published.items played.now.text.items es → Appends (W.contents out.old) (W.contents out.new) (written wanted answers.now.names es)) }
+    ensures err { OnErr result ((es : List Entry) → Shows wanted answers.now.names played.now.published.items played.now.text.items es → AppendsPrefix (W.contents out.old) (W.contents out.new) (written wanted answers.now.names es)) }
+{
+    match wanted {
+        Wanted::Values => write_values(alloc, played.published.as_slice(), out),
+        Wanted::Times => write_times(alloc, answers, played.text.as_slice(), out),
+        Wanted::Journal => write_text(out, played.text.as_slice()),
+    }
+}
+
+/// Runs the program that a source spells, with the built-in sites and those of a script, and writes what is wanted of the run once it has ended,
+/// whichever way it ends: what it published, a line each, with the time of each or without it, or its journal.
+///
+/// A fault is answered where the source's text, the script or the source's names are at fault, in this order; then
+/// `Engine` where the engine brings the run to no end (the limit is out of range, or memory is refused before the run begins or for what is
+/// told of it; no other fault of the engine comes); and `Write` where memory for the text is refused or the output isn't taken whole. Nothing is written then, but at a fault of the output a prefix
+/// of the text. A run for which memory is refused once it has begun ends so, and what it has published is written.
+pub fn run_text<R: Threads + Wait + Sync, W: Write>(
+    rt: &R,
+    alloc: Global,
+    source: &[u8],
+    script: &[u8],
+    options: &Options,
+    out: &mut W,
+) -> Result<Summary, RunFault>
+    ensures ran { IfOk result (Ran source.now script.now options.now (W.contents out.old) (W.contents out.new)) }
+    ensures fault { IfErr result (LeavesAtFault source.now script.now options.now (W.contents out.old) (W.contents out.new)) }
+    ensures cause { IfErr result (IsFaultOf source.now script.now) }
+    ensures range { IfErr result (λ f. f ≡ RunFault.Engine EngineFault.Range → IsInRange options.now.workers options.now.limit → ⊥) }
+    ensures sound { IfErr result (λ f. IsOwnOf f → ⊥) }
+{
+    let loaded = load(alloc, source, script)?;
+    let played = run_program(rt, alloc, &loaded, options)?;
+    match write_run(alloc, &loaded.answers, &played, options.wanted, out) {
+        Ok(()) => Ok(played.summary),
+        Err(fault) => Err(RunFault::Write(fault)),
+    }
+}

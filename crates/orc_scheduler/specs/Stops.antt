@@ -1,0 +1,74 @@
+-- How far a run of a ledger is, and why it stops.
+use Rattle.std.specs.Prelude.{◌≡◌, ◌≤◌, ◌<◌, ◌+◌, ◌*◌, ◌-◌, ◌⊎◌, ℕ, Some}
+use Rattle.orc_rules.specs.Nodes.{Listing, code, definitions, source}
+use Rattle.orc_rules.specs.Program.{IsProgram}
+use Rattle.orc_rules.specs.Timed.{IsIn}
+use Rattle.orc_indexes.specs.Same.{weight}
+use Rattle.orc_tables.specs.declared.records.Call.{Call}
+use Rattle.orc_tables.specs.declared.records.Group.{Group}
+use Rattle.orc_tables.specs.PendingCalls.{due_of}
+use Rattle.orc_journal.specs.Sizes.{IsCrowded}
+use Rattle.orc_ledger_spec.specs.Records.{Records}
+use Rattle.orc_ledger_spec.specs.Next.{members, numbers_of, next_of, quiet, work}
+use Rattle.orc_ledger_spec.specs.declared.faults.LedgerFault.TheVariants as fault
+use Rattle.orc_scheduler.specs.declared.scheduler.Step.{Step}
+use Rattle.orc_scheduler.specs.declared.scheduler.Step.TheVariants as step
+use Rattle.orc_scheduler.specs.declared.scheduler.Stop.{Stop}
+use Rattle.orc_scheduler.specs.declared.scheduler.Stop.TheVariants as stop
+use Rattle.orc_scheduler.specs.declared.scheduler.Turn.{Turn}
+use Rattle.orc_scheduler.specs.declared.scheduler.Turn.TheVariants as turn
+
+-- ---- how far a run is
+
+abbrev pub open_groups : Records → ℕ
+open_groups s = weight (λ (g : Group). 1) s.groups
+
+-- what may come: two for each entry up to the limit, of which one is for a group that it may open, and one for each group that is open
+abbrev pub left : Records → ℕ
+left s = 2 * (s.limit - s.entries) + open_groups s
+
+-- a run that goes on: its entries are more, or as many and its groups no more
+pub record Goes (s s' : Records) : Type 0 where
+  pub limit : s'.limit ≡ s.limit
+  pub far : 2 * s.entries + open_groups s' ≤ 2 * s'.entries + open_groups s
+
+-- a run that is further: its entries are more, or as many and its groups fewer
+pub record Advances (s s' : Records) : Type 0 where
+  pub limit : s'.limit ≡ s.limit
+  pub far : 2 * s.entries + open_groups s' < 2 * s'.entries + open_groups s
+
+-- a token has moved: the run is further, or it waits, and no more tokens have a turn that comes
+abbrev pub HasMoved : Records → ℕ → Records → ℕ → Step → Type 0
+HasMoved s n s' n' step.Waits = (s' ≡ s) × (n' ≤ n)
+HasMoved s n s' n' _ = Advances s s'
+
+-- the run is further, or as far, and fewer tokens have a turn that comes
+abbrev pub IsNearer : Records → ℕ → Records → ℕ → Type 0
+IsNearer s n s' n' = Advances s s' ⊎ ((s' ≡ s) × (n' < n))
+
+-- the run is further, or as far, and no more tokens have a turn that comes
+abbrev pub HasSpread : Records → ℕ → Records → ℕ → Type 0
+HasSpread s n s' n' = Advances s s' ⊎ ((s' ≡ s) × (n' ≤ n))
+
+abbrev pub HasTurned : Records → ℕ → Records → ℕ → Turn → Type 0
+HasTurned s n s' n' turn.Rests = (s' ≡ s) × (n' ≤ n)
+HasTurned s n s' n' _ = IsNearer s n s' n'
+
+-- ---- why it stops
+
+-- no call is due, or overdue
+abbrev pub NoneIsDue : Records → Type 0
+NoneIsDue s = (c : Call) (t : ℕ) → IsIn c s.calls → due_of c ≡ Some t → t ≤ s.now → ⊥
+
+-- work is left, and the program's own group has members
+abbrev pub IsAtWork : Listing → Records → Type 0
+IsAtWork l s = (next_of (code l) (definitions l) (numbers_of s) s ≡ work) × (members (numbers_of s) s 0 ≡ 0 → ⊥)
+
+-- a run that stops for this reason has cause to: where it rests nothing comes next, or the program's own group has no members; where it is full one of the engine's numbers can have been reached; where it is cut its journal has as many entries as the limit; and where it is broken the program isn't one that the scope check takes
+abbrev pub Stops : Listing → Records → Stop → Type 0
+Stops l s stop.Rests = (next_of (code l) (definitions l) (numbers_of s) s ≡ quiet) ⊎ (members (numbers_of s) s 0 ≡ 0)
+Stops l s (stop.Refused fault.Full) = IsCrowded s.journal
+Stops l s (stop.Refused fault.Limit) = s.limit ≤ s.entries
+Stops l s (stop.Refused fault.Memory) = Unit {0}
+Stops l s stop.Broken = IsProgram (definitions l) (source l) → ⊥
+Stops l s (stop.Site number) = ⊥

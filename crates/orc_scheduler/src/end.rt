@@ -1,0 +1,145 @@
+//! How a run ends, and what is told of it.
+
+ghost use Rattle.std.specs.Prelude.{◌≡◌, true, false, IfOk, IfErr, MatchOption};
+ghost use Rattle.orc_rules.specs.Named.{HasNames};
+ghost use Rattle.orc_rules.specs.Nodes.{definitions, source};
+ghost use Rattle.orc_rules.specs.Program.{IsProgram};
+ghost use Rattle.orc_outcome.specs.Outcome.{IsPlayed};
+ghost use Rattle.orc_scheduler.specs.Ends.{HasEnded};
+ghost use Rattle.orc_scheduler.specs.Faults.{IsOwn};
+ghost use Rattle.orc_scheduler.specs.Stops.{Stops};
+
+use crate::fault::EngineFault;
+use crate::quiet::is_quiet_at;
+use crate::scheduler::{Scheduler, Stop};
+use crate::sizes::is_crowded;
+use crate::summary::tell;
+use orc_graph::Graph;
+use orc_ledger::{LedgerFault, Next, Program as Naming};
+use orc_outcome::{End, Played};
+use orc_rules::answers::Answers;
+use orc_rules::program::Program;
+
+impl<P: Naming> Scheduler<P> {
+    /// What is told of the run, which stops so. None where that can't be told without its journal, which isn't kept.
+    pub fn finish(
+        mut self,
+        program: &Program,
+        graph: &Graph,
+        answers: &Answers,
+        stop: Stop,
+        keeps_text: bool,
+    ) -> Result<Option<Played>, EngineFault>
+        requires program { program.now ≡ P.listing }
+        requires graph { graph.now ≡ P.listing }
+        requires answers { answers.now.sites ≡ P.sites }
+        requires text { keeps_text ≡ true → P.keeps ≡ true }
+        ensures played { IfOk result (λ played. MatchOption played (P.keeps ≡ false) (λ p. IsPlayed P.listing answers.now keeps_text P.limit p.summary p.published.items p.text.items)) }
+        ensures range { IfErr result (λ fault. fault ≡ EngineFault.Range → ⊥) }
+        ensures sound { IfErr result (λ fault. IsOwn fault → Stops P.listing self.ledger stop → IsProgram (definitions P.listing) (source P.listing) → HasNames P.listing answers.now → ⊥) }
+    {
+        let Some(end) = self.end(program, graph, answers, stop)? else {
+            return Ok(None);
+        };
+        let alloc = self.alloc;
+        match tell(alloc, self.into_ledger(), answers, keeps_text, end) {
+            Ok(played) => Ok(Some(played)),
+            Err(fault) => Err(fault),
+        }
+    }
+
+    // How a run ends that stops so. None where that can't be told without its journal, which isn't kept. The fault is Broken where it can't end so.
+    fn end(
+        &mut self,
+        program: &Program,
+        graph: &Graph,
+        answers: &Answers,
+        stop: Stop,
+    ) -> Result<Option<End>, EngineFault>
+        requires program { program.now ≡ P.listing }
+        requires graph { graph.now ≡ P.listing }
+        requires answers { answers.now.sites ≡ P.sites }
+        ensures ended { IfOk result (λ end. MatchOption end (P.keeps ≡ false) (HasEnded P.listing answers.now self.new.ledger)) }
+        ensures range { IfErr result (λ fault. fault ≡ EngineFault.Range → ⊥) }
+        ensures sound { IfErr result (λ fault. IsOwn fault → Stops P.listing self.old.ledger stop → IsProgram (definitions P.listing) (source P.listing) → ⊥) }
+    {
+        match stop {
+            Stop::Rests => self.rested(graph, answers),
+            Stop::Refused(LedgerFault::Memory) => Ok(Some(End::Memory)),
+            Stop::Refused(LedgerFault::Full) => self.crowded(answers),
+            Stop::Refused(LedgerFault::Limit) => self.cut(program, graph, answers),
+            Stop::Broken => Err(EngineFault::Broken),
+            Stop::Site(number) => Err(EngineFault::Site(number)),
+        }
+    }
+
+    // How a run ends in which nothing can come next.
+    fn rested(&mut self, graph: &Graph, answers: &Answers) -> Result<Option<End>, EngineFault>
+        requires graph { graph.now ≡ P.listing }
+        requires answers { answers.now.sites ≡ P.sites }
+        ensures ended { IfOk result (λ end. MatchOption end (P.keeps ≡ false) (HasEnded P.listing answers.now self.new.ledger)) }
+        ensures range { IfErr result (λ fault. fault ≡ EngineFault.Range → ⊥) }
+        ensures sound { IfErr result (λ _. Stops P.listing self.old.ledger Stop.Rests → ⊥) }
+    {
+        match self.ledger.next(graph) {
+            Next::Quiet => Ok(Some(End::Quiet)),
+            Next::Work if self.ledger.has_halted() => Ok(Some(End::Halted)),
+            Next::Work | Next::Ticks(_) => Err(EngineFault::Broken),
+        }
+    }
+
+    // How a run ends for which one of the engine's limits is reached. The fault is Broken where none can have been.
+    fn crowded(&mut self, answers: &Answers) -> Result<Option<End>, EngineFault>
+        requires answers { answers.now.sites ≡ P.sites }
+        ensures ended { IfOk result (λ end. MatchOption end (P.keeps ≡ false) (HasEnded P.listing answers.now self.new.ledger)) }
+        ensures range { IfErr result (λ fault. fault ≡ EngineFault.Range → ⊥) }
+        ensures sound { IfErr result (λ _. Stops P.listing self.old.ledger (Stop.Refused LedgerFault.Full) → ⊥) }
+    {
+        if !self.keeps {
+            return Ok(None);
+        }
+        if is_crowded(self.ledger.journal()) {
+            Ok(Some(End::Full))
+        } else {
+            Err(EngineFault::Broken)
+        }
+    }
+
+    // How a run ends whose journal has as many entries as the limit. Mostly the ledger knows whether it is quiet then; where only moves of marks
+    // are left, the rules are asked.
+    fn cut(
+        &mut self,
+        program: &Program,
+        graph: &Graph,
+        answers: &Answers,
+    ) -> Result<Option<End>, EngineFault>
+        requires program { program.now ≡ P.listing }
+        requires graph { graph.now ≡ P.listing }
+        requires answers { answers.now.sites ≡ P.sites }
+        ensures ended { IfOk result (λ end. MatchOption end (P.keeps ≡ false) (HasEnded P.listing answers.now self.new.ledger)) }
+        ensures range { IfErr result (λ fault. fault ≡ EngineFault.Range → ⊥) }
+        ensures sound { IfErr result (λ _. Stops P.listing self.old.ledger (Stop.Refused LedgerFault.Limit) → ⊥) }
+    {
+        let next = self.ledger.next(graph);
+        if self.ledger.entries() < self.ledger.limit() {
+            return Err(EngineFault::Broken);
+        }
+        self.ledger.is_whole();
+        match next {
+            Next::Quiet => return Ok(Some(End::Quiet)),
+            Next::Ticks(_) => return Ok(Some(End::Limit)),
+            Next::Work => {}
+        }
+        if self.ledger.can_use_rule(graph) {
+            return Ok(Some(End::Limit));
+        }
+        if !self.keeps {
+            return Ok(None);
+        }
+        match is_quiet_at(self.alloc, program, answers, self.ledger.journal()) {
+            Some(true) => Ok(Some(End::Quiet)),
+            Some(false) => Ok(Some(End::Limit)),
+            None => Ok(Some(End::Memory)),
+        }
+    }
+}

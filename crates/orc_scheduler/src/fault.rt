@@ -1,0 +1,45 @@
+//! Why a program was not run to an end.
+
+ghost use Rattle.std.specs.Prelude.{◌≡◌, Some};
+ghost use Rattle.orc_scheduler.specs.Faults.{engine_line, engine_status};
+
+use std::fmt;
+
+/// Why a program was not run to an end.
+#[derive(Clone, Copy, PartialEq, Eq, Debug)]
+pub enum EngineFault {
+    /// The limit is 0, or over the most entries that a journal may have; or there is no worker, or over the most that a run may have.
+    Range,
+    /// Memory was refused before the run began, or for what is told of it.
+    Memory,
+    /// Several workers found nothing to do where something was left. No run is known to end so.
+    Broken,
+    /// The sites answered the call with this number otherwise than the table says, or not when it was due.
+    Site(u64),
+}
+
+// Its code, and the call if it is of one.
+impl fmt::Display for EngineFault {
+    ghost output = { λ f. Some (engine_line f) };
+
+    fn fmt<W: fmt::Write>(&self, f: &mut fmt::Formatter<W>) -> fmt::Result {
+        match *self {
+            EngineFault::Range => write!(f, "E1"),
+            EngineFault::Memory => write!(f, "E2"),
+            EngineFault::Broken => write!(f, "E4"),
+            EngineFault::Site(number) => write!(f, "E5 at call {number}"),
+        }
+    }
+}
+
+impl EngineFault {
+    /// The process's status at this fault.
+    pub fn status(self) -> u8
+        ensures { result ≡ engine_status self }
+    {
+        match self {
+            EngineFault::Memory => 5,
+            _ => 7,
+        }
+    }
+}

@@ -1,0 +1,185 @@
+//! Where no token has its turn: answers that are due, ticks, and what the ledger finds. Calls are answered by their numbers.
+
+ghost use Rattle.std.specs.Prelude.{◌≡◌, ◌≤◌, ◌⊎◌, true, false, IfOk, IfErr, IfSome, MatchOption};
+ghost use Rattle.orc_indexes.specs.Same.{weight};
+ghost use Rattle.orc_ledger_spec.specs.Requests.{IsAsked};
+ghost use Rattle.orc_ledger_spec.specs.declared.results.Request.{Request as Asked};
+ghost use Rattle.orc_site.specs.Time.{due_from};
+ghost use Rattle.orc_tables.specs.PendingCalls.{has_number};
+ghost use Rattle.orc_tables.specs.declared.records.Call.{Call as Its};
+ghost use Rattle.std.specs.VecDeque.{deque_len};
+ghost use Rattle.orc_rules.specs.Nodes.{code, definitions};
+ghost use Rattle.orc_frames.specs.Doing.{is_wait};
+ghost use Rattle.orc_tables.specs.Tokens.{IsHeld};
+ghost use Rattle.orc_ledger_spec.specs.Answers.{IsDueNow, Pends};
+ghost use Rattle.orc_ledger_spec.specs.Doing.{what_of};
+ghost use Rattle.orc_scheduler.specs.Stops.{Advances, NoneIsDue, IsAtWork, Stops};
+
+use crate::scheduler::{Scheduler, Step, Stop};
+use orc_graph::Graph;
+use orc_ledger::{Call, LedgerFault, Next, Program as Naming, ReturnFault, Token};
+use orc_rules::answers::Answers;
+use orc_rules::value::Answer;
+use orc_site::{Due, Request, due_after};
+
+impl<P: Naming> Scheduler<P> {
+    /// No token's turn comes: an answer that is due, by the table, else a tick, else what the ledger finds. It stops where nothing can come next.
+    pub(crate) fn rest(&mut self, graph: &Graph, answers: &Answers) -> Result<(), Stop>
+        requires graph { graph.now ≡ P.listing }
+        requires answers { answers.now.sites ≡ P.sites }
+        ensures advances { IfOk result (λ _. Advances self.old.ledger self.new.ledger) }
+        ensures stops { IfErr result (λ stop. Stops P.listing self.new.ledger stop) }
+    {
+        if self.answer_due()? || self.pass_time(graph)? {
+            return Ok(());
+        }
+        self.recover(graph, answers)
+    }
+
+    // Work is left of which no turn tells. No run has come here yet, but nothing else promises that whoever can move has a turn that comes.
+    #[inline(never)]
+    fn recover(&mut self, graph: &Graph, answers: &Answers) -> Result<(), Stop>
+        requires graph { graph.now ≡ P.listing }
+        requires answers { answers.now.sites ≡ P.sites }
+        requires due { NoneIsDue self.old.ledger }
+        requires work { IsAtWork P.listing self.old.ledger }
+        ensures advances { IfOk result (λ _. Advances self.old.ledger self.new.ledger) }
+        ensures stops { IfErr result (λ stop. Stops P.listing self.new.ledger stop) }
+    {
+        if let Some((slot, token)) = self.ledger.movable(graph) {
+            return self.set_going(graph, answers, slot, token);
+        }
+        match self.ledger.empty_group() {
+            Some(group) => self.close_from(group),
+            None => unreachable!(),
+        }
+    }
+
+    // A token that doesn't wait moves, and its turn comes again.
+    fn set_going(
+        &mut self,
+        graph: &Graph,
+        answers: &Answers,
+        slot: usize,
+        token: Token,
+    ) -> Result<(), Stop>
+        requires graph { graph.now ≡ P.listing }
+        requires answers { answers.now.sites ≡ P.sites }
+        requires held { IsHeld self.old.ledger.slots slot token }
+        requires moves { is_wait (what_of (code P.listing) (definitions P.listing) self.old.ledger token) ≡ false }
+        ensures advances { IfOk result (λ _. Advances self.old.ledger self.new.ledger) }
+        ensures stops { IfErr result (λ stop. Stops P.listing self.new.ledger stop) }
+    {
+        match self.step(graph, answers, slot, token)? {
+            Step::On(next) => self.join_held(next),
+            Step::Done | Step::Asks(_) => Ok(()),
+            // In a program that the scope check took each call of a definition has its arguments.
+            Step::Waits => Err(Stop::Broken),
+        }
+    }
+
+    /// The call that is due with the least number is answered, by the table. Whether there was one.
+    pub(crate) fn answer_due(&mut self) -> Result<bool, Stop>
+        ensures advances { IfOk result (λ answered. answered ≡ true → Advances self.old.ledger self.new.ledger) }
+        ensures none { IfOk result (λ answered. answered ≡ false → (self.new.ledger ≡ self.old.ledger) × NoneIsDue self.old.ledger) }
+        ensures fewer { IfOk result (λ answered. answered ≡ false → deque_len self.new.ready.handles ≤ deque_len self.old.ready.handles) }
+        ensures stops { IfErr result (λ stop. Stops P.listing self.new.ledger stop) }
+    {
+        let Some((call, answer)) = self.ledger.due() else {
+            return Ok(false);
+        };
+        self.answer_pending(call, answer)?;
+        Ok(true)
+    }
+
+    // A call is answered, and the turn of the token on its answer comes.
+    fn answer_pending(&mut self, call: Call, answer: Answer) -> Result<(), Stop>
+        ensures advances { IfOk result (λ _. Advances self.old.ledger self.new.ledger) }
+        ensures stops { IfErr result (λ stop. Pends self.old.ledger call.number call → IsDueNow P.listing P.sites self.old.ledger call.number answer → Stops P.listing self.new.ledger stop) }
+    {
+        if let Some(slot) = self.answer(call, answer)? {
+            self.join_held(slot)?;
+        }
+        Ok(())
+    }
+
+    // A call is answered. Gives the slot of the token on its answer.
+    fn answer(&mut self, call: Call, answer: Answer) -> Result<Option<usize>, Stop>
+        ensures advances { IfOk result (λ _. Advances self.old.ledger self.new.ledger) }
+        ensures stops { IfErr result (λ stop. Pends self.old.ledger call.number call → IsDueNow P.listing P.sites self.old.ledger call.number answer → Stops P.listing self.new.ledger stop) }
+    {
+        match self.ledger.returned(call.number, answer) {
+            Ok(Some(slot)) => Ok(Some(slot)),
+            Ok(None) => {
+                let group = self.ledger.group_of_call(&call);
+                self.close(group)?;
+                Ok(None)
+            }
+            Err(ReturnFault::Limit) => Err(Stop::Refused(LedgerFault::Limit)),
+            Err(ReturnFault::Memory) => Err(Stop::Refused(LedgerFault::Memory)),
+            Err(ReturnFault::Wrong) => Err(Stop::Site(call.number)),
+            Err(ReturnFault::Gone) => Err(Stop::Broken),
+        }
+    }
+
+    /// No token can move and no call is due: a tick to the time at which the next one is. False where another entry comes next. It stops where
+    /// nothing can come next.
+    pub fn pass_time(&mut self, graph: &Graph) -> Result<bool, Stop>
+        requires graph { graph.now ≡ P.listing }
+        ensures advances { IfOk result (λ passed. passed ≡ true → Advances self.old.ledger self.new.ledger) }
+        ensures work { IfOk result (λ passed. passed ≡ false → (self.new.ledger ≡ self.old.ledger) × IsAtWork P.listing self.old.ledger) }
+        ensures stops { IfErr result (λ stop. Stops P.listing self.new.ledger stop) }
+    {
+        let next = self.ledger.next(graph);
+        self.ledger.is_whole();
+        match next {
+            Next::Ticks(time) => match self.ledger.tick(time) {
+                Ok(()) => Ok(true),
+                Err(fault) => Err(Stop::Refused(fault)),
+            },
+            Next::Quiet => Err(Stop::Rests),
+            Next::Work if self.ledger.has_halted() => Err(Stop::Rests),
+            Next::Work => Ok(false),
+        }
+    }
+
+    /// The least number over this one whose call is due.
+    pub fn due_beyond(&mut self, number: u64) -> Option<u64> {
+        self.ledger.due_beyond(number)
+    }
+
+    /// What the call with this number asks, if it pends.
+    pub fn request(&self, number: u64) -> Option<Request>
+        ensures asked { IfSome result (λ r. (q : Asked) × IsAsked P.listing P.sites self.now.ledger number q × (r.number ≡ number) × (r.site ≡ q.site) × (r.args ≡ q.args) × (r.nth ≡ q.nth) × (r.made_at ≡ q.made_at)) }
+    {
+        let asked = self.ledger.request(number)?;
+        if asked.nth < 1 {
+            return None;
+        }
+        Some(Request {
+            number,
+            site: asked.site,
+            args: asked.args.copied(),
+            nth: asked.nth,
+            made_at: asked.made_at,
+        })
+    }
+
+    /// When the call with this number is due, by the table, if it pends.
+    pub fn due_of(&self, number: u64) -> Option<Due>
+        ensures due { MatchOption result (weight (has_number number) self.now.ledger.calls ≡ 0) (λ due. (c : Its) × Pends self.now.ledger number c × (due ≡ due_from c.made_at c.found)) }
+    {
+        let call = self.ledger.pending(number)?;
+        Some(due_after(call.made_at, call.found))
+    }
+
+    /// The call with this number was answered so, if it still pends.
+    pub fn answered(&mut self, number: u64, answer: Answer) -> Result<(), Stop>
+        ensures taken { IfOk result (λ _. (weight (has_number number) self.old.ledger.calls ≡ 0) ⊎ Advances self.old.ledger self.new.ledger) }
+    {
+        match self.ledger.pending(number) {
+            Some(call) => self.answer_pending(call, answer),
+            None => Ok(()),
+        }
+    }
+}

@@ -1,0 +1,24 @@
+//! The scheduler of a run that one worker holds: its ledger, the runnable tokens and those that wait, what comes next where no token moves, how the run ended, and the calls of
+//! definitions that others may run apart.
+//!
+//! What moves and when is chosen here and by who holds the scheduler; that each entry is one of the rules is the ledger's own invariant, whatever is chosen.
+#![tactic(auto)]
+
+mod end;
+mod fault;
+mod held_output;
+mod idle;
+mod offload;
+mod order;
+mod quiet;
+mod ready;
+mod scheduler;
+mod sizes;
+mod sub_runs;
+mod summary;
+mod wait_list;
+
+pub use fault::EngineFault;
+pub use ready::{Handle, Ready};
+pub use scheduler::{Scheduler, Stop, Turn};
+pub use sub_runs::{Came, SubRunJob};

@@ -1,0 +1,657 @@
+//! The records of a run and what its workers do with them: tokens have their turns, calls are made, groups halt.
+
+ghost use Rattle.std.specs.Prelude.{◌≡◌, ◌≤◌, ◌<◌, ◌^◌, ℕ, true, false, IfOk, IfErr, IfSome, OnErr};
+ghost use Rattle.std.specs.VecDeque.{deque_len};
+ghost use Rattle.orc_rules.specs.Nodes.{code, definitions, source};
+ghost use Rattle.orc_rules.specs.Program.{IsProgram};
+ghost use Rattle.orc_frames.specs.Doing.{is_wait};
+ghost use Rattle.orc_tables.specs.Tokens.{IsHeld};
+ghost use Rattle.orc_tables.specs.declared.records.Group.{Group};
+ghost use Rattle.orc_ledger_spec.specs.Doing.{what_of};
+ghost use Rattle.orc_ledger_spec.specs.Halting.{IsGroup};
+ghost use Rattle.orc_ledger_spec.specs.Moves.{IsHindered};
+ghost use Rattle.orc_ledger_spec.specs.Next.{members, numbers_of};
+ghost use Rattle.orc_ledger_spec.specs.Passing.{Passes};
+ghost use Rattle.orc_scheduler.specs.Stops.{Goes, Advances, HasMoved, IsNearer, HasTurned, Stops};
+
+use crate::held_output::Holding;
+use crate::order::Order;
+use crate::ready::{Handle, Ready};
+use crate::wait_list::Waiting;
+use orc_env::StoredScope;
+use orc_graph::{Graph, Node};
+use orc_ledger::{
+    Action, Called, HaltFault, Halted, Ledger, LedgerFault, Passed, Program as Naming, Standing,
+    Token, calls_fit,
+};
+use orc_rules::answers::Answers;
+use orc_rules::limits::MOST_GROUPS;
+use orc_rules::value::Args;
+use std::alloc::Global;
+use std::mem;
+
+/// What a turn has come to.
+#[derive(Clone, Copy)]
+pub enum Turn {
+    Went,
+    /// The call with this number was recorded, and is to be made.
+    Asks(u64),
+    /// No token is left whose turn comes.
+    Rests,
+}
+
+/// Why a run stops.
+#[derive(Clone, Copy)]
+pub enum Stop {
+    /// Nothing can come next.
+    Rests,
+    /// An entry was refused, or memory for what is noted of it.
+    Refused(LedgerFault),
+    Broken,
+    /// The call with this number was answered otherwise than the table says.
+    Site(u64),
+}
+
+/// Whether a token stands at a call of a definition.
+#[inline(always)]
+pub(crate) fn is_at_call(graph: &Graph, token: &Token) -> bool {
+    match token.standing {
+        Standing::At(node, _) => matches!(graph.node(node as usize), Node::Call(_, _)),
+        Standing::On(_) => false,
+    }
+}
+
+/// How a token goes on after a move.
+#[derive(Clone, Copy)]
+pub(crate) enum Step {
+    /// In this slot.
+    On(usize),
+    /// It is gone.
+    Done,
+    /// It stays as it is until something comes for which it waits.
+    Waits,
+    /// The call with this number was recorded in its place, and is to be made.
+    Asks(u64),
+}
+
+/// A run: its ledger, the tokens whose turn comes, and those that wait.
+pub struct Scheduler<P: Naming> {
+    pub(crate) alloc: Global,
+    pub ledger: Ledger<P>,
+    // Whether the ledger keeps its journal.
+    pub(crate) keeps: bool,
+    pub ready: Ready,
+    waiting: Waiting,
+    asks: bool,
+    // Whether a token goes through a `>x>` in one go.
+    goes_through: bool,
+    // Whether a token's turn ends at the next call of a definition, and the one that has waited longest goes first.
+    pub(crate) spreads: bool,
+    // How many moves have led to the token whose turn it is, one after another.
+    moves: u32,
+    // What a part holds back.
+    pub(crate) holding: Holding,
+    // The calls that were cancelled, where others are told of them.
+    gone: Vec<u64>,
+    // Lent to the ledger's calls.
+    scopes: Vec<StoredScope>,
+    cancelled: Vec<u64>,
+    cells: Vec<u64>,
+    args: Args,
+    ghost its_keeping: { keeps ≡ P.keeps },
+}
+
+// Written out, so that each exit of a function that has a run drops it by one call.
+impl<P: Naming> Drop for Scheduler<P> {
+    fn drop(self) {
+        let Scheduler {
+            alloc: _,
+            ledger,
+            keeps: _,
+            ready,
+            waiting,
+            asks: _,
+            goes_through: _,
+            spreads: _,
+            moves: _,
+            holding: _,
+            gone,
+            scopes,
+            cancelled,
+            cells,
+            args,
+        } = self;
+        drop(ledger);
+        drop(ready);
+        drop(waiting);
+        drop(gone);
+        drop(scopes);
+        drop(cancelled);
+        drop(cells);
+        drop(args);
+    }
+}
+
+impl<P: Naming> Scheduler<P> {
+    /// A run that begins, whose ledger `keeps` its journal or doesn't. Where it `asks`, somebody else makes the calls and is told which are cancelled; else the
+    /// table answers them here.
+    pub fn new(alloc: Global, ledger: Ledger<P>, keeps: bool, asks: bool) -> Scheduler<P>
+        requires { keeps ≡ P.keeps }
+    {
+        Scheduler {
+            alloc,
+            ledger,
+            keeps,
+            ready: Ready::new(alloc),
+            waiting: Waiting::new(alloc),
+            asks,
+            goes_through: !asks,
+            spreads: false,
+            moves: 0,
+            holding: Holding::new(),
+            gone: Vec::new(alloc),
+            scopes: Vec::new(alloc),
+            cancelled: Vec::new(alloc),
+            cells: Vec::new(alloc),
+            args: Args::new(),
+        }
+    }
+
+    /// From now on the order with this number says whose turn it is, each turn is one move, and each move an entry: so the moves that the rules leave
+    /// free come in another order.
+    pub fn follow(&mut self, number: u64)
+        ensures ledger { self.new.ledger ≡ self.old.ledger }
+        ensures ready { self.new.ready.handles ≡ self.old.ready.handles }
+    {
+        self.ready.follow(Order::new(number));
+        self.goes_through = false;
+    }
+
+    pub(crate) fn into_ledger(self) -> Ledger<P>
+        ensures { result ≡ self.ledger }
+    {
+        let Scheduler {
+            alloc: _,
+            ledger,
+            keeps: _,
+            ready,
+            waiting,
+            asks: _,
+            goes_through: _,
+            spreads: _,
+            moves: _,
+            holding: _,
+            gone,
+            scopes,
+            cancelled,
+            cells,
+            args,
+        } = self;
+        drop(ready);
+        drop(waiting);
+        drop(gone);
+        drop(scopes);
+        drop(cancelled);
+        drop(cells);
+        drop(args);
+        ledger
+    }
+
+    /// The first token's turn comes.
+    pub fn begin(&mut self) -> Result<(), Stop>
+        ensures same { self.new.ledger ≡ self.old.ledger }
+        ensures memory { IfErr result (λ stop. stop ≡ Stop.Refused LedgerFault.Memory) }
+    {
+        self.join(0, 1)
+    }
+
+    fn join(&mut self, slot: usize, serial: u64) -> Result<(), Stop>
+        ensures same { self.new.ledger ≡ self.old.ledger }
+        ensures memory { IfErr result (λ stop. stop ≡ Stop.Refused LedgerFault.Memory) }
+    {
+        match self.ready.push(Handle {
+            slot,
+            serial,
+            moves: self.moves,
+        }) {
+            Ok(()) => Ok(()),
+            Err(_) => Err(Stop::Refused(LedgerFault::Memory)),
+        }
+    }
+
+    /// A token's turn or, where no token's turn comes, what else comes next. So a run is nearer its end each time: its entries are more, or as many and its
+    /// groups fewer, or as many and the turns that come fewer.
+    pub fn go(&mut self, graph: &Graph, answers: &Answers) -> Result<(), Stop>
+        requires graph { graph.now ≡ P.listing }
+        requires answers { answers.now.sites ≡ P.sites }
+        ensures nearer { IfOk result (λ _. IsNearer self.old.ledger (deque_len self.old.ready.handles) self.new.ledger (deque_len self.new.ready.handles)) }
+        ensures within { self.new.ledger.entries ≤ self.new.ledger.limit }
+        ensures few { deque_len self.new.ready.handles < 2 ^ 64 }
+        ensures stops { IfErr result (λ stop. Stops P.listing self.new.ledger stop) }
+    {
+        let went = match self.turn(graph, answers) {
+            // The table answers each call here.
+            Ok(Turn::Went) | Ok(Turn::Asks(_)) => Ok(()),
+            Ok(Turn::Rests) => self.rest(graph, answers),
+            Err(stop) => Err(stop),
+        };
+        self.ledger.is_whole();
+        let _ready = self.ready.len();
+        went
+    }
+
+    /// A token's turn, or an answer that is due. False where there is neither.
+    pub(crate) fn go_now(&mut self, graph: &Graph, answers: &Answers) -> Result<bool, Stop>
+        requires graph { graph.now ≡ P.listing }
+        requires answers { answers.now.sites ≡ P.sites }
+        ensures nearer { IfOk result (λ went. went ≡ true → IsNearer self.old.ledger (deque_len self.old.ready.handles) self.new.ledger (deque_len self.new.ready.handles)) }
+        ensures within { self.new.ledger.entries ≤ self.new.ledger.limit }
+        ensures few { deque_len self.new.ready.handles < 2 ^ 64 }
+    {
+        let went = match self.turn(graph, answers) {
+            Ok(Turn::Went) | Ok(Turn::Asks(_)) => Ok(true),
+            Ok(Turn::Rests) => Ok(false),
+            Err(stop) => Err(stop),
+        };
+        self.ledger.is_whole();
+        let _ready = self.ready.len();
+        went
+    }
+
+    /// The turn of a token: it moves until it is gone, waits, or has made its moves. Between two rounds that of a call which is due, if the table answers
+    /// it here: else tokens that move on and on would starve it.
+    pub fn turn(&mut self, graph: &Graph, answers: &Answers) -> Result<Turn, Stop>
+        requires graph { graph.now ≡ P.listing }
+        requires answers { answers.now.sites ≡ P.sites }
+        ensures turned { IfOk result (λ turn. HasTurned self.old.ledger (deque_len self.old.ready.handles) self.new.ledger (deque_len self.new.ready.handles) turn) }
+        ensures stops { IfErr result (λ stop. Stops P.listing self.new.ledger stop) }
+    {
+        if self.is_between() {
+            self.sweep();
+            if !self.asks && self.answer_due()? {
+                return Ok(Turn::Went);
+            }
+        }
+        let Some(handle) = self.ready.take(self.spreads) else {
+            return Ok(Turn::Rests);
+        };
+        if !self.is_there(handle) {
+            return Ok(Turn::Went);
+        }
+        let mut slot = handle.slot;
+        for moved in 0..self.ready.length() {
+            self.moves = handle.moves.saturating_add(moved);
+            let Some(token) = self.ledger.held(slot) else {
+                return Ok(Turn::Went);
+            };
+            if moved > 0 && self.spreads && is_at_call(graph, &token) {
+                break;
+            }
+            if self.is_held_back(graph, &token) {
+                self.holding.keep(slot);
+                return Ok(Turn::Went);
+            }
+            match self.step(graph, answers, slot, token)? {
+                Step::On(next) => slot = next,
+                Step::Done | Step::Waits => return Ok(Turn::Went),
+                Step::Asks(number) => return Ok(Turn::Asks(number)),
+            }
+        }
+        self.join_held(slot)?;
+        Ok(Turn::Went)
+    }
+
+    // Whether the token would publish a value of the run next, which is held back.
+    #[inline(always)]
+    fn is_held_back(&self, graph: &Graph, token: &Token) -> bool
+        requires graph { graph.now ≡ P.listing }
+    {
+        self.holding.is_on()
+            && token.step == 0
+            && matches!(self.ledger.what(graph, token), Action::Publish(_))
+    }
+
+    // Tokens that are gone wait no more before the one that has waited longest: many may go at once, and their turns would take all rounds.
+    fn sweep(&mut self)
+        ensures same { self.new.ledger ≡ self.old.ledger }
+        ensures fewer { deque_len self.new.ready.handles ≤ deque_len self.old.ready.handles }
+    {
+        for _ in 0..self.ready.len() {
+            match self.ready.oldest() {
+                Some(handle) if !self.is_there(handle) => self.ready.drop_oldest(),
+                _ => return,
+            }
+        }
+    }
+
+    // The token of a handle, if it is there.
+    #[inline(always)]
+    pub(crate) fn token_of(&self, handle: Handle) -> Option<Token>
+        ensures { IfSome result (λ token. IsHeld self.now.ledger.slots handle.slot token) }
+    {
+        if handle.serial < 1 {
+            return None;
+        }
+        self.ledger.token(handle.slot, handle.serial)
+    }
+
+    // Whether the slot still holds the token.
+    #[inline(always)]
+    fn is_there(&self, handle: Handle) -> bool {
+        self.token_of(handle).is_some()
+    }
+
+    /// The turn of the token in a slot comes.
+    #[inline(always)]
+    pub(crate) fn join_held(&mut self, slot: usize) -> Result<(), Stop>
+        ensures same { self.new.ledger ≡ self.old.ledger }
+        ensures memory { IfErr result (λ stop. stop ≡ Stop.Refused LedgerFault.Memory) }
+    {
+        match self.ledger.held(slot) {
+            Some(token) => self.join(slot, token.serial),
+            None => Ok(()),
+        }
+    }
+
+    /// The turn of the token in a slot comes, if there is one, to which so many moves have led.
+    pub(crate) fn join_after(&mut self, slot: usize, moves: u32) -> Result<(), Stop>
+        ensures same { self.new.ledger ≡ self.old.ledger }
+    {
+        self.moves = moves;
+        self.join_held(slot)
+    }
+
+    /// One move of a token.
+    #[inline(always)]
+    pub(crate) fn step(
+        &mut self,
+        graph: &Graph,
+        answers: &Answers,
+        slot: usize,
+        token: Token,
+    ) -> Result<Step, Stop>
+        requires graph { graph.now ≡ P.listing }
+        requires answers { answers.now.sites ≡ P.sites }
+        requires held { IsHeld self.old.ledger.slots slot token }
+        ensures moved { IfOk result (λ step. HasMoved self.old.ledger (deque_len self.old.ready.handles) self.new.ledger (deque_len self.new.ready.handles) step) }
+        ensures waits { IfOk result (λ step. step ≡ Step.Waits → IsProgram (definitions P.listing) (source P.listing) → is_wait (what_of (code P.listing) (definitions P.listing) self.old.ledger token) ≡ true) }
+        ensures stops { IfErr result (λ stop. Stops P.listing self.new.ledger stop) }
+    {
+        // Room for a token that comes beside it, before anything changes.
+        if self.ready.reserve().is_err() {
+            return Err(Stop::Refused(LedgerFault::Memory));
+        }
+        calls_fit(&self.ledger);
+        match self.pass(graph, answers, slot, token) {
+            Ok(Passed::On) => Ok(Step::On(slot)),
+            Ok(Passed::Forked(other)) => self.part(slot, other),
+            Ok(Passed::Sent(group)) => {
+                self.close(group)?;
+                Ok(Step::On(slot))
+            }
+            Ok(Passed::Gone(group)) => {
+                self.close(group)?;
+                Ok(Step::Done)
+            }
+            Ok(Passed::Bound(cell, group)) => {
+                self.note_cancelled()?;
+                self.wake(cell)?;
+                self.close(group)?;
+                Ok(Step::Done)
+            }
+            Ok(Passed::Calls) => self.call(graph, answers, slot, token),
+            Ok(Passed::Waits) => {
+                self.wait(graph, slot)?;
+                Ok(Step::Waits)
+            }
+            Ok(Passed::Pends(_)) => {
+                self.holding.give_up();
+                Ok(Step::Done)
+            }
+            Ok(Passed::Halted(group)) => {
+                self.close(group)?;
+                Ok(Step::Done)
+            }
+            Ok(Passed::Answered) => Ok(Step::On(slot)),
+            Ok(Passed::Through) => Ok(Step::On(slot)),
+            Err(fault) => {
+                self.ledger.full_is_crowded();
+                Err(Stop::Refused(fault))
+            }
+        }
+    }
+
+    // A token moves: once, or through a `>x>` in one go, but where somebody else makes the calls or each move is to be an entry.
+    #[inline(always)]
+    fn pass(
+        &mut self,
+        graph: &Graph,
+        answers: &Answers,
+        slot: usize,
+        token: Token,
+    ) -> Result<Passed, LedgerFault>
+        requires graph { graph.now ≡ P.listing }
+        requires answers { answers.now.sites ≡ P.sites }
+        requires held { IsHeld self.old.ledger.slots slot token }
+        ensures done { IfOk result (λ p. Passes P.listing P.sites self.old.ledger slot token p self.new.cancelled.items self.new.ledger) }
+        ensures refused { OnErr result (self.new.ledger ≡ self.old.ledger) }
+        ensures why { IfErr result (λ fault. IsHindered P.listing self.old.ledger token fault) }
+        ensures ready { self.new.ready ≡ self.old.ready }
+    {
+        if self.goes_through {
+            if let Standing::At(node, scope) = token.standing {
+                if let Node::Seq(left, name, right) = graph.node(node as usize) {
+                    let args = &mut self.args;
+                    return self.ledger.feed_through(
+                        graph, answers, slot, token, scope, left, name, right, args,
+                    );
+                }
+            }
+        }
+        match self
+            .ledger
+            .advance(graph, slot, token, &mut self.scopes, &mut self.cancelled)
+        {
+            Ok(moved) => Ok(moved.passed()),
+            Err(fault) => Err(fault),
+        }
+    }
+
+    // Two tokens stand in these slots: one goes on, and the turn of the other one comes. The left side of `f | g` goes on; but the right side of a
+    // pruning, so that its group may be gone before the left side opens more.
+    #[inline(always)]
+    fn part(&mut self, left: usize, right: usize) -> Result<Step, Stop>
+        ensures same { self.new.ledger ≡ self.old.ledger }
+        ensures on { IfOk result (λ step. (slot : ℕ) × (step ≡ Step.On slot)) }
+        ensures memory { IfErr result (λ stop. stop ≡ Stop.Refused LedgerFault.Memory) }
+    {
+        if self.is_beside(left, right) {
+            self.join_held(right)?;
+            Ok(Step::On(left))
+        } else {
+            self.join_held(left)?;
+            Ok(Step::On(right))
+        }
+    }
+
+    // Whether the tokens in two slots are in one group.
+    #[inline(always)]
+    fn is_beside(&self, left: usize, right: usize) -> bool {
+        match (self.ledger.held(left), self.ledger.held(right)) {
+            (Some(one), Some(other)) => {
+                self.ledger.group_of_token(&one) == self.ledger.group_of_token(&other)
+            }
+            _ => true,
+        }
+    }
+
+    // A call of a site. Where the table answers it here and at once, the token on its answer goes on.
+    #[inline(always)]
+    fn call(
+        &mut self,
+        graph: &Graph,
+        answers: &Answers,
+        slot: usize,
+        token: Token,
+    ) -> Result<Step, Stop>
+        requires graph { graph.now ≡ P.listing }
+        requires answers { answers.now.sites ≡ P.sites }
+        requires held { IsHeld self.old.ledger.slots slot token }
+        requires calls { what_of (code P.listing) (definitions P.listing) self.old.ledger token ≡ Action.Call }
+        ensures moved { IfOk result (λ step. Advances self.old.ledger self.new.ledger × (step ≡ Step.Waits → ⊥)) }
+        ensures stops { IfErr result (λ stop. Stops P.listing self.new.ledger stop) }
+    {
+        if self.asks {
+            return match self
+                .ledger
+                .call(graph, answers, slot, token, &mut self.args)
+            {
+                Ok(call) => Ok(Step::Asks(call.number)),
+                Err(fault) => {
+                    self.ledger.full_is_crowded();
+                    Err(Stop::Refused(fault))
+                }
+            };
+        }
+        match self
+            .ledger
+            .call_through(graph, answers, slot, token, &mut self.args)
+        {
+            Ok(Called::Answered(_)) => Ok(Step::On(slot)),
+            Ok(Called::Halted(group)) => {
+                self.close(group)?;
+                Ok(Step::Done)
+            }
+            Ok(Called::Pends(_)) => {
+                self.holding.give_up();
+                Ok(Step::Done)
+            }
+            Err(fault) => {
+                self.ledger.full_is_crowded();
+                Err(Stop::Refused(fault))
+            }
+        }
+    }
+
+    // The token in a slot waits for each of its cells.
+    fn wait(&mut self, graph: &Graph, slot: usize) -> Result<(), Stop>
+        requires graph { graph.now ≡ P.listing }
+        ensures same { self.new.ledger ≡ self.old.ledger }
+        ensures fewer { deque_len self.new.ready.handles ≤ deque_len self.old.ready.handles }
+        ensures memory { IfErr result (λ stop. stop ≡ Stop.Refused LedgerFault.Memory) }
+    {
+        let Some(token) = self.ledger.held(slot) else {
+            return Ok(());
+        };
+        if self
+            .ledger
+            .park(graph, slot, token, &mut self.cells)
+            .is_err()
+        {
+            return Err(Stop::Refused(LedgerFault::Memory));
+        }
+        for cell in &self.cells {
+            let handle = Handle {
+                slot,
+                serial: token.serial,
+                moves: self.moves,
+            };
+            if self.waiting.add(*cell, handle).is_err() {
+                return Err(Stop::Refused(LedgerFault::Memory));
+            }
+        }
+        Ok(())
+    }
+
+    fn wake(&mut self, cell: u64) -> Result<(), Stop>
+        ensures same { self.new.ledger ≡ self.old.ledger }
+        ensures memory { IfErr result (λ stop. stop ≡ Stop.Refused LedgerFault.Memory) }
+    {
+        match self.waiting.wake(cell, &mut self.ready) {
+            Ok(()) => Ok(()),
+            Err(_) => Err(Stop::Refused(LedgerFault::Memory)),
+        }
+    }
+
+    /// A group that has no members any more ends, and so do those round it.
+    #[inline(always)]
+    pub(crate) fn close(&mut self, group: u32) -> Result<(), Stop>
+        ensures goes { IfOk result (λ _. Goes self.old.ledger self.new.ledger) }
+        ensures stops { IfErr result (λ stop. Stops P.listing self.new.ledger stop) }
+    {
+        if group == 0 || !self.ledger.is_empty(group) {
+            return Ok(());
+        }
+        self.close_from(group)
+    }
+
+    /// The group ends if it is open and has no members, and then so do those round it.
+    #[inline(never)]
+    pub(crate) fn close_from(&mut self, group: u32) -> Result<(), Stop>
+        ensures goes { IfOk result (λ _. Goes self.old.ledger self.new.ledger) }
+        ensures advances { IfOk result (λ _. (g : Group) → IsGroup self.old.ledger group g → members (numbers_of self.old.ledger) self.old.ledger group ≡ 0 → Advances self.old.ledger self.new.ledger) }
+        ensures stops { IfErr result (λ stop. Stops P.listing self.new.ledger stop) }
+    {
+        let mut number = group;
+        // Groups are nested at most so deep.
+        for _nested in 0..MOST_GROUPS {
+            if !self.ledger.is_empty(number) {
+                return Ok(());
+            }
+            let halted = match self.ledger.halt(number) {
+                Ok(halted) => halted,
+                Err(HaltFault::Refused(fault)) => {
+                    self.ledger.full_is_crowded();
+                    return Err(Stop::Refused(fault));
+                }
+                // The program's own group isn't open.
+                Err(HaltFault::Gone) => return Ok(()),
+                Err(HaltFault::Live) => unreachable!(),
+            };
+            match halted {
+                Halted::Lost(cell, parent) => {
+                    self.wake(cell)?;
+                    number = parent;
+                }
+                Halted::Resumed(slot) => return self.join_held(slot),
+                Halted::Closed(parent) => number = parent,
+            }
+        }
+        Ok(())
+    }
+
+    /// Whether it is between two rounds of turns: calls that are due have their turn then.
+    pub fn is_between(&self) -> bool {
+        self.ready.is_between()
+    }
+
+    /// How many tokens have a turn that comes.
+    pub fn ready(&self) -> usize {
+        self.ready.len()
+    }
+
+    /// How many entries there are, cancels not counted.
+    pub fn entries(&self) -> usize {
+        self.ledger.entries()
+    }
+
+    /// The time of the run.
+    pub fn time(&self) -> u64 {
+        self.ledger.time()
+    }
+
+    fn note_cancelled(&mut self) -> Result<(), Stop>
+        ensures same { self.new.ledger ≡ self.old.ledger }
+        ensures memory { IfErr result (λ stop. stop ≡ Stop.Refused LedgerFault.Memory) }
+    {
+        if self.asks && self.gone.extend_from_slice(&self.cancelled).is_err() {
+            return Err(Stop::Refused(LedgerFault::Memory));
+        }
+        Ok(())
+    }
+
+    /// Exchanges the numbers of the calls that were cancelled since the last time for those in `numbers`, of which there are none.
+    pub fn take_cancelled(&mut self, numbers: &mut Vec<u64>) {
+        mem::swap(&mut self.gone, numbers);
+    }
+}

@@ -1,0 +1,165 @@
+//! Calls of definitions whose runs are made apart: each by a scheduler and a ledger of its own, on whichever thread it is.
+
+ghost use Rattle.std.specs.Prelude.{◌≡◌, ◌≤◌, IfSome};
+ghost use Rattle.orc_rules.specs.declared.limits.TheConstants.{MOST_ENTRIES};
+ghost use Rattle.orc_rules.specs.Nodes.{definitions, source};
+ghost use Rattle.orc_ledger_spec.specs.Parts.{call_of};
+
+use crate::ready::Handle;
+use crate::scheduler::{Scheduler, Stop};
+use orc_graph::Graph;
+use orc_ledger::{Ledger, LedgerFault, Program as Naming, SubRun, SubRunTask};
+use orc_rules::answers::Answers;
+use std::alloc::Global;
+use std::marker::Brand;
+use std::mem;
+
+/// What came of a call's run.
+#[derive(Drop)]
+pub enum Came<P: Naming> {
+    /// Nothing: nobody has run it, it can't stand for the call, or memory was refused.
+    Nothing,
+    /// It has more entries than it may have.
+    Long,
+    /// It is over, or has come to one value.
+    Over(SubRun<P>),
+}
+
+/// A call at which a token stands, and what came of its run.
+#[derive(Drop)]
+pub struct SubRunJob<P: Naming> {
+    handle: Handle,
+    task: SubRunTask,
+    // Whether it races others.
+    races: bool,
+    came: Came<P>,
+}
+
+impl<P: Naming> SubRunJob<P> {
+    /// A job that nobody has done.
+    pub(crate) fn new(handle: Handle, task: SubRunTask, races: bool) -> SubRunJob<P> {
+        SubRunJob {
+            handle,
+            task,
+            races,
+            came: Came::Nothing,
+        }
+    }
+
+    /// The token that stands at the call.
+    pub fn handle(&self) -> Handle {
+        self.handle
+    }
+
+    /// What came of its run.
+    pub fn came(&self) -> &Came<P> {
+        &self.came
+    }
+
+    /// Whether it races others, and has come to something: they may be in vain then.
+    pub fn has_won(&self) -> bool {
+        self.races
+            && match &self.came {
+                Came::Over(part) => part.has_value(),
+                Came::Long => false,
+                Came::Nothing => true,
+            }
+    }
+
+    /// What came of its run, which the job has no more.
+    pub fn take(&mut self) -> Came<P> {
+        mem::replace(&mut self.came, Came::Nothing)
+    }
+
+    /// Runs it apart, with at most so many entries; its journal is kept where that of the run is.
+    pub fn run(
+        &mut self,
+        alloc: Global,
+        graph: &Graph,
+        answers: &Answers,
+        keeps: bool,
+        limit: usize,
+    )
+        requires keeps { keeps ≡ P.keeps }
+        requires limit { (1 ≤ limit) × (limit ≤ MOST_ENTRIES) }
+        requires graph { graph.now ≡ P.listing }
+        requires answers { answers.now.sites ≡ P.sites }
+    {
+        self.came = came_of(alloc, graph, answers, keeps, self.task.copied(), limit);
+    }
+}
+
+// What comes of a task's run.
+fn came_of<P: Naming>(
+    alloc: Global,
+    graph: &Graph,
+    answers: &Answers,
+    keeps: bool,
+    task: SubRunTask,
+    limit: usize,
+) -> Came<P>
+    requires keeps { keeps ≡ P.keeps }
+    requires limit { (1 ≤ limit) × (limit ≤ MOST_ENTRIES) }
+    requires graph { graph.now ≡ P.listing }
+    requires answers { answers.now.sites ≡ P.sites }
+{
+    let Ok(own) = graph.for_call(alloc, task.definition, task.args.as_slice()) else {
+        return Came::Nothing;
+    };
+    run_apart::<Brand, P>(alloc, &own, answers, keeps, task, limit)
+}
+
+fn run_apart<Q: Naming, P: Naming>(
+    alloc: Global,
+    graph: &Graph,
+    answers: &Answers,
+    keeps: bool,
+    task: SubRunTask,
+    limit: usize,
+) -> Came<P>
+    requires keeps { keeps ≡ P.keeps }
+    requires limit { (1 ≤ limit) × (limit ≤ MOST_ENTRIES) }
+    requires named { limit ≡ Q.limit }
+    requires kept { Q.keeps ≡ P.keeps }
+    requires graph { graph.now ≡ Q.listing }
+    requires answers { answers.now.sites ≡ Q.sites }
+    requires sites { Q.sites ≡ P.sites }
+    requires definitions { definitions Q.listing ≡ definitions P.listing }
+    requires call { source Q.listing ≡ call_of task.definition task.args }
+{
+    let Ok(ledger) = Ledger::<Q>::begin(alloc, keeps, limit, graph.root()) else {
+        return Came::Nothing;
+    };
+    let mut scheduler = Scheduler::new(alloc, ledger, keeps, false);
+    if !task.is_outermost {
+        scheduler.holding.begin();
+    }
+    if run_until_cut(&mut scheduler, graph, answers) {
+        return Came::Long;
+    }
+    let last = scheduler.holding.last();
+    match scheduler
+        .into_ledger()
+        .into_sub_run::<P>(graph, answers, task, last)
+    {
+        Some(part) => Came::Over(part),
+        None => Came::Nothing,
+    }
+}
+
+// Turns until nothing can be done at once, the run stops, or nothing can come of it. Whether its limit has stopped it.
+fn run_until_cut<Q: Naming>(scheduler: &mut Scheduler<Q>, graph: &Graph, answers: &Answers) -> bool
+    requires graph { graph.now ≡ Q.listing }
+    requires answers { answers.now.sites ≡ Q.sites }
+{
+    if scheduler.begin().is_err() {
+        return false;
+    }
+    loop {
+        match scheduler.go_now(graph, answers) {
+            Ok(true) if !scheduler.holding.is_vain() => {}
+            Err(Stop::Refused(LedgerFault::Limit)) => return true,
+            Ok(_) | Err(_) => return false,
+        }
+    }
+}

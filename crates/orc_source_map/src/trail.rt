@@ -1,0 +1,277 @@
+//! Where the tokens of a run stand on its program's sketch.
+
+use crate::sketch::{Shape, Sketch};
+use orc_rules::entry::Entry;
+use std::alloc::{AllocError, Global};
+use std::collections::HashMap;
+
+/// Where a step leads in.
+#[derive(Clone, Copy)]
+pub enum Way {
+    /// The left side of a `>x>`, whose right side stands at a spot.
+    SeqLeft(usize),
+    /// The right side of the pruning of a cell.
+    PruneRight(u64),
+    /// The left side of the otherwise of a mark.
+    OtherwiseLeft(u64),
+    /// The right side of the otherwise of a mark.
+    Then(u64),
+}
+
+/// A step inwards. Steps are counted from 1; 0 is the whole.
+#[derive(Clone, Copy)]
+pub struct Step {
+    pub way: Way,
+    /// The step round it.
+    pub outer: usize,
+    /// The innermost step at or round it that leads into no `>x>`.
+    pub home: usize,
+}
+
+/// A token: its spot, or the call on whose answer it stands; and its step.
+#[derive(Clone, Copy)]
+pub struct Token {
+    pub spot: Option<usize>,
+    pub call: Option<u64>,
+    pub step: usize,
+}
+
+// An otherwise that was entered: the spot of its right side, and the step round it.
+#[derive(Clone, Copy)]
+struct Entered {
+    right: usize,
+    outer: usize,
+}
+
+/// Where the tokens of a run stand. Of a token that was dropped with its side nothing is noted: it is kept where it stood.
+pub struct Trail {
+    tokens: HashMap<u64, Token>,
+    others: HashMap<u64, Entered>,
+    // The step of each call that is out.
+    calls: HashMap<u64, usize>,
+    steps: Vec<Step>,
+}
+
+impl Drop for Trail {
+    fn drop(self) {
+        let Trail {
+            tokens: _,
+            others: _,
+            calls: _,
+            steps: _,
+        } = self;
+    }
+}
+
+impl Trail {
+    /// The beginning of a run: token 1 at the main expression. The error is refused memory.
+    pub fn new(alloc: Global, sketch: &Sketch) -> Result<Trail, AllocError> {
+        let mut trail = Trail {
+            tokens: HashMap::new(alloc),
+            others: HashMap::new(alloc),
+            calls: HashMap::new(alloc),
+            steps: Vec::new(alloc),
+        };
+        trail.put(1, sketch.main(), 0)?;
+        Ok(trail)
+    }
+
+    /// The token of a mark. None where there is none.
+    pub fn token(&self, mark: u64) -> Option<Token> {
+        self.tokens.get(&mark).copied()
+    }
+
+    /// Whether a mark is that of an otherwise whose right side hasn't begun.
+    pub fn is_entered(&self, mark: u64) -> bool {
+        self.others.contains_key(&mark)
+    }
+
+    /// The step of this number. None for the whole.
+    pub fn step(&self, number: usize) -> Option<Step> {
+        self.steps.get(number.checked_sub(1)?).copied()
+    }
+
+    /// The steps, step 1 first.
+    pub fn steps(&self) -> &[Step] {
+        self.steps.as_slice()
+    }
+
+    /// What stands under the token of a mark; a leaf where there is none, or where it stands on a call's answer.
+    pub fn shape<'a>(&self, sketch: &Sketch<'a>, mark: u64) -> Shape<'a> {
+        match self.token(mark) {
+            Some(
+                Token {
+                    spot: Some(spot),
+                    ..
+                },
+            ) => sketch.shape(spot),
+            _ => Shape::Leaf,
+        }
+    }
+
+    /// Follows the next entry of a run. The error is refused memory; the trail is of no use then.
+    pub fn follow(&mut self, sketch: &Sketch, entry: &Entry) -> Result<(), AllocError> {
+        match entry {
+            Entry::Fork(s, a, b) => self.fork(sketch, *s, *a, *b),
+            Entry::Seq(s, a) => self.enter_left(sketch, *s, *a),
+            Entry::Other(s, a) => self.enter_first(sketch, *s, *a),
+            Entry::Open(s, c, a, b) => self.open(sketch, *s, *c, *a, *b),
+            Entry::Def(s, a) => self.define(sketch, *s, *a),
+            Entry::Send(s, a, _) => self.send(*s, *a),
+            Entry::Call(s, k, _, _) => self.call(*s, *k),
+            Entry::Return(k, a, _) => self.answer(*k, *a),
+            Entry::ReturnHalt(k) | Entry::Cancel(k) => {
+                let _step = self.calls.remove(k);
+                Ok(())
+            }
+            Entry::Right(s, a) => self.resume(*s, *a),
+            Entry::End(s) | Entry::Void(s) | Entry::Bind(s, _, _) | Entry::Publish(s, _) => {
+                let _gone = self.tokens.remove(s);
+                Ok(())
+            }
+            Entry::Lost(_) | Entry::Tick(_) => Ok(()),
+        }
+    }
+
+    fn fork(
+        &mut self,
+        sketch: &Sketch,
+        mark: u64,
+        first: u64,
+        second: u64,
+    ) -> Result<(), AllocError> {
+        let shape = self.shape(sketch, mark);
+        let step = self.take(mark);
+        if let Shape::Par(left, right) = shape {
+            self.put(first, left, step)?;
+            self.put(second, right, step)?;
+        }
+        Ok(())
+    }
+
+    fn enter_left(&mut self, sketch: &Sketch, mark: u64, first: u64) -> Result<(), AllocError> {
+        let shape = self.shape(sketch, mark);
+        let step = self.take(mark);
+        if let Shape::Seq(left, right) = shape {
+            let inner = self.add_step(Way::SeqLeft(right), step)?;
+            self.put(first, left, inner)?;
+        }
+        Ok(())
+    }
+
+    fn enter_first(&mut self, sketch: &Sketch, mark: u64, first: u64) -> Result<(), AllocError> {
+        let shape = self.shape(sketch, mark);
+        let outer = self.take(mark);
+        if let Shape::Other(left, right, _) = shape {
+            self.others.insert(mark, Entered { right, outer })?;
+            let inner = self.add_step(Way::OtherwiseLeft(mark), outer)?;
+            self.put(first, left, inner)?;
+        }
+        Ok(())
+    }
+
+    fn open(
+        &mut self,
+        sketch: &Sketch,
+        mark: u64,
+        cell: u64,
+        first: u64,
+        second: u64,
+    ) -> Result<(), AllocError> {
+        let shape = self.shape(sketch, mark);
+        let step = self.take(mark);
+        if let Shape::Prune(left, right, _) = shape {
+            let inner = self.add_step(Way::PruneRight(cell), step)?;
+            self.put(first, left, step)?;
+            self.put(second, right, inner)?;
+        }
+        Ok(())
+    }
+
+    fn define(&mut self, sketch: &Sketch, mark: u64, first: u64) -> Result<(), AllocError> {
+        let shape = self.shape(sketch, mark);
+        let step = self.take(mark);
+        if let Shape::Call(Some(definition)) = shape {
+            self.put(first, sketch.body(definition), step)?;
+        }
+        Ok(())
+    }
+
+    fn send(&mut self, mark: u64, first: u64) -> Result<(), AllocError> {
+        let step = self.take(mark);
+        if let Some((right, outer)) = self.taker(step) {
+            self.put(first, right, outer)?;
+        }
+        Ok(())
+    }
+
+    fn call(&mut self, mark: u64, number: u64) -> Result<(), AllocError> {
+        let step = self.take(mark);
+        self.calls.insert(number, step)?;
+        Ok(())
+    }
+
+    fn answer(&mut self, call: u64, first: u64) -> Result<(), AllocError> {
+        if let Some(step) = self.calls.remove(&call) {
+            let token = Token {
+                spot: None,
+                call: Some(call),
+                step,
+            };
+            self.tokens.insert(first, token)?;
+        }
+        Ok(())
+    }
+
+    // The left side of an otherwise has halted: a token stands on the right one.
+    fn resume(&mut self, mark: u64, first: u64) -> Result<(), AllocError> {
+        if let Some(entered) = self.others.remove(&mark) {
+            let inner = self.add_step(Way::Then(mark), entered.outer)?;
+            self.put(first, entered.right, inner)?;
+        }
+        Ok(())
+    }
+
+    // Where what is published in a step goes on: the right side of the nearest `>x>` round it, and the step round that.
+    fn taker(&self, from: usize) -> Option<(usize, usize)> {
+        let mut number = from;
+        for _step in 0..self.steps.len() {
+            let step = self.step(number)?;
+            match step.way {
+                Way::SeqLeft(right) => return Some((right, step.outer)),
+                Way::PruneRight(_) => return None,
+                Way::OtherwiseLeft(_) | Way::Then(_) => number = step.outer,
+            }
+        }
+        None
+    }
+
+    fn put(&mut self, mark: u64, spot: usize, step: usize) -> Result<(), AllocError> {
+        let token = Token {
+            spot: Some(spot),
+            call: None,
+            step,
+        };
+        self.tokens.insert(mark, token)?;
+        Ok(())
+    }
+
+    // A token goes: its step.
+    fn take(&mut self, mark: u64) -> usize {
+        match self.tokens.remove(&mark) {
+            Some(token) => token.step,
+            None => 0,
+        }
+    }
+
+    // A step inwards: its number.
+    fn add_step(&mut self, way: Way, outer: usize) -> Result<usize, AllocError> {
+        let number = self.steps.len().saturating_add(1);
+        let home = match way {
+            Way::SeqLeft(_) => self.step(outer).map_or(0, |step| step.home),
+            _ => number,
+        };
+        self.steps.push(Step { way, outer, home })?;
+        Ok(number)
+    }
+}

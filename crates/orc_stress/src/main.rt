@@ -1,0 +1,205 @@
+//! Runs programs on many workers again and again, and tells how many of the runs were odd: ended otherwise than they have to, or left a journal
+//! that isn't accepted.
+//!
+//!     orc_stress ROUNDS                       each program so often, on 2, 4 and 16 workers
+//!     orc_stress NAME WORKERS [ROUNDS]        one of them on so many workers, once where nothing is said; also `due` and `asks`
+#![tactic(auto)]
+
+mod gates;
+mod storm;
+
+use gates::{Sleepy, Slow, Turnstile};
+use orc_engine::EngineFault;
+use orc_load::Loaded;
+use orc_outcome::Played;
+use orc_site::{Gate, Scripted};
+use std::alloc::Global;
+use std::sync::Wait;
+use std::thread::Threads;
+use std::time::Clock;
+use std::{env, io};
+use storm::{ASKS, DUE, STORMS, Storm, run};
+
+/// How often each program is run where no argument says so.
+const ROUNDS: u32 = 3;
+
+// Whether a run ended as it has to, and its journal is accepted.
+fn is_right(alloc: Global, storm: &Storm, played: Result<Played, EngineFault>) -> bool {
+    match played {
+        Ok(played) => storm.is_right(&played) && storm.is_accepted(alloc, &played),
+        Err(_) => false,
+    }
+}
+
+// A run by sites that the table answers.
+fn run_scripted<R: Threads + Wait + Sync, G: Gate + Sync>(
+    rt: &R,
+    alloc: Global,
+    loaded: &Loaded,
+    gate: &G,
+    workers: usize,
+) -> Result<Played, EngineFault> {
+    let sites = Scripted::new(&loaded.answers);
+    run(rt, alloc, loaded, &sites, gate, workers)
+}
+
+// How many runs of a program on so many workers are odd.
+fn count_odd<R: Threads + Wait + Sync>(
+    rt: &R,
+    alloc: Global,
+    storm: &Storm,
+    workers: usize,
+    rounds: u32,
+) -> u32 {
+    let Ok(loaded) = storm.load(alloc) else {
+        return rounds;
+    };
+    let mut odd = 0u32;
+    for _ in 0..rounds {
+        let played = run_scripted(rt, alloc, &loaded, &Slow, workers);
+        if !is_right(alloc, storm, played) {
+            odd = odd.saturating_add(1);
+        }
+    }
+    odd
+}
+
+// How many runs of a program are odd, in which each of so many workers holds a call until all do.
+fn count_held<R: Threads + Wait + Sync>(
+    rt: &R,
+    alloc: Global,
+    storm: &Storm,
+    workers: usize,
+    rounds: u32,
+) -> u32 {
+    let Ok(loaded) = storm.load(alloc) else {
+        return rounds;
+    };
+    let mut odd = 0u32;
+    for _ in 0..rounds {
+        let gate = Turnstile::new(workers as u64);
+        let played = run_scripted(rt, alloc, &loaded, &gate, workers);
+        if !is_right(alloc, storm, played) || !gate.held_all() {
+            odd = odd.saturating_add(1);
+        }
+    }
+    odd
+}
+
+// Every program so often.
+fn run_all<R: Threads + Wait + Sync + Print>(rt: &R, alloc: Global, rounds: u32) -> io::Result<()> {
+    for storm in &STORMS {
+        for workers in [2, 4, 16] {
+            let odd = count_odd(rt, alloc, storm, workers, rounds);
+            println!(rt;
+                "{} on {workers} workers, {rounds} runs: {odd} odd",
+                storm.name
+            )?;
+        }
+    }
+    let held = [
+        (2, b"Add(1, 2) | Add(3, 4)".as_slice()),
+        (
+            4,
+            b"Add(1, 2) | Add(3, 4) | (Add(5, 6) | Add(7, 8))".as_slice(),
+        ),
+        (
+            8,
+            b"(Add(1, 2) | Add(3, 4) | (Add(5, 6) | Add(7, 8))) | ((Add(1, 2) | Add(3, 4)) | (Add(5, 6) | Add(7, 8)))".as_slice(),
+        ),
+        (
+            16,
+            b"def four(n) = Add(n, 1) | Add(n, 2) | (Add(n, 3) | Add(n, 4))\nfour(0) | four(4) | (four(8) | four(12))".as_slice(),
+        ),
+    ];
+    for (workers, source) in held {
+        let odd = count_held(rt, alloc, &Storm::held(source, workers), workers, rounds);
+        println!(rt; "held on {workers} workers, {rounds} runs: {odd} odd")?;
+    }
+    Ok(())
+}
+
+// What a run has come to. A check that was refused memory is made again.
+fn tell<R: Print>(
+    rt: &R,
+    alloc: Global,
+    storm: &Storm,
+    played: Result<Played, EngineFault>,
+) -> io::Result<()> {
+    match played {
+        Ok(played) => {
+            let is_accepted = storm.is_accepted(alloc, &played)
+                || storm.is_accepted(alloc, &played);
+            println!(rt;
+                "{:?}, as it has to: {}, accepted: {is_accepted}",
+                played.summary.end,
+                storm.is_right(&played)
+            )
+        }
+        Err(fault) => println!(rt; "fault {fault:?}"),
+    }
+}
+
+// One program so often on so many workers.
+fn run_one<R: Threads + Wait + Sync + Print + Clock>(
+    rt: &R,
+    alloc: Global,
+    storm: &Storm,
+    workers: usize,
+    rounds: u32,
+) -> io::Result<()> {
+    for _ in 0..rounds {
+        let Ok(loaded) = storm.load(alloc) else {
+            println!(rt; "fault Memory")?;
+            continue;
+        };
+        let played = if storm.name == ASKS.name {
+            let sites = Sleepy::new(rt, &loaded.answers);
+            run(rt, alloc, &loaded, &sites, &Slow, workers)
+        } else {
+            run_scripted(rt, alloc, &loaded, &Slow, workers)
+        };
+        tell(rt, alloc, storm, played)?;
+    }
+    Ok(())
+}
+
+fn storm_named(name: &str) -> Option<Storm> {
+    for storm in &STORMS {
+        if storm.name == name {
+            return Some(*storm);
+        }
+    }
+    if name == DUE.name {
+        return Some(DUE);
+    }
+    if name == ASKS.name {
+        return Some(ASKS);
+    }
+    None
+}
+
+// The number that an argument says, else another one.
+fn number_of(words: &[String], place: usize, otherwise: u32) -> u32 {
+    match words.get(place) {
+        Some(word) => word.parse::<u32>().unwrap_or(otherwise),
+        None => otherwise,
+    }
+}
+
+fn main(rt: HostRuntime) -> io::Result<()> {
+    let alloc = rt.alloc();
+    let words = env::args(&rt)?.collect::<Vec<String>>(alloc)?;
+    let named = match words.get(1) {
+        Some(word) => storm_named(word.as_str()),
+        None => None,
+    };
+    match named {
+        Some(storm) => {
+            let workers = number_of(words.as_slice(), 2, 1) as usize;
+            let rounds = number_of(words.as_slice(), 3, 1);
+            run_one(&rt, alloc, &storm, workers, rounds)
+        }
+        None => run_all(&rt, alloc, number_of(words.as_slice(), 1, ROUNDS)),
+    }
+}

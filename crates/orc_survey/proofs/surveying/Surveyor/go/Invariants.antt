@@ -1,6 +1,0 @@
--- The orders so far were counted.
-use Rattle.orc_survey.specs.Survey.{IsSurvey}
-use Rattle.orc_survey.proofs.surveying.Surveyor.go.Given as goal
-
-abbrev pub invariant-loop-order : goal.invariant-loop-order
-invariant-loop-order g l = IsSurvey l.self.program.now l.self.answers.now l.self.limit l.first l.fn.seen.items → IsSurvey l.self.program.now l.self.answers.now l.self.limit l.order l.seen.items

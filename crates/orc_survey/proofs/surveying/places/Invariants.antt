@@ -1,6 +1,0 @@
--- As many places so far.
-use Rattle.std.proofs.Common.{◌≡◌, length}
-use Rattle.orc_survey.proofs.surveying.places.Given as goal
-
-abbrev pub invariant-loop-place : goal.invariant-loop-place
-invariant-loop-place l = length l.trials.items ≡ l._place

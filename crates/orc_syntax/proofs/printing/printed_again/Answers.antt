@@ -1,5 +1,0 @@
-use Rattle.orc_syntax.proofs.Again.{printed_only}
-use Rattle.orc_syntax.proofs.printing.printed_again.Goals as goal
-
-pub returns : goal.returns
-returns c = printed_only

@@ -1,0 +1,13 @@
+use Rattle.std.proofs.Common.{◌≡◌, take}
+use Rattle.orc_tables.specs.Tokens.{live, StayParked}
+use Rattle.orc_tables.specs.OpenGroups.{HaveLeft, tokens_in}
+use Rattle.orc_tables.proofs.Listed.{IsThinned}
+use Rattle.orc_tables.proofs.exits.drop_listed.Given as goal
+
+abbrev pub invariant-loop-slot : goal.invariant-loop-slot
+invariant-loop-slot l = record {
+  thinned : IsThinned l.cell l.steps.items l.initial.tokens.items l.tokens.items (take l.slot-index l.slots.items);
+  groups : l.groups.items ≡ l.initial.groups.items;
+  sizes : HaveLeft l.initial.groups.sizes l.groups.sizes (tokens_in l.steps.items (live l.initial.tokens.items)) (tokens_in l.steps.items (live l.tokens.items));
+  parked : StayParked l.initial.tokens l.tokens;
+}

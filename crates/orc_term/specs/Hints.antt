@@ -1,0 +1,81 @@
+-- The nodes as their own type keeps them: with a hint for each, by which a walk upward leaves out what lets everything through, and a list of
+-- those with tokens.
+use Rattle.std.specs.Prelude.{◌≡◌, ◌<◌, ◌⊎◌, ◌+◌, ℕ, zero, suc, List, Bool, true, false, nat_eq, length, Some, slice_get, slice_set, slice_index_or}
+use Rattle.orc_term.specs.declared.arena.Node.{Node}
+use Rattle.orc_term.specs.declared.arena.Kind.{Kind}
+use Rattle.orc_term.specs.declared.arena.Kind.TheVariants.{Leaf, One, Two}
+use Rattle.orc_term.specs.declared.arena.Tip.TheVariants.{Gone, Token, Bears}
+use Rattle.orc_term.specs.declared.arena.Single.TheVariants.{Passed}
+use Rattle.orc_term.specs.declared.arena.Double.TheVariants.{Both, Side}
+use Rattle.orc_term.specs.Rising.{nowhere}
+use Rattle.orc_term.specs.Settling.{kind_at}
+use Rattle.orc_term.specs.Grafting.{relink}
+
+-- what callers see of the nodes: themselves, and how many more there is room for
+pub record Stock : Type 0 where
+  pub items : List Node
+  pub room : ℕ
+
+-- whether a node lets through what its part i publishes, and stays as it is; a node that is gone has no parts, and none is kept from it
+abbrev pub lets : Kind → ℕ → Bool
+lets (Leaf Gone) i = true
+lets (Leaf k) i = false
+lets (One Passed p) i = true
+lets (One s p) i = false
+lets (Two Both p q) i = true
+lets (Two (Side c) p q) i = nat_eq p i
+
+-- so many nodes above node i is node j, and each on the way lets through what comes from below it
+abbrev pub Skips : List Node → ℕ → ℕ → ℕ → Type 0
+Skips nodes zero i j = i ≡ j
+Skips nodes (suc m) i j = (x : Node) × (y : Node) × (slice_get nodes i ≡ Some x) × (slice_get nodes x.parent ≡ Some y) × (lets y.kind i ≡ true) × Skips nodes m x.parent j
+
+-- node j is node i, or above it with only such nodes on the way
+abbrev pub IsAbove : List Node → ℕ → ℕ → Type 0
+IsAbove nodes i j = (m : ℕ) × Skips nodes m i j
+
+-- each node has a hint, which is above it
+pub record AreHints (nodes : List Node) (hints : List ℕ) : Type 0 where
+  pub len : length hints ≡ length nodes
+  pub each : (i j : ℕ) → slice_get hints i ≡ Some j → IsAbove nodes i j
+
+-- whether a node has a token, which can move now or later
+abbrev pub restless : Kind → Bool
+restless (Leaf (Token s f e)) = true
+restless (Leaf (Bears s v)) = true
+restless _ = false
+
+abbrev pub IsListed : ℕ → List ℕ → Type 0
+IsListed i list = (k : ℕ) × (k < length list) × (slice_index_or list k 0 ≡ i)
+
+-- each such node is in the list
+abbrev pub AreListed : List Node → List ℕ → Type 0
+AreListed nodes list = (i : ℕ) → restless (kind_at nodes i) ≡ true → IsListed i list
+
+-- a new node's hint is itself, or that of the node above, which lets through what it publishes
+abbrev pub IsHintBelow : List Node → List ℕ → ℕ → ℕ → ℕ → Type 0
+IsHintBelow nodes hints i parent hint = (hint ≡ i) ⊎ ((y : Node) × (slice_get nodes parent ≡ Some y) × (lets y.kind i ≡ true) × (hint ≡ slice_index_or hints parent parent))
+
+-- a node becomes another: it stays below the same one, and goes on to let through what it let through
+pub record Follows (x y : Node) : Type 0 where
+  pub parent : y.parent ≡ x.parent
+  pub passes : (i : ℕ) → lets x.kind i ≡ true → lets y.kind i ≡ true
+
+abbrev pub CanWake : List Node → ℕ → Node → Type 0
+CanWake nodes i y = (x : Node) → slice_get nodes i ≡ Some x → Follows x y
+
+-- the same, and it has a token only if it had one
+abbrev pub CanBecome : List Node → ℕ → Node → Type 0
+CanBecome nodes i y = (x : Node) → slice_get nodes i ≡ Some x → Follows x y × (restless y.kind ≡ true → restless x.kind ≡ true)
+
+-- node j is a `|` that stands below the same node as node i, before which it was made
+abbrev pub IsBeside : List Node → ℕ → ℕ → Type 0
+IsBeside nodes i j = (i < j) × (slice_get nodes j ≡ Some (record { kind = Two Both i (j + 1); parent = Node.parent (slice_index_or nodes i nowhere) }))
+
+-- node i goes below node j, which comes in its place
+abbrev pub lifted : List Node → ℕ → ℕ → List Node
+lifted nodes i j =
+    let x = slice_index_or nodes i nowhere in
+    let below = slice_set nodes i (record { kind = Node.kind x; parent = j }) in
+    let y = slice_index_or below (Node.parent x) nowhere in
+    slice_set below (Node.parent x) (record { kind = relink (Node.kind y) i j; parent = Node.parent y })

@@ -1,0 +1,152 @@
+//! The sides that may have halted.
+
+ghost use Rattle.std.specs.Prelude.{◌≡◌, ◌∷◌, ℕ, false, [], IfOk, Some, slice_get};
+ghost use Rattle.orc_term.specs.Sides.{MayBe, AreKnown, is_side, is_side_at, has_ended, is_set, HasEnded};
+
+use crate::arena::{Double, Kind, Single};
+use crate::nodes::Nodes;
+use std::alloc::{AllocError, Global};
+use std::collections::VecDeque;
+use std::marker::Model;
+
+/// The places of the sides that may have halted: of all that have, and of some that haven't, or that stand no more. Where memory for a
+/// place was refused, all places are meant from then on.
+#[derive(Drop)]
+pub struct Candidates {
+    places: VecDeque<u32>,
+    all: bool,
+}
+
+impl Model for Candidates {
+    ghost use Rattle.orc_term.specs.Sides.{Places};
+
+    ghost Value = { Places };
+
+    ghost view = { λ c. record { all = c.all; listed = c.places.items } };
+}
+
+/// Whether a node's part is a side that ends it once it has halted.
+pub fn is_side(kind: Kind, part: usize) -> bool
+    ensures { result ≡ is_side kind part }
+{
+    match kind {
+        Kind::One(Single::Entered(_, _, _), side) => side as usize == part,
+        Kind::Two(Double::Side(_), _, side) => side as usize == part,
+        _ => false,
+    }
+}
+
+/// Whether the part at a place is a side.
+pub(crate) fn is_side_at(nodes: &Nodes, place: usize) -> bool
+    ensures { result ≡ is_side_at nodes.now.items place }
+{
+    let parent = nodes.node_at(place).parent;
+    is_side(nodes.node_at(parent as usize).kind, place)
+}
+
+/// Whether a place has a flag that is set.
+fn is_set(flags: &Vec<bool>, place: usize) -> bool
+    ensures { result ≡ is_set flags.now.items place }
+{
+    match flags.get(place) {
+        Some(flag) => *flag,
+        None => false,
+    }
+}
+
+/// Whether the part at a place is a side and has halted.
+fn has_ended(nodes: &Nodes, flags: &Vec<bool>, place: usize) -> bool
+    ensures { result ≡ has_ended nodes.now.items flags.now.items place }
+{
+    is_set(flags, place) && is_side_at(nodes, place)
+}
+
+/// A side that has halted, looked for at all places.
+fn any_ended(nodes: &Nodes, flags: &Vec<bool>) -> Option<usize>
+    ensures { HasEnded nodes.now.items flags.now.items result }
+{
+    for place in 0..flags.len() {
+        if has_ended(nodes, flags, place) {
+            return Some(place);
+        }
+    }
+    None
+}
+
+impl Candidates {
+    /// No places.
+    pub fn new(alloc: Global) -> Candidates
+        ensures { result ≡ record { all = false; listed = [] } }
+    {
+        Candidates {
+            places: VecDeque::new(alloc),
+            all: false,
+        }
+    }
+
+    /// The same places once more. The error is refused memory.
+    pub fn copy(&self, alloc: Global) -> Result<Candidates, AllocError>
+        ensures { IfOk result (λ c. c ≡ self.now) }
+    {
+        let places = self.places.clone()?;
+        Ok(Candidates {
+            places,
+            all: self.all,
+        })
+    }
+
+    /// A place may be that of a side which has halted.
+    pub fn add(&mut self, place: u32)
+        ensures added { MayBe self.new place }
+        ensures kept { (p : ℕ) → MayBe self.old p → MayBe self.new p }
+    {
+        if let Err(_) = self.places.try_reserve(1) {
+            self.all = true;
+            return;
+        }
+        self.places.push_back_reserved(place);
+    }
+
+    /// Whether all places are meant.
+    fn are_all(&self) -> bool
+        ensures { result ≡ self.now.all }
+    {
+        self.all
+    }
+
+    /// The place added first.
+    fn first(&self) -> Option<usize>
+        ensures { result ≡ slice_get self.now.listed 0 }
+    {
+        match self.places.front() {
+            Some(place) => Some(*place as usize),
+            None => None,
+        }
+    }
+
+    /// Takes out the place added first.
+    fn drop_first(&mut self)
+        ensures all { self.new.all ≡ self.old.all }
+        ensures rest { (p : ℕ) → slice_get self.old.listed 0 ≡ Some p → self.old.listed ≡ p ∷ self.new.listed }
+    {
+        let _first = self.places.pop_front();
+    }
+}
+
+/// A side that has halted, the first that became a candidate. The candidates before it, which haven't, go.
+pub fn ended_side(nodes: &Nodes, flags: &Vec<bool>, candidates: &mut Candidates) -> Option<usize>
+    requires { AreKnown nodes.now.items flags.now.items candidates.old }
+    ensures ends { HasEnded nodes.now.items flags.now.items result }
+    ensures known { AreKnown nodes.now.items flags.now.items candidates.new }
+{
+    if candidates.are_all() {
+        return any_ended(nodes, flags);
+    }
+    while let Some(place) = candidates.first() {
+        if has_ended(nodes, flags, place) {
+            return Some(place);
+        }
+        candidates.drop_first();
+    }
+    None
+}

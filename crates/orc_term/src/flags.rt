@@ -1,0 +1,120 @@
+//! Flags of the nodes that have halted.
+
+ghost use Rattle.std.specs.Prelude.{◌≡◌, vec_len, [], ◌<◌, ◌≤◌, ◌∷◌, ◌++◌, ℕ, ◌&&◌, ◌⊎◌, true, false, List, Bool, length, slice_set, vec_capacity, IfSome, IfNone, slice_index_or};
+ghost use Rattle.orc_term.specs.Settling.{flag, inner_flag, HaltsNext, EndsAt, Settles};
+ghost use Rattle.orc_term.specs.Rising.{nowhere};
+ghost use Rattle.orc_term.specs.Sides.{is_side_at, MayBe, AreFlagged};
+
+use crate::arena::{Kind, Single};
+use crate::candidates::{Candidates, is_side_at};
+use crate::nodes::Nodes;
+use crate::room::push_within;
+
+/// A node's flag, true where there is none.
+pub fn flag_at(flags: &Vec<bool>, i: usize) -> bool
+    ensures { result ≡ flag flags.now.items i }
+{
+    match flags.get(i) {
+        Some(flag) => *flag,
+        None => true,
+    }
+}
+
+/// Writes a flag that is there.
+pub fn write_flag(flags: &mut Vec<bool>, i: usize, flag: bool)
+    ensures items { flags.new.items ≡ slice_set flags.old.items i flag }
+    ensures capacity { vec_capacity flags.new ≡ vec_capacity flags.old }
+{
+    if let Some(slot) = flags.get_mut(i) {
+        *slot = flag;
+    }
+}
+
+/// Whether a node with parts has halted, by the flags of its parts.
+fn inner_halts(flags: &Vec<bool>, kind: Kind) -> bool
+    ensures { result ≡ inner_flag flags.now.items kind }
+{
+    match kind {
+        Kind::Leaf(_) => false,
+        Kind::One(Single::Entered(_, _, _), _) => false,
+        Kind::One(_, part) => flag_at(flags, part as usize),
+        Kind::Two(_, left, right) => {
+            flag_at(flags, left as usize) && flag_at(flags, right as usize)
+        }
+    }
+}
+
+/// Whether both parts have halted.
+pub fn both(left: bool, right: bool) -> bool
+    ensures { result ≡ (left && right) }
+{
+    left && right
+}
+
+/// The node above, where it halts with its parts and has no flag yet.
+fn halts_next(nodes: &Nodes, flags: &Vec<bool>, place: u32) -> Option<u32>
+    ensures next { IfSome result (λ p. HaltsNext nodes.now.items flags.now.items place p) }
+    ensures last { IfNone result (EndsAt nodes.now.items flags.now.items place) }
+{
+    let parent = nodes.node_at(place as usize).parent;
+    if flag_at(flags, parent as usize) {
+        return None;
+    }
+    let kind = nodes.node_at(parent as usize).kind;
+    if inner_halts(flags, kind) {
+        Some(parent)
+    } else {
+        None
+    }
+}
+
+/// Adds the flag of a new place, which is a candidate where the flag is set.
+pub fn push_flag(flags: &mut Vec<bool>, candidates: &mut Candidates, place: u32, flag: bool)
+    requires { vec_len flags.old < vec_capacity flags.old }
+    ensures items { flags.new.items ≡ flags.old.items ++ flag ∷ [] }
+    ensures capacity { vec_capacity flags.old ≤ vec_capacity flags.new }
+    ensures known { flag ≡ true → MayBe candidates.new place }
+    ensures kept { (p : ℕ) → MayBe candidates.old p → MayBe candidates.new p }
+{
+    push_within(flags, flag);
+    if flag {
+        candidates.add(place);
+    }
+}
+
+/// Sets the flag of a place, which is a candidate where it is a side.
+fn set_flag(nodes: &Nodes, flags: &mut Vec<bool>, candidates: &mut Candidates, place: u32)
+    ensures items { flags.new.items ≡ slice_set flags.old.items place true }
+    ensures capacity { vec_capacity flags.new ≡ vec_capacity flags.old }
+    ensures known { is_side_at nodes.now.items place ≡ true → MayBe candidates.new place }
+    ensures kept { (p : ℕ) → MayBe candidates.old p → MayBe candidates.new p }
+{
+    write_flag(flags, place as usize, true);
+    if is_side_at(nodes, place as usize) {
+        candidates.add(place);
+    }
+}
+
+/// Flags a node that hadn't halted, where `halted` is true, and each node above it that halts with it. Sides among them are candidates.
+pub fn settle(
+    nodes: &Nodes,
+    flags: &mut Vec<bool>,
+    candidates: &mut Candidates,
+    from: u32,
+    halted: bool,
+)
+    ensures known { AreFlagged nodes.now.items flags.old.items flags.new.items candidates.new }
+    ensures kept { (p : ℕ) → MayBe candidates.old p → MayBe candidates.new p }
+    ensures settles { Settles nodes.now.items flags.old.items from halted flags.new.items }
+    ensures len { length flags.new.items ≡ length flags.old.items }
+    ensures capacity { vec_capacity flags.new ≡ vec_capacity flags.old }
+{
+    if halted {
+        set_flag(nodes, flags, candidates, from);
+        let mut place = from;
+        while let Some(above) = halts_next(nodes, flags, place) {
+            set_flag(nodes, flags, candidates, above);
+            place = above;
+        }
+    }
+}

@@ -1,0 +1,379 @@
+//! The nodes of a marked term by their numbers.
+
+ghost use Rattle.std.specs.Prelude.{◌≡◌, ◌∷◌, ◌++◌, [], ◌+◌, ◌≤◌, ◌<◌, ◌^◌, List, length, slice_get, slice_set, slice_index_or, vec_len, vec_capacity, IfOk, IfSome};
+ghost use Rattle.orc_term.specs.Grafting.{relink};
+ghost use Rattle.orc_term.specs.Hints.{lets, lifted, restless, AreListed, IsAbove, IsHintBelow, IsBeside, CanBecome, CanWake};
+ghost use Rattle.orc_term.specs.Ranks.{AreLevelsAtMost};
+ghost use Rattle.orc_term.specs.Rising.{nowhere};
+
+use crate::arena::{Double, Kind, Node, Single, Tip};
+use crate::ranks::Ranks;
+use crate::room::{fits, push_within};
+use crate::slot::Slot;
+use std::alloc::{AllocError, Global};
+use std::marker::Model;
+
+/// The nodes, each with a hint: itself, or a node above it to which all on the way let through what it publishes, and stay as they are.
+/// A walk upward goes from hint to hint, so that what it costs doesn't grow with the number of `|` on its way.
+/// What asks whether a token can move goes over the list of restless nodes, so that what it costs doesn't grow with what is over or waits for a call.
+/// How deep the nodes nest is told by their ranks.
+#[derive(Drop)]
+pub struct Nodes {
+    items: Vec<Slot>,
+    hints: Vec<u32>,
+    /// The numbers of all nodes with tokens, which can move now or later, and of some without any more.
+    restless: Vec<u32>,
+    ranks: Ranks,
+}
+
+impl Model for Nodes {
+    ghost use Rattle.std.specs.Prelude.{◌-◌, ◌^◌, min, vec_len, vec_capacity};
+    ghost use Rattle.orc_term.specs.Hints.{Stock, AreHints, AreListed};
+    ghost use Rattle.orc_term.specs.Ranks.{AreKept};
+
+    ghost Value = { Stock };
+
+    ghost view = { λ n. record { items = n.items.items; room = min (2 ^ 32 - 1 - vec_len n.items) (min (vec_capacity n.items - vec_len n.items) (min (vec_capacity n.hints - vec_len n.hints) (vec_capacity n.restless - vec_len n.restless))) } };
+
+    ghost invariant = { λ n. AreHints n.items.items n.hints.items × AreListed n.items.items n.restless.items × AreKept n.items.items n.ranks };
+}
+
+/// The node of that number, one that is gone where there is none.
+pub fn item(items: &Vec<Slot>, i: usize) -> Node
+    ensures { result ≡ slice_index_or items.now.items i nowhere }
+{
+    match items.get(i) {
+        Some(slot) => slot.node(),
+        None => Node {
+            kind: Kind::Leaf(Tip::Gone),
+            parent: 0,
+        },
+    }
+}
+
+// Writes a node that is there.
+fn set_item(items: &mut Vec<Slot>, i: usize, node: Node)
+    ensures items { items.new.items ≡ slice_set items.old.items i node }
+    ensures len { vec_len items.new ≡ vec_len items.old }
+    ensures capacity { vec_capacity items.new ≡ vec_capacity items.old }
+{
+    if let Some(slot) = items.get_mut(i) {
+        *slot = Slot::new(node);
+    }
+}
+
+// Whether a node lets through what its part publishes, and stays as it is.
+fn lets_through(kind: Kind, part: u32) -> bool
+    ensures { result ≡ lets kind part }
+{
+    match kind {
+        Kind::Leaf(Tip::Gone) => true,
+        Kind::One(Single::Passed, _) => true,
+        Kind::Two(Double::Both, _, _) => true,
+        Kind::Two(Double::Side(_), left, _) => left == part,
+        _ => false,
+    }
+}
+
+// Whether a node has a token, which can move now or later.
+fn is_restless(kind: Kind) -> bool
+    ensures { result ≡ restless kind }
+{
+    match kind {
+        Kind::Leaf(Tip::Token(_, _, _)) | Kind::Leaf(Tip::Bears(_, _)) => true,
+        _ => false,
+    }
+}
+
+// Takes those out of a list that can't any more.
+fn keep_restless(items: &Vec<Slot>, list: &mut Vec<u32>)
+    ensures { AreListed items.now.items list.old.items → AreListed items.now.items list.new.items }
+{
+    let mut next = 0;
+    while next < list.len() {
+        if is_restless(item(items, list[next] as usize).kind) {
+            next += 1;
+        } else {
+            let _number = list.swap_remove(next);
+        }
+    }
+}
+
+// Room for two more in a list of those with tokens. A full list forgets the others first, and grows only where more than half of it stays: so
+// it is as long as there are tokens at one time, and not as there were nodes.
+fn reserve_listed(items: &Vec<Slot>, list: &mut Vec<u32>) -> Result<(), AllocError>
+    ensures listed { AreListed items.now.items list.old.items → AreListed items.now.items list.new.items }
+    ensures room { IfOk result (λ _. vec_len list.new + 2 ≤ vec_capacity list.new) }
+{
+    if list.capacity() - list.len() >= 2 {
+        return Ok(());
+    }
+    keep_restless(items, list);
+    if list.len() < list.capacity() / 2 {
+        return Ok(());
+    }
+    list.try_reserve(2)
+}
+
+// The hint of that number, the number itself where there is none.
+fn hint_at(hints: &Vec<u32>, i: usize) -> usize
+    ensures { result ≡ slice_index_or hints.now.items i i }
+{
+    match hints.get(i) {
+        Some(hint) => *hint as usize,
+        None => i,
+    }
+}
+
+// The same, as it is stored.
+fn stored_hint(hints: &Vec<u32>, i: u32) -> u32
+    ensures { result ≡ slice_index_or hints.now.items i i }
+{
+    match hints.get(i as usize) {
+        Some(hint) => *hint,
+        None => i,
+    }
+}
+
+// Writes a hint that is there.
+fn set_hint(hints: &mut Vec<u32>, i: u32, hint: u32)
+    ensures items { hints.new.items ≡ slice_set hints.old.items i hint }
+    ensures len { vec_len hints.new ≡ vec_len hints.old }
+    ensures capacity { vec_capacity hints.new ≡ vec_capacity hints.old }
+{
+    if let Some(slot) = hints.get_mut(i as usize) {
+        *slot = hint;
+    }
+}
+
+// The hint of a node below `parent`, where it had none.
+fn hint_below(items: &Vec<Slot>, hints: &Vec<u32>, i: u32, parent: u32) -> u32
+    ensures { IsHintBelow items.now.items hints.now.items i parent result }
+{
+    match items.get(parent as usize) {
+        Some(above) if lets_through(above.node().kind, i) => stored_hint(hints, parent),
+        _ => i,
+    }
+}
+
+/// A node whose part `from` is now `to`.
+fn relinked(kind: Kind, from: u32, to: u32) -> Kind
+    ensures { result ≡ relink kind from to }
+{
+    match kind {
+        Kind::Leaf(_) => kind,
+        Kind::One(single, _) => Kind::One(single, to),
+        Kind::Two(double, left, right) => {
+            if left == from {
+                Kind::Two(double, to, right)
+            } else {
+                Kind::Two(double, left, to)
+            }
+        }
+    }
+}
+
+impl Nodes {
+    /// No nodes, with room for two. The error is refused memory.
+    pub fn new(alloc: Global) -> Result<Nodes, AllocError>
+        ensures items { IfOk result (λ n. n.items ≡ []) }
+        ensures room { IfOk result (λ n. 2 ≤ n.room) }
+    {
+        let items = Vec::with_capacity(alloc, 2)?;
+        let hints = Vec::with_capacity(alloc, 2)?;
+        let restless = Vec::with_capacity(alloc, 2)?;
+        Ok(Nodes {
+            items,
+            hints,
+            restless,
+            ranks: Ranks::new(alloc),
+        })
+    }
+
+    /// The same nodes once more. The error is refused memory.
+    pub fn copy(&self, alloc: Global) -> Result<Nodes, AllocError>
+        ensures { IfOk result (λ n. n.items ≡ self.now.items) }
+    {
+        let items = Vec::from_slice(alloc, &self.items)?;
+        let hints = Vec::from_slice(alloc, &self.hints)?;
+        let restless = Vec::from_slice(alloc, &self.restless)?;
+        let ranks = self.ranks.copy(alloc)?;
+        Ok(Nodes {
+            items,
+            hints,
+            restless,
+            ranks,
+        })
+    }
+
+    /// Where the nodes' memory comes from.
+    pub fn allocator(&self) -> Global {
+        *self.items.allocator()
+    }
+
+    /// How many nodes there are.
+    pub fn len(&self) -> usize
+        ensures count { result ≡ length self.now.items }
+        ensures fits { result < 2 ^ 63 }
+    {
+        self.items.len()
+    }
+
+    /// The number of the next node, to which one can be added.
+    pub fn next_number(&self) -> u32
+        requires { 2 ≤ self.now.room }
+        ensures count { result ≡ length self.now.items }
+        ensures fits { result + 1 < 2 ^ 32 }
+    {
+        self.items.len() as u32
+    }
+
+    /// The nodes in the order of their numbers.
+    pub fn items(&self) -> &[Slot]
+        ensures { result.now ≡ self.now.items }
+    {
+        &self.items
+    }
+
+    /// The node of that number.
+    pub fn get(&self, i: usize) -> Option<Node>
+        ensures { result ≡ slice_get self.now.items i }
+    {
+        match self.items.get(i) {
+            Some(slot) => Some(slot.node()),
+            None => None,
+        }
+    }
+
+    /// The node of that number, one that is gone where there is none.
+    pub fn node_at(&self, i: usize) -> Node
+        ensures { result ≡ slice_index_or self.now.items i nowhere }
+    {
+        item(&self.items, i)
+    }
+
+    /// A node's hint.
+    pub fn hint(&self, i: usize) -> usize
+        ensures { IsAbove self.now.items i result }
+    {
+        hint_at(&self.hints, i)
+    }
+
+    /// A node's hint goes on to that of the node above it, where that one lets through. Walks that do so at each hint on their way halve it for
+    /// those that come after them.
+    pub(crate) fn shorten(&mut self, i: u32)
+        ensures { self.new ≡ self.old }
+    {
+        let hint = stored_hint(&self.hints, i);
+        if let Some(node) = self.get(hint as usize) {
+            let further = hint_below(&self.items, &self.hints, hint, node.parent);
+            set_hint(&mut self.hints, i, further);
+        }
+    }
+
+    /// The numbers of all nodes with tokens, which can move now or later, and of some without any more.
+    pub fn restless(&self) -> &Vec<u32>
+        ensures { AreListed self.now.items result.now.items }
+    {
+        &self.restless
+    }
+
+    /// At most so many nodes stand one below the other, under the one above all. None where that isn't known.
+    pub fn levels_below(&self) -> Option<usize>
+        ensures { IfSome result (AreLevelsAtMost self.now.items) }
+    {
+        if self.ranks.are_kept {
+            Some(self.ranks.most as usize)
+        } else {
+            None
+        }
+    }
+
+    /// Ranks all nodes again, by as small numbers as there are.
+    pub fn renew_ranks(&mut self)
+        ensures { self.new ≡ self.old }
+    {
+        self.ranks.renew(&self.items);
+    }
+
+    /// Forgets those that can't any more.
+    pub fn tidy(&mut self)
+        ensures { self.new.items ≡ self.old.items }
+    {
+        keep_restless(&self.items, &mut self.restless);
+    }
+
+    /// Memory for two more nodes, whose numbers have 32 bits.
+    pub fn reserve(&mut self) -> Result<(), AllocError>
+        ensures items { self.new.items ≡ self.old.items }
+        ensures room { IfOk result (λ _. 2 ≤ self.new.room) }
+    {
+        fits(self.items.len() + 2)?;
+        self.items.try_reserve(2)?;
+        self.hints.try_reserve(2)?;
+        reserve_listed(&self.items, &mut self.restless)?;
+        Ok(())
+    }
+
+    /// Adds a node.
+    pub fn push_within(&mut self, node: Node)
+        requires { 1 ≤ self.old.room }
+        ensures items { self.new.items ≡ self.old.items ++ node ∷ [] }
+        ensures room { self.old.room ≤ self.new.room + 1 }
+    {
+        let number = self.items.len() as u32;
+        let hint = hint_below(&self.items, &self.hints, number, node.parent);
+        self.ranks.add(&self.items, node);
+        push_within(&mut self.items, Slot::new(node));
+        push_within(&mut self.hints, hint);
+        push_within(&mut self.restless, number);
+    }
+
+    /// Writes a node that is there, and can move only if it could before.
+    pub fn write_node(&mut self, i: usize, node: Node)
+        requires { CanBecome self.old.items i node }
+        ensures items { self.new.items ≡ slice_set self.old.items i node }
+        ensures room { self.new.room ≡ self.old.room }
+    {
+        self.ranks.write(&self.items, i, node);
+        set_item(&mut self.items, i, node);
+    }
+
+    /// Writes a node that is there and may move from now on.
+    pub fn wake(&mut self, i: u32, node: Node)
+        requires room { 1 ≤ self.old.room }
+        requires node { CanWake self.old.items i node }
+        ensures { self.new.items ≡ slice_set self.old.items i node }
+    {
+        self.ranks.write(&self.items, i as usize, node);
+        set_item(&mut self.items, i as usize, node);
+        push_within(&mut self.restless, i);
+    }
+
+    /// Puts a node, with all that is below it, below the `|` of number `both` in its place.
+    pub fn lift(&mut self, i: u32, both: u32)
+        requires { IsBeside self.old.items i both }
+        ensures items { self.new.items ≡ lifted self.old.items i both }
+        ensures room { self.new.room ≡ self.old.room }
+    {
+        let node = item(&self.items, i as usize);
+        set_item(
+            &mut self.items,
+            i as usize,
+            Node {
+                kind: node.kind,
+                parent: both,
+            },
+        );
+        let above = item(&self.items, node.parent as usize);
+        set_item(
+            &mut self.items,
+            node.parent as usize,
+            Node {
+                kind: relinked(above.kind, i, both),
+                parent: above.parent,
+            },
+        );
+        self.ranks.lift(&self.items, i as usize, both as usize, node.parent as usize);
+    }
+}

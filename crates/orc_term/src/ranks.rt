@@ -1,0 +1,335 @@
+//! Ranks of the nodes, which tell how many stand one below the other.
+
+ghost use Rattle.std.specs.Prelude.{◌≡◌, ◌<◌, ◌≤◌, ◌∷◌, ◌++◌, [], true, ℕ, List, length, Some, slice_get, slice_set, slice_index_or, IfOk, IfSome};
+ghost use Rattle.orc_term.specs.Hints.{lifted, Follows};
+ghost use Rattle.orc_term.specs.Ranks.{rank, AreKept, AreLevelsAtMost, AreRankedBut, IsIn, IsPart, IsRankedBelow, StandsApart};
+ghost use Rattle.orc_term.specs.Rising.{nowhere};
+ghost use Rattle.orc_term.specs.Settling.{kind_at};
+ghost use Rattle.orc_term.specs.declared.arena.Node.{Node as NodeOf};
+
+use crate::arena::{Double, Kind, Node};
+use crate::nodes::item;
+use crate::slot::Slot;
+use std::alloc::{AllocError, Global};
+
+/// For each node a number that is greater than that of the node above it, while `are_kept` says so; none is greater than `most`.
+/// A node that is put in between takes a number that is free; where there is none, those below it become greater.
+#[derive(Drop)]
+pub struct Ranks {
+    pub numbers: Vec<u32>,
+    pub most: u32,
+    pub are_kept: bool,
+}
+
+// How many numbers are left free above a node that comes below another, so that the first `|` that a send puts there costs nothing.
+const FREE: u32 = 1;
+
+// The most `|` above a node that are counted.
+const LONGEST_QUEUE: u32 = 10_000;
+
+// How much greater a new node's number is than that of the node above it.
+fn step_below(kind: Kind) -> u32
+    ensures { 0 < result }
+{
+    match kind {
+        Kind::Two(_, _, _) => 1,
+        _ => FREE + 1,
+    }
+}
+
+fn rank_at(numbers: &Vec<u32>, i: usize) -> u32
+    ensures { result ≡ rank numbers.now.items i }
+{
+    match numbers.get(i) {
+        Some(rank) => *rank,
+        None => 0,
+    }
+}
+
+fn set_rank(numbers: &mut Vec<u32>, i: usize, rank: u32)
+    ensures { numbers.new.items ≡ slice_set numbers.old.items i rank }
+{
+    if let Some(slot) = numbers.get_mut(i) {
+        *slot = rank;
+    }
+}
+
+// A number for a new node, where there is one.
+fn rank_below(numbers: &Vec<u32>, node: Node) -> Option<u32>
+    ensures { IfSome result (λ r. rank numbers.now.items (NodeOf.parent node) < r) }
+{
+    rank_at(numbers, node.parent as usize).checked_add(step_below(node.kind))
+}
+
+// Whether a part of node `number`, which is to come, doesn't stand below it yet.
+fn stands_apart(items: &Vec<Slot>, number: usize, part: usize) -> bool
+    ensures { result ≡ true → StandsApart items.now.items number part }
+{
+    if part == number {
+        return false;
+    }
+    match items.get(part) {
+        Some(slot) => slot.node().parent as usize != number,
+        None => true,
+    }
+}
+
+fn stand_apart(items: &Vec<Slot>, number: usize, kind: Kind) -> bool
+    ensures { result ≡ true → (i : ℕ) → IsPart kind i → StandsApart items.now.items number i }
+{
+    match kind {
+        Kind::Leaf(_) => true,
+        Kind::One(_, part) => stands_apart(items, number, part as usize),
+        Kind::Two(_, left, right) => {
+            stands_apart(items, number, left as usize)
+                && stands_apart(items, number, right as usize)
+        }
+    }
+}
+
+// Whether a part that stands below a node has a greater number.
+fn is_ranked_below(items: &Vec<Slot>, numbers: &Vec<u32>, above: usize, part: usize) -> bool
+    ensures { result ≡ true → IsRankedBelow items.now.items numbers.now.items above part }
+{
+    match items.get(part) {
+        Some(slot) if slot.node().parent as usize == above => {
+            rank_at(numbers, above) < rank_at(numbers, part)
+        }
+        _ => true,
+    }
+}
+
+fn are_ranked_below(items: &Vec<Slot>, numbers: &Vec<u32>, above: usize, kind: Kind) -> bool
+    ensures { result ≡ true → (i : ℕ) → IsPart kind i → IsRankedBelow items.now.items numbers.now.items above i }
+{
+    match kind {
+        Kind::Leaf(_) => true,
+        Kind::One(_, part) => is_ranked_below(items, numbers, above, part as usize),
+        Kind::Two(_, left, right) => {
+            is_ranked_below(items, numbers, above, left as usize)
+                && is_ranked_below(items, numbers, above, right as usize)
+        }
+    }
+}
+
+// How many `|` stand one above the other right above a node on their left.
+fn queue_above(items: &Vec<Slot>, at: usize) -> u32 {
+    let mut place = at;
+    for count in 0..LONGEST_QUEUE {
+        let above = item(items, place).parent as usize;
+        match item(items, above).kind {
+            Kind::Two(Double::Both, left, _) if left as usize == place => place = above,
+            _ => return count,
+        }
+    }
+    LONGEST_QUEUE
+}
+
+// By how much the number of one node is greater than that of the node above it, where it changes.
+#[derive(Clone, Copy)]
+struct Gap {
+    below: usize,
+    step: u32,
+}
+
+// The same for any node: the others take the next number.
+fn step_to(part: usize, gap: Gap) -> u32
+    ensures { 0 < result }
+{
+    if part == gap.below {
+        gap.step.max(1)
+    } else {
+        1
+    }
+}
+
+// Adds the numbers before `len` to a list, with 0 once more as the last one, and rank 0 for each. The error is refused memory.
+fn push_all(numbers: &mut Vec<u32>, late: &mut Vec<usize>, len: usize) -> Result<(), AllocError>
+    ensures len { IfOk result (λ _. numbers.old.items ≡ [] → length numbers.new.items ≡ len) }
+    ensures none { IfOk result (λ _. numbers.old.items ≡ [] → (i : ℕ) → rank numbers.new.items i ≡ 0) }
+    ensures each { IfOk result (λ _. (i : ℕ) → i < len → IsIn i late.new.items) }
+{
+    for i in 0..len {
+        numbers.push(0)?;
+        late.push(i)?;
+    }
+    late.push(0)?;
+    Ok(())
+}
+
+impl Ranks {
+    /// Ranks of no nodes.
+    pub fn new(alloc: Global) -> Ranks
+        ensures { AreKept [] result }
+    {
+        Ranks {
+            numbers: Vec::new(alloc),
+            most: 0,
+            are_kept: true,
+        }
+    }
+
+    /// The same ranks once more. The error is refused memory.
+    pub fn copy(&self, alloc: Global) -> Result<Ranks, AllocError>
+        ensures { IfOk result (λ r. (nodes : List NodeOf) → AreKept nodes self.now → AreKept nodes r) }
+    {
+        let numbers = Vec::from_slice(alloc, &self.numbers)?;
+        Ok(Ranks {
+            numbers,
+            most: self.most,
+            are_kept: self.are_kept,
+        })
+    }
+
+    /// Ranks a node that comes behind the others.
+    pub fn add(&mut self, items: &Vec<Slot>, node: Node)
+        ensures { AreKept items.now.items self.old → AreKept (items.now.items ++ node ∷ []) self.new }
+    {
+        let were_kept = self.are_kept;
+        self.are_kept = false;
+        if !were_kept || !stand_apart(items, items.len(), node.kind) {
+            return;
+        }
+        let Some(rank) = rank_below(&self.numbers, node) else {
+            return;
+        };
+        match self.numbers.push(rank) {
+            Ok(()) => {
+                self.most = self.most.max(rank);
+                self.are_kept = true;
+            }
+            Err(_) => {}
+        }
+    }
+
+    /// A node becomes another one, below the same node.
+    pub fn write(&mut self, items: &Vec<Slot>, i: usize, node: Node)
+        ensures { ((x : NodeOf) → slice_get items.now.items i ≡ Some x → Follows x node) → AreKept items.now.items self.old → AreKept (slice_set items.now.items i node) self.new }
+    {
+        if self.are_kept {
+            self.are_kept = are_ranked_below(items, &self.numbers, i, node.kind);
+        }
+    }
+
+    /// A node went below another one, which was put in its place below `parent`.
+    pub fn lift(&mut self, items: &Vec<Slot>, i: usize, both: usize, parent: usize)
+        ensures { (nodes : List NodeOf) → parent ≡ NodeOf.parent (slice_index_or nodes i nowhere) → items.now.items ≡ lifted nodes i both → AreKept nodes self.old → AreKept items.now.items self.new }
+    {
+        if !self.are_kept {
+            return;
+        }
+        self.are_kept = false;
+        let rank = rank_at(&self.numbers, both);
+        if rank_at(&self.numbers, parent) < rank {
+            if rank < rank_at(&self.numbers, i) {
+                self.are_kept = true;
+            } else {
+                self.make_room(items, i, both);
+            }
+        }
+    }
+
+    // The nodes below `both` get greater numbers where they need them, and above node `i` half as many are left free as `|` stand there.
+    fn make_room(&mut self, items: &Vec<Slot>, i: usize, both: usize)
+        ensures { AreRankedBut items.now.items self.old.numbers.items self.old.most (both ∷ []) → AreKept items.now.items self.new }
+    {
+        self.are_kept = false;
+        let mut late = Vec::new(*self.numbers.allocator());
+        if late.push(both).is_ok() {
+            let gap = Gap {
+                below: i,
+                step: queue_above(items, both) / 2 + 2,
+            };
+            self.are_kept = self.settle(items, late, gap);
+        }
+    }
+
+    // The number of a part becomes greater than that of the node above it; then what is below the part comes late too. False where that can't be.
+    fn settle_part(
+        &mut self,
+        items: &Vec<Slot>,
+        late: &mut Vec<usize>,
+        above: usize,
+        part: usize,
+        gap: Gap,
+    ) -> bool
+        ensures above { result ≡ true → rank self.new.numbers.items above ≡ rank self.old.numbers.items above }
+        ensures part { result ≡ true → part < length self.new.numbers.items → rank self.new.numbers.items above < rank self.new.numbers.items part }
+        ensures grows { result ≡ true → (i : ℕ) → rank self.old.numbers.items i ≤ rank self.new.numbers.items i }
+        ensures kept { result ≡ true → (nodes : List NodeOf) → AreRankedBut nodes self.old.numbers.items self.old.most (above ∷ late.old.items) → AreRankedBut nodes self.new.numbers.items self.new.most (above ∷ late.new.items) }
+    {
+        if part == above {
+            return false;
+        }
+        let low = rank_at(&self.numbers, above);
+        if low < rank_at(&self.numbers, part) {
+            return true;
+        }
+        let Some(rank) = low.checked_add(step_to(part, gap)) else {
+            return false;
+        };
+        match late.push(part) {
+            Ok(()) => {}
+            Err(_) => return false,
+        }
+        set_rank(&mut self.numbers, part, rank);
+        self.most = self.most.max(rank);
+        true
+    }
+
+    // The same for all parts of a node.
+    fn settle_parts(
+        &mut self,
+        items: &Vec<Slot>,
+        late: &mut Vec<usize>,
+        above: usize,
+        kind: Kind,
+        gap: Gap,
+    ) -> bool
+        ensures { result ≡ true → (nodes : List NodeOf) → kind_at nodes above ≡ kind → AreRankedBut nodes self.old.numbers.items self.old.most (above ∷ late.old.items) → AreRankedBut nodes self.new.numbers.items self.new.most late.new.items }
+    {
+        match kind {
+            Kind::Leaf(_) => true,
+            Kind::One(_, part) => self.settle_part(items, late, above, part as usize, gap),
+            Kind::Two(_, left, right) => {
+                self.settle_part(items, late, above, left as usize, gap)
+                    && self.settle_part(items, late, above, right as usize, gap)
+            }
+        }
+    }
+
+    // The same for all nodes of the list, the last one first. False where that can't be.
+    fn settle(&mut self, items: &Vec<Slot>, late: Vec<usize>, gap: Gap) -> bool
+        ensures { result ≡ true → AreRankedBut items.now.items self.old.numbers.items self.old.most late.items → AreRankedBut items.now.items self.new.numbers.items self.new.most [] }
+    {
+        let mut late = late;
+        // Each node comes twice at most, since none changes before those above it did.
+        for _step in 0..=2 * items.len() {
+            let Some(above) = late.pop() else {
+                return true;
+            };
+            let kind = item(items, above).kind;
+            if !self.settle_parts(items, &mut late, above, kind, gap) {
+                return false;
+            }
+        }
+        false
+    }
+
+    /// Ranks all nodes again, by as small numbers as there are, whether they were kept or not.
+    pub(crate) fn renew(&mut self, items: &Vec<Slot>)
+        ensures { AreKept items.now.items self.new }
+    {
+        self.are_kept = false;
+        self.numbers.clear();
+        self.most = 0;
+        let mut late = Vec::new(*self.numbers.allocator());
+        match push_all(&mut self.numbers, &mut late, items.len()) {
+            Ok(()) => {
+                let gap = Gap { below: 0, step: 1 };
+                self.are_kept = self.settle(items, late, gap);
+            }
+            Err(_) => {}
+        }
+    }
+}

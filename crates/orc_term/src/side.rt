@@ -1,0 +1,92 @@
+//! The nodes of a part, and what dropping a part does.
+
+ghost use Rattle.std.specs.Prelude.{◌≡◌, ◌++◌, ℕ, IfOk, OnOk, length, reverse};
+ghost use Rattle.orc_term.specs.Sides.{NoNewSides};
+ghost use Rattle.orc_term.specs.Dropping.{parts_of, call_of, calls_at, AreNodesOf, AreRising, IsDropped};
+
+use crate::arena::{Kind, Node, Tip};
+use crate::nodes::Nodes;
+use std::alloc::{AllocError, Global};
+
+/// Adds the parts of a node. The error is refused memory.
+fn push_parts(found: &mut Vec<u32>, kind: Kind) -> Result<(), AllocError>
+    ensures { OnOk result (found.new.items ≡ found.old.items ++ parts_of kind) }
+{
+    match kind {
+        Kind::Leaf(_) => {}
+        Kind::One(_, part) => found.push(part)?,
+        Kind::Two(_, left, right) => {
+            found.push(left)?;
+            found.push(right)?;
+        }
+    }
+    Ok(())
+}
+
+/// The nodes of the part at `root`: itself, and then those below it. The error is refused memory.
+pub fn nodes_of(alloc: Global, nodes: &Nodes, root: u32) -> Result<Vec<u32>, AllocError>
+    ensures { IfOk result (λ found. AreNodesOf nodes.now.items root found.items) }
+{
+    let mut found = Vec::new(alloc);
+    found.push(root)?;
+    for next in 0..nodes.len() {
+        if next == found.len() {
+            return Ok(found);
+        }
+        let node = nodes.node_at(found[next] as usize);
+        push_parts(&mut found, node.kind)?;
+    }
+    // Each node stands once below another, so that there are less than `nodes.len()` of them.
+    Err(AllocError)
+}
+
+/// Adds the call that pends at a node, if any. The error is refused memory.
+fn push_call(calls: &mut Vec<u64>, kind: Kind) -> Result<(), AllocError>
+    ensures { OnOk result (calls.new.items ≡ calls.old.items ++ call_of kind) }
+{
+    if let Kind::Leaf(Tip::Waits(call)) = kind {
+        calls.push(call)?;
+    }
+    Ok(())
+}
+
+/// The calls that pend at these nodes. The error is refused memory.
+fn pending_at(alloc: Global, nodes: &Nodes, side: &Vec<u32>) -> Result<Vec<u64>, AllocError>
+    ensures { IfOk result (λ calls. calls.items ≡ calls_at nodes.now.items side.now.items) }
+{
+    let mut calls = Vec::new(alloc);
+    for next in 0..side.len() {
+        let node = nodes.node_at(side[next] as usize);
+        push_call(&mut calls, node.kind)?;
+    }
+    Ok(calls)
+}
+
+/// The same in falling order.
+pub fn falling_calls(alloc: Global, nodes: &Nodes, side: &Vec<u32>) -> Result<Vec<u64>, AllocError>
+    ensures { IfOk result (λ calls. AreRising (calls_at nodes.now.items side.now.items) (reverse calls.items)) }
+{
+    let mut calls = pending_at(alloc, nodes, side)?;
+    calls.sort_unstable();
+    calls.reverse();
+    Ok(calls)
+}
+
+/// The nodes of the list are gone.
+pub fn drop_nodes(nodes: &mut Nodes, found: &Vec<u32>)
+    ensures dropped { IsDropped nodes.old.items found.now.items nodes.new.items }
+    ensures len { length nodes.new.items ≡ length nodes.old.items }
+    ensures sides { (n : ℕ) → NoNewSides n nodes.old.items nodes.new.items }
+{
+    for next in 0..found.len() {
+        let place = found[next] as usize;
+        let parent = nodes.node_at(place).parent;
+        nodes.write_node(
+            place,
+            Node {
+                kind: Kind::Leaf(Tip::Gone),
+                parent,
+            },
+        );
+    }
+}

@@ -1,0 +1,447 @@
+//! The parts of an engine with workers: words, cells, queues and calls under way.
+
+ghost use Rattle.std.specs.Prelude.{◌≡◌, ◌<◌, IsSome};
+ghost use Rattle.orc_word.specs.Views.{group_of};
+
+use futures::Future;
+use futures::task::{Doorbell, Poll, Solo};
+use orc_cell::{Bound, Cell, Content};
+use orc_pool::{Own, Queues, Theft, WorkerQueue, worker_queues};
+use orc_rules::answers::Answers;
+use orc_rules::value::{Answer, Args, Value};
+use orc_site::{Due, Request, Scripted, SiteCall, SiteFuture, Sites};
+use orc_word::{Bit, Groups, Naming, Pass, Unnamed};
+use std::alloc::{AllocError, Global};
+use std::marker::Brand;
+use std::sync::Wait;
+use std::sync::atomic::{AtomicU64, Ordering};
+use std::test::Fail;
+use std::thread;
+use std::thread::Threads;
+
+const TOKENS: u64 = 10_000;
+
+// Whether each of five calls of `take` gave a pass: a pass is given back before the fourth.
+fn takes<J: Naming>(made: Unnamed) -> [bool; 5]
+    requires { made.table.shared.table_id ≡ J.table }
+{
+    let (groups, mut supply) = made.named::<J>();
+    let first = supply.take(&groups);
+    let second = supply.take(&groups);
+    let third = supply.take(&groups);
+    let took = [first.is_some(), second.is_some(), third.is_some()];
+    if let Some(pass) = first {
+        supply.give(&groups, pass);
+    }
+    let fourth = supply.take(&groups);
+    let fifth = supply.take(&groups);
+    [took[0], took[1], took[2], fourth.is_some(), fifth.is_some()]
+}
+
+#[test]
+fn a_supply_of_two_gives_two(rt: HostRuntime) -> Result<(), Fail> {
+    let made = Unnamed::new(rt.alloc(), 1, 2)?;
+    assert_eq!(rt; takes::<Brand>(made), [true, true, false, true, false]);
+    Ok(())
+}
+
+#[derive(Debug, PartialEq, Eq, Drop)]
+struct Life {
+    parted: bool,
+    marks: [bool; 3],
+    seen: [bool; 2],
+    opened_early: bool,
+    lasts: [Option<u32>; 2],
+    clear: bool,
+    words: [u64; 2],
+}
+
+// A group's life: two passes name it, both mark it, one after the other leaves it, and it is opened anew.
+fn live<J: Naming>(made: Unnamed) -> Option<Life>
+    requires named { made.table.shared.table_id ≡ J.table }
+    requires two { 1 < J.table.words }
+{
+    let (groups, mut supply) = made.named::<J>();
+    let parted = supply.part(&groups, 9).is_some();
+    let mut first = groups.open(supply.take(&groups)?, 1).ok()?;
+    let mut second = groups.enter(&first, supply.take(&groups)?);
+    let marks = [
+        groups.mark(&mut first, Bit::Published),
+        groups.mark(&mut second, Bit::Published),
+        groups.mark(&mut first, Bit::Published),
+    ];
+    let bits = groups.look(&mut second);
+    let refused = groups.open(supply.take(&groups)?, 1);
+    let opened_early = refused.is_ok();
+    let left = groups.leave(first);
+    let end = groups.leave(second);
+    let lasts = [
+        left.last.map(|last| last.group()),
+        end.last.map(|last| last.group()),
+    ];
+    let mut third = groups.open(left.pass, 1).ok()?;
+    let fresh = groups.look(&mut third);
+    let words = groups.close();
+    Some(Life {
+        parted,
+        marks,
+        seen: [bits.published, bits.killed],
+        opened_early,
+        lasts,
+        clear: !fresh.published && !fresh.killed,
+        words: [words.word(0), words.word(1)],
+    })
+}
+
+#[test]
+fn a_group_is_opened_anew_once_all_have_left(rt: HostRuntime) -> Result<(), Fail> {
+    let made = Unnamed::new(rt.alloc(), 2, 8)?;
+    assert_eq!(rt;
+        live::<Brand>(made),
+        Some(Life {
+            parted: false,
+            marks: [true, false, false],
+            seen: [true, false],
+            opened_early: false,
+            lasts: [None, Some(1)],
+            clear: true,
+            words: [0, 1],
+        })
+    );
+    Ok(())
+}
+
+// Whether the mark was won, and whether the pass was the last.
+fn mark_and_leave<J: Naming>(groups: &Groups<J>, pass: Pass<J>) -> (bool, bool)
+    requires { IsSome (group_of pass) }
+{
+    let mut pass = pass;
+    let won = groups.mark(&mut pass, Bit::Killed);
+    let last = groups.leave(pass).last.is_some();
+    (won, last)
+}
+
+fn in_two_threads<J, R>(rt: &R, groups: &Groups<J>, first: Pass<J>, second: Pass<J>) -> bool
+where
+    J: Naming + Send + Sync,
+    R: Threads + Wait + Sync,
+    requires first { IsSome (group_of first) }
+    requires second { IsSome (group_of second) }
+{
+    let (one, two) = thread::join(
+        rt,
+        move || mark_and_leave(groups, first),
+        move || mark_and_leave(groups, second),
+    );
+    one.0 != two.0 && one.1 != two.1
+}
+
+// In how many of a hundred rounds one of two threads won the mark, and one was the last.
+fn rounds<J, R>(rt: &R, made: Unnamed) -> Option<u32>
+where
+    J: Naming + Send + Sync,
+    R: Threads + Wait + Sync,
+    requires { made.table.shared.table_id ≡ J.table }
+{
+    let (groups, mut supply) = made.named::<J>();
+    let mut right = 0u32;
+    for _ in 0..100u32 {
+        let first = groups.open(supply.take(&groups)?, 0).ok()?;
+        let second = groups.enter(&first, supply.take(&groups)?);
+        if in_two_threads(rt, &groups, first, second) {
+            right = right.saturating_add(1);
+        }
+    }
+    Some(right)
+}
+
+#[test]
+fn one_of_two_threads_wins_and_one_is_last(rt: HostRuntime) -> Result<(), Fail> {
+    let made = Unnamed::new(rt.alloc(), 1, 200)?;
+    assert_eq!(rt; rounds::<Brand, _>(&rt, made), Some(100));
+    Ok(())
+}
+
+#[test]
+fn what_was_pushed_last_is_popped_and_what_was_first_is_stolen(
+    rt: HostRuntime,
+) -> Result<(), Fail> {
+    let mut queues = Queues::<u32>::new(rt.alloc(), 2)?;
+    let mut own = queues.own(1).expect(&rt, "the queue's end");
+    assert!(rt; queues.own(1).is_none() && queues.own(2).is_none());
+    assert!(rt; queues.theft(2)?.is_none());
+    let mut theft = queues.theft(1)?.expect(&rt, "a right to steal");
+    for task in 1..5u32 {
+        assert_eq!(rt; own.push(task), Ok(()));
+    }
+    assert_eq!(rt; theft.steal(), Some(1));
+    assert_eq!(rt; own.pop(), Some(4));
+    assert_eq!(rt; theft.steal(), Some(2));
+    assert_eq!(rt; own.pop(), Some(3));
+    assert_eq!(rt; (own.pop(), theft.steal()), (None, None));
+    Ok(())
+}
+
+// All that is stolen until the owner is done and nothing is left.
+fn steal_all(
+    rt: &impl Wait,
+    alloc: Global,
+    mut theft: Theft<u64>,
+    done: &AtomicU64,
+) -> Result<Vec<u64>, AllocError> {
+    let mut stolen = Vec::new(alloc);
+    for _ in rt.forever() {
+        let is_over = done.load(Ordering::SeqCst) == 1;
+        match theft.steal() {
+            Some(token) => stolen.push(token)?,
+            None if is_over => break,
+            None => thread::yield_now(),
+        }
+    }
+    Ok(stolen)
+}
+
+// Pushes all tokens, pops some between, and pops what is left.
+fn push_all(alloc: Global, mut own: Own<u64>, done: &AtomicU64) -> Result<Vec<u64>, AllocError> {
+    let mut kept = Vec::new(alloc);
+    for token in 0..TOKENS {
+        if let Err(back) = own.push(token) {
+            kept.push(back)?;
+        }
+        if token % 3 == 0
+            && let Some(token) = own.pop()
+        {
+            kept.push(token)?;
+        }
+    }
+    for _ in 0..TOKENS {
+        let Some(token) = own.pop() else { break };
+        kept.push(token)?;
+    }
+    done.store(1, Ordering::SeqCst);
+    Ok(kept)
+}
+
+fn share_out(
+    rt: &(impl Threads + Wait + Sync),
+    alloc: Global,
+    own: Own<u64>,
+    thefts: (Theft<u64>, Theft<u64>),
+) -> Result<[Vec<u64>; 3], AllocError> {
+    let done = AtomicU64::new(0);
+    let flag = &done;
+    let (first, second) = thefts;
+    let (kept, (one, two)) = thread::join(
+        rt,
+        move || push_all(alloc, own, flag),
+        move || {
+            thread::join(
+                rt,
+                move || steal_all(rt, alloc, first, flag),
+                move || steal_all(rt, alloc, second, flag),
+            )
+        },
+    );
+    Ok([kept?, one?, two?])
+}
+
+#[test]
+fn each_token_comes_out_once(rt: HostRuntime) -> Result<(), Fail> {
+    let mut queues = Queues::<u64>::new(rt.alloc(), 1)?;
+    let own = queues.own(0).expect(&rt, "the queue's end");
+    let first = queues.theft(0)?.expect(&rt, "a right to steal");
+    let second = queues.theft(0)?.expect(&rt, "a right to steal");
+    let mut tokens = Vec::new(rt.alloc());
+    for part in share_out(&rt, rt.alloc(), own, (first, second))? {
+        for token in part.iter() {
+            tokens.push(*token)?;
+        }
+    }
+    tokens.sort()?;
+    assert_eq!(rt; tokens.len(), 10_000);
+    let mut expected = 0u64;
+    for token in tokens.iter() {
+        assert_eq!(rt; *token, expected);
+        expected = expected.saturating_add(1);
+    }
+    Ok(())
+}
+
+#[test]
+fn a_hand_takes_its_own_tasks_and_then_those_of_the_others(rt: HostRuntime) -> Result<(), Fail> {
+    let mut dealt = worker_queues::<u32>(rt.alloc(), 3)?;
+    assert_eq!(rt; dealt.len(), 3);
+    let mut third = dealt.pop().expect(&rt, "a worker_queue");
+    let mut second = dealt.pop().expect(&rt, "a worker_queue");
+    let mut first = dealt.pop().expect(&rt, "a worker_queue");
+    for task in 1..5u32 {
+        assert_eq!(rt; second.push(task), Ok(()));
+    }
+    assert_eq!(rt; third.push(9), Ok(()));
+    assert_eq!(rt; second.next(), Some(4));
+    assert_eq!(rt; first.next(), Some(1));
+    assert_eq!(rt; third.next(), Some(9));
+    assert_eq!(rt; third.next(), Some(2));
+    assert_eq!(rt; second.next(), Some(3));
+    assert_eq!(rt;
+        (first.next(), second.next(), third.next()),
+        (None, None, None)
+    );
+    assert_eq!(rt; worker_queues::<u32>(rt.alloc(), 0)?.len(), 0);
+    Ok(())
+}
+
+// Each task that the worker finds grows by one.
+fn grow_all(worker_queue: &mut WorkerQueue<&mut u64>) {
+    for _ in 0..TOKENS {
+        let Some(task) = worker_queue.next() else {
+            return;
+        };
+        *task = task.saturating_add(1);
+    }
+}
+
+// Four hands, the first of which has all the tasks: the others live by theft.
+fn dealt_to_one<'t>(
+    alloc: Global,
+    tasks: &'t mut [u64],
+) -> Result<Vec<WorkerQueue<&'t mut u64>>, AllocError> {
+    let mut dealt = worker_queues(alloc, 4)?;
+    for task in tasks.iter_mut() {
+        if let Some(worker_queue) = dealt.get_mut(0) {
+            let _full = worker_queue.push(task);
+        }
+    }
+    Ok(dealt)
+}
+
+// Each of the tasks grows by one, on four threads.
+fn grow_on_four<R: Threads + Sync>(
+    rt: &R,
+    alloc: Global,
+    tasks: &mut [u64],
+) -> Result<(), AllocError> {
+    let mut dealt = dealt_to_one(alloc, tasks)?;
+    thread::for_each_mut(
+        rt,
+        &mut dealt,
+        4,
+        &|_: usize, worker_queue: &mut WorkerQueue<&mut u64>| { grow_all(worker_queue) },
+    );
+    Ok(())
+}
+
+#[test]
+fn each_task_is_done_once_by_four_hands(rt: HostRuntime) -> Result<(), Fail> {
+    let mut tasks = Vec::new(rt.alloc());
+    for task in 0..TOKENS {
+        tasks.push(task)?;
+    }
+    grow_on_four(&rt, rt.alloc(), &mut tasks)?;
+    let mut expected = 0u64;
+    for task in tasks.iter() {
+        expected = expected.saturating_add(1);
+        assert_eq!(rt; *task, expected);
+    }
+    Ok(())
+}
+
+#[test]
+fn a_cell_is_bound_once(rt: HostRuntime) -> Result<(), Fail> {
+    let alloc = rt.alloc();
+    let one = Bound {
+        cell: 7,
+        what: Content::Value(Value::Number(1)),
+    };
+    let two = Bound {
+        cell: 7,
+        what: Content::Void,
+    };
+    let cell = Cell::new(alloc, 7)?;
+    let shared = cell.share()?;
+    let mut note = cell.note();
+    assert_eq!(rt; cell.read(&mut note), None);
+    assert!(rt; cell.bind(Box::new(alloc, one)?).is_ok());
+    match shared.bind(Box::new(alloc, two)?) {
+        Ok(()) => assert!(rt; false, "bound twice"),
+        Err(back) => assert_eq!(rt; *back, two),
+    }
+    assert_eq!(rt; cell.read(&mut note), Some(one));
+    let mut other = shared.note();
+    assert_eq!(rt; shared.read(&mut other), Some(one));
+    Ok(())
+}
+
+#[test]
+fn what_is_for_another_cell_is_not_read(rt: HostRuntime) -> Result<(), Fail> {
+    let alloc = rt.alloc();
+    let odd = Bound {
+        cell: 8,
+        what: Content::Void,
+    };
+    let cell = Cell::new(alloc, 7)?;
+    let mut note = cell.note();
+    assert!(rt; cell.bind_and_note(Box::new(alloc, odd)?, &mut note).is_ok());
+    assert_eq!(rt; cell.read(&mut note), None);
+    Ok(())
+}
+
+// A call of `Rwait` with this delay that is made at this time.
+fn rwait<'a>(
+    answers: &'a Answers,
+    delay: i64,
+    made_at: u64,
+) -> Result<Option<SiteCall<'a>>, AllocError> {
+    let Some(site) = answers.site_named(b"Rwait") else {
+        return Ok(None);
+    };
+    let mut args = Args::new();
+    args.push(Value::Number(delay));
+    let request = Request {
+        number: 1,
+        site,
+        args,
+        nth: 1,
+        made_at,
+    };
+    Ok(Some(Scripted::new(answers).call(&request)?))
+}
+
+fn poll(solo: &Solo, call: &mut SiteCall<'_>) -> Option<Answer> {
+    let mut cx = solo.begin();
+    let polled = call.poll(&mut cx);
+    cx.end(&polled);
+    match polled {
+        Poll::Ready(answer) => Some(answer),
+        Poll::Pending => None,
+    }
+}
+
+#[test]
+fn a_call_is_ready_from_its_due_time_on(rt: HostRuntime) -> Result<(), Fail> {
+    let answers = Answers::builtin(rt.alloc())?;
+    let solo = Solo::new(&rt, Doorbell::parking())?;
+    let mut call = rwait(&answers, 3, 5)?.expect(&rt, "a call of Rwait");
+    let signal = Some(Answer::Value(Value::Signal));
+    assert_eq!(rt; call.due(), Due::At(8));
+    assert_eq!(rt; poll(&solo, &mut call), None);
+    for (moment, answer) in [(7, None), (6, None), (8, signal), (8, signal), (9, signal)] {
+        call.at(moment);
+        assert_eq!(rt; poll(&solo, &mut call), answer, "at {moment}");
+        assert_eq!(rt; call.due(), Due::At(8));
+    }
+    Ok(())
+}
+
+#[test]
+fn a_time_over_the_greatest_never_comes(rt: HostRuntime) -> Result<(), Fail> {
+    let answers = Answers::builtin(rt.alloc())?;
+    let solo = Solo::new(&rt, Doorbell::parking())?;
+    let mut now = rwait(&answers, 0, u64::MAX)?.expect(&rt, "a call of Rwait");
+    assert_eq!(rt; now.due(), Due::At(u64::MAX));
+    assert_eq!(rt; poll(&solo, &mut now), Some(Answer::Value(Value::Signal)));
+    let mut never = rwait(&answers, 1, u64::MAX)?.expect(&rt, "a call of Rwait");
+    assert_eq!(rt; never.due(), Due::Never);
+    assert_eq!(rt; poll(&solo, &mut never), None);
+    Ok(())
+}

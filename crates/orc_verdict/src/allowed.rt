@@ -1,0 +1,208 @@
+//! The entries that are allowed at a place of a run.
+
+ghost use Rattle.std.specs.Prelude.{◌≡◌, IfOk, IfSome};
+ghost use Rattle.orc_rules.specs.Journal.{Place};
+ghost use Rattle.orc_rules.specs.Nodes.{code, definitions};
+ghost use Rattle.orc_rules.specs.Refusal.{Fits};
+ghost use Rattle.orc_rules.specs.Timed.{Context};
+ghost use Rattle.orc_checker.specs.Checker.{Spells};
+ghost use Rattle.orc_verdict.specs.Allowed.{AreTaken};
+
+use crate::moves::{return_entry, side_entry, token_entry};
+use crate::reasons::first_reason;
+use orc_checker::{Marked, Side};
+use orc_rules::answers::Answers;
+use orc_rules::entry::Entry;
+use orc_rules::param::{Operand, Param};
+use orc_rules::program::{Program, TermNode};
+use orc_term::arena::{Kind, Tip};
+use std::alloc::{AllocError, Global};
+use std::marker::Model;
+
+/// How many entries are kept.
+const KEPT: usize = 4;
+
+/// The first entries that are allowed, four at most, and how many there are.
+#[derive(Drop)]
+pub struct Allowed {
+    first: Vec<Entry>,
+    count: u64,
+}
+
+impl Model for Allowed {
+    ghost use Rattle.std.specs.Prelude.{List};
+    ghost use Rattle.orc_rules.specs.declared.entry.Entry.{Entry as EntryOf};
+
+    ghost Value = { List EntryOf };
+
+    ghost view = { λ a. a.first.items };
+}
+
+// Those entries that the rules take here, tested one by one as the checker does. The error is refused memory.
+fn taken(
+    alloc: Global,
+    marked: &mut Marked,
+    program: &Program,
+    answers: &Answers,
+    entries: Vec<Entry>,
+) -> Result<Vec<Entry>, AllocError>
+    ensures taken { IfOk result (λ es. AreTaken program.now answers.now marked.old es.items) }
+    ensures same { marked.new ≡ marked.old }
+{
+    let mut taken = Vec::new(alloc);
+    for entry in entries {
+        match first_reason(marked, program, answers, &entry) {
+            None => taken.push(entry)?,
+            Some(_) => {}
+        }
+    }
+    Ok(taken)
+}
+
+/// The entry by which a token can go on. None where there is no such token, a cancel is due, or it waits.
+pub fn entry_of(marked: &Marked, program: &Program, token: u64) -> Option<Entry>
+    ensures fits { IfSome result (λ e. (x : Context) (p : Place) → x.definitions ≡ definitions program.now → Spells x (code program.now) marked.now p → Fits x p e) }
+{
+    token_entry(marked, token, marked.next(program, token)?)
+}
+
+// Whether a call of a site with these operands can go on in a scope: all are values, or one is void.
+fn is_callable(marked: &Marked, operands: &[Operand], scope: usize) -> bool {
+    let mut waits = false;
+    for operand in operands {
+        match marked.param(*operand, scope) {
+            Param::Void => return true,
+            Param::Is(_) => {}
+            Param::Cell(_) | Param::Name(_) => waits = true,
+        }
+    }
+    !waits
+}
+
+// Whether the token of a node can go on. What takes its publication isn't looked for.
+fn is_free(marked: &Marked, program: &Program, kind: Kind) -> bool {
+    match kind {
+        Kind::Leaf(Tip::Bears(_, _)) => true,
+        Kind::Leaf(Tip::Token(_, node, scope)) => match program.node(node as usize) {
+            TermNode::Operand(operand) => {
+                matches!(
+                    marked.param(operand, scope as usize),
+                    Param::Is(_) | Param::Void
+                )
+            }
+            TermNode::Site(_, list) => {
+                is_callable(marked, program.operands(list), scope as usize)
+            }
+            _ => true,
+        },
+        _ => false,
+    }
+}
+
+impl Allowed {
+    /// The entries that are allowed at a place of a run, in the order cancel, moves of tokens by their marks, `lost`, `right`, returns, tick. The error
+    /// is refused memory.
+    pub fn new(
+        alloc: Global,
+        marked: &mut Marked,
+        program: &Program,
+        answers: &Answers,
+    ) -> Result<Allowed, AllocError>
+        ensures taken { IfOk result (AreTaken program.now answers.now marked.old) }
+        ensures same { marked.new ≡ marked.old }
+    {
+        let mut allowed = Allowed {
+            first: Vec::new(alloc),
+            count: 0,
+        };
+        match marked.next_cancel() {
+            Some(call) => allowed.add(Entry::Cancel(call))?,
+            None => {
+                allowed.add_tokens(marked, program)?;
+                allowed.add_sides(marked)?;
+                allowed.add_returns(marked)?;
+                allowed.add_tick(marked)?;
+            }
+        }
+        let Allowed { first, count } = allowed;
+        let first = taken(alloc, marked, program, answers, first)?;
+        Ok(Allowed { first, count })
+    }
+
+    fn add(&mut self, entry: Entry) -> Result<(), AllocError> {
+        self.count = self.count.saturating_add(1);
+        if self.first.len() < KEPT {
+            self.first.push(entry)?;
+        }
+        Ok(())
+    }
+
+    // The moves of tokens by their marks. Of those that aren't kept it is enough that they can be made.
+    fn add_tokens(&mut self, marked: &Marked, program: &Program) -> Result<(), AllocError> {
+        for mark in 1..marked.new_mark() {
+            if self.first.len() >= KEPT {
+                break;
+            }
+            if let Some(entry) = entry_of(marked, program, mark) {
+                self.add(entry)?;
+            }
+        }
+        self.count = 0;
+        for slot in marked.nodes() {
+            if is_free(marked, program, slot.node().kind) {
+                self.count = self.count.saturating_add(1);
+            }
+        }
+        Ok(())
+    }
+
+    fn add_sides(&mut self, marked: &Marked) -> Result<(), AllocError> {
+        for cell in 1..marked.new_cell() {
+            if let Some(entry) = side_entry(marked, Side::Right(cell)) {
+                self.add(entry)?;
+            }
+        }
+        for mark in 1..marked.new_mark() {
+            if let Some(entry) = side_entry(marked, Side::Left(mark)) {
+                self.add(entry)?;
+            }
+        }
+        Ok(())
+    }
+
+    fn add_returns(&mut self, marked: &Marked) -> Result<(), AllocError> {
+        for call in 1..marked.new_call() {
+            match marked.due(call) {
+                Some((answer, time)) if time == marked.now() => {
+                    self.add(return_entry(marked, call, answer))?;
+                }
+                _ => {}
+            }
+        }
+        Ok(())
+    }
+
+    // A tick, where nothing else can be done now.
+    fn add_tick(&mut self, marked: &mut Marked) -> Result<(), AllocError>
+        ensures { marked.new ≡ marked.old }
+    {
+        if self.count == 0 {
+            if let Some(time) = marked.next_due() {
+                self.add(Entry::Tick(time))?;
+            }
+        }
+        Ok(())
+    }
+
+    /// The first of them, four at most.
+    pub fn entries(&self) -> &[Entry]
+        ensures { result.now ≡ self.now }
+    {
+        self.first.as_slice()
+    }
+
+    /// How many there are.
+    pub fn count(&self) -> u64 {
+        self.count
+    }
+}
