@@ -13,6 +13,8 @@ place=$(mktemp -d)
 trap 'rm -rf "$place"' EXIT
 passed=0
 failed=0
+# Whoever runs the checks may want explanations; the checks say themselves where they do.
+unset ORC_EXPLAIN
 
 pass() { passed=$((passed + 1)); }
 

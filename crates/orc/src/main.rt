@@ -3,12 +3,21 @@
 
 use orc_rules::limits::LONGEST_JOURNAL;
 use orc_run::{Failure, Files, ReadFault, STANDARD_INPUT, Unread, command};
-use std::io::{ErrorKind, Read, Stdin};
+use std::alloc::{AllocError, Global};
+use std::io::{ErrorKind, IsTerminal, Read, Stdin};
 use std::process::ExitCode;
 use std::{env, fs, io, rt};
 
 /// A byte more than the longest text that any command takes, in bytes: so much of a file tells that it is too long.
 const MOST: u64 = LONGEST_JOURNAL as u64 + 1;
+
+/// What the environment says of explanations: `1` asks for them, anything else for none.
+const EXPLAIN: &str = "ORC_EXPLAIN";
+
+/// The option that asks for explanations, and the commands that take it.
+const OPTION: &str = "--explain";
+
+const EXPLAINING: [&str; 5] = ["run", "outcomes", "check", "draw", "print"];
 
 /// A file of the system, or standard input.
 #[derive(Drop)]
@@ -99,6 +108,26 @@ fn refused(rt: &impl Eprint) -> ExitCode {
     ExitCode::from(failure.status())
 }
 
+// Whether what went wrong is explained without being asked: as the environment says, else where somebody reads standard error on a terminal.
+fn explains(rt: &HostRuntime) -> bool {
+    match env::var(rt, EXPLAIN) {
+        Ok(word) => word.as_str() == "1",
+        Err(_) => rt.stderr().is_terminal(),
+    }
+}
+
+// Puts the option behind a command that takes it, unless it stands there.
+fn ask_for_explanations(alloc: Global, words: &mut Vec<String>) -> Result<(), AllocError> {
+    let takes_it = match words.get(1) {
+        Some(word) => EXPLAINING.iter().any(|command| word.as_str() == *command),
+        None => false,
+    };
+    if takes_it && !words.iter().any(|word| word.as_str() == OPTION) {
+        words.insert(2, String::from_str(alloc, OPTION)?)?;
+    }
+    Ok(())
+}
+
 fn main(rt: HostRuntime) -> ExitCode {
     let alloc = rt.alloc();
     let args = match env::args(&rt) {
@@ -106,9 +135,12 @@ fn main(rt: HostRuntime) -> ExitCode {
         Err(error) if error.kind() == ErrorKind::OutOfMemory => return refused(&rt),
         Err(_) => return failed(&rt, "error: an argument is not UTF-8", 2),
     };
-    let Ok(words) = args.collect::<Vec<String>>(alloc) else {
+    let Ok(mut words) = args.collect::<Vec<String>>(alloc) else {
         return refused(&rt);
     };
+    if explains(&rt) && ask_for_explanations(alloc, &mut words).is_err() {
+        return refused(&rt);
+    }
     let mut files = SystemFiles {
         rt: &rt,
         stdin: standard_input(rt.stdin()),
