@@ -1,10 +1,18 @@
 #!/bin/bash
-# Runs the program orc, and first proves and builds it where a source is newer than the program.
+# Runs the program orc, and first proves and builds it where a source is newer than the program. While that is done for the first time, it shows
+# what the unproved program answers: `--no-preview` as the first word, or ORC_PREVIEW=0, leaves that out.
 set -eu
 top=$(cd "$(dirname "$(readlink -f "$0")")" && pwd)
 program=$top/crates/orc/out/orc
+wants_preview=${ORC_PREVIEW:-1}
+if [ "${1:-}" = --no-preview ]; then
+    wants_preview=0
+    shift
+fi
+# What takes the line of progress off a terminal before another line is written.
+clear=
 
-say() { echo "orc: $*" >&2; }
+say() { printf '%sorc: %s\n' "$clear" "$*" >&2; }
 
 # below CRATE..: these crates and all that they stand on, the lowest first.
 below() {
@@ -36,28 +44,80 @@ processors() {
     echo "${ORC_JOBS:-$((found > 0 ? found : 1))}"
 }
 
-# prove ROOT JOBS CRATE: proves and builds a library. Those below it are built, so `rt` makes no quick pass over the sources first.
-prove() {
-    local status=0
-    # Another crate has failed: the program can't be built any more.
-    if [ -e "$room/failed" ]; then return 1; fi
-    (cd "$1/crates/$3" && rt lib --jobs "$2") >"$room/$3.log" 2>&1 || status=$?
-    cat "$room/$3.log" >>"$log"
-    [ "$status" = 0 ] || echo "$3" >>"$room/failed"
-    return "$status"
+# number FILE: `found` becomes the number in a file, 0 where it has none, as on a full disk.
+number() {
+    found=
+    { read -r found <"$1"; } 2>/dev/null || true
+    found=${found:-0}
 }
 
-# tell CRATE: it is proved.
+# fail CRATE STATUS: the program can't be built any more. A file that goes tells it, since on a full disk none can come.
+fail() {
+    rm -f "$room/going"
+    echo "$2" >"$room/$1.failed"
+}
+
+# Whether a crate has failed, or the room is gone.
+has_failed() { [ ! -e "$room/going" ]; }
+
+# begin CRATE, tell CRATE: it is at work; it is proved.
+begin() { echo "$SECONDS" >"$room/$1.since"; }
 tell() {
-    touch "$room/$1.proved"
-    say "proved $1, $(find "$room" -maxdepth 1 -name '*.proved' | wc -l) of $total crates ($((SECONDS - started)) s so far)"
+    local found
+    number "$room/$1.since"
+    if ! echo "$((SECONDS - found))" >"$room/$1.proved"; then
+        fail "$1" 1
+        return 1
+    fi
+    # On a terminal the line of progress tells it.
+    if [ -z "$clear" ]; then say "proved $1, $(count_proved) of $total crates ($((SECONDS - started)) s so far$(left))"; fi
 }
 
-# ranked CRATE..: these crates, first those from which the longest way leads to the program, counted in bytes of their files.
-ranked() {
+count_proved() {
+    local proved=("$room"/*.proved)
+    if [ -e "${proved[0]}" ]; then echo "${#proved[@]}"; else echo 0; fi
+}
+
+# weigh CRATE..: a line 'CRATE WEIGHT' for each. What is kept of an earlier start weighs nothing. Else it is the bytes of the crate's files, and a
+# third of those below it, which `rt` reads first: high up a small crate takes minutes.
+weigh() {
+    local crate each weight
+    declare -A bytes=()
+    for crate; do bytes[$crate]=$(cat "$top/crates/$crate"/{src,specs,proofs}/* 2>/dev/null | wc -c); done
     for crate; do
-        echo "$crate $(cat "$top/crates/$crate"/{src,specs,proofs}/* 2>/dev/null | wc -c)"
-    done | awk '
+        if [ -e "$top/crates/$crate/out/rlib" ]; then
+            echo "$crate 0"
+            continue
+        fi
+        weight=${bytes[$crate]}
+        for each in $(below "$crate"); do
+            if [ "$each" != "$crate" ]; then weight=$((weight + ${bytes[$each]:-0} / 3)); fi
+        done
+        echo "$crate $weight"
+    done
+}
+
+# states: for each crate its weight, what it does, and for how many seconds it did.
+states() {
+    local crate weight found
+    while read -r crate weight; do
+        if [ -e "$room/$crate.proved" ]; then
+            number "$room/$crate.proved"
+            echo "$crate $weight proved $found"
+        elif [ -e "$room/$crate.since" ]; then
+            number "$room/$crate.since"
+            echo "$crate $weight works $((SECONDS - found))"
+        else
+            echo "$crate $weight waits 0"
+        fi
+    done <"$room/weights"
+}
+
+# ways LANES: the seconds that are left, by what the proved crates took for their weight: all that is to be done, shared by the lanes, or the
+# longest way up to the program if that is longer. Nothing where no crate has told of its time yet. With no LANES, each crate after the weight of
+# the longest way from it to the program.
+ways() {
+    awk -v lanes="${1:-0}" '
         function way(crate,    i, parts, count, longest, next_way) {
             if (crate in found) return found[crate]
             count = split(users[crate], parts, " ")
@@ -65,45 +125,143 @@ ranked() {
                 next_way = way(parts[i])
                 if (next_way > longest) longest = next_way
             }
-            return found[crate] = size[crate] + longest
+            return found[crate] = own[crate] + longest
         }
-        FILENAME == "-" { size[$1] = $2; next }
+        FILENAME == "-" {
+            own[$1] = $2; state[$1] = $3; seconds[$1] = $4
+            if ($3 == "proved" && $2 > 0) { weight += $2; took += $4 }
+            next
+        }
         /^[a-z]/ {
             split($0, sides, ":")
             split(sides[1], names, " ")
+            if (!(names[1] in own)) next
             count = split(sides[2], parts, " ")
             for (i = 1; i <= count; i++) users[parts[i]] = users[parts[i]] " " names[1]
         }
-        END { for (crate in size) print way(crate), crate }' - "$top/crates.txt" | sort -rn | cut -d ' ' -f 2
+        END {
+            if (!lanes) { for (crate in own) print way(crate), crate; exit }
+            if (!took) exit
+            for (crate in own) {
+                whole = own[crate] * took / weight
+                own[crate] = state[crate] == "proved" ? 0 : whole
+                # One that takes longer than it should has a tenth left.
+                if (state[crate] == "works") own[crate] = whole - seconds[crate] > whole / 10 ? whole - seconds[crate] : whole / 10
+                all += own[crate]
+            }
+            most = all / lanes
+            for (crate in own) if (way(crate) > most) most = way(crate)
+            print int(most)
+        }' - "$top/crates.txt"
 }
 
-# Whether all that a crate stands on is proved.
+# left: ', about N min left', where that can be told.
+left() {
+    local seconds
+    seconds=$(states | ways "$lane_count")
+    [ -z "$seconds" ] || echo ", about $(((seconds + 59) / 60)) min left"
+}
+
+# The crates that are at work.
+at_work() {
+    local each crate found=
+    for each in "$room"/*.since; do
+        crate=${each##*/}
+        crate=${crate%.since}
+        if [ -e "$each" ] && [ ! -e "$room/$crate.proved" ]; then found="${found:+$found, }$crate"; fi
+    done
+    echo "$found"
+}
+
+# Keeps one line on a terminal up to date, until this script ends. While a preview is written the line stays away.
+watch() {
+    local width line
+    exec {lock}<&-
+    width=$(stty size 2>/dev/null <&2 | cut -d ' ' -f 2)
+    if [ "${width:-0}" = 0 ]; then width=80; fi
+    while kill -0 "$$" 2>/dev/null && [ -d "$room" ]; do
+        line="orc: $(count_proved) of $total crates proved ($(((SECONDS - started) / 60)) min so far$(left)); at work: $(at_work)"
+        if [ ! -e "$room/hush" ]; then printf '%s%s' "$clear" "${line:0:width-1}" >&2; fi
+        sleep 1
+    done
+}
+
+# beside COMMAND..: runs it in the background, as a process group of its own. What is typed is for the program, and standard output is its.
+beside() {
+    set -m
+    "$@" </dev/null >/dev/null &
+    set +m
+}
+
+# prove ROOT JOBS CRATE: proves and builds a library. Those below it are built, so `rt` makes no quick pass over the sources first.
+prove() {
+    local status=0
+    if has_failed; then return 1; fi
+    (cd "$1/crates/$3" && exec rt lib --jobs "$2") >"$room/$3.log" 2>&1 || status=$?
+    cat "$room/$3.log" >>"$log" || true
+    [ "$status" = 0 ] || fail "$3" "$status"
+    return "$status"
+}
+
+# Whether all that a crate stands on is proved: what it names, and so what that names.
 is_ready() {
     local crate
-    for crate in $(below "$1"); do
-        [ "$crate" = "$1" ] || [ -e "$room/$crate.proved" ] || return 1
+    for crate in ${uses[$1]}; do
+        # The others are libraries of the kit.
+        [ -z "${uses[$crate]+known}" ] || [ -e "$room/$crate.proved" ] || return 1
     done
+}
+
+# copy_sources ROOT CRATE..: a repository of these crates alone: `rt` wants the sources of each crate that its list names.
+copy_sources() {
+    local root=$1 crate place
+    shift
+    for crate; do
+        mkdir -p "$root/crates/$crate" || return 1
+        grep "^${crate}[: ]" "$top/crates.txt" >>"$root/crates.txt" || return 1
+        for place in src specs proofs; do
+            if [ -e "$top/crates/$crate/$place" ]; then cp -r "$top/crates/$crate/$place" "$root/crates/$crate" || return 1; fi
+        done
+    done
+}
+
+# copy_built FROM TO: what is built, by links where the disk has them.
+copy_built() {
+    mkdir -p "$2" || return 1
+    cp -rl "$1/rlib" "$2" 2>/dev/null && return 0
+    rm -rf "$2/rlib"
+    cp -r "$1/rlib" "$2"
+}
+
+# furnish OWN CRATE: what a crate's proof reads, and what an earlier one made of it.
+furnish() {
+    local each
+    # shellcheck disable=SC2046
+    copy_sources "$1" $(below "$2") || return 1
+    for each in $(below "$2"); do
+        [ "$each" = "$2" ] || copy_built "$top/crates/$each/out" "$1/crates/$each/out" || return 1
+    done
+    if [ -e "$top/crates/$2/out" ]; then mv "$top/crates/$2/out" "$1/crates/$2"; fi
+}
+
+# give_back OWN CRATE: what was made of a crate, whole or not.
+give_back() {
+    if [ -e "$1/crates/$2/out" ] && [ ! -e "$top/crates/$2/out" ]; then mv "$1/crates/$2/out" "$top/crates/$2"; fi
 }
 
 # apart CRATE JOBS: proves a crate in a folder of its own, over copies of what is built below it: two runs of `rt` can't work over one library
 # at a time. What was made of it, whole or not, goes back.
 apart() {
-    local crate=$1 own=$room/$1 each status=0
-    mkdir -p "$own/crates"
-    for each in $(below "$crate"); do
-        # `rt` wants the sources of each crate that its list names.
-        grep "^${each}[: ]" "$top/crates.txt" >>"$own/crates.txt"
-        mkdir -p "$own/crates/$each"
-        cp -r "$top/crates/$each"/{src,specs,proofs} "$own/crates/$each" 2>/dev/null || true
-        if [ "$each" != "$crate" ]; then
-            mkdir "$own/crates/$each/out"
-            cp -rl "$top/crates/$each/out/rlib" "$own/crates/$each/out" 2>/dev/null || cp -r "$top/crates/$each/out/rlib" "$own/crates/$each/out"
-        elif [ -e "$top/crates/$each/out" ]; then
-            mv "$top/crates/$each/out" "$own/crates/$each"
-        fi
-    done
-    prove "$own" "$2" "$crate" || status=1
-    [ ! -e "$own/crates/$crate/out" ] || mv "$own/crates/$crate/out" "$top/crates/$crate"
+    local crate=$1 own=$room/$1 status=0
+    begin "$crate"
+    if furnish "$own" "$crate" >"$room/$crate.log" 2>&1; then
+        prove "$own" "$2" "$crate" || status=1
+    else
+        cat "$room/$crate.log" >>"$log" || true
+        fail "$crate" 1
+        status=1
+    fi
+    give_back "$own" "$crate" || return 1
     [ "$status" = 0 ] || return 1
     rm -rf "$own"
     tell "$crate"
@@ -111,88 +269,286 @@ apart() {
 
 # lane JOBS CRATE..: proves one of these crates after another, each as soon as what it stands on is proved, and those that no other lane has begun.
 lane() {
-    local jobs=$1 crate left
+    local jobs=$1 crate waits
     shift
-    while [ ! -e "$room/failed" ]; do
-        left=
+    # One that was left alone ends with its crate: the next start waits for the lock, which it holds.
+    while ! has_failed && kill -0 "$$" 2>/dev/null; do
+        waits=
         for crate; do
             [ ! -e "$room/$crate.begun" ] || continue
-            left=$crate
+            waits=$crate
             is_ready "$crate" || continue
             # One lane alone can make the folder.
-            mkdir "$room/$crate.begun" 2>/dev/null || continue
+            if ! mkdir "$room/$crate.begun" 2>/dev/null; then
+                [ -d "$room/$crate.begun" ] && continue
+                echo "orc: no folder can be made in $room" >"$room/$crate.log"
+                fail "$crate" 1
+                return 1
+            fi
             apart "$crate" "$jobs" || return 1
             continue 2
         done
-        [ -n "$left" ] || return 0
-        sleep 1
+        [ -n "$waits" ] || return 0
+        sleep 0.3
     done
     return 1
 }
 
-# What a lane that was broken off had made of a crate goes back.
-put_back() {
-    local own crate
-    for own in "$room"/*/crates; do
-        crate=$(basename "$(dirname "$own")")
-        if [ -e "$own/$crate/out" ] && [ ! -e "$top/crates/$crate/out" ]; then mv "$own/$crate/out" "$top/crates/$crate"; fi
+# in_turn JOBS CRATE..: proves these crates in their places.
+in_turn() {
+    local jobs=$1 crate
+    shift
+    for crate; do
+        kill -0 "$$" 2>/dev/null || return 1
+        begin "$crate"
+        prove "$top" "$jobs" "$crate" || return 1
+        tell "$crate" || return 1
     done
-    rm -rf "$room"
+}
+
+compile() { cd "$top/crates/orc" && exec rt run --jobs "$1" -- --version >"$room/orc.log" 2>&1; }
+
+# plan_preview OWN WORD..: `rt try` reads only files that are handed to it by a name without folders. Copies the files that the words name, and sets
+# `data` and `words`; or says in `reason` why that can't be.
+plan_preview() {
+    local own=$1 word option value name
+    declare -A given=()
+    data=() words=() reason=
+    shift
+    for word; do
+        option='' value=$word
+        case $word in --*=*) option=${word%%=*}= value=${word#*=} ;; esac
+        if [ "$value" = - ]; then
+            reason="the command reads standard input"
+        elif [ "${#words[@]}" = 0 ]; then
+            # A command, whatever stands in this folder.
+            words+=("$word")
+        elif [ -f "$value" ]; then
+            name=$(basename -- "$value")
+            case $name in
+            # `rt try` keeps these names for itself, or takes them for something else.
+            program | stdin | stdout | stderr | -* | *=*) reason="no file can be called $name there" ;;
+            esac
+            if [ -n "${given[$name]:-}" ] && [ ! "$value" -ef "${given[$name]}" ]; then reason="two files are called $name"; fi
+            if [ -z "$reason" ] && [ -z "${given[$name]:-}" ]; then
+                cp -- "$value" "$own/data/$name" 2>/dev/null || reason="$value can't be copied"
+                data+=(--data "$name=$own/data/$name")
+                given[$name]=$value
+            fi
+            words+=("$option$name")
+        elif [ -e "$value" ]; then
+            reason="$value is no plain file"
+        else
+            case $value in
+            -*) ;;
+            */* | *.*) reason="there is no file $value" ;;
+            esac
+            words+=("$word")
+        fi
+        if [ -n "$reason" ]; then return 1; fi
+    done
+}
+
+# show_preview OWN SECONDS: what the unproved program wrote and its status, each line marked. `rt try` adds some lines to standard error.
+show_preview() {
+    local own=$1 end count
+    end=$(tail -n 1 "$own/err" 2>/dev/null)
+    case $end in
+    "run=ended status="*) ;;
+    *)
+        say "no preview: 'rt try' ended with '${end:0:100}'"
+        return
+        ;;
+    esac
+    if [ "$(wc -c <"$own/out")" -gt 1048576 ]; then
+        say "no preview: the output has over 1 MiB"
+        return
+    fi
+    end=${end#run=ended status=}
+    { cat "$own/out" && sed -e '/^checked: ended /d' -e '/^races: /d' -e '/^run=ended status=/d' "$own/err"; } >"$own/written" || return
+    count=$(wc -l <"$own/written")
+    {
+        say "a preview, NOT PROVED YET (after $2 s):"
+        sed -n -e '100q' -e 's/^/not proved yet | /p' "$own/written"
+        if [ "$count" -ge 100 ]; then echo "not proved yet | .. (of $count lines)"; fi
+        echo "not proved yet: status ${end%% *}. The proved answer comes when the proving has ended."
+    } >"$own/shown" 2>&1 || return
+    : >"$room/hush"
+    cat "$own/shown" >&2
+    rm -f "$room/hush"
+}
+
+# preview WORD..: the same command by `rt try`, which proves nothing, over copies of the sources: the lanes move what lies beside the real ones. It
+# has no say in the answer.
+preview() {
+    local own=$room/.preview tried begun=$SECONDS
+    # Where memory runs out, the system ends this before a proof.
+    { echo 1000 >/proc/self/oom_score_adj; } 2>/dev/null || true
+    if ! mkdir -p "$own/data" "$own/tmp" || ! plan_preview "$own" "$@"; then
+        say "no preview: ${reason:-there is no room for it}"
+        return
+    fi
+    # shellcheck disable=SC2046
+    if ! copy_sources "$own" $(below orc) 2>/dev/null; then
+        say "no preview: the sources can't be copied"
+        return
+    fi
+    if [ -e "$top/HANDLES" ]; then cp "$top/HANDLES" "$own" || true; fi
+    # From here on nothing is made in the room, and the start after one that was killed may take it away.
+    exec {lock}<&-
+    (cd "$own/crates/orc" && TMPDIR=$own/tmp exec rt try "${data[@]}" -- "${words[@]}") >"$own/out" 2>"$own/err" &
+    tried=$!
+    # `rt` is told too, and ends what it has started.
+    trap 'wait "$tried"; exit 143' TERM
+    wait "$tried" || true
+    trap - TERM
+    if kill -0 "$$" 2>/dev/null; then show_preview "$own" "$((SECONDS - begun))"; fi
+}
+
+# Ends all that this script has started, and waits for it.
+stop_all() {
+    local groups each tries=0
+    groups=$(jobs -rp)
+    for each in $groups; do kill -- "-$each" 2>/dev/null || true; done
+    for each in $groups; do
+        while kill -0 -- "-$each" 2>/dev/null; do
+            tries=$((tries + 1))
+            if [ "$tries" -gt 100 ]; then kill -KILL -- "-$each" 2>/dev/null || true; fi
+            sleep 0.1
+        done
+    done
+    wait 2>/dev/null || true
+}
+
+# tidy ROOM: what a lane that was broken off had made of a crate goes back, and the room goes.
+tidy() {
+    local own crate
+    for own in "$1"/*/crates; do
+        crate=$(basename "$(dirname "$own")")
+        give_back "$(dirname "$own")" "$crate" || true
+    done
+    rm -rf "$1" || true
+}
+
+# On each way out but that to the program.
+leave() {
+    # Who breaks off twice is in a hurry, but what was proved has to go back.
+    trap '' INT TERM HUP
+    stop_all
+    [ -z "$clear" ] || printf '%s' "$clear" >&2
+    [ -z "$room" ] || tidy "$room"
+}
+
+# give_up TEXT
+give_up() {
+    say "$1"
+    exit 70
+}
+
+# One start builds at a time. The lock is the folder's own, so that nothing is left of one that was killed; what it started holds it too.
+lock_up() {
+    exec {lock}<"$top/crates"
+    if ! command -v flock >/dev/null || flock -n "$lock"; then return; fi
+    say "another ./orc is proving; this one waits for it"
+    # Some file systems have no locks.
+    flock "$lock" || true
+}
+
+# first_start JOBS WORD..: proves all libraries in lanes.
+first_start() {
+    local jobs=$1 each crates names
+    declare -gA uses=()
+    say "building the program for the first time: every proof is checked, on $jobs processors."
+    say "That takes half an hour to an hour; the next call starts at once. The log is build.log."
+    say "It may be broken off: the next call goes on from there."
+    while IFS=: read -r each names; do
+        if [[ $each == [a-z]* ]]; then uses[${each%% *}]=$names; fi
+    done <"$top/crates.txt"
+    crates=$(ways <"$room/weights" | sort -rn | cut -d ' ' -f 2 | grep -v '^orc$')
+    lanes=()
+    for ((each = 0; each < lane_count; each++)); do
+        # shellcheck disable=SC2086
+        beside lane $((jobs < 4 ? 1 : 2)) $crates
+        lanes+=($!)
+    done
+}
+
+# Why the program wasn't built: the end of the log of what failed first.
+tell_failure() {
+    local each crate found
+    # shellcheck disable=SC2012
+    each=$(ls -tr "$room"/*.failed 2>/dev/null | head -n 1)
+    if [ -n "$each" ]; then
+        crate=$(basename "$each" .failed)
+        tail -n 20 "$room/$crate.log" >&2 || true
+        number "$each"
+        # Killed, as a shell and as Python tell it.
+        if [ "$found" = 137 ] || [ "$found" = 247 ]; then say "a proof was killed, maybe for want of memory: ORC_JOBS=1 ./orc takes less"; fi
+    fi
+    if ! { echo >"$room/written"; } 2>/dev/null; then say "nothing more can be written to $top: the disk may be full"; fi
+    say "the program wasn't built; the log is build.log"
 }
 
 build() {
-    local jobs libraries each lanes=() crates
+    local jobs libraries each is_first='' broken='' lanes=()
     if ! command -v rt >/dev/null; then
-        say "'rt', the prover and compiler of Rattle, isn't on the PATH; the program can't be built without it"
-        exit 70
+        give_up "'rt', the prover and compiler of Rattle, isn't on the PATH; the program can't be built without it"
     fi
-    jobs=$(processors)
-    log=$top/build.log
+    lock_up
+    if ! is_stale; then
+        exec {lock}<&-
+        return
+    fi
+    room=
     started=$SECONDS
-    room=$(mktemp -d -p "$top" .build.XXXXXX)
-    # Each lane is a process group of its own, which ends with this script.
-    trap 'for each in "${lanes[@]}"; do kill -- "-$each" 2>/dev/null || true; done; wait; put_back' EXIT
+    trap leave EXIT
     trap 'exit 130' INT TERM HUP
-    : >"$log"
+    # Of a start that was killed.
+    for each in "$top"/.build.??????; do
+        if [ -d "$each" ]; then tidy "$each"; fi
+    done
+    room=$(mktemp -d -p "$top" .build.XXXXXX) || give_up "the program can't be built, since nothing can be written to $top"
+    log=$top/build.log
+    { : >"$log" && : >"$room/going"; } 2>/dev/null || give_up "the program can't be built, since $log can't be written"
+    jobs=$(processors)
     libraries=$(below orc | grep -v '^orc$')
     total=$(wc -w <<<"$libraries")
-    if [ -x "$program" ] || [ "$jobs" = 1 ]; then
-        say "proving what is left or has changed, and building the program"
-        for each in $libraries; do
-            prove "$top" "$jobs" "$each" || break
-            tell "$each"
-        done
+    [ -x "$program" ] || is_first=yes
+    lane_count=1
+    if [ -n "$is_first" ] && [ "$jobs" -gt 1 ]; then lane_count=$((jobs < 4 ? 2 : 3)); fi
+    # shellcheck disable=SC2086
+    weigh $libraries orc >"$room/weights"
+    if [ -t 2 ]; then clear=$'\r\e[K'; fi
+    if [ "$lane_count" -gt 1 ]; then
+        first_start "$jobs"
     else
-        say "building the program for the first time: every proof is checked, on $jobs processors."
-        say "That takes half an hour to an hour; the next call starts at once. The log is build.log."
-        say "It may be broken off: the next call goes on from there."
+        say "proving what is left or has changed, and building the program"
         # shellcheck disable=SC2086
-        crates=$(ranked $libraries)
-        set -m
-        # shellcheck disable=SC2086
-        for ((each = 0; each < (jobs < 4 ? 2 : 3); each++)); do
-            lane $((jobs < 4 ? 1 : 2)) $crates &
-            lanes+=($!)
-        done
-        set +m
-        wait "${lanes[@]}" || true
-        lanes=()
+        beside in_turn "$jobs" $libraries
+        lanes=($!)
     fi
-    if [ ! -e "$room/failed" ]; then
-        say "compiling orc ($((SECONDS - started)) s so far)"
-        if ! (cd "$top/crates/orc" && rt run --jobs "$jobs" -- --version) >"$room/orc.log" 2>&1; then echo orc >>"$room/failed"; fi
-        cat "$room/orc.log" >>"$log"
+    if [ -n "$is_first" ] && [ "$wants_preview" != 0 ]; then beside preview "$@"; fi
+    [ -z "$clear" ] || beside watch
+    for each in "${lanes[@]}"; do wait "$each" || broken=yes; done
+    if [ -z "$broken" ] && ! has_failed; then
+        [ -n "$clear" ] || say "compiling orc ($((SECONDS - started)) s so far$(left))"
+        begin orc
+        beside compile "$jobs"
+        wait $! || fail orc "$?"
+        cat "$room/orc.log" >>"$log" || true
     fi
-    if [ -e "$room/failed" ]; then
-        tail -20 "$room/$(head -1 "$room/failed").log" >&2
-        say "the program wasn't built; the log is build.log"
+    # A preview that isn't there by now comes too late.
+    stop_all
+    if [ -n "$broken" ] || has_failed || [ ! -x "$program" ]; then
+        tell_failure
         exit 70
     fi
-    put_back
+    tidy "$room"
     trap - EXIT INT TERM HUP
     touch "$program"
     say "built in $((SECONDS - started)) s"
+    exec {lock}<&-
 }
 
-if is_stale; then build; fi
+if is_stale; then build "$@"; fi
 exec "$program" "$@"
