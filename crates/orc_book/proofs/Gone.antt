@@ -1,12 +1,12 @@
 -- What is left of a group where the right side of a cell is dropped: all of it, or nothing.
-use Rattle.std.proofs.Common.{◌≡◌, ◌≤◌, ℕ, zero, suc, ◌+◌, List, [], ◌∷◌, refl, sym, ap, ◌∙◌, subst, arith, length, Bool, true, false, cond, nat_eq, Option, Some, None as Nothing, inl, inr, ◌⊎◌, ⊎_elim}
+use Rattle.std.proofs.Common.{◌≡◌, ◌≤◌, ℕ, zero, suc, List, [], ◌∷◌, refl, sym, ap, ◌∙◌, arith, length, Bool, true, false, cond, nat_eq, Option, Some, None as Nothing, inl, inr}
 use Rattle.std.specs.Prelude.{slice_get, ◌||◌, not}
 use Rattle.std.proofs.lemmas.Bool.{eqb-true}
 use Rattle.orc_rules.specs.Nodes.{Listing, code}
 use Rattle.orc_rules.specs.Sites.{Site}
 use Rattle.orc_rules.specs.Timed.{IsIn}
 use Rattle.orc_env.specs.declared.names.Bound.{Bound}
-use Rattle.orc_indexes.specs.Same.{weight, but, is_this, None}
+use Rattle.orc_indexes.specs.Same.{weight, but, is_this}
 use Rattle.orc_frames.specs.Spelling.{aiding, inside}
 use Rattle.orc_ledger_spec.specs.Records.{Records, Lawful, its_env, raw_path}
 use Rattle.orc_ledger_spec.specs.Calls.{Drops, token_goes, call_goes, group_goes, is_inside}
@@ -27,7 +27,7 @@ use Rattle.orc_indexes.proofs.Weight.{weight-in, weight-none, weight-but, none-a
 use Rattle.orc_frames.proofs.Growth.{path-none}
 use Rattle.orc_ledger_spec.proofs.Homes.{inn-home, inn-step}
 use Rattle.orc_ledger_spec.proofs.Places.{IsPlaced, is_placed, placed-test, IsSided, is_sided, sided-test, not_false}
-use Rattle.orc_ledger_spec.proofs.Grouped.{AreSettled, settled-of, placed-token, placed-call, placed-group, dropped-grouped}
+use Rattle.orc_ledger_spec.proofs.Grouped.{settled-of, placed-group}
 
 module _ (l : Listing) (sites : List Site) (s : Records) (L : Lawful l sites s) (G : AreGrouped (numbers_of s) s) (c : ℕ) (u : Bound) (s' : Records) (D : Drops (code l) c u s s') where
   abbrev inn : ℕ → Bool

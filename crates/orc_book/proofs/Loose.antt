@@ -1,19 +1,18 @@
 -- The posts of groups that are no more are cleared, and passes that are too many go.
-use Rattle.std.proofs.Common.{◌≡◌, ◌≤◌, ◌<◌, ◌⊎◌, inl, inr, ℕ, zero, suc, ◌+◌, List, [], ◌∷◌, refl, sym, ap, ◌∙◌, subst, arith, length, Bool, true, false, cond, nat_eq, eq-eqb, Option, Some, None as Nothing}
-use Rattle.std.specs.Prelude.{slice_get, slice_set, MatchOption}
+use Rattle.std.proofs.Common.{◌≡◌, ◌≤◌, ◌<◌, ◌⊎◌, inl, inr, ℕ, zero, suc, ◌+◌, List, [], ◌∷◌, refl, sym, ap, ◌∙◌, subst, arith, length, Bool, true, false, nat_eq, eq-eqb, Option, Some, None as Nothing}
+use Rattle.std.specs.Prelude.{slice_get, MatchOption}
 use Rattle.orc_word.specs.declared.view.View.{View}
 use Rattle.orc_word.specs.Views.{group_of}
 use Rattle.std.proofs.lemmas.Bool.{eqb-true}
-use Rattle.orc_rules.specs.Timed.{IsIn}
 use Rattle.orc_rules.specs.declared.limits.TheConstants.{MOST_GROUPS}
-use Rattle.orc_indexes.specs.Same.{weight, is_this}
+use Rattle.orc_indexes.specs.Same.{weight}
 use Rattle.orc_indexes.proofs.Weight.{weight-in, some-in, this_is, this_one}
 use Rattle.orc_indexes.proofs.Lists.{set-there, set-elsewhere, weight-set}
 use Rattle.orc_ledger_spec.specs.Records.{Records}
 use Rattle.orc_ledger_spec.specs.Next.{members, numbers_of}
 use Rattle.orc_tables.specs.OpenGroups.{tokens_in, is_named}
 use Rattle.orc_tables.specs.declared.records.Group.{Group}
-use Rattle.orc_book.specs.Held.{Hold, word_at, Becomes, Changes, OneFewer, AreHeld, AreLoose, IsLoose, IsThere, IsMissing, bag, held_at, kept_at, out_at, passes_of, kept_of, out_of}
+use Rattle.orc_book.specs.Held.{Hold, word_at, Becomes, Changes, OneFewer, AreHeld, IsLoose, IsThere, IsMissing, bag, held_at, out_at, passes_of, kept_of, out_of}
 use Rattle.orc_book.proofs.Posts.{length-becomes}
 
 -- a number is a group's, or it isn't

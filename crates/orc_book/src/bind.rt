@@ -26,11 +26,11 @@ use std::alloc::AllocError;
 fn count_held<J: Naming>(posts: &[Post<J>]) -> Option<usize>
     ensures { IfSome result (λ count. count ≡ weight bag posts.now) }
 {
-    // It recurses over the posts, which are `MOST_GROUPS` at most.
-    match posts {
-        [] => Some(0),
-        [post, posts @ ..] => count_held(posts)?.checked_add(post.held()),
+    let mut count: usize = 0;
+    for post in posts {
+        count = count.checked_add(post.held())?;
     }
+    Some(count)
 }
 
 // Makes room for all passes that are held, and one more.

@@ -1,17 +1,20 @@
 //! The records of a run, and the passes of those that are not out with a worker.
-ghost use Rattle.std.specs.Prelude.{◌≡◌, ◌≤◌, Some, IfOk, IfErr};
+ghost use Rattle.std.specs.Prelude.{◌≡◌, ◌≤◌, true, Some, IfOk, IfErr};
+ghost use Rattle.orc_ledger_spec.specs.Whole.{IsWhole};
 ghost use Rattle.orc_rules.specs.declared.limits.TheConstants.{MOST_ENTRIES};
 ghost use Rattle.orc_ledger_spec.specs.Begun.{begun};
 ghost use Rattle.orc_tables.specs.declared.records.Token.{Token as Its};
 ghost use Rattle.orc_word.specs.Views.{group_of};
 ghost use Rattle.orc_book.specs.Held.{IsToken};
 
+use crate::kept_tokens::Keeping;
 use crate::post::{Post, first_posts, set_out};
 use crate::token::{BookFault, Refused, Token};
 use crate::word_state::{Stand, first_stands};
 use crate::words::Words;
 use orc_env::StoredScope;
 use orc_graph::Graph;
+use orc_journal::Journal;
 use orc_ledger::Ledger;
 use orc_log::Program;
 use orc_word::{Naming, Pass};
@@ -27,9 +30,11 @@ pub struct Book<P: Program + Naming> {
     pub(crate) stands: Vec<Stand<P>>,
     pub(crate) words: Words<P>,
     pub(crate) dying: usize,
+    pub(crate) keeping: Keeping,
     // Lent to the ledger's calls.
     pub(crate) scopes: Vec<StoredScope>,
     pub(crate) cancelled: Vec<u64>,
+    pub(crate) cells: Vec<u64>,
 }
 
 impl<P: Program + Naming> Model for Book<P> {
@@ -51,15 +56,19 @@ impl<P: Program + Naming> Drop for Book<P> {
             stands,
             words,
             dying: _,
+            keeping,
             scopes,
             cancelled,
+            cells,
         } = self;
         drop(ledger);
         drop(posts);
         drop(stands);
         drop(words);
+        drop(keeping);
         drop(scopes);
         drop(cancelled);
+        drop(cells);
     }
 }
 
@@ -115,14 +124,44 @@ impl<P: Program + Naming> Book<P> {
             stands,
             words,
             dying: 0,
+            keeping: Keeping::new(alloc),
             scopes: Vec::new(alloc),
             cancelled: Vec::new(alloc),
+            cells: Vec::new(alloc),
         };
         let token = book.born(0, pass);
         Ok((book, token))
     }
 
-    /// How many killed groups' numbers are still taken.
+    /// The journal of the run, which is kept, and nothing else of the book.
+    pub fn into_journal(self) -> Journal
+        requires keeps { P.keeps ≡ true }
+        ensures entries { result.entries ≡ self.ledger.journal }
+        ensures whole { IsWhole P.listing P.sites self.ledger }
+    {
+        let Book {
+            ledger,
+            posts,
+            stands,
+            words,
+            dying: _,
+            keeping,
+            scopes,
+            cancelled,
+            cells,
+        } = self;
+        drop(posts);
+        drop(stands);
+        drop(words);
+        drop(keeping);
+        drop(scopes);
+        drop(cancelled);
+        drop(cells);
+        ledger.is_whole();
+        ledger.into_journal()
+    }
+
+    /// How many killed groups' words are still taken.
     pub fn dying(&self) -> usize {
         self.dying
     }

@@ -1,14 +1,15 @@
 //! Groups that were left last.
 ghost use Rattle.std.specs.Prelude.{◌≡◌, ◌≤◌, ◌+◌, ◌⊎◌, ℕ, IfOk, IfErr, OnErr, MatchOption, Some};
 ghost use Rattle.orc_rules.specs.Nodes.{code};
-ghost use Rattle.orc_rules.specs.Term.{Halted};
+ghost use Rattle.orc_rules.specs.Term.{Halted as HasStopped};
 ghost use Rattle.orc_rules.specs.Marked.{erase};
 ghost use Rattle.orc_rules.specs.Journal.{Place};
 ghost use Rattle.orc_ledger_spec.specs.Answers.{IsAt};
 ghost use Rattle.orc_ledger_spec.specs.Halting.{HasHalted};
 ghost use Rattle.orc_ledger_spec.specs.declared.results.Halted.{Halted as ItsHalted};
 ghost use Rattle.orc_tables.specs.declared.records.Token.{Token as Its};
-ghost use Rattle.orc_book.specs.Held.{IsToken, Rises};
+ghost use Rattle.orc_book.specs.Held.{IsToken};
+ghost use Rattle.orc_book.specs.Ends.{HasEnded};
 
 use crate::bind::reserve_all;
 use crate::book::Book;
@@ -17,7 +18,7 @@ use crate::settle::{clear_missing, settle_all};
 use crate::token::{BookFault, Refused, Token, fault_of};
 use crate::word_state::{Kind, free, kind_of};
 use orc_ledger::stands;
-use orc_ledger_spec::{HaltFault, Halted as HasEnded};
+use orc_ledger_spec::{HaltFault, Halted};
 use orc_log::Program;
 use orc_word::{Last, Naming, Pass};
 
@@ -28,19 +29,22 @@ pub enum Ended<P: Naming> {
     Run,
     /// It was the left side of an otherwise: a token on the right side is out.
     Token(Token<P>),
-    /// It is gone, and its pass to the group round it is to be left.
+    /// It was the right side of this cell, which will never have a value: `wake` is to be told.
+    Lost(u64),
+    /// It is gone.
     Group,
 }
 
 impl<P: Program + Naming> Book<P> {
-    /// A group that was left last is closed. Its number is free again.
+    /// A group that was left last is closed. Its word is free again, and its pass to the group round it is to be left, if it had one.
     pub fn halt(
         &mut self,
         last: Last<P>,
         leave: &mut Vec<Pass<P>>,
     ) -> Result<Ended<P>, Refused<Last<P>>>
         ensures done { IfOk result (λ e. (self.new.ledger ≡ self.old.ledger) ⊎ ((n : ℕ) × (h : ItsHalted) × HasHalted (code P.listing) self.old.ledger self.new.ledger n h)) }
-        ensures run { IfOk result (λ e. e ≡ Ended.Run → (p : Place) → IsAt P.listing P.sites self.new.ledger p → Halted (erase p.marked)) }
+        ensures born { IfOk result (HasEnded self.new) }
+        ensures run { IfOk result (λ e. e ≡ Ended.Run → (p : Place) → IsAt P.listing P.sites self.new.ledger p → HasStopped (erase p.marked)) }
         ensures refused { IfErr result (λ r. (self.new ≡ self.old) × (r.back ≡ last)) }
     {
         let word = last.group();
@@ -74,13 +78,10 @@ impl<P: Program + Naming> Book<P> {
                 }
             }
             Kind::Open(number) => match self.halt_group(number, leave) {
-                Ok(born) => {
+                Ok(ended) => {
                     let _none = free(&mut self.stands, word);
                     self.words.add(word);
-                    match born {
-                        Some(token) => Ok(Ended::Token(token)),
-                        None => Ok(Ended::Group),
-                    }
+                    Ok(ended)
                 }
                 Err(why) => Err(Refused { why, back: last }),
             },
@@ -93,9 +94,10 @@ impl<P: Program + Naming> Book<P> {
         &mut self,
         number: u32,
         leave: &mut Vec<Pass<P>>,
-    ) -> Result<Option<Token<P>>, BookFault>
-        ensures done { IfOk result (λ token. (h : ItsHalted) × HasHalted (code P.listing) self.old.ledger self.new.ledger number h) }
-        ensures born { IfOk result (λ token. Rises self.new token) }
+    ) -> Result<Ended<P>, BookFault>
+        ensures done { IfOk result (λ _. (h : ItsHalted) × HasHalted (code P.listing) self.old.ledger self.new.ledger number h) }
+        ensures born { IfOk result (HasEnded self.new) }
+        ensures side { IfOk result (λ e. e ≡ Ended.Run → ⊥) }
         ensures refused { OnErr result (self.new ≡ self.old) }
     {
         if reserve_all(&self.posts, leave).is_err() {
@@ -103,20 +105,20 @@ impl<P: Program + Naming> Book<P> {
         }
         stands(&self.ledger);
         match self.ledger.halt(number) {
-            Ok(HasEnded::Lost(_, _)) => {
+            Ok(Halted::Lost(cell, _)) => {
                 stands(&self.ledger);
                 clear_missing(&self.ledger, &mut self.posts);
                 settle_all(&self.ledger, &mut self.posts, leave);
-                Ok(None)
+                Ok(Ended::Lost(cell))
             }
-            Ok(HasEnded::Closed(parent)) => {
+            Ok(Halted::Closed(parent)) => {
                 let Some(pass) = take_at(&mut self.posts, parent) else {
                     unreachable!()
                 };
                 leave.push_reserved(pass);
-                Ok(None)
+                Ok(Ended::Group)
             }
-            Ok(HasEnded::Resumed(slot)) => {
+            Ok(Halted::Resumed(slot)) => {
                 let Some(its) = self.ledger.held(slot) else {
                     unreachable!()
                 };
@@ -126,7 +128,7 @@ impl<P: Program + Naming> Book<P> {
                 let Some(pass) = send_at(&mut self.posts, group, out + 1) else {
                     unreachable!()
                 };
-                Ok(Some(self.born(slot, pass)))
+                Ok(Ended::Token(self.born(slot, pass)))
             }
             Err(HaltFault::Gone) => Err(BookFault::Gone),
             Err(HaltFault::Live) => Err(BookFault::Live),

@@ -4,18 +4,26 @@
 mod bind;
 mod book;
 mod calls;
+mod clock;
+mod continuation;
 mod halt;
+mod kept_tokens;
+mod looks;
+mod lookup;
 mod moves;
 mod open;
 mod pair;
 mod post;
 mod settle;
 mod token;
+mod wait;
 mod word_state;
 mod words;
 
 pub use book::Book;
 pub use calls::Answered;
+pub use clock::Next;
 pub use halt::Ended;
+pub use looks::{Needs, TokenView, needs_of};
 pub use pair::two_binds;
 pub use token::{BookFault, Refused, Token};

@@ -1,5 +1,5 @@
 //! Moves of tokens that are out.
-ghost use Rattle.std.specs.Prelude.{◌≡◌, ◌≤◌, ◌<◌, ◌⊎◌, ℕ, List, length, true, Some, IfOk, IfErr, IfSome};
+ghost use Rattle.std.specs.Prelude.{◌≡◌, ◌≤◌, ◌<◌, ◌⊎◌, ℕ, List, length, true, Some, IfOk, IfErr, IfSome, IfNone};
 ghost use Rattle.orc_rules.specs.Timed.{IsIn};
 ghost use Rattle.orc_rules.specs.declared.value.Value.{Value as ValueOf};
 ghost use Rattle.orc_tables.specs.declared.records.Token.{Token as Its};
@@ -7,7 +7,7 @@ ghost use Rattle.orc_rules.specs.Nodes.{code, definitions};
 ghost use Rattle.orc_ledger_spec.specs.Doing.{what_of};
 ghost use Rattle.orc_ledger_spec.specs.Moves.{Moves};
 ghost use Rattle.orc_ledger_spec.specs.declared.results.Moved.TheVariants as moved;
-ghost use Rattle.orc_book.specs.Held.{IsToken, out_at, word_at};
+ghost use Rattle.orc_book.specs.Held.{IsToken, IsGone, out_at, word_at};
 ghost use Rattle.orc_tables.specs.Tokens.{IsHeld};
 ghost use Rattle.orc_tables.specs.Steps.{group_at};
 ghost use Rattle.orc_ledger_spec.specs.Calls.{IsForked};
@@ -27,6 +27,7 @@ impl<P: Program + Naming> Book<P> {
     pub(crate) fn record_of(&self, token: &Token<P>) -> Option<Record>
         ensures token { IfSome result (λ t. IsToken self.now token.now.slot token.now.serial token.now.pass t) }
         ensures there { IfSome result (λ t. IsIn t self.now.ledger.tokens) }
+        ensures gone { IfNone result (IsGone self.now token.now.slot token.now.serial token.now.pass) }
     {
         if token.serial < 1 {
             return None;

@@ -1,7 +1,7 @@
 //! What a book has of a group.
 ghost use Rattle.std.specs.Prelude.{◌≡◌, ◌+◌, ◌-◌, ◌<◌, ◌≤◌, ◌^◌, ◌∷◌, ◌++◌, [], Some, length, vec_len, vec_capacity, IfOk, OnOk, MatchOption};
 ghost use Rattle.orc_word.specs.Views.{group_of};
-ghost use Rattle.orc_book.specs.Held.{Hold, AreFirst, Becomes, Changes, Same, OneMore, OneFewer, held_at, out_at, word_at, room_at};
+ghost use Rattle.orc_book.specs.Held.{Hold, AreFirst, Becomes, Changes, Same, OneMore, OneFewer, held_at, kept_at, out_at, word_at, room_at};
 
 use orc_rules::limits::MOST_GROUPS;
 use orc_word::{Naming, Pass};
@@ -269,6 +269,39 @@ pub(crate) fn send_at<J: Naming>(
             Some(pass)
         }
         None => None,
+    }
+}
+
+/// So many tokens of a group are out and kept, and a pass for one of them goes out of the book, if one is held.
+pub(crate) fn wake_at<J: Naming>(
+    posts: &mut Vec<Post<J>>,
+    number: u32,
+    out: usize,
+    kept: usize,
+) -> Option<Pass<J>>
+    ensures { MatchOption result (posts.new.items ≡ posts.old.items) (λ pass. (group_of pass ≡ Some (word_at posts.old.items number)) × Changes posts.old.items number posts.new.items (λ p q. (length q.passes + 1 ≡ length p.passes) × (q.kept ≡ kept) × (q.out ≡ out))) }
+{
+    if held_in(posts, number) < 1 {
+        return None;
+    }
+    let Some(post) = posts.get_mut(number as usize) else {
+        unreachable!()
+    };
+    let Some(pass) = post.take() else {
+        unreachable!()
+    };
+    post.set_out(out);
+    post.set_kept(kept);
+    Some(pass)
+}
+
+/// How many tokens of a group are kept.
+pub(crate) fn kept_in<J: Naming>(posts: &Vec<Post<J>>, number: u32) -> usize
+    ensures { result ≡ kept_at posts.now.items number }
+{
+    match posts.get(number as usize) {
+        Some(post) => post.kept(),
+        None => 0,
     }
 }
 

@@ -1,4 +1,3 @@
-use Rattle.std.proofs.Common.{◌≡◌, ◌≤◌, length}
 use Rattle.orc_book.proofs.Loose.{AreBurying}
 use Rattle.orc_book.proofs.settle.bury_missing.Given as goal
 

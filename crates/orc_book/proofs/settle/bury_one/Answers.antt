@@ -1,4 +1,4 @@
-use Rattle.std.proofs.Common.{◌≡◌, ◌+◌, ◌≤◌, sym, subst, refl, ap, Some}
+use Rattle.std.proofs.Common.{◌≡◌, ◌+◌, ◌≤◌, subst, Some}
 use Rattle.std.specs.Prelude.{MatchOption}
 use Rattle.orc_word.specs.Views.{group_of}
 use Rattle.orc_book.specs.Held.{Changes, OneFewer, word_at, held_at, out_at}

@@ -1,4 +1,4 @@
-use Rattle.std.proofs.Common.{◌≡◌, ◌+◌, arith, subst, sym, refl, ap}
+use Rattle.std.proofs.Common.{◌+◌, arith, subst, sym, ap}
 use Rattle.orc_book.proofs.Loose.{AreClearing, clearing-there, clearing-missing, clearing-done}
 use Rattle.orc_book.proofs.settle.clear_missing.Goals.{then-not-is_there, else-not-is_there}
 use Rattle.orc_book.proofs.settle.clear_missing.Goals as goal

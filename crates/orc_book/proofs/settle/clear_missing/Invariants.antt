@@ -1,4 +1,3 @@
-use Rattle.std.proofs.Common.{◌≡◌, ◌≤◌, length}
 use Rattle.orc_book.proofs.Loose.{AreClearing}
 use Rattle.orc_book.proofs.settle.clear_missing.Given as goal
 

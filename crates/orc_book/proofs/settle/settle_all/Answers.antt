@@ -1,7 +1,7 @@
-use Rattle.std.proofs.Common.{◌≡◌, ◌+◌, ◌≤◌, arith, subst, sym, refl, ap, length, ℕ, ◌∙◌}
+use Rattle.std.proofs.Common.{arith, subst, ap, ◌∙◌}
 use Rattle.orc_indexes.specs.Same.{weight}
 use Rattle.orc_indexes.proofs.Lists.{weight-set}
-use Rattle.orc_book.specs.Held.{Hold, Becomes, bag}
+use Rattle.orc_book.specs.Held.{Becomes, bag}
 use Rattle.orc_book.proofs.Loose.{AreSettling, settling-on, settling-done, held-fewer}
 use Rattle.orc_book.proofs.settle.settle_all.Goals as goal
 

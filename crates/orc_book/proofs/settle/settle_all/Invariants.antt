@@ -1,4 +1,4 @@
-use Rattle.std.proofs.Common.{◌≡◌, ◌≤◌, ◌+◌, length, vec_len, vec_capacity}
+use Rattle.std.proofs.Common.{◌≡◌, ◌≤◌, ◌+◌, vec_len, vec_capacity}
 use Rattle.orc_indexes.specs.Same.{weight}
 use Rattle.orc_book.specs.Held.{bag}
 use Rattle.orc_book.proofs.Loose.{AreSettling}

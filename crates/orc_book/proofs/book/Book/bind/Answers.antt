@@ -1,9 +1,6 @@
-use Rattle.std.proofs.Common.{◌≡◌, ◌≤◌, ◌+◌, ℕ, arith, ap, sym, ◌∙◌, refl, subst, true, cond}
+use Rattle.std.proofs.Common.{ap, sym, ◌∙◌, subst, cond}
 use Rattle.orc_rules.specs.Timed.{IsIn}
-use Rattle.orc_rules.specs.Nodes.{code, definitions}
 use Rattle.orc_env.specs.declared.names.Bound.TheVariants as bound
-use Rattle.orc_ledger_spec.specs.Doing.{what_of}
-use Rattle.orc_frames.specs.declared.action.Action.TheVariants as what
 use Rattle.orc_word.specs.Words.{has, with_bit}
 use Rattle.orc_word.specs.Views.{won_of}
 use Rattle.orc_word.specs.declared.bits.Bit.TheVariants.{Killed}

@@ -1,0 +1,13 @@
+use Rattle.std.proofs.Common.{sym, subst}
+use Rattle.orc_ledger_spec.specs.Spoken.{IsRight}
+use Rattle.orc_ledger_spec.specs.declared.results.Next.TheVariants.{Ticks}
+use Rattle.orc_book.proofs.book.Book.next.Goals as goal
+
+pub returns-in-Work-clause-says : goal.returns-in-Work-clause-says
+returns-in-Work-clause-says g c = rw (← c.self.view_is) (c.next-next.ensures.same, sym c.in-Work.ensures.is, c.in-Work.ensures.right)
+
+pub tick-requires : goal.tick-requires
+tick-requires g c =
+    let whole = c.is_whole.ensures in
+    let right = subst (λ z. IsRight g.P.Program.listing g.P.Program.sites z (Ticks c.in-Ticks.time)) (sym c.next-next.ensures.same) c.in-Ticks.ensures.right in
+    (whole.place, whole.leads, right whole.place whole.leads)

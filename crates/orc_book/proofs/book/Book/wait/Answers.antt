@@ -1,0 +1,56 @@
+use Rattle.std.proofs.Common.{◌≡◌, ℕ, arith, refl, ap, sym, ◌∙◌, subst, Some}
+use Rattle.orc_tables.specs.Steps.{group_at}
+use Rattle.orc_word.specs.Views.{group_of}
+use Rattle.orc_book.specs.Held.{AreHeld, Changes, HasStayed, KeepsOne, kept_at, out_at, word_at}
+use Rattle.orc_book.proofs.Ones.{roomy-held}
+use Rattle.orc_book.proofs.Moving.{kept-held}
+use Rattle.orc_book.proofs.Posts.{stayed, keeps-one}
+use Rattle.orc_book.proofs.book.Book.wait.Goals as goal
+
+pub invariant_of-self-in_default-reserve_at : goal.invariant_of-self-in_default-reserve_at
+invariant_of-self-in_default-reserve_at g c =
+    let b = c.self.inside in
+    let ps1 = c.reserve_at.new.posts.items in
+    subst (AreHeld ps1) (sym c.park.ensures.same) (roomy-held b.ledger b.posts.items ps1 _ c.reserve_at.ensures.same c.self.invariant)
+
+pub returns-in_default-reserve_at-clause-refused : goal.returns-in_default-reserve_at-clause-refused
+returns-in_default-reserve_at-clause-refused g c =
+    let b = c.self.inside in
+    let ps1 = c.reserve_at.new.posts.items in
+    let k : HasStayed (record { ledger = b.ledger; posts = b.posts.items }) (record { ledger = b.ledger; posts = ps1 }) = stayed b.ledger b.posts.items ps1 _ c.reserve_at.ensures.same in
+    (rw (← c.self.view_is) (subst (λ z. HasStayed (record { ledger = b.ledger; posts = b.posts.items }) (record { ledger = z; posts = ps1 })) (sym c.park.ensures.same) k), refl)
+
+pub keep_at-requires-clause-names : goal.keep_at-requires-clause-names
+keep_at-requires-clause-names g c =
+    let b = c.self.inside in
+    let ps = b.posts.items in
+    let t = c.in-Ok.found.its in
+    let n : ℕ = c.in-Ok.found.group in
+    let at : n ≡ group_at b.ledger.steps t.step = rw (← c.self.view_is) at c.in-Ok.ensures.group in
+    let named : group_of c.args.token.pass ≡ Some (word_at ps (group_at b.ledger.steps t.step)) = rw (← c.self.view_is) at c.in-Ok.ensures.token.2 in
+    let k = stayed b.ledger ps c.reserve_at.new.posts.items _ c.reserve_at.ensures.same in
+    named ∙ ap (λ z. Some (word_at ps z)) (sym at) ∙ ap Some (sym (k.words n))
+
+pub invariant_of-self-2 : goal.invariant_of-self-2
+invariant_of-self-2 g c =
+    let b = c.self.inside in
+    let ps = b.posts.items in
+    let ps2 = c.keep_at.new.posts.items in
+    let n : ℕ = c.in-Ok.found.group in
+    let kept : c.kept_in.result ≡ kept_at ps n = c.kept_in.ensures in
+    let out : c.in-Ok.found.out ≡ out_at ps n = rw (← c.self.view_is) at c.in-Ok.ensures.out.0 in
+    let C : Changes ps n ps2 KeepsOne = keeps-one ps c.reserve_at.new.posts.items ps2 n c.reserve_at.ensures.same _ _ c.keep_at.ensures.more (omega (arith, c.in-Some.ensures, kept)) (omega (arith, out, c.in-Ok.ensures.out.1)) in
+    subst (AreHeld ps2) (sym c.park.ensures.same) (kept-held b.ledger ps ps2 n C c.self.invariant)
+
+pub returns-clause-done : goal.returns-clause-done
+returns-clause-done g c =
+    let b = c.self.inside in
+    let ps = b.posts.items in
+    let ps2 = c.keep_at.new.posts.items in
+    let t = c.in-Ok.found.its in
+    let n : ℕ = c.in-Ok.found.group in
+    let at : n ≡ group_at b.ledger.steps t.step = rw (← c.self.view_is) at c.in-Ok.ensures.group in
+    let kept : c.kept_in.result ≡ kept_at ps n = c.kept_in.ensures in
+    let out : c.in-Ok.found.out ≡ out_at ps n = rw (← c.self.view_is) at c.in-Ok.ensures.out.0 in
+    let C : Changes ps n ps2 KeepsOne = keeps-one ps c.reserve_at.new.posts.items ps2 n c.reserve_at.ensures.same _ _ c.keep_at.ensures.more (omega (arith, c.in-Some.ensures, kept)) (omega (arith, out, c.in-Ok.ensures.out.1)) in
+    (t, c.in-Ok.ensures.token, c.waits.ensures c.if-not-waits.false, rw (← c.self.view_is) (subst (λ z. Changes ps z ps2 KeepsOne) at C))

@@ -1,0 +1,5 @@
+use Rattle.orc_book.specs.Held.{HaveStayed, AreBorn}
+use Rattle.orc_book.proofs.book.Book.wake.Given as goal
+
+abbrev pub invariant-loop-link : goal.invariant-loop-link
+invariant-loop-link g l = HaveStayed l.initial.self l.self × AreBorn l.initial.born.items l.born.items l.self

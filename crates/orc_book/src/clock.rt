@@ -1,0 +1,57 @@
+//! What comes next where no token is out that moves.
+ghost use Rattle.std.specs.Prelude.{◌≡◌, ◌+◌, ◌++◌, ◌∷◌, [], IfOk, OnOk, OnErr};
+ghost use Rattle.orc_rules.specs.declared.entry.Entry.TheVariants.{Tick};
+ghost use Rattle.orc_ledger_spec.specs.Answers.{MayTick};
+ghost use Rattle.orc_book.specs.Coming.{SaysNext};
+
+use crate::book::Book;
+use crate::token::{BookFault, fault_of};
+use orc_graph::Graph;
+use orc_ledger::Next as Comes;
+use orc_log::Program;
+use orc_word::Naming;
+
+/// What comes next of a run.
+#[derive(Clone, Copy)]
+pub enum Next {
+    /// A token moves, a group ends, or a call is due.
+    Work,
+    /// Only time could go on, and it has: a call is due now.
+    Ticked,
+    /// Nothing any more: the run is quiet.
+    Quiet,
+}
+
+impl<P: Program + Naming> Book<P> {
+    /// What comes next, tokens that are out and kept alike. Where that is a tick it is made. The faults are Limit and Memory, of a tick's entry.
+    pub fn next(&mut self, graph: &Graph) -> Result<Next, BookFault>
+        requires graph { graph.now ≡ P.listing }
+        ensures says { IfOk result (λ n. SaysNext P.listing P.sites self.old.ledger n self.new.ledger) }
+        ensures posts { self.new.posts ≡ self.old.posts }
+        ensures refused { OnErr result (self.new ≡ self.old) }
+    {
+        let next = self.ledger.next(graph);
+        self.ledger.is_whole();
+        match next {
+            Comes::Work => Ok(Next::Work),
+            Comes::Quiet => Ok(Next::Quiet),
+            Comes::Ticks(time) => {
+                self.tick(time)?;
+                Ok(Next::Ticked)
+            }
+        }
+    }
+
+    // Time goes on.
+    fn tick(&mut self, time: u64) -> Result<(), BookFault>
+        requires { MayTick P.listing P.sites self.old.ledger time }
+        ensures done { OnOk result (self.new.ledger ≡ record self.old.ledger { journal = self.old.ledger.journal ++ Tick time ∷ []; entries = self.old.ledger.entries + 1; now = time }) }
+        ensures posts { self.new.posts ≡ self.old.posts }
+        ensures refused { OnErr result (self.new ≡ self.old) }
+    {
+        match self.ledger.tick(time) {
+            Ok(()) => Ok(()),
+            Err(fault) => Err(fault_of(fault)),
+        }
+    }
+}

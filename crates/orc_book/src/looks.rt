@@ -1,0 +1,117 @@
+//! What a book answers without a move.
+ghost use Rattle.std.specs.Prelude.{◌≡◌, ◌≤◌, ℕ, Some, true, IfSome, IfNone, MatchOption};
+ghost use Rattle.orc_rules.specs.Timed.{IsIn};
+ghost use Rattle.orc_tables.specs.PendingCalls.{due_of};
+ghost use Rattle.orc_tables.specs.declared.records.Call.{Call as ItsCall};
+ghost use Rattle.orc_indexes.specs.Same.{weight};
+ghost use Rattle.orc_rules.specs.Nodes.{code, definitions};
+ghost use Rattle.orc_ledger_spec.specs.Answers.{IsDueNow, Pends};
+ghost use Rattle.orc_ledger_spec.specs.Doing.{what_of};
+ghost use Rattle.orc_ledger_spec.specs.Requests.{IsAsked};
+ghost use Rattle.orc_tables.specs.PendingCalls.{IsDueBeyond, IsLeastBeyond, has_number};
+ghost use Rattle.orc_tables.specs.Steps.{group_at};
+ghost use Rattle.orc_tables.specs.Tokens.{IsHeld};
+ghost use Rattle.orc_tables.specs.declared.records.Token.{Token as Its};
+ghost use Rattle.orc_book.specs.Held.{AreHeld, word_at};
+ghost use Rattle.orc_book.specs.Looks.{needs_of};
+
+use crate::book::Book;
+use crate::post::word_in;
+use orc_graph::Graph;
+use orc_ledger::{Action, Request};
+use orc_log::Program;
+use orc_rules::value::Answer;
+use orc_tables::Call;
+use orc_word::Naming;
+
+/// The passes that a move needs beside the token's own, at most: how many to the token's own group, and how many idle ones.
+#[derive(Clone, Copy)]
+pub struct Needs {
+    pub same: u32,
+    pub idle: u32,
+}
+
+/// The passes that a token needs, beside its own, to do this.
+pub fn needs_of(what: Action) -> Needs
+    ensures { result ≡ needs_of what }
+{
+    match what {
+        Action::Fork => Needs { same: 1, idle: 0 },
+        Action::Prune => Needs { same: 1, idle: 1 },
+        Action::Other | Action::Send(_) => Needs { same: 0, idle: 1 },
+        _ => Needs { same: 0, idle: 0 },
+    }
+}
+
+/// What a book knows of a token: what it does next, the word of its group, and the passes that it needs for that.
+#[derive(Clone, Copy)]
+pub struct TokenView {
+    pub what: Action,
+    pub word: u32,
+    pub needs: Needs,
+}
+
+impl<P: Program + Naming> Book<P> {
+    /// What the token with this serial does next, if it is in this slot, kept or out. Serials begin with 1.
+    pub fn view(&self, graph: &Graph, slot: usize, serial: u64) -> Option<TokenView>
+        requires graph { graph.now ≡ P.listing }
+        ensures there { IfSome result (λ v. (t : Its) × IsHeld self.now.ledger.slots slot t × (t.serial ≡ serial) × (v.what ≡ what_of (code P.listing) (definitions P.listing) self.now.ledger t) × (v.word ≡ word_at self.now.posts (group_at self.now.ledger.steps t.step)) × (v.needs ≡ needs_of v.what)) }
+        ensures gone { IfNone result ((t : Its) → IsHeld self.now.ledger.slots slot t → t.serial ≡ serial → ⊥) }
+    {
+        if serial < 1 {
+            return None;
+        }
+        let its = self.ledger.token(slot, serial)?;
+        let what = self.ledger.what(graph, &its);
+        let group = self.ledger.group_of_token(&its);
+        Some(TokenView {
+            what,
+            word: word_in(&self.posts, group),
+            needs: needs_of(what),
+        })
+    }
+
+    /// The passes fit the records, as a law: each token is kept or out, and of each other record of a group the book holds one pass to that group.
+    pub fn holds(&self)
+        ensures { AreHeld self.now.posts self.now.ledger }
+    {
+        let _posts = &self.posts;
+    }
+
+    /// How many entries the journal has, the cancels left out.
+    pub fn entries(&self) -> usize
+        ensures { result ≡ self.now.ledger.entries }
+    {
+        self.ledger.entries()
+    }
+
+    /// The time, in logical units.
+    pub fn now(&self) -> u64
+        ensures { result ≡ self.now.ledger.now }
+    {
+        self.ledger.time()
+    }
+
+    /// What the call that pends with this number asks. A book that doesn't keep its journal may know it no more.
+    pub fn request(&self, number: u64) -> Option<Request>
+        ensures { MatchOption result (P.keeps ≡ true → weight (has_number number) self.now.ledger.calls ≡ 0) (IsAsked P.listing P.sites self.now.ledger number) }
+    {
+        self.ledger.request(number)
+    }
+
+    /// The call with the least number of those that are due now, and the answer that the table of sites gives. Where there is none no call is overdue either.
+    pub fn due(&mut self) -> Option<(Call, Answer)>
+        ensures due { MatchOption result ((c : ItsCall) (t : ℕ) → IsIn c self.old.ledger.calls → due_of c ≡ Some t → t ≤ self.old.ledger.now → ⊥) (λ d. Pends self.old.ledger d.0.number d.0 × IsDueNow P.listing P.sites self.old.ledger d.0.number d.1 × IsLeastBeyond self.old.ledger.calls 0 self.old.ledger.now d.0.number) }
+        ensures same { self.new ≡ self.old }
+    {
+        self.ledger.due()
+    }
+
+    /// The least number over this one of a pending call that is due now.
+    pub fn due_beyond(&mut self, number: u64) -> Option<u64>
+        ensures due { MatchOption result ((k : ℕ) → IsDueBeyond self.old.ledger.calls number self.old.ledger.now k → ⊥) (IsLeastBeyond self.old.ledger.calls number self.old.ledger.now) }
+        ensures same { self.new ≡ self.old }
+    {
+        self.ledger.due_beyond(number)
+    }
+}

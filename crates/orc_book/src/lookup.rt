@@ -1,0 +1,40 @@
+//! Tokens that are out, as the book finds them.
+ghost use Rattle.std.specs.Prelude.{◌≡◌, ◌≤◌, ◌<◌, length, IfOk, IfErr};
+ghost use Rattle.orc_rules.specs.Timed.{IsIn};
+ghost use Rattle.orc_tables.specs.Steps.{group_at};
+ghost use Rattle.orc_book.specs.Held.{IsToken, IsGone, out_at};
+
+use crate::book::Book;
+use crate::token::{BookFault, Token};
+use orc_log::Program;
+use orc_tables::Token as Record;
+use orc_word::Naming;
+
+/// A token's record, the number of its group, and how many of the group's tokens are out.
+#[derive(Clone, Copy)]
+pub(crate) struct Found {
+    pub its: Record,
+    pub group: u32,
+    pub out: usize,
+}
+
+impl<P: Program + Naming> Book<P> {
+    /// A token that may be out: its record is there, its pass names its group's word, and some token of the group is out. The fault is Gone.
+    pub(crate) fn find(&self, token: &Token<P>) -> Result<Found, BookFault>
+        ensures token { IfOk result (λ f. IsToken self.now token.now.slot token.now.serial token.now.pass f.its) }
+        ensures there { IfOk result (λ f. IsIn f.its self.now.ledger.tokens) }
+        ensures group { IfOk result (λ f. f.group ≡ group_at self.now.ledger.steps f.its.step) }
+        ensures out { IfOk result (λ f. (f.out ≡ out_at self.now.posts f.group) × (1 ≤ f.out) × (f.group < length self.now.posts)) }
+        ensures why { IfErr result (λ why. (why ≡ BookFault.Gone) × IsGone self.now token.now.slot token.now.serial token.now.pass) }
+    {
+        let Some(its) = self.record_of(token) else {
+            return Err(BookFault::Gone);
+        };
+        let group = self.ledger.group_of_token(&its);
+        let out = self.out_of(group);
+        if out < 1 {
+            return Err(BookFault::Gone);
+        }
+        Ok(Found { its, group, out })
+    }
+}

@@ -1,0 +1,114 @@
+//! Tokens that wait for cells: the book keeps them, and they go out again once such a cell has a value, or will never have one.
+ghost use Rattle.std.specs.Prelude.{◌≡◌, ◌≤◌, ◌+◌, ℕ, Some, true, IfErr, IfSome, OnOk};
+ghost use Rattle.orc_rules.specs.Nodes.{code, definitions};
+ghost use Rattle.orc_frames.specs.Doing.{is_wait};
+ghost use Rattle.orc_ledger_spec.specs.Doing.{what_of};
+ghost use Rattle.orc_tables.specs.Steps.{group_at};
+ghost use Rattle.orc_tables.specs.declared.records.Token.{Token as Its};
+ghost use Rattle.orc_book.specs.Held.{Changes, IsToken, IsOut, HasStayed, HaveStayed, AreBorn, KeepsOne};
+
+use crate::book::Book;
+use crate::kept_tokens::Handle;
+use crate::post::{keep_at, kept_in, out_in, reserve_at, wake_at};
+use crate::token::{BookFault, Refused, Token, fault_of};
+use orc_graph::Graph;
+use orc_ledger::Action;
+use orc_log::Program;
+use orc_tables::Token as Record;
+use orc_word::Naming;
+use std::alloc::AllocError;
+
+impl<P: Program + Naming> Book<P> {
+    // Whether a token waits.
+    fn waits(&self, graph: &Graph, its: &Record) -> bool
+        requires graph { graph.now ≡ P.listing }
+        ensures { result ≡ true → is_wait (what_of (code P.listing) (definitions P.listing) self.now.ledger its.now) ≡ true }
+    {
+        match self.ledger.what(graph, its) {
+            Action::Wait(_) => true,
+            _ => false,
+        }
+    }
+
+    /// A token that waits comes into the book with its pass, until `wake` is told of a cell for which it waits.
+    pub fn wait(&mut self, graph: &Graph, token: Token<P>) -> Result<(), Refused<Token<P>>>
+        requires graph { graph.now ≡ P.listing }
+        ensures done { OnOk result ((t : Its) × IsToken self.old token.slot token.serial token.pass t × (is_wait (what_of (code P.listing) (definitions P.listing) self.old.ledger t) ≡ true) × Changes self.old.posts (group_at self.old.ledger.steps t.step) self.new.posts KeepsOne) }
+        ensures ledger { self.new.ledger ≡ self.old.ledger }
+        ensures refused { IfErr result (λ r. HasStayed self.old self.new × (r.back ≡ token)) }
+    {
+        let found = match self.find(&token) {
+            Ok(found) => found,
+            Err(why) => return Err(Refused { why, back: token }),
+        };
+        if !self.waits(graph, &found.its) {
+            let why = BookFault::Wrong;
+            return Err(Refused { why, back: token });
+        }
+        let Some(kept) = kept_in(&self.posts, found.group).checked_add(1) else {
+            let why = BookFault::Full;
+            return Err(Refused { why, back: token });
+        };
+        let handle = Handle {
+            slot: token.slot,
+            serial: token.serial,
+        };
+        if let Err(fault) = self
+            .ledger
+            .park(graph, token.slot, found.its, &mut self.cells)
+        {
+            let why = fault_of(fault);
+            return Err(Refused { why, back: token });
+        }
+        let Ok(()) = self.keeping.keep(self.cells.as_slice(), handle) else {
+            let why = BookFault::Memory;
+            return Err(Refused { why, back: token });
+        };
+        let Ok(()) = reserve_at(&mut self.posts, found.group) else {
+            let why = BookFault::Memory;
+            return Err(Refused { why, back: token });
+        };
+        keep_at(
+            &mut self.posts,
+            found.group,
+            found.out - 1,
+            kept,
+            token.pass,
+        );
+        Ok(())
+    }
+
+    // A token that is kept goes out, if it is still there.
+    fn wake_one(&mut self, handle: Handle) -> Option<Token<P>>
+        ensures same { HaveStayed self.old self.new }
+        ensures born { IfSome result (IsOut self.new) }
+    {
+        if handle.serial < 1 || !self.keeping.release(handle) {
+            return None;
+        }
+        let its = self.ledger.token(handle.slot, handle.serial)?;
+        let group = self.ledger.group_of_token(&its);
+        let kept = kept_in(&self.posts, group).checked_sub(1)?;
+        let out = out_in(&self.posts, group).checked_add(1)?;
+        let pass = wake_at(&mut self.posts, group, out, kept)?;
+        Some(self.born(handle.slot, pass))
+    }
+
+    /// A cell has a value, or will never have one: those tokens that were kept for it go out, each once, and are added to `born`. The error is refused
+    /// memory; those that are still kept then come by another call.
+    pub fn wake(&mut self, cell: u64, born: &mut Vec<Token<P>>) -> Result<(), AllocError>
+        ensures same { HaveStayed self.old self.new }
+        ensures born { AreBorn born.old.items born.new.items self.new }
+    {
+        for _link in 0..self.keeping.len() {
+            born.try_reserve(1)?;
+            let Some(handle) = self.keeping.pop(cell) else {
+                break;
+            };
+            if let Some(token) = self.wake_one(handle) {
+                born.push_reserved(token);
+            }
+        }
+        Ok(())
+    }
+}
