@@ -1,0 +1,5 @@
+pub mod Happenings
+pub mod Claims
+pub mod Known
+pub mod Meets
+pub mod Verdicts

@@ -1,0 +1,132 @@
+//! Claims on how many there are.
+
+ghost use Rattle.std.specs.Prelude.{◌≡◌, ◌≤◌, ◌<◌, ◌+◌, ◌^◌, [], IfOk};
+ghost use Rattle.orc_claims.specs.Claims.{counts, is_counted, is_uncrowded, number, out_after, up_to};
+ghost use Rattle.orc_claims.specs.Verdicts.{first_bad};
+
+use crate::claim::Event;
+use crate::event_match::Bound;
+use crate::happening::{Happening, Occurrence, Phase};
+use std::alloc::{AllocError, Global};
+
+/// Whether a number or a time is at most this one, where there is one.
+pub(crate) fn up_to(most: Option<u64>, number: u64) -> bool
+    ensures { result ≡ up_to most number }
+{
+    match most {
+        Some(most) => number <= most,
+        None => true,
+    }
+}
+
+impl Event {
+    // Whether a happening counts: it meets the event, up to the time. The error is refused memory.
+    fn counts(
+        &self,
+        by: Option<u64>,
+        happening: &Happening,
+        found: &mut Vec<Bound>,
+    ) -> Result<bool, AllocError>
+        ensures { IfOk result (λ one. one ≡ counts self.now by happening.now) }
+    {
+        if !self.is_met(happening, found)? {
+            return Ok(false);
+        }
+        Ok(up_to(by, happening.time))
+    }
+
+    /// How many happenings count. The error is refused memory.
+    pub(crate) fn number(
+        &self,
+        alloc: Global,
+        by: Option<u64>,
+        happenings: &[Happening],
+    ) -> Result<u64, AllocError>
+        ensures { IfOk result (λ n. n ≡ number self.now by happenings.now) }
+    {
+        let mut found = Vec::new(alloc);
+        let mut number: u64 = 0;
+        for at in 0..happenings.len() {
+            if self.counts(by, &happenings[at], &mut found)? {
+                number += 1;
+            }
+        }
+        Ok(number)
+    }
+
+    /// The place of the happening that is one too many. The error is refused memory.
+    #[tactic(auto, using(crate::proofs::Placed::goes_on, crate::proofs::Placed::stops, crate::proofs::Placed::done))]
+    pub(crate) fn first_too_many(
+        &self,
+        alloc: Global,
+        most: Option<u64>,
+        by: Option<u64>,
+        happenings: &[Happening],
+    ) -> Result<Option<usize>, AllocError>
+        ensures { IfOk result (λ place. place ≡ first_bad (is_counted self.now most by) [] happenings.now) }
+    {
+        let mut found = Vec::new(alloc);
+        let mut number: u64 = 0;
+        for at in 0..happenings.len() {
+            if self.counts(by, &happenings[at], &mut found)? {
+                number += 1;
+                if !up_to(most, number) {
+                    return Ok(Some(at));
+                }
+            }
+        }
+        Ok(None)
+    }
+
+    // How many calls that meet the event are out after one happening more. The error is refused memory.
+    fn out_after(
+        &self,
+        out: u64,
+        happening: &Happening,
+        found: &mut Vec<Bound>,
+    ) -> Result<u64, AllocError>
+        requires { out + 1 < 2 ^ 64 }
+        ensures count { IfOk result (λ n. n ≡ out_after self.now out happening.now) }
+        ensures most { IfOk result (λ n. n ≤ out + 1) }
+    {
+        let Occurrence::Call(site, args, phase) = &happening.what else {
+            return Ok(out);
+        };
+        if *phase == Phase::Called {
+            return Ok(if self.is_met(happening, found)? {
+                out + 1
+            } else {
+                out
+            });
+        }
+        let called = Happening {
+            time: happening.time,
+            what: Occurrence::Call(*site, args.copied(), Phase::Called),
+        };
+        Ok(if self.is_met(&called, found)? {
+            out.saturating_sub(1)
+        } else {
+            out
+        })
+    }
+
+    /// The place of the call by which too many are out. The error is refused memory.
+    pub(crate) fn first_crowd(
+        &self,
+        alloc: Global,
+        most: u64,
+        happenings: &[Happening],
+    ) -> Result<Option<usize>, AllocError>
+        ensures { IfOk result (λ place. place ≡ first_bad (is_uncrowded self.now most) [] happenings.now) }
+    {
+        let mut found = Vec::new(alloc);
+        let mut out: u64 = 0;
+        for at in 0..happenings.len() {
+            out = self.out_after(out, &happenings[at], &mut found)?;
+            if out > most {
+                return Ok(Some(at));
+            }
+        }
+        Ok(None)
+    }
+}

@@ -1,0 +1,190 @@
+//! Which happenings meet an event.
+
+ghost use Rattle.std.specs.Prelude.{◌≡◌, cond, Some, None, IfOk, Bool, true, List};
+ghost use Rattle.std.specs.List.{All};
+ghost use Rattle.orc_claims.specs.declared.event_match.Bound.{Bound as BoundOf};
+ghost use Rattle.orc_claims.specs.Meets.{bound_to, fit, fit_all, fit_phase, meets, meets_any, meets_one, is_met, value_in};
+
+use crate::claim::{Event, Simple, Slot, Wanted};
+use crate::happening::{Happening, Occurrence, Phase};
+use orc_rules::builtin::is_same;
+use orc_rules::value::Value;
+use std::alloc::AllocError;
+
+/// A variable with its value.
+#[derive(Clone, Copy, PartialEq, Eq)]
+pub struct Bound {
+    pub(crate) variable: u32,
+    pub(crate) value: Value,
+}
+
+// The value that a variable has.
+fn value_in(given: &[Bound], variable: u32) -> Option<Value>
+    ensures { result ≡ value_in given.now variable }
+{
+    let mut rest = given;
+    loop {
+        match rest {
+            [] => return None,
+            [bound, more @ ..] => {
+                if bound.variable == variable {
+                    return Some(bound.value);
+                }
+                rest = more;
+            }
+        }
+    }
+}
+
+// Whether these are the same values of the same variables.
+fn are_same(one: &[Bound], other: &[Bound]) -> bool
+    ensures { result ≡ true → one.now ≡ other.now }
+{
+    let mut rest = one;
+    let mut others = other;
+    loop {
+        match rest {
+            [] => return others.is_empty(),
+            [bound, more @ ..] => match others {
+                [] => return false,
+                [wanted, behind @ ..] => {
+                    if *bound != *wanted {
+                        return false;
+                    }
+                    rest = more;
+                    others = behind;
+                }
+            },
+        }
+    }
+}
+
+/// Whether these values of variables are known. What is true of all that are known is true of them then.
+#[tactic(auto, using(crate::proofs::Known::known_is))]
+pub(crate) fn is_known(known: &[Vec<Bound>], given: &[Bound]) -> bool
+    ensures { (p : List BoundOf → Bool) → All (λ k. p k.items ≡ true) known.now → result ≡ true → p given.now ≡ true }
+{
+    for at in 0..known.len() {
+        if are_same(known[at].as_slice(), given) {
+            return true;
+        }
+    }
+    false
+}
+
+impl Slot {
+    // Whether the value can stand in the slot. Then the variables have these values. The error is refused memory.
+    fn fit(self, value: Value, given: &mut Vec<Bound>) -> Result<bool, AllocError>
+        ensures { IfOk result (λ fits. fit self value given.old.items ≡ cond fits (Some given.new.items) None) }
+    {
+        match self {
+            Slot::Any => Ok(true),
+            Slot::Literal(wanted) => Ok(is_same(wanted, value)),
+            Slot::Variable(variable) => match value_in(given.as_slice(), variable) {
+                Some(wanted) => Ok(is_same(wanted, value)),
+                None => {
+                    given.push(Bound { variable, value })?;
+                    Ok(true)
+                }
+            },
+        }
+    }
+}
+
+// The same of slots with a value each.
+fn fit_all(slots: &[Slot], values: &[Value], given: &mut Vec<Bound>) -> Result<bool, AllocError>
+    ensures { IfOk result (λ fits. fit_all slots.now values.now given.old.items ≡ cond fits (Some given.new.items) None) }
+{
+    let mut rest = slots;
+    let mut others = values;
+    loop {
+        match rest {
+            [] => return Ok(others.is_empty()),
+            [slot, more @ ..] => match others {
+                [] => return Ok(false),
+                [value, behind @ ..] => {
+                    if !slot.fit(*value, given)? {
+                        return Ok(false);
+                    }
+                    rest = more;
+                    others = behind;
+                }
+            },
+        }
+    }
+}
+
+impl Wanted {
+    // The same of what became of a call.
+    fn fit(self, phase: Phase, given: &mut Vec<Bound>) -> Result<bool, AllocError>
+        ensures { IfOk result (λ fits. fit_phase self phase given.old.items ≡ cond fits (Some given.new.items) None) }
+    {
+        match (self, phase) {
+            (Wanted::Called, Phase::Called) => Ok(true),
+            (Wanted::Answered(slot), Phase::Answered(value)) => slot.fit(value, given),
+            (Wanted::Halted, Phase::Halted) => Ok(true),
+            (Wanted::Cancelled, Phase::Cancelled) => Ok(true),
+            _ => Ok(false),
+        }
+    }
+}
+
+impl Simple {
+    // Whether what happened is this. Then the variables have these values. The error is refused memory.
+    fn meets(&self, what: &Occurrence, given: &mut Vec<Bound>) -> Result<bool, AllocError>
+        ensures { IfOk result (λ met. meets_one self.now what.now given.old.items ≡ cond met (Some given.new.items) None) }
+    {
+        match (self, what) {
+            (Simple::Call(site, slots, wanted), Occurrence::Call(called, args, phase)) => {
+                if *site != *called {
+                    return Ok(false);
+                }
+                if !fit_all(slots.as_slice(), args.as_slice(), given)? {
+                    return Ok(false);
+                }
+                wanted.fit(*phase, given)
+            }
+            (Simple::Published(slot), Occurrence::Published(value)) => slot.fit(*value, given),
+            _ => Ok(false),
+        }
+    }
+}
+
+impl Event {
+    // Whether a happening meets the event where variables have these values. Then `found` has the values of all variables that have one. The error is
+    // refused memory.
+    pub(crate) fn meets(
+        &self,
+        happening: &Happening,
+        given: &[Bound],
+        found: &mut Vec<Bound>,
+    ) -> Result<bool, AllocError>
+        ensures { IfOk result (λ met. meets self.now happening.now given.now ≡ cond met (Some found.new.items) None) }
+    {
+        let mut rest = self.alternatives.as_slice();
+        loop {
+            match rest {
+                [] => return Ok(false),
+                [simple, more @ ..] => {
+                    found.clear();
+                    found.extend_from_slice(given)?;
+                    if simple.meets(&happening.what, found)? {
+                        return Ok(true);
+                    }
+                    rest = more;
+                }
+            }
+        }
+    }
+
+    // Whether a happening meets the event, with any values. The error is refused memory.
+    pub(crate) fn is_met(
+        &self,
+        happening: &Happening,
+        found: &mut Vec<Bound>,
+    ) -> Result<bool, AllocError>
+        ensures { IfOk result (λ met. met ≡ is_met self.now happening.now) }
+    {
+        self.meets(happening, &[], found)
+    }
+}

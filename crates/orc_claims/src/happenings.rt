@@ -1,0 +1,124 @@
+//! The happenings of a journal.
+
+ghost use Rattle.std.specs.Prelude.{◌≡◌, OnOk, OnErr};
+ghost use Rattle.orc_claims.specs.Happenings.{Told, becomes, begin, calls, made_as, publishes, told};
+
+use crate::happening::{Happening, Occurrence, Phase};
+use orc_rules::entry::Entry;
+use orc_rules::value::{Args, Value};
+use std::alloc::{AllocError, Global};
+use std::marker::Model;
+
+/// A call that was made.
+#[derive(Drop)]
+pub struct Made {
+    pub site: u32,
+    pub args: Args,
+}
+
+/// The happenings of a journal, entry by entry. An entry takes the same time however long the journal is. A call takes some 900 bytes.
+#[derive(Drop)]
+pub struct Happenings {
+    time: u64,
+    made: Vec<Made>,
+    happened: Vec<Happening>,
+}
+
+impl Model for Happenings {
+    ghost Value = { Told };
+
+    ghost view = { λ h. record { time = h.time; made = h.made.items; happened = h.happened.items } };
+}
+
+impl Happenings {
+    /// Those of no entries, at time 0.
+    pub fn new(alloc: Global) -> Happenings
+        ensures { result ≡ begin }
+    {
+        Happenings {
+            time: 0,
+            made: Vec::new(alloc),
+            happened: Vec::new(alloc),
+        }
+    }
+
+    /// What happened, in its order.
+    pub fn as_slice(&self) -> &[Happening]
+        ensures { result.now ≡ self.now.happened }
+    {
+        self.happened.as_slice()
+    }
+
+    /// The time now.
+    pub fn time(&self) -> u64
+        ensures { result ≡ self.now.time }
+    {
+        self.time
+    }
+
+    // Something becomes of a call. The error is refused memory, and then nothing changes.
+    fn become_of(&mut self, call: u64, phase: Phase) -> Result<(), AllocError>
+        ensures told { OnOk result (self.new ≡ becomes self.old (made_as call self.old.made) phase) }
+        ensures refused { OnErr result (self.new ≡ self.old) }
+    {
+        let Some(place) = call.checked_sub(1) else {
+            return Ok(());
+        };
+        let Some(made) = self.made.get(place as usize) else {
+            return Ok(());
+        };
+        self.happened.push(Happening {
+            time: self.time,
+            what: Occurrence::Call(made.site, made.args.copied(), phase),
+        })?;
+        Ok(())
+    }
+
+    // A call is made. The error is refused memory, and then nothing changes.
+    fn make(&mut self, site: u32, args: &Args) -> Result<(), AllocError>
+        ensures told { OnOk result (self.new ≡ calls self.old site args.now) }
+        ensures refused { OnErr result (self.new ≡ self.old) }
+    {
+        self.made.try_reserve(1)?;
+        self.happened.push(Happening {
+            time: self.time,
+            what: Occurrence::Call(site, args.copied(), Phase::Called),
+        })?;
+        self.made.push_reserved(Made {
+            site,
+            args: args.copied(),
+        });
+        Ok(())
+    }
+
+    // A value is published. The error is refused memory, and then nothing changes.
+    fn publish(&mut self, value: Value) -> Result<(), AllocError>
+        ensures told { OnOk result (self.new ≡ publishes self.old value) }
+        ensures refused { OnErr result (self.new ≡ self.old) }
+    {
+        self.happened.push(Happening {
+            time: self.time,
+            what: Occurrence::Published(value),
+        })?;
+        Ok(())
+    }
+
+    /// Reads the journal's next entry. The error is refused memory, and then nothing changes.
+    pub fn read(&mut self, entry: &Entry) -> Result<(), AllocError>
+        ensures told { OnOk result (self.new ≡ told self.old entry.now) }
+        ensures refused { OnErr result (self.new ≡ self.old) }
+    {
+        match entry {
+            Entry::Call(_, _, site, args) => self.make(*site, args),
+            Entry::Return(call, _, value) => self.become_of(*call, Phase::Answered(*value)),
+            Entry::ReturnHalt(call) => self.become_of(*call, Phase::Halted),
+            Entry::Cancel(call) => self.become_of(*call, Phase::Cancelled),
+            Entry::Publish(_, value) => self.publish(*value),
+            Entry::Tick(time) => {
+                self.time = *time;
+                Ok(())
+            }
+            _ => Ok(()),
+        }
+    }
+}

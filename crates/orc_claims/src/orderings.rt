@@ -1,0 +1,177 @@
+//! Claims on what comes before and behind what.
+
+ghost use Rattle.std.specs.Prelude.{◌≡◌, [], IfOk, OnOk};
+ghost use Rattle.orc_claims.specs.Claims.{any_forbids, any_meets, is_allowed, is_followed, is_met_with, is_prepared};
+ghost use Rattle.orc_claims.specs.Known.{AreMet};
+ghost use Rattle.orc_claims.specs.Verdicts.{first_bad};
+
+use crate::claim::Event;
+use crate::counts::up_to;
+use crate::event_match::{Bound, is_known};
+use crate::happening::Happening;
+use std::alloc::{AllocError, Global};
+
+impl Event {
+    /// Whether one of these happenings meets the event with these values, so long after the time at most. The error is refused memory.
+    pub(crate) fn any_meets(
+        &self,
+        given: &[Bound],
+        since: u64,
+        most: Option<u64>,
+        happenings: &[Happening],
+        found: &mut Vec<Bound>,
+    ) -> Result<bool, AllocError>
+        ensures { IfOk result (λ any. any ≡ any_meets self.now given.now since most happenings.now) }
+    {
+        let mut rest = happenings;
+        loop {
+            match rest {
+                [] => return Ok(false),
+                [happening, more @ ..] => {
+                    if self.meets(happening, given, found)?
+                        && up_to(most, happening.time.saturating_sub(since))
+                    {
+                        return Ok(true);
+                    }
+                    rest = more;
+                }
+            }
+        }
+    }
+
+    // Whether, where a happening meets the event, one of those before it met the other with its values. All values that are known are such ones, and those
+    // that are found become known. The error is refused memory.
+    fn is_prepared(
+        &self,
+        alloc: Global,
+        known: &mut Vec<Vec<Bound>>,
+        other: &Event,
+        before: &[Happening],
+        happening: &Happening,
+    ) -> Result<bool, AllocError>
+        requires known { AreMet other.now before.now known.old.items }
+        ensures good { IfOk result (λ good. good ≡ is_prepared self.now other.now before.now happening.now []) }
+        ensures known { OnOk result (AreMet other.now before.now known.new.items) }
+    {
+        let mut given = Vec::new(alloc);
+        if !self.meets(happening, &[], &mut given)? {
+            return Ok(true);
+        }
+        if is_known(known.as_slice(), given.as_slice()) {
+            return Ok(true);
+        }
+        let mut found = Vec::new(alloc);
+        if !other.any_meets(given.as_slice(), 0, None, before, &mut found)? {
+            return Ok(false);
+        }
+        known.push(given)?;
+        Ok(true)
+    }
+
+    /// The place of the first happening that meets the event where none before it met the other with its values. The error is refused memory.
+    #[tactic(auto, using(crate::proofs::Placed::goes_on, crate::proofs::Placed::stops, crate::proofs::Placed::done, crate::proofs::Known::still_met))]
+    pub(crate) fn first_unprepared(
+        &self,
+        alloc: Global,
+        other: &Event,
+        happenings: &[Happening],
+    ) -> Result<Option<usize>, AllocError>
+        ensures { IfOk result (λ place. place ≡ first_bad (is_prepared self.now other.now) [] happenings.now) }
+    {
+        let mut known = Vec::new(alloc);
+        for at in 0..happenings.len() {
+            let before = &happenings[..at];
+            if !self.is_prepared(alloc, &mut known, other, before, &happenings[at])? {
+                return Ok(Some(at));
+            }
+        }
+        Ok(None)
+    }
+
+    // Whether one of these happenings met the other event with values with which this one meets the event. The error is refused memory.
+    fn any_forbids(
+        &self,
+        alloc: Global,
+        happening: &Happening,
+        other: &Event,
+        before: &[Happening],
+    ) -> Result<bool, AllocError>
+        ensures { IfOk result (λ any. any ≡ any_forbids self.now happening.now other.now before.now) }
+    {
+        let mut given = Vec::new(alloc);
+        let mut found = Vec::new(alloc);
+        let mut rest = before;
+        loop {
+            match rest {
+                [] => return Ok(false),
+                [earlier, more @ ..] => {
+                    if other.meets(earlier, &[], &mut given)?
+                        && self.meets(happening, given.as_slice(), &mut found)?
+                    {
+                        return Ok(true);
+                    }
+                    rest = more;
+                }
+            }
+        }
+    }
+
+    /// The place of the first happening that meets the event with the values with which one before it met the other. The error is refused memory.
+    #[tactic(auto, using(crate::proofs::Placed::goes_on, crate::proofs::Placed::stops, crate::proofs::Placed::done))]
+    pub(crate) fn first_forbidden(
+        &self,
+        alloc: Global,
+        other: &Event,
+        happenings: &[Happening],
+    ) -> Result<Option<usize>, AllocError>
+        ensures { IfOk result (λ place. place ≡ first_bad (is_allowed self.now other.now) [] happenings.now) }
+    {
+        for at in 0..happenings.len() {
+            if self.any_forbids(alloc, &happenings[at], other, &happenings[..at])? {
+                return Ok(Some(at));
+            }
+        }
+        Ok(None)
+    }
+
+    // Whether, where a happening meets the event, one of those behind it meets the other with its values, so much later at most. The error is refused
+    // memory.
+    fn is_followed(
+        &self,
+        alloc: Global,
+        other: &Event,
+        within: Option<u64>,
+        happening: &Happening,
+        behind: &[Happening],
+    ) -> Result<bool, AllocError>
+        ensures { IfOk result (λ good. good ≡ is_followed self.now other.now within [] happening.now behind.now) }
+    {
+        let mut given = Vec::new(alloc);
+        if !self.meets(happening, &[], &mut given)? {
+            return Ok(true);
+        }
+        let mut found = Vec::new(alloc);
+        other.any_meets(given.as_slice(), happening.time, within, behind, &mut found)
+    }
+
+    /// The place of the first happening that meets the event where none behind it meets the other with its values, so much later at most. The error
+    /// is refused memory.
+    #[tactic(auto, using(crate::proofs::Placed::goes_on, crate::proofs::Placed::stops, crate::proofs::Placed::done))]
+    pub(crate) fn first_unfollowed(
+        &self,
+        alloc: Global,
+        other: &Event,
+        within: Option<u64>,
+        happenings: &[Happening],
+    ) -> Result<Option<usize>, AllocError>
+        ensures { IfOk result (λ place. place ≡ first_bad (is_followed self.now other.now within) [] happenings.now) }
+    {
+        for at in 0..happenings.len() {
+            let behind = &happenings[at + 1..];
+            if !self.is_followed(alloc, other, within, &happenings[at], behind)? {
+                return Ok(Some(at));
+            }
+        }
+        Ok(None)
+    }
+}

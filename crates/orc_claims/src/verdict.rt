@@ -1,0 +1,288 @@
+//! What is said of a claim.
+
+ghost use Rattle.std.specs.Prelude.{◌≡◌, IfOk, map};
+ghost use Rattle.orc_claims.specs.Claims.{come_true, ends_so, holds};
+ghost use Rattle.orc_claims.specs.Verdicts.{is_kept, is_none_at_all, judged, place, says_so, tests_plain, verdict_plain};
+
+use crate::claim::{Claim, Condition, Plain};
+use crate::counts::up_to;
+use crate::happening::Happening;
+use crate::publications::{are_in_order, are_same_in_any_order, is_one_of, published};
+use orc_rules::entry::State;
+use std::alloc::{AllocError, Global};
+
+/// Whether a claim holds of a run.
+#[derive(Clone, Copy, PartialEq, Eq, Debug)]
+pub enum Verdict {
+    Holds,
+    /// It fails at the happening at this place, from 0.
+    FailsAt(usize),
+    /// It fails, but at no happening: too few happened, or the run ended otherwise, or published something else.
+    FailsAtEnd,
+}
+
+/// What is said of a claim.
+#[derive(Clone, Copy, PartialEq, Eq, Debug)]
+pub struct Judged {
+    pub verdict: Verdict,
+    /// Whether it was put to the test: something happened that it is about. A claim that holds and wasn't may be mistyped.
+    pub tested: bool,
+}
+
+// Whether a run may end so.
+fn ends_so(halted: bool, quiet: bool, end: State) -> bool
+    ensures { result ≡ ends_so halted quiet end }
+{
+    match end {
+        State::Halted => halted,
+        State::Quiet => quiet,
+        State::Running => false,
+    }
+}
+
+// Whether so many are none at all.
+fn is_none_at_all(most: Option<u64>) -> bool
+    ensures { result ≡ is_none_at_all most }
+{
+    match most {
+        Some(most) => most == 0,
+        None => false,
+    }
+}
+
+impl Plain {
+    // The place of the happening at which a claim fails. The error is refused memory.
+    fn place(&self, alloc: Global, happenings: &[Happening]) -> Result<Option<usize>, AllocError>
+        ensures { IfOk result (λ at. at ≡ place self.now happenings.now) }
+    {
+        match self {
+            Plain::Count(event, _, most, by) => event.first_too_many(alloc, *most, *by, happenings),
+            Plain::AtOnce(event, most) => event.first_crowd(alloc, *most, happenings),
+            Plain::OnlyAfter(event, other) => event.first_unprepared(alloc, other, happenings),
+            Plain::NoneAfter(event, other) => event.first_forbidden(alloc, other, happenings),
+            Plain::EachThen(event, other, within) => {
+                event.first_unfollowed(alloc, other, *within, happenings)
+            }
+            _ => Ok(None),
+        }
+    }
+
+    // Whether what it asks of the whole run beside that is so. The error is refused memory.
+    fn is_kept(
+        &self,
+        alloc: Global,
+        happenings: &[Happening],
+        end: State,
+        now: u64,
+    ) -> Result<bool, AllocError>
+        ensures { IfOk result (λ kept. kept ≡ is_kept self.now happenings.now end now) }
+    {
+        match self {
+            Plain::Count(event, low, _, by) => {
+                let number = event.number(alloc, *by, happenings)?;
+                Ok(*low <= number)
+            }
+            Plain::Ends(halted, quiet, by) => Ok(ends_so(*halted, *quiet, end) && up_to(*by, now)),
+            Plain::InOrder(wanted) => {
+                let values = published(alloc, happenings)?;
+                Ok(are_in_order(wanted.as_slice(), values.as_slice()))
+            }
+            Plain::InAnyOrder(wanted) => {
+                let values = published(alloc, happenings)?;
+                Ok(are_same_in_any_order(wanted.as_slice(), values.as_slice()))
+            }
+            Plain::OneOf(wanted) => {
+                let values = published(alloc, happenings)?;
+                Ok(is_one_of(wanted.as_slice(), values.as_slice()))
+            }
+            _ => Ok(true),
+        }
+    }
+
+    fn verdict(
+        &self,
+        alloc: Global,
+        happenings: &[Happening],
+        end: State,
+        now: u64,
+    ) -> Result<Verdict, AllocError>
+        ensures { IfOk result (λ v. v ≡ verdict_plain self.now happenings.now end now) }
+    {
+        if let Some(at) = self.place(alloc, happenings)? {
+            return Ok(Verdict::FailsAt(at));
+        }
+        if self.is_kept(alloc, happenings, end, now)? {
+            return Ok(Verdict::Holds);
+        }
+        Ok(Verdict::FailsAtEnd)
+    }
+
+    // Whether it was put to the test. The error is refused memory.
+    fn is_tested(&self, alloc: Global, happenings: &[Happening]) -> Result<bool, AllocError>
+        ensures { IfOk result (λ tested. tested ≡ tests_plain self.now happenings.now) }
+    {
+        let mut found = Vec::new(alloc);
+        match self {
+            Plain::Count(event, _, most, by) => {
+                if is_none_at_all(*most) {
+                    return Ok(true);
+                }
+                event.any_meets(&[], 0, *by, happenings, &mut found)
+            }
+            Plain::AtOnce(event, _) | Plain::OnlyAfter(event, _) | Plain::EachThen(event, _, _) => {
+                event.any_meets(&[], 0, None, happenings, &mut found)
+            }
+            Plain::NoneAfter(_, other) => other.any_meets(&[], 0, None, happenings, &mut found),
+            _ => Ok(true),
+        }
+    }
+}
+
+// Whether all conditions come true. The error is refused memory.
+fn come_true(
+    alloc: Global,
+    conditions: &[Condition],
+    happenings: &[Happening],
+) -> Result<bool, AllocError>
+    ensures { IfOk result (λ all. all ≡ come_true conditions.now happenings.now) }
+{
+    let mut found = Vec::new(alloc);
+    let mut rest = conditions;
+    loop {
+        match rest {
+            [] => return Ok(true),
+            [condition, more @ ..] => {
+                let event = &condition.event;
+                if event.any_meets(&[], 0, None, happenings, &mut found)? != condition.happens {
+                    return Ok(false);
+                }
+                rest = more;
+            }
+        }
+    }
+}
+
+impl Claim {
+    // What is said of the claim. The error is refused memory.
+    fn judge(
+        &self,
+        alloc: Global,
+        happenings: &[Happening],
+        end: State,
+        now: u64,
+    ) -> Result<Judged, AllocError>
+        ensures { IfOk result (λ j. j ≡ judged self.now happenings.now end now) }
+    {
+        if !come_true(alloc, self.conditions.as_slice(), happenings)? {
+            return Ok(Judged {
+                verdict: Verdict::Holds,
+                tested: false,
+            });
+        }
+        let verdict = self.plain.verdict(alloc, happenings, end, now)?;
+        let tested = self.plain.is_tested(alloc, happenings)?;
+        Ok(Judged { verdict, tested })
+    }
+}
+
+/// What is said of each claim, in their order, of a run in which this happened, and which ended so at this time; a run that was cut short is still
+/// Running. The error is refused memory.
+///
+/// A count, a number at once and the end take one pass over the happenings. A claim on what is before or behind takes a pass for each happening that
+/// meets its first event, and `NoneAfter` one for each happening. Values in any order take the time of their number squared.
+pub fn judge(
+    alloc: Global,
+    claims: &[Claim],
+    happenings: &[Happening],
+    end: State,
+    now: u64,
+) -> Result<Vec<Judged>, AllocError>
+    ensures judged { IfOk result (λ all. all.items ≡ map (λ c. judged c happenings.now end now) claims.now) }
+    ensures holds { IfOk result (λ all. map (λ j. says_so j.verdict) all.items ≡ map (λ c. holds c happenings.now end now) claims.now) }
+{
+    let mut all = Vec::new(alloc);
+    for claim in claims {
+        all.push(claim.judge(alloc, happenings, end, now)?)?;
+    }
+    Ok(all)
+}
+
+#[cfg(test)]
+mod tests {
+    use super::*;
+    use crate::claim::{Event, Simple, Slot, Wanted};
+    use crate::happenings::Happenings;
+    use orc_rules::entry::Entry;
+    use orc_rules::value::{Args, Value};
+    use std::test::Fail;
+
+    // Site 7 answers, or is called, with any one argument.
+    fn charged(alloc: Global, wanted: Wanted) -> Result<Event, AllocError> {
+        let slots = vec![in alloc; Slot::Any]?;
+        let alternatives = vec![in alloc; Simple::Call(7, slots, wanted)]?;
+        Ok(Event { alternatives })
+    }
+
+    fn args(value: i64) -> Args {
+        let mut args = Args::new();
+        args.push(Value::Number(value));
+        args
+    }
+
+    // Site 7 is called twice. The first call is cancelled at 3, the second answers at 5.
+    fn checkout(alloc: Global) -> Result<Happenings, AllocError> {
+        let mut happenings = Happenings::new(alloc);
+        happenings.read(&Entry::Call(1, 1, 7, args(10)))?;
+        happenings.read(&Entry::Call(2, 2, 7, args(20)))?;
+        happenings.read(&Entry::Tick(3))?;
+        happenings.read(&Entry::Cancel(1))?;
+        happenings.read(&Entry::Tick(5))?;
+        happenings.read(&Entry::Return(2, 3, Value::Number(1)))?;
+        happenings.read(&Entry::Publish(3, Value::Number(200)))?;
+        Ok(happenings)
+    }
+
+    fn judged(alloc: Global, plain: Plain) -> Result<Option<Judged>, AllocError> {
+        let happenings = checkout(alloc)?;
+        let claim = Claim {
+            conditions: Vec::new(alloc),
+            plain,
+        };
+        let claims = vec![in alloc; claim]?;
+        let all = judge(
+            alloc,
+            claims.as_slice(),
+            happenings.as_slice(),
+            State::Halted,
+            happenings.time(),
+        )?;
+        Ok(all.first().copied())
+    }
+
+    #[test]
+    fn the_second_of_two_calls_is_one_too_many(rt: HostRuntime) -> Result<(), Fail> {
+        let alloc = rt.alloc();
+        let plain = Plain::Count(charged(alloc, Wanted::Called)?, 0, Some(1), None);
+        let wanted = Judged {
+            verdict: Verdict::FailsAt(1),
+            tested: true,
+        };
+        assert_eq!(rt; judged(alloc, plain)?, Some(wanted));
+        Ok(())
+    }
+
+    #[test]
+    fn a_cancelled_call_was_not_answered(rt: HostRuntime) -> Result<(), Fail> {
+        let alloc = rt.alloc();
+        let answered = charged(alloc, Wanted::Answered(Slot::Any))?;
+        let wanted = Judged {
+            verdict: Verdict::Holds,
+            tested: true,
+        };
+        assert_eq!(rt;
+            judged(alloc, Plain::Count(answered, 0, Some(1), Some(5)))?,
+            Some(wanted)
+        );
+        Ok(())
+    }
+}
