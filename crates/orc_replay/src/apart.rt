@@ -7,7 +7,9 @@ ghost use Rattle.orc_ledger_spec.specs.Parts.{call_of};
 
 use orc_graph::Graph;
 use orc_journal_text::write_journal;
-use orc_ledger::{Action, Called, Ledger, LedgerFault, Moved, Part, Program as Naming, SubRunTask};
+use orc_ledger::{
+    Action, Called, Ledger, LedgerFault, Moved, Program as Naming, SubRun, SubRunTask,
+};
 use orc_load::load;
 use orc_rules::answers::Answers;
 use orc_rules::value::{Args, Value};
@@ -27,7 +29,7 @@ fn run_apart<Q: Naming, P: Naming>(
     keeps: bool,
     task: SubRunTask,
     limit: usize,
-) -> Option<Part<P>>
+) -> Option<SubRun<P>>
     requires keeps { keeps ≡ P.keeps }
     requires limit { (1 ≤ limit) × (limit ≤ MOST_ENTRIES) }
     requires named { limit ≡ Q.limit }
@@ -89,7 +91,7 @@ fn part_of<P: Naming>(
     answers: &Answers,
     keeps: bool,
     task: SubRunTask,
-) -> Option<Part<P>>
+) -> Option<SubRun<P>>
     requires keeps { keeps ≡ P.keeps }
     requires graph { graph.now ≡ P.listing }
     requires answers { answers.now.sites ≡ P.sites }
