@@ -1,6 +1,6 @@
 //! The records under their invariant: the journal leads from the program's term to a place that they spell.
 
-ghost use Rattle.std.specs.Prelude.{◌≡◌, ◌+◌, ◌<◌, ◌≤◌, ◌∷◌, [], true, false, length, IfOk, IfErr, IfSome, IfNone, OnOk, OnErr};
+ghost use Rattle.std.specs.Prelude.{◌≡◌, ◌+◌, ◌<◌, ◌≤◌, ◌∷◌, ◌⊎◌, [], true, false, length, IfOk, IfErr, IfSome, IfNone, OnOk, OnErr};
 ghost use Rattle.orc_rules.specs.Timed.{IsIn};
 ghost use Rattle.orc_rules.specs.declared.limits.TheConstants.{MOST_ENTRIES};
 ghost use Rattle.orc_tables.specs.Tokens.{IsHeld};
@@ -8,11 +8,14 @@ ghost use Rattle.orc_journal.specs.declared.journal.Version.TheVariants.{Two};
 ghost use Rattle.orc_ledger_spec.specs.Begun.{begun};
 ghost use Rattle.orc_ledger_spec.specs.Brought.{FullIsCrowded};
 ghost use Rattle.orc_ledger_spec.specs.Calls.{HasRoom, IsRefused};
+ghost use Rattle.orc_ledger_spec.specs.Claims.{IsBarred};
 ghost use Rattle.orc_log.specs.Logs.{log_with};
 ghost use Rattle.orc_rules.specs.Trace.{published};
+ghost use Rattle.orc_subrun.specs.Moved.{IsSilent};
 ghost use Rattle.orc_ledger_spec.specs.Whole.{IsWhole};
 ghost use Rattle.orc_tables.specs.declared.records.Token.{Token as Its};
 
+use crate::claim::Claim;
 use orc_calls::Counts;
 use orc_env::{Bound, StoredScope};
 use orc_indexes::{push_within, reserve};
@@ -100,6 +103,28 @@ pub(crate) fn write<P: Program>(journal: &mut Log<P>, entry: &Entry) -> Result<(
         Ok(()) => Ok(()),
         Err(_) => Err(LedgerFault::Memory),
     }
+}
+
+// Writes an entry that publishes nothing, and asks the claim then. Where memory is refused, or the claim is lost, the journal stays as it was.
+#[inline(always)]
+pub(crate) fn write_claimed<P: Program, C: Claim>(
+    journal: &mut Log<P>,
+    entry: &Entry,
+    claim: &mut C,
+) -> Result<(), LedgerFault>
+    requires silent { IsSilent entry.now }
+    ensures added { OnOk result (journal.new ≡ log_with journal.old (entry.now ∷ [])) }
+    ensures got { OnOk result (C.got claim.old claim.new) }
+    ensures refused { OnErr result (journal.new ≡ journal.old) }
+    ensures why { IfErr result (λ fault. IsBarred (claim.new ≡ claim.old) (C.lost claim.old claim.new) (λ reason. reason ≡ LedgerFault.Memory) fault) }
+{
+    let entries = journal.len();
+    write(journal, entry)?;
+    if claim.ask() {
+        return Ok(());
+    }
+    journal.truncate(entries);
+    Err(LedgerFault::Unclaimed)
 }
 
 impl<P: Program> Ledger<P> {
@@ -297,11 +322,13 @@ impl<P: Program> Ledger<P> {
         self.journal.len()
     }
 
-    /// Whether one more entry, so many more tokens and groups, and a token with so many left sides of a `>x>` round it, are within the limits.
+    /// Whether one more entry, so many more tokens and groups, one of each at most, and a token with so many left sides of a `>x>` round it, are within
+    /// the limits. The fault is Full where one of the engine's numbers is reached, else Limit.
     #[inline(always)]
-    pub(crate) fn within(&self, tokens: usize, groups: usize, depth: u32) -> Result<(), LedgerFault>
+    pub fn within(&self, tokens: usize, groups: usize, depth: u32) -> Result<(), LedgerFault>
         requires { (tokens ≤ 1) × (groups ≤ 1) }
         ensures why { IfErr result (λ fault. IsRefused self.now tokens groups depth fault) }
+        ensures limits { IfErr result (λ fault. (fault ≡ LedgerFault.Full) ⊎ (fault ≡ LedgerFault.Limit)) }
         ensures room { OnOk result (self.now.entries < self.now.limit) }
         ensures places { OnOk result (HasRoom self.now tokens groups depth) }
     {

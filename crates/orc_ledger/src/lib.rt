@@ -3,6 +3,7 @@
 
 mod at_once;
 mod calls;
+mod claim;
 mod definitions;
 mod halts;
 mod laws;
@@ -20,6 +21,7 @@ mod time;
 mod view;
 mod waits;
 
+pub use claim::{Always, Claim};
 pub use laws::{calls_fit, offered, stands};
 pub use ledger::Ledger;
 pub use orc_frames::{Action, Taker};

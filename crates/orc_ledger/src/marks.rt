@@ -1,6 +1,6 @@
 //! The entries of a token that stands at a node: an end, a void token, a fork, the left side of a `>x>` and of an otherwise, a pruning.
 
-ghost use Rattle.std.specs.Prelude.{◌≡◌, ◌+◌, ℕ, length, IfOk, IfErr, OnErr};
+ghost use Rattle.std.specs.Prelude.{◌≡◌, ◌+◌, ℕ, length, IfOk, IfErr, OnOk, OnErr};
 ghost use Rattle.orc_rules.specs.Nodes.{code};
 ghost use Rattle.orc_rules.specs.Term.{stop, par, seq, prune, other};
 ghost use Rattle.orc_rules.specs.Journal.{IsVoid};
@@ -8,10 +8,12 @@ ghost use Rattle.orc_ledger_spec.specs.Records.{its_env};
 ghost use Rattle.orc_frames.specs.Paths.{standing};
 ghost use Rattle.orc_tables.specs.Steps.{group_at, depth_at};
 ghost use Rattle.orc_tables.specs.Tokens.{IsHeld};
+ghost use Rattle.orc_ledger_spec.specs.Claims.{IsBarred};
 ghost use Rattle.orc_ledger_spec.specs.Calls.{IsRefused, IsFree, IsEnded, IsVoided, IsForked, IsFed, IsTried, IsOpened, born};
 ghost use Rattle.orc_tables.specs.declared.records.Standing.TheVariants.{At};
 
-use crate::ledger::{Ledger, write};
+use crate::claim::Claim;
+use crate::ledger::{Ledger, write, write_claimed};
 use orc_env::{Bound, Scope, StoredScope, outer_number};
 use orc_indexes::{push_within, reserve};
 use orc_ledger_spec::LedgerFault;
@@ -151,28 +153,30 @@ impl<P: Program> Ledger<P> {
         Ok(())
     }
 
-    /// `f ; g`: a token on the left side, in the same slot, in a new group.
-    pub fn other(
+    /// `f ; g`: a token on the left side, in the same slot, in a new group. The claim is asked last.
+    pub fn other<C: Claim>(
         &mut self,
         slot: usize,
         token: Token,
         scope: usize,
         left: u32,
         right: u32,
+        claim: &mut C,
     ) -> Result<(), LedgerFault>
         requires held { IsHeld self.old.slots slot token }
         requires at { (node : ℕ) × (token.standing ≡ At node scope) × (code P.listing node ≡ other (code P.listing left) (code P.listing right)) }
         ensures done { IfOk result (λ _. (number : ℕ) × IsFree self.old number × IsTried self.old token scope left right number self.new) }
         ensures left { IfOk result (λ _. IsHeld self.new.slots slot (born self.old token self.old.next_mark left scope (length self.old.steps + 1))) }
+        ensures got { OnOk result (C.got claim.old claim.new) }
         ensures refused { OnErr result (self.new ≡ self.old) }
-        ensures why { IfErr result (λ fault. IsRefused self.old 0 1 0 fault) }
+        ensures why { IfErr result (λ fault. IsBarred (claim.new ≡ claim.old) (C.lost claim.old claim.new) (IsRefused self.old 0 1 0) fault) }
     {
         self.within(0, 1, 0)?;
         self.steps.reserve()?;
         self.groups.reserve()?;
         let depth = self.steps.depth_at(token.step);
         let mark = self.next_mark;
-        write(&mut self.journal, &Entry::Other(token.serial, mark))?;
+        write_claimed(&mut self.journal, &Entry::Other(token.serial, mark), claim)?;
         self.entries += 1;
         self.next_mark = mark + 1;
         let step = self.steps.len() + 1;
@@ -205,8 +209,8 @@ impl<P: Program> Ledger<P> {
     }
 
     /// `f <x< g`: a token on each side with a new cell between them, the left one in the same slot, the right one in a new group. Gives the
-    /// right one's slot.
-    pub fn prune(
+    /// right one's slot. The claim is asked last.
+    pub fn prune<C: Claim>(
         &mut self,
         slot: usize,
         token: Token,
@@ -214,14 +218,16 @@ impl<P: Program> Ledger<P> {
         left: u32,
         name: u32,
         right: u32,
+        claim: &mut C,
     ) -> Result<usize, LedgerFault>
         requires held { IsHeld self.old.slots slot token }
         requires at { (node : ℕ) × (token.standing ≡ At node scope) × (code P.listing node ≡ prune (code P.listing left) name (code P.listing right)) }
         ensures done { IfOk result (λ _. (number : ℕ) × IsFree self.old number × IsOpened self.old token scope left name right number self.new) }
         ensures left { IfOk result (λ _. IsHeld self.new.slots slot (born self.old token self.old.next_mark left (length self.old.scopes + 1) token.step)) }
         ensures right { IfOk result (λ other. IsHeld self.new.slots other (born self.old token (self.old.next_mark + 1) right scope (length self.old.steps + 1))) }
+        ensures got { OnOk result (C.got claim.old claim.new) }
         ensures refused { OnErr result (self.new ≡ self.old) }
-        ensures why { IfErr result (λ fault. IsRefused self.old 1 1 0 fault) }
+        ensures why { IfErr result (λ fault. IsBarred (claim.new ≡ claim.old) (C.lost claim.old claim.new) (IsRefused self.old 1 1 0) fault) }
     {
         self.within(1, 1, 0)?;
         let outer = outer_number(scope)?;
@@ -233,9 +239,10 @@ impl<P: Program> Ledger<P> {
         let parent = self.steps.group_at(token.step);
         let mark = self.next_mark;
         let cell = self.cells.len() as u64;
-        write(
+        write_claimed(
             &mut self.journal,
             &Entry::Open(token.serial, cell, mark, mark + 1),
+            claim,
         )?;
         self.entries += 1;
         self.next_mark = mark + 2;

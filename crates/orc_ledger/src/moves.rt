@@ -1,6 +1,6 @@
 //! Moves of tokens: a token does what it does next.
 
-ghost use Rattle.std.specs.Prelude.{◌≡◌, ◌≤◌, ℕ, List, [], map, length, true, false, Some, None as Nothing, slice_index_or, IfOk, IfErr, IfSome, IfNone, OnErr};
+ghost use Rattle.std.specs.Prelude.{◌≡◌, ◌≤◌, ℕ, List, [], map, length, true, false, Some, None as Nothing, slice_index_or, IfOk, IfErr, IfSome, IfNone, OnOk, OnErr};
 ghost use Rattle.orc_rules.specs.declared.param.Param.TheVariants.{Name, Is};
 ghost use Rattle.orc_rules.specs.Term.{stop, param, site, call, par, seq, prune, other, values_of};
 ghost use Rattle.orc_rules.specs.declared.limits.TheConstants.{MOST_ARGUMENTS};
@@ -17,8 +17,10 @@ ghost use Rattle.orc_frames.specs.Paths.{standing, has_left};
 ghost use Rattle.orc_tables.specs.Steps.{group_at};
 ghost use Rattle.orc_frames.specs.Doing.{scan, closed};
 ghost use Rattle.orc_tables.specs.declared.records.Frame.TheVariants.{PruneRight};
+ghost use Rattle.orc_ledger_spec.specs.Claims.{HasAsked, IsBarredAt};
 ghost use Rattle.orc_ledger_spec.specs.Moves.{StandsAt, IsThere, Moves, IsHindered};
 
+use crate::claim::{Always, Claim};
 use crate::ledger::Ledger;
 use orc_env::{Bound, StoredScope, meaning};
 use orc_frames::{Action, Taker, are_values, call_with, find_taker, take_values};
@@ -30,16 +32,16 @@ use orc_rules::value::{Args, Value};
 use orc_tables::{Standing, Token};
 
 impl<P: Program> Ledger<P> {
-    // The group of a token that took this step last.
-    fn group_of(&self, step: usize) -> u32
+    /// The number of the group of a token that took this step last.
+    pub fn group_of(&self, step: usize) -> u32
         ensures { result ≡ group_at self.now.steps step }
     {
         self.steps.group_at(step)
     }
 
-    // What takes a value that the token publishes.
+    /// What takes a value that the token publishes.
     #[inline(always)]
-    pub(crate) fn taker_of(&self, token: Token) -> Taker
+    pub fn taker_of(&self, token: Token) -> Taker
         requires { (slot : ℕ) × IsHeld self.now.slots slot token }
         ensures takes { Takes (code P.listing) (its_env (code P.listing) self.now) (has_left self.now.steps) self.now.steps token.step result }
         ensures way { IsOnWay self.now.steps token.step result }
@@ -144,25 +146,27 @@ impl<P: Program> Ledger<P> {
         Ok(Moved::On)
     }
 
-    fn move_other(
+    fn move_other<C: Claim>(
         &mut self,
         slot: usize,
         token: Token,
         scope: usize,
         left: u32,
         right: u32,
+        claim: &mut C,
     ) -> Result<Moved, LedgerFault>
         requires held { IsHeld self.old.slots slot token }
         requires at { StandsAt P.listing token scope (other (code P.listing left) (code P.listing right)) }
         ensures done { (ks : List ℕ) → IfOk result (λ m. Moves P.listing self.old slot token m ks self.new) }
+        ensures asked { OnOk result (HasAsked P.listing self.old token (claim.new ≡ claim.old) (C.got claim.old claim.new)) }
         ensures refused { OnErr result (self.new ≡ self.old) }
-        ensures why { IfErr result (λ fault. IsHindered P.listing self.old token fault) }
+        ensures why { IfErr result (λ fault. IsBarredAt P.listing self.old token (claim.new ≡ claim.old) (C.lost claim.old claim.new) fault) }
     {
-        self.other(slot, token, scope, left, right)?;
+        self.other(slot, token, scope, left, right, claim)?;
         Ok(Moved::On)
     }
 
-    fn move_prune(
+    fn move_prune<C: Claim>(
         &mut self,
         slot: usize,
         token: Token,
@@ -170,14 +174,16 @@ impl<P: Program> Ledger<P> {
         left: u32,
         name: u32,
         right: u32,
+        claim: &mut C,
     ) -> Result<Moved, LedgerFault>
         requires held { IsHeld self.old.slots slot token }
         requires at { StandsAt P.listing token scope (prune (code P.listing left) name (code P.listing right)) }
         ensures done { (ks : List ℕ) → IfOk result (λ m. Moves P.listing self.old slot token m ks self.new) }
+        ensures asked { OnOk result (HasAsked P.listing self.old token (claim.new ≡ claim.old) (C.got claim.old claim.new)) }
         ensures refused { OnErr result (self.new ≡ self.old) }
-        ensures why { IfErr result (λ fault. IsHindered P.listing self.old token fault) }
+        ensures why { IfErr result (λ fault. IsBarredAt P.listing self.old token (claim.new ≡ claim.old) (C.lost claim.old claim.new) fault) }
     {
-        let right_slot = self.prune(slot, token, scope, left, name, right)?;
+        let right_slot = self.prune(slot, token, scope, left, name, right, claim)?;
         Ok(Moved::Forked(right_slot))
     }
 
@@ -254,13 +260,14 @@ impl<P: Program> Ledger<P> {
         Ok(Moved::Sent(group))
     }
 
-    fn move_bind(
+    fn move_bind<C: Claim>(
         &mut self,
         slot: usize,
         token: Token,
         value: Value,
         cell: u64,
         outer: usize,
+        claim: &mut C,
         cancelled: &mut Vec<u64>,
     ) -> Result<Moved, LedgerFault>
         requires held { IsHeld self.old.slots slot token }
@@ -268,27 +275,30 @@ impl<P: Program> Ledger<P> {
         requires takes { taker (its_path (code P.listing) self.old token.step) ≡ aiding cell (its_path (code P.listing) self.old outer) }
         requires side { HasStep self.old.steps (PruneRight cell) outer }
         ensures done { IfOk result (λ m. Moves P.listing self.old slot token m cancelled.new.items self.new) }
+        ensures asked { OnOk result (HasAsked P.listing self.old token (claim.new ≡ claim.old) (C.got claim.old claim.new)) }
         ensures refused { OnErr result (self.new ≡ self.old) }
-        ensures why { IfErr result (λ fault. IsHindered P.listing self.old token fault) }
+        ensures why { IfErr result (λ fault. IsBarredAt P.listing self.old token (claim.new ≡ claim.old) (C.lost claim.old claim.new) fault) }
     {
         let group = self.group_of(outer);
-        self.bind(slot, token, value, cell, cancelled)?;
+        self.bind(slot, token, value, cell, claim, cancelled)?;
         Ok(Moved::Bound(cell, group))
     }
 
     // A token on a value publishes it.
-    pub(crate) fn move_value(
+    pub(crate) fn move_value<C: Claim>(
         &mut self,
         slot: usize,
         token: Token,
         value: Value,
+        claim: &mut C,
         cancelled: &mut Vec<u64>,
     ) -> Result<Moved, LedgerFault>
         requires held { IsHeld self.old.slots slot token }
         requires form { standing (code P.listing) (its_env (code P.listing) self.old) token.standing ≡ param (Is value) }
         ensures done { IfOk result (λ m. Moves P.listing self.old slot token m cancelled.new.items self.new) }
+        ensures asked { OnOk result (HasAsked P.listing self.old token (claim.new ≡ claim.old) (C.got claim.old claim.new)) }
         ensures refused { OnErr result (self.new ≡ self.old) }
-        ensures why { IfErr result (λ fault. IsHindered P.listing self.old token fault) }
+        ensures why { IfErr result (λ fault. IsBarredAt P.listing self.old token (claim.new ≡ claim.old) (C.lost claim.old claim.new) fault) }
     {
         match self.taker_of(token) {
             Taker::Whole => self.move_publish(slot, token, value),
@@ -296,28 +306,30 @@ impl<P: Program> Ledger<P> {
                 self.move_send(slot, token, value, name, right, scope, outer)
             }
             Taker::PruneRight(cell, outer) => self.move_bind(
-                slot, token, value, cell, outer, cancelled,
+                slot, token, value, cell, outer, claim, cancelled,
             ),
         }
     }
 
     // A variable: what stands for it is published, awaited or void.
-    fn move_name(
+    fn move_name<C: Claim>(
         &mut self,
         slot: usize,
         token: Token,
         scope: usize,
         name: u32,
+        claim: &mut C,
         cancelled: &mut Vec<u64>,
     ) -> Result<Moved, LedgerFault>
         requires held { IsHeld self.old.slots slot token }
         requires at { StandsAt P.listing token scope (param (Name name)) }
         ensures done { IfOk result (λ m. Moves P.listing self.old slot token m cancelled.new.items self.new) }
+        ensures asked { OnOk result (HasAsked P.listing self.old token (claim.new ≡ claim.old) (C.got claim.old claim.new)) }
         ensures refused { OnErr result (self.new ≡ self.old) }
-        ensures why { IfErr result (λ fault. IsHindered P.listing self.old token fault) }
+        ensures why { IfErr result (λ fault. IsBarredAt P.listing self.old token (claim.new ≡ claim.old) (C.lost claim.old claim.new) fault) }
     {
         match self.bound_of(Operand::Name(name), scope) {
-            Some(Bound::Is(value)) => self.move_value(slot, token, value, cancelled),
+            Some(Bound::Is(value)) => self.move_value(slot, token, value, claim, cancelled),
             Some(Bound::Void) => self.move_void(slot, token),
             Some(Bound::Cell(_)) => Ok(Moved::Waits),
             None => Ok(Moved::Waits),
@@ -354,13 +366,14 @@ impl<P: Program> Ledger<P> {
 
     // A token does what the node says at which it stands.
     #[inline(always)]
-    pub(crate) fn move_at(
+    pub(crate) fn move_at<C: Claim>(
         &mut self,
         graph: &Graph,
         slot: usize,
         token: Token,
         scope: usize,
         node: Node,
+        claim: &mut C,
         added: &mut Vec<StoredScope>,
         cancelled: &mut Vec<u64>,
     ) -> Result<Moved, LedgerFault>
@@ -368,13 +381,14 @@ impl<P: Program> Ledger<P> {
         requires held { IsHeld self.old.slots slot token }
         requires at { StandsAt P.listing token scope (unfold_node (code P.listing) P.listing.lists (term_node node)) }
         ensures done { IfOk result (λ m. Moves P.listing self.old slot token m cancelled.new.items self.new) }
+        ensures asked { OnOk result (HasAsked P.listing self.old token (claim.new ≡ claim.old) (C.got claim.old claim.new)) }
         ensures refused { OnErr result (self.new ≡ self.old) }
-        ensures why { IfErr result (λ fault. IsHindered P.listing self.old token fault) }
+        ensures why { IfErr result (λ fault. IsBarredAt P.listing self.old token (claim.new ≡ claim.old) (C.lost claim.old claim.new) fault) }
     {
         match node {
             Node::Stop => self.move_end(slot, token),
-            Node::Name(name) => self.move_name(slot, token, scope, name, cancelled),
-            Node::Is(value) => self.move_value(slot, token, value, cancelled),
+            Node::Name(name) => self.move_name(slot, token, scope, name, claim, cancelled),
+            Node::Is(value) => self.move_value(slot, token, value, claim, cancelled),
             Node::Site(_, list) => self.move_site(graph, slot, token, scope, list),
             Node::Call(definition, list) => {
                 self.move_def(graph, slot, token, scope, definition, list, added)
@@ -382,15 +396,42 @@ impl<P: Program> Ledger<P> {
             Node::Par(left, right) => self.move_fork(slot, token, scope, left, right),
             Node::Seq(left, name, right) => self.move_feed(slot, token, scope, left, name, right),
             Node::Prune(left, name, right) => {
-                self.move_prune(slot, token, scope, left, name, right)
+                self.move_prune(slot, token, scope, left, name, right, claim)
             }
-            Node::Other(left, right) => self.move_other(slot, token, scope, left, right),
+            Node::Other(left, right) => self.move_other(slot, token, scope, left, right, claim),
         }
     }
 
     /// A token does what it does next, as `what` says: a move of marks or an entry of its own, whose kind follows from the token's node and from
-    /// what takes its value. A call of a site is not made, and a token that waits stays as it is. `added` and `cancelled` are lent: where a cell is
-    /// bound `cancelled` then holds the numbers of the calls that are cancelled, in rising order.
+    /// what takes its value. A call of a site is not made, and a token that waits stays as it is. Where a cell is bound or a side opened the claim is
+    /// asked last; any other move leaves it untouched, and so does whatever refuses a move before it is asked. `added` and `cancelled` are lent: where a
+    /// cell is bound `cancelled` then holds the numbers of the calls that are cancelled, in rising order.
+    pub fn advance_by<C: Claim>(
+        &mut self,
+        graph: &Graph,
+        slot: usize,
+        token: Token,
+        claim: &mut C,
+        added: &mut Vec<StoredScope>,
+        cancelled: &mut Vec<u64>,
+    ) -> Result<Moved, LedgerFault>
+        requires graph { graph.now ≡ P.listing }
+        requires held { IsHeld self.old.slots slot token }
+        ensures done { IfOk result (λ m. Moves P.listing self.old slot token m cancelled.new.items self.new) }
+        ensures asked { OnOk result (HasAsked P.listing self.old token (claim.new ≡ claim.old) (C.got claim.old claim.new)) }
+        ensures refused { OnErr result (self.new ≡ self.old) }
+        ensures why { IfErr result (λ fault. IsBarredAt P.listing self.old token (claim.new ≡ claim.old) (C.lost claim.old claim.new) fault) }
+    {
+        match token.standing {
+            Standing::On(value) => self.move_value(slot, token, value, claim, cancelled),
+            Standing::At(node, scope) => {
+                let node = graph.node(node as usize);
+                self.move_at(graph, slot, token, scope, node, claim, added, cancelled)
+            }
+        }
+    }
+
+    /// The same where there is nobody to lose a claim to.
     pub fn advance(
         &mut self,
         graph: &Graph,
@@ -405,12 +446,7 @@ impl<P: Program> Ledger<P> {
         ensures refused { OnErr result (self.new ≡ self.old) }
         ensures why { IfErr result (λ fault. IsHindered P.listing self.old token fault) }
     {
-        match token.standing {
-            Standing::On(value) => self.move_value(slot, token, value, cancelled),
-            Standing::At(node, scope) => {
-                let node = graph.node(node as usize);
-                self.move_at(graph, slot, token, scope, node, added, cancelled)
-            }
-        }
+        let mut claim = Always;
+        self.advance_by(graph, slot, token, &mut claim, added, cancelled)
     }
 }

@@ -15,9 +15,11 @@ ghost use Rattle.orc_frames.specs.Taking.{taker};
 ghost use Rattle.orc_ledger_spec.specs.Records.{its_env, its_path, is_over};
 ghost use Rattle.orc_frames.specs.Paths.{standing, has_left};
 ghost use Rattle.orc_tables.specs.Steps.{group_at};
+ghost use Rattle.orc_ledger_spec.specs.Claims.{IsBarred};
 ghost use Rattle.orc_ledger_spec.specs.Calls.{Drops, Closes, Resumes, AreCancelled, IsRefused};
 ghost use Rattle.orc_log.specs.Logs.{log_with};
 
+use crate::claim::Claim;
 use crate::ledger::{Ledger, write};
 use orc_env::Bound;
 use orc_ledger_spec::LedgerFault;
@@ -38,22 +40,30 @@ fn settle(cells: &mut Vec<Bound>, cell: u64, bound: Bound)
     }
 }
 
-// Writes a bind and the cancels of these calls. Where memory is refused nothing changes.
-fn write_bind<P: Program>(
+// Writes a bind and the cancels of these calls, and asks the claim then. Where memory is refused, or the claim is lost, the journal stays as it was.
+fn write_bind<P: Program, C: Claim>(
     journal: &mut Log<P>,
     token: u64,
     cell: u64,
     value: Value,
     cancelled: &Vec<u64>,
+    claim: &mut C,
 ) -> Result<(), LedgerFault>
     ensures added { OnOk result (journal.new ≡ log_with journal.old (Bind token cell value ∷ map Cancel cancelled.now.items)) }
+    ensures got { OnOk result (C.got claim.old claim.new) }
     ensures refused { OnErr result (journal.new ≡ journal.old) }
-    ensures why { IfErr result (λ fault. fault ≡ LedgerFault.Memory) }
+    ensures why { IfErr result (λ fault. IsBarred (claim.new ≡ claim.old) (C.lost claim.old claim.new) (λ reason. reason ≡ LedgerFault.Memory) fault) }
 {
+    let entries = journal.len();
     match journal.push_bind(token, cell, value, cancelled) {
-        Ok(()) => Ok(()),
-        Err(_) => Err(LedgerFault::Memory),
+        Ok(()) => {}
+        Err(_) => return Err(LedgerFault::Memory),
     }
+    if claim.ask() {
+        return Ok(());
+    }
+    journal.truncate(entries);
+    Err(LedgerFault::Unclaimed)
 }
 
 impl<P: Program> Ledger<P> {
@@ -65,13 +75,14 @@ impl<P: Program> Ledger<P> {
     }
 
     /// The right side of a cell takes what the token publishes: all that stands inside it goes, and the calls that pended there are cancelled.
-    /// Their numbers are handed out, in rising order.
-    pub fn bind(
+    /// Their numbers are handed out, in rising order. The claim is asked last.
+    pub fn bind<C: Claim>(
         &mut self,
         slot: usize,
         token: Token,
         value: Value,
         cell: u64,
+        claim: &mut C,
         cancelled: &mut Vec<u64>,
     ) -> Result<(), LedgerFault>
         requires held { IsHeld self.old.slots slot token }
@@ -80,8 +91,9 @@ impl<P: Program> Ledger<P> {
         ensures done { OnOk result (Drops (code P.listing) cell (Bound.Is value) self.old self.new) }
         ensures journal { OnOk result (self.new.journal ≡ self.old.journal ++ Bind token.serial cell value ∷ map Cancel cancelled.new.items) }
         ensures cancelled { OnOk result (AreCancelled (code P.listing) cell self.old cancelled.new.items) }
+        ensures got { OnOk result (C.got claim.old claim.new) }
         ensures refused { OnErr result (self.new ≡ self.old) }
-        ensures why { IfErr result (λ fault. IsRefused self.old 0 0 0 fault) }
+        ensures why { IfErr result (λ fault. IsBarred (claim.new ≡ claim.old) (C.lost claim.old claim.new) (IsRefused self.old 0 0 0) fault) }
     {
         self.within(0, 0, 0)?;
         let known = list_side(
@@ -94,7 +106,14 @@ impl<P: Program> Ledger<P> {
             side_group(&self.steps, token.step),
             cancelled,
         )?;
-        write_bind(&mut self.journal, token.serial, cell, value, cancelled)?;
+        write_bind(
+            &mut self.journal,
+            token.serial,
+            cell,
+            value,
+            cancelled,
+            claim,
+        )?;
         self.entries += 1;
         leave_tokens(
             &mut self.tokens,

@@ -1,8 +1,9 @@
 //! Parts of a run that are made apart: a call of a definition with values is a program of its own, which a ledger of its own can run. Where it is over,
 //! or has come to one value, its entries are taken in, as if they had been made here.
 
-ghost use Rattle.std.specs.Prelude.{◌≡◌, ◌≤◌, ◌<◌, ◌+◌, ◌-◌, ◌^◌, ◌++◌, ◌⊎◌, ℕ, true, false, length, None, IfOk, IfErr, IfSome, MatchOption, OnErr, vec_len, vec_capacity, option_to_list};
+ghost use Rattle.std.specs.Prelude.{◌≡◌, ◌≤◌, ◌<◌, ◌+◌, ◌-◌, ◌^◌, ◌++◌, ◌⊎◌, ℕ, true, false, length, None, IfOk, IfErr, IfSome, MatchOption, OnOk, OnErr, vec_len, vec_capacity, option_to_list};
 ghost use Rattle.orc_rules.specs.Nodes.{code, definitions, source};
+ghost use Rattle.orc_rules.specs.Timed.{IsIn};
 ghost use Rattle.orc_subrun.specs.Moved.{AreSilent};
 ghost use Rattle.orc_frames.specs.declared.action.Action.TheVariants.{Publish};
 ghost use Rattle.orc_tables.specs.OpenGroups.{size_of};
@@ -10,7 +11,7 @@ ghost use Rattle.orc_indexes.specs.Same.{is_this, weight};
 ghost use Rattle.orc_tables.specs.Tokens.{live, IsHeld, StayParked};
 ghost use Rattle.orc_tables.specs.declared.records.Token.{Token as Its};
 ghost use Rattle.orc_ledger_spec.specs.Doing.{what_of};
-ghost use Rattle.orc_ledger_spec.specs.Parts.{call_of, cells_from, comers, Fits, IsOver, StandsFor, TakesIn, IsUntaken};
+ghost use Rattle.orc_ledger_spec.specs.Parts.{call_of, cells_from, comers, numbering, Fits, IsOver, StandsFor, TakesIn, IsUntaken};
 
 use crate::ledger::Ledger;
 use orc_env::Bound;
@@ -183,6 +184,7 @@ fn exchange(
     requires held { IsHeld tokens.old.items slot token }
     requires serial { IfSome comer (λ t. 1 ≤ t.serial) }
     ensures tokens { (w : Its → ℕ) → weight w (live tokens.new.items) + w token ≡ weight w (live tokens.old.items) + weight w (option_to_list comer) }
+    ensures comer { IfSome comer (IsHeld tokens.new.items slot) }
     ensures parked { StayParked tokens.old tokens.new }
     ensures groups { groups.new.items ≡ groups.old.items }
     ensures sizes { (j : ℕ) → size_of groups.new.sizes j ≡ size_of groups.old.sizes j + weight (λ (t : Its). is_this j group) (option_to_list comer) - is_this j group }
@@ -336,6 +338,7 @@ impl<P: Program> Ledger<P> {
         requires stands { StandsFor P.listing self.old token part.now.definition part.now.args }
         requires fits { Fits part.now token }
         ensures done { IfOk result (λ _. TakesIn self.old self.new token part.now) }
+        ensures comer { OnOk result ((t : Its) → IsIn t (comers (numbering self.old token) token part.now.left) → IsHeld self.new.slots slot t) }
         ensures refused { OnErr result (self.new ≡ self.old) }
         ensures why { IfErr result (λ fault. IsUntaken self.old part.now fault) }
     {

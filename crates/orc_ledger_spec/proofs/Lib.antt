@@ -12,6 +12,7 @@ pub mod Brought
 pub mod Calling
 pub mod Causes
 pub mod Cells
+pub mod Claiming
 pub mod Cleared
 pub mod Closed
 pub mod Dropped

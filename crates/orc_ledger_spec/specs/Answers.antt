@@ -58,3 +58,4 @@ abbrev pub IsStopped : Records → LedgerFault → Type 0
 IsStopped s fault.Full = ⊥
 IsStopped s fault.Limit = s.limit ≤ s.entries
 IsStopped s fault.Memory = s.entries < s.limit
+IsStopped s fault.Unclaimed = ⊥

@@ -117,6 +117,7 @@ abbrev pub IsRefused : Records → ℕ → ℕ → ℕ → LedgerFault → Type 
 IsRefused s tokens groups depth fault.Full = IsFull s tokens groups depth
 IsRefused s tokens groups depth fault.Limit = HasRoom s tokens groups depth × (s.limit ≤ s.entries)
 IsRefused s tokens groups depth fault.Memory = HasRoom s tokens groups depth × (s.entries < s.limit)
+IsRefused s tokens groups depth fault.Unclaimed = ⊥
 
 -- the token t publishes past these otherwises, and others come
 pub record Crosses (s s' : Records) (t : Token) (births : List Token) (ss : List Scope) (ns : List ℕ) (e : Entry) : Type 0 where

@@ -4,6 +4,7 @@ pub mod AtRest
 pub mod Begun
 pub mod Brought
 pub mod Calls
+pub mod Claims
 pub mod Doing
 pub mod Halting
 pub mod Homes

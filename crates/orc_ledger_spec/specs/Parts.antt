@@ -103,3 +103,4 @@ abbrev pub IsUntaken : Records → Apart → LedgerFault → Type 0
 IsUntaken s a fault.Full = ⊥
 IsUntaken s a fault.Limit = s.limit < s.entries + length a.entries
 IsUntaken s a fault.Memory = s.entries + length a.entries ≤ s.limit
+IsUntaken s a fault.Unclaimed = ⊥

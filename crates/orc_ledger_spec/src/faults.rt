@@ -6,12 +6,13 @@ use std::alloc::AllocError;
 
 /// Why a call is refused; nothing has changed then. The first of these that is a cause: the most tokens and calls (`MOST_TOKENS`), groups
 /// (`MOST_GROUPS`, with the program's own) or left sides of a `>x>` round one token (`MOST_FRAMES`) are reached; the journal has as many entries as
-/// the limit; memory.
+/// the limit; memory; the claim that is asked last was lost, if the call asks one.
 #[derive(Clone, Copy, Debug, PartialEq, Eq)]
 pub enum LedgerFault {
     Full,
     Limit,
     Memory,
+    Unclaimed,
 }
 
 impl From<AllocError> for LedgerFault {

@@ -45,8 +45,8 @@ invariant_of-self-2 g c =
     let groups_so : c.reserve-2.new.self.items ≡ s.groups = c.in_ok-reserve-2.ensures.items in
     let free : IsFree s number = (c.open-number.ensures.free.0, subst (None (λ (h : Group). nat_eq number h.number)) groups_so c.open-number.ensures.free.1, c.open-number.ensures.few) in
     let room : s.entries < s.limit = rw (← c.self.view_is) at c.in_ok-within.ensures.room in
-    let s' : Records = record { limit = b.limit; journal = c.write.new.journal.entries; entries = b.entries + 1; next_mark = b.next_mark + 1; now = b.time; made = b.calls.made; tokens = live c.replace.new.self.items; slots = c.replace.new.self.items; calls = b.calls.items; scopes = b.scopes.items; steps = c.push.new.self.items; groups = c.join.new.self.items; cells = b.cells.items } in
-    let journal : s'.journal ≡ s.journal ++ Other a.token.serial b.next_mark ∷ [] = ap (λ j. j.entries) c.in_ok-write.ensures.added in
+    let s' : Records = record { limit = b.limit; journal = c.write_claimed.new.journal.entries; entries = b.entries + 1; next_mark = b.next_mark + 1; now = b.time; made = b.calls.made; tokens = live c.replace.new.self.items; slots = c.replace.new.self.items; calls = b.calls.items; scopes = b.scopes.items; steps = c.push.new.self.items; groups = c.join.new.self.items; cells = b.cells.items } in
+    let journal : s'.journal ≡ s.journal ++ Other a.token.serial b.next_mark ∷ [] = ap (λ j. j.entries) c.in_ok-write_claimed.ensures.added in
     let step : Step = record { entered = OtherwiseLeft a.token.serial; outer = a.token.step; group = number; depth = depth_at s.steps a.token.step; published = false } in
     let made : Step = record { entered = OtherwiseLeft a.token.serial; outer = a.token.step; group = number; depth = c.depth_at-depth.result; published = false } in
     let deep : c.depth_at-depth.result ≡ depth_at s.steps a.token.step = c.depth_at-depth.ensures ∙ ap (λ z. depth_at z a.token.step) c.in_ok-reserve.ensures.items in
@@ -70,7 +70,7 @@ invariant_of-self-2 g c =
         brought = turned-deep s s' c.self.invariant.kept.brought a.token (first ∷ []) [] step (group ∷ []) [] _ T (omega arith) (omega arith) (omega (arith, c.self.invariant.kept.brought.depth a.token.step));
       };
       rest = rest-kept (code l) (definitions l) s s' b.tokens c.replace.new.self refl refl c.self.invariant.rest (live-in b.tokens.items) (c.replace.ensures.parked) (same-terms (code l) s s' refl refl);
-      version = ap (λ j. j.version) c.in_ok-write.ensures.added ∙ c.self.invariant.version;
+      version = ap (λ j. j.version) c.in_ok-write_claimed.ensures.added ∙ c.self.invariant.version;
       limited = c.self.invariant.limited;
     }
 
@@ -90,8 +90,8 @@ returns-clause-done g c =
     let groups_so : c.reserve-2.new.self.items ≡ s.groups = c.in_ok-reserve-2.ensures.items in
     let free : IsFree s number = (c.open-number.ensures.free.0, subst (None (λ (h : Group). nat_eq number h.number)) groups_so c.open-number.ensures.free.1, c.open-number.ensures.few) in
     let room : s.entries < s.limit = rw (← c.self.view_is) at c.in_ok-within.ensures.room in
-    let s' : Records = record { limit = b.limit; journal = c.write.new.journal.entries; entries = b.entries + 1; next_mark = b.next_mark + 1; now = b.time; made = b.calls.made; tokens = live c.replace.new.self.items; slots = c.replace.new.self.items; calls = b.calls.items; scopes = b.scopes.items; steps = c.push.new.self.items; groups = c.join.new.self.items; cells = b.cells.items } in
-    let journal : s'.journal ≡ s.journal ++ Other a.token.serial b.next_mark ∷ [] = ap (λ j. j.entries) c.in_ok-write.ensures.added in
+    let s' : Records = record { limit = b.limit; journal = c.write_claimed.new.journal.entries; entries = b.entries + 1; next_mark = b.next_mark + 1; now = b.time; made = b.calls.made; tokens = live c.replace.new.self.items; slots = c.replace.new.self.items; calls = b.calls.items; scopes = b.scopes.items; steps = c.push.new.self.items; groups = c.join.new.self.items; cells = b.cells.items } in
+    let journal : s'.journal ≡ s.journal ++ Other a.token.serial b.next_mark ∷ [] = ap (λ j. j.entries) c.in_ok-write_claimed.ensures.added in
     let step : Step = record { entered = OtherwiseLeft a.token.serial; outer = a.token.step; group = number; depth = depth_at s.steps a.token.step; published = false } in
     let made : Step = record { entered = OtherwiseLeft a.token.serial; outer = a.token.step; group = number; depth = c.depth_at-depth.result; published = false } in
     let deep : c.depth_at-depth.result ≡ depth_at s.steps a.token.step = c.depth_at-depth.ensures ∙ ap (λ z. depth_at z a.token.step) c.in_ok-reserve.ensures.items in
@@ -151,8 +151,8 @@ invariant_of-self-in_err-reserve-2 g c =
     let i : IsIn a.token s.tokens = live-in s.slots a.slot a.token held in
     record { kept = kept-still l sites b.counts b.groups.sizes c.reserve-2.new.self.sizes s _ c.self.invariant.kept (λ k. record { limit = b.limit; journal = b.journal.entries; entries = b.entries; next_mark = b.next_mark; now = b.time; made = b.calls.made; tokens = live b.tokens.items; slots = b.tokens.items; calls = b.calls.items; scopes = b.scopes.items; steps = sym c.in_ok-reserve.ensures.items k; groups = sym c.reserve-2.ensures.items k; cells = b.cells.items }) c.reserve-2.ensures.sizes; rest = rest-same (code l) (definitions l) s _ b.tokens.parked b.tokens.parked (λ k. record { limit = b.limit; journal = b.journal.entries; entries = b.entries; next_mark = b.next_mark; now = b.time; made = b.calls.made; tokens = live b.tokens.items; slots = b.tokens.items; calls = b.calls.items; scopes = b.scopes.items; steps = sym c.in_ok-reserve.ensures.items k; groups = sym c.reserve-2.ensures.items k; cells = b.cells.items }) refl c.self.invariant.rest; version = c.self.invariant.version; limited = c.self.invariant.limited }
 
-pub invariant_of-self-in_err-write : goal.invariant_of-self-in_err-write
-invariant_of-self-in_err-write g c =
+pub invariant_of-self-in_err-write_claimed : goal.invariant_of-self-in_err-write_claimed
+invariant_of-self-in_err-write_claimed g c =
     let b = c.self.inside in
     let a = c.args in
     let l = g.P.Program.listing in
@@ -163,7 +163,7 @@ invariant_of-self-in_err-write g c =
     let G = c.self.invariant.kept.grouped in
     let held : IsHeld s.slots a.slot a.token = rw (← c.self.view_is) at c.requires.held in
     let i : IsIn a.token s.tokens = live-in s.slots a.slot a.token held in
-    record { kept = kept-still l sites b.counts b.groups.sizes c.reserve-2.new.self.sizes s _ c.self.invariant.kept (λ k. record { limit = b.limit; journal = (sym c.in_err-write.ensures.refused k).entries; entries = b.entries; next_mark = b.next_mark; now = b.time; made = b.calls.made; tokens = live b.tokens.items; slots = b.tokens.items; calls = b.calls.items; scopes = b.scopes.items; steps = sym c.in_ok-reserve.ensures.items k; groups = sym c.reserve-2.ensures.items k; cells = b.cells.items }) c.reserve-2.ensures.sizes; rest = rest-same (code l) (definitions l) s _ b.tokens.parked b.tokens.parked (λ k. record { limit = b.limit; journal = (sym c.in_err-write.ensures.refused k).entries; entries = b.entries; next_mark = b.next_mark; now = b.time; made = b.calls.made; tokens = live b.tokens.items; slots = b.tokens.items; calls = b.calls.items; scopes = b.scopes.items; steps = sym c.in_ok-reserve.ensures.items k; groups = sym c.reserve-2.ensures.items k; cells = b.cells.items }) refl c.self.invariant.rest; version = ap (λ j. j.version) c.in_err-write.ensures.refused ∙ c.self.invariant.version; limited = c.self.invariant.limited }
+    record { kept = kept-still l sites b.counts b.groups.sizes c.reserve-2.new.self.sizes s _ c.self.invariant.kept (λ k. record { limit = b.limit; journal = (sym c.in_err-write_claimed.ensures.refused k).entries; entries = b.entries; next_mark = b.next_mark; now = b.time; made = b.calls.made; tokens = live b.tokens.items; slots = b.tokens.items; calls = b.calls.items; scopes = b.scopes.items; steps = sym c.in_ok-reserve.ensures.items k; groups = sym c.reserve-2.ensures.items k; cells = b.cells.items }) c.reserve-2.ensures.sizes; rest = rest-same (code l) (definitions l) s _ b.tokens.parked b.tokens.parked (λ k. record { limit = b.limit; journal = (sym c.in_err-write_claimed.ensures.refused k).entries; entries = b.entries; next_mark = b.next_mark; now = b.time; made = b.calls.made; tokens = live b.tokens.items; slots = b.tokens.items; calls = b.calls.items; scopes = b.scopes.items; steps = sym c.in_ok-reserve.ensures.items k; groups = sym c.reserve-2.ensures.items k; cells = b.cells.items }) refl c.self.invariant.rest; version = ap (λ j. j.version) c.in_err-write_claimed.ensures.refused ∙ c.self.invariant.version; limited = c.self.invariant.limited }
 
 pub join-requires-clause-open : goal.join-requires-clause-open
 join-requires-clause-open g c =

@@ -51,8 +51,8 @@ invariant_of-self-2 g c =
     let groups_so : c.reserve-5.new.self.items ≡ s.groups = c.in_ok-reserve-5.ensures.items in
     let free : IsFree s number = (c.open-number.ensures.free.0, subst (None (λ (h : Group). nat_eq number h.number)) groups_so c.open-number.ensures.free.1, c.open-number.ensures.few) in
     let room : s.entries < s.limit = rw (← c.self.view_is) at c.in_ok-within.ensures.room in
-    let s' : Records = record { limit = b.limit; journal = c.write.new.journal.entries; entries = b.entries + 1; next_mark = b.next_mark + 2; now = b.time; made = b.calls.made; tokens = live c.add-other.new.self.items; slots = c.add-other.new.self.items; calls = b.calls.items; scopes = c.push_within.new.items.items; steps = c.push.new.self.items; groups = c.join-2.new.self.items; cells = c.push_within-2.new.items.items } in
-    let journal : s'.journal ≡ s.journal ++ Open a.token.serial c.len-cell.result b.next_mark (b.next_mark + 1) ∷ [] = ap (λ j. j.entries) c.in_ok-write.ensures.added in
+    let s' : Records = record { limit = b.limit; journal = c.write_claimed.new.journal.entries; entries = b.entries + 1; next_mark = b.next_mark + 2; now = b.time; made = b.calls.made; tokens = live c.add-other.new.self.items; slots = c.add-other.new.self.items; calls = b.calls.items; scopes = c.push_within.new.items.items; steps = c.push.new.self.items; groups = c.join-2.new.self.items; cells = c.push_within-2.new.items.items } in
+    let journal : s'.journal ≡ s.journal ++ Open a.token.serial c.len-cell.result b.next_mark (b.next_mark + 1) ∷ [] = ap (λ j. j.entries) c.in_ok-write_claimed.ensures.added in
     let cell : c.len-cell.result ≡ length s.cells = omega (arith, c.len-cell.ensures, ap length c.in_ok-reserve-4.ensures.items) in
     let inner : c.len-inner.result + 1 ≡ length s.scopes + 1 = omega (arith, c.len-inner.ensures, ap length c.in_ok-reserve-2.ensures.items) in
     let count : c.len-step.result + 1 ≡ length s.steps + 1 = omega (arith, c.len-step.ensures.count, ap length c.in_ok-reserve-3.ensures.items) in
@@ -80,7 +80,7 @@ invariant_of-self-2 g c =
         brought = turned-deep s s' c.self.invariant.kept.brought a.token (first ∷ second ∷ []) (name ∷ []) step (group ∷ []) (Cell (length s.cells) ∷ []) _ T (omega arith) (omega arith) (omega arith);
       };
       rest = rest-kept (code l) (definitions l) s s' b.tokens c.add-other.new.self refl refl c.self.invariant.rest (live-in b.tokens.items) (stay-on b.tokens c.reserve.new.self c.add-other.new.self (stay-same b.tokens c.reserve.new.self c.in_ok-reserve.ensures.items c.in_ok-reserve.ensures.parked) (stay-on c.reserve.new.self c.replace.new.self c.add-other.new.self c.replace.ensures.parked c.add-other.ensures.parked)) (turns-terms l sites s L s' a.token i (first ∷ second ∷ []) (name ∷ []) (step ∷ []) (group ∷ []) (Cell (length s.cells) ∷ []) (Open a.token.serial (length s.cells) b.next_mark (b.next_mark + 1)) T (λ n. refl) (λ z. ap (λ y. current y z) T.cells ∙ current-push s.cells z));
-      version = ap (λ j. j.version) c.in_ok-write.ensures.added ∙ c.self.invariant.version;
+      version = ap (λ j. j.version) c.in_ok-write_claimed.ensures.added ∙ c.self.invariant.version;
       limited = c.self.invariant.limited;
     }
 
@@ -100,8 +100,8 @@ returns-clause-done g c =
     let groups_so : c.reserve-5.new.self.items ≡ s.groups = c.in_ok-reserve-5.ensures.items in
     let free : IsFree s number = (c.open-number.ensures.free.0, subst (None (λ (h : Group). nat_eq number h.number)) groups_so c.open-number.ensures.free.1, c.open-number.ensures.few) in
     let room : s.entries < s.limit = rw (← c.self.view_is) at c.in_ok-within.ensures.room in
-    let s' : Records = record { limit = b.limit; journal = c.write.new.journal.entries; entries = b.entries + 1; next_mark = b.next_mark + 2; now = b.time; made = b.calls.made; tokens = live c.add-other.new.self.items; slots = c.add-other.new.self.items; calls = b.calls.items; scopes = c.push_within.new.items.items; steps = c.push.new.self.items; groups = c.join-2.new.self.items; cells = c.push_within-2.new.items.items } in
-    let journal : s'.journal ≡ s.journal ++ Open a.token.serial c.len-cell.result b.next_mark (b.next_mark + 1) ∷ [] = ap (λ j. j.entries) c.in_ok-write.ensures.added in
+    let s' : Records = record { limit = b.limit; journal = c.write_claimed.new.journal.entries; entries = b.entries + 1; next_mark = b.next_mark + 2; now = b.time; made = b.calls.made; tokens = live c.add-other.new.self.items; slots = c.add-other.new.self.items; calls = b.calls.items; scopes = c.push_within.new.items.items; steps = c.push.new.self.items; groups = c.join-2.new.self.items; cells = c.push_within-2.new.items.items } in
+    let journal : s'.journal ≡ s.journal ++ Open a.token.serial c.len-cell.result b.next_mark (b.next_mark + 1) ∷ [] = ap (λ j. j.entries) c.in_ok-write_claimed.ensures.added in
     let cell : c.len-cell.result ≡ length s.cells = omega (arith, c.len-cell.ensures, ap length c.in_ok-reserve-4.ensures.items) in
     let inner : c.len-inner.result + 1 ≡ length s.scopes + 1 = omega (arith, c.len-inner.ensures, ap length c.in_ok-reserve-2.ensures.items) in
     let count : c.len-step.result + 1 ≡ length s.steps + 1 = omega (arith, c.len-step.ensures.count, ap length c.in_ok-reserve-3.ensures.items) in
@@ -188,8 +188,8 @@ invariant_of-self-in_err-reserve-5 g c =
     let i : IsIn a.token s.tokens = live-in s.slots a.slot a.token held in
     record { kept = kept-still l sites b.counts b.groups.sizes c.reserve-5.new.self.sizes s _ c.self.invariant.kept (λ k. record { limit = b.limit; journal = b.journal.entries; entries = b.entries; next_mark = b.next_mark; now = b.time; made = b.calls.made; tokens = live (sym c.in_ok-reserve.ensures.items k); slots = sym c.in_ok-reserve.ensures.items k; calls = b.calls.items; scopes = sym c.in_ok-reserve-2.ensures.items k; steps = sym c.in_ok-reserve-3.ensures.items k; groups = sym c.reserve-5.ensures.items k; cells = sym c.in_ok-reserve-4.ensures.items k }) c.reserve-5.ensures.sizes; rest = rest-same (code l) (definitions l) s _ b.tokens.parked c.reserve.new.self.parked (λ k. record { limit = b.limit; journal = b.journal.entries; entries = b.entries; next_mark = b.next_mark; now = b.time; made = b.calls.made; tokens = live (sym c.in_ok-reserve.ensures.items k); slots = sym c.in_ok-reserve.ensures.items k; calls = b.calls.items; scopes = sym c.in_ok-reserve-2.ensures.items k; steps = sym c.in_ok-reserve-3.ensures.items k; groups = sym c.reserve-5.ensures.items k; cells = sym c.in_ok-reserve-4.ensures.items k }) c.in_ok-reserve.ensures.parked c.self.invariant.rest; version = c.self.invariant.version; limited = c.self.invariant.limited }
 
-pub invariant_of-self-in_err-write : goal.invariant_of-self-in_err-write
-invariant_of-self-in_err-write g c =
+pub invariant_of-self-in_err-write_claimed : goal.invariant_of-self-in_err-write_claimed
+invariant_of-self-in_err-write_claimed g c =
     let b = c.self.inside in
     let a = c.args in
     let l = g.P.Program.listing in
@@ -200,7 +200,7 @@ invariant_of-self-in_err-write g c =
     let G = c.self.invariant.kept.grouped in
     let held : IsHeld s.slots a.slot a.token = rw (← c.self.view_is) at c.requires.held in
     let i : IsIn a.token s.tokens = live-in s.slots a.slot a.token held in
-    record { kept = kept-still l sites b.counts b.groups.sizes c.reserve-5.new.self.sizes s _ c.self.invariant.kept (λ k. record { limit = b.limit; journal = (sym c.in_err-write.ensures.refused k).entries; entries = b.entries; next_mark = b.next_mark; now = b.time; made = b.calls.made; tokens = live (sym c.in_ok-reserve.ensures.items k); slots = sym c.in_ok-reserve.ensures.items k; calls = b.calls.items; scopes = sym c.in_ok-reserve-2.ensures.items k; steps = sym c.in_ok-reserve-3.ensures.items k; groups = sym c.reserve-5.ensures.items k; cells = sym c.in_ok-reserve-4.ensures.items k }) c.reserve-5.ensures.sizes; rest = rest-same (code l) (definitions l) s _ b.tokens.parked c.reserve.new.self.parked (λ k. record { limit = b.limit; journal = (sym c.in_err-write.ensures.refused k).entries; entries = b.entries; next_mark = b.next_mark; now = b.time; made = b.calls.made; tokens = live (sym c.in_ok-reserve.ensures.items k); slots = sym c.in_ok-reserve.ensures.items k; calls = b.calls.items; scopes = sym c.in_ok-reserve-2.ensures.items k; steps = sym c.in_ok-reserve-3.ensures.items k; groups = sym c.reserve-5.ensures.items k; cells = sym c.in_ok-reserve-4.ensures.items k }) c.in_ok-reserve.ensures.parked c.self.invariant.rest; version = ap (λ j. j.version) c.in_err-write.ensures.refused ∙ c.self.invariant.version; limited = c.self.invariant.limited }
+    record { kept = kept-still l sites b.counts b.groups.sizes c.reserve-5.new.self.sizes s _ c.self.invariant.kept (λ k. record { limit = b.limit; journal = (sym c.in_err-write_claimed.ensures.refused k).entries; entries = b.entries; next_mark = b.next_mark; now = b.time; made = b.calls.made; tokens = live (sym c.in_ok-reserve.ensures.items k); slots = sym c.in_ok-reserve.ensures.items k; calls = b.calls.items; scopes = sym c.in_ok-reserve-2.ensures.items k; steps = sym c.in_ok-reserve-3.ensures.items k; groups = sym c.reserve-5.ensures.items k; cells = sym c.in_ok-reserve-4.ensures.items k }) c.reserve-5.ensures.sizes; rest = rest-same (code l) (definitions l) s _ b.tokens.parked c.reserve.new.self.parked (λ k. record { limit = b.limit; journal = (sym c.in_err-write_claimed.ensures.refused k).entries; entries = b.entries; next_mark = b.next_mark; now = b.time; made = b.calls.made; tokens = live (sym c.in_ok-reserve.ensures.items k); slots = sym c.in_ok-reserve.ensures.items k; calls = b.calls.items; scopes = sym c.in_ok-reserve-2.ensures.items k; steps = sym c.in_ok-reserve-3.ensures.items k; groups = sym c.reserve-5.ensures.items k; cells = sym c.in_ok-reserve-4.ensures.items k }) c.in_ok-reserve.ensures.parked c.self.invariant.rest; version = ap (λ j. j.version) c.in_err-write_claimed.ensures.refused ∙ c.self.invariant.version; limited = c.self.invariant.limited }
 
 pub join-requires-clause-open : goal.join-requires-clause-open
 join-requires-clause-open g c =

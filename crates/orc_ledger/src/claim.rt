@@ -1,0 +1,33 @@
+//! Claims: what only an exchange with others can show, asked of a move last.
+
+ghost use Rattle.std.specs.Prelude.{◌≡◌, true, false};
+
+/// What others may have taken first, as a mark that only one can win. Who asks gets it or has lost it; both are final.
+///
+/// A move asks it when nothing else can refuse the move any more: its entry is written, and nothing else has changed. Where the claim is lost the
+/// entry is taken back.
+pub trait Claim {
+    // What becomes of a claim that is got, and of one that is lost.
+    ghost got: { Self → Self → Type 0 };
+
+    ghost lost: { Self → Self → Type 0 };
+
+    /// Whether it is got.
+    fn ask(&mut self) -> bool
+        ensures yes { result ≡ true → got self.old self.new }
+        ensures no { result ≡ false → lost self.old self.new };
+}
+
+/// A claim that is always got: there is nobody to lose it to.
+#[derive(Clone, Copy)]
+pub struct Always;
+
+impl Claim for Always {
+    ghost got = { λ _ _. Unit {0} };
+
+    ghost lost = { λ _ _. ⊥ };
+
+    fn ask(&mut self) -> bool {
+        true
+    }
+}
