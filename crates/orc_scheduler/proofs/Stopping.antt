@@ -29,6 +29,7 @@ use Rattle.orc_ledger_spec.specs.declared.results.Halted.TheVariants.{Lost, Resu
 use Rattle.orc_ledger_spec.specs.declared.faults.HaltFault.TheVariants.{Refused}
 use Rattle.orc_ledger_spec.specs.declared.faults.LedgerFault.{LedgerFault}
 use Rattle.orc_ledger_spec.specs.declared.faults.LedgerFault.TheVariants as fault
+use Rattle.orc_ledger_spec.proofs.Claiming.{never-hinders}
 use Rattle.orc_scheduler.specs.declared.scheduler.Stop.{Stop}
 use Rattle.orc_scheduler.specs.declared.scheduler.Stop.TheVariants as stop
 use Rattle.orc_scheduler.specs.declared.scheduler.Turn.{Turn}
@@ -59,10 +60,15 @@ hindered l s s' t f same law h = go f (subst (λ z. IsHindered l z t f) (sym sam
     go fault.Full k = law.moves t k
     go fault.Limit k = limited_by s' t (what_of (code l) (definitions l) s' t) k
     go fault.Memory k = tt
+    go fault.Unclaimed k = absurd (never-hinders s' t (what_of (code l) (definitions l) s' t) k)
 
 limited_at : (s : Records) (side : Side) → IsRefusedAt s side fault.Limit → s.limit ≤ s.entries
 limited_at s (Right c) h = h.1
 limited_at s (Left n node scope) h = h.1.1
+
+unclaimed_at : (s : Records) (side : Side) → IsRefusedAt s side fault.Unclaimed → ⊥
+unclaimed_at s (Right c) h = h
+unclaimed_at s (Left n node scope) h = h.1
 
 pub unhalted : (l : Listing) (s s' : Records) (number : ℕ) (f : LedgerFault) → s' ≡ s → FullIsCrowded l s' → IsHinderedAt s number (Refused f) → Stops l s' (stop.Refused f)
 unhalted l s s' number f same law h = go f (subst (λ z. IsHinderedAt z number (Refused f)) (sym same) h)
@@ -71,11 +77,13 @@ unhalted l s s' number f same law h = go f (subst (λ z. IsHinderedAt z number (
     go fault.Full k = law.halts number k
     go fault.Limit k = limited_at s' k.0.side k.3
     go fault.Memory k = tt
+    go fault.Unclaimed k = unclaimed_at s' k.0.side k.3
 
 pub stopped : (l : Listing) (s s' : Records) (f : LedgerFault) → s' ≡ s → IsStopped s f → Stops l s' (stop.Refused f)
 stopped l s s' fault.Full same h = absurd h
 stopped l s s' fault.Limit same h = subst (λ z. Stops l z (stop.Refused fault.Limit)) (sym same) h
 stopped l s s' fault.Memory same h = tt
+stopped l s s' fault.Unclaimed same h = absurd h
 
 pub refused-so : (l : Listing) (s s' : Records) (f : LedgerFault) → s' ≡ s → FullIsCrowded l s' → IsRefused s 0 0 0 f → Stops l s' (stop.Refused f)
 refused-so l s s' f same law h = go f (subst (λ z. IsRefused z 0 0 0 f) (sym same) h)
@@ -84,6 +92,7 @@ refused-so l s s' f same law h = go f (subst (λ z. IsRefused z 0 0 0 f) (sym sa
     go fault.Full k = law.calls k
     go fault.Limit k = k.1
     go fault.Memory k = tt
+    go fault.Unclaimed k = absurd k
 
 pub no-memory : (l : Listing) (s : Records) (r : Stop) → r ≡ stop.Refused fault.Memory → Stops l s r
 no-memory l s r is = subst (Stops l s) (sym is) tt

@@ -70,5 +70,6 @@ Stops l s stop.Rests = (next_of (code l) (definitions l) (numbers_of s) s ≡ qu
 Stops l s (stop.Refused fault.Full) = IsCrowded s.journal
 Stops l s (stop.Refused fault.Limit) = s.limit ≤ s.entries
 Stops l s (stop.Refused fault.Memory) = Unit {0}
+Stops l s (stop.Refused fault.Unclaimed) = ⊥
 Stops l s stop.Broken = IsProgram (definitions l) (source l) → ⊥
 Stops l s (stop.Site number) = ⊥

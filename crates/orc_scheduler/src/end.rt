@@ -68,6 +68,8 @@ impl<P: Naming> Scheduler<P> {
             Stop::Refused(LedgerFault::Memory) => Ok(Some(End::Memory)),
             Stop::Refused(LedgerFault::Full) => self.crowded(answers),
             Stop::Refused(LedgerFault::Limit) => self.cut(program, graph, answers),
+            // A scheduler's claims are always got.
+            Stop::Refused(LedgerFault::Unclaimed) => Err(EngineFault::Broken),
             Stop::Broken => Err(EngineFault::Broken),
             Stop::Site(number) => Err(EngineFault::Site(number)),
         }
