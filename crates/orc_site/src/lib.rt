@@ -6,20 +6,20 @@
 
 mod due;
 mod gate;
-mod line;
+pub mod line;
 mod open;
 mod request;
 mod script;
 mod scripted;
 mod site_call;
 mod sites;
-mod token;
+pub mod token;
 
 pub use due::{Due, due_after};
 pub use gate::Gate;
 pub use open::Open;
 pub use request::Request;
-pub use script::{ScriptFault, read_script};
+pub use script::{ScriptFault, read_script, split_line};
 pub use scripted::Scripted;
 pub use site_call::SiteCall;
 pub use sites::{SiteFuture, Sites};
