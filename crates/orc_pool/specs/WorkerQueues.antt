@@ -10,11 +10,15 @@ module _ {T : Type 0} where
   abbrev pub stolen_views : WorkerQueue T → List (View T)
   stolen_views worker_queue = map theft_view worker_queue.thefts.items
 
-  -- the task stood last in the hand's own queue, or first in another one
+  -- the task stood first in one of the queues
+  abbrev pub IsStolen : WorkerQueue T → T → WorkerQueue T → Type 0
+  IsStolen before task after = (from : ℕ) × (v w : View T) × (slice_get (stolen_views before) from ≡ Some v) × IsTheft v (task ∷ []) w × (stolen_views after ≡ slice_set (stolen_views before) from w)
+
+  -- the task stood last in the worker's own queue, or first in another one
   abbrev pub IsTaken : WorkerQueue T → T → WorkerQueue T → Type 0
   IsTaken before task after =
       (IsPop (own_view before.own) (task ∷ []) (own_view after.own) × (stolen_views after ≡ stolen_views before))
-      ⊎ (WasEmpty (own_view before.own) × (own_view after.own ≡ own_view before.own) × (from : ℕ) × (v w : View T) × (slice_get (stolen_views before) from ≡ Some v) × IsTheft v (task ∷ []) w × (stolen_views after ≡ slice_set (stolen_views before) from w))
+      ⊎ (WasEmpty (own_view before.own) × (own_view after.own ≡ own_view before.own) × IsStolen before task after)
 
   -- each worker has a queue of its own, which is empty, and may steal from all
   abbrev pub AreDealt : ℕ → List (WorkerQueue T) → Type 0

@@ -2,7 +2,7 @@
 ghost use Rattle.std.specs.Prelude.{◌≡◌, [], ◌∷◌, length, map, IfOk, MatchResult, MatchOption};
 ghost use Rattle.orc_pool.specs.History.{IsPush, WasEmpty};
 ghost use Rattle.orc_pool.specs.Words.{own_view, names, theft_name};
-ghost use Rattle.orc_pool.specs.WorkerQueues.{AreDealt, IsTaken, stolen_views};
+ghost use Rattle.orc_pool.specs.WorkerQueues.{AreDealt, IsStolen, IsTaken, stolen_views};
 
 use crate::own::Own;
 use crate::queues::Queues;
@@ -26,6 +26,20 @@ impl<T: Drop> WorkerQueue<T> {
         ensures others { self.new.thefts ≡ self.old.thefts }
     {
         self.own.push(task)
+    }
+
+    /// The task that was pushed first of those in its own queue. None where the queue was empty, or where others were at it all the time.
+    pub fn oldest(&mut self) -> Option<T>
+        ensures own { self.new.own ≡ self.old.own }
+        ensures theft { MatchOption result (stolen_views self.new ≡ stolen_views self.old) (λ task. IsStolen self.old task self.new) }
+    {
+        if self.at >= self.thefts.len() {
+            return None;
+        }
+        if let Some(task) = self.thefts[self.at].steal() {
+            return Some(task);
+        }
+        None
     }
 
     /// The next task: the one that was pushed last of those in its own queue, or else the first one of another queue, of which the next one is asked first.

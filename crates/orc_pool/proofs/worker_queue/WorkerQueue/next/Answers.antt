@@ -18,7 +18,7 @@ returns-in-Some-steal g c =
     let turn = c.loop-step.self.at % c.len-count.result + c.loop-step.step in
     let from = turn % c.len-count.result in
     let there = map_at theft_view thefts from c.index_mut.result.now (get_at thefts from c.index_mut.result.now (is_one turn c.loop-step.step c.len-count.result (length thefts) c.loop-step-test.true kept.3) c.index_mut.ensures.value) in
-    inr (kept.0, kept.1, from, theft_view c.index_mut.result.now, theft_view c.steal.new.self, ap (λ vs. slice_get vs from) (sym kept.2) ∙ there, c.in-Some-steal.ensures, map-set theft_view thefts from c.steal.new.self ∙ ap (λ vs. slice_set vs from (theft_view c.steal.new.self)) kept.2)
+    inr (kept.0, kept.1, (from, theft_view c.index_mut.result.now, theft_view c.steal.new.self, ap (λ vs. slice_get vs from) (sym kept.2) ∙ there, c.in-Some-steal.ensures, map-set theft_view thefts from c.steal.new.self ∙ ap (λ vs. slice_set vs from (theft_view c.steal.new.self)) kept.2))
 
 pub loop-step-preserved : goal.loop-step-preserved
 loop-step-preserved g c =
