@@ -161,6 +161,36 @@ impl<P: Program + Naming> Book<P> {
         ledger.into_journal()
     }
 
+    /// The records of the run, and nothing else of the book.
+    pub fn into_ledger(self) -> Ledger<P>
+        ensures { result ≡ self.ledger }
+    {
+        let Book {
+            ledger,
+            posts,
+            stands,
+            words,
+            dying: _,
+            keeping,
+            scopes,
+            cancelled,
+            cells,
+        } = self;
+        drop(posts);
+        drop(stands);
+        drop(words);
+        drop(keeping);
+        drop(scopes);
+        drop(cancelled);
+        drop(cells);
+        ledger
+    }
+
+    /// The numbers of the calls that the last bind has cancelled, in rising order. Only the calls after a bind that is done make other numbers of them.
+    pub fn cancelled(&self) -> &[u64] {
+        self.cancelled.as_slice()
+    }
+
     /// How many killed groups' words are still taken.
     pub fn dying(&self) -> usize {
         self.dying
