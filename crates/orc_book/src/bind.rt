@@ -76,20 +76,11 @@ impl<P: Program + Naming> Book<P> {
         ensures won { OnOk result (HasWinner leave.new.items (group_of token.pass)) }
         ensures refused { IfErr result (λ r. (self.new ≡ self.old) × (r.back.serial ≡ token.serial) × (r.back.slot ≡ token.slot) × (group_of r.back.pass ≡ group_of token.pass)) }
     {
-        let Some(its) = self.record_of(&token) else {
-            return Err(Refused {
-                why: BookFault::Gone,
-                back: token,
-            });
+        let found = match self.find(&token) {
+            Ok(found) => found,
+            Err(why) => return Err(Refused { why, back: token }),
         };
-        let group = self.ledger.group_of_token(&its);
-        if self.out_of(group) < 1 {
-            return Err(Refused {
-                why: BookFault::Gone,
-                back: token,
-            });
-        }
-        let Some(_cell) = self.binds_next(graph, &its) else {
+        let Some(_cell) = self.binds_next(graph, &found.its) else {
             return Err(Refused {
                 why: BookFault::Wrong,
                 back: token,
@@ -119,10 +110,13 @@ impl<P: Program + Naming> Book<P> {
             });
         }
         stands(&self.ledger);
-        match self
-            .ledger
-            .advance(graph, slot, its, &mut self.scopes, &mut self.cancelled)
-        {
+        match self.ledger.advance(
+            graph,
+            slot,
+            found.its,
+            &mut self.scopes,
+            &mut self.cancelled,
+        ) {
             Ok(_bound) => {
                 stands(&self.ledger);
                 clear_missing(&self.ledger, &mut self.posts);

@@ -57,36 +57,29 @@ impl<P: Program + Naming> Book<P> {
         ensures done { IfOk result (λ k. (t : Its) × (c : ItsCall) × IsToken self.old token.slot token.serial token.pass t × (c.number ≡ k) × IsMade P.listing P.sites self.old.ledger t c self.new.ledger) }
         ensures refused { IfErr result (λ r. HasStayed self.old self.new × (r.back ≡ token)) }
     {
-        let Some(its) = self.record_of(&token) else {
-            return Err(Refused {
-                why: BookFault::Gone,
-                back: token,
-            });
+        let found = match self.find(&token) {
+            Ok(found) => found,
+            Err(why) => return Err(Refused { why, back: token }),
         };
-        let group = self.ledger.group_of_token(&its);
-        let out = self.out_of(group);
-        if out < 1 {
-            return Err(Refused {
-                why: BookFault::Gone,
-                back: token,
-            });
-        }
-        if !self.calls_next(graph, &its) {
+        if !self.calls_next(graph, &found.its) {
             return Err(Refused {
                 why: BookFault::Wrong,
                 back: token,
             });
         }
-        if reserve_at(&mut self.posts, group).is_err() {
+        if reserve_at(&mut self.posts, found.group).is_err() {
             return Err(Refused {
                 why: BookFault::Memory,
                 back: token,
             });
         }
         stands(&self.ledger);
-        match self.ledger.call(graph, answers, token.slot, its, args) {
+        match self
+            .ledger
+            .call(graph, answers, token.slot, found.its, args)
+        {
             Ok(call) => {
-                bring_at(&mut self.posts, group, out - 1, token.pass);
+                bring_at(&mut self.posts, found.group, found.out - 1, token.pass);
                 Ok(call.number)
             }
             Err(fault) => Err(Refused {

@@ -7,19 +7,18 @@ ghost use Rattle.orc_rules.specs.Nodes.{code, definitions};
 ghost use Rattle.orc_ledger_spec.specs.Doing.{what_of};
 ghost use Rattle.orc_ledger_spec.specs.Moves.{Moves};
 ghost use Rattle.orc_ledger_spec.specs.declared.results.Moved.TheVariants as moved;
-ghost use Rattle.orc_book.specs.Held.{IsToken, IsGone, out_at, word_at};
+ghost use Rattle.orc_book.specs.Held.{IsToken, IsOut, IsGone, out_at, word_at};
 ghost use Rattle.orc_tables.specs.Tokens.{IsHeld};
 ghost use Rattle.orc_tables.specs.Steps.{group_at};
-ghost use Rattle.orc_ledger_spec.specs.Calls.{IsForked};
 ghost use Rattle.orc_word.specs.Views.{group_of};
 
 use crate::book::Book;
 use crate::post::{out_in, set_out};
 use crate::token::{BookFault, Refused, Token, fault_of};
-use orc_graph::{Graph, Node};
-use orc_ledger::{Action, stands};
+use orc_graph::Graph;
+use orc_ledger::{Action, Moved, stands};
 use orc_log::Program;
-use orc_tables::{Standing, Token as Record};
+use orc_tables::Token as Record;
 use orc_word::{Naming, Pass};
 
 impl<P: Program + Naming> Book<P> {
@@ -71,21 +70,11 @@ impl<P: Program + Naming> Book<P> {
         ensures pass { IfOk result (λ pass. pass ≡ token.pass) }
         ensures refused { IfErr result (λ r. (self.new ≡ self.old) × (r.back ≡ token)) }
     {
-        let Some(record) = self.record_of(&token) else {
-            return Err(Refused {
-                why: BookFault::Gone,
-                back: token,
-            });
+        let found = match self.find(&token) {
+            Ok(found) => found,
+            Err(why) => return Err(Refused { why, back: token }),
         };
-        let group = self.ledger.group_of_token(&record);
-        let out = self.out_of(group);
-        if out < 1 {
-            return Err(Refused {
-                why: BookFault::Gone,
-                back: token,
-            });
-        }
-        if !self.ends_next(graph, &record) {
+        if !self.ends_next(graph, &found.its) {
             return Err(Refused {
                 why: BookFault::Wrong,
                 back: token,
@@ -95,12 +84,12 @@ impl<P: Program + Naming> Book<P> {
         match self.ledger.advance(
             graph,
             token.slot,
-            record,
+            found.its,
             &mut self.scopes,
             &mut self.cancelled,
         ) {
             Ok(_gone) => {
-                set_out(&mut self.posts, group, out - 1);
+                set_out(&mut self.posts, found.group, found.out - 1);
                 Ok(token.pass)
             }
             Err(fault) => Err(Refused {
@@ -128,6 +117,17 @@ impl<P: Program + Naming> Book<P> {
         }
     }
 
+    // Whether a token is on two sides next.
+    fn forks_next(&self, graph: &Graph, its: &Record) -> bool
+        requires graph { graph.now ≡ P.listing }
+        ensures { result ≡ true → what_of (code P.listing) (definitions P.listing) self.now.ledger its.now ≡ Action.Fork }
+    {
+        match self.ledger.what(graph, its) {
+            Action::Fork => true,
+            _ => false,
+        }
+    }
+
     /// A token at `f | g`: one on each side is out in its place, the left one with its pass, the right one with `same`, which names its group too.
     pub fn fork(
         &mut self,
@@ -137,55 +137,46 @@ impl<P: Program + Naming> Book<P> {
     ) -> Result<(Token<P>, Token<P>), Refused<(Token<P>, Pass<P>)>>
         requires graph { graph.now ≡ P.listing }
         requires same { group_of same ≡ group_of token.pass }
-        ensures done { IfOk result (λ two. (t : Its) × (scope : ℕ) × (left : ℕ) × (right : ℕ) × IsToken self.old token.slot token.serial token.pass t × IsForked self.old.ledger t scope left right self.new.ledger) }
-        ensures born { IfOk result (λ two. ((t : Its) × IsToken self.new two.0.slot two.0.serial two.0.pass t) × ((t : Its) × IsToken self.new two.1.slot two.1.serial two.1.pass t)) }
+        ensures done { IfOk result (λ two. (t : Its) × (ks : List ℕ) × IsToken self.old token.slot token.serial token.pass t × Moves P.listing self.old.ledger token.slot t (moved.Forked two.1.slot) ks self.new.ledger) }
+        ensures born { IfOk result (λ two. IsOut self.new two.0 × IsOut self.new two.1) }
         ensures refused { IfErr result (λ r. (self.new ≡ self.old) × (r.back.0 ≡ token) × (r.back.1 ≡ same)) }
     {
-        let Some(its) = self.record_of(&token) else {
-            return Err(Refused {
-                why: BookFault::Gone,
-                back: (token, same),
-            });
+        let found = match self.find(&token) {
+            Ok(found) => found,
+            Err(why) => {
+                let back = (token, same);
+                return Err(Refused { why, back });
+            }
         };
-        let group = self.ledger.group_of_token(&its);
-        let out = self.out_of(group);
-        if out < 1 {
+        if !self.forks_next(graph, &found.its) {
+            let back = (token, same);
             return Err(Refused {
-                why: BookFault::Gone,
-                back: (token, same),
+                why: BookFault::Wrong,
+                back,
             });
         }
-        let Some(more) = out.checked_add(1) else {
+        let Some(more) = found.out.checked_add(1) else {
+            let back = (token, same);
             return Err(Refused {
                 why: BookFault::Full,
-                back: (token, same),
-            });
-        };
-        let Standing::At(node, scope) = its.standing else {
-            return Err(Refused {
-                why: BookFault::Wrong,
-                back: (token, same),
-            });
-        };
-        let Node::Par(left, right) = graph.node(node as usize) else {
-            return Err(Refused {
-                why: BookFault::Wrong,
-                back: (token, same),
+                back,
             });
         };
         stands(&self.ledger);
-        match self.ledger.fork(token.slot, its, scope, left, right) {
-            Ok(other) => {
-                set_out(&mut self.posts, group, more);
-                let Token {
-                    serial: _,
-                    slot,
-                    pass,
-                } = token;
-                let one = self.born(slot, pass);
+        match self.ledger.advance(
+            graph,
+            token.slot,
+            found.its,
+            &mut self.scopes,
+            &mut self.cancelled,
+        ) {
+            Ok(Moved::Forked(other)) => {
+                set_out(&mut self.posts, found.group, more);
+                let one = self.born(token.slot, token.pass);
                 let two = self.born(other, same);
                 Ok((one, two))
             }
+            Ok(_) => unreachable!(),
             Err(fault) => Err(Refused {
                 why: fault_of(fault),
                 back: (token, same),
@@ -213,21 +204,11 @@ impl<P: Program + Naming> Book<P> {
         ensures pass { IfOk result (λ pass. pass ≡ token.pass) }
         ensures refused { IfErr result (λ r. (self.new ≡ self.old) × (r.back ≡ token)) }
     {
-        let Some(its) = self.record_of(&token) else {
-            return Err(Refused {
-                why: BookFault::Gone,
-                back: token,
-            });
+        let found = match self.find(&token) {
+            Ok(found) => found,
+            Err(why) => return Err(Refused { why, back: token }),
         };
-        let group = self.ledger.group_of_token(&its);
-        let out = self.out_of(group);
-        if out < 1 {
-            return Err(Refused {
-                why: BookFault::Gone,
-                back: token,
-            });
-        }
-        if !self.publishes_next(graph, &its) {
+        if !self.publishes_next(graph, &found.its) {
             return Err(Refused {
                 why: BookFault::Wrong,
                 back: token,
@@ -236,12 +217,12 @@ impl<P: Program + Naming> Book<P> {
         match self.ledger.advance(
             graph,
             token.slot,
-            its,
+            found.its,
             &mut self.scopes,
             &mut self.cancelled,
         ) {
             Ok(_gone) => {
-                set_out(&mut self.posts, group, out - 1);
+                set_out(&mut self.posts, found.group, found.out - 1);
                 Ok(token.pass)
             }
             Err(fault) => Err(Refused {

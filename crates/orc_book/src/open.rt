@@ -1,21 +1,82 @@
 //! Groups that are opened: the right side of a pruning, and the left side of an otherwise.
-ghost use Rattle.std.specs.Prelude.{◌≡◌, ◌≤◌, ◌+◌, ◌<◌, ℕ, length, Some, None, IfOk, IfErr};
+ghost use Rattle.std.specs.Prelude.{◌≡◌, ◌≤◌, ◌+◌, ◌<◌, ℕ, List, length, true, Some, None, IfOk, IfErr};
+ghost use Rattle.orc_rules.specs.Nodes.{code, definitions};
 ghost use Rattle.orc_tables.specs.declared.records.Token.{Token as Its};
-ghost use Rattle.orc_ledger_spec.specs.Calls.{IsFree, IsOpened};
+ghost use Rattle.orc_ledger_spec.specs.Doing.{what_of};
+ghost use Rattle.orc_ledger_spec.specs.Moves.{Moves};
+ghost use Rattle.orc_ledger_spec.specs.declared.results.Moved.TheVariants as moved;
 ghost use Rattle.orc_word.specs.Views.{group_of};
-ghost use Rattle.orc_book.specs.Held.{Hold, IsToken, HasStayed, Changes, Same};
+ghost use Rattle.orc_book.specs.Held.{Hold, IsToken, IsOut, HasStayed, Changes, Same};
 
 use crate::book::Book;
-use crate::post::{Post, put_at, raise_at, reserve_at};
+use crate::post::{bring_at, put_at, raise_at, reserve_at};
 use crate::token::{BookFault, Refused, Token, fault_of};
 use crate::word_state::stand_for;
-use orc_graph::{Graph, Node};
-use orc_ledger::stands;
+use crate::words::Words;
+use orc_graph::Graph;
+use orc_ledger::{Action, Moved, stands};
 use orc_log::Program;
-use orc_tables::Standing;
+use orc_tables::Token as Record;
 use orc_word::{Groups, Naming, Pass};
 
+/// A word that was free, and the pass that opened it.
+#[derive(Drop)]
+struct Opened<P: Naming> {
+    word: u32,
+    pass: Pass<P>,
+}
+
+// An idle pass names a word that is free. The fault is Full where no word is, and Live where somebody names it meanwhile.
+fn open_word<P: Naming>(
+    words: &mut Words<P>,
+    groups: &Groups<P>,
+    idle: Pass<P>,
+) -> Result<Opened<P>, Refused<Pass<P>>>
+    requires idle { group_of idle ≡ None }
+    ensures opened { IfOk result (λ o. group_of o.pass ≡ Some o.word) }
+    ensures refused { IfErr result (λ r. r.back ≡ idle) }
+{
+    let Some(word) = words.next() else {
+        return Err(Refused {
+            why: BookFault::Full,
+            back: idle,
+        });
+    };
+    match groups.open(idle, word) {
+        Ok(pass) => Ok(Opened { word, pass }),
+        Err(back) => {
+            words.add(word);
+            Err(Refused {
+                why: BookFault::Live,
+                back,
+            })
+        }
+    }
+}
+
 impl<P: Program + Naming> Book<P> {
+    // Whether a token opens a pruning next.
+    fn prunes_next(&self, graph: &Graph, its: &Record) -> bool
+        requires graph { graph.now ≡ P.listing }
+        ensures { result ≡ true → what_of (code P.listing) (definitions P.listing) self.now.ledger its.now ≡ Action.Prune }
+    {
+        match self.ledger.what(graph, its) {
+            Action::Prune => true,
+            _ => false,
+        }
+    }
+
+    // Whether a token enters the left side of an otherwise next.
+    fn tries_next(&self, graph: &Graph, its: &Record) -> bool
+        requires graph { graph.now ≡ P.listing }
+        ensures { result ≡ true → what_of (code P.listing) (definitions P.listing) self.now.ledger its.now ≡ Action.Other }
+    {
+        match self.ledger.what(graph, its) {
+            Action::Other => true,
+            _ => false,
+        }
+    }
+
     /// A token at `f <x< g`: one on each side is out in its place, the left one with its pass, the right one with `idle`, which opens the new group's word.
     /// The book holds `same` for that group, which names the token's.
     pub fn prune(
@@ -29,85 +90,158 @@ impl<P: Program + Naming> Book<P> {
         requires graph { graph.now ≡ P.listing }
         requires same { group_of same ≡ group_of token.pass }
         requires idle { group_of idle ≡ None }
-        ensures done { IfOk result (λ two. (t : Its) × (scope : ℕ) × (left : ℕ) × (name : ℕ) × (right : ℕ) × (number : ℕ) × IsToken self.old token.slot token.serial token.pass t × IsFree self.old.ledger number × IsOpened self.old.ledger t scope left name right number self.new.ledger) }
-        ensures born { IfOk result (λ two. ((t : Its) × IsToken self.new two.0.slot two.0.serial two.0.pass t) × ((t : Its) × IsToken self.new two.1.slot two.1.serial two.1.pass t)) }
+        ensures done { IfOk result (λ two. (t : Its) × (ks : List ℕ) × IsToken self.old token.slot token.serial token.pass t × Moves P.listing self.old.ledger token.slot t (moved.Forked two.1.slot) ks self.new.ledger) }
+        ensures born { IfOk result (λ two. IsOut self.new two.0 × IsOut self.new two.1) }
         ensures refused { IfErr result (λ r. HasStayed self.old self.new × (r.back.0 ≡ token) × (r.back.1 ≡ same) × (group_of r.back.2 ≡ None)) }
     {
-        let Some(its) = self.record_of(&token) else {
-            return Err(Refused {
-                why: BookFault::Gone,
-                back: (token, same, idle),
-            });
+        let found = match self.find(&token) {
+            Ok(found) => found,
+            Err(why) => {
+                let back = (token, same, idle);
+                return Err(Refused { why, back });
+            }
         };
-        let group = self.ledger.group_of_token(&its);
-        if self.out_of(group) < 1 {
+        if !self.prunes_next(graph, &found.its) {
+            let back = (token, same, idle);
             return Err(Refused {
-                why: BookFault::Gone,
-                back: (token, same, idle),
+                why: BookFault::Wrong,
+                back,
             });
         }
-        let Standing::At(node, scope) = its.standing else {
-            return Err(Refused {
-                why: BookFault::Wrong,
-                back: (token, same, idle),
-            });
-        };
-        let Node::Prune(left, name, right) = graph.node(node as usize) else {
-            return Err(Refused {
-                why: BookFault::Wrong,
-                back: (token, same, idle),
-            });
-        };
         if self.ledger.entries() >= self.ledger.limit() {
+            let back = (token, same, idle);
             return Err(Refused {
                 why: BookFault::Limit,
-                back: (token, same, idle),
+                back,
             });
         }
-        if reserve_at(&mut self.posts, group).is_err() {
+        if reserve_at(&mut self.posts, found.group).is_err() {
+            let back = (token, same, idle);
             return Err(Refused {
                 why: BookFault::Memory,
-                back: (token, same, idle),
+                back,
             });
         }
-        let Some(word) = self.words.next() else {
-            return Err(Refused {
-                why: BookFault::Full,
-                back: (token, same, idle),
-            });
-        };
-        let opened = match groups.open(idle, word) {
-            Ok(pass) => pass,
-            Err(back) => return Err(Refused {
-                why: BookFault::Live,
-                back: (token, same, back),
-            }),
+        let opened = match open_word(&mut self.words, groups, idle) {
+            Ok(opened) => opened,
+            Err(refused) => {
+                let back = (token, same, refused.back);
+                return Err(Refused {
+                    why: refused.why,
+                    back,
+                });
+            }
         };
         stands(&self.ledger);
-        match self.ledger.prune(token.slot, its, scope, left, name, right) {
-            Ok(other) => {
+        match self.ledger.advance(
+            graph,
+            token.slot,
+            found.its,
+            &mut self.scopes,
+            &mut self.cancelled,
+        ) {
+            Ok(Moved::Forked(other)) => {
                 let Some(inner) = self.ledger.held(other) else {
                     unreachable!()
                 };
                 let number = self.ledger.group_of_token(&inner);
-                put_at(&mut self.posts, group, same);
-                raise_at(&mut self.posts, number, word, group);
-                stand_for(&mut self.stands, word, number);
-                let Token {
-                    serial: _,
-                    slot,
-                    pass,
-                } = token;
-                let one = self.born(slot, pass);
-                let two = self.born(other, opened);
+                put_at(&mut self.posts, found.group, same);
+                raise_at(&mut self.posts, number, opened.word, found.group);
+                stand_for(&mut self.stands, opened.word, number);
+                let one = self.born(token.slot, token.pass);
+                let two = self.born(other, opened.pass);
                 Ok((one, two))
             }
+            Ok(_) => unreachable!(),
             Err(fault) => {
-                let left = groups.leave(opened);
-                self.words.add(word);
+                let left = groups.leave(opened.pass);
+                self.words.add(opened.word);
                 Err(Refused {
                     why: fault_of(fault),
                     back: (token, same, left.pass),
+                })
+            }
+        }
+    }
+
+    /// A token at `f ; g`: one on the left side is out in its place, with `idle`, which opens the new group's word. The book holds the token's pass for that
+    /// group.
+    pub fn other(
+        &mut self,
+        groups: &Groups<P>,
+        graph: &Graph,
+        token: Token<P>,
+        idle: Pass<P>,
+    ) -> Result<Token<P>, Refused<(Token<P>, Pass<P>)>>
+        requires graph { graph.now ≡ P.listing }
+        requires idle { group_of idle ≡ None }
+        ensures done { IfOk result (λ _. (t : Its) × (ks : List ℕ) × IsToken self.old token.slot token.serial token.pass t × Moves P.listing self.old.ledger token.slot t moved.On ks self.new.ledger) }
+        ensures born { IfOk result (λ b. IsOut self.new b) }
+        ensures refused { IfErr result (λ r. HasStayed self.old self.new × (r.back.0 ≡ token) × (group_of r.back.1 ≡ None)) }
+    {
+        let found = match self.find(&token) {
+            Ok(found) => found,
+            Err(why) => {
+                let back = (token, idle);
+                return Err(Refused { why, back });
+            }
+        };
+        if !self.tries_next(graph, &found.its) {
+            let back = (token, idle);
+            return Err(Refused {
+                why: BookFault::Wrong,
+                back,
+            });
+        }
+        if self.ledger.entries() >= self.ledger.limit() {
+            let back = (token, idle);
+            return Err(Refused {
+                why: BookFault::Limit,
+                back,
+            });
+        }
+        if reserve_at(&mut self.posts, found.group).is_err() {
+            let back = (token, idle);
+            return Err(Refused {
+                why: BookFault::Memory,
+                back,
+            });
+        }
+        let opened = match open_word(&mut self.words, groups, idle) {
+            Ok(opened) => opened,
+            Err(refused) => {
+                let back = (token, refused.back);
+                return Err(Refused {
+                    why: refused.why,
+                    back,
+                });
+            }
+        };
+        stands(&self.ledger);
+        match self.ledger.advance(
+            graph,
+            token.slot,
+            found.its,
+            &mut self.scopes,
+            &mut self.cancelled,
+        ) {
+            Ok(Moved::On) => {
+                let Some(inner) = self.ledger.held(token.slot) else {
+                    unreachable!()
+                };
+                let number = self.ledger.group_of_token(&inner);
+                bring_at(&mut self.posts, found.group, found.out - 1, token.pass);
+                raise_at(&mut self.posts, number, opened.word, found.group);
+                stand_for(&mut self.stands, opened.word, number);
+                Ok(self.born(token.slot, opened.pass))
+            }
+            Ok(_) => unreachable!(),
+            Err(fault) => {
+                let left = groups.leave(opened.pass);
+                self.words.add(opened.word);
+                Err(Refused {
+                    why: fault_of(fault),
+                    back: (token, left.pass),
                 })
             }
         }

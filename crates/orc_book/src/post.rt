@@ -1,10 +1,10 @@
 //! What a book has of a group.
-ghost use Rattle.std.specs.Prelude.{◌≡◌, ◌+◌, ◌-◌, ◌<◌, ◌≤◌, ◌^◌, ◌∷◌, ◌++◌, [], Some, length, vec_len, vec_capacity, IfOk, OnOk, MatchOption};
+ghost use Rattle.std.specs.Prelude.{◌≡◌, ◌+◌, ◌-◌, ◌<◌, ◌≤◌, ◌^◌, ◌∷◌, ◌++◌, [], Some, None, length, vec_len, vec_capacity, IfOk, OnOk, MatchOption, MatchResult};
 ghost use Rattle.orc_word.specs.Views.{group_of};
 ghost use Rattle.orc_book.specs.Held.{Hold, AreFirst, Becomes, Changes, Same, OneMore, OneFewer, held_at, kept_at, out_at, word_at, room_at};
 
 use orc_rules::limits::MOST_GROUPS;
-use orc_word::{Naming, Pass};
+use orc_word::{Groups, Naming, Pass};
 use std::alloc::{AllocError, Global};
 use std::marker::Model;
 
@@ -108,6 +108,17 @@ impl<J: Naming> Post<J> {
         ensures pass { MatchOption result ((length self.old.passes ≡ 0) × (length self.new.passes ≡ 0)) (λ pass. (group_of pass ≡ Some self.old.word) × (length self.old.passes ≡ length self.new.passes + 1)) }
     {
         self.passes.pop()
+    }
+
+    /// An idle pass comes to name the group, by one that is held; without one it comes back.
+    pub(crate) fn enter(&self, groups: &Groups<J>, idle: Pass<J>) -> Result<Pass<J>, Pass<J>>
+        requires { group_of idle ≡ None }
+        ensures { MatchResult result (λ pass. group_of pass ≡ Some self.now.word) (λ back. (back ≡ idle) × (length self.now.passes ≡ 0)) }
+    {
+        match self.passes.last() {
+            Some(with) => Ok(groups.enter(with, idle)),
+            None => Err(idle),
+        }
     }
 
     /// Passes go until they are, with the tokens that are out, as many as the group has members. They are to be left.
@@ -269,6 +280,29 @@ pub(crate) fn send_at<J: Naming>(
             Some(pass)
         }
         None => None,
+    }
+}
+
+/// So many tokens of a group are out, one with an idle pass that comes to name it, if the book holds one that does; else it comes back.
+pub(crate) fn enter_at<J: Naming>(
+    groups: &Groups<J>,
+    posts: &mut Vec<Post<J>>,
+    number: u32,
+    out: usize,
+    idle: Pass<J>,
+) -> Result<Pass<J>, Pass<J>>
+    requires { group_of idle ≡ None }
+    ensures { MatchResult result (λ pass. (group_of pass ≡ Some (word_at posts.old.items number)) × Changes posts.old.items number posts.new.items (λ p q. (q.passes ≡ p.passes) × (q.kept ≡ p.kept) × (q.out ≡ out))) (λ back. (back ≡ idle) × (held_at posts.old.items number ≡ 0)) }
+{
+    let Some(post) = posts.get_mut(number as usize) else {
+        return Err(idle);
+    };
+    match post.enter(groups, idle) {
+        Ok(pass) => {
+            post.set_out(out);
+            Ok(pass)
+        }
+        Err(back) => Err(back),
     }
 }
 

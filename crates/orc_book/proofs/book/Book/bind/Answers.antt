@@ -11,13 +11,13 @@ pub clear_missing-requires-clause-loose : goal.clear_missing-requires-clause-loo
 clear_missing-requires-clause-loose g c =
     let b = c.self.inside in
     let l = g.P.Program.listing in
-    let t = c.in-Some.its in
-    let w = c.in-Some-binds_next.ensures in
-    let D = drops l b.ledger c.args.token.slot t c.advance.new.self _ c.in-Some-binds_next._cell w.0 c.in-Ok._bound (rw (← c.self.view_is) at w.1) c.in-Ok.ensures.done in
-    dropped-loose l g.P.Program.sites b.ledger c.stands.ensures.lawful c.stands.ensures.grouped c.in-Some-binds_next._cell (bound.Is w.0) c.advance.new.self D c.stands-in-Ok.ensures.lawful c.stands-in-Ok.ensures.grouped b.posts.items c.self.invariant
+    let t = c.in-Ok.found.its in
+    let w = c.in-Some.ensures in
+    let D = drops l b.ledger c.args.token.slot t c.advance.new.self _ c.in-Some._cell w.0 c.in-Ok-advance._bound (rw (← c.self.view_is) at w.1) c.in-Ok-advance.ensures.done in
+    dropped-loose l g.P.Program.sites b.ledger c.stands.ensures.lawful c.stands.ensures.grouped c.in-Some._cell (bound.Is w.0) c.advance.new.self D c.stands-in-Ok-advance.ensures.lawful c.stands-in-Ok-advance.ensures.grouped b.posts.items c.self.invariant
 
-pub returns-in-Ok-clause-won : goal.returns-in-Ok-clause-won
-returns-in-Ok-clause-won g c =
+pub returns-in-Ok-advance-clause-won : goal.returns-in-Ok-advance-clause-won
+returns-in-Ok-advance-clause-won g c =
     let old = won_of c.args.token.pass in (
       c.mark.new.pass,
       subst (IsIn c.mark.new.pass) (sym c.push_reserved.ensures.items) (last-in _ c.mark.new.pass),

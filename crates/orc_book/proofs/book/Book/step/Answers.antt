@@ -1,0 +1,18 @@
+use Rattle.std.proofs.Common.{ap, ◌∙◌}
+use Rattle.orc_book.proofs.Added.{none-born, none-left}
+use Rattle.orc_book.proofs.book.Book.step.Goals as goal
+
+pub returns-in-Halt-clause-born : goal.returns-in-Halt-clause-born
+returns-in-Halt-clause-born g c = none-born c.step_end.result _ _ c.step_end.new.self (ap (λ z. z.items) c.step_end.ensures.born ∙ c.reserve.ensures.born)
+
+pub returns-in-Seq-clause-leave : goal.returns-in-Seq-clause-leave
+returns-in-Seq-clause-leave g c = none-left c.step_on.result _ _ (ap (λ z. z.items) c.step_on.ensures.leave ∙ c.reserve.ensures.leave)
+
+pub returns-in-Fork-clause-leave : goal.returns-in-Fork-clause-leave
+returns-in-Fork-clause-leave g c = none-left c.step_fork.result _ _ (ap (λ z. z.items) c.step_fork.ensures.leave ∙ c.reserve.ensures.leave)
+
+pub returns-in-Prune-clause-leave : goal.returns-in-Prune-clause-leave
+returns-in-Prune-clause-leave g c = none-left c.step_prune.result _ _ (ap (λ z. z.items) c.step_prune.ensures.leave ∙ c.reserve.ensures.leave)
+
+pub returns-in-Other-clause-leave : goal.returns-in-Other-clause-leave
+returns-in-Other-clause-leave g c = none-left c.step_other.result _ _ (ap (λ z. z.items) c.step_other.ensures.leave ∙ c.reserve.ensures.leave)

@@ -1,0 +1,101 @@
+//! What a worker lends to a book's calls: passes for new records, and room for what comes out.
+ghost use Rattle.std.specs.Prelude.{◌≡◌, ◌+◌, ◌≤◌, ◌++◌, ◌∷◌, [], None, vec_len, vec_capacity, OnOk, MatchOption};
+ghost use Rattle.orc_word.specs.Views.{group_of};
+
+use crate::token::Token;
+use orc_word::{Naming, Pass};
+use std::alloc::{AllocError, Global};
+
+/// Passes for the records that a step makes. What it doesn't use stays there.
+#[derive(Drop)]
+pub struct Births<P: Naming> {
+    /// Passes to the group of the token that moves; the last one is used first.
+    pub same: Vec<Pass<P>>,
+    /// Passes that name no group; the last one is used first.
+    pub idle: Vec<Pass<P>>,
+}
+
+/// What comes out of a book's calls; they add to it.
+pub struct StepOut<P: Naming> {
+    /// Tokens that are out now, to be moved.
+    pub born: Vec<Token<P>>,
+    /// Passes to be left, once the book's lock is given up.
+    pub leave: Vec<Pass<P>>,
+    /// The numbers of calls that were cancelled.
+    pub cancelled: Vec<u64>,
+}
+
+// Written out, so that each exit of a function that has one drops it by one call.
+impl<P: Naming> Drop for StepOut<P> {
+    fn drop(self) {
+        let StepOut {
+            born,
+            leave,
+            cancelled,
+        } = self;
+        drop(born);
+        drop(leave);
+        drop(cancelled);
+    }
+}
+
+impl<P: Naming> Births<P> {
+    /// No passes.
+    pub fn new(alloc: Global) -> Births<P>
+        ensures { (result.same.items ≡ []) × (result.idle.items ≡ []) }
+    {
+        Births {
+            same: Vec::new(alloc),
+            idle: Vec::new(alloc),
+        }
+    }
+
+    // The last pass to the same group, if it names this one.
+    pub(crate) fn take_same(&mut self, group: Option<u32>) -> Option<Pass<P>>
+        ensures pass { MatchOption result (self.new ≡ self.old) (λ pass. (group_of pass ≡ group) × (self.old.same.items ≡ self.new.same.items ++ pass ∷ [])) }
+        ensures room { MatchOption result (self.new ≡ self.old) (λ _. vec_len self.new.same + 1 ≤ vec_capacity self.new.same) }
+        ensures idle { self.new.idle ≡ self.old.idle }
+    {
+        match self.same.last() {
+            Some(pass) if pass.group() == group => self.same.pop(),
+            _ => None,
+        }
+    }
+
+    // The last idle pass.
+    pub(crate) fn take_idle(&mut self) -> Option<Pass<P>>
+        ensures pass { MatchOption result (self.new ≡ self.old) (λ pass. (group_of pass ≡ None) × (self.old.idle.items ≡ self.new.idle.items ++ pass ∷ [])) }
+        ensures room { MatchOption result (self.new ≡ self.old) (λ _. vec_len self.new.idle + 1 ≤ vec_capacity self.new.idle) }
+        ensures same { self.new.same ≡ self.old.same }
+    {
+        match self.idle.last() {
+            Some(pass) if pass.group().is_none() => self.idle.pop(),
+            _ => None,
+        }
+    }
+}
+
+impl<P: Naming> StepOut<P> {
+    /// Nothing has come out.
+    pub fn new(alloc: Global) -> StepOut<P>
+        ensures { (result.born.items ≡ []) × (result.leave.items ≡ []) × (result.cancelled.items ≡ []) }
+    {
+        StepOut {
+            born: Vec::new(alloc),
+            leave: Vec::new(alloc),
+            cancelled: Vec::new(alloc),
+        }
+    }
+
+    // Makes room for what a step brings out at most: two tokens and a pass.
+    pub(crate) fn reserve(&mut self) -> Result<(), AllocError>
+        ensures born { self.new.born.items ≡ self.old.born.items }
+        ensures leave { self.new.leave.items ≡ self.old.leave.items }
+        ensures cancelled { self.new.cancelled ≡ self.old.cancelled }
+        ensures tokens { OnOk result (vec_len self.new.born + 2 ≤ vec_capacity self.new.born) }
+        ensures passes { OnOk result (vec_len self.new.leave + 1 ≤ vec_capacity self.new.leave) }
+    {
+        self.born.try_reserve(2)?;
+        self.leave.try_reserve(1)
+    }
+}

@@ -1,0 +1,219 @@
+//! A token's next move, whichever of those it is that have no call of their own.
+ghost use Rattle.std.specs.Prelude.{◌≡◌, ◌≤◌, ◌+◌, vec_len, vec_capacity, IfErr, OnOk};
+ghost use Rattle.orc_book.specs.Held.{HasStayed, AreBorn};
+ghost use Rattle.orc_book.specs.Stepping.{HasStepped, AreLeft};
+
+use crate::book::Book;
+use crate::out::{Births, StepOut};
+use crate::token::{BookFault, Refused, Token};
+use orc_graph::Graph;
+use orc_ledger::Action;
+use orc_log::Program;
+use orc_word::{Groups, Naming};
+
+impl<P: Program + Naming> Book<P> {
+    /// A token that is out does what it does next, where that is Halt, Fork, Seq, Def, Void, Send, Prune or Other of `view`: its record goes, and those of the
+    /// tokens that come in its place are out. `births` lends passes, as many as `view` says that the move needs at most; what isn't used stays there. Tokens
+    /// and passes to leave are added to `out`.
+    ///
+    /// Refused as Gone where the token isn't out, as Wrong where it does something else next, as Short where `births` has not the passes that the move needs,
+    /// as Full, Limit or Memory where the move is over a limit or memory is refused, and as Live where a free word is still named. Then the records are as
+    /// they were, and `back` is the token.
+    pub fn step(
+        &mut self,
+        groups: &Groups<P>,
+        graph: &Graph,
+        token: Token<P>,
+        births: &mut Births<P>,
+        out: &mut StepOut<P>,
+    ) -> Result<(), Refused<Token<P>>>
+        requires graph { graph.now ≡ P.listing }
+        ensures done { OnOk result (HasStepped P.listing self.old token.slot token.serial token.pass self.new) }
+        ensures born { OnOk result (AreBorn out.old.born.items out.new.born.items self.new) }
+        ensures leave { OnOk result (AreLeft out.old.leave.items out.new.leave.items) }
+        ensures cancelled { out.new.cancelled ≡ out.old.cancelled }
+        ensures refused { IfErr result (λ r. HasStayed self.old self.new × (r.back ≡ token) × (out.new.born.items ≡ out.old.born.items) × (out.new.leave.items ≡ out.old.leave.items)) }
+    {
+        let Some(its) = self.record_of(&token) else {
+            let why = BookFault::Gone;
+            return Err(Refused { why, back: token });
+        };
+        let Ok(()) = out.reserve() else {
+            let why = BookFault::Memory;
+            return Err(Refused { why, back: token });
+        };
+        match self.ledger.what(graph, &its) {
+            Action::Halt | Action::Void => self.step_end(graph, token, out),
+            Action::Seq | Action::Def => self.step_on(graph, token, out),
+            Action::Fork => self.step_fork(graph, token, births, out),
+            Action::Prune => self.step_prune(groups, graph, token, births, out),
+            Action::Other => self.step_other(groups, graph, token, births, out),
+            Action::Send(_) => self.send(groups, graph, token, births, out),
+            _ => {
+                let why = BookFault::Wrong;
+                Err(Refused { why, back: token })
+            }
+        }
+    }
+
+    fn step_end(
+        &mut self,
+        graph: &Graph,
+        token: Token<P>,
+        out: &mut StepOut<P>,
+    ) -> Result<(), Refused<Token<P>>>
+        requires graph { graph.now ≡ P.listing }
+        requires passes { vec_len out.old.leave + 1 ≤ vec_capacity out.old.leave }
+        ensures done { OnOk result (HasStepped P.listing self.old token.slot token.serial token.pass self.new) }
+        ensures born { out.new.born ≡ out.old.born }
+        ensures leave { OnOk result (AreLeft out.old.leave.items out.new.leave.items) }
+        ensures cancelled { out.new.cancelled ≡ out.old.cancelled }
+        ensures refused { IfErr result (λ r. (self.new ≡ self.old) × (r.back ≡ token) × (out.new.leave ≡ out.old.leave)) }
+    {
+        match self.end(graph, token) {
+            Ok(pass) => {
+                out.leave.push_reserved(pass);
+                Ok(())
+            }
+            Err(refused) => Err(refused),
+        }
+    }
+
+    fn step_on(
+        &mut self,
+        graph: &Graph,
+        token: Token<P>,
+        out: &mut StepOut<P>,
+    ) -> Result<(), Refused<Token<P>>>
+        requires graph { graph.now ≡ P.listing }
+        requires tokens { vec_len out.old.born + 2 ≤ vec_capacity out.old.born }
+        ensures done { OnOk result (HasStepped P.listing self.old token.slot token.serial token.pass self.new) }
+        ensures born { OnOk result (AreBorn out.old.born.items out.new.born.items self.new) }
+        ensures leave { out.new.leave ≡ out.old.leave }
+        ensures cancelled { out.new.cancelled ≡ out.old.cancelled }
+        ensures refused { IfErr result (λ r. (self.new ≡ self.old) × (r.back ≡ token) × (out.new.born ≡ out.old.born)) }
+    {
+        match self.go_on(graph, token) {
+            Ok(born) => {
+                out.born.push_reserved(born);
+                Ok(())
+            }
+            Err(refused) => Err(refused),
+        }
+    }
+
+    fn step_fork(
+        &mut self,
+        graph: &Graph,
+        token: Token<P>,
+        births: &mut Births<P>,
+        out: &mut StepOut<P>,
+    ) -> Result<(), Refused<Token<P>>>
+        requires graph { graph.now ≡ P.listing }
+        requires tokens { vec_len out.old.born + 2 ≤ vec_capacity out.old.born }
+        ensures done { OnOk result (HasStepped P.listing self.old token.slot token.serial token.pass self.new) }
+        ensures born { OnOk result (AreBorn out.old.born.items out.new.born.items self.new) }
+        ensures leave { out.new.leave ≡ out.old.leave }
+        ensures cancelled { out.new.cancelled ≡ out.old.cancelled }
+        ensures refused { IfErr result (λ r. (self.new ≡ self.old) × (r.back ≡ token) × (out.new.born ≡ out.old.born)) }
+    {
+        let Some(same) = births.take_same(token.pass.group()) else {
+            let why = BookFault::Short;
+            return Err(Refused { why, back: token });
+        };
+        match self.fork(graph, token, same) {
+            Ok((one, two)) => {
+                out.born.push_reserved(one);
+                out.born.push_reserved(two);
+                Ok(())
+            }
+            Err(refused) => {
+                let (token, same) = refused.back;
+                births.same.push_reserved(same);
+                Err(Refused {
+                    why: refused.why,
+                    back: token,
+                })
+            }
+        }
+    }
+
+    fn step_prune(
+        &mut self,
+        groups: &Groups<P>,
+        graph: &Graph,
+        token: Token<P>,
+        births: &mut Births<P>,
+        out: &mut StepOut<P>,
+    ) -> Result<(), Refused<Token<P>>>
+        requires graph { graph.now ≡ P.listing }
+        requires tokens { vec_len out.old.born + 2 ≤ vec_capacity out.old.born }
+        ensures done { OnOk result (HasStepped P.listing self.old token.slot token.serial token.pass self.new) }
+        ensures born { OnOk result (AreBorn out.old.born.items out.new.born.items self.new) }
+        ensures leave { out.new.leave ≡ out.old.leave }
+        ensures cancelled { out.new.cancelled ≡ out.old.cancelled }
+        ensures refused { IfErr result (λ r. HasStayed self.old self.new × (r.back ≡ token) × (out.new.born ≡ out.old.born)) }
+    {
+        let Some(same) = births.take_same(token.pass.group()) else {
+            let why = BookFault::Short;
+            return Err(Refused { why, back: token });
+        };
+        let Some(idle) = births.take_idle() else {
+            births.same.push_reserved(same);
+            let why = BookFault::Short;
+            return Err(Refused { why, back: token });
+        };
+        match self.prune(groups, graph, token, same, idle) {
+            Ok((one, two)) => {
+                out.born.push_reserved(one);
+                out.born.push_reserved(two);
+                Ok(())
+            }
+            Err(refused) => {
+                let (token, same, idle) = refused.back;
+                births.same.push_reserved(same);
+                births.idle.push_reserved(idle);
+                Err(Refused {
+                    why: refused.why,
+                    back: token,
+                })
+            }
+        }
+    }
+
+    fn step_other(
+        &mut self,
+        groups: &Groups<P>,
+        graph: &Graph,
+        token: Token<P>,
+        births: &mut Births<P>,
+        out: &mut StepOut<P>,
+    ) -> Result<(), Refused<Token<P>>>
+        requires graph { graph.now ≡ P.listing }
+        requires tokens { vec_len out.old.born + 2 ≤ vec_capacity out.old.born }
+        ensures done { OnOk result (HasStepped P.listing self.old token.slot token.serial token.pass self.new) }
+        ensures born { OnOk result (AreBorn out.old.born.items out.new.born.items self.new) }
+        ensures leave { out.new.leave ≡ out.old.leave }
+        ensures cancelled { out.new.cancelled ≡ out.old.cancelled }
+        ensures refused { IfErr result (λ r. HasStayed self.old self.new × (r.back ≡ token) × (out.new.born ≡ out.old.born)) }
+    {
+        let Some(idle) = births.take_idle() else {
+            let why = BookFault::Short;
+            return Err(Refused { why, back: token });
+        };
+        match self.other(groups, graph, token, idle) {
+            Ok(born) => {
+                out.born.push_reserved(born);
+                Ok(())
+            }
+            Err(refused) => {
+                let (token, idle) = refused.back;
+                births.idle.push_reserved(idle);
+                Err(Refused {
+                    why: refused.why,
+                    back: token,
+                })
+            }
+        }
+    }
+}
