@@ -1,0 +1,5 @@
+pub mod Conditions
+pub mod Counting
+pub mod Cutting
+pub mod Loops
+pub mod Texts

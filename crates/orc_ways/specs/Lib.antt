@@ -1,0 +1,9 @@
+pub mod Tokens
+pub mod Values
+pub mod Claims
+pub mod Lines
+pub mod Drafts
+pub mod Drafting
+pub mod Finishing
+pub mod ReadingText
+pub mod Faults

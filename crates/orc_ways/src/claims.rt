@@ -1,0 +1,511 @@
+//! Claims: what has to hold.
+
+ghost use Rattle.std.specs.Prelude.{◌≡◌, IfOk, length, None, Some};
+ghost use Rattle.std.specs.List.{list_all};
+ghost use Rattle.orc_rules.specs.Digits.{Gives};
+ghost use Rattle.orc_ways.specs.Tokens.{many};
+ghost use Rattle.orc_ways.specs.Claims.{time_at, counted, is_called, is_at_once, at_most, at_most_at, at_least_at, exactly_at, bounded_at, none_at, each_at, only_at, end_in, end_at, ends_by, ends_at, ends_values, value_step, values_at, literal_step, literals_at, is_any_order, ordered, in_order_at, one_of_at, is_nothing, publishes_at, plain_at, not_at, condition_at, rest_of, conditions_at, claim_at};
+ghost use Rattle.orc_ways.specs.Values.{token_of, tokens_of, sites_of, simple_of, simples_of, event_of, condition_of, conditions_of, plain_of, claim_of};
+
+use crate::scope::Scope;
+use crate::token::{
+    Token, begins_with, behind, is_this, number, number_first, opens_bracket, pattern, same_tokens,
+};
+use orc_claims::claim::{Claim, Condition, Event, Plain, Simple, Wanted};
+use orc_rules::value::Value;
+use std::alloc::{AllocError, Global};
+
+// Nothing, or this word and a time, up to the end.
+#[tactic(auto, unfolding(crate::specs::Claims::time_at))]
+fn time(word: &[u8], tokens: &[Token<'_>]) -> Option<Option<u64>>
+    ensures { result ≡ time_at word.now (tokens_of tokens.now) }
+{
+    match tokens {
+        [] => Some(None),
+        [token, time] => {
+            if is_this(token, word) {
+                Some(Some(number(time)?))
+            } else {
+                None
+            }
+        }
+        _ => None,
+    }
+}
+
+// So many of an event, up to a time that may stand behind it.
+fn count(event: Event, low: u64, most: Option<u64>, rest: &[Token<'_>]) -> Option<Plain>
+    ensures { Gives plain_of result (counted low most (event_of event, tokens_of rest.now)) }
+{
+    let by = time(b"by", rest)?;
+    Some(Plain::Count(event, low, most, by))
+}
+
+// Whether an event is a call that is made.
+fn is_call(simple: &Simple) -> bool
+    ensures { result ≡ is_called (simple_of simple.now) }
+{
+    match simple {
+        Simple::Call(_, _, wanted) => matches!(wanted, Wanted::Called),
+        Simple::Published(_) => false,
+    }
+}
+
+fn are_calls(simples: &[Simple]) -> bool
+    ensures { result ≡ list_all is_called (simples_of simples.now) }
+{
+    for simple in simples {
+        if !is_call(simple) {
+            return false;
+        }
+    }
+    true
+}
+
+// Whether `at once` stands there, and nothing behind it.
+fn is_at_once_behind(tokens: &[Token<'_>]) -> bool
+    ensures { result ≡ is_at_once (tokens_of tokens.now) }
+{
+    match tokens {
+        [token, other] => is_this(token, b"at") && is_this(other, b"once"),
+        _ => false,
+    }
+}
+
+// So many of an event at most, in all or at once.
+#[tactic(auto, unfolding(crate::specs::Claims::at_most))]
+fn count_at_most(event: Event, most: u64, rest: &[Token<'_>]) -> Option<Plain>
+    ensures { Gives plain_of result (at_most most (event_of event, tokens_of rest.now)) }
+{
+    if is_at_once_behind(rest) {
+        if are_calls(event.alternatives.as_slice()) {
+            return Some(Plain::AtOnce(event, most));
+        }
+        return None;
+    }
+    count(event, 0, Some(most), rest)
+}
+
+// Whether a run may end as Halted, and whether as Quiet.
+fn end(token: &Token<'_>) -> Option<(bool, bool)>
+    ensures { result ≡ end_in (token_of token.now) }
+{
+    if is_this(token, b"Halted") {
+        Some((true, false))
+    } else if is_this(token, b"Quiet") {
+        Some((false, true))
+    } else {
+        None
+    }
+}
+
+#[tactic(auto, unfolding(crate::specs::Claims::end_at))]
+fn end_first<'t, 'a>(tokens: &'t [Token<'a>]) -> Option<((bool, bool), &'t [Token<'a>])>
+    ensures { Gives (λ x. (x.0, tokens_of x.1.now)) result (end_at (tokens_of tokens.now)) }
+{
+    match tokens {
+        [] => None,
+        [token, rest @ ..] => Some((end(token)?, rest)),
+    }
+}
+
+fn ends_up_to(halted: bool, quiet: bool, tokens: &[Token<'_>]) -> Option<Plain>
+    ensures { Gives plain_of result (ends_by (halted, quiet) (tokens_of tokens.now)) }
+{
+    let by = time(b"by", tokens)?;
+    Some(Plain::Ends(halted, quiet, by))
+}
+
+// The claim behind `ends`.
+#[tactic(auto, unfolding(crate::specs::Claims::ends_at))]
+fn ends(tokens: &[Token<'_>]) -> Option<Plain>
+    ensures { Gives plain_of result (ends_at (tokens_of tokens.now)) }
+{
+    let ((halted, quiet), rest) = end_first(tokens)?;
+    match behind(b"or", rest) {
+        Some(more) => {
+            let ((also_halted, also_quiet), rest) = end_first(more)?;
+            ends_up_to(halted || also_halted, quiet || also_quiet, rest)
+        }
+        None => ends_up_to(halted, quiet, rest),
+    }
+}
+
+fn ends_values_here(tokens: &[Token<'_>]) -> bool
+    ensures { result ≡ ends_values (tokens_of tokens.now) }
+{
+    match tokens {
+        [] => true,
+        [token, ..] => is_this(token, b"in"),
+    }
+}
+
+// A value or `_`, and whether it is the last one.
+fn next_value<'t, 'a>(tokens: &'t [Token<'a>]) -> Option<(Option<Value>, bool, &'t [Token<'a>])>
+    ensures { Gives (λ x. (x.0, x.1, tokens_of x.2.now)) result (value_step (tokens_of tokens.now)) }
+{
+    match tokens {
+        [] => None,
+        [token, rest @ ..] => Some((pattern(token)?, ends_values_here(rest), rest)),
+    }
+}
+
+// Values or `_`, one or more, and the tokens behind them.
+fn values<'t, 'a>(
+    alloc: Global,
+    tokens: &'t [Token<'a>],
+) -> Result<Option<(Vec<Option<Value>>, &'t [Token<'a>])>, AllocError>
+    ensures { IfOk result (λ o. Gives (λ x. (x.0.items, tokens_of x.1.now)) o (values_at (tokens_of tokens.now))) }
+{
+    let mut values = Vec::new(alloc);
+    let mut rest = same_tokens(tokens);
+    for _ in 0..tokens.len() {
+        let Some((value, is_last, behind)) = next_value(rest) else {
+            return Ok(None);
+        };
+        values.push(value)?;
+        rest = same_tokens(behind);
+        if is_last {
+            return Ok(Some((values, rest)));
+        }
+    }
+    Ok(None)
+}
+
+// A value, and whether it is the last one.
+fn next_literal<'t, 'a>(tokens: &'t [Token<'a>]) -> Option<(Value, bool, &'t [Token<'a>])>
+    ensures { Gives (λ x. (x.0, x.1, tokens_of x.2.now)) result (literal_step (tokens_of tokens.now)) }
+{
+    match tokens {
+        [] => None,
+        [token, rest @ ..] => {
+            let value = pattern(token)??;
+            Some((value, ends_values_here(rest), rest))
+        }
+    }
+}
+
+// Values, one or more, and the tokens behind them.
+fn literals<'t, 'a>(
+    alloc: Global,
+    tokens: &'t [Token<'a>],
+) -> Result<Option<(Vec<Value>, &'t [Token<'a>])>, AllocError>
+    ensures { IfOk result (λ o. Gives (λ x. (x.0.items, tokens_of x.1.now)) o (literals_at (tokens_of tokens.now))) }
+{
+    let mut values = Vec::new(alloc);
+    let mut rest = same_tokens(tokens);
+    for _ in 0..tokens.len() {
+        let Some((value, is_last, behind)) = next_literal(rest) else {
+            return Ok(None);
+        };
+        values.push(value)?;
+        rest = same_tokens(behind);
+        if is_last {
+            return Ok(Some((values, rest)));
+        }
+    }
+    Ok(None)
+}
+
+fn is_any_order_behind(tokens: &[Token<'_>]) -> bool
+    ensures { result ≡ is_any_order (tokens_of tokens.now) }
+{
+    match tokens {
+        [a, b, c] => is_this(a, b"in") && is_this(b, b"any") && is_this(c, b"order"),
+        _ => false,
+    }
+}
+
+// Values in this order, or in any.
+#[tactic(auto, unfolding(crate::specs::Claims::in_order_at))]
+fn values_in_order(alloc: Global, tokens: &[Token<'_>]) -> Result<Option<Plain>, AllocError>
+    ensures { IfOk result (λ o. Gives plain_of o (in_order_at (tokens_of tokens.now))) }
+{
+    let Some((patterns, rest)) = values(alloc, tokens)? else {
+        return Ok(None);
+    };
+    if rest.is_empty() {
+        return Ok(Some(Plain::InOrder(patterns)));
+    }
+    if !is_any_order_behind(rest) {
+        return Ok(None);
+    }
+    let Some((values, _)) = literals(alloc, tokens)? else {
+        return Ok(None);
+    };
+    Ok(Some(Plain::InAnyOrder(values)))
+}
+
+// One of these values.
+#[tactic(auto, unfolding(crate::specs::Claims::one_of_at))]
+fn one_of(alloc: Global, tokens: &[Token<'_>]) -> Result<Option<Plain>, AllocError>
+    ensures { IfOk result (λ o. Gives plain_of o (one_of_at (tokens_of tokens.now))) }
+{
+    let Some((values, rest)) = literals(alloc, tokens)? else {
+        return Ok(None);
+    };
+    if !rest.is_empty() {
+        return Ok(None);
+    }
+    Ok(Some(Plain::OneOf(values)))
+}
+
+fn is_nothing_behind(tokens: &[Token<'_>]) -> bool
+    ensures { result ≡ is_nothing (tokens_of tokens.now) }
+{
+    match tokens {
+        [token] => is_this(token, b"nothing"),
+        _ => false,
+    }
+}
+
+// The claim behind `publishes`.
+#[tactic(auto, unfolding(crate::specs::Claims::publishes_at))]
+fn publishes(alloc: Global, tokens: &[Token<'_>]) -> Result<Option<Plain>, AllocError>
+    ensures { IfOk result (λ o. Gives plain_of o (publishes_at (tokens_of tokens.now))) }
+{
+    if is_nothing_behind(tokens) {
+        return Ok(Some(Plain::InOrder(Vec::new(alloc))));
+    }
+    let Some(more) = behind(b"one", tokens) else {
+        return values_in_order(alloc, tokens);
+    };
+    match behind(b"of", more) {
+        Some(rest) => one_of(alloc, rest),
+        None => Ok(None),
+    }
+}
+
+// Whether an event is to happen, by the `no` that may stand before it, and the tokens of the event.
+fn happens<'t, 'a>(tokens: &'t [Token<'a>]) -> (bool, &'t [Token<'a>])
+    ensures { (result.0, tokens_of result.1.now) ≡ not_at (tokens_of tokens.now) }
+{
+    match tokens {
+        [] => (true, tokens),
+        [_, rest @ ..] => {
+            if begins_with(b"no", tokens) {
+                (false, rest)
+            } else {
+                (true, tokens)
+            }
+        }
+    }
+}
+
+// The tokens behind the first one.
+fn rest_of_tokens<'t, 'a>(tokens: &'t [Token<'a>]) -> &'t [Token<'a>]
+    ensures { tokens_of result.now ≡ rest_of (tokens_of tokens.now) }
+{
+    match tokens {
+        [] => tokens,
+        [_, rest @ ..] => rest,
+    }
+}
+
+impl Scope<'_, '_> {
+    // The claim behind `at most`.
+    fn at_most(self, alloc: Global, tokens: &[Token<'_>]) -> Result<Option<Plain>, AllocError>
+        ensures { IfOk result (λ o. Gives plain_of o (at_most_at (sites_of self.entry.sites.now) (tokens_of self.entry.line.now) (tokens_of tokens.now))) }
+    {
+        let Some((most, rest)) = number_first(tokens) else {
+            return Ok(None);
+        };
+        let Some((event, rest)) = self.event(alloc, rest)? else {
+            return Ok(None);
+        };
+        Ok(count_at_most(event, most, rest))
+    }
+
+    // The claim behind `at least`.
+    fn at_least(self, alloc: Global, tokens: &[Token<'_>]) -> Result<Option<Plain>, AllocError>
+        ensures { IfOk result (λ o. Gives plain_of o (at_least_at (sites_of self.entry.sites.now) (tokens_of self.entry.line.now) (tokens_of tokens.now))) }
+    {
+        let Some((low, rest)) = number_first(tokens) else {
+            return Ok(None);
+        };
+        let Some((event, rest)) = self.event(alloc, rest)? else {
+            return Ok(None);
+        };
+        Ok(count(event, low, None, rest))
+    }
+
+    // The claim behind `exactly`.
+    fn exactly(self, alloc: Global, tokens: &[Token<'_>]) -> Result<Option<Plain>, AllocError>
+        ensures { IfOk result (λ o. Gives plain_of o (exactly_at (sites_of self.entry.sites.now) (tokens_of self.entry.line.now) (tokens_of tokens.now))) }
+    {
+        let Some((number, rest)) = number_first(tokens) else {
+            return Ok(None);
+        };
+        let Some((event, rest)) = self.event(alloc, rest)? else {
+            return Ok(None);
+        };
+        Ok(count(event, number, Some(number), rest))
+    }
+
+    // The claim behind `at`.
+    #[tactic(auto, unfolding(crate::specs::Claims::bounded_at))]
+    fn bounded(self, alloc: Global, tokens: &[Token<'_>]) -> Result<Option<Plain>, AllocError>
+        ensures { IfOk result (λ o. Gives plain_of o (bounded_at (sites_of self.entry.sites.now) (tokens_of self.entry.line.now) (tokens_of tokens.now))) }
+    {
+        match tokens {
+            [] => Ok(None),
+            [token, rest @ ..] => {
+                if is_this(token, b"most") {
+                    return self.at_most(alloc, rest);
+                }
+                if is_this(token, b"least") {
+                    return self.at_least(alloc, rest);
+                }
+                Ok(None)
+            }
+        }
+    }
+
+    // The claim behind `no`.
+    #[tactic(auto, unfolding(crate::specs::Claims::none_at))]
+    fn none(self, alloc: Global, tokens: &[Token<'_>]) -> Result<Option<Plain>, AllocError>
+        ensures { IfOk result (λ o. Gives plain_of o (none_at (sites_of self.entry.sites.now) (tokens_of self.entry.line.now) (tokens_of tokens.now))) }
+    {
+        let Some((event, rest)) = self.event(alloc, tokens)? else {
+            return Ok(None);
+        };
+        let Some(more) = behind(b"after", rest) else {
+            return Ok(count(event, 0, Some(0), rest));
+        };
+        let Some(other) = self.last_event(alloc, more)? else {
+            return Ok(None);
+        };
+        Ok(Some(Plain::NoneAfter(event, other)))
+    }
+
+    // The claim behind `each`.
+    #[tactic(auto, unfolding(crate::specs::Claims::each_at))]
+    fn each(self, alloc: Global, tokens: &[Token<'_>]) -> Result<Option<Plain>, AllocError>
+        ensures { IfOk result (λ o. Gives plain_of o (each_at (sites_of self.entry.sites.now) (tokens_of self.entry.line.now) (tokens_of tokens.now))) }
+    {
+        let Some((event, rest)) = self.event(alloc, tokens)? else {
+            return Ok(None);
+        };
+        let Some(more) = behind(b"then", rest) else {
+            return Ok(None);
+        };
+        let Some((other, rest)) = self.event(alloc, more)? else {
+            return Ok(None);
+        };
+        let Some(within) = time(b"within", rest) else {
+            return Ok(None);
+        };
+        Ok(Some(Plain::EachThen(event, other, within)))
+    }
+
+    // An event that comes only after another one.
+    #[tactic(auto, unfolding(crate::specs::Claims::only_at))]
+    fn only(self, alloc: Global, tokens: &[Token<'_>]) -> Result<Option<Plain>, AllocError>
+        ensures { IfOk result (λ o. Gives plain_of o (only_at (sites_of self.entry.sites.now) (tokens_of self.entry.line.now) (tokens_of tokens.now))) }
+    {
+        let Some((event, rest)) = self.event(alloc, tokens)? else {
+            return Ok(None);
+        };
+        let Some(rest) = behind(b"only", rest) else {
+            return Ok(None);
+        };
+        let Some(rest) = behind(b"after", rest) else {
+            return Ok(None);
+        };
+        let Some(other) = self.last_event(alloc, rest)? else {
+            return Ok(None);
+        };
+        Ok(Some(Plain::OnlyAfter(event, other)))
+    }
+
+    // A claim without conditions.
+    #[tactic(auto, unfolding(crate::specs::Claims::plain_at))]
+    fn plain(self, alloc: Global, tokens: &[Token<'_>]) -> Result<Option<Plain>, AllocError>
+        ensures { IfOk result (λ o. Gives plain_of o (plain_at (sites_of self.entry.sites.now) (tokens_of self.entry.line.now) (tokens_of tokens.now))) }
+    {
+        let [token, rest @ ..] = tokens else {
+            return Ok(None);
+        };
+        if opens_bracket(rest) {
+            return self.only(alloc, tokens);
+        }
+        if is_this(token, b"published") {
+            return self.only(alloc, tokens);
+        }
+        if is_this(token, b"at") {
+            return self.bounded(alloc, rest);
+        }
+        if is_this(token, b"exactly") {
+            return self.exactly(alloc, rest);
+        }
+        if is_this(token, b"no") {
+            return self.none(alloc, rest);
+        }
+        if is_this(token, b"each") {
+            return self.each(alloc, rest);
+        }
+        if is_this(token, b"ends") {
+            return Ok(ends(rest));
+        }
+        if is_this(token, b"publishes") {
+            return publishes(alloc, rest);
+        }
+        Ok(None)
+    }
+
+    // The condition behind `if`, and the tokens behind its `then`.
+    #[tactic(auto, unfolding(crate::specs::Claims::condition_at))]
+    fn condition<'t, 'b>(
+        self,
+        alloc: Global,
+        tokens: &'t [Token<'b>],
+    ) -> Result<Option<(Condition, &'t [Token<'b>])>, AllocError>
+        ensures { IfOk result (λ o. Gives (λ x. (condition_of x.0, tokens_of x.1.now)) o (condition_at (sites_of self.entry.sites.now) (tokens_of self.entry.line.now) (tokens_of tokens.now))) }
+    {
+        let (happens, rest) = happens(tokens);
+        let Some((event, rest)) = self.event(alloc, rest)? else {
+            return Ok(None);
+        };
+        let Some(rest) = behind(b"then", rest) else {
+            return Ok(None);
+        };
+        Ok(Some((Condition { event, happens }, rest)))
+    }
+
+    // The conditions with which a claim begins, none or more, and the tokens behind them.
+    fn conditions<'t, 'b>(
+        self,
+        alloc: Global,
+        tokens: &'t [Token<'b>],
+    ) -> Result<Option<(Vec<Condition>, &'t [Token<'b>])>, AllocError>
+        ensures { IfOk result (λ o. Gives (λ x. (conditions_of x.0.items, tokens_of x.1.now)) o (conditions_at (sites_of self.entry.sites.now) (tokens_of self.entry.line.now) (length (tokens_of tokens.now)) (tokens_of tokens.now))) }
+    {
+        let mut conditions = Vec::new(alloc);
+        let mut rest = same_tokens(tokens);
+        for _ in 0..tokens.len() {
+            if !begins_with(b"if", rest) {
+                return Ok(Some((conditions, rest)));
+            }
+            let Some((condition, behind)) = self.condition(alloc, rest_of_tokens(rest))? else {
+                return Ok(None);
+            };
+            conditions.push(condition)?;
+            rest = same_tokens(behind);
+        }
+        Ok(Some((conditions, rest)))
+    }
+
+    /// The claim that these tokens are, which are all those of its line. None where they are none. The error is refused memory.
+    #[tactic(auto, unfolding(crate::specs::Claims::claim_at))]
+    pub fn claim(self, alloc: Global) -> Result<Option<Claim>, AllocError>
+        ensures { IfOk result (λ o. Gives claim_of o (claim_at (sites_of self.entry.sites.now) (tokens_of self.entry.line.now))) }
+    {
+        let Some((conditions, rest)) = self.conditions(alloc, self.line)? else {
+            return Ok(None);
+        };
+        let Some(plain) = self.plain(alloc, rest)? else {
+            return Ok(None);
+        };
+        Ok(Some(Claim { conditions, plain }))
+    }
+}

@@ -1,0 +1,221 @@
+//! A test, line by line.
+
+ghost use Rattle.std.specs.Prelude.{◌≡◌, ◌≤◌, length, IfOk, OnOk, option_map, Option, Some, None};
+ghost use Rattle.orc_rules.specs.Digits.{Gives};
+ghost use Rattle.orc_rules.specs.declared.limits.TheConstants.{LONGEST_SOURCE};
+ghost use Rattle.orc_ways.specs.Drafts.{empty, has_case, case_of_service, case_of_claim, placed, with_given, with_always, with_case, with_service, with_claim, read_line};
+ghost use Rattle.orc_ways.specs.Drafting.{kind_of, cases_of, test_of, draft_of, IsPlaced, IsRead};
+ghost use Rattle.orc_ways.specs.Values.{service_of, claim_of};
+
+use crate::kind::Kind;
+use crate::limits::{MOST_CASES, MOST_CLAIMS, MOST_SERVICES, MOST_SITES};
+use crate::mentions::add_mentions;
+use crate::scope::Scope;
+use crate::test::{Case, ClaimLine, Service, ServiceLine, Test};
+use crate::token::cut_line;
+use orc_claims::claim::Claim;
+use orc_site::line::is_built_in_name;
+use std::alloc::{AllocError, Global};
+
+/// The part of a test in which a line stands.
+#[derive(Clone, Copy, PartialEq, Eq, Debug)]
+pub enum Part {
+    Nowhere,
+    Given,
+    Always,
+    Case,
+}
+
+/// What became of a line.
+#[derive(Clone, Copy, PartialEq, Eq, Debug)]
+pub enum LineEnd {
+    Read,
+    /// It is no line of a test.
+    NoLine,
+    /// It is none where it stands.
+    NoPlace,
+}
+
+/// A test so far.
+#[derive(Drop)]
+pub struct Draft<'a> {
+    pub test: Test<'a>,
+    /// The line of `given`.
+    pub given: Option<usize>,
+    pub has_always: bool,
+    pub part: Part,
+}
+
+fn has_case_named(cases: &[Case<'_>], name: &[u8]) -> bool
+    ensures { result ≡ has_case (cases_of cases.now) name.now }
+{
+    for case in cases {
+        if case.name == name {
+            return true;
+        }
+    }
+    false
+}
+
+impl<'a> Draft<'a> {
+    pub fn new(alloc: Global) -> Draft<'a>
+        ensures { draft_of result ≡ empty }
+    {
+        Draft {
+            test: Test {
+                sites: Vec::new(alloc),
+                services: Vec::new(alloc),
+                claims: Vec::new(alloc),
+                claim_lines: Vec::new(alloc),
+                cases: Vec::new(alloc),
+            },
+            given: None,
+            has_always: false,
+            part: Part::Nowhere,
+        }
+    }
+
+    // Whether `given` may stand there.
+    fn begin_given(&mut self, number: usize) -> bool
+        ensures { IsPlaced (with_given (draft_of self.old) number) (draft_of self.new) result }
+    {
+        if self.given.is_some() {
+            return false;
+        }
+        self.given = Some(number);
+        self.part = Part::Given;
+        true
+    }
+
+    // Whether `always` may stand there.
+    fn begin_always(&mut self) -> bool
+        ensures { IsPlaced (with_always (draft_of self.old)) (draft_of self.new) result }
+    {
+        if self.has_always {
+            return false;
+        }
+        self.has_always = true;
+        self.part = Part::Always;
+        true
+    }
+
+    // Whether a case of that name may stand there. The error is refused memory.
+    fn begin_case(&mut self, number: usize, name: &'a [u8]) -> Result<bool, AllocError>
+        ensures { IfOk result (λ good. IsPlaced (with_case (draft_of self.old) number name.now) (draft_of self.new) good) }
+    {
+        if MOST_CASES <= self.test.cases.len() {
+            return Ok(false);
+        }
+        if has_case_named(self.test.cases.as_slice(), name) {
+            return Ok(false);
+        }
+        self.test.cases.push(Case { name, line: number })?;
+        self.part = Part::Case;
+        Ok(true)
+    }
+
+    // The place of the case of a service that stands there, None of one that may not.
+    fn case_of_service(&self) -> Option<Option<usize>>
+        ensures { result ≡ case_of_service self.now.part (test_of self.now.test) }
+    {
+        match self.part {
+            Part::Given => Some(None),
+            Part::Case => Some(Some(self.test.cases.len().saturating_sub(1))),
+            _ => None,
+        }
+    }
+
+    // The place of the case of a claim that stands there, None of one that may not.
+    fn case_of_claim(&self) -> Option<Option<usize>>
+        ensures { result ≡ case_of_claim self.now.part (test_of self.now.test) }
+    {
+        match self.part {
+            Part::Always => Some(None),
+            Part::Case => Some(Some(self.test.cases.len().saturating_sub(1))),
+            _ => None,
+        }
+    }
+
+    // Whether a service may stand there. The error is refused memory.
+    fn add_service(&mut self, service: Service<'a>) -> Result<bool, AllocError>
+        ensures { IfOk result (λ good. IsPlaced (with_service (draft_of self.old) (service_of service.entry) (case_of_service self.old.part (test_of self.old.test))) (draft_of self.new) good) }
+    {
+        let Some(case) = self.case_of_service() else {
+            return Ok(false);
+        };
+        if MOST_SERVICES <= self.test.services.len() {
+            return Ok(false);
+        }
+        if is_built_in_name(service.name) {
+            return Ok(false);
+        }
+        self.test.services.push(ServiceLine { case, service })?;
+        Ok(true)
+    }
+
+    // Whether a claim may stand there. The error is refused memory.
+    fn add_claim(&mut self, number: usize, line: &'a [u8], claim: Claim) -> Result<bool, AllocError>
+        ensures { IfOk result (λ good. IsPlaced (with_claim (draft_of self.old) number line.now (claim_of claim) (case_of_claim self.old.part (test_of self.old.test))) (draft_of self.new) good) }
+    {
+        let Some(case) = self.case_of_claim() else {
+            return Ok(false);
+        };
+        if MOST_CLAIMS <= self.test.claims.len() {
+            return Ok(false);
+        }
+        self.test.claims.push(claim)?;
+        self.test.claim_lines.push(ClaimLine {
+            case,
+            line: number,
+            text: line,
+        })?;
+        Ok(true)
+    }
+
+    // Whether a line of this kind may stand there. The error is refused memory.
+    #[tactic(auto, unfolding(crate::specs::Drafts::placed))]
+    fn place(&mut self, number: usize, line: &'a [u8], kind: Kind<'a>) -> Result<bool, AllocError>
+        ensures { IfOk result (λ good. IsPlaced (placed (draft_of self.old) number line.now (kind_of kind.entry)) (draft_of self.new) good) }
+    {
+        match kind {
+            Kind::Blank => Ok(true),
+            Kind::Given => Ok(self.begin_given(number)),
+            Kind::Always => Ok(self.begin_always()),
+            Kind::Case(name) => self.begin_case(number, name),
+            Kind::Service(service) => self.add_service(service),
+            Kind::Claim(claim) => self.add_claim(number, line, claim),
+        }
+    }
+
+    /// Takes a line more, with its number. The error is refused memory; after it, and after a line that isn't read, the draft is of no use.
+    #[tactic(auto, unfolding(crate::specs::Drafts::read_line))]
+    pub fn read_line(
+        &mut self,
+        alloc: Global,
+        number: usize,
+        line: &'a [u8],
+    ) -> Result<LineEnd, AllocError>
+        requires { length line.now ≤ LONGEST_SOURCE }
+        ensures { IfOk result (λ end. IsRead number (read_line (draft_of self.old) number line.now) (draft_of self.new) end) }
+    {
+        let Some(tokens) = cut_line(alloc, line)? else {
+            return Ok(LineEnd::NoLine);
+        };
+        add_mentions(&mut self.test.sites, number, tokens.as_slice())?;
+        if MOST_SITES < self.test.sites.len() {
+            return Ok(LineEnd::NoLine);
+        }
+        let scope = Scope {
+            sites: self.test.sites.as_slice(),
+            line: tokens.as_slice(),
+        };
+        let Some(kind) = scope.kind(alloc)? else {
+            return Ok(LineEnd::NoLine);
+        };
+        if self.place(number, line, kind)? {
+            Ok(LineEnd::Read)
+        } else {
+            Ok(LineEnd::NoPlace)
+        }
+    }
+}

@@ -1,0 +1,185 @@
+//! Events: what may happen.
+
+ghost use Rattle.std.specs.Prelude.{◌≡◌, ◌≤◌, length, IfOk, option_map};
+ghost use Rattle.orc_rules.specs.Digits.{Gives};
+ghost use Rattle.orc_ways.specs.Tokens.{many};
+ghost use Rattle.orc_ways.specs.Claims.{site_number, more_items, wanted_at, answered_at, call_at, published_at, simple_at, event_step, event_at, last_event};
+ghost use Rattle.orc_ways.specs.Values.{token_of, tokens_of, sites_of, simple_of, simples_of, event_of};
+
+use crate::scope::Scope;
+use crate::test::SiteName;
+use crate::token::{Token, behind, is_this, opens_bracket, same_tokens, site_name};
+use orc_claims::claim::{Event, Simple, Slot, Wanted};
+use std::alloc::{AllocError, Global};
+
+/// The place of a site among these, or their number where it isn't among them.
+pub fn number_of_site(sites: &[SiteName<'_>], name: &[u8], arguments: usize) -> usize
+    ensures number { result ≡ site_number (sites_of sites.now) name.now arguments }
+    ensures within { result ≤ length sites.now }
+{
+    for (at, site) in sites.iter().enumerate() {
+        if site.name == name && site.arguments == arguments {
+            return at;
+        }
+    }
+    sites.len()
+}
+
+/// Whether no item follows behind this word, and else the tokens behind it.
+pub fn more_behind<'t, 'b>(word: &[u8], tokens: &'t [Token<'b>]) -> (bool, &'t [Token<'b>])
+    ensures { (result.0, tokens_of result.1.now) ≡ more_items word.now (tokens_of tokens.now) }
+{
+    match behind(word, tokens) {
+        Some(rest) => (false, rest),
+        None => (true, tokens),
+    }
+}
+
+impl Scope<'_, '_> {
+    // With what a call is to be answered: with any value, where none stands there.
+    fn answered<'t, 'b>(self, tokens: &'t [Token<'b>]) -> (Wanted, &'t [Token<'b>])
+        ensures { (result.0, tokens_of result.1.now) ≡ answered_at (tokens_of self.entry.line.now) (tokens_of tokens.now) }
+    {
+        match tokens {
+            [] => (Wanted::Answered(Slot::Any), tokens),
+            [token, rest @ ..] => match self.slot(token) {
+                Some(slot) => (Wanted::Answered(slot), rest),
+                None => (Wanted::Answered(Slot::Any), tokens),
+            },
+        }
+    }
+
+    // What is to become of a call: that it is made, where nothing stands there.
+    #[tactic(auto, unfolding(crate::specs::Claims::wanted_at))]
+    fn wanted<'t, 'b>(self, tokens: &'t [Token<'b>]) -> (Wanted, &'t [Token<'b>])
+        ensures { (result.0, tokens_of result.1.now) ≡ wanted_at (tokens_of self.entry.line.now) (tokens_of tokens.now) }
+    {
+        match tokens {
+            [] => (Wanted::Called, tokens),
+            [token, rest @ ..] => {
+                if is_this(token, b"called") {
+                    (Wanted::Called, rest)
+                } else if is_this(token, b"answered") {
+                    self.answered(rest)
+                } else if is_this(token, b"halted") {
+                    (Wanted::Halted, rest)
+                } else if is_this(token, b"cancelled") {
+                    (Wanted::Cancelled, rest)
+                } else {
+                    (Wanted::Called, tokens)
+                }
+            }
+        }
+    }
+
+    // Something that becomes of a call of the site that the first token names.
+    #[tactic(auto, unfolding(crate::specs::Claims::call_at))]
+    fn call<'t, 'b>(
+        self,
+        alloc: Global,
+        token: &Token<'b>,
+        tokens: &'t [Token<'b>],
+    ) -> Result<Option<(Simple, &'t [Token<'b>])>, AllocError>
+        ensures { IfOk result (λ o. Gives (λ x. (simple_of x.0, tokens_of x.1.now)) o (call_at (sites_of self.entry.sites.now) (tokens_of self.entry.line.now) (token_of token.now) (tokens_of tokens.now))) }
+    {
+        let Some(name) = site_name(token) else {
+            return Ok(None);
+        };
+        let Some((slots, rest)) = self.slots(alloc, tokens)? else {
+            return Ok(None);
+        };
+        let site = number_of_site(self.sites, name, slots.len()) as u32;
+        let (wanted, rest) = self.wanted(rest);
+        Ok(Some((Simple::Call(site, slots, wanted), rest)))
+    }
+
+    // A value that is published.
+    #[tactic(auto, unfolding(crate::specs::Claims::published_at))]
+    fn published<'t, 'b>(self, tokens: &'t [Token<'b>]) -> Option<(Simple, &'t [Token<'b>])>
+        ensures { Gives (λ x. (simple_of x.0, tokens_of x.1.now)) result (published_at (tokens_of self.entry.line.now) (tokens_of tokens.now)) }
+    {
+        match tokens {
+            [] => None,
+            [token, rest @ ..] => Some((Simple::Published(self.slot(token)?), rest)),
+        }
+    }
+
+    // One thing that may happen.
+    #[tactic(auto, unfolding(crate::specs::Claims::simple_at))]
+    fn simple<'t, 'b>(
+        self,
+        alloc: Global,
+        tokens: &'t [Token<'b>],
+    ) -> Result<Option<(Simple, &'t [Token<'b>])>, AllocError>
+        ensures { IfOk result (λ o. Gives (λ x. (simple_of x.0, tokens_of x.1.now)) o (simple_at (sites_of self.entry.sites.now) (tokens_of self.entry.line.now) (tokens_of tokens.now))) }
+    {
+        match tokens {
+            [] => Ok(None),
+            [token, rest @ ..] => {
+                if opens_bracket(rest) {
+                    return self.call(alloc, token, rest);
+                }
+                if is_this(token, b"published") {
+                    return Ok(self.published(rest));
+                }
+                Ok(None)
+            }
+        }
+    }
+
+    // One thing that may happen, and whether it is the last one.
+    fn event_step<'t, 'b>(
+        self,
+        alloc: Global,
+        tokens: &'t [Token<'b>],
+    ) -> Result<Option<(Simple, bool, &'t [Token<'b>])>, AllocError>
+        ensures { IfOk result (λ o. Gives (λ x. (simple_of x.0, x.1, tokens_of x.2.now)) o (event_step (sites_of self.entry.sites.now) (tokens_of self.entry.line.now) (tokens_of tokens.now))) }
+    {
+        let Some((simple, rest)) = self.simple(alloc, tokens)? else {
+            return Ok(None);
+        };
+        let (is_last, rest) = more_behind(b"or", rest);
+        Ok(Some((simple, is_last, rest)))
+    }
+
+    /// One thing or more that may happen, with `or` between them, and the tokens behind them. The error is refused memory.
+    pub fn event<'t, 'b>(
+        self,
+        alloc: Global,
+        tokens: &'t [Token<'b>],
+    ) -> Result<Option<(Event, &'t [Token<'b>])>, AllocError>
+        ensures { IfOk result (λ o. Gives (λ x. (event_of x.0, tokens_of x.1.now)) o (event_at (sites_of self.entry.sites.now) (tokens_of self.entry.line.now) (tokens_of tokens.now))) }
+    {
+        let mut alternatives = Vec::new(alloc);
+        let mut rest = same_tokens(tokens);
+        for _ in 0..tokens.len() {
+            let Some((simple, is_last, behind)) = self.event_step(alloc, rest)? else {
+                return Ok(None);
+            };
+            alternatives.push(simple)?;
+            rest = same_tokens(behind);
+            if is_last {
+                return Ok(Some((Event { alternatives }, rest)));
+            }
+        }
+        Ok(None)
+    }
+
+    /// An event behind which nothing stands. The error is refused memory.
+    pub fn last_event(
+        self,
+        alloc: Global,
+        tokens: &[Token<'_>],
+    ) -> Result<Option<Event>, AllocError>
+        ensures { IfOk result (λ o. Gives event_of o (last_event (sites_of self.entry.sites.now) (tokens_of self.entry.line.now) (tokens_of tokens.now))) }
+    {
+        let Some((event, rest)) = self.event(alloc, tokens)? else {
+            return Ok(None);
+        };
+        if rest.is_empty() {
+            Ok(Some(event))
+        } else {
+            Ok(None)
+        }
+    }
+}

@@ -1,0 +1,52 @@
+//! Why a test isn't read.
+
+ghost use Rattle.std.specs.Prelude.{◌≡◌, Some};
+ghost use Rattle.orc_ways.specs.Faults.{test_line, test_status};
+
+use std::fmt;
+
+/// Why a test isn't read. Lines are counted from 1.
+#[derive(Clone, Copy, PartialEq, Eq, Debug)]
+pub enum TestFault {
+    /// T1: the first line that is none of a test.
+    Line(usize),
+    /// T2: memory was refused.
+    Memory,
+    /// T3: over `LONGEST_SOURCE` bytes.
+    Long,
+    /// T4: the first line that is none where it stands: a service before any section or below `always`, a claim before any section or below `given`, a
+    /// second `given`, `always` or case of that name, a built-in site as a service, or one case, claim or service too many.
+    Place(usize),
+    /// T5: the first line that names a site, with so many arguments, that no service has, and whose name no other site has.
+    Unknown(usize),
+    /// T6: the line of the first case with over `MOST_WAYS` ways.
+    Ways(usize),
+}
+
+// Its code and its place.
+impl fmt::Display for TestFault {
+    ghost output = { λ f. Some (test_line f) };
+
+    fn fmt<W: fmt::Write>(&self, f: &mut fmt::Formatter<W>) -> fmt::Result {
+        match *self {
+            TestFault::Line(number) => write!(f, "T1 at line {number}"),
+            TestFault::Memory => write!(f, "T2"),
+            TestFault::Long => write!(f, "T3"),
+            TestFault::Place(number) => write!(f, "T4 at line {number}"),
+            TestFault::Unknown(number) => write!(f, "T5 at line {number}"),
+            TestFault::Ways(number) => write!(f, "T6 at line {number}"),
+        }
+    }
+}
+
+impl TestFault {
+    /// The process's status at this fault.
+    pub fn status(self) -> u8
+        ensures { result ≡ test_status self }
+    {
+        match self {
+            TestFault::Memory => 5,
+            _ => 1,
+        }
+    }
+}

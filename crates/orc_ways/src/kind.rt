@@ -1,0 +1,98 @@
+//! What a line is.
+
+ghost use Rattle.std.specs.Prelude.{◌≡◌, IfOk, option_map};
+ghost use Rattle.orc_rules.specs.Digits.{Gives};
+ghost use Rattle.orc_ways.specs.Lines.{has_equals, section_in, section_at, other_at, kind_at};
+ghost use Rattle.orc_ways.specs.Drafting.{kind_of};
+ghost use Rattle.orc_ways.specs.Values.{token_of, tokens_of, sites_of};
+
+use crate::scope::Scope;
+use crate::services::service;
+use crate::test::Service;
+use crate::token::{Token, is_equals_sign, is_this, name};
+use orc_claims::claim::Claim;
+use std::alloc::{AllocError, Global};
+
+/// What a line is.
+#[derive(Drop)]
+pub enum Kind<'a> {
+    Blank,
+    Given,
+    Always,
+    Case(&'a [u8]),
+    Service(Service<'a>),
+    Claim(Claim),
+}
+
+fn has_equals_sign(tokens: &[Token<'_>]) -> bool
+    ensures { result ≡ has_equals (tokens_of tokens.now) }
+{
+    for token in tokens {
+        if is_equals_sign(token) {
+            return true;
+        }
+    }
+    false
+}
+
+// The section that one token begins.
+fn one_token<'a>(token: &Token<'a>) -> Option<Kind<'a>>
+    ensures { Gives kind_of result (section_in (token_of token.now)) }
+{
+    if is_this(token, b"given") {
+        Some(Kind::Given)
+    } else if is_this(token, b"always") {
+        Some(Kind::Always)
+    } else {
+        None
+    }
+}
+
+// The section that these tokens begin.
+fn section<'a>(tokens: &[Token<'a>]) -> Option<Kind<'a>>
+    ensures { Gives kind_of result (section_at (tokens_of tokens.now)) }
+{
+    match tokens {
+        [token] => one_token(token),
+        [token, other] => {
+            if is_this(token, b"case") {
+                Some(Kind::Case(name(other)?))
+            } else {
+                None
+            }
+        }
+        _ => None,
+    }
+}
+
+impl<'a> Scope<'_, 'a> {
+    // A section or a claim.
+    fn section_or_claim(self, alloc: Global) -> Result<Option<Kind<'a>>, AllocError>
+        ensures { IfOk result (λ o. Gives kind_of o (other_at (sites_of self.entry.sites.now) (tokens_of self.entry.line.now))) }
+    {
+        if let Some(section) = section(self.line) {
+            return Ok(Some(section));
+        }
+        let Some(claim) = self.claim(alloc)? else {
+            return Ok(None);
+        };
+        Ok(Some(Kind::Claim(claim)))
+    }
+
+    /// What the line is: one with a `=` is a service. None where it is none of a test. The error is refused memory.
+    #[tactic(auto, unfolding(crate::specs::Lines::kind_at))]
+    pub fn kind(self, alloc: Global) -> Result<Option<Kind<'a>>, AllocError>
+        ensures { IfOk result (λ o. Gives kind_of o (kind_at (sites_of self.entry.sites.now) (tokens_of self.entry.line.now))) }
+    {
+        if self.line.is_empty() {
+            return Ok(Some(Kind::Blank));
+        }
+        if !has_equals_sign(self.line) {
+            return self.section_or_claim(alloc);
+        }
+        let Some(service) = service(alloc, self.line)? else {
+            return Ok(None);
+        };
+        Ok(Some(Kind::Service(service)))
+    }
+}

@@ -1,0 +1,22 @@
+//! The limits of a test's text.
+
+/// The most cases of a test.
+pub const MOST_CASES: usize = 256;
+
+/// The most claims of a test.
+pub const MOST_CLAIMS: usize = 1_024;
+
+/// The most lines of services of a test.
+pub const MOST_SERVICES: usize = 1_024;
+
+/// The most sites that a test names, each with a number of arguments.
+pub const MOST_SITES: usize = 1_024;
+
+/// The most alternatives of a service.
+pub const MOST_ALTERNATIVES: usize = 64;
+
+/// The most calls that take alternatives of their own.
+pub const MOST_CALLS: usize = 4;
+
+/// The most ways of a case.
+pub const MOST_WAYS: u64 = 1_000_000;

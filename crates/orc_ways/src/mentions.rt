@@ -1,0 +1,135 @@
+//! The sites that a line names.
+
+ghost use Rattle.std.specs.Prelude.{◌≡◌, ◌∷◌, IfOk, OnOk, option_map, Some};
+ghost use Rattle.orc_rules.specs.Digits.{Gives};
+ghost use Rattle.orc_rules.specs.declared.limits.TheConstants.{MOST_ARGUMENTS};
+ghost use Rattle.orc_ways.specs.Lines.{argument_step, arguments_from, arguments_behind, arguments_at, mention_at, with_site, with_mention, with_mentions};
+ghost use Rattle.orc_ways.specs.Values.{token_of, tokens_of, sites_of};
+
+use crate::events::number_of_site;
+use crate::limits::MOST_SITES;
+use crate::test::SiteName;
+use crate::token::{Token, closes, is_left_bracket, is_right_bracket, name, same_tokens};
+use orc_rules::limits::MOST_ARGUMENTS;
+use std::alloc::AllocError;
+
+// Whether the bracket follows an argument, or a comma, and the tokens behind that.
+fn argument_step<'t, 'a>(tokens: &'t [Token<'a>]) -> Option<(bool, &'t [Token<'a>])>
+    ensures { Gives (λ x. (x.0, tokens_of x.1.now)) result (argument_step (tokens_of tokens.now)) }
+{
+    match tokens {
+        [_, sign, rest @ ..] => Some((closes(sign)?, rest)),
+        _ => None,
+    }
+}
+
+// How many arguments stand up to their bracket, one at least.
+fn some_arguments(tokens: &[Token<'_>]) -> Option<usize>
+    ensures { result ≡ arguments_from MOST_ARGUMENTS (tokens_of tokens.now) }
+{
+    let mut rest = same_tokens(tokens);
+    for before in 0..MOST_ARGUMENTS {
+        let Some((is_last, behind)) = argument_step(rest) else {
+            return None;
+        };
+        rest = same_tokens(behind);
+        if is_last {
+            return Some(before + 1);
+        }
+    }
+    None
+}
+
+fn arguments_to_bracket(tokens: &[Token<'_>]) -> Option<usize>
+    ensures { result ≡ arguments_behind (tokens_of tokens.now) }
+{
+    match tokens {
+        [] => None,
+        [token, ..] => {
+            if is_right_bracket(token) {
+                Some(0)
+            } else {
+                some_arguments(tokens)
+            }
+        }
+    }
+}
+
+// How many arguments stand in brackets, where brackets stand first.
+fn arguments(tokens: &[Token<'_>]) -> Option<usize>
+    ensures { result ≡ arguments_at (tokens_of tokens.now) }
+{
+    match tokens {
+        [] => None,
+        [token, rest @ ..] => {
+            if is_left_bracket(token) {
+                arguments_to_bracket(rest)
+            } else {
+                None
+            }
+        }
+    }
+}
+
+// A name, and the number of its arguments in brackets.
+fn mention<'a>(token: &Token<'a>, behind: &[Token<'a>]) -> Option<(&'a [u8], usize)>
+    ensures { Gives (λ x. (x.0.now, x.1)) result (mention_at (token_of token.now) (tokens_of behind.now)) }
+{
+    let name = name(token)?;
+    Some((name, arguments(behind)?))
+}
+
+// Adds a site that isn't among them, unless they are too many. The error is refused memory.
+fn add_site<'a>(
+    sites: &mut Vec<SiteName<'a>>,
+    line: usize,
+    name: &'a [u8],
+    arguments: usize,
+) -> Result<(), AllocError>
+    ensures { OnOk result (sites_of sites.new.items ≡ with_site (sites_of sites.old.items) line name.now arguments) }
+{
+    if number_of_site(sites.as_slice(), name, arguments) < sites.len() {
+        return Ok(());
+    }
+    if MOST_SITES < sites.len() {
+        return Ok(());
+    }
+    sites.push(SiteName {
+        name,
+        arguments,
+        line,
+    })?;
+    Ok(())
+}
+
+// Adds the site that stands first, if one does.
+fn add_first<'a>(
+    sites: &mut Vec<SiteName<'a>>,
+    line: usize,
+    token: &Token<'a>,
+    behind: &[Token<'a>],
+) -> Result<(), AllocError>
+    ensures { OnOk result (sites_of sites.new.items ≡ with_mention (sites_of sites.old.items) line (mention_at (token_of token.now) (tokens_of behind.now))) }
+{
+    match mention(token, behind) {
+        Some((name, arguments)) => add_site(sites, line, name, arguments),
+        None => Ok(()),
+    }
+}
+
+/// Adds the sites that a line's tokens name and that aren't among them, with the line's number; not many more than `MOST_SITES`, where they are too many.
+/// The error is refused memory, and then some may have been added.
+pub fn add_mentions<'a>(
+    sites: &mut Vec<SiteName<'a>>,
+    line: usize,
+    tokens: &[Token<'a>],
+) -> Result<(), AllocError>
+    ensures { OnOk result (sites_of sites.new.items ≡ with_mentions (sites_of sites.old.items) line (tokens_of tokens.now)) }
+{
+    let mut rest = tokens;
+    while let [token, behind @ ..] = rest {
+        add_first(sites, line, token, behind)?;
+        rest = behind;
+    }
+    Ok(())
+}

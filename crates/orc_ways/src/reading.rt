@@ -1,0 +1,109 @@
+//! Reading a test.
+
+ghost use Rattle.std.specs.Prelude.{◌≡◌, ◌≤◌, IfOk, IfErr, length};
+ghost use Rattle.std.specs.List.{list_any};
+ghost use Rattle.orc_rules.specs.declared.limits.TheConstants.{LONGEST_SOURCE};
+ghost use Rattle.orc_ways.specs.Drafts.{read_text, says};
+ghost use Rattle.orc_ways.specs.Drafting.{draft_of, test_of, service_lines_of};
+ghost use Rattle.orc_ways.specs.Finishing.{test_said, serves_site, unknown_line, Says, IsFault};
+ghost use Rattle.orc_ways.specs.ReadingText.{IsDraftFault};
+ghost use Rattle.orc_ways.specs.Values.{site_of, sites_of};
+
+use crate::draft::{Draft, LineEnd};
+use crate::fault::TestFault;
+use crate::test::{Case, ServiceLine, SiteName, Test};
+use orc_rules::answers::Answers;
+use orc_rules::limits::LONGEST_SOURCE;
+use orc_site::split_line;
+use std::alloc::{AllocError, Global};
+
+// What the lines of a text say.
+fn read_draft<'a>(alloc: Global, text: &'a [u8]) -> Result<Draft<'a>, TestFault>
+    requires { length text.now ≤ LONGEST_SOURCE }
+    ensures read { IfOk result (λ d. read_text text.now ≡ says (draft_of d)) }
+    ensures fault { IfErr result (IsDraftFault text.now) }
+{
+    let mut draft = Draft::new(alloc);
+    let mut rest = text;
+    let mut number = 1;
+    loop {
+        let (line, behind) = split_line(rest);
+        match draft.read_line(alloc, number, line) {
+            Err(_) => return Err(TestFault::Memory),
+            Ok(LineEnd::NoLine) => return Err(TestFault::Line(number)),
+            Ok(LineEnd::NoPlace) => return Err(TestFault::Place(number)),
+            Ok(LineEnd::Read) => {}
+        }
+        let Some(behind) = behind else {
+            return Ok(draft);
+        };
+        rest = behind;
+        number += 1;
+    }
+}
+
+// The test that a draft says. The error is refused memory.
+fn finish(draft: Draft<'_>) -> Result<Test<'_>, AllocError>
+    ensures { IfOk result (λ t. test_of t ≡ test_said (draft_of draft.entry)) }
+{
+    let Draft {
+        mut test,
+        given,
+        has_always: _,
+        part: _,
+    } = draft;
+    if test.cases.is_empty() {
+        test.cases.push(Case {
+            name: b"given",
+            line: given.unwrap_or(1),
+        })?;
+    }
+    Ok(test)
+}
+
+// Whether a service has the site's name, and as many patterns as it has arguments.
+fn is_served(site: &SiteName<'_>, lines: &[ServiceLine<'_>]) -> bool
+    ensures { result ≡ list_any (serves_site (site_of site.now)) (service_lines_of lines.now) }
+{
+    for line in lines {
+        if site.name == line.service.name && site.arguments == line.service.patterns.len() {
+            return true;
+        }
+    }
+    false
+}
+
+// The line of the first site that no service has and no other site is called as.
+fn unknown(others: &Answers, lines: &[ServiceLine<'_>], sites: &[SiteName<'_>]) -> Option<usize>
+    ensures { result ≡ unknown_line others.now (service_lines_of lines.now) (sites_of sites.now) }
+{
+    for site in sites {
+        if !is_served(site, lines) && others.site_named(site.name).is_none() {
+            return Some(site.line);
+        }
+    }
+    None
+}
+
+/// The test that a text says. `others` are the sites that need no service in it: the built-in ones, and those of a script whose lines stand behind those
+/// of the ways.
+pub fn read_test<'a>(alloc: Global, text: &'a [u8], others: &Answers) -> Result<Test<'a>, TestFault>
+    ensures read { IfOk result (λ t. Says text.now others.now (test_of t)) }
+    // Of a text within its limit the first line is named that is none of a test, or none where it stands; else that of the first unknown site.
+    ensures fault { IfErr result (IsFault text.now others.now) }
+{
+    if text.len() > LONGEST_SOURCE {
+        return Err(TestFault::Long);
+    }
+    let draft = match read_draft(alloc, text) {
+        Ok(draft) => draft,
+        Err(fault) => return Err(fault),
+    };
+    let Ok(test) = finish(draft) else {
+        return Err(TestFault::Memory);
+    };
+    if let Some(line) = unknown(others, test.services.as_slice(), test.sites.as_slice()) {
+        return Err(TestFault::Unknown(line));
+    }
+    Ok(test)
+}

@@ -1,0 +1,278 @@
+//! The lines of services.
+
+ghost use Rattle.std.specs.Prelude.{◌≡◌, IfOk, option_map, codes};
+ghost use Rattle.std.specs.List.{list_all};
+ghost use Rattle.orc_rules.specs.Digits.{Gives};
+ghost use Rattle.orc_rules.specs.declared.limits.TheConstants.{MOST_ANSWERS};
+ghost use Rattle.orc_site.specs.Reading.{then_read};
+ghost use Rattle.orc_ways.specs.Tokens.{many, number_at, behind_word};
+ghost use Rattle.orc_ways.specs.declared.limits.TheConstants.{MOST_ALTERNATIVES};
+ghost use Rattle.orc_ways.specs.Lines.{range_to, range_at, delay_or, reply_at, reply_step, history_at, more_bars, alternative_step, alternatives_at, is_one, calls_within, are_calls, calls_at, equals_at, service_at};
+ghost use Rattle.orc_ways.specs.Values.{token_of, tokens_of, histories_of, service_of};
+
+use crate::events::more_behind;
+use crate::limits::{MOST_ALTERNATIVES, MOST_CALLS};
+use crate::scope::Scope;
+use crate::test::{Reply, Service};
+use crate::token::{
+    Token, answer, behind, is_bar_sign, is_dots_sign, is_equals_sign, is_this, number,
+    number_first, same_tokens, site_name,
+};
+use orc_rules::limits::MOST_ANSWERS;
+use orc_rules::value::Answer;
+use std::alloc::{AllocError, Global};
+
+// The end of a range, and the tokens behind it.
+fn range_end<'t, 'a>(
+    answer: Answer,
+    low: u64,
+    tokens: &'t [Token<'a>],
+) -> Option<(Reply, &'t [Token<'a>])>
+    ensures { Gives (λ x. (x.0, tokens_of x.1.now)) result (then_read (number_at (tokens_of tokens.now)) (range_to answer low)) }
+{
+    let (high, rest) = number_first(tokens)?;
+    if low <= high {
+        Some((Reply::Between(answer, low, high), rest))
+    } else {
+        None
+    }
+}
+
+// Behind the first number of a time.
+fn range<'t, 'a>(
+    answer: Answer,
+    low: u64,
+    tokens: &'t [Token<'a>],
+) -> Option<(Reply, &'t [Token<'a>])>
+    ensures { Gives (λ x. (x.0, tokens_of x.1.now)) result (range_at answer low (tokens_of tokens.now)) }
+{
+    match tokens {
+        [] => Some((Reply::Between(answer, low, low), tokens)),
+        [token, rest @ ..] => {
+            if is_dots_sign(token) {
+                range_end(answer, low, rest)
+            } else {
+                Some((Reply::Between(answer, low, low), tokens))
+            }
+        }
+    }
+}
+
+// An answer with the time that may stand behind it.
+fn delayed<'t, 'a>(answer: Answer, tokens: &'t [Token<'a>]) -> Option<(Reply, &'t [Token<'a>])>
+    ensures { Gives (λ x. (x.0, tokens_of x.1.now)) result (delay_or answer (tokens_of tokens.now) (behind_word (codes "after") (tokens_of tokens.now))) }
+{
+    match behind(b"after", tokens) {
+        None => Some((Reply::Between(answer, 0, 0), tokens)),
+        Some(rest) => {
+            let (low, rest) = number_first(rest)?;
+            range(answer, low, rest)
+        }
+    }
+}
+
+// An answer, and when it comes; or `never`.
+#[tactic(auto, unfolding(crate::specs::Lines::reply_at))]
+fn reply<'t, 'a>(tokens: &'t [Token<'a>]) -> Option<(Reply, &'t [Token<'a>])>
+    ensures { Gives (λ x. (x.0, tokens_of x.1.now)) result (reply_at (tokens_of tokens.now)) }
+{
+    match tokens {
+        [] => None,
+        [token, rest @ ..] => {
+            if is_this(token, b"never") {
+                return Some((Reply::Never, rest));
+            }
+            delayed(answer(token)?, rest)
+        }
+    }
+}
+
+fn reply_step<'t, 'a>(tokens: &'t [Token<'a>]) -> Option<(Reply, bool, &'t [Token<'a>])>
+    ensures { Gives (λ x. (x.0, x.1, tokens_of x.2.now)) result (reply_step (tokens_of tokens.now)) }
+{
+    let (reply, rest) = reply(tokens)?;
+    let (is_last, rest) = more_behind(b"then", rest);
+    Some((reply, is_last, rest))
+}
+
+// Answers with `then` between them, one to `MOST_ANSWERS`, and the tokens behind them.
+fn history<'t, 'a>(
+    alloc: Global,
+    tokens: &'t [Token<'a>],
+) -> Result<Option<(Vec<Reply>, &'t [Token<'a>])>, AllocError>
+    ensures { IfOk result (λ o. Gives (λ x. (x.0.items, tokens_of x.1.now)) o (history_at (tokens_of tokens.now))) }
+{
+    let mut replies = Vec::new(alloc);
+    let mut rest = same_tokens(tokens);
+    for _ in 0..MOST_ANSWERS {
+        let Some((reply, is_last, behind)) = reply_step(rest) else {
+            return Ok(None);
+        };
+        replies.push(reply)?;
+        rest = same_tokens(behind);
+        if is_last {
+            return Ok(Some((replies, rest)));
+        }
+    }
+    Ok(None)
+}
+
+// Whether no alternative follows, and else the tokens behind its `|`.
+fn more_alternatives<'t, 'a>(tokens: &'t [Token<'a>]) -> (bool, &'t [Token<'a>])
+    ensures { (result.0, tokens_of result.1.now) ≡ more_bars (tokens_of tokens.now) }
+{
+    match tokens {
+        [] => (true, tokens),
+        [token, rest @ ..] => {
+            if is_bar_sign(token) {
+                (false, rest)
+            } else {
+                (true, tokens)
+            }
+        }
+    }
+}
+
+fn alternative_step<'t, 'a>(
+    alloc: Global,
+    tokens: &'t [Token<'a>],
+) -> Result<Option<(Vec<Reply>, bool, &'t [Token<'a>])>, AllocError>
+    ensures { IfOk result (λ o. Gives (λ x. (x.0.items, x.1, tokens_of x.2.now)) o (alternative_step (tokens_of tokens.now))) }
+{
+    let Some((replies, rest)) = history(alloc, tokens)? else {
+        return Ok(None);
+    };
+    let (is_last, rest) = more_alternatives(rest);
+    Ok(Some((replies, is_last, rest)))
+}
+
+// Alternatives with `|` between them, one to `MOST_ALTERNATIVES`, and the tokens behind them.
+fn alternatives<'t, 'a>(
+    alloc: Global,
+    tokens: &'t [Token<'a>],
+) -> Result<Option<(Vec<Vec<Reply>>, &'t [Token<'a>])>, AllocError>
+    ensures { IfOk result (λ o. Gives (λ x. (histories_of x.0.items, tokens_of x.1.now)) o (alternatives_at (tokens_of tokens.now))) }
+{
+    let mut alternatives = Vec::new(alloc);
+    let mut rest = same_tokens(tokens);
+    for _ in 0..MOST_ALTERNATIVES {
+        let Some((replies, is_last, behind)) = alternative_step(alloc, rest)? else {
+            return Ok(None);
+        };
+        alternatives.push(replies)?;
+        rest = same_tokens(behind);
+        if is_last {
+            return Ok(Some((alternatives, rest)));
+        }
+    }
+    Ok(None)
+}
+
+fn is_one_answer(replies: &[Reply]) -> bool
+    ensures { result ≡ is_one replies.now }
+{
+    match replies {
+        [_] => true,
+        _ => false,
+    }
+}
+
+fn are_single(alternatives: &[Vec<Reply>]) -> bool
+    ensures { result ≡ list_all is_one (histories_of alternatives.now) }
+{
+    for replies in alternatives {
+        if !is_one_answer(replies.as_slice()) {
+            return false;
+        }
+    }
+    true
+}
+
+fn within_calls(number: u64) -> Option<usize>
+    ensures { result ≡ calls_within number }
+{
+    if 2 <= number && number <= MOST_CALLS as u64 {
+        Some(number as usize)
+    } else {
+        None
+    }
+}
+
+// Whether these are the words around the number of calls.
+fn are_words(a: &Token<'_>, b: &Token<'_>, c: &Token<'_>, d: &Token<'_>) -> bool
+    ensures { result ≡ are_calls (token_of a.now) (token_of b.now) (token_of c.now) (token_of d.now) }
+{
+    is_this(a, b"in") && is_this(b, b"each") && is_this(c, b"of") && is_this(d, b"calls")
+}
+
+// How many calls take an alternative of their own, by what stands behind the alternatives.
+#[tactic(auto, unfolding(crate::specs::Lines::calls_at))]
+fn calls(alternatives: &[Vec<Reply>], tokens: &[Token<'_>]) -> Option<usize>
+    ensures { result ≡ calls_at (histories_of alternatives.now) (tokens_of tokens.now) }
+{
+    match tokens {
+        [] => Some(1),
+        [a, b, c, count, d] => {
+            if !are_words(a, b, c, d) {
+                return None;
+            }
+            if !are_single(alternatives) {
+                return None;
+            }
+            within_calls(number(count)?)
+        }
+        _ => None,
+    }
+}
+
+// The tokens behind a `=`.
+fn behind_equals<'t, 'a>(tokens: &'t [Token<'a>]) -> Option<&'t [Token<'a>]>
+    ensures { option_map (λ rest. tokens_of rest.now) result ≡ equals_at (tokens_of tokens.now) }
+{
+    match tokens {
+        [] => None,
+        [token, rest @ ..] => {
+            if is_equals_sign(token) {
+                Some(rest)
+            } else {
+                None
+            }
+        }
+    }
+}
+
+/// The service that these tokens are, which are all those of its line. None where they are none. The error is refused memory.
+#[tactic(auto, unfolding(crate::specs::Lines::service_at))]
+pub fn service<'a>(alloc: Global, tokens: &[Token<'a>]) -> Result<Option<Service<'a>>, AllocError>
+    ensures { IfOk result (λ o. Gives service_of o (service_at (tokens_of tokens.now))) }
+{
+    let [token, rest @ ..] = tokens else {
+        return Ok(None);
+    };
+    let Some(name) = site_name(token) else {
+        return Ok(None);
+    };
+    // No variable stands in a service.
+    let scope = Scope {
+        sites: &[],
+        line: &[],
+    };
+    let Some((patterns, rest)) = scope.slots(alloc, rest)? else {
+        return Ok(None);
+    };
+    let Some(rest) = behind_equals(rest) else {
+        return Ok(None);
+    };
+    let Some((alternatives, rest)) = alternatives(alloc, rest)? else {
+        return Ok(None);
+    };
+    let Some(calls) = calls(alternatives.as_slice(), rest) else {
+        return Ok(None);
+    };
+    Ok(Some(Service {
+        name,
+        patterns,
+        alternatives,
+        calls,
+    }))
+}

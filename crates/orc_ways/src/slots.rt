@@ -1,0 +1,173 @@
+//! What stands in the place of a value.
+
+ghost use Rattle.std.specs.Prelude.{◌≡◌, ◌<◌, length, IfOk, IfSome};
+ghost use Rattle.orc_rules.specs.Digits.{Gives};
+ghost use Rattle.orc_ways.specs.Claims.{place_of, follows, is_small, is_variable, variable_in, slot_of, slot_in, slot_step, slots_behind, slots_at};
+ghost use Rattle.orc_rules.specs.declared.limits.TheConstants.{MOST_ARGUMENTS};
+ghost use Rattle.orc_ways.specs.Tokens.{many};
+ghost use Rattle.orc_ways.specs.Values.{token_of, tokens_of};
+
+use crate::scope::Scope;
+use crate::token::{
+    Token, closes, is_left_bracket, is_right_bracket, is_this, name, pattern, same_tokens,
+};
+use orc_claims::claim::Slot;
+use orc_rules::limits::MOST_ARGUMENTS;
+use orc_rules::value::Value;
+use std::alloc::{AllocError, Global};
+
+// Whether a word may follow a value, so that it is no variable.
+fn follows_value(name: &[u8]) -> bool
+    ensures { result ≡ follows name.now }
+{
+    name == b"or".as_slice()
+        || name == b"only".as_slice()
+        || name == b"after".as_slice()
+        || name == b"then".as_slice()
+        || name == b"within".as_slice()
+        || name == b"by".as_slice()
+        || name == b"at".as_slice()
+        || name == b"once".as_slice()
+        || name == b"called".as_slice()
+        || name == b"answered".as_slice()
+        || name == b"halted".as_slice()
+        || name == b"cancelled".as_slice()
+}
+
+fn begins_small(name: &[u8]) -> bool
+    ensures { result ≡ is_small name.now }
+{
+    match name {
+        [] => false,
+        [c, ..] => c.is_ascii_lowercase(),
+    }
+}
+
+fn is_variable_name(name: &[u8]) -> bool
+    ensures { result ≡ is_variable name.now }
+{
+    begins_small(name) && !follows_value(name)
+}
+
+// The place of the first token that is this word.
+fn place_in(line: &[Token<'_>], word: &[u8]) -> Option<usize>
+    ensures place { result ≡ place_of word.now (tokens_of line.now) }
+    ensures within { IfSome result (λ at. at < length line.now) }
+{
+    for (at, token) in line.iter().enumerate() {
+        if is_this(token, word) {
+            return Some(at);
+        }
+    }
+    None
+}
+
+fn slot_of_pattern(pattern: Option<Value>) -> Slot
+    ensures { result ≡ slot_of pattern }
+{
+    match pattern {
+        None => Slot::Any,
+        Some(value) => Slot::Literal(value),
+    }
+}
+
+impl Scope<'_, '_> {
+    // The variable of this name, which has the number of the place at which it stands first.
+    fn variable(self, name: &[u8]) -> Option<Slot>
+        ensures { result ≡ variable_in (tokens_of self.entry.line.now) name.now }
+    {
+        if is_variable_name(name) {
+            let at = place_in(self.line, name)?;
+            Some(Slot::Variable(at as u32))
+        } else {
+            None
+        }
+    }
+
+    /// What a token is in the place of a value: a value, `_` or a variable.
+    #[tactic(auto, unfolding(crate::specs::Claims::slot_in))]
+    pub fn slot(self, token: &Token<'_>) -> Option<Slot>
+        ensures { result ≡ slot_in (tokens_of self.entry.line.now) (token_of token.now) }
+    {
+        if let Some(pattern) = pattern(token) {
+            return Some(slot_of_pattern(pattern));
+        }
+        self.variable(name(token)?)
+    }
+
+    // A slot, whether it is the last one by the sign that follows it, and the tokens behind that.
+    fn slot_step<'t, 'b>(self, tokens: &'t [Token<'b>]) -> Option<(Slot, bool, &'t [Token<'b>])>
+        ensures { Gives (λ x. (x.0, x.1, tokens_of x.2.now)) result (slot_step (tokens_of self.entry.line.now) (tokens_of tokens.now)) }
+    {
+        match tokens {
+            [token, sign, rest @ ..] => {
+                let slot = self.slot(token)?;
+                Some((slot, closes(sign)?, rest))
+            }
+            _ => None,
+        }
+    }
+
+    // One to `MOST_ARGUMENTS` slots with commas between them, and the tokens behind their bracket.
+    fn some_slots<'t, 'b>(
+        self,
+        alloc: Global,
+        tokens: &'t [Token<'b>],
+    ) -> Result<Option<(Vec<Slot>, &'t [Token<'b>])>, AllocError>
+        ensures { IfOk result (λ o. Gives (λ x. (x.0.items, tokens_of x.1.now)) o (many (slot_step (tokens_of self.entry.line.now)) MOST_ARGUMENTS (tokens_of tokens.now))) }
+    {
+        let mut slots = Vec::new(alloc);
+        let mut rest = same_tokens(tokens);
+        for _ in 0..MOST_ARGUMENTS {
+            let Some((slot, is_last, behind)) = self.slot_step(rest) else {
+                return Ok(None);
+            };
+            slots.push(slot)?;
+            rest = same_tokens(behind);
+            if is_last {
+                return Ok(Some((slots, rest)));
+            }
+        }
+        Ok(None)
+    }
+
+    // The slots behind a bracket.
+    fn slots_behind<'t, 'b>(
+        self,
+        alloc: Global,
+        tokens: &'t [Token<'b>],
+    ) -> Result<Option<(Vec<Slot>, &'t [Token<'b>])>, AllocError>
+        ensures { IfOk result (λ o. Gives (λ x. (x.0.items, tokens_of x.1.now)) o (slots_behind (tokens_of self.entry.line.now) (tokens_of tokens.now))) }
+    {
+        match tokens {
+            [] => Ok(None),
+            [token, rest @ ..] => {
+                if is_right_bracket(token) {
+                    return Ok(Some((Vec::new(alloc), rest)));
+                }
+                self.some_slots(alloc, tokens)
+            }
+        }
+    }
+
+    /// Slots in brackets, none to `MOST_ARGUMENTS`, and the tokens behind them. The error is refused memory.
+    #[tactic(auto, unfolding(crate::specs::Claims::slots_at))]
+    pub fn slots<'t, 'b>(
+        self,
+        alloc: Global,
+        tokens: &'t [Token<'b>],
+    ) -> Result<Option<(Vec<Slot>, &'t [Token<'b>])>, AllocError>
+        ensures { IfOk result (λ o. Gives (λ x. (x.0.items, tokens_of x.1.now)) o (slots_at (tokens_of self.entry.line.now) (tokens_of tokens.now))) }
+    {
+        match tokens {
+            [] => Ok(None),
+            [token, rest @ ..] => {
+                if is_left_bracket(token) {
+                    self.slots_behind(alloc, rest)
+                } else {
+                    Ok(None)
+                }
+            }
+        }
+    }
+}
