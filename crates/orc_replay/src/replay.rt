@@ -97,6 +97,8 @@ impl From<LedgerFault> for Odd {
         match fault {
             LedgerFault::Full | LedgerFault::Limit => Odd::Limit,
             LedgerFault::Memory => Odd::Memory,
+            // A replay's claims are always got.
+            LedgerFault::Unclaimed => Odd::Other,
         }
     }
 }
