@@ -1,8 +1,7 @@
 //! One worker, which holds all tokens and waits for nobody.
 
-ghost use Rattle.std.specs.Prelude.{◌≡◌, ◌≤◌, ◌↔◌, Err, IfOk, IfErr, true, false, MatchOption};
+ghost use Rattle.std.specs.Prelude.{◌≡◌, ◌≤◌, ◌↔◌, Err, is_some, IfOk, IfErr, IfSome, true, MatchOption};
 ghost use Rattle.orc_rules.specs.declared.limits.TheConstants.{MOST_ENTRIES};
-ghost use Rattle.orc_rules.specs.Named.{HasNames};
 ghost use Rattle.orc_rules.specs.Nodes.{definitions, source};
 ghost use Rattle.orc_rules.specs.Program.{IsProgram};
 ghost use Rattle.orc_outcome.specs.Outcome.{IsPlayed};
@@ -21,23 +20,24 @@ use std::alloc::Global;
 use std::marker::Brand;
 
 /// Runs a program: entries that the rules allow, one after another, until nothing can come next or the journal has `limit` of them, cancels not
-/// counted. The cancels of a bind follow it at once. The journal's text is kept where `keeps_text`.
+/// counted. The cancels of a bind follow it at once. The journal is kept where `keeps`.
 ///
 /// What the rules leave free comes in one order where `order` is none, and in another for each number; in the same one each time.
 ///
 /// The fault is Range where the limit is 0 or over `MOST_ENTRIES`, and then alone; or Memory where memory was refused before the run began, or for
-/// what is told of it. No other comes, if the program is one that the scope check takes with the names of its sites.
+/// what is told of it. No other comes, if the program is one that the scope check takes.
 pub fn run_alone(
     alloc: Global,
     program: &Program,
     answers: &Answers,
     order: Option<u64>,
-    keeps_text: bool,
+    keeps: bool,
     limit: u64,
 ) -> Result<Played, EngineFault>
-    ensures played { IfOk result (λ p. IsPlayed program.now answers.now keeps_text limit p.summary p.published.items p.text.items) }
+    ensures played { IfOk result (λ p. IsPlayed program.now answers.now limit p.summary p.published.items p.journal) }
+    ensures kept { IfOk result (λ p. keeps ≡ true → is_some p.journal ≡ true) }
     ensures range { result ≡ Err EngineFault.Range ↔ (IsInRange 1 limit → ⊥) }
-    ensures sound { IfErr result (λ fault. IsOwn fault → IsProgram (definitions program.now) (source program.now) → HasNames program.now answers.now → ⊥) }
+    ensures sound { IfErr result (λ fault. IsOwn fault → IsProgram (definitions program.now) (source program.now) → ⊥) }
 {
     if limit < 1 || limit > MOST_ENTRIES {
         return Err(EngineFault::Range);
@@ -46,17 +46,15 @@ pub fn run_alone(
         return Err(EngineFault::Memory);
     };
     let limit = limit as usize;
-    if !keeps_text {
-        match run_graph::<Brand>(alloc, program, &graph, answers, order, false, false, limit) {
+    if !keeps {
+        match run_graph::<Brand>(alloc, program, &graph, answers, order, false, limit) {
             Ok(Some(played)) => return Ok(played),
             Ok(None) => {}
             Err(fault) => return Err(fault),
         }
     }
     // How the run ends can't be told without its journal, or the journal is wanted.
-    match run_graph::<Brand>(
-        alloc, program, &graph, answers, order, true, keeps_text, limit,
-    ) {
+    match run_graph::<Brand>(alloc, program, &graph, answers, order, true, limit) {
         Ok(Some(played)) => Ok(played),
         Ok(None) => unreachable!(),
         Err(fault) => Err(fault),
@@ -71,7 +69,6 @@ fn run_graph<P: Naming>(
     answers: &Answers,
     order: Option<u64>,
     keeps: bool,
-    keeps_text: bool,
     limit: usize,
 ) -> Result<Option<Played>, EngineFault>
     requires limit { (1 ≤ limit) × (limit ≤ MOST_ENTRIES) }
@@ -80,10 +77,10 @@ fn run_graph<P: Naming>(
     requires graph { graph.now ≡ P.listing }
     requires answers { answers.now.sites ≡ P.sites }
     requires keeps { keeps ≡ P.keeps }
-    requires text { keeps_text ≡ true → keeps ≡ true }
-    ensures played { IfOk result (λ played. MatchOption played (keeps ≡ false) (λ p. IsPlayed program.now answers.now keeps_text limit p.summary p.published.items p.text.items)) }
+    ensures played { IfOk result (λ played. IfSome played (λ p. IsPlayed program.now answers.now limit p.summary p.published.items p.journal)) }
+    ensures kept { IfOk result (λ played. keeps ≡ true → MatchOption played ⊥ (λ p. is_some p.journal ≡ true)) }
     ensures range { IfErr result (λ fault. fault ≡ EngineFault.Range → ⊥) }
-    ensures sound { IfErr result (λ fault. IsOwn fault → IsProgram (definitions program.now) (source program.now) → HasNames program.now answers.now → ⊥) }
+    ensures sound { IfErr result (λ fault. IsOwn fault → IsProgram (definitions program.now) (source program.now) → ⊥) }
 {
     let Ok(ledger) = Ledger::<P>::begin(alloc, keeps, limit, graph.root()) else {
         return Err(EngineFault::Memory);
@@ -93,7 +90,7 @@ fn run_graph<P: Naming>(
         scheduler.follow(number);
     }
     let stop = play(&mut scheduler, graph, answers);
-    scheduler.finish(program, graph, answers, stop, keeps_text)
+    scheduler.finish(program, graph, answers, stop)
 }
 
 // Turns until the run stops.

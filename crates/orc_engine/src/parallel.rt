@@ -1,10 +1,9 @@
 //! One run whose work is shared out: where many tokens stand at calls of definitions, the calls' own runs are made side by side, and taken in one after
 //! another in a fixed order. So the journal doesn't depend on which thread is quicker, nor on how many there are.
 
-ghost use Rattle.std.specs.Prelude.{◌≡◌, ◌≤◌, ◌<◌, ◌^◌, ◌↔◌, Err, IfOk, IfErr, true, false, MatchOption};
+ghost use Rattle.std.specs.Prelude.{◌≡◌, ◌≤◌, ◌<◌, ◌^◌, ◌↔◌, Err, is_some, IfOk, IfErr, IfSome, true, MatchOption};
 ghost use Rattle.std.specs.VecDeque.{deque_len};
 ghost use Rattle.orc_rules.specs.declared.limits.TheConstants.{MOST_ENTRIES};
-ghost use Rattle.orc_rules.specs.Named.{HasNames};
 ghost use Rattle.orc_rules.specs.Nodes.{definitions, source};
 ghost use Rattle.orc_rules.specs.Program.{IsProgram};
 ghost use Rattle.orc_outcome.specs.Outcome.{IsPlayed};
@@ -101,19 +100,20 @@ impl Tally {
 /// one is one where it has nothing to take in. The table answers all calls of sites. The journal is the same on any number of workers.
 ///
 /// The fault is Range where there are no workers or over `MOST_WORKERS`, or the limit is 0 or over `MOST_ENTRIES`, and then alone; or Memory as of
-/// `run_alone`. No other comes, if the program is one that the scope check takes with the names of its sites.
+/// `run_alone`. No other comes, if the program is one that the scope check takes.
 pub fn run_parallel<R: Threads + Sync>(
     rt: &R,
     alloc: Global,
     program: &Program,
     answers: &Answers,
     workers: usize,
-    keeps_text: bool,
+    keeps: bool,
     limit: u64,
 ) -> Result<Played, EngineFault>
-    ensures played { IfOk result (λ p. IsPlayed program.now answers.now keeps_text limit p.summary p.published.items p.text.items) }
+    ensures played { IfOk result (λ p. IsPlayed program.now answers.now limit p.summary p.published.items p.journal) }
+    ensures kept { IfOk result (λ p. keeps ≡ true → is_some p.journal ≡ true) }
     ensures range { result ≡ Err EngineFault.Range ↔ (IsInRange workers limit → ⊥) }
-    ensures sound { IfErr result (λ fault. IsOwn fault → IsProgram (definitions program.now) (source program.now) → HasNames program.now answers.now → ⊥) }
+    ensures sound { IfErr result (λ fault. IsOwn fault → IsProgram (definitions program.now) (source program.now) → ⊥) }
 {
     if workers < 1 || workers > MOST_WORKERS || limit < 1 || limit > MOST_ENTRIES {
         return Err(EngineFault::Range);
@@ -128,7 +128,7 @@ pub fn run_parallel<R: Threads + Sync>(
         &graph,
         answers,
         workers,
-        keeps_text,
+        keeps,
         limit as usize,
     )
 }
@@ -141,29 +141,26 @@ pub(crate) fn run_graph<R: Threads + Sync>(
     graph: &Graph,
     answers: &Answers,
     workers: usize,
-    keeps_text: bool,
+    keeps: bool,
     limit: usize,
 ) -> Result<Played, EngineFault>
     requires workers { 1 ≤ workers }
     requires limit { (1 ≤ limit) × (limit ≤ MOST_ENTRIES) }
     requires graph { graph.now ≡ program.now }
-    ensures played { IfOk result (λ p. IsPlayed program.now answers.now keeps_text limit p.summary p.published.items p.text.items) }
+    ensures played { IfOk result (λ p. IsPlayed program.now answers.now limit p.summary p.published.items p.journal) }
+    ensures kept { IfOk result (λ p. keeps ≡ true → is_some p.journal ≡ true) }
     ensures range { IfErr result (λ fault. fault ≡ EngineFault.Range → ⊥) }
-    ensures sound { IfErr result (λ fault. IsOwn fault → IsProgram (definitions program.now) (source program.now) → HasNames program.now answers.now → ⊥) }
+    ensures sound { IfErr result (λ fault. IsOwn fault → IsProgram (definitions program.now) (source program.now) → ⊥) }
 {
-    if !keeps_text {
-        match run_named::<Brand, R>(
-            rt, alloc, program, graph, answers, workers, false, false, limit,
-        ) {
+    if !keeps {
+        match run_named::<Brand, R>(rt, alloc, program, graph, answers, workers, false, limit) {
             Ok(Some(played)) => return Ok(played),
             Ok(None) => {}
             Err(fault) => return Err(fault),
         }
     }
     // How the run ends can't be told without its journal, or the journal is wanted.
-    match run_named::<Brand, R>(
-        rt, alloc, program, graph, answers, workers, true, keeps_text, limit,
-    ) {
+    match run_named::<Brand, R>(rt, alloc, program, graph, answers, workers, true, limit) {
         Ok(Some(played)) => Ok(played),
         Ok(None) => unreachable!(),
         Err(fault) => Err(fault),
@@ -179,7 +176,6 @@ fn run_named<P, R>(
     answers: &Answers,
     workers: usize,
     keeps: bool,
-    keeps_text: bool,
     limit: usize,
 ) -> Result<Option<Played>, EngineFault>
 where
@@ -192,10 +188,10 @@ where
     requires graph { graph.now ≡ P.listing }
     requires answers { answers.now.sites ≡ P.sites }
     requires keeps { keeps ≡ P.keeps }
-    requires text { keeps_text ≡ true → keeps ≡ true }
-    ensures played { IfOk result (λ played. MatchOption played (keeps ≡ false) (λ p. IsPlayed program.now answers.now keeps_text limit p.summary p.published.items p.text.items)) }
+    ensures played { IfOk result (λ played. IfSome played (λ p. IsPlayed program.now answers.now limit p.summary p.published.items p.journal)) }
+    ensures kept { IfOk result (λ played. keeps ≡ true → MatchOption played ⊥ (λ p. is_some p.journal ≡ true)) }
     ensures range { IfErr result (λ fault. fault ≡ EngineFault.Range → ⊥) }
-    ensures sound { IfErr result (λ fault. IsOwn fault → IsProgram (definitions program.now) (source program.now) → HasNames program.now answers.now → ⊥) }
+    ensures sound { IfErr result (λ fault. IsOwn fault → IsProgram (definitions program.now) (source program.now) → ⊥) }
 {
     let Ok(ledger) = Ledger::<P>::begin(alloc, keeps, limit, graph.root()) else {
         return Err(EngineFault::Memory);
@@ -211,7 +207,7 @@ where
         naming: PhantomData,
     };
     let stop = crew.play(&mut scheduler);
-    scheduler.finish(program, graph, answers, stop, keeps_text)
+    scheduler.finish(program, graph, answers, stop)
 }
 
 // The threads that run one program, the program's graph and what its sites answer.

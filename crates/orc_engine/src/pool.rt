@@ -1,9 +1,8 @@
 //! Several workers: the calling thread, and others beside it.
 
-ghost use Rattle.std.specs.Prelude.{◌≡◌, ◌≤◌, ◌↔◌, true, Err, IfOk, IfErr};
+ghost use Rattle.std.specs.Prelude.{◌≡◌, ◌≤◌, ◌↔◌, true, Err, is_some, IfOk, IfErr};
 ghost use Rattle.orc_rules.specs.declared.limits.TheConstants.{MOST_ENTRIES};
 ghost use Rattle.orc_outcome.specs.Outcome.{IsPlayed};
-ghost use Rattle.orc_rules.specs.Named.{HasNames};
 ghost use Rattle.orc_rules.specs.Nodes.{definitions, source};
 ghost use Rattle.orc_rules.specs.Program.{IsProgram};
 ghost use Rattle.orc_scheduler.specs.Faults.{IsOwn};
@@ -45,7 +44,7 @@ pub fn run_pool<R, S, G>(
     sites: &S,
     gate: &G,
     workers: usize,
-    keeps_text: bool,
+    keeps: bool,
     limit: u64,
 ) -> Result<Played, EngineFault>
 where
@@ -53,9 +52,10 @@ where
     S: Sites + Sync,
     S::Call: Send,
     G: Gate + Sync,
-    ensures played { IfOk result (λ p. IsPlayed program.now answers.now keeps_text limit p.summary p.published.items p.text.items) }
+    ensures played { IfOk result (λ p. IsPlayed program.now answers.now limit p.summary p.published.items p.journal) }
+    ensures kept { IfOk result (λ p. keeps ≡ true → is_some p.journal ≡ true) }
     ensures range { result ≡ Err EngineFault.Range ↔ (IsInRange workers limit → ⊥) }
-    ensures sound { S.by_table sites.now → G.holds_nobody gate.now → IfErr result (λ fault. IsOwn fault → IsProgram (definitions program.now) (source program.now) → HasNames program.now answers.now → ⊥) }
+    ensures sound { S.by_table sites.now → G.holds_nobody gate.now → IfErr result (λ fault. IsOwn fault → IsProgram (definitions program.now) (source program.now) → ⊥) }
 {
     if workers < 1 || workers > MOST_WORKERS || limit < 1 || limit > MOST_ENTRIES {
         return Err(EngineFault::Range);
@@ -65,12 +65,10 @@ where
     };
     let limit = limit as usize;
     if sites.goes_by_table() && gate.is_open() {
-        return parallel::run_graph(
-            rt, alloc, program, &graph, answers, workers, keeps_text, limit,
-        );
+        return parallel::run_graph(rt, alloc, program, &graph, answers, workers, keeps, limit);
     }
     run_named::<Brand, R, S, G>(
-        rt, alloc, program, &graph, answers, sites, gate, workers, keeps_text, limit,
+        rt, alloc, program, &graph, answers, sites, gate, workers, limit,
     )
 }
 
@@ -83,7 +81,6 @@ fn run_named<'x, P, R, S, G>(
     sites: &'x S,
     gate: &'x G,
     workers: usize,
-    keeps_text: bool,
     limit: usize,
 ) -> Result<Played, EngineFault>
 where
@@ -98,7 +95,8 @@ where
     requires graph { graph.now ≡ P.listing }
     requires answers { answers.now.sites ≡ P.sites }
     requires kept { P.keeps ≡ true }
-    ensures played { IfOk result (λ p. IsPlayed program.now answers.now keeps_text limit p.summary p.published.items p.text.items) }
+    ensures played { IfOk result (λ p. IsPlayed program.now answers.now limit p.summary p.published.items p.journal) }
+    ensures kept { IfOk result (λ p. is_some p.journal ≡ true) }
     ensures range { IfErr result (λ fault. fault ≡ EngineFault.Range → ⊥) }
 {
     let Ok(ledger) = Ledger::<P>::begin(alloc, true, limit, graph.root()) else {
@@ -111,7 +109,7 @@ where
     let shared = Mutex::new(Shared::new(alloc, scheduler));
     play(rt, alloc, graph, answers, &shared, sites, gate, workers);
     let (scheduler, stop) = shared.into_inner().into_desk();
-    match scheduler.finish(program, graph, answers, stop, keeps_text) {
+    match scheduler.finish(program, graph, answers, stop) {
         Ok(Some(played)) => Ok(played),
         Ok(None) => unreachable!(),
         Err(fault) => Err(fault),

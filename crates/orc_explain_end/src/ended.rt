@@ -1,5 +1,6 @@
 //! A run that has ended.
 
+use orc_journal::Journal;
 use orc_outcome::Summary;
 use orc_rules::answers::Answers;
 use orc_rules::program::Program;
@@ -11,6 +12,5 @@ pub struct Ended<'a> {
     /// What answered its calls.
     pub answers: &'a Answers,
     pub summary: Summary,
-    /// The text of its journal.
-    pub journal: &'a [u8],
+    pub journal: &'a Journal,
 }

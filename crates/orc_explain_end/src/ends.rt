@@ -6,8 +6,6 @@ use crate::replay::{Made, Replay};
 use crate::rules::Rules;
 use crate::scene::{Scene, begin, name_of, reach, say_more};
 use orc_checker::rest::Called;
-use orc_journal::Journal;
-use orc_journal_text::read_journal;
 use orc_outcome::{End, Summary};
 use orc_report::{Page, Subject};
 use orc_rules::entry::Entry;
@@ -295,15 +293,12 @@ pub fn explain_refusal(alloc: Global, summary: Summary) -> Result<String, AllocE
 
 /// The text that explains how a run of these files ended, by its journal: a line of its end, and lines below it. The error is refused memory.
 pub fn explain_end(alloc: Global, subject: &Subject, ended: &Ended) -> Result<String, AllocError> {
-    // The source was read, and the journal written before: only memory can be refused here.
+    // The source was read before: only memory can be refused here.
     let Ok(ast) = parse(alloc, subject.source.text) else {
         return Err(AllocError);
     };
     let sketch = Sketch::new(alloc, &ast)?;
-    let Ok(journal) = read_journal(alloc, ended.journal, ended.answers) else {
-        return Err(AllocError);
-    };
-    end_of(alloc, subject, ended, &sketch, &journal)
+    end_of(alloc, subject, ended, &sketch)
 }
 
 fn end_of(
@@ -311,16 +306,15 @@ fn end_of(
     subject: &Subject,
     ended: &Ended,
     sketch: &Sketch,
-    journal: &Journal,
 ) -> Result<String, AllocError> {
-    let mut replay = Replay::new(alloc, ended, sketch, journal)?;
+    let mut replay = Replay::new(alloc, ended, sketch, ended.journal)?;
     let moves = Moves::new(alloc, ended.program, &mut replay)?;
     let scene = Scene {
         alloc,
         subject,
         ended,
         sketch,
-        journal,
+        journal: ended.journal,
         replay: &replay,
     };
     let mut page = Page::new(alloc);

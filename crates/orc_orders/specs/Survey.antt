@@ -1,9 +1,11 @@
 -- What came up in many orders: each outcome once, with the number of orders that came to it.
-use Rattle.std.specs.Prelude.{◌≡◌, ◌≢◌, ◌+◌, ◌<◌, ℕ, List, [], ◌∷◌, ◌++◌, Some, false, length, nat_eq, slice_get, slice_index_or, slice_set}
+use Rattle.std.specs.Prelude.{◌≡◌, ◌≢◌, ◌+◌, ◌<◌, ℕ, List, [], ◌∷◌, ◌++◌, Some, length, nat_eq, slice_get, slice_index_or, slice_set}
 use Rattle.std.specs.List.{All, AllPairs, count_by, position}
+use Rattle.std.specs.declared.option.Option.{Option}
 use Rattle.orc_rules.specs.Sites.{Table}
 use Rattle.orc_rules.specs.Nodes.{Listing}
 use Rattle.orc_rules.specs.declared.value.Value.{Value}
+use Rattle.orc_journal.specs.Written.{Written}
 use Rattle.orc_outcome.specs.Outcome.{IsPlayed}
 use Rattle.orc_outcome.specs.declared.end.End.{End}
 use Rattle.orc_outcome.specs.declared.end.End.TheVariants as ends
@@ -17,7 +19,7 @@ pub record Came : Type 0 where
 
 -- a run of the program with these sites, within the limit, came to it, and wasn't refused memory
 abbrev pub IsOfRun : Listing → Table → ℕ → Came → Type 0
-IsOfRun l t limit c = (s : Summary) × (text : List ℕ) × IsPlayed l t false limit s c.values text × (s.end ≡ c.end) × (c.end ≢ ends.Memory)
+IsOfRun l t limit c = (s : Summary) × (journal : Option Written) × IsPlayed l t limit s c.values journal × (s.end ≡ c.end) × (c.end ≢ ends.Memory)
 
 -- the outcome that was seen is this one
 abbrev pub IsOf : Came → Seen → Type 0

@@ -2,7 +2,6 @@
 
 ghost use Rattle.std.specs.Prelude.{◌≡◌, ◌≤◌, ◌<◌, ◌+◌, ◌^◌, ◌↔◌, length, Err, IfOk, IfErr, OnOk};
 ghost use Rattle.std.specs.List.{All};
-ghost use Rattle.orc_rules.specs.Named.{HasNames};
 ghost use Rattle.orc_rules.specs.Nodes.{definitions, source};
 ghost use Rattle.orc_rules.specs.Program.{IsProgram};
 ghost use Rattle.orc_scheduler.specs.Faults.{IsOwn};
@@ -94,7 +93,7 @@ impl<R: Threads + Sync> Surveyor<'_, R> {
         requires tried { IsTried self.now.program.now self.now.answers.now self.now.limit trial.now }
         ensures counted { OnOk result ((c : Came) × IsOfRun self.now.program.now self.now.answers.now self.now.limit c × Counts order c seen.old.items seen.new.items) }
         ensures range { IfErr result (λ fault. fault ≡ EngineFault.Range → IsInRange 1 self.now.limit → ⊥) }
-        ensures sound { IfErr result (λ fault. IsOwn fault → IsProgram (definitions self.now.program.now) (source self.now.program.now) → HasNames self.now.program.now self.now.answers.now → ⊥) }
+        ensures sound { IfErr result (λ fault. IsOwn fault → IsProgram (definitions self.now.program.now) (source self.now.program.now) → ⊥) }
     {
         let played = match &trial.came {
             Ok(played) => played,
@@ -122,7 +121,7 @@ impl<R: Threads + Sync> Surveyor<'_, R> {
         requires room { first + number < 2 ^ 64 }
         ensures counted { OnOk result (IsSurvey self.now.program.now self.now.answers.now self.now.limit first seen.old.items → IsSurvey self.now.program.now self.now.answers.now self.now.limit (first + number) seen.new.items) }
         ensures range { IfErr result (λ fault. fault ≡ EngineFault.Range → IsInRange 1 self.now.limit → ⊥) }
-        ensures sound { IfErr result (λ fault. IsOwn fault → IsProgram (definitions self.now.program.now) (source self.now.program.now) → HasNames self.now.program.now self.now.answers.now → ⊥) }
+        ensures sound { IfErr result (λ fault. IsOwn fault → IsProgram (definitions self.now.program.now) (source self.now.program.now) → ⊥) }
     {
         let Ok(trials) = self.run(threads, first, number) else {
             return Err(EngineFault::Memory);
@@ -141,7 +140,7 @@ impl<R: Threads + Sync> Surveyor<'_, R> {
 /// of them.
 ///
 /// The fault is Range where there are no workers or over `MOST_WORKERS`, or the limit is 0 or over `MOST_ENTRIES`, and then alone; or Memory where memory
-/// was refused. No other comes, if the program is one that the scope check takes with the names of its sites.
+/// was refused. No other comes, if the program is one that the scope check takes.
 #[tactic(auto, using(crate::proofs::Counting::none_yet))]
 pub fn survey<R: Threads + Sync>(
     rt: &R,
@@ -154,7 +153,7 @@ pub fn survey<R: Threads + Sync>(
 ) -> Result<Vec<Seen>, EngineFault>
     ensures surveyed { IfOk result (λ seen. IsSurvey program.now answers.now limit orders seen.items) }
     ensures range { result ≡ Err EngineFault.Range ↔ (IsInRange workers limit → ⊥) }
-    ensures sound { IfErr result (λ fault. IsOwn fault → IsProgram (definitions program.now) (source program.now) → HasNames program.now answers.now → ⊥) }
+    ensures sound { IfErr result (λ fault. IsOwn fault → IsProgram (definitions program.now) (source program.now) → ⊥) }
 {
     if workers < 1 || workers > MOST_WORKERS || limit < 1 || limit > MOST_ENTRIES {
         return Err(EngineFault::Range);

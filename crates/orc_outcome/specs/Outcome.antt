@@ -1,5 +1,6 @@
 -- What a run of a program is.
-use Rattle.std.specs.Prelude.{◌≡◌, ◌≤◌, ℕ, List, [], length, Bool, true}
+use Rattle.std.specs.Prelude.{◌≡◌, ◌≤◌, ℕ, List, [], length, true, IfSome}
+use Rattle.std.specs.declared.option.Option.{Option}
 use Rattle.orc_rules.specs.declared.value.Value.{Value}
 use Rattle.orc_rules.specs.declared.entry.Entry.{Entry}
 use Rattle.orc_rules.specs.Term.{Halted}
@@ -11,8 +12,7 @@ use Rattle.orc_rules.specs.Journal.{Place, Journal, begin, moment}
 use Rattle.orc_rules.specs.Trace.{published}
 use Rattle.orc_journal.specs.declared.journal.Version.TheVariants.{Two}
 use Rattle.orc_journal.specs.Sizes.{IsCrowded}
-use Rattle.orc_journal.specs.Written.{count}
-use Rattle.orc_journal_text.specs.Texts.{AreOf, journal_text}
+use Rattle.orc_journal.specs.Written.{Written, count}
 use Rattle.orc_outcome.specs.declared.end.End.{End}
 use Rattle.orc_outcome.specs.declared.end.End.TheVariants as ends
 use Rattle.orc_outcome.specs.declared.end.Summary.{Summary}
@@ -20,10 +20,6 @@ use Rattle.orc_outcome.specs.declared.end.Summary.{Summary}
 -- what a run goes by: the program's definitions and the sites, with cancels recorded
 abbrev pub context : Listing → Table → Context
 context l t = record { definitions = definitions l; sites = t.sites; cancels = true }
-
--- the text of the journal with these entries, in the second version
-abbrev pub text_of : List (List ℕ) → List Entry → List ℕ
-text_of names es = journal_text names (record { version = Two; entries = es })
 
 -- a run with this limit of entries, cancels not counted, ends so: Halted where its term has halted, Quiet by the definition of quiet, Limit with as many entries as the limit where it isn't quiet, Full only where one of the engine's numbers can have been reached
 abbrev pub EndsAt : Context → ℕ → List Entry → Place → End → Type 0
@@ -55,11 +51,10 @@ pub record Tells (s : Summary) (o : Outcome) : Type 0 where
   pub now : s.now ≡ o.now
   pub published : s.published ≡ length (published o.journal)
 
--- what an engine owes: a run of the program with these sites, of which the summary tells, with what it published; and where the journal is kept its text, in which each entry has a line
-pub record IsPlayed (l : Listing) (t : Table) (keeps : Bool) (limit : ℕ) (s : Summary) (values : List Value) (text : List ℕ) : Type 0 where
+-- what an engine owes: a run of the program with these sites, of which the summary tells, with what it published, and the run's journal if there is one
+pub record IsPlayed (l : Listing) (t : Table) (limit : ℕ) (s : Summary) (values : List Value) (journal : Option Written) : Type 0 where
   pub outcome : Outcome
   pub is_run : IsRun l t limit outcome
   pub tells : Tells s outcome
   pub shows : values ≡ published outcome.journal
-  pub writes : keeps ≡ true → text ≡ text_of t.names outcome.journal
-  pub fits : keeps ≡ true → AreOf t.names Two outcome.journal
+  pub is_its : IfSome journal (λ j. j ≡ record { version = Two; entries = outcome.journal })

@@ -1,6 +1,7 @@
 //! What an engine answers.
 
 use crate::end::Summary;
+use orc_journal::Journal;
 use orc_rules::value::Value;
 
 /// A run that has ended.
@@ -8,8 +9,8 @@ pub struct Played {
     pub summary: Summary,
     /// What it published, in order.
     pub published: Vec<Value>,
-    /// Its journal's text in the second version, where it was to be kept; else of no meaning.
-    pub text: Vec<u8>,
+    /// Its journal in the second version, where it was kept.
+    pub journal: Option<Journal>,
 }
 
 // Written out, so that a caller's proof sees one call and not the drop of each field.
@@ -18,7 +19,7 @@ impl Drop for Played {
         let Played {
             summary: _,
             published: _,
-            text: _,
+            journal: _,
         } = self;
     }
 }

@@ -1,6 +1,6 @@
-//! A run so far: the marked term that its journal has reached, and what is kept of the journal.
+//! A run so far: its journal, and the marked term that this has reached.
 
-ghost use Rattle.std.specs.Prelude.{◌≡◌, ◌↔◌, ◌+◌, ◌<◌, ◌^◌, ◌++◌, ◌∷◌, [], ℕ, Bool, true, IfOk, OnOk, OnErr, vec_len, vec_capacity};
+ghost use Rattle.std.specs.Prelude.{◌≡◌, ◌↔◌, ◌<◌, ◌++◌, ◌∷◌, [], ℕ, true, IfOk, OnOk, OnErr, vec_len, vec_capacity};
 ghost use Rattle.orc_rules.specs.Journal.{Place, moment};
 ghost use Rattle.orc_outcome.specs.Outcome.{IsPlayed};
 ghost use Rattle.orc_rules.specs.Nodes.{Listing, code, definitions};
@@ -10,8 +10,8 @@ ghost use Rattle.orc_rules.specs.Trace.{published};
 ghost use Rattle.orc_checker.specs.Checker.{Spells};
 ghost use Rattle.orc_reference.specs.Stories.{IsReached, Grows, HasEnded};
 
-use crate::lines::Lines;
 use orc_checker::{Marked, Side};
+use orc_journal::{Journal, Version};
 use orc_outcome::{End, Played, Summary};
 use orc_rules::answers::Answers;
 use orc_rules::entry::{Entry, RuleFault};
@@ -20,13 +20,12 @@ use orc_rules::value::Value;
 use std::alloc::{AllocError, Global};
 use std::marker::Model;
 
-/// A run so far. Of its journal the publications and the number of entries are kept, and the text where it is asked for.
+/// A run so far, with what it has published.
 #[derive(Drop)]
 pub struct History {
     marked: Marked,
     published: Vec<Value>,
-    entries: u64,
-    lines: Lines,
+    journal: Journal,
 }
 
 impl Model for History {
@@ -34,7 +33,7 @@ impl Model for History {
 
     ghost Value = { Story };
 
-    ghost view = { λ h. record { marked = h.marked; published = h.published.items; entries = h.entries; lines = h.lines } };
+    ghost view = { λ h. record { marked = h.marked; published = h.published.items; journal = h.journal } };
 }
 
 // The publication of an entry, at the end of those before it.
@@ -49,25 +48,18 @@ fn note(values: &mut Vec<Value>, entry: &Entry)
 }
 
 impl History {
-    /// The empty journal of a program, with its text where `keeps_text`.
-    pub fn new(alloc: Global, program: &Program, keeps_text: bool) -> Result<History, AllocError>
-        ensures { (t : Table) → IfOk result (IsReached program.now t keeps_text 0) }
+    /// The empty journal of a program. The error is refused memory.
+    pub fn new(alloc: Global, program: &Program) -> Result<History, AllocError>
+        ensures { (t : Table) → IfOk result (IsReached program.now t 0) }
     {
-        let lines = if keeps_text {
-            Lines::kept(alloc)?
-        } else {
-            Lines::none(alloc)
-        };
         Ok(History {
             marked: Marked::new(alloc, program, true)?,
             published: Vec::new(alloc),
-            entries: 0,
-            lines,
+            journal: Journal::new(alloc, Version::Two),
         })
     }
 
-    /// Adds an entry that the rules allow next. After a fault nothing has changed. Memory for the cancels that an entry can leave due is
-    /// reserved with it, so that they don't fail; no clause says so.
+    /// Adds an entry that the rules allow next. After a fault nothing has changed.
     pub fn record(
         &mut self,
         program: &Program,
@@ -77,20 +69,18 @@ impl History {
         ensures grows { OnOk result (Grows program.now answers.now entry.now self.old self.new) }
         ensures refused { OnErr result (self.new ≡ self.old) }
     {
-        let Some(entries) = self.entries.checked_add(1) else {
-            return Err(RuleFault::Memory);
-        };
         if self.published.try_reserve(1).is_err() {
             return Err(RuleFault::Memory);
         }
-        let so_far = self.lines.len();
-        self.lines.add(entry, answers)?;
+        let so_far = self.journal.len();
+        if self.journal.push(entry).is_err() {
+            return Err(RuleFault::Memory);
+        }
         if let Err(fault) = self.marked.step(program, answers, entry) {
-            self.lines.cut(so_far);
+            self.journal.truncate(so_far);
             return Err(fault);
         }
         note(&mut self.published, entry);
-        self.entries = entries;
         Ok(())
     }
 
@@ -116,25 +106,24 @@ impl History {
         self.marked.is_quiet(program)
     }
 
-    /// What is kept of the run, once it has ended so.
+    /// What is told of the run, once it has ended so.
     pub fn played(self, end: End) -> Played
-        ensures { (l : Listing) (t : Table) (keeps : Bool) (limit : ℕ) → HasEnded l t keeps limit self end → IsPlayed l t keeps limit result.summary result.published.items result.text.items }
+        ensures { (l : Listing) (t : Table) (limit : ℕ) → HasEnded l t limit self end → IsPlayed l t limit result.summary result.published.items result.journal }
     {
         let History {
             marked,
             published,
-            entries,
-            lines,
+            journal,
         } = self;
         Played {
             summary: Summary {
                 end,
-                entries,
+                entries: journal.len() as u64,
                 now: marked.now(),
                 published: published.len() as u64,
             },
             published,
-            text: lines.into_text(),
+            journal: Some(journal),
         }
     }
 }

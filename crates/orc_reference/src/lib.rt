@@ -3,7 +3,6 @@
 
 mod agenda;
 mod history;
-mod lines;
 mod reference;
 
 pub use reference::play;

@@ -1,6 +1,6 @@
 //! The loop of the engine.
 
-ghost use Rattle.std.specs.Prelude.{◌≡◌, ◌+◌, ◌<◌, ◌≤◌, ◌^◌, ℕ, Bool, IfOk, OnOk};
+ghost use Rattle.std.specs.Prelude.{◌≡◌, ◌+◌, ◌<◌, ◌≤◌, ◌^◌, ℕ, IfOk, OnOk};
 ghost use Rattle.orc_outcome.specs.Outcome.{IsPlayed};
 ghost use Rattle.orc_reference.specs.Stories.{IsReached, HasEnded, Settles};
 ghost use Rattle.orc_rules.specs.Sites.{Table};
@@ -15,7 +15,7 @@ use std::alloc::Global;
 
 // How a run ends where nothing can come next.
 fn rest(history: &mut History, program: &Program) -> Result<End, PlayFault>
-    ensures { (t : Table) (keeps : Bool) (turns limit : ℕ) → turns ≤ limit → IsReached program.now t keeps turns history.old → IfOk result (HasEnded program.now t keeps limit history.new) }
+    ensures { (t : Table) (turns limit : ℕ) → turns ≤ limit → IsReached program.now t turns history.old → IfOk result (HasEnded program.now t limit history.new) }
 {
     if history.marked().has_halted() {
         return Ok(End::Halted);
@@ -28,7 +28,7 @@ fn rest(history: &mut History, program: &Program) -> Result<End, PlayFault>
 
 // How a run ends whose journal has as many entries as the limit.
 fn cut(history: &mut History, program: &Program, limit: u64) -> End
-    ensures { (t : Table) (keeps : Bool) → IsReached program.now t keeps limit history.old → HasEnded program.now t keeps limit history.new result }
+    ensures { (t : Table) → IsReached program.now t limit history.old → HasEnded program.now t limit history.new result }
 {
     if !history.is_quiet(program) {
         return End::Limit;
@@ -63,7 +63,7 @@ fn proceed(
     answers: &Answers,
     limit: u64,
 ) -> Result<End, PlayFault>
-    ensures { (keeps : Bool) → IsReached program.now answers.now keeps 0 history.old → IfOk result (HasEnded program.now answers.now keeps limit history.new) }
+    ensures { IsReached program.now answers.now 0 history.old → IfOk result (HasEnded program.now answers.now limit history.new) }
 {
     for _turn in 0..limit {
         let side = history.halted_side();
@@ -91,19 +91,18 @@ fn proceed(
 }
 
 /// Runs a program: entries that the rules allow, one after another, until nothing can come next or the journal has `limit` of them, cancels not
-/// counted. The cancels of a bind follow it at once. The journal's text is kept where `keeps_text`.
+/// counted. The cancels of a bind follow it at once. The journal is kept.
 ///
 /// The fault is Memory where memory was refused before the run began; or Broken where the rules refuse an entry that was to come next.
 pub fn play(
     alloc: Global,
     program: &Program,
     answers: &Answers,
-    keeps_text: bool,
     limit: u64,
 ) -> Result<Played, PlayFault>
-    ensures { IfOk result (λ p. IsPlayed program.now answers.now keeps_text limit p.summary p.published.items p.text.items) }
+    ensures { IfOk result (λ p. IsPlayed program.now answers.now limit p.summary p.published.items p.journal) }
 {
-    let Ok(mut history) = History::new(alloc, program, keeps_text) else {
+    let Ok(mut history) = History::new(alloc, program) else {
         return Err(PlayFault::Memory);
     };
     let Ok(mut agenda) = Agenda::new(alloc) else {

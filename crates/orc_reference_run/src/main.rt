@@ -13,7 +13,7 @@ fn summary_of(alloc: Global, source: &[u8], script: &[u8], limit: u64) -> Option
     let Ok(loaded) = load(alloc, source, script) else {
         return None;
     };
-    match play(alloc, &loaded.program, &loaded.answers, false, limit) {
+    match play(alloc, &loaded.program, &loaded.answers, limit) {
         Ok(played) => Some(played.summary),
         Err(_) => None,
     }

@@ -2,7 +2,7 @@
 
 ghost use Rattle.std.specs.Prelude.{◌<◌, ◌≤◌};
 
-use crate::replay_text;
+use crate::replay::{Stop, replay_journal};
 use orc_engine::run_alone;
 use orc_load::load;
 use orc_outcome::{End, Played};
@@ -180,6 +180,14 @@ fn run(alloc: Global, source: &[u8]) -> Option<Played> {
     run_alone(alloc, &loaded.program, &loaded.answers, None, true, ENTRIES).ok()
 }
 
+// Replays the journal that a run has kept. Tells how many entries it has, and how it stands at its end.
+fn replay(alloc: Global, source: &[u8], played: &Played) -> Option<Result<(usize, State), Stop>> {
+    let loaded = load(alloc, source, SCRIPT).ok()?;
+    let journal = played.journal.as_ref()?;
+    let state = replay_journal(alloc, &loaded.program, &loaded.answers, journal);
+    Some(state.map(|state| (journal.len(), state)))
+}
+
 // Whether a run may end so in a place of which the ledger says this. Where the limit cuts a run, the last moves of marks may be left.
 fn fits(end: End, state: State) -> bool {
     match end {
@@ -199,9 +207,12 @@ fn replays_random_programs(rt: HostRuntime) -> Result<(), Fail> {
         let played = run(alloc, source.as_bytes());
         assert!(rt; played.is_some(), "seed {seed}: {source}");
         if let Some(played) = played {
-            let replayed = replay_text(alloc, source.as_bytes(), SCRIPT, &played.text);
-            assert!(rt; replayed.is_ok(), "seed {seed}: {source} {replayed:?}");
-            if let Ok((entries, state)) = replayed {
+            let replayed = replay(alloc, source.as_bytes(), &played);
+            assert!(rt;
+                matches!(replayed, Some(Ok(_))),
+                "seed {seed}: {source} {replayed:?}"
+            );
+            if let Some(Ok((entries, state))) = replayed {
                 assert_eq!(rt;
                     entries as u64,
                     played.summary.entries,

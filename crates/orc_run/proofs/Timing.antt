@@ -1,74 +1,35 @@
--- Reading on in a journal's text, and telling when it publishes what.
-use Rattle.std.proofs.Common.{◌≡◌, ℕ, List, [], ◌∷◌, ◌++◌, length, Option, Some, None, refl, sym, ap, subst, ◌∙◌, append_assoc, length-append, arith}
-use Rattle.std.specs.Prelude.{codes}
-use Rattle.std.proofs.lemmas.List.{append-nil}
+-- Telling entry by entry when a journal publishes what.
+use Rattle.std.proofs.Common.{◌≡◌, ℕ, zero, suc, ◌+◌, List, [], ◌∷◌, ◌++◌, drop, Some, refl, sym, ap, ◌∙◌, append_assoc, arith}
+use Rattle.std.specs.Prelude.{slice_get}
 use Rattle.orc_rules.specs.declared.value.Value.{Value}
 use Rattle.orc_rules.specs.declared.entry.Entry.{Entry}
 use Rattle.orc_rules.specs.declared.entry.Entry.TheVariants.{End, Fork, Seq, Other, Def, Void, Open, Send, Call, Return, ReturnHalt, Bind, Lost, Right, Publish, Tick, Cancel}
-use Rattle.orc_rules.specs.Digits.{Gives}
-use Rattle.orc_rules.specs.Text.{word, fields, line, Fits}
-use Rattle.orc_journal.specs.declared.journal.Version.TheVariants.{Two}
-use Rattle.orc_journal_text.specs.Texts.{AreOf, entry_lines}
 use Rattle.orc_journal_text.proofs.Codes.{same_some}
+use Rattle.orc_journal_text.proofs.Stripping.{none_some}
 use Rattle.orc_run.specs.Times.{timed, timed_line}
 
--- the lines of these entries are left, and what they publish from this time on is left to tell
-pub record IsLeft (names : List (List ℕ)) (now : ℕ) (rest told : List ℕ) (es ds : List Entry) : Type 0 where
-  pub each : AreOf names Two ds
-  pub whole : rest ≡ entry_lines names ds
-  pub tells : timed 0 es ≡ told ++ timed now ds
+-- the entry at a place is the first of those from there on
+first_from : (es : List Entry) (i : ℕ) (e : Entry) → slice_get es i ≡ Some e → drop i es ≡ e ∷ drop (i + 1) es
+first_from [] zero e is = absurd (none_some e (sym is))
+first_from [] (suc i) e is = absurd (none_some e (sym is))
+first_from (f ∷ fs) zero e is = ap (λ (g : Entry). g ∷ fs) (same_some f e is)
+first_from (f ∷ fs) (suc i) e is =
+    let on : suc (i + 1) ≡ suc i + 1 = omega arith in
+    first_from fs i e is ∙ ap (λ (n : ℕ). e ∷ drop n (f ∷ fs)) on
 
--- this entry is the first of those that are left, and these are the lines of the others
-pub record IsFirst (names : List (List ℕ)) (ds : List Entry) (e : Entry) (more : List ℕ) : Type 0 where
-  pub others : List Entry
-  pub split : ds ≡ e ∷ others
-  pub each : AreOf names Two others
-  pub whole : more ≡ entry_lines names others
+module _ (es : List Entry) (told : List ℕ) (now i : ℕ) (so_far : timed 0 es ≡ told ++ timed now (drop i es)) (e : Entry) (here : slice_get es i ≡ Some e) where
+  tells : timed 0 es ≡ told ++ timed now (e ∷ drop (i + 1) es)
+  tells = so_far ∙ ap (λ (fs : List Entry). told ++ timed now fs) (first_from es i e here)
 
--- ---- the entry that is read
+  pub publishes : (s : ℕ) (v : Value) → e ≡ Publish s v → timed 0 es ≡ (told ++ timed_line v now) ++ timed now (drop (i + 1) es)
+  publishes s v is = tells ∙ ap (λ (f : Entry). told ++ timed now (f ∷ drop (i + 1) es)) is ∙ sym (append_assoc told (timed_line v now) (timed now (drop (i + 1) es)))
 
--- a line isn't empty
-not_empty : (names : List (List ℕ)) (e : Entry) (more : List ℕ) → [] ≡ line names e ++ more → ⊥
-not_empty names e more is = omega (arith, ap length is, length-append (line names e) more, length-append (word e) (fields names e ++ codes "\n"), length-append (fields names e) (codes "\n"))
+  pub ticks : (t : ℕ) → e ≡ Tick t → timed 0 es ≡ told ++ timed t (drop (i + 1) es)
+  ticks t is = tells ∙ ap (λ (f : Entry). told ++ timed now (f ∷ drop (i + 1) es)) is
 
-module _ {X : Type 0} (view : X → Entry × List ℕ) (names : List (List ℕ)) (rest : List ℕ) (result : Option X) (only : (e : Entry) (more : List ℕ) → Fits names e → rest ≡ line names e ++ more → Gives {Y = Entry × List ℕ} view result (Some (e, more))) where
-  pub first_of : (ds : List Entry) → AreOf names Two ds → rest ≡ entry_lines names ds → (x : X) → result ≡ Some x → rest ≡ line names (view x).0 ++ (view x).1 → IsFirst names ds (view x).0 (view x).1
-  first_of [] each whole x is found = absurd (not_empty names (view x).0 (view x).1 (sym whole ∙ found))
-  first_of (e ∷ ds) each whole x is found =
-      let lines = entry_lines names ds in
-      let given : ◌≡◌ {A = Option (Entry × List ℕ)} (Some (e, lines)) (Some (view x)) = subst (λ (r : Option X). Gives {Y = Entry × List ℕ} view r (Some (e, lines))) is (only e lines each.0 whole) in
-      let same : (e, lines) ≡ view x = same_some (e, lines) (view x) given in
-      record { others = ds; split = ap (λ (y : Entry × List ℕ). y.0 ∷ ds) same; each = each.2; whole = ap (λ (y : Entry × List ℕ). y.1) (sym same) }
-
-  pub none_left : (ds : List Entry) → AreOf names Two ds → rest ≡ entry_lines names ds → result ≡ None → ds ≡ []
-  none_left [] each whole is = refl
-  none_left (e ∷ ds) each whole is =
-      let given : ◌≡◌ {A = Option (Entry × List ℕ)} (Some (e, entry_lines names ds)) None = subst (λ (r : Option X). Gives {Y = Entry × List ℕ} view r (Some (e, entry_lines names ds))) is (only e (entry_lines names ds) each.0 whole) in
-      cc given
-
--- ---- what is told of it
-
-module _ (names : List (List ℕ)) (now : ℕ) (rest told more : List ℕ) (es ds : List Entry) (left : IsLeft names now rest told es ds) (e : Entry) (first : IsFirst names ds e more) where
-  tells : timed 0 es ≡ told ++ timed now (e ∷ first.others)
-  tells = left.tells ∙ ap (λ (fs : List Entry). told ++ timed now fs) first.split
-
-  pub publishes : (s : ℕ) (v : Value) → e ≡ Publish s v → IsLeft names now more (told ++ timed_line v now) es first.others
-  publishes s v is = record {
-    each = first.each;
-    whole = first.whole;
-    tells = tells ∙ ap (λ (f : Entry). told ++ timed now (f ∷ first.others)) is ∙ sym (append_assoc told (timed_line v now) (timed now first.others));
-  }
-
-  pub ticks : (t : ℕ) → e ≡ Tick t → IsLeft names t more told es first.others
-  ticks t is = record {
-    each = first.each;
-    whole = first.whole;
-    tells = tells ∙ ap (λ (f : Entry). told ++ timed now (f ∷ first.others)) is;
-  }
-
-  pub goes_on : ((s : ℕ) (v : Value) → e ≡ Publish s v → ⊥) → ((t : ℕ) → e ≡ Tick t → ⊥) → IsLeft names now more told es first.others
-  goes_on values times = record { each = first.each; whole = first.whole; tells = tells ∙ ap (λ (text : List ℕ). told ++ text) (silent e values times) } where
-    silent : (f : Entry) → ((s : ℕ) (v : Value) → f ≡ Publish s v → ⊥) → ((t : ℕ) → f ≡ Tick t → ⊥) → timed now (f ∷ first.others) ≡ timed now first.others
+  pub goes_on : ((s : ℕ) (v : Value) → e ≡ Publish s v → ⊥) → ((t : ℕ) → e ≡ Tick t → ⊥) → timed 0 es ≡ told ++ timed now (drop (i + 1) es)
+  goes_on values times = tells ∙ ap (λ (text : List ℕ). told ++ text) (silent e values times) where
+    silent : (f : Entry) → ((s : ℕ) (v : Value) → f ≡ Publish s v → ⊥) → ((t : ℕ) → f ≡ Tick t → ⊥) → timed now (f ∷ drop (i + 1) es) ≡ timed now (drop (i + 1) es)
     silent (Publish s v) values times = absurd (values s v refl)
     silent (Tick t) values times = absurd (times t refl)
     silent (End s) values times = refl
@@ -86,7 +47,3 @@ module _ (names : List (List ℕ)) (now : ℕ) (rest told more : List ℕ) (es d
     silent (Lost c) values times = refl
     silent (Right s a) values times = refl
     silent (Cancel k) values times = refl
-
--- all is told where no entry is left
-pub all_told : (names : List (List ℕ)) (now : ℕ) (rest told : List ℕ) (es ds : List Entry) → IsLeft names now rest told es ds → ds ≡ [] → told ≡ timed 0 es
-all_told names now rest told es ds left none = sym (left.tells ∙ ap (λ (fs : List Entry). told ++ timed now fs) none ∙ append-nil told)

@@ -1,5 +1,5 @@
 -- What the run of a source does.
-use Rattle.std.specs.Prelude.{◌≡◌, ℕ, List, true}
+use Rattle.std.specs.Prelude.{◌≡◌, ℕ, List, true, is_some, IfSome}
 use Rattle.std.specs.declared.option.Option.{Option}
 use Rattle.std.specs.Io.KnownBytes.{Keeps, Appends}
 use Rattle.orc_rules.specs.Sites.{Table}
@@ -9,16 +9,17 @@ use Rattle.orc_rules.specs.Trace.{published}
 use Rattle.orc_rules.specs.declared.entry.Entry.{Entry}
 use Rattle.orc_rules.specs.declared.value.Value.{Value}
 use Rattle.orc_journal.specs.declared.journal.Version.TheVariants.{Two}
-use Rattle.orc_journal_text.specs.Texts.{AreOf}
+use Rattle.orc_journal_text.specs.Texts.{AreOf, journal_text}
 use Rattle.orc_site.specs.Script.{Says}
 use Rattle.orc_load.specs.Loading.{IsProgramOf, Loads, IsLoadFault}
 use Rattle.orc_load.specs.declared.fault.LoadFault.{LoadFault}
 use Rattle.orc_load.specs.declared.fault.LoadFault.TheVariants as load
-use Rattle.orc_outcome.specs.Outcome.{Outcome, IsRun, Tells, text_of}
+use Rattle.orc_journal.specs.Written.{Written}
+use Rattle.orc_outcome.specs.Outcome.{Outcome, IsRun, Tells}
 use Rattle.orc_outcome.specs.declared.end.Summary.{Summary}
 use Rattle.orc_scheduler.specs.Faults.{IsOwn}
 use Rattle.orc_run.specs.Output.{AppendsPrefix}
-use Rattle.orc_run.specs.Times.{IsTextOf, timed}
+use Rattle.orc_run.specs.Times.{timed}
 use Rattle.orc_cli.specs.Wanted.{keeps_journal}
 use Rattle.orc_cli.specs.declared.job.Options.{Options}
 use Rattle.orc_cli.specs.declared.job.Wanted.{Wanted}
@@ -30,12 +31,13 @@ use Rattle.orc_run.specs.declared.faults.RunFault.TheVariants as fault
 abbrev pub written : Wanted → List (List ℕ) → List Entry → List ℕ
 written wanted.Values names es = output (published es)
 written wanted.Times names es = timed 0 es
-written wanted.Journal names es = text_of names es
+written wanted.Journal names es = journal_text names (record { version = Two; entries = es })
 
--- the values and the text that an engine answers are those of this journal, whose text is kept where that is wanted
-pub record Shows (w : Wanted) (names : List (List ℕ)) (values : List Value) (text : List ℕ) (es : List Entry) : Type 0 where
+-- the values and the journal that an engine answers are those of these entries, and the journal is there where that is wanted
+pub record Shows (w : Wanted) (values : List Value) (journal : Option Written) (es : List Entry) : Type 0 where
   pub shows : values ≡ published es
-  pub keeps : keeps_journal w ≡ true → IsTextOf names text es
+  pub is_its : IfSome journal (λ j. j ≡ record { version = Two; entries = es })
+  pub kept : keeps_journal w ≡ true → is_some journal ≡ true
 
 -- a run of the program with these sites, of which the summary tells and the text shows what is wanted; each entry of a journal that is written has a line
 pub record IsTold (l : Listing) (t : Table) (options : Options) (s : Summary) (text : List ℕ) : Type 0 where
@@ -53,9 +55,13 @@ Runs source script options s text = (l : Listing) × (t : Table) × Says script 
 abbrev pub Ran : List ℕ → List ℕ → Options → Option (List ℕ) → Option (List ℕ) → Summary → Type 0
 Ran source script options old new s = (text : List ℕ) × Runs source script options s text × Appends old new text
 
+-- a prefix was written of what is wanted of a run of the source's program with the sites that the script says
+abbrev pub LeavesPart : List ℕ → List ℕ → Options → Option (List ℕ) → Option (List ℕ) → Type 0
+LeavesPart source script options old new = (l : Listing) × (t : Table) × (outcome : Outcome) × Says script t × IsProgramOf source t l × IsRun l t options.limit outcome × AppendsPrefix old new (written options.wanted t.names outcome.journal)
+
 -- at a fault nothing was written, or at a write fault a prefix of the text of a run
 abbrev pub LeavesAtFault : List ℕ → List ℕ → Options → Option (List ℕ) → Option (List ℕ) → RunFault → Type 0
-LeavesAtFault source script options old new (fault.Write w) = (s : Summary) × (text : List ℕ) × Runs source script options s text × AppendsPrefix old new text
+LeavesAtFault source script options old new (fault.Write w) = LeavesPart source script options old new
 LeavesAtFault source script options old new _ = Keeps old new
 
 -- a fault of the source or of its script, as a run's

@@ -15,7 +15,7 @@ use crate::outcomes::survey_text;
 use crate::output::WriteFault;
 use crate::picture::{Undrawn, draw_text};
 use crate::printer::print_text;
-use crate::runner::run_text;
+use crate::runner::run_source;
 use clap::error::ErrorKind;
 use orc_cli::{Asked, Job, Options, Ranges, SurveyOptions, read_words};
 use orc_explain_fault::Unread;
@@ -94,18 +94,19 @@ fn run_file<'a, R: Threads + Wait + Sync, F: Files, W: Write>(
 {
     let source = read(file, files)?;
     let answers = read_script(alloc, script, files)?;
-    match run_text(
+    match run_source(
         rt,
         alloc,
         source.as_slice(),
         answers.as_slice(),
         options,
+        explained.is_asked(),
         out,
     ) {
-        Ok(summary) => {
+        Ok((loaded, played)) => {
             let subject = subject_of(file, source.as_slice(), script, answers.as_slice());
-            explained.ended(rt, alloc, &subject, options, summary);
-            Ok(summary.end.status())
+            explained.ended(alloc, &subject, &loaded, &played);
+            Ok(played.summary.end.status())
         }
         Err(fault) => {
             let subject = subject_of(file, source.as_slice(), script, answers.as_slice());

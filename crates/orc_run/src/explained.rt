@@ -10,17 +10,15 @@ use crate::faults::RunFault;
 use crate::inputs::{ReadFault, title_of};
 use crate::output::{WriteFault, write_text};
 use crate::run_end::explain_run;
-use orc_cli::Options;
 use orc_engine::EngineFault;
 use orc_explain_fault::{Fault, explain, explain_refused, explain_rows, explain_unread};
 use orc_explain_refusal::explain_refusal;
-use orc_outcome::Summary;
+use orc_load::Loaded;
+use orc_outcome::Played;
 use orc_report::{Document, Subject};
 use orc_verdict::CheckFault;
 use std::alloc::{AllocError, Global};
 use std::io::Write;
-use std::sync::Wait;
-use std::thread::Threads;
 
 /// What explains a failure, or how a run ended.
 #[derive(Drop)]
@@ -104,18 +102,11 @@ impl Explained {
     }
 
     /// Explains in the same way how a run of these files ended.
-    pub fn ended<R: Threads + Wait + Sync>(
-        &mut self,
-        rt: &R,
-        alloc: Global,
-        subject: &Subject,
-        options: &Options,
-        summary: Summary,
-    )
+    pub fn ended(&mut self, alloc: Global, subject: &Subject, loaded: &Loaded, played: &Played)
         ensures { self.old ≡ Unasked → self.new ≡ Unasked }
     {
         if self.is_asked() {
-            self.tell(explain_run(rt, alloc, subject, options, summary));
+            self.tell(explain_run(alloc, subject, loaded, played));
         }
     }
 

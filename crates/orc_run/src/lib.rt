@@ -10,6 +10,7 @@ mod judge;
 mod outcomes;
 mod output;
 mod picture;
+mod pieces;
 mod printer;
 mod publications;
 mod run_end;

@@ -1,9 +1,10 @@
 //! From a source text to what its run published.
 
-ghost use Rattle.std.specs.Prelude.{◌≡◌, ◌↔◌, ℕ, List, length, Err, IfOk, IfErr, OnOk, OnErr};
+ghost use Rattle.std.specs.Prelude.{◌≡◌, ◌↔◌, List, true, is_some, Err, IfOk, IfErr, OnOk, OnErr};
 ghost use Rattle.std.specs.Io.KnownBytes.{Appends};
 ghost use Rattle.orc_rules.specs.declared.entry.Entry.{Entry};
-ghost use Rattle.orc_rules.specs.Named.{HasNames};
+ghost use Rattle.orc_journal.specs.declared.journal.Version.TheVariants.{Two};
+ghost use Rattle.orc_journal_text.specs.Texts.{AreOf};
 ghost use Rattle.orc_rules.specs.Nodes.{definitions, source};
 ghost use Rattle.orc_rules.specs.Program.{IsProgram};
 ghost use Rattle.orc_outcome.specs.Outcome.{IsPlayed};
@@ -12,9 +13,11 @@ ghost use Rattle.orc_engine.specs.Ranges.{IsInRange};
 ghost use Rattle.orc_run.specs.Output.{AppendsPrefix};
 ghost use Rattle.orc_run.specs.Running.{Ran, LeavesAtFault, IsFaultOf, IsOther, IsOwnOf, Shows, written};
 ghost use Rattle.orc_cli.specs.Wanted.{keeps_journal};
+ghost use Rattle.orc_cli.specs.declared.job.Wanted.TheVariants as what;
 
 use crate::faults::RunFault;
-use crate::output::{WriteFault, write_text};
+use crate::output::WriteFault;
+use crate::pieces::write_journal;
 use crate::publications::write_values;
 use crate::times::write_times;
 // The engine. Another one with the same contract takes its place here.
@@ -29,24 +32,31 @@ use std::io::Write;
 use std::sync::Wait;
 use std::thread::Threads;
 
-/// Runs a program.
-pub fn play<R: Threads + Wait + Sync>(
+// Runs a program. The journal is kept where what is wanted of the run asks for it, and where it is to be kept anyway.
+fn play<R: Threads + Wait + Sync>(
     rt: &R,
     alloc: Global,
     loaded: &Loaded,
     options: &Options,
+    keeps: bool,
 ) -> Result<Played, EngineFault>
-    ensures ran { IfOk result (λ p. IsPlayed loaded.now.program loaded.now.answers (keeps_journal options.now.wanted) options.now.limit p.summary p.published.items p.text.items) }
+    ensures ran { IfOk result (λ p. IsPlayed loaded.now.program loaded.now.answers options.now.limit p.summary p.published.items p.journal) }
+    ensures kept { IfOk result (λ p. keeps_journal options.now.wanted ≡ true → is_some p.journal ≡ true) }
     ensures range { result ≡ Err EngineFault.Range ↔ (IsInRange options.now.workers options.now.limit → ⊥) }
-    ensures sound { IfErr result (λ fault. IsOwn fault → IsProgram (definitions loaded.now.program) (source loaded.now.program) → HasNames loaded.now.program loaded.now.answers → ⊥) }
+    ensures sound { IfErr result (λ fault. IsOwn fault → IsProgram (definitions loaded.now.program) (source loaded.now.program) → ⊥) }
 {
+    let keeps = if options.wanted.keeps_journal() {
+        true
+    } else {
+        keeps
+    };
     if options.workers == 1 {
         return run_alone(
             alloc,
             &loaded.program,
             &loaded.answers,
             options.order,
-            options.wanted.keeps_journal(),
+            keeps,
             options.limit,
         );
     }
@@ -58,26 +68,29 @@ pub fn play<R: Threads + Wait + Sync>(
         &Scripted::new(&loaded.answers),
         &Open,
         options.workers as usize,
-        options.wanted.keeps_journal(),
+        keeps,
         options.limit,
     )
 }
 
+// The same, with a run's fault.
 fn run_program<R: Threads + Wait + Sync>(
     rt: &R,
     alloc: Global,
     loaded: &Loaded,
     options: &Options,
+    keeps: bool,
 ) -> Result<Played, RunFault>
-    ensures ran { IfOk result (λ p. IsPlayed loaded.now.program loaded.now.answers (keeps_journal options.now.wanted) options.now.limit p.summary p.published.items p.text.items) }
+    ensures ran { IfOk result (λ p. IsPlayed loaded.now.program loaded.now.answers options.now.limit p.summary p.published.items p.journal) }
+    ensures kept { IfOk result (λ p. keeps_journal options.now.wanted ≡ true → is_some p.journal ≡ true) }
     ensures fault { IfErr result IsOther }
     ensures range { IfErr result (λ f. f ≡ RunFault.Engine EngineFault.Range → IsInRange options.now.workers options.now.limit → ⊥) }
-    ensures sound { IfErr result (λ f. IsOwnOf f → IsProgram (definitions loaded.now.program) (source loaded.now.program) → HasNames loaded.now.program loaded.now.answers → ⊥) }
+    ensures sound { IfErr result (λ f. IsOwnOf f → IsProgram (definitions loaded.now.program) (source loaded.now.program) → ⊥) }
 {
-    play(rt, alloc, loaded, options).map_err(RunFault::Engine)
+    play(rt, alloc, loaded, options, keeps).map_err(RunFault::Engine)
 }
 
-// Writes what is wanted of a run.
+// Writes what is wanted of a run. Without a journal that is what it published.
 fn write_run<W: Write>(
     alloc: Global,
     answers: &Answers,
@@ -85,13 +98,41 @@ fn write_run<W: Write>(
     wanted: Wanted,
     out: &mut W,
 ) -> Result<(), WriteFault>
-    ensures ok { OnOk result ((es : List Entry) → Shows wanted answers.now.names played.now.published.items played.now.text.items es → Appends (W.contents out.old) (W.contents out.new) (written wanted answers.now.names es)) }
-    ensures err { OnErr result ((es : List Entry) → Shows wanted answers.now.names played.now.published.items played.now.text.items es → AppendsPrefix (W.contents out.old) (W.contents out.new) (written wanted answers.now.names es)) }
+    ensures ok { OnOk result ((es : List Entry) → Shows wanted played.now.published.items played.now.journal es → Appends (W.contents out.old) (W.contents out.new) (written wanted answers.now.names es)) }
+    ensures fits { OnOk result ((es : List Entry) → Shows wanted played.now.published.items played.now.journal es → wanted ≡ what.Journal → AreOf answers.now.names Two es) }
+    ensures err { OnErr result ((es : List Entry) → Shows wanted played.now.published.items played.now.journal es → AppendsPrefix (W.contents out.old) (W.contents out.new) (written wanted answers.now.names es)) }
 {
+    let Some(journal) = &played.journal else {
+        return write_values(alloc, played.published.as_slice(), out);
+    };
     match wanted {
         Wanted::Values => write_values(alloc, played.published.as_slice(), out),
-        Wanted::Times => write_times(alloc, answers, played.text.as_slice(), out),
-        Wanted::Journal => write_text(out, played.text.as_slice()),
+        Wanted::Times => write_times(alloc, journal, out),
+        Wanted::Journal => write_journal(alloc, journal, answers, out),
+    }
+}
+
+/// Runs the program of a source as [`run_text`] does, and answers it with its run, whose journal is kept where `keeps`.
+pub(crate) fn run_source<R: Threads + Wait + Sync, W: Write>(
+    rt: &R,
+    alloc: Global,
+    source: &[u8],
+    script: &[u8],
+    options: &Options,
+    keeps: bool,
+    out: &mut W,
+) -> Result<(Loaded, Played), RunFault>
+    ensures ran { IfOk result (λ r. Ran source.now script.now options.now (W.contents out.old) (W.contents out.new) r.1.summary) }
+    ensures fault { IfErr result (LeavesAtFault source.now script.now options.now (W.contents out.old) (W.contents out.new)) }
+    ensures cause { IfErr result (IsFaultOf source.now script.now) }
+    ensures range { IfErr result (λ f. f ≡ RunFault.Engine EngineFault.Range → IsInRange options.now.workers options.now.limit → ⊥) }
+    ensures sound { IfErr result (λ f. IsOwnOf f → ⊥) }
+{
+    let loaded = load(alloc, source, script)?;
+    let played = run_program(rt, alloc, &loaded, options, keeps)?;
+    match write_run(alloc, &loaded.answers, &played, options.wanted, out) {
+        Ok(()) => Ok((loaded, played)),
+        Err(fault) => Err(RunFault::Write(fault)),
     }
 }
 
@@ -99,9 +140,9 @@ fn write_run<W: Write>(
 /// whichever way it ends: what it published, a line each, with the time of each or without it, or its journal.
 ///
 /// A fault is answered where the source's text, the script or the source's names are at fault, in this order; then
-/// `Engine` where the engine brings the run to no end (the limit is out of range, or memory is refused before the run begins or for what is
-/// told of it; no other fault of the engine comes); and `Write` where memory for the text is refused or the output isn't taken whole. Nothing is written then, but at a fault of the output a prefix
-/// of the text. A run for which memory is refused once it has begun ends so, and what it has published is written.
+/// `Engine` where the engine brings the run to no end (the limit is out of range, or memory is refused before the run begins or for what it published;
+/// no other fault of the engine comes); and `Write` where memory for the text is refused or the output isn't taken whole. Nothing is written then, but at
+/// `Write` a prefix of the text. A run for which memory is refused once it has begun ends so, and what it has published is written.
 pub fn run_text<R: Threads + Wait + Sync, W: Write>(
     rt: &R,
     alloc: Global,
@@ -116,10 +157,8 @@ pub fn run_text<R: Threads + Wait + Sync, W: Write>(
     ensures range { IfErr result (λ f. f ≡ RunFault.Engine EngineFault.Range → IsInRange options.now.workers options.now.limit → ⊥) }
     ensures sound { IfErr result (λ f. IsOwnOf f → ⊥) }
 {
-    let loaded = load(alloc, source, script)?;
-    let played = run_program(rt, alloc, &loaded, options)?;
-    match write_run(alloc, &loaded.answers, &played, options.wanted, out) {
-        Ok(()) => Ok(played.summary),
-        Err(fault) => Err(RunFault::Write(fault)),
+    match run_source(rt, alloc, source, script, options, false, out) {
+        Ok((_loaded, played)) => Ok(played.summary),
+        Err(fault) => Err(fault),
     }
 }

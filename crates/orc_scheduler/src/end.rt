@@ -1,7 +1,6 @@
 //! How a run ends, and what is told of it.
 
-ghost use Rattle.std.specs.Prelude.{◌≡◌, true, false, IfOk, IfErr, MatchOption};
-ghost use Rattle.orc_rules.specs.Named.{HasNames};
+ghost use Rattle.std.specs.Prelude.{◌≡◌, true, false, is_some, IfOk, IfErr, IfSome, MatchOption};
 ghost use Rattle.orc_rules.specs.Nodes.{definitions, source};
 ghost use Rattle.orc_rules.specs.Program.{IsProgram};
 ghost use Rattle.orc_outcome.specs.Outcome.{IsPlayed};
@@ -13,7 +12,7 @@ use crate::fault::EngineFault;
 use crate::quiet::is_quiet_at;
 use crate::scheduler::{Scheduler, Stop};
 use crate::sizes::is_crowded;
-use crate::summary::tell;
+use crate::summary::played;
 use orc_graph::Graph;
 use orc_ledger::{LedgerFault, Next, Program as Naming};
 use orc_outcome::{End, Played};
@@ -28,23 +27,23 @@ impl<P: Naming> Scheduler<P> {
         graph: &Graph,
         answers: &Answers,
         stop: Stop,
-        keeps_text: bool,
     ) -> Result<Option<Played>, EngineFault>
         requires program { program.now ≡ P.listing }
         requires graph { graph.now ≡ P.listing }
         requires answers { answers.now.sites ≡ P.sites }
-        requires text { keeps_text ≡ true → P.keeps ≡ true }
-        ensures played { IfOk result (λ played. MatchOption played (P.keeps ≡ false) (λ p. IsPlayed P.listing answers.now keeps_text P.limit p.summary p.published.items p.text.items)) }
+        ensures played { IfOk result (λ played. IfSome played (λ p. IsPlayed P.listing answers.now P.limit p.summary p.published.items p.journal)) }
+        ensures kept { IfOk result (λ played. P.keeps ≡ true → MatchOption played ⊥ (λ p. is_some p.journal ≡ true)) }
         ensures range { IfErr result (λ fault. fault ≡ EngineFault.Range → ⊥) }
-        ensures sound { IfErr result (λ fault. IsOwn fault → Stops P.listing self.ledger stop → IsProgram (definitions P.listing) (source P.listing) → HasNames P.listing answers.now → ⊥) }
+        ensures sound { IfErr result (λ fault. IsOwn fault → Stops P.listing self.ledger stop → IsProgram (definitions P.listing) (source P.listing) → ⊥) }
     {
         let Some(end) = self.end(program, graph, answers, stop)? else {
             return Ok(None);
         };
         let alloc = self.alloc;
-        match tell(alloc, self.into_ledger(), answers, keeps_text, end) {
+        let keeps = self.keeps;
+        match played(alloc, self.into_ledger(), answers, keeps, end) {
             Ok(played) => Ok(Some(played)),
-            Err(fault) => Err(fault),
+            Err(_) => Err(EngineFault::Memory),
         }
     }
 

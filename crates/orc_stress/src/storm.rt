@@ -1,6 +1,7 @@
 //! Programs, and what their runs have to come to.
 
 use orc_engine::{EngineFault, run_pool};
+use orc_journal_text::write_journal;
 use orc_load::{LoadFault, Loaded};
 use orc_outcome::{End, Played};
 use orc_rules::value::Value;
@@ -138,8 +139,18 @@ impl Storm {
 
     /// Whether the check accepts a run's journal.
     pub fn is_accepted(&self, alloc: Global, played: &Played) -> bool {
+        let Ok(loaded) = self.load(alloc) else {
+            return false;
+        };
+        let Some(journal) = &played.journal else {
+            return false;
+        };
+        let mut text = Vec::new(alloc);
+        if !matches!(write_journal(journal, &loaded.answers, &mut text), Ok(true)) {
+            return false;
+        }
         let mut verdict = Vec::new(alloc);
-        check_text(alloc, self.source, SCRIPT, &played.text, &mut verdict).is_ok()
+        check_text(alloc, self.source, SCRIPT, &text, &mut verdict).is_ok()
     }
 }
 

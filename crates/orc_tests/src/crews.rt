@@ -1,7 +1,7 @@
 //! A run so long that calls of definitions are run apart, on several threads, and taken in: it publishes what the rules allow, and its journal doesn't
 //! depend on how many workers there are.
 
-use crate::pools::{is_accepted, play};
+use crate::pools::{is_accepted, play, text_of};
 use orc_load::load;
 use orc_orders::{lines_of, survey};
 use orc_outcome::{End, Played};
@@ -69,7 +69,7 @@ fn same_on_all<R: Threads + Wait + Sync>(rt: &R, alloc: Global, source: &[u8]) -
     let first = accepted(rt, alloc, source, b"", 1, 10_000_000)?;
     for workers in [2, 4, 16] {
         let again = accepted(rt, alloc, source, b"", workers, 10_000_000)?;
-        if again.text.as_slice() != first.text.as_slice() {
+        if text_of(alloc, b"", &again).as_slice() != text_of(alloc, b"", &first).as_slice() {
             return None;
         }
     }

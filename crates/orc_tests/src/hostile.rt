@@ -3,7 +3,7 @@
 use crate::gates::{
     Board, Hold, LOOKS, Liar, Manner, Noting, Odd, Refusing, Slow, Turnstile, Wrong,
 };
-use crate::pools::{is_accepted, play};
+use crate::pools::{is_accepted, play, text_of};
 use orc_engine::{EngineFault, run_pool};
 use orc_load::load;
 use orc_outcome::{End, Played};
@@ -165,7 +165,7 @@ fn sites_are_told_of_each_call_and_cancel(rt: HostRuntime) -> Result<(), Fail> {
             if let Some(run) = run {
                 assert_eq!(rt; run.summary.end, End::Halted, "at {source:?} on {workers}");
                 assert!(rt; is_accepted(alloc, source, b"Never() = never\n", &run));
-                let journal = String::from_utf8(run.text.clone()?)?;
+                let journal = String::from_utf8(text_of(alloc, b"Never() = never\n", &run))?;
                 assert!(rt;
                     are_told(alloc, &board, journal.as_str())?,
                     "at {source:?} on {workers}: {journal}"

@@ -2,7 +2,7 @@
 //! how many entries and when, and that a check takes their journals.
 
 use crate::gates::Slow;
-use crate::pools::play;
+use crate::pools::{play, text_of};
 use orc_journal_text::write_publication;
 use orc_load::load;
 use orc_outcome::{End, Played};
@@ -71,7 +71,8 @@ fn published(alloc: Global, played: &Played) -> Result<Vec<u8>, AllocError> {
 fn said(alloc: Global, row: &Worked, played: &Played) -> Vec<u8> {
     let mut said = Vec::new(alloc);
     let (source, script) = (row.source.as_bytes(), row.script.as_bytes());
-    let _told = check_text(alloc, source, script, &played.text, &mut said);
+    let text = text_of(alloc, script, played);
+    let _told = check_text(alloc, source, script, &text, &mut said);
     said
 }
 

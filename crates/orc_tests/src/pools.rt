@@ -3,12 +3,13 @@
 use crate::gates::{Held, Slow, Turnstile};
 use crate::runs::ORDERED;
 use orc_engine::{EngineFault, run_pool};
+use orc_journal_text::write_journal;
 use orc_load::{Loaded, load};
 use orc_outcome::{End, Played};
 use orc_reference::play as play_plainly;
 use orc_rules::value::Value;
 use orc_run::check_text;
-use orc_site::{Gate, Open, Scripted};
+use orc_site::{Gate, Open, Scripted, read_script};
 use std::alloc::Global;
 use std::sync::Wait;
 use std::test::Fail;
@@ -58,10 +59,22 @@ pub(crate) fn are_same(some: &[Value], others: &[Value]) -> bool {
     some.len() == others.len()
 }
 
+/// The text of a run's journal; empty where none is kept.
+pub(crate) fn text_of(alloc: Global, script: &[u8], played: &Played) -> Vec<u8> {
+    let mut text = Vec::new(alloc);
+    if let Some(journal) = &played.journal {
+        if let Ok(answers) = read_script(alloc, script) {
+            let _written = write_journal(journal, &answers, &mut text);
+        }
+    }
+    text
+}
+
 /// Whether the check accepts a run's journal.
 pub(crate) fn is_accepted(alloc: Global, source: &[u8], script: &[u8], played: &Played) -> bool {
     let mut out = Vec::new(alloc);
-    check_text(alloc, source, script, &played.text, &mut out).is_ok()
+    let text = text_of(alloc, script, played);
+    check_text(alloc, source, script, &text, &mut out).is_ok()
 }
 
 // How a run ends, where the check accepts its journal and it publishes these values, in any order.
@@ -159,7 +172,7 @@ fn publishes_what_the_reference_does_on_any_number_of_workers(rt: HostRuntime) -
         let Ok(loaded) = loaded else {
             continue;
         };
-        let reference = play_plainly(alloc, &loaded.program, &loaded.answers, false, 10_000);
+        let reference = play_plainly(alloc, &loaded.program, &loaded.answers, 10_000);
         assert!(rt; reference.is_ok(), "at {source:?}");
         let Ok(reference) = reference else {
             continue;

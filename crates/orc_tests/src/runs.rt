@@ -50,7 +50,7 @@ fn publishes_what_the_reference_does(rt: HostRuntime) -> Result<(), Fail> {
         let Ok(loaded) = loaded else {
             continue;
         };
-        let reference = play(alloc, &loaded.program, &loaded.answers, false, 10_000);
+        let reference = play(alloc, &loaded.program, &loaded.answers, 10_000);
         let played = run_alone(alloc, &loaded.program, &loaded.answers, None, false, 10_000);
         assert!(rt; reference.is_ok() && played.is_ok(), "at {source:?}");
         let (Ok(reference), Ok(played)) = (reference, played) else {

@@ -5,6 +5,6 @@ use Rattle.orc_engine.proofs.pool.run_named.Goals as goal
 pub returns-in-Ok-Some-clause-played : goal.returns-in-Ok-Some-clause-played
 returns-in-Ok-Some-clause-played g c =
     let p = c.in-Ok-Some.played in
-    let told : IsPlayed g.P.Program.listing c.args.answers.now c.args.keeps_text g.P.Program.limit p.summary p.published.items p.text.items = search rules in
-    subst (λ n. IsPlayed c.args.program.now c.args.answers.now c.args.keeps_text n p.summary p.published.items p.text.items) (sym c.requires.named)
-    (subst (λ l. IsPlayed l c.args.answers.now c.args.keeps_text g.P.Program.limit p.summary p.published.items p.text.items) (sym c.requires.program) told)
+    let told : IsPlayed g.P.Program.listing c.args.answers.now g.P.Program.limit p.summary p.published.items p.journal = search rules in
+    subst (λ n. IsPlayed c.args.program.now c.args.answers.now n p.summary p.published.items p.journal) (sym c.requires.named)
+    (subst (λ l. IsPlayed l c.args.answers.now g.P.Program.limit p.summary p.published.items p.journal) (sym c.requires.program) told)

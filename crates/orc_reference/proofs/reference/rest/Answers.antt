@@ -10,7 +10,7 @@ use Rattle.orc_reference.proofs.reference.rest.Goals as goal
 
 -- Halted is answered where the checker's test says so,
 pub returns-then-has_halted : goal.returns-then-has_halted
-returns-then-has_halted c t keeps turns limit within reached =
+returns-then-has_halted c t turns limit within reached =
     let l = c.args.program.now in
     let place = reached.place in
     let spells = subst (λ m. Spells (context l t) (code l) m place) (sym c.marked.ensures) reached.told.spells in
@@ -18,7 +18,7 @@ returns-then-has_halted c t keeps turns limit within reached =
 
 -- and Quiet where its test does.
 pub returns-then-is_quiet : goal.returns-then-is_quiet
-returns-then-is_quiet c t keeps turns limit within reached =
+returns-then-is_quiet c t turns limit within reached =
     let l = c.args.program.now in
-    same_end l t keeps limit c.args.history.now c.is_quiet.new.self ends.Quiet c.is_quiet.ensures.same
+    same_end l t limit c.args.history.now c.is_quiet.new.self ends.Quiet c.is_quiet.ensures.same
     (record { turns = turns; reached = reached; within = within; ends = (c.is_quiet.ensures.quiet (context l t) reached.place refl reached.told.spells).0 c.if-is_quiet.true })

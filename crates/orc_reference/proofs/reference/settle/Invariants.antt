@@ -1,5 +1,5 @@
 -- Cancels so far: the story tells of the same journal with them, and they don't count.
-use Rattle.std.proofs.Common.{◌≡◌, Bool, List}
+use Rattle.std.proofs.Common.{◌≡◌, List}
 use Rattle.orc_rules.specs.declared.entry.Entry.{Entry}
 use Rattle.orc_rules.specs.Journal.{Place}
 use Rattle.orc_journal.specs.Written.{count}
@@ -8,5 +8,5 @@ use Rattle.orc_reference.proofs.reference.settle.Given as goal
 
 abbrev pub invariant-loop-turn : goal.invariant-loop-turn
 invariant-loop-turn l =
-    (keeps : Bool) (es : List Entry) (p : Place) → IsStory l.program l.answers keeps l.initial.history es p
-    → (fs : List Entry) × (q : Place) × IsStory l.program l.answers keeps l.history fs q × (count fs ≡ count es)
+    (es : List Entry) (p : Place) → IsStory l.program l.answers l.initial.history es p
+    → (fs : List Entry) × (q : Place) × IsStory l.program l.answers l.history fs q × (count fs ≡ count es)

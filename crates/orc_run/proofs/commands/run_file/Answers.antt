@@ -7,7 +7,7 @@ pub returns-in-Ok-clause-done : goal.returns-in-Ok-clause-done
 returns-in-Ok-clause-done g c = (
   c.as_slice.result.now,
   c.as_slice-2.result.now,
-  c.in-Ok.summary,
+  c.in-Ok.played.summary,
   held_before _ _ _ _ refl c.as_slice.ensures.value c.in_ok-source.ensures.held,
   read_before _ _ _ _ _ c.in_ok-source.ensures.same c.as_slice-2.ensures.value c.in_ok-answers.ensures.held,
   c.in-Ok.ensures.ran,

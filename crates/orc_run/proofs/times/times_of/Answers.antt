@@ -1,34 +1,29 @@
-use Rattle.std.proofs.Common.{ℕ, List, Bor, sym, subst}
-use Rattle.orc_run.proofs.Timing.{IsLeft, first_of, none_left, publishes, ticks, goes_on, all_told}
+use Rattle.std.proofs.Common.{◌+◌, ◌++◌, drop, ap, sym, ◌∙◌}
+use Rattle.orc_run.specs.Times.{timed}
+use Rattle.orc_run.proofs.Timing.{publishes, ticks, goes_on}
 use Rattle.orc_run.proofs.times.times_of.Goals as goal
+use Rattle.orc_run.proofs.times.times_of.Goals.{in-Publish+in_ok-write_line-in-Publish, in-Tick, in_default-entry}
 
-pub loop-more-preserved-in_ok-write_line-in-Publish : goal.loop-more-preserved-in_ok-write_line-in-Publish
-loop-more-preserved-in_ok-write_line-in-Publish c = λ es is.
-    let names = c.args.answers.now.names in
-    let (ds, left) = c.loop-more.invariant es is in
-    let first = first_of (λ (r : Bor (List ℕ)). (c.read_entry.new.entry, r.now)) names c.loop-more.rest.now c.read_entry.result c.read_entry.ensures.only ds left.each left.whole c.in-Some.more c.in-Some.is c.in-Some.ensures.found.0 in
-    let tells = publishes names c.loop-more.now c.loop-more.rest.now c.loop-more.lines.items c.in-Some.more.now es ds left c.read_entry.new.entry first c.in-Publish.field-0 c.in-Publish.value c.in-Publish.is in
-    (first.others, subst (λ (told : List ℕ). IsLeft names c.loop-more.now c.in-Some.more.now told es first.others) (sym c.in_ok-write_line-in-Publish.ensures) tells)
-
-pub loop-more-preserved-in-Tick : goal.loop-more-preserved-in-Tick
-loop-more-preserved-in-Tick c = λ es is.
-    let names = c.args.answers.now.names in
-    let (ds, left) = c.loop-more.invariant es is in
-    let first = first_of (λ (r : Bor (List ℕ)). (c.read_entry.new.entry, r.now)) names c.loop-more.rest.now c.read_entry.result c.read_entry.ensures.only ds left.each left.whole c.in-Some.more c.in-Some.is c.in-Some.ensures.found.0 in
-    (first.others, ticks names c.loop-more.now c.loop-more.rest.now c.loop-more.lines.items c.in-Some.more.now es ds left c.read_entry.new.entry first c.in-Tick.time c.in-Tick.is)
-
-pub loop-more-preserved : goal.loop-more-preserved
-loop-more-preserved c = λ es is.
-    let names = c.args.answers.now.names in
-    let (ds, left) = c.loop-more.invariant es is in
-    let first = first_of (λ (r : Bor (List ℕ)). (c.read_entry.new.entry, r.now)) names c.loop-more.rest.now c.read_entry.result c.read_entry.ensures.only ds left.each left.whole c.in-Some.more c.in-Some.is c.in-Some.ensures.found.0 in
-    (first.others, goes_on names c.loop-more.now c.loop-more.rest.now c.loop-more.lines.items c.in-Some.more.now es ds left c.read_entry.new.entry first c.in_default-entry.not-Publish c.in_default-entry.not-Tick)
-
-pub returns : goal.returns
-returns c = record {
-  told = λ es is.
-      let names = c.args.answers.now.names in
-      let (ds, left) = c.loop-more.invariant es is in
-      let none = none_left (λ (r : Bor (List ℕ)). (c.read_entry.new.entry, r.now)) names c.loop-more.rest.now c.read_entry.result c.read_entry.ensures.only ds left.each left.whole c.in_default.is in
-      all_told names c.loop-more.now c.loop-more.rest.now c.loop-more.lines.items es ds left none;
-}
+pub loop-at-preserved : goal.loop-at-preserved
+loop-at-preserved c =
+    let es = c.args.journal.now.entries in
+    let told = c.loop-at.lines.items in
+    let now = c.loop-at.now in
+    let i = c.loop-at.at in
+    let e = c.in-Some.entry in
+    let here = sym c.get.ensures ∙ c.in-Some.is in
+    let so_far = c.loop-at.invariant in
+    elim c.match-entry.branch [
+      | in-Publish+in_ok-write_line-in-Publish w ↦
+          publishes es told now i so_far e here w.in-Publish.field-0 w.in-Publish.value w.in-Publish.is
+          ∙ ap (λ ls. ls ++ timed now (drop (i + 1) es)) (sym w.in_ok-write_line-in-Publish.ensures ∙ ap (λ ls. ls.items) (sym w.lines-is))
+          ∙ ap (λ n. c.match-entry.lines.items ++ timed n (drop (i + 1) es)) (sym w.now-is)
+      | in-Tick w ↦
+          ticks es told now i so_far e here w.in-Tick.time w.in-Tick.is
+          ∙ ap (λ ls. ls.items ++ timed w.in-Tick.time (drop (i + 1) es)) (sym w.lines-is)
+          ∙ ap (λ n. c.match-entry.lines.items ++ timed n (drop (i + 1) es)) (sym w.now-is)
+      | in_default-entry w ↦
+          goes_on es told now i so_far e here w.in_default-entry.not-Publish w.in_default-entry.not-Tick
+          ∙ ap (λ ls. ls.items ++ timed now (drop (i + 1) es)) (sym w.lines-is)
+          ∙ ap (λ n. c.match-entry.lines.items ++ timed n (drop (i + 1) es)) (sym w.now-is)
+    ]

@@ -1,11 +1,7 @@
-use Rattle.std.proofs.Common.{List, length}
-use Rattle.orc_rules.specs.declared.entry.Entry.{Entry}
-use Rattle.orc_run.specs.Times.{IsTextOf}
-use Rattle.orc_run.proofs.Timing.{IsLeft}
+-- What the entries so far publish is told, and the time is that of the last tick among them.
+use Rattle.std.proofs.Common.{◌≡◌, ◌++◌, drop}
+use Rattle.orc_run.specs.Times.{timed}
 use Rattle.orc_run.proofs.times.times_of.Given as goal
 
-abbrev pub invariant-loop-more : goal.invariant-loop-more
-invariant-loop-more l = (es : List Entry) → IsTextOf l.answers.names l.text es → (ds : List Entry) × IsLeft l.answers.names l.now l.rest l.lines.items es ds
-
-abbrev pub decreases-loop-more : goal.decreases-loop-more
-decreases-loop-more l = length l.rest
+abbrev pub invariant-loop-at : goal.invariant-loop-at
+invariant-loop-at l = timed 0 l.journal.entries ≡ l.lines.items ++ timed l.now (drop l.at l.journal.entries)
