@@ -1,0 +1,101 @@
+//! What each worker knows of the others and of the run.
+
+use crate::inputs::Inputs;
+use crate::shared::{OutsideWork, Shared};
+use orc_log::Program;
+use orc_scheduler::Stop;
+use orc_site::{Gate, Sites};
+use orc_word::Naming;
+use std::alloc::Global;
+use std::sync::atomic::{AtomicU64, Ordering};
+use std::sync::{Condvar, Mutex, Wait};
+
+/// The run under its lock, the condition variable that wakes workers at rest, and whom the workers ask.
+#[derive(Drop)]
+pub(crate) struct Context<'h, P: Program + Naming, S: Sites, G: Gate> {
+    pub alloc: Global,
+    pub inputs: Inputs<'h, P>,
+    pub shared: &'h Mutex<Shared<P, S::Call>>,
+    pub wakeups: &'h Condvar,
+    // How many workers have found nothing, and look round a last time or rest.
+    pub idle: &'h AtomicU64,
+    pub sites: &'h S,
+    pub gate: &'h G,
+    // Whether the sites or the gate may wait for what another worker does.
+    pub may_wait: bool,
+}
+
+impl<P: Program + Naming, S: Sites, G: Gate> Context<'_, P, S, G> {
+    /// One worker more.
+    pub(crate) fn join<R: Wait>(&self, rt: &R) {
+        let mut shared = self.shared.lock(rt);
+        shared.working = shared.working.saturating_add(1);
+    }
+
+    /// The run stops.
+    pub(crate) fn stop<R: Wait>(&self, rt: &R, stop: Stop) {
+        let mut shared = self.shared.lock(rt);
+        shared.stop(stop);
+        self.wakeups.notify_all();
+    }
+
+    /// So many of those that rest have to look again.
+    pub(crate) fn wake(&self, shared: &mut Shared<P, S::Call>, count: usize) {
+        shared.offers = shared.offers.wrapping_add(1);
+        for _ in 0..count.min(shared.resting as usize) {
+            self.wakeups.notify_one();
+        }
+    }
+
+    /// So many tokens were put into a queue: as many of those that rest are woken. Who has found nothing before has added itself to `idle` before it looked into
+    /// the queue again, so one of both sees the other.
+    pub(crate) fn offer<R: Wait>(&self, rt: &R, count: usize) {
+        if self.idle.load(Ordering::SeqCst) > 0 {
+            let mut shared = self.shared.lock(rt);
+            self.wake(&mut shared, count);
+        }
+    }
+
+    /// Before a worker goes outside, where it may wait for others: somebody else has to take a call that is due, if there is one.
+    pub(crate) fn leave_due(&self, shared: &mut Shared<P, S::Call>) {
+        if self.may_wait && shared.has_due() {
+            self.wake(shared, 1);
+        }
+    }
+
+    /// What there is for a worker without a token, and how often something had been offered by then.
+    pub(crate) fn look<R: Wait>(&self, rt: &R) -> (OutsideWork<S::Call>, u64) {
+        let mut shared = self.shared.lock(rt);
+        let work = shared.look(self.inputs.graph);
+        self.tell(&mut shared, &work);
+        (work, shared.offers)
+    }
+
+    // Those that rest have to know of the end, and of what a worker leaves that goes outside.
+    fn tell(&self, shared: &mut Shared<P, S::Call>, work: &OutsideWork<S::Call>) {
+        match work {
+            OutsideWork::Over => self.wakeups.notify_all(),
+            OutsideWork::Ask(_, _, _) => self.leave_due(shared),
+            _ => {}
+        }
+    }
+
+    /// Rests until something was offered since `seen`, or the run is over. The last one doesn't rest: where it finds nothing either, nobody has what is left.
+    pub(crate) fn rest<R: Wait>(&self, rt: &R, seen: u64) -> OutsideWork<S::Call> {
+        let mut shared = self.shared.lock(rt);
+        if shared.offers != seen {
+            return OutsideWork::None;
+        }
+        if shared.is_alone() {
+            let work = shared.look_last(self.inputs.graph);
+            self.tell(&mut shared, &work);
+            return work;
+        }
+        shared.resting = shared.resting.saturating_add(1);
+        let mut shared = self.wakeups.wait_while(rt, shared, |shared| {
+            shared.offers == seen && !shared.is_over()
+        });
+        shared.resting = shared.resting.saturating_sub(1);
+        OutsideWork::None
+    }
+}

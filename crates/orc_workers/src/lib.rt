@@ -1,0 +1,19 @@
+//! Workers that hold the tokens of a run, over one book under a lock.
+//!
+//! Each worker has tokens, passes to their groups and a queue of its own; the words of the groups are outside the lock. What moves and when is chosen here; that
+//! each entry is one of the rules is the book's own invariant, whatever is chosen.
+#![tactic(auto)]
+
+mod context;
+mod inputs;
+mod local;
+mod moves;
+mod poller;
+mod pool;
+mod rest;
+mod shared;
+mod shift;
+mod worker;
+
+pub use orc_scheduler::EngineFault;
+pub use pool::run_pool;

@@ -1,0 +1,182 @@
+//! What a worker has for itself: tokens, and passes for those that will be born.
+
+use orc_book::{Births, Needs, StepOut, Token};
+use orc_word::{Groups, Last, Naming, Pass, Supply};
+use std::alloc::Global;
+
+/// How many passes to the group in which a worker is are kept for the next forks there.
+const MOST_NEAR: usize = 64;
+
+/// The tokens that are out with a worker and in no queue, the one that moves next last; the passes that it has to leave and the calls of whose cancels it has
+/// to tell the sites; passes for births; and the groups that it was the last to leave.
+pub(crate) struct Local<P: Naming> {
+    pub out: StepOut<P>,
+    // Those to the same group all name this word.
+    pub births: Births<P>,
+    word: Option<u32>,
+    supply: Supply<P>,
+    lasts: Vec<Last<P>>,
+    // Whether something was lost, since memory for it was refused.
+    has_lost: bool,
+}
+
+// Written out, so that each exit of a function that has one drops it by one call.
+impl<P: Naming> Drop for Local<P> {
+    fn drop(self) {
+        let Local {
+            out,
+            births,
+            word: _,
+            supply,
+            lasts,
+            has_lost: _,
+        } = self;
+        drop(out);
+        drop(births);
+        drop(supply);
+        drop(lasts);
+    }
+}
+
+impl<P: Naming> Local<P> {
+    /// A worker that has a supply of passes, and no token.
+    pub(crate) fn new(alloc: Global, supply: Supply<P>) -> Local<P> {
+        Local {
+            out: StepOut::new(alloc),
+            births: Births::new(alloc),
+            word: None,
+            supply,
+            lasts: Vec::new(alloc),
+            has_lost: false,
+        }
+    }
+
+    /// A token that is out with the worker from now on, and moves next.
+    pub(crate) fn hold(&mut self, token: Token<P>) {
+        if self.out.born.push(token).is_err() {
+            self.has_lost = true;
+        }
+    }
+
+    /// The token that moves next.
+    pub(crate) fn take_token(&mut self) -> Option<Token<P>> {
+        self.out.born.pop()
+    }
+
+    /// A pass that no record has any more, to be left.
+    pub(crate) fn put(&mut self, pass: Pass<P>) {
+        if self.out.leave.push(pass).is_err() {
+            self.has_lost = true;
+        }
+    }
+
+    /// The worker goes on in the group of this word, or in none: those for births in another group are to be left.
+    pub(crate) fn go_to(&mut self, word: Option<u32>) {
+        if self.word == word {
+            return;
+        }
+        for _ in 0..u64::MAX {
+            match self.births.same.pop() {
+                Some(pass) => self.put(pass),
+                None => break,
+            }
+        }
+        self.word = word;
+    }
+
+    /// Has passes for the births of a token with this pass, in whose group the worker is.
+    pub(crate) fn prepare(&mut self, groups: &Groups<P>, needs: Needs, with: &Pass<P>) {
+        if needs.same > 0 && self.births.same.is_empty() {
+            let same = self.same(groups, with);
+            self.add_same(same);
+        }
+        if needs.idle > 0 && self.births.idle.is_empty() {
+            let idle = self.supply.take(groups);
+            self.add_idle(idle);
+        }
+    }
+
+    // A pass to the same group: one that is to be left, if the last one names it, else one that enters it.
+    fn same(&mut self, groups: &Groups<P>, with: &Pass<P>) -> Option<Pass<P>> {
+        let word = with.group();
+        if word.is_none() {
+            return None;
+        }
+        if let Some(pass) = self.out.leave.pop() {
+            if pass.group() == word {
+                return Some(pass);
+            }
+            self.put(pass);
+        }
+        let idle = self.supply.take(groups)?;
+        Some(groups.enter(with, idle))
+    }
+
+    fn add_same(&mut self, pass: Option<Pass<P>>) {
+        if let Some(pass) = pass
+            && let Err(refused) = self.births.same.push(pass)
+        {
+            self.put(refused.value);
+        }
+    }
+
+    fn add_idle(&mut self, pass: Option<Pass<P>>) {
+        if let Some(pass) = pass
+            && let Err(refused) = self.births.idle.push(pass)
+        {
+            self.put(refused.value);
+        }
+    }
+
+    /// Leaves the passes that are to be left, but some to the group in which the worker is: they are for births. No lock is needed.
+    pub(crate) fn settle(&mut self, groups: &Groups<P>) {
+        for _ in 0..u64::MAX {
+            match self.out.leave.pop() {
+                Some(pass) => self.settle_one(groups, pass),
+                None => break,
+            }
+        }
+    }
+
+    fn settle_one(&mut self, groups: &Groups<P>, pass: Pass<P>) {
+        if pass.group() != self.word || self.births.same.len() >= MOST_NEAR {
+            self.leave(groups, pass);
+        } else if let Err(refused) = self.births.same.push(pass) {
+            self.leave(groups, refused.value);
+        }
+    }
+
+    fn leave(&mut self, groups: &Groups<P>, pass: Pass<P>) {
+        if pass.group().is_none() {
+            self.supply.give(groups, pass);
+            return;
+        }
+        let left = groups.leave(pass);
+        self.supply.give(groups, left.pass);
+        if let Some(last) = left.last
+            && self.lasts.push(last).is_err()
+        {
+            self.has_lost = true;
+        }
+    }
+
+    /// A group that the worker was the last to leave, which is to be closed.
+    pub(crate) fn take_last(&mut self) -> Option<Last<P>> {
+        self.lasts.pop()
+    }
+
+    /// Whether no pass is to be left and no group is to be closed.
+    pub(crate) fn is_settled(&self) -> bool {
+        self.out.leave.is_empty() && self.lasts.is_empty()
+    }
+
+    /// Whether it has nothing to do under the lock.
+    pub(crate) fn is_empty(&self) -> bool {
+        self.out.born.is_empty() && self.is_settled()
+    }
+
+    /// Whether memory was refused for a token, for a pass that was to be left, or for a group that is to be closed: such a group never ends.
+    pub(crate) fn has_lost(&self) -> bool {
+        self.has_lost
+    }
+}

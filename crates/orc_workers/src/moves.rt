@@ -1,0 +1,170 @@
+//! Moves of a worker's tokens, by the book's calls.
+
+ghost use Rattle.std.specs.Prelude.{◌≡◌};
+
+use crate::inputs::Inputs;
+use crate::local::Local;
+use crate::shared::{Shared, stop_of};
+use orc_book::{Answered, BookFault, Token};
+use orc_ledger::Action;
+use orc_log::Program;
+use orc_rules::limits::MOST_GROUPS;
+use orc_rules::value::Answer;
+use orc_scheduler::Stop;
+use orc_word::Naming;
+
+/// What a move of a token has come to.
+#[derive(Clone, Copy)]
+pub(crate) enum Step {
+    /// It was made, or the token is there no more, or the run has stopped.
+    On,
+    /// The call with this number was recorded, and is to be made.
+    Calls(u64),
+    /// The words of killed groups leave no room for it. The token is still with the worker.
+    Full,
+}
+
+impl<P: Program + Naming, C: Drop> Shared<P, C> {
+    /// One move of a token that is out with a worker: what comes of it is with the worker then.
+    pub(crate) fn step(
+        &mut self,
+        inputs: &Inputs<'_, P>,
+        local: &mut Local<P>,
+        token: Token<P>,
+    ) -> Step {
+        let view = self.book.view(inputs.graph, token.slot, token.serial);
+        let Some(view) = view else {
+            local.put(token.pass);
+            return Step::On;
+        };
+        local.go_to(token.pass.group());
+        match view.what {
+            Action::Publish(_) => self.publish(inputs, local, token),
+            Action::Bind(cell, _) => self.bind(inputs, local, token, cell),
+            Action::Call => self.call(inputs, local, token),
+            Action::Wait(_) => self.wait(inputs, local, token),
+            what => {
+                local.prepare(inputs.groups, view.needs, &token.pass);
+                let step = self.move_on(inputs, local, token);
+                if let Action::Fork = what {
+                    turn_last_two(local);
+                }
+                step
+            }
+        }
+    }
+
+    // A move that makes no call, and after which no cell is bound.
+    fn move_on(&mut self, inputs: &Inputs<'_, P>, local: &mut Local<P>, token: Token<P>) -> Step {
+        match self.book.step(
+            inputs.groups,
+            inputs.graph,
+            token,
+            &mut local.births,
+            &mut local.out,
+        ) {
+            Ok(()) => Step::On,
+            Err(refused) => self.refused(local, refused.why, refused.back),
+        }
+    }
+
+    // A token whose move was refused.
+    fn refused(&mut self, local: &mut Local<P>, why: BookFault, token: Token<P>) -> Step {
+        match why {
+            BookFault::Gone => {
+                local.put(token.pass);
+                Step::On
+            }
+            // With fewer killed groups it isn't for want of a word.
+            BookFault::Full if self.book.dying() >= MOST_GROUPS => {
+                local.hold(token);
+                Step::Full
+            }
+            why => {
+                self.stop(stop_of(why));
+                Step::On
+            }
+        }
+    }
+
+    fn publish(&mut self, inputs: &Inputs<'_, P>, local: &mut Local<P>, token: Token<P>) -> Step {
+        match self.book.publish(inputs.graph, token) {
+            Ok(pass) => {
+                local.put(pass);
+                Step::On
+            }
+            Err(refused) => self.refused(local, refused.why, refused.back),
+        }
+    }
+
+    // What stood inside the cell's right side goes, its calls among it; those that wait for the cell go on.
+    fn bind(
+        &mut self,
+        inputs: &Inputs<'_, P>,
+        local: &mut Local<P>,
+        token: Token<P>,
+        cell: u64,
+    ) -> Step {
+        let leave = &mut local.out.leave;
+        match self.book.bind(inputs.groups, inputs.graph, token, leave) {
+            Ok(()) => {
+                self.drop_cancelled(local);
+                self.wake(local, cell);
+                Step::On
+            }
+            Err(refused) => self.refused(local, refused.why, refused.back),
+        }
+    }
+
+    // The calls that the last bind has cancelled wait no more, and the sites are to be told.
+    fn drop_cancelled(&mut self, local: &mut Local<P>) {
+        let cancelled = self.book.cancelled();
+        for number in cancelled {
+            self.pending.remove(number);
+        }
+        if local.out.cancelled.extend_from_slice(cancelled).is_err() {
+            self.run_short();
+        }
+    }
+
+    /// The tokens that wait for a cell go on, with this worker.
+    pub(crate) fn wake(&mut self, local: &mut Local<P>, cell: u64) {
+        if self.book.wake(cell, &mut local.out.born).is_err() {
+            self.run_short();
+        }
+    }
+
+    fn call(&mut self, inputs: &Inputs<'_, P>, local: &mut Local<P>, token: Token<P>) -> Step {
+        let args = &mut self.args;
+        match self.book.call(inputs.graph, inputs.answers, token, args) {
+            Ok(number) => Step::Calls(number),
+            Err(refused) => self.refused(local, refused.why, refused.back),
+        }
+    }
+
+    fn wait(&mut self, inputs: &Inputs<'_, P>, local: &mut Local<P>, token: Token<P>) -> Step {
+        match self.book.wait(inputs.graph, token) {
+            Ok(()) => Step::On,
+            Err(refused) => self.refused(local, refused.why, refused.back),
+        }
+    }
+
+    /// A call was answered, if it still pends: a token on the answer is with this worker, or the call's pass is to be left.
+    pub(crate) fn answer(&mut self, local: &mut Local<P>, number: u64, answer: Answer) {
+        match self.book.returned(number, answer) {
+            Ok(Answered::Token(token)) => local.hold(token),
+            Ok(Answered::Halted(pass)) => local.put(pass),
+            Err(BookFault::Gone) => {}
+            Err(BookFault::Wrong) => self.stop(Stop::Site(number)),
+            Err(why) => self.stop(stop_of(why)),
+        }
+    }
+}
+
+// The left side of `f | g` goes on first; but the right side of a pruning, so that its group may be gone before the left side opens more.
+fn turn_last_two<P: Naming>(local: &mut Local<P>) {
+    let count = local.out.born.len();
+    if count >= 2 {
+        local.out.born.swap(count - 2, count - 1);
+    }
+}

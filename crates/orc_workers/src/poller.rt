@@ -1,0 +1,73 @@
+//! Polls of calls by hand, with no runtime.
+
+ghost use Rattle.std.specs.Prelude.{IfSome, IfNone};
+
+use futures::Future;
+use futures::task::{Doorbell, Poll, Solo};
+use orc_rules::value::Answer;
+use orc_site::{Due, SiteFuture};
+use std::alloc::Global;
+use std::io;
+use std::random::RandomSource;
+
+// Bytes that are always the same: a queue of one task needs no name that others can't guess.
+#[derive(Drop)]
+struct Fixed;
+
+impl RandomSource for Fixed {
+    fn fill_bytes(&self, buf: &mut [u8]) -> io::Result<()> {
+        buf.fill(0);
+        Ok(())
+    }
+}
+
+/// What came of a poll.
+#[derive(Clone, Copy)]
+pub(crate) enum Polled {
+    Answered(Answer),
+    /// It is answered then.
+    Waits(Due),
+    /// It is due and has no answer.
+    Late,
+}
+
+/// Polls calls by hand, and waits for nothing.
+#[derive(Drop)]
+pub(crate) struct Poller {
+    solo: Solo,
+}
+
+impl Poller {
+    /// The error is refused memory.
+    pub(crate) fn new(alloc: Global) -> io::Result<Poller> {
+        Ok(Poller {
+            solo: Solo::new(&(Fixed, alloc), Doorbell::parking())?,
+        })
+    }
+
+    fn poll<F: Future>(&self, future: &mut F) -> Option<F::Output>
+        requires { F.can_poll future.old }
+        ensures some { IfSome result (F.gives future.old) }
+        ensures none { IfNone result (F.can_poll future.new) }
+    {
+        let mut cx = self.solo.begin();
+        let polled = future.poll(&mut cx);
+        cx.end(&polled);
+        match polled {
+            Poll::Ready(output) => Some(output),
+            Poll::Pending => None,
+        }
+    }
+
+    /// Hands the time to a call and polls it once.
+    pub(crate) fn ask<C: SiteFuture>(&self, call: &mut C, now: u64) -> Polled {
+        call.at(now);
+        match self.poll(call) {
+            Some(answer) => Polled::Answered(answer),
+            None => match call.due() {
+                Due::At(time) if time <= now => Polled::Late,
+                due => Polled::Waits(due),
+            },
+        }
+    }
+}

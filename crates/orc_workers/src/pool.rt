@@ -1,0 +1,261 @@
+//! Several workers: the calling thread, and others beside it.
+
+ghost use Rattle.std.specs.Prelude.{◌≡◌, ◌≤◌, ◌*◌, ◌↔◌, true, Err, is_some, IfOk, IfErr};
+ghost use Rattle.orc_rules.specs.declared.limits.TheConstants.{MOST_ENTRIES, MOST_GROUPS};
+ghost use Rattle.orc_outcome.specs.Outcome.{IsPlayed};
+ghost use Rattle.orc_workers.specs.Ranges.{IsInRange};
+
+use crate::context::Context;
+use crate::inputs::Inputs;
+use crate::local::Local;
+use crate::shared::Shared;
+use crate::worker::Worker;
+use orc_book::{Book, Token};
+use orc_graph::Graph;
+use orc_log::Program as Run;
+use orc_outcome::Played;
+use orc_pool::{WorkerQueue, worker_queues};
+use orc_rules::answers::Answers;
+use orc_rules::limits::{MOST_ENTRIES, MOST_GROUPS, MOST_WORKERS};
+use orc_rules::program::Program;
+use orc_scheduler::{EngineFault, Scheduler};
+use orc_site::{Gate, Sites};
+use orc_word::{Groups, Naming, Supply, Unnamed};
+use std::alloc::Global;
+use std::marker::Brand;
+use std::sync::atomic::AtomicU64;
+use std::sync::{Condvar, Mutex, Wait};
+use std::thread;
+use std::thread::{Scope, Threads};
+
+/// The words of groups: as many may be taken by killed ones as there may be open ones.
+const WORDS: u32 = 2 * MOST_GROUPS as u32;
+
+/// The passes of each worker: more than the entries of a run take.
+const PASSES: u32 = 4 * MOST_ENTRIES as u32;
+
+/// Runs a program on the calling thread and `workers - 1` more, which hold its tokens; one that can't be started is left out. The journal has at most `limit`
+/// entries, cancels not counted, and is kept. What the rules leave free comes as the workers make it.
+///
+/// Each call goes through `gate`, is made by `sites` and polled outside every lock, and `sites` is told which ones are cancelled.
+///
+/// The fault is Range where there are no workers or over `MOST_WORKERS`, or the limit is 0 or over `MOST_ENTRIES`, and then alone; Site where the sites answered a
+/// call otherwise than the table says, or not when it was due; Broken where something is left that no worker has; or Memory where memory was refused before the
+/// run began, or for what is told of it.
+pub fn run_pool<R, S, G>(
+    rt: &R,
+    alloc: Global,
+    program: &Program,
+    answers: &Answers,
+    sites: &S,
+    gate: &G,
+    workers: usize,
+    limit: u64,
+) -> Result<Played, EngineFault>
+where
+    R: Threads + Wait + Sync,
+    S: Sites + Sync,
+    S::Call: Send,
+    G: Gate + Sync,
+    ensures played { IfOk result (λ p. IsPlayed program.now answers.now limit p.summary p.published.items p.journal) }
+    ensures kept { IfOk result (λ p. is_some p.journal ≡ true) }
+    ensures range { result ≡ Err EngineFault.Range ↔ (IsInRange workers limit → ⊥) }
+{
+    if workers < 1 || workers > MOST_WORKERS || limit < 1 || limit > MOST_ENTRIES {
+        return Err(EngineFault::Range);
+    }
+    let Ok(graph) = Graph::build(alloc, program) else {
+        return Err(EngineFault::Memory);
+    };
+    let limit = limit as usize;
+    let Ok(words) = Unnamed::new(alloc, WORDS, PASSES * workers as u32 + 1) else {
+        return Err(EngineFault::Memory);
+    };
+    run_named::<Brand, R, S, G>(
+        rt, alloc, words, program, &graph, answers, sites, gate, workers, limit,
+    )
+}
+
+fn run_named<'x, P, R, S, G>(
+    rt: &'x R,
+    alloc: Global,
+    words: Unnamed,
+    program: &'x Program,
+    graph: &'x Graph,
+    answers: &'x Answers,
+    sites: &'x S,
+    gate: &'x G,
+    workers: usize,
+    limit: usize,
+) -> Result<Played, EngineFault>
+where
+    P: Run + Naming + Send + Sync,
+    R: Threads + Wait + Sync,
+    S: Sites + Sync,
+    S::Call: Send,
+    G: Gate + Sync,
+    requires limit { (1 ≤ limit) × (limit ≤ MOST_ENTRIES) }
+    requires named { limit ≡ P.limit }
+    requires program { program.now ≡ P.listing }
+    requires graph { graph.now ≡ P.listing }
+    requires answers { answers.now.sites ≡ P.sites }
+    requires kept { P.keeps ≡ true }
+    requires table { words.table.shared.table_id ≡ P.table }
+    requires words { words.table.shared.table_id.words ≡ 2 * MOST_GROUPS }
+    ensures played { IfOk result (λ p. IsPlayed program.now answers.now limit p.summary p.published.items p.journal) }
+    ensures kept { IfOk result (λ p. is_some p.journal ≡ true) }
+    ensures range { IfErr result (λ fault. fault ≡ EngineFault.Range → ⊥) }
+{
+    let (groups, mut supply) = words.named::<P>();
+    let Some(idle) = supply.take(&groups) else {
+        return Err(EngineFault::Broken);
+    };
+    let Ok(pass) = groups.open(idle, 0) else {
+        return Err(EngineFault::Broken);
+    };
+    let Ok((book, token)) = Book::<P>::new(alloc, graph, true, limit, WORDS, pass) else {
+        return Err(EngineFault::Memory);
+    };
+    let inputs = Inputs {
+        graph,
+        answers,
+        groups: &groups,
+    };
+    let shared = Mutex::new(Shared::new(alloc, book));
+    play(
+        rt, alloc, inputs, supply, token, &shared, sites, gate, workers,
+    )?;
+    let (book, stop) = shared.into_inner().into_book();
+    let scheduler = Scheduler::new(alloc, book.into_ledger(), true, true);
+    match scheduler.finish(program, graph, answers, stop) {
+        Ok(Some(played)) => Ok(played),
+        Ok(None) => unreachable!(),
+        Err(fault) => Err(fault),
+    }
+}
+
+// All workers play, until the run has stopped. The fault is Memory, where the workers' queues found none, or Broken where there are not as many passes.
+fn play<'x, P, R, S, G>(
+    rt: &'x R,
+    alloc: Global,
+    inputs: Inputs<'x, P>,
+    supply: Supply<P>,
+    token: Token<P>,
+    shared: &'x Mutex<Shared<P, S::Call>>,
+    sites: &'x S,
+    gate: &'x G,
+    workers: usize,
+) -> Result<(), EngineFault>
+where
+    P: Run + Naming + Send + Sync,
+    R: Threads + Wait + Sync,
+    S: Sites + Sync,
+    S::Call: Send,
+    G: Gate + Sync,
+    ensures range { IfErr result (λ fault. fault ≡ EngineFault.Range → ⊥) }
+{
+    let Ok(mut queues) = worker_queues::<Token<P>>(alloc, workers) else {
+        return Err(EngineFault::Memory);
+    };
+    let Some(queue) = queues.pop() else {
+        return Err(EngineFault::Broken);
+    };
+    let mut supply = supply;
+    let mut local = local_of(alloc, inputs.groups, &mut supply)?;
+    local.hold(token);
+    let wakeups = Condvar::new();
+    let idle = AtomicU64::new(0);
+    let may_wait = sites.may_wait() || gate.may_wait();
+    let context = Context {
+        alloc,
+        inputs,
+        shared,
+        wakeups: &wakeups,
+        idle: &idle,
+        sites,
+        gate,
+        may_wait,
+    };
+    let first = Worker {
+        rt,
+        context: &context,
+        queue,
+        local,
+        is_first: true,
+    };
+    let others = others_of(rt, &context, &mut supply, queues)?;
+    run_all(rt, first, others);
+    Ok(())
+}
+
+// What a worker has at first: passes.
+fn local_of<P: Naming>(
+    alloc: Global,
+    groups: &Groups<P>,
+    supply: &mut Supply<P>,
+) -> Result<Local<P>, EngineFault>
+    ensures range { IfErr result (λ fault. fault ≡ EngineFault.Range → ⊥) }
+{
+    match supply.part(groups, PASSES) {
+        Some(part) => Ok(Local::new(alloc, part)),
+        None => Err(EngineFault::Broken),
+    }
+}
+
+// The workers beside the first one, each with one of these queues.
+fn others_of<'h, P: Run + Naming, R: Wait, S: Sites, G: Gate>(
+    rt: &'h R,
+    context: &'h Context<'h, P, S, G>,
+    supply: &mut Supply<P>,
+    queues: Vec<WorkerQueue<Token<P>>>,
+) -> Result<Vec<Worker<'h, P, R, S, G>>, EngineFault>
+    ensures range { IfErr result (λ fault. fault ≡ EngineFault.Range → ⊥) }
+{
+    let mut others = Vec::new(context.alloc);
+    for queue in queues {
+        let local = local_of(context.alloc, context.inputs.groups, supply)?;
+        let worker = Worker {
+            rt,
+            context,
+            queue,
+            local,
+            is_first: false,
+        };
+        if others.push(worker).is_err() {
+            return Err(EngineFault::Memory);
+        }
+    }
+    Ok(others)
+}
+
+// The first worker's thread is the calling one. Another that can't be started is left out.
+fn run_all<'h, P, R, S, G>(
+    rt: &R,
+    first: Worker<'h, P, R, S, G>,
+    others: Vec<Worker<'h, P, R, S, G>>,
+)
+where
+    P: Run + Naming + Send + Sync,
+    R: Threads + Wait + Sync,
+    S: Sites + Sync,
+    S::Call: Send,
+    G: Gate + Sync,
+{
+    thread::scope(thread::scope_env(), rt, move |scope| {
+        for other in others {
+            start(scope, other);
+        }
+        first.work();
+    });
+}
+
+fn start<'s, 'h: 's, E, P, R, S, G>(scope: &Scope<'s, E>, worker: Worker<'h, P, R, S, G>)
+where
+    P: Run + Naming + Send + Sync + 's,
+    R: Wait + Sync,
+    S: Sites + Sync,
+    S::Call: Send,
+    G: Gate + Sync,
+{
+    let _left_out = scope.spawn(move || worker.work());
+}

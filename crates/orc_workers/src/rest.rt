@@ -1,0 +1,75 @@
+//! What there is for a worker that has no token.
+
+ghost use Rattle.std.specs.Prelude.{◌≡◌};
+
+use crate::shared::{OutsideWork, Shared, stop_of};
+use orc_book::Next;
+use orc_graph::Graph;
+use orc_log::Program;
+use orc_scheduler::Stop;
+use orc_word::Naming;
+
+impl<P: Program + Naming, C: Drop> Shared<P, C> {
+    /// What there is for a worker that has no token, no pass to leave and no group to close: a call that is due, else a tick. Rest where others have all that is
+    /// left.
+    pub(crate) fn look(&mut self, graph: &Graph) -> OutsideWork<C>
+        requires graph { graph.now ≡ P.listing }
+    {
+        if self.is_over() {
+            return OutsideWork::Over;
+        }
+        if let Some(work) = self.take_due() {
+            return work;
+        }
+        match self.book.next(graph) {
+            // The call that is due now is taken by another look.
+            Ok(Next::Ticked) => OutsideWork::None,
+            Ok(Next::Work) => OutsideWork::Rest,
+            Ok(Next::Quiet) => {
+                self.stop(Stop::Rests);
+                OutsideWork::Over
+            }
+            Err(why) => {
+                self.stop(stop_of(why));
+                OutsideWork::Over
+            }
+        }
+    }
+
+    /// What there is for the last worker that isn't at rest. Where there is nothing, nobody has what is left: the run stops.
+    pub(crate) fn look_last(&mut self, graph: &Graph) -> OutsideWork<C>
+        requires graph { graph.now ≡ P.listing }
+    {
+        match self.look(graph) {
+            OutsideWork::Rest => {
+                self.stop(Stop::Rests);
+                OutsideWork::Over
+            }
+            work => work,
+        }
+    }
+
+    /// A pending call that is due, to be asked again. None where there is none, or where other workers have them all.
+    pub(crate) fn take_due(&mut self) -> Option<OutsideWork<C>> {
+        let number = self.parked_due()?;
+        let call = self.pending.remove(&number)?;
+        Some(OutsideWork::Ask(number, self.book.now(), call))
+    }
+
+    /// Whether a call is due that no worker has.
+    pub(crate) fn has_due(&mut self) -> bool {
+        self.parked_due().is_some()
+    }
+
+    // The least number of a call that is due and that no worker has.
+    fn parked_due(&mut self) -> Option<u64> {
+        let mut number = 0;
+        for _ in 0..u64::MAX {
+            number = self.book.due_beyond(number)?;
+            if self.pending.contains_key(&number) {
+                return Some(number);
+            }
+        }
+        None
+    }
+}

@@ -1,0 +1,280 @@
+//! What the workers share under their one lock.
+
+use crate::inputs::Inputs;
+use crate::local::Local;
+use crate::moves::Step;
+use orc_book::{Book, BookFault, Ended};
+use orc_ledger_spec::LedgerFault;
+use orc_log::Program;
+use orc_rules::answers::Answers;
+use orc_rules::value::{Answer, Args};
+use orc_scheduler::Stop;
+use orc_site::{Due, Request, due_after};
+use orc_word::{Last, Naming};
+use std::alloc::Global;
+use std::collections::BTreeMap;
+use std::mem;
+
+/// The most moves under the lock by one worker, if another one is awake, and if none is.
+const MOVES: u32 = 16;
+
+const MOVES_ALONE: u32 = 64;
+
+/// What came of a call outside the lock.
+#[derive(Drop)]
+pub(crate) enum CallEvent<C: Drop> {
+    None,
+    Answered(u64, Answer),
+    /// The call with this number is answered then.
+    Waits(u64, Due, Box<C>),
+    /// The call with this number was due and didn't answer.
+    Late(u64),
+    /// Memory was refused.
+    Refused,
+}
+
+/// What a worker has to do outside the lock.
+#[derive(Drop)]
+pub(crate) enum OutsideWork<C: Drop> {
+    /// Nothing: its turn comes again.
+    None,
+    /// A call was recorded, which is to be made.
+    Make(Request),
+    /// The call with this number is due now, at this time.
+    Ask(u64, u64, Box<C>),
+    /// A token opens a group, and the words of killed groups leave no room for it.
+    MakeRoom,
+    /// There is nothing to do until another worker has something for it.
+    Rest,
+    Over,
+}
+
+/// The book of a run, the calls that wait until they are due, why the run stops, and where the workers are.
+pub(crate) struct Shared<P: Program + Naming, C: Drop> {
+    pub(crate) book: Book<P>,
+    pub(crate) pending: BTreeMap<u64, Box<C>>,
+    // Lent to the book for the arguments of a call.
+    pub(crate) args: Args,
+    stop: Option<Stop>,
+    // How often those that rest had to look again.
+    pub(crate) offers: u64,
+    pub(crate) working: u32,
+    // Of the working: those that rest.
+    pub(crate) resting: u32,
+}
+
+// Written out, so that each exit of a function that has one drops it by one call.
+impl<P: Program + Naming, C: Drop> Drop for Shared<P, C> {
+    fn drop(self) {
+        let Shared {
+            book,
+            pending,
+            args,
+            stop: _,
+            offers: _,
+            working: _,
+            resting: _,
+        } = self;
+        drop(book);
+        drop(pending);
+        drop(args);
+    }
+}
+
+impl<P: Program + Naming, C: Drop> Shared<P, C> {
+    /// A run at its beginning. The first worker, with the first token, is at work.
+    pub(crate) fn new(alloc: Global, book: Book<P>) -> Shared<P, C> {
+        Shared {
+            book,
+            pending: BTreeMap::new(alloc),
+            args: Args::new(),
+            stop: None,
+            offers: 0,
+            working: 1,
+            resting: 0,
+        }
+    }
+
+    /// The book, and why the run has stopped.
+    pub(crate) fn into_book(self) -> (Book<P>, Stop) {
+        let Shared {
+            book,
+            pending,
+            args,
+            stop,
+            offers: _,
+            working: _,
+            resting: _,
+        } = self;
+        drop(pending);
+        drop(args);
+        (book, stop.unwrap_or(Stop::Broken))
+    }
+
+    pub(crate) fn is_over(&self) -> bool {
+        self.stop.is_some()
+    }
+
+    /// The run stops, if it hasn't yet.
+    pub(crate) fn stop(&mut self, stop: Stop) {
+        if self.stop.is_none() {
+            self.stop = Some(stop);
+        }
+    }
+
+    /// The run stops for want of memory.
+    pub(crate) fn run_short(&mut self) {
+        self.stop(Stop::Refused(LedgerFault::Memory));
+    }
+
+    /// Whether all other workers rest.
+    pub(crate) fn is_alone(&self) -> bool {
+        self.working <= self.resting.saturating_add(1)
+    }
+
+    /// A worker's turn: it tells what came of its last call, groups that it was the last to leave are closed, then its tokens move until it has something to do
+    /// outside or has made its moves. Where a round begins, a call that is due goes first.
+    pub(crate) fn work(
+        &mut self,
+        inputs: &Inputs<'_, P>,
+        local: &mut Local<P>,
+        event: CallEvent<C>,
+        begins_round: bool,
+    ) -> OutsideWork<C> {
+        self.hear(inputs.answers, local, event);
+        self.close_groups(local);
+        if begins_round
+            && !self.is_over()
+            && let Some(work) = self.take_due()
+        {
+            return work;
+        }
+        let moves = if self.is_alone() { MOVES_ALONE } else { MOVES };
+        for _move in 0..moves {
+            if local.has_lost() {
+                self.run_short();
+            }
+            if self.is_over() {
+                return OutsideWork::Over;
+            }
+            let Some(token) = local.take_token() else {
+                return OutsideWork::None;
+            };
+            match self.step(inputs, local, token) {
+                Step::On => {}
+                Step::Calls(number) => return self.make(number),
+                Step::Full => return OutsideWork::MakeRoom,
+            }
+        }
+        OutsideWork::None
+    }
+
+    // What came of a call.
+    fn hear(&mut self, answers: &Answers, local: &mut Local<P>, event: CallEvent<C>) {
+        if self.is_over() {
+            return;
+        }
+        match event {
+            CallEvent::None => {}
+            CallEvent::Answered(number, answer) => self.answer(local, number, answer),
+            CallEvent::Waits(number, due, call) => self.park(answers, number, due, call),
+            CallEvent::Late(number) => {
+                // Sites that were told of its cancel need not answer it.
+                if self.book.request(number).is_some() {
+                    self.stop(Stop::Site(number));
+                }
+            }
+            CallEvent::Refused => self.run_short(),
+        }
+    }
+
+    // A call waits until it is due, if it still pends.
+    fn park(&mut self, answers: &Answers, number: u64, due: Due, call: Box<C>) {
+        let Some(request) = self.request(number) else {
+            return;
+        };
+        let found = answers.find(request.site, &request.args, request.nth);
+        if due != due_after(request.made_at, found) {
+            self.stop(Stop::Site(number));
+            return;
+        }
+        if self.pending.insert(number, call).is_err() {
+            self.run_short();
+        }
+    }
+
+    // A call that was recorded is to be made.
+    fn make(&mut self, number: u64) -> OutsideWork<C> {
+        match self.request(number) {
+            Some(request) => OutsideWork::Make(request),
+            None => {
+                self.stop(Stop::Broken);
+                OutsideWork::Over
+            }
+        }
+    }
+
+    // What the call with this number asks, if it pends.
+    fn request(&self, number: u64) -> Option<Request> {
+        let asked = self.book.request(number)?;
+        if asked.nth < 1 {
+            return None;
+        }
+        Some(Request {
+            number,
+            site: asked.site,
+            args: asked.args.copied(),
+            nth: asked.nth,
+            made_at: asked.made_at,
+        })
+    }
+
+    /// The groups that a worker was the last to leave are closed.
+    pub(crate) fn close_groups(&mut self, local: &mut Local<P>) {
+        for _ in 0..u64::MAX {
+            if self.is_over() {
+                return;
+            }
+            match local.take_last() {
+                Some(last) => self.close(local, last),
+                None => return,
+            }
+        }
+    }
+
+    fn close(&mut self, local: &mut Local<P>, last: Last<P>) {
+        match self.book.halt(last, &mut local.out.leave) {
+            Ok(Ended::Run) => self.stop(Stop::Rests),
+            Ok(Ended::Token(token)) => local.hold(token),
+            Ok(Ended::Lost(cell)) => self.wake(local, cell),
+            Ok(Ended::Group) => {}
+            Err(refused) => self.stop(stop_of(refused.why)),
+        }
+    }
+
+    /// Those of a worker's tokens that are there no more go, and their passes are to be left.
+    pub(crate) fn drop_gone(
+        &mut self,
+        alloc: Global,
+        inputs: &Inputs<'_, P>,
+        local: &mut Local<P>,
+    ) {
+        let tokens = mem::replace(&mut local.out.born, Vec::new(alloc));
+        for token in tokens {
+            match self.book.view(inputs.graph, token.slot, token.serial) {
+                Some(_) => local.hold(token),
+                None => local.put(token.pass),
+            }
+        }
+    }
+}
+
+/// Why a run stops at a move that is refused for a token that is there.
+pub(crate) fn stop_of(why: BookFault) -> Stop {
+    match why {
+        BookFault::Full => Stop::Refused(LedgerFault::Full),
+        BookFault::Limit => Stop::Refused(LedgerFault::Limit),
+        BookFault::Memory => Stop::Refused(LedgerFault::Memory),
+        BookFault::Gone | BookFault::Short | BookFault::Live | BookFault::Wrong => Stop::Broken,
+    }
+}

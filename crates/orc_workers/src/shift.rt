@@ -1,0 +1,318 @@
+//! Workers at work.
+
+use crate::context::Context;
+use crate::local::Local;
+use crate::poller::{Polled, Poller};
+use crate::shared::{CallEvent, OutsideWork};
+use orc_book::Token;
+use orc_ledger_spec::LedgerFault;
+use orc_log::Program;
+use orc_pool::WorkerQueue;
+use orc_rules::limits::MOST_TOKENS;
+use orc_scheduler::Stop;
+use orc_site::{Gate, Request, Sites};
+use orc_word::Naming;
+use std::sync::Wait;
+use std::sync::atomic::Ordering;
+use std::{mem, thread};
+
+/// The turns of a round. Between two rounds that token has its turn which has waited longest in the worker's queue, and a call that is due goes first.
+const ROUND: u32 = 64;
+
+/// After how many turns in a row with tokens enough for others a worker at rest is woken, where no worker may wait for another one.
+const PATIENCE: u32 = 16;
+
+/// So many tokens are enough for others.
+const SPARE: usize = 4;
+
+/// A worker at work.
+pub(crate) struct Shift<'h, P: Program + Naming, R: Wait, S: Sites, G: Gate> {
+    rt: &'h R,
+    context: &'h Context<'h, P, S, G>,
+    queue: WorkerQueue<Token<P>>,
+    // No fewer tokens than there are in its queue.
+    queued: usize,
+    local: Local<P>,
+    poller: Poller,
+    // What came of its last call.
+    event: CallEvent<S::Call>,
+    // Its turns in this round, and those in a row with tokens enough for others.
+    turns: u32,
+    rich: u32,
+}
+
+// Written out, so that each exit of a function that has one drops it by one call.
+impl<P: Program + Naming, R: Wait, S: Sites, G: Gate> Drop for Shift<'_, P, R, S, G> {
+    fn drop(self) {
+        let Shift {
+            rt: _,
+            context: _,
+            queue,
+            queued: _,
+            local,
+            poller,
+            event,
+            turns: _,
+            rich: _,
+        } = self;
+        drop(queue);
+        drop(local);
+        drop(poller);
+        drop(event);
+    }
+}
+
+impl<'h, P: Program + Naming, R: Wait, S: Sites, G: Gate> Shift<'h, P, R, S, G> {
+    pub(crate) fn new(
+        rt: &'h R,
+        context: &'h Context<'h, P, S, G>,
+        queue: WorkerQueue<Token<P>>,
+        local: Local<P>,
+        poller: Poller,
+    ) -> Shift<'h, P, R, S, G> {
+        Shift {
+            rt,
+            context,
+            queue,
+            queued: 0,
+            local,
+            poller,
+            event: CallEvent::None,
+            turns: 0,
+            rich: 0,
+        }
+    }
+
+    /// What it has to do outside the lock next. It waits here while others have all that is left.
+    pub(crate) fn next_work(&mut self) -> OutsideWork<S::Call> {
+        if self.has_turn() {
+            self.turn()
+        } else {
+            self.rest()
+        }
+    }
+
+    // Whether it has something to tell, or a token, by now one of its queue or of another's.
+    fn has_turn(&mut self) -> bool {
+        if !matches!(&self.event, CallEvent::None) || !self.local.is_empty() {
+            return true;
+        }
+        match self.queue.next() {
+            Some(token) => {
+                self.queued = self.queued.saturating_sub(1);
+                self.local.hold(token);
+                true
+            }
+            None => {
+                self.queued = 0;
+                false
+            }
+        }
+    }
+
+    // A turn under the lock.
+    fn turn(&mut self) -> OutsideWork<S::Call> {
+        self.turns = self.turns.saturating_add(1);
+        let begins_round = self.turns > ROUND;
+        if begins_round {
+            self.turns = 0;
+            self.take_oldest();
+        }
+        let event = mem::replace(&mut self.event, CallEvent::None);
+        let context = self.context;
+        let mut shared = context.shared.lock(self.rt);
+        let work = shared.work(&context.inputs, &mut self.local, event, begins_round);
+        match &work {
+            OutsideWork::Over => context.wakeups.notify_all(),
+            OutsideWork::Make(_) | OutsideWork::Ask(_, _, _) => {
+                context.leave_due(&mut shared);
+            }
+            _ => {}
+        }
+        work
+    }
+
+    // The token that has waited longest in its queue goes next.
+    fn take_oldest(&mut self) {
+        self.share(0);
+        if let Some(token) = self.queue.oldest() {
+            self.queued = self.queued.saturating_sub(1);
+            self.local.hold(token);
+        }
+    }
+
+    /// What is to be done outside the lock. Whether the run is over.
+    pub(crate) fn do_work(&mut self, work: OutsideWork<S::Call>) -> bool {
+        self.settle();
+        self.cancel();
+        match work {
+            OutsideWork::None | OutsideWork::Rest => self.share(1),
+            OutsideWork::MakeRoom => self.make_room(),
+            OutsideWork::Make(request) => {
+                self.go_outside();
+                self.event = self.make(request);
+            }
+            OutsideWork::Ask(number, now, call) => {
+                self.go_outside();
+                self.event = self.ask(number, now, call);
+            }
+            OutsideWork::Over => return true,
+        }
+        if self.queued > MOST_TOKENS {
+            self.make_room();
+        }
+        false
+    }
+
+    // Leaves what is to be left.
+    fn settle(&mut self) {
+        let context = self.context;
+        let groups = context.inputs.groups;
+        self.local.settle(groups);
+    }
+
+    // Tells the sites which calls were cancelled.
+    fn cancel(&mut self) {
+        for number in self.local.out.cancelled.iter() {
+            self.context.sites.cancel(*number);
+        }
+        self.local.out.cancelled.clear();
+    }
+
+    // Puts its tokens into its queue, but so many that were born last: others may take them there.
+    fn share(&mut self, keep: usize) {
+        let count = self.local.out.born.len().saturating_sub(keep);
+        if count == 0 {
+            return;
+        }
+        let mut refused = None;
+        for token in self.local.out.born.drain(..count) {
+            if let Err(token) = self.queue.push(token) {
+                refused = Some(token);
+            }
+        }
+        if let Some(token) = refused {
+            self.local.hold(token);
+            self.run_short();
+        }
+        self.queued = self.queued.saturating_add(count);
+        self.offer(count);
+    }
+
+    // Where no worker may wait for another one, the others are left at rest until there are tokens enough for some time: to wake one takes longer than a few moves.
+    fn offer(&mut self, count: usize) {
+        if self.context.may_wait {
+            self.context.offer(self.rt, count);
+            return;
+        }
+        if self.queued <= SPARE {
+            self.rich = 0;
+            return;
+        }
+        self.rich = self.rich.saturating_add(1);
+        if self.rich >= PATIENCE {
+            self.rich = 0;
+            self.context.offer(self.rt, 1);
+        }
+    }
+
+    // Memory was refused for a token.
+    fn run_short(&self) {
+        self.context
+            .stop(self.rt, Stop::Refused(LedgerFault::Memory));
+    }
+
+    // Before it goes outside, where it may wait for others: all that others may need is handed over.
+    fn go_outside(&mut self) {
+        if !self.context.may_wait {
+            self.share(1);
+            return;
+        }
+        self.leave_groups();
+        self.share(0);
+    }
+
+    // Leaves all its passes, and closes the groups that it is the last to leave.
+    fn leave_groups(&mut self) {
+        self.local.go_to(None);
+        for _ in 0..u64::MAX {
+            self.settle();
+            if self.local.is_settled() {
+                return;
+            }
+            let context = self.context;
+            let mut shared = context.shared.lock(self.rt);
+            shared.close_groups(&mut self.local);
+            if shared.is_over() {
+                context.wakeups.notify_all();
+                return;
+            }
+        }
+    }
+
+    // Killed groups' words are taken until the tokens that were in them have left: takes all tokens that it finds, and drops those that are there no more.
+    fn make_room(&mut self) {
+        for _ in 0..u64::MAX {
+            match self.queue.next() {
+                Some(token) => self.local.hold(token),
+                None => break,
+            }
+        }
+        self.queued = 0;
+        self.drop_gone();
+        self.leave_groups();
+        self.share(0);
+        thread::yield_now();
+    }
+
+    fn drop_gone(&mut self) {
+        let context = self.context;
+        let mut shared = context.shared.lock(self.rt);
+        shared.drop_gone(context.alloc, &context.inputs, &mut self.local);
+    }
+
+    // Makes a call, and asks for its answer.
+    fn make(&self, request: Request) -> CallEvent<S::Call> {
+        self.context.gate.pass(request.number);
+        let Ok(mut call) = self.context.sites.call(&request) else {
+            return CallEvent::Refused;
+        };
+        match self.poller.ask(&mut call, request.made_at) {
+            Polled::Answered(answer) => CallEvent::Answered(request.number, answer),
+            Polled::Late => CallEvent::Late(request.number),
+            Polled::Waits(due) => match Box::new(self.context.alloc, call) {
+                Ok(call) => CallEvent::Waits(request.number, due, call),
+                Err(_) => CallEvent::Refused,
+            },
+        }
+    }
+
+    // Asks a call again, which is due.
+    fn ask(&self, number: u64, now: u64, mut call: Box<S::Call>) -> CallEvent<S::Call> {
+        match self.poller.ask(&mut *call, now) {
+            Polled::Answered(answer) => CallEvent::Answered(number, answer),
+            Polled::Late | Polled::Waits(_) => CallEvent::Late(number),
+        }
+    }
+
+    // It has nothing: leaves its passes, looks what there is, looks round once more, and rests.
+    fn rest(&mut self) -> OutsideWork<S::Call> {
+        self.local.go_to(None);
+        self.settle();
+        if !self.local.is_settled() {
+            return OutsideWork::None;
+        }
+        let (work, seen) = self.context.look(self.rt);
+        if !matches!(&work, OutsideWork::Rest) {
+            return work;
+        }
+        self.context.idle.fetch_add(1, Ordering::SeqCst);
+        let work = if self.has_turn() {
+            OutsideWork::None
+        } else {
+            self.context.rest(self.rt, seen)
+        };
+        self.context.idle.fetch_sub(1, Ordering::SeqCst);
+        work
+    }
+}

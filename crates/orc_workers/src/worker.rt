@@ -1,0 +1,54 @@
+//! Workers before their work begins.
+
+use crate::context::Context;
+use crate::local::Local;
+use crate::poller::Poller;
+use crate::shift::Shift;
+use orc_book::Token;
+use orc_ledger_spec::LedgerFault;
+use orc_log::Program;
+use orc_pool::WorkerQueue;
+use orc_scheduler::Stop;
+use orc_site::{Gate, Sites};
+use orc_word::Naming;
+use std::sync::Wait;
+
+/// A worker before its work begins.
+#[derive(Drop)]
+pub(crate) struct Worker<'h, P: Program + Naming, R: Wait, S: Sites, G: Gate> {
+    pub rt: &'h R,
+    pub context: &'h Context<'h, P, S, G>,
+    pub queue: WorkerQueue<Token<P>>,
+    pub local: Local<P>,
+    pub is_first: bool,
+}
+
+impl<P: Program + Naming, R: Wait, S: Sites, G: Gate> Worker<'_, P, R, S, G> {
+    /// Works until the run is over. Where memory is refused before it begins another worker is left out, and with the first one the run stops.
+    pub(crate) fn work(self) {
+        let Worker {
+            rt,
+            context,
+            queue,
+            local,
+            is_first,
+        } = self;
+        let Ok(poller) = Poller::new(context.alloc) else {
+            if is_first {
+                context.stop(rt, Stop::Refused(LedgerFault::Memory));
+            }
+            return;
+        };
+        // The first one counts from the beginning on.
+        if !is_first {
+            context.join(rt);
+        }
+        let mut shift = Shift::new(rt, context, queue, local, poller);
+        for _ in rt.forever() {
+            let work = shift.next_work();
+            if shift.do_work(work) {
+                return;
+            }
+        }
+    }
+}
