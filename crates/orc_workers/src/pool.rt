@@ -1,9 +1,8 @@
 //! Several workers: the calling thread, and others beside it.
 
-ghost use Rattle.std.specs.Prelude.{◌≡◌, ◌≤◌, ◌*◌, ◌↔◌, true, Err, is_some, IfOk, IfErr};
-ghost use Rattle.orc_rules.specs.declared.limits.TheConstants.{MOST_ENTRIES, MOST_GROUPS};
+ghost use Rattle.std.specs.Prelude.{◌≡◌, ◌≤◌, ◌*◌, true, is_some, IfOk, IfErr};
+ghost use Rattle.orc_rules.specs.declared.limits.TheConstants.{MOST_ENTRIES, MOST_GROUPS, MOST_WORKERS};
 ghost use Rattle.orc_outcome.specs.Outcome.{IsPlayed};
-ghost use Rattle.orc_workers.specs.Ranges.{IsInRange};
 
 use crate::context::Context;
 use crate::inputs::Inputs;
@@ -16,7 +15,7 @@ use orc_log::Program as Run;
 use orc_outcome::Played;
 use orc_pool::{WorkerQueue, worker_queues};
 use orc_rules::answers::Answers;
-use orc_rules::limits::{MOST_ENTRIES, MOST_GROUPS, MOST_WORKERS};
+use orc_rules::limits::{MOST_ENTRIES, MOST_GROUPS};
 use orc_rules::program::Program;
 use orc_scheduler::{EngineFault, Scheduler};
 use orc_site::{Gate, Sites};
@@ -34,45 +33,41 @@ const WORDS: u32 = 2 * MOST_GROUPS as u32;
 /// The passes of each worker: more than the entries of a run take.
 const PASSES: u32 = 4 * MOST_ENTRIES as u32;
 
-/// Runs a program on the calling thread and `workers - 1` more, which hold its tokens; one that can't be started is left out. The journal has at most `limit`
-/// entries, cancels not counted, and is kept. What the rules leave free comes as the workers make it.
+/// Runs a program whose graph is built, on the calling thread and `workers - 1` more, which hold its tokens; one that can't be started is left out.
+/// The journal has at most `limit` entries, cancels not counted, and is kept. What the rules leave free comes as the workers make it.
 ///
 /// Each call goes through `gate`, is made by `sites` and polled outside every lock, and `sites` is told which ones are cancelled.
 ///
-/// The fault is Range where there are no workers or over `MOST_WORKERS`, or the limit is 0 or over `MOST_ENTRIES`, and then alone; Site where the sites answered a
-/// call otherwise than the table says, or not when it was due; Broken where something is left that no worker has; or Memory where memory was refused before the
-/// run began, or for what is told of it.
-pub fn run_pool<R, S, G>(
+/// The fault is Site where the sites answered a call otherwise than the table says, or not when it was due; Broken where something is left that no
+/// worker has; or Memory where memory was refused before the run began, or for what is told of it.
+pub fn run_graph<R, S, G>(
     rt: &R,
     alloc: Global,
     program: &Program,
+    graph: &Graph,
     answers: &Answers,
     sites: &S,
     gate: &G,
     workers: usize,
-    limit: u64,
+    limit: usize,
 ) -> Result<Played, EngineFault>
 where
     R: Threads + Wait + Sync,
     S: Sites + Sync,
     S::Call: Send,
     G: Gate + Sync,
+    requires workers { (1 ≤ workers) × (workers ≤ MOST_WORKERS) }
+    requires limit { (1 ≤ limit) × (limit ≤ MOST_ENTRIES) }
+    requires graph { graph.now ≡ program.now }
     ensures played { IfOk result (λ p. IsPlayed program.now answers.now limit p.summary p.published.items p.journal) }
     ensures kept { IfOk result (λ p. is_some p.journal ≡ true) }
-    ensures range { result ≡ Err EngineFault.Range ↔ (IsInRange workers limit → ⊥) }
+    ensures range { IfErr result (λ fault. fault ≡ EngineFault.Range → ⊥) }
 {
-    if workers < 1 || workers > MOST_WORKERS || limit < 1 || limit > MOST_ENTRIES {
-        return Err(EngineFault::Range);
-    }
-    let Ok(graph) = Graph::build(alloc, program) else {
-        return Err(EngineFault::Memory);
-    };
-    let limit = limit as usize;
     let Ok(words) = Unnamed::new(alloc, WORDS, PASSES * workers as u32 + 1) else {
         return Err(EngineFault::Memory);
     };
     run_named::<Brand, R, S, G>(
-        rt, alloc, words, program, &graph, answers, sites, gate, workers, limit,
+        rt, alloc, words, program, graph, answers, sites, gate, workers, limit,
     )
 }
 

@@ -1,6 +1,6 @@
 -- The program, the sites and the limit of the run name the ledger's, whose journal is kept; and the words name their own table.
 use Rattle.std.proofs.Common.{true}
-use Rattle.orc_workers.proofs.pool.run_pool.Given as goal
+use Rattle.orc_workers.proofs.pool.run_graph.Given as goal
 
 abbrev pub ghosts-run_named-P-Program : goal.ghosts-run_named-P-Program
 ghosts-run_named-P-Program g a = record { listing = a.program.now; sites = a.answers.now.sites; limit = a.limit; keeps = true }

@@ -1,7 +1,0 @@
--- What a run may be asked for.
-use Rattle.std.specs.Prelude.{◌≤◌, ℕ}
-use Rattle.orc_rules.specs.declared.limits.TheConstants.{MOST_ENTRIES, MOST_WORKERS}
-
--- so many workers, and at most so many entries
-abbrev pub IsInRange : ℕ → ℕ → Type 0
-IsInRange workers limit = ((1 ≤ workers) × (workers ≤ MOST_WORKERS)) × ((1 ≤ limit) × (limit ≤ MOST_ENTRIES))
