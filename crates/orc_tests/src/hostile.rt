@@ -240,6 +240,7 @@ fn a_held_call_takes_no_group(rt: HostRuntime) -> Result<(), Fail> {
     Ok(())
 }
 
+// A call that is refused memory ends the run; but one that another worker's bind has cancelled may be heard of too late.
 #[test]
 fn sites_may_be_refused_memory(rt: HostRuntime) -> Result<(), Fail> {
     let alloc = rt.alloc();
@@ -259,8 +260,12 @@ fn sites_may_be_refused_memory(rt: HostRuntime) -> Result<(), Fail> {
                 );
                 assert!(rt; run.is_ok());
                 if let Ok(run) = run {
-                    assert_eq!(rt; run.summary.end, End::Memory, "at {number} on {workers}");
                     assert!(rt; is_accepted(alloc, source, b"", &run));
+                    let journal = String::from_utf8(text_of(alloc, b"", &run))?;
+                    let cancelled = cancels_in(alloc, journal.as_str())?.contains(&number);
+                    if !cancelled || run.summary.end != End::Halted {
+                        assert_eq!(rt; run.summary.end, End::Memory, "at {number} on {workers}");
+                    }
                 }
             }
         }
