@@ -116,6 +116,7 @@ impl<P: Naming> Local<P> {
         if let Some(pass) = pass
             && let Err(refused) = self.births.same.push(pass)
         {
+            self.has_lost = true;
             self.put(refused.value);
         }
     }
@@ -124,6 +125,7 @@ impl<P: Naming> Local<P> {
         if let Some(pass) = pass
             && let Err(refused) = self.births.idle.push(pass)
         {
+            self.has_lost = true;
             self.put(refused.value);
         }
     }
@@ -175,7 +177,7 @@ impl<P: Naming> Local<P> {
         self.out.born.is_empty() && self.is_settled()
     }
 
-    /// Whether memory was refused for a token, for a pass that was to be left, or for a group that is to be closed: such a group never ends.
+    /// Whether memory was refused for a token, for a pass, or for a group that is to be closed: such a group never ends.
     pub(crate) fn has_lost(&self) -> bool {
         self.has_lost
     }

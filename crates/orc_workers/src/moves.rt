@@ -45,6 +45,10 @@ impl<P: Program + Naming, C: Drop> Shared<P, C> {
             Action::Wait(_) => self.wait(inputs, local, token),
             what => {
                 local.prepare(inputs.groups, view.needs, &token.pass);
+                if local.has_lost() {
+                    self.run_short();
+                    return Step::On;
+                }
                 let step = self.move_on(inputs, local, token);
                 if let Action::Fork = what {
                     turn_last_two(local);

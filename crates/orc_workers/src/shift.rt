@@ -85,6 +85,7 @@ impl<'h, P: Program + Naming, R: Wait, S: Sites, G: Gate> Shift<'h, P, R, S, G> 
 
     /// What it has to do outside the lock next. It waits here while others have all that is left.
     pub(crate) fn next_work(&mut self) -> OutsideWork<S::Call> {
+        self.tell_lost();
         if self.has_turn() {
             self.turn()
         } else {
@@ -216,7 +217,14 @@ impl<'h, P: Program + Naming, R: Wait, S: Sites, G: Gate> Shift<'h, P, R, S, G> 
         }
     }
 
-    // Memory was refused for a token.
+    // The run stops where something was lost.
+    fn tell_lost(&self) {
+        if self.local.has_lost() {
+            self.run_short();
+        }
+    }
+
+    // Memory was refused.
     fn run_short(&self) {
         self.context
             .stop(self.rt, Stop::Refused(LedgerFault::Memory));
@@ -230,6 +238,7 @@ impl<'h, P: Program + Naming, R: Wait, S: Sites, G: Gate> Shift<'h, P, R, S, G> 
         }
         self.leave_groups();
         self.share(0);
+        self.tell_lost();
     }
 
     // Leaves all its passes, and closes the groups that it is the last to leave.
