@@ -139,13 +139,18 @@ impl<'a> Columns<'a> {
         page.say("  ")
     }
 
+    // A number that would touch the one before it is left out, and one that would touch that of the last time.
     fn times(&self, page: &mut Page) {
         self.head(page, "time", 0);
         self.number(page, None);
+        let instants = &self.picture.slots.instants;
+        let last = instants.len().saturating_sub(1);
         let mut written: u64 = 0;
-        for (i, instant) in self.picture.slots.instants.iter().enumerate() {
+        for (i, instant) in instants.iter().enumerate() {
             let begin = self.begin(i);
-            if written == 0 || begin > written.saturating_add(1) {
+            let end = begin.saturating_add(digits(instant.time));
+            let is_apart = i == last || self.begin(last) > end.saturating_add(1);
+            if written == 0 || (is_apart && begin > written.saturating_add(1)) {
                 page.fill(' ', begin.saturating_sub(written));
                 page.number(instant.time);
                 written = begin.max(written).saturating_add(digits(instant.time));

@@ -169,11 +169,11 @@ fn say_wrong_form(page: &mut Page, alloc: Global, subject: &Subject, line: &[u8]
                 return;
             };
             if answers.site_named(name).is_none() {
-                page.say_word(
-                    "no site is called `",
-                    name,
-                    "`: is this the script of that run?\n",
-                );
+                page.say_word("no site is called `", name, "`: ");
+                page.say(match subject.script {
+                    Some(_) => "is this the script of that run?\n",
+                    None => "was the journal written with a script? Give it with --script\n",
+                });
                 return;
             }
         }

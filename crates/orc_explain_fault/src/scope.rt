@@ -2,6 +2,7 @@
 
 use crate::bindings::{Binder, Binding, Bindings};
 use crate::hint::{Hint, say_hint};
+use crate::outline::Outline;
 use crate::syntax::say_refused;
 use crate::tokens::span_at;
 use crate::wanted::NO_IF;
@@ -82,6 +83,27 @@ fn arguments_at(ast: &Ast, at: usize) -> usize {
     arguments_in(&ast.main, at).unwrap_or(0)
 }
 
+fn has_call(expression: &Expr, name: &[u8]) -> bool {
+    for node in &expression.nodes {
+        if let Part::Call(called, _) = node.part {
+            if called.text == name {
+                return true;
+            }
+        }
+    }
+    false
+}
+
+// Whether the program calls a name.
+fn calls(ast: &Ast, name: &[u8]) -> bool {
+    for definition in &ast.definitions {
+        if has_call(&definition.body, name) {
+            return true;
+        }
+    }
+    has_call(&ast.main, name)
+}
+
 fn has_wide_call(expression: &Expr) -> bool {
     for node in &expression.nodes {
         if let Part::Call(_, count) = node.part {
@@ -136,8 +158,8 @@ fn near_word(near: &mut Near) -> Option<&'static [u8]> {
     nearest
 }
 
-// The site that is nearer than what came before.
-fn near_site<'a>(near: &mut Near, answers: &'a Answers) -> Option<&'a [u8]> {
+/// The site that is nearer than what came before.
+pub(crate) fn near_site<'a>(near: &mut Near, answers: &'a Answers) -> Option<&'a [u8]> {
     let mut nearest = None;
     for site in 0..u32::MAX {
         let Some(name) = answers.name(site) else {
@@ -370,8 +392,32 @@ fn say_near_site(
         page.refuse();
     }
     match site.or(text_of(definition)) {
-        Some(other) => say_meant(page, other),
+        Some(other) if calls(ast, other) => say_meant(page, other),
+        Some(other) => say_perhaps_script(page, alloc, subject, other, name),
         None => say_own_site(page, subject, name, arguments_at(ast, at)),
+    }
+}
+
+// The name that may have been meant and isn't called. Where a line of the script has it, either one may be wrong.
+fn say_perhaps_script(
+    page: &mut Page,
+    alloc: Global,
+    subject: &Subject,
+    meant: &[u8],
+    name: &[u8],
+) {
+    let Ok(script) = Outline::new(alloc, subject.script_text()) else {
+        page.refuse();
+        return;
+    };
+    match script.service(meant) {
+        Some(line) => {
+            page.note("help: ");
+            page.say_number("line ", line as u64, " of the script has `");
+            page.word(meant);
+            page.say_word("`, the program calls `", name, "`\n");
+        }
+        None => say_meant(page, meant),
     }
 }
 

@@ -2,7 +2,7 @@
 
 use crate::signs::{NO_ORDER_MARK, ORDER_MARK};
 use crate::syntax::{say_long, say_refused};
-use crate::words::{RESERVED, is_one_of};
+use crate::words::{CONSTANTS, RESERVED, is_one_of};
 use orc_lex::token::Span;
 use orc_report::{Document, Page, Subject};
 use orc_rules::builtin::Builtin;
@@ -19,9 +19,6 @@ const ANSWER: &str = "an answer is a number, `true`, `false`, `signal`, `halt` o
 
 const TIME: &str = "digits alone, at most 9223372036854775807";
 
-/// The values that are no numbers.
-const CONSTANTS: [&[u8]; 3] = [b"true", b"false", b"signal"];
-
 /// What a piece of a line is.
 #[derive(Clone, Copy, PartialEq, Eq)]
 pub(crate) enum Kind {
@@ -35,9 +32,9 @@ pub(crate) enum Kind {
 /// A piece of a line.
 #[derive(Clone, Copy)]
 pub struct Piece<'a> {
-    kind: Kind,
+    pub(crate) kind: Kind,
     pub text: &'a [u8],
-    span: Span,
+    pub(crate) span: Span,
 }
 
 /// What is wrong with a line.
@@ -58,6 +55,13 @@ enum Wrong {
     Many,
 }
 
+impl Piece<'_> {
+    /// Whether it is this word or sign.
+    pub(crate) fn is(&self, text: &[u8]) -> bool {
+        self.text == text
+    }
+}
+
 // The piece that begins at a place of a line.
 fn kind_at(rest: &[u8]) -> Kind {
     match rest {
@@ -75,7 +79,7 @@ fn length(kind: Kind, rest: &[u8]) -> usize {
             .iter()
             .position(|byte| !byte.is_ascii_alphanumeric() && *byte != b'_'),
         Kind::Number => more.iter().position(|byte| !byte.is_ascii_digit()),
-        _ => Some(0),
+        _ => Some(if rest.starts_with(b"..") { 1 } else { 0 }),
     };
     match end {
         Some(end) => end.saturating_add(1),
@@ -83,8 +87,8 @@ fn length(kind: Kind, rest: &[u8]) -> usize {
     }
 }
 
-// Whether a number is one of 64 signed bits.
-fn is_in_range(text: &[u8]) -> bool {
+/// Whether a number is one of 64 signed bits.
+pub(crate) fn is_in_range(text: &[u8]) -> bool {
     match text {
         [b'-', digits @ ..] => match digits_at(digits) {
             Some((number, _)) => number <= 1 << 63,
@@ -148,25 +152,32 @@ impl<'a> Line<'a> {
         Ok(())
     }
 
-    // The piece that is looked at.
-    fn here(&self) -> Piece<'a> {
+    /// The piece that is looked at.
+    pub(crate) fn here(&self) -> Piece<'a> {
         self.pieces.get(self.at).copied().unwrap_or(self.end)
     }
 
-    // Whether a point or letters stand here, right behind a number.
-    fn lengthens_number(&self) -> bool {
+    /// The piece behind it.
+    pub(crate) fn next(&self) -> Piece<'a> {
+        let next = self.pieces.get(self.at.saturating_add(1));
+        next.copied().unwrap_or(self.end)
+    }
+
+    /// Whether points or letters stand here, right behind a number.
+    pub(crate) fn lengthens_number(&self) -> bool {
         let here = self.here();
         match self.pieces.get(self.at.saturating_sub(1)) {
             Some(before) => {
                 before.kind == Kind::Number
                     && before.span.end == here.span.start
-                    && (here.kind == Kind::Name || here.text == b".".as_slice())
+                    && (here.kind == Kind::Name || here.text.starts_with(b"."))
             }
             None => false,
         }
     }
 
-    fn go(&mut self) {
+    /// Looks at the next piece.
+    pub(crate) fn go(&mut self) {
         self.at = self.at.saturating_add(1);
     }
 
@@ -385,9 +396,10 @@ fn name_advice(document: &Document, here: Piece) -> &'static str {
     }
 }
 
-// What to do about what stands right behind a number.
-fn number_advice(here: Piece) -> &'static str {
+/// What to do about what stands right behind a number.
+pub(crate) fn number_advice(here: Piece) -> &'static str {
     match here.text {
+        b".." => "a range stands only in a test",
         b"." => "numbers are whole",
         _ => "numbers are digits alone: a time has no unit",
     }

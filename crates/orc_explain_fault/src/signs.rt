@@ -22,7 +22,7 @@ pub(crate) const NO_ORDER_MARK: &str =
     "this is a byte order mark: save the file as UTF-8 without one";
 
 // What is said of signs, the first that fits.
-const HINTS: [(&[u8], &str); 20] = [
+const HINTS: [(&[u8], &str); 22] = [
     (ORDER_MARK, NO_ORDER_MARK),
     (b"//", COMMENT),
     (b"/*", COMMENT),
@@ -36,6 +36,7 @@ const HINTS: [(&[u8], &str); 20] = [
         "both side by side is `f | g`; to wait for both is `val a = f val b = g ..`",
     ),
     (b"+", "`Add(a, b)` is a sum"),
+    (b"->", "`f >x> g` hands the values of f on to g"),
     (
         b"-",
         "`Sub(a, b)` is a difference; a `-` belongs to a number where a digit follows",
@@ -53,12 +54,13 @@ const HINTS: [(&[u8], &str); 20] = [
     (b"}", BRACKETS),
     (b"!", "`Iff(b)` goes on where b is false"),
     (b".", "numbers are whole, and there are no fields"),
+    (b":=", "a value is named with `val x = g f`"),
     (b":", "there are no types, and no records"),
     (b"_", "a name begins with a letter"),
 ];
 
 // Two signs that are read as one elsewhere.
-const SIGN_PAIRS: [&[u8]; 3] = [b"//", b"/*", b"&&"];
+const SIGN_PAIRS: [&[u8]; 5] = [b"//", b"/*", b"&&", b"->", b":="];
 
 fn is_pair(text: &[u8], at: usize) -> bool {
     let rest = text.get(at..).unwrap_or(b"");

@@ -14,6 +14,11 @@ const WHOLE: &str = "`val` begins a whole expression: put `( .. )` around it";
 
 const NO_TUPLES: &str = "there are no tuples: a `,` stands only between arguments and parameters";
 
+const OPEN: &str = "the bracket that is still open stands in @";
+
+/// Words that are whole expressions.
+const WORDS: [&[u8]; 4] = [b"stop", b"true", b"false", b"signal"];
+
 /// Signs behind which something has to follow.
 const SIGNS: [&[u8]; 9] = [b"|", b";", b">", b"<", b">>", b"<<", b"=", b"(", b","];
 
@@ -39,7 +44,7 @@ const MISPLACED: [(&[u8], &str); 2] = [
 ];
 
 /// What two tokens say, the second in place of an expression; nothing at either end of the text.
-const PAIRS: [(&[u8], &[u8], &str); 3] = [
+const PAIRS: [(&[u8], &[u8], &str); 4] = [
     (
         b"",
         b"",
@@ -49,6 +54,11 @@ const PAIRS: [(&[u8], &[u8], &str); 3] = [
         b"(",
         b")",
         "empty brackets stand only behind the name of a call",
+    ),
+    (
+        b"(",
+        b",",
+        "a `,` stands only between two arguments or parameters",
     ),
     (
         b"|",
@@ -243,6 +253,29 @@ impl<'a> Around<'_, 'a> {
         None
     }
 
+    // A word that is no call, and its brackets.
+    fn bracketed_word(&self) -> Option<Hint<'a>> {
+        let last = self.back(1);
+        if self.here() == b"(".as_slice() && is_one_of(last, WORDS.as_slice()) {
+            return Some(Hint::of_name("`%` takes no brackets", last));
+        }
+        None
+    }
+
+    // The bracket that is still open where a line begins with `def`.
+    fn unclosed(&self) -> Option<Hint<'a>> {
+        let here = self.tokens.here?;
+        let last = self.tokens.back(1)?;
+        let open = self.open_bracket()?;
+        if self.here() != b"def".as_slice()
+            || !self.is_line_between(last, here)
+            || last.span.start == open.span.start
+        {
+            return None;
+        }
+        Some(Hint::of_place(OPEN, b"", open.span.start))
+    }
+
     // Whether the token at the place is a `=` that compares.
     fn is_equality(&self, what: What) -> bool {
         let equals = b"=".as_slice();
@@ -252,6 +285,9 @@ impl<'a> Around<'_, 'a> {
     // A word or a sign of another language.
     fn foreign(&self, what: What) -> Option<Hint<'a>> {
         if let Some(hint) = self.foreign_word() {
+            return Some(hint);
+        }
+        if let Some(hint) = self.bracketed_word() {
             return Some(hint);
         }
         if self.is_equality(what) {
@@ -273,6 +309,9 @@ impl<'a> Around<'_, 'a> {
         if let Some(words) = said_of_pair(last, here) {
             return Some(Hint::plain(words));
         }
+        if let Some(hint) = self.named_operator() {
+            return Some(hint);
+        }
         if is_one_of(last, SIGNS.as_slice()) {
             return Some(Hint::of_name("something has to follow `%`", last));
         }
@@ -280,6 +319,20 @@ impl<'a> Around<'_, 'a> {
             return Some(self.main_expression());
         }
         None
+    }
+
+    // An operator with a name that stands before the place.
+    fn named_operator(&self) -> Option<Hint<'a>> {
+        let sign = self.back(1);
+        let name = name_of(self.tokens.back(2))?;
+        if self.back(3) != sign {
+            return None;
+        }
+        match sign {
+            b">" => Some(Hint::of_name("something has to follow `>%>`", name)),
+            b"<" => Some(Hint::of_name("something has to follow `<%<`", name)),
+            _ => None,
+        }
     }
 
     // Where definitions or `val`s stand, and no expression behind them.
@@ -376,12 +429,8 @@ impl<'a> Around<'_, 'a> {
     // A bracket that isn't closed here. What it is where the bracket stands in this line.
     fn close(&self, otherwise: &'static str) -> Hint<'a> {
         if let Some(open) = self.open_bracket() {
-            if self.is_line_since(open) {
-                return Hint::of_place(
-                    "the bracket that is still open stands in @",
-                    b"",
-                    open.span.start,
-                );
+            if self.is_line_since(open) || self.here() == b"def".as_slice() {
+                return Hint::of_place(OPEN, b"", open.span.start);
             }
         }
         Hint::plain(match self.here() {
@@ -426,6 +475,9 @@ fn is_behind_expression(what: What) -> bool {
 pub(crate) fn hint_of<'a>(text: &'a [u8], tokens: &Tokens<'a>, what: What) -> Option<Hint<'a>> {
     let around = Around { text, tokens };
     if let Some(hint) = around.foreign(what) {
+        return Some(hint);
+    }
+    if let Some(hint) = around.unclosed() {
         return Some(hint);
     }
     match what {

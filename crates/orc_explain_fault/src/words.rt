@@ -5,6 +5,9 @@
 /// The words that no name can be.
 pub(crate) const RESERVED: [&[u8]; 6] = [b"def", b"val", b"stop", b"true", b"false", b"signal"];
 
+/// The values that are no numbers.
+pub(crate) const CONSTANTS: [&[u8]; 3] = [b"true", b"false", b"signal"];
+
 /// Whether a word is one of these.
 pub(crate) fn is_one_of(word: &[u8], words: &[&[u8]]) -> bool {
     words.iter().any(|other| *other == word)

@@ -1,0 +1,241 @@
+//! Lines that are none of a test (T1).
+
+use crate::grammar::{Place, Walk};
+use crate::script::{Kind, Line, Piece, is_in_range, number_advice};
+use crate::words::said_of;
+use orc_lex::token::Span;
+use orc_report::{Document, Near, Page};
+use orc_rules::digits::digits_at;
+use std::alloc::Global;
+
+const COMMENT: &str = "a comment is `-- ..` to the end of the line";
+
+const RANGE: &str = "a range is `0..5`: two numbers with two dots between them";
+
+const VARIABLE: &str = "a variable begins with a small letter";
+
+/// What is said of words and signs that no line has there.
+const WORDS: [(&[u8], &str); 13] = [
+    (b"#", COMMENT),
+    (b"/", COMMENT),
+    (
+        b"not",
+        "`no` says that something doesn't happen: `no Pay(_)`",
+    ),
+    (
+        b"never",
+        "`no` says that something never happens: `no Pay(_)`",
+    ),
+    (
+        b"and",
+        "there is no `and`: each line is a claim, and all of them have to hold",
+    ),
+    (
+        b"before",
+        "`A only after B` says that B comes before each A",
+    ),
+    (
+        b"unless",
+        "`if no A then ..` says what holds where A doesn't happen",
+    ),
+    (b"when", "`if A then ..` says what holds where A happens"),
+    (b"max", "`at most 1 Pay(_)`"),
+    (b"min", "`at least 1 Pay(_)`"),
+    (b"to", RANGE),
+    (
+        b"once",
+        "`exactly 1` counts, and `at most 1 .. at once` counts calls that are out together",
+    ),
+    (b"returned", "`answered` says that a call has its answer"),
+];
+
+/// What is wrong with a line that is none of a test.
+pub(crate) fn say_line(page: &mut Page, alloc: Global, document: &Document, number: usize) {
+    let span = document.line(number);
+    let Ok(mut line) = Line::new(alloc, document.text, span) else {
+        page.refuse();
+        return;
+    };
+    match Walk::over(&mut line) {
+        Some(walk) => say_stop(page, alloc, document, &line, walk),
+        None => say_whole(page, document, &line),
+    }
+}
+
+// A piece that can't stand where it stands.
+fn say_stop(page: &mut Page, alloc: Global, document: &Document, line: &Line, walk: Walk) {
+    let here = line.here();
+    page.point(document, here.span);
+    if here.kind == Kind::Number && !is_in_range(here.text) {
+        page.say("this number is out of range\n");
+        page.expected("-9223372036854775808 to 9223372036854775807");
+        return;
+    }
+    match here.kind {
+        Kind::End => page.say("the line ends here\n"),
+        _ => page.say_word("`", here.text, "` can't stand here\n"),
+    }
+    say_wanted(page, alloc, line, walk);
+}
+
+// What may stand there, and what may have been meant.
+fn say_wanted(page: &mut Page, alloc: Global, line: &Line, walk: Walk) {
+    let here = line.here();
+    let (before, wanted) = walk.wanted();
+    page.note("expected: ");
+    page.say(before);
+    page.say(wanted);
+    page.say("\n");
+    let mut near = Near::new(alloc, here.text);
+    let word = walk.near_word(&mut near);
+    if near.is_refused() {
+        page.refuse();
+    }
+    if !word.is_empty() {
+        page.note("help: ");
+        page.say_word("did you mean `", word, "`?\n");
+    } else if let Some(words) = advice(line, walk) {
+        page.help(words);
+    }
+}
+
+// What to write instead.
+fn advice(line: &Line, walk: Walk) -> Option<&'static str> {
+    let here = line.here();
+    if line.lengthens_number() && !here.text.starts_with(b".") {
+        return Some(number_advice(here));
+    }
+    if let (Some(Place::Answered), [b'A'..=b'Z', ..]) = (walk.before, here.text) {
+        return Some(VARIABLE);
+    }
+    if let Some(words) = place_advice(here, walk.place) {
+        return Some(words);
+    }
+    said_of(here.text, WORDS.as_slice())
+}
+
+// What a piece says by the place where it can't stand.
+fn place_advice(here: Piece, place: Place) -> Option<&'static str> {
+    match place {
+        Place::Bracket => Some(
+            "a line with a `=` is a service, `NAME(pattern, ..) = ANSWER`; claims and sections have no `=`",
+        ),
+        Place::Answer if here.is(b"=") => Some("a service has one `=`: `Pay(_) = 1 after 3`"),
+        Place::AnswerEnd | Place::RangeEnd | Place::Time if is_of_range(here) => Some(RANGE),
+        Place::AnswerEnd if here.is(b"after") => {
+            Some("`never` takes no `after`, and an answer takes one")
+        }
+        Place::Patterns | Place::Pattern if here.kind == Kind::Name => {
+            Some("variables stand in claims alone; in a service `_` stands for any value")
+        }
+        Place::Slots | Place::Slot | Place::Published if here.kind == Kind::Name => Some(VARIABLE),
+        Place::Only => Some(
+            "a line that begins with a site is a service, `Pay(_) = 1 after 3`, or a claim, `Pay(_) only after Ask(_)`",
+        ),
+        Place::CountEnd if here.is(b"at") => Some("`at once` stands behind `at most`"),
+        Place::CaseName | Place::CaseEnd => {
+            Some("a case's name is one word of letters, digits and `_`")
+        }
+        Place::Event if here.kind == Kind::Name => {
+            Some("a site has brackets, with `_` for each argument that may be any: `Pay(_)`")
+        }
+        _ => None,
+    }
+}
+
+// Whether a piece looks as one of a range.
+fn is_of_range(here: Piece) -> bool {
+    match here.text {
+        [b'.', ..] | [b'-', ..] => true,
+        _ => false,
+    }
+}
+
+// The first range that goes backwards.
+fn backwards(pieces: &[Piece]) -> Option<Span> {
+    for at in 0..pieces.len() {
+        if let [low, dots, high, ..] = pieces.get(at..).unwrap_or(pieces) {
+            if dots.is(b"..") && is_less(high.text, low.text) {
+                return Some(Span {
+                    start: low.span.start,
+                    end: high.span.end,
+                });
+            }
+        }
+    }
+    None
+}
+
+// Whether a number is less than another, by their digits.
+fn is_less(one: &[u8], other: &[u8]) -> bool {
+    match (digits_at(one), digits_at(other)) {
+        (Some((one, _)), Some((other, _))) => one < other,
+        _ => false,
+    }
+}
+
+// The first piece that is this word or sign.
+fn first_of<'a>(line: &Line<'a>, word: &[u8]) -> Option<Piece<'a>> {
+    for piece in line.pieces.iter() {
+        if piece.is(word) {
+            return Some(*piece);
+        }
+    }
+    None
+}
+
+/// A word behind which another one may not stand in a line, and why.
+const APART: [(&[u8], &[u8], &str); 6] = [
+    (
+        b"once",
+        b"answered",
+        "`at once` counts calls, so each event is `NAME(..)` alone",
+    ),
+    (
+        b"once",
+        b"halted",
+        "`at once` counts calls, so each event is `NAME(..)` alone",
+    ),
+    (
+        b"once",
+        b"cancelled",
+        "`at once` counts calls, so each event is `NAME(..)` alone",
+    ),
+    (
+        b"once",
+        b"published",
+        "`at once` counts calls, so each event is `NAME(..)` alone",
+    ),
+    (b"order", b"_", "in any order there are values alone"),
+    (
+        b"calls",
+        b"then",
+        "where `in each of` stands each alternative is one answer",
+    ),
+];
+
+fn say_whole(page: &mut Page, document: &Document, line: &Line) {
+    if let Some(span) = backwards(line.pieces.as_slice()) {
+        page.point(document, span);
+        page.say("this range has no number\n");
+        page.help("the smaller number stands first");
+        return;
+    }
+    for (with, word, words) in APART.iter() {
+        if first_of(line, *with).is_some() {
+            if let Some(piece) = first_of(line, *word) {
+                page.point(document, piece.span);
+                page.say_word("`", piece.text, "` can't stand in this line\n");
+                page.help(words);
+                return;
+            }
+        }
+    }
+    if let Some(piece) = line.pieces.first() {
+        page.point(document, piece.span);
+        page.say("this line has too much\n");
+        page.expected(
+            "at most 16 arguments, 64 alternatives and 1,024 answers; and 1,024 sites in a test",
+        );
+    }
+}

@@ -1,0 +1,87 @@
+//! Lines of a test that are none where they stand (T4).
+
+use crate::outline::{Head, Outline, Outlined};
+use crate::script::{Line, Piece};
+use orc_lex::token::Span;
+use orc_report::{Document, Page};
+use orc_site::line::is_built_in_name;
+use std::alloc::Global;
+
+const SERVICES: &str = "services stand below `given` or a case";
+
+const CLAIMS: &str = "claims stand below `always` or a case";
+
+const FEWER: &str = "a test has at most 1,024 services and 1,024 claims: make two tests of it";
+
+/// Why a line is none where it stands.
+pub(crate) fn say_place(page: &mut Page, alloc: Global, document: &Document, number: usize) {
+    let Ok(outline) = Outline::new(alloc, document.text) else {
+        page.refuse();
+        return;
+    };
+    let Some(head) = outline.at(number) else {
+        return;
+    };
+    let Ok(line) = Line::new(alloc, document.text, document.line(number)) else {
+        page.refuse();
+        return;
+    };
+    page.point(document, span_of(line.pieces.as_slice()));
+    match head {
+        Head::Service(name, _) if is_built_in_name(name) => {
+            page.say_word("`", name, "` is built in, and a test can't answer for it\n");
+            page.help("take another name");
+        }
+        Head::Service(..) | Head::Claim => say_misplaced(page, head, outline.section(number)),
+        _ => say_second_section(page, &outline, number, head),
+    }
+}
+
+/// Where a line's pieces stand.
+pub(crate) fn span_of(pieces: &[Piece]) -> Span {
+    match pieces {
+        [only] => only.span,
+        [first, .., last] => Span {
+            start: first.span.start,
+            end: last.span.end,
+        },
+        [] => Span { start: 0, end: 0 },
+    }
+}
+
+// Why a service or a claim can't stand in a section, and what to do.
+fn misplaced(head: Head, section: Option<Head>) -> (&'static str, &'static str) {
+    match (head, section) {
+        (Head::Claim, None) => ("a claim can't stand before the first section", CLAIMS),
+        (Head::Claim, Some(Head::Given)) => ("a claim can't stand below `given`", CLAIMS),
+        (Head::Claim, Some(_)) => ("the 1,025th claim", FEWER),
+        (_, None) => ("a service can't stand before the first section", SERVICES),
+        (_, Some(Head::Always)) => ("a service can't stand below `always`", SERVICES),
+        _ => ("the 1,025th service", FEWER),
+    }
+}
+
+fn say_misplaced(page: &mut Page, head: Head, section: Option<Outlined>) {
+    let (words, help) = misplaced(head, section.map(|section| section.head));
+    page.say(words);
+    page.say("\n");
+    if let Some(section) = section {
+        page.note("its section begins in line ");
+        page.number(section.number as u64);
+        page.say("\n");
+    }
+    page.help(help);
+}
+
+// A second section of its name, or a case too many.
+fn say_second_section(page: &mut Page, outline: &Outline, number: usize, head: Head) {
+    match outline.first(head) {
+        Some(first) if first < number => {
+            page.say("a second section of this name\n");
+            page.note("the first one stands in line ");
+            page.number(first as u64);
+            page.say("\n");
+        }
+        _ => page.say("the 257th case\n"),
+    }
+}

@@ -1,0 +1,78 @@
+//! Cases with too many ways (T6).
+
+use crate::script::Line;
+use crate::test_place::span_of;
+use orc_report::{Document, Page};
+use orc_rules::answers::Answers;
+use orc_ways::read_test;
+use orc_ways::test::{Reply, Service, Test};
+use std::alloc::Global;
+
+// How many answers with their times a reply stands for.
+fn times(reply: Reply) -> u64 {
+    match reply {
+        Reply::Between(_, low, high) => high.saturating_sub(low).saturating_add(1),
+        Reply::Never => 1,
+    }
+}
+
+// How many ways a service has by itself; as many as fit, where they don't.
+fn ways_of(service: &Service) -> u64 {
+    let mut all: u64 = 0;
+    for replies in service.alternatives.iter() {
+        let mut ways: u64 = 1;
+        for reply in replies.iter() {
+            ways = ways.saturating_mul(times(*reply));
+        }
+        all = all.saturating_add(ways);
+    }
+    let mut ways: u64 = 1;
+    for _call in 0..service.calls {
+        ways = ways.saturating_mul(all);
+    }
+    ways
+}
+
+// The service of a case that has most ways, and how many. Those that stand behind `given` count, too.
+fn widest<'a>(test: &Test<'a>, case: Option<usize>) -> Option<(&'a [u8], u64)> {
+    let mut found = None;
+    let mut most: u64 = 1;
+    for line in test.services.iter() {
+        let ways = ways_of(&line.service);
+        if (line.case.is_none() || line.case == case) && ways > most {
+            most = ways;
+            found = Some((line.service.name, ways));
+        }
+    }
+    found
+}
+
+/// Why a case has too many ways.
+pub(crate) fn say_ways(
+    page: &mut Page,
+    alloc: Global,
+    document: &Document,
+    others: &Answers,
+    number: usize,
+) {
+    let Ok(line) = Line::new(alloc, document.text, document.line(number)) else {
+        page.refuse();
+        return;
+    };
+    page.point(document, span_of(line.pieces.as_slice()));
+    page.say("this case has over 1,000,000 ways\n");
+    let Ok(test) = read_test(alloc, document.text, others) else {
+        page.refuse();
+        return;
+    };
+    let case = test.cases.iter().position(|case| case.line == number);
+    if let Some((name, ways)) = widest(&test, case) {
+        page.note("");
+        page.say_word("`", name, "` alone has ");
+        page.number(ways);
+        page.say("\n");
+    }
+    page.help(
+        "the ways of services multiply, and a range has one for each of its numbers: give a case fewer ranges, or shorter ones",
+    );
+}
