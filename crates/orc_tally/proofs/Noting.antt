@@ -1,10 +1,9 @@
 -- A way with one trial more.
-use Rattle.std.proofs.Common.{◌≡◌, ◌++◌, ◌∷◌, ◌∙◌, ◌+◌, ℕ, suc, List, [], Bool, true, false, cond, Option, Some, None, All, length, length-append, map, arith, ap, refl, sym}
+use Rattle.std.proofs.Common.{◌≡◌, ◌++◌, ◌∷◌, ◌∙◌, ◌+◌, ℕ, suc, List, [], Bool, true, false, cond, Option, Some, None, length, map, arith, ap, refl, sym}
 use Rattle.std.specs.Prelude.{◌||◌, not}
 use Rattle.std.specs.List.{list_any}
 use Rattle.std.proofs.Math.Bool.{or-false, or_assoc}
 use Rattle.std.proofs.lemmas.List.{take_all}
-use Rattle.std.proofs.lemmas.List.Elements.{All-push}
 use Rattle.orc_claims.specs.Claims.{holds}
 use Rattle.orc_claims.specs.Verdicts.{judged, says_so}
 use Rattle.orc_claims.proofs.Saying.{says_what_holds}
@@ -70,15 +69,7 @@ module _ (c : Claim) (way : ℕ) (os : List Sight) (o : Sight) where
   one_noted : noted way (length os) (told_of_way c way os) (said c o) ≡ told_of_way c way (os ++ o ∷ [])
   one_noted = one_noted_as (says_so (Judged.verdict (said c o))) refl (ap not (sym (fails_as c o)))
 
-each_noted : (cs : List Claim) (way : ℕ) (os : List Sight) (o : Sight) → noted_all way (length os) (map (λ c. told_of_way c way os) cs) (map (λ c. said c o) cs) ≡ map (λ c. told_of_way c way (os ++ o ∷ [])) cs
+-- the trial in the next order is noted of each claim
+pub each_noted : (cs : List Claim) (way : ℕ) (os : List Sight) (o : Sight) → noted_all way (length os) (map (λ c. told_of_way c way os) cs) (map (λ c. said c o) cs) ≡ map (λ c. told_of_way c way (os ++ o ∷ [])) cs
 each_noted [] way os o = refl
 each_noted (c ∷ cs) way os o = λ i. one_noted c way os o i ∷ each_noted cs way os o i
-
--- the trial in the next order
-pub one_order_more : (P : Sight → Type 0) (cs : List Claim) (way order : ℕ) (tolds others : List Told) (js : List Judged) → (os : List Sight) × ((length os ≡ order) × All P os) × (tolds ≡ map (λ c. told_of_way c way os) cs) → (o : Sight) × P o × (js ≡ map (λ c. said c o) cs) → others ≡ noted_all way order tolds js → (os : List Sight) × ((length os ≡ order + 1) × All P os) × (others ≡ map (λ c. told_of_way c way os) cs)
-one_order_more P cs way order tolds others js (os, (long, tried), is) (o, trial, said_so) e =
-    let back : order ≡ length os = sym long in (
-      os ++ o ∷ [],
-      (length-append os (o ∷ []) ∙ ap (λ n. n + 1) long, All-push P os o tried trial),
-      e ∙ (λ i. noted_all way (back i) (is i) (said_so i)) ∙ each_noted cs way os o,
-    )
