@@ -1,5 +1,7 @@
+pub mod Adding
 pub mod Counting
 pub mod Lent
 pub mod Places
 pub mod Raised
+pub mod Telling
 pub mod Texts

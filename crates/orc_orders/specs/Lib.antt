@@ -1,3 +1,6 @@
 pub mod Lines
 pub mod Survey
+pub mod TrialFaults
+pub mod Trials
 pub mod Tried
+pub mod Trying

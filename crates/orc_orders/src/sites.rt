@@ -1,0 +1,42 @@
+//! The sites of a test by their numbers in a program's table.
+
+ghost use Rattle.std.specs.Prelude.{◌≡◌, IfOk};
+ghost use Rattle.orc_ways.specs.Values.{site_of, sites_of};
+ghost use Rattle.orc_orders.specs.Trials.{claim_site, claim_sites};
+
+use orc_rules::answers::Answers;
+use orc_tally::ClaimSite;
+use orc_ways::test::SiteName;
+use std::alloc::{AllocError, Global};
+
+/// The number of a site that the table doesn't have. No site has it, since a table has fewer.
+const NOWHERE: u32 = u32::MAX;
+
+fn claim_site(answers: &Answers, site: &SiteName<'_>) -> ClaimSite
+    ensures { result ≡ claim_site answers.now (site_of site.now) }
+{
+    let number = match answers.site_named(site.name) {
+        Some(number) => number,
+        None => NOWHERE,
+    };
+    ClaimSite {
+        site: number,
+        arguments: site.arguments,
+    }
+}
+
+/// The sites that claims name, by their numbers in the table, in the same order. One whose name the table doesn't have gets 2^32 - 1, which is the number
+/// of none. The error is refused memory.
+pub fn claim_sites(
+    alloc: Global,
+    answers: &Answers,
+    sites: &[SiteName<'_>],
+) -> Result<Vec<ClaimSite>, AllocError>
+    ensures { IfOk result (λ v. v.items ≡ claim_sites answers.now (sites_of sites.now)) }
+{
+    let mut numbered = Vec::new(alloc);
+    for site in sites {
+        numbered.push(claim_site(answers, site))?;
+    }
+    Ok(numbered)
+}

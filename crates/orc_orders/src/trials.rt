@@ -1,0 +1,245 @@
+//! The trials of a way: its runs in many orders, and what is told of claims in them.
+
+ghost use Rattle.std.specs.Prelude.{◌≡◌, ◌≤◌, ◌<◌, ◌+◌, ◌^◌, ℕ, List, cond, IfOk, IfErr};
+ghost use Rattle.orc_rules.specs.Nodes.{definitions, source};
+ghost use Rattle.orc_rules.specs.Program.{IsProgram};
+ghost use Rattle.orc_load.specs.Loading.{IsProgramOf};
+ghost use Rattle.orc_site.specs.Script.{Says};
+ghost use Rattle.orc_ways.specs.Values.{sites_of};
+ghost use Rattle.orc_orders.specs.Trials.{claim_sites, is_running, state_at, IsMade, IsMadeAgain};
+ghost use Rattle.orc_orders.specs.Trying.{IsNoted, IsToldOfWay};
+ghost use Rattle.orc_orders.specs.TrialFaults.{IsFaultOfWay};
+
+use crate::sites::claim_sites;
+use orc_claims::claim::Claim;
+use orc_claims::{Happenings, judge};
+use orc_engine::{EngineFault, run_alone};
+use orc_load::{LoadFault, Loaded, load};
+use orc_outcome::{End, Played};
+use orc_rules::entry::State;
+use orc_tally::{ClaimSite, Told, happenings_of, noted, nothing_told};
+use orc_ways::test::SiteName;
+use std::alloc::{AllocError, Global};
+
+/// What is tried in each way.
+#[derive(Clone, Copy)]
+pub struct Trials<'t> {
+    pub source: &'t [u8],
+    /// The sites that the claims name, in the order of their numbers there.
+    pub sites: &'t [SiteName<'t>],
+    pub claims: &'t [Claim],
+    /// A way is run in so many orders, from 0 on.
+    pub orders: u64,
+    /// A run has at most so many entries, cancels not counted.
+    pub limit: u64,
+}
+
+/// Why there are no trials.
+#[derive(Clone, Copy, Debug, PartialEq, Eq)]
+pub enum TrialFault {
+    /// The source is no program with the way's script.
+    Load(LoadFault),
+    /// A run wasn't brought to its end.
+    Engine(EngineFault),
+}
+
+impl From<AllocError> for TrialFault {
+    ghost use Rattle.orc_scheduler.specs.declared.fault.EngineFault.TheVariants.{Memory};
+    ghost use Rattle.orc_orders.specs.declared.trials.TrialFault.TheVariants.{Engine};
+
+    ghost from_gives = { λ error f. f ≡ Engine Memory };
+
+    fn from(_error: AllocError) -> TrialFault {
+        TrialFault::Engine(EngineFault::Memory)
+    }
+}
+
+/// A run, and what claims see of it.
+pub struct Run {
+    /// Its journal is kept.
+    pub played: Played,
+    /// Sites have the numbers that claims have for them.
+    pub happenings: Happenings,
+}
+
+// Written out, so that a caller's proof sees one call and not the drop of each field.
+impl Drop for Run {
+    fn drop(self) {
+        let Run {
+            played: _,
+            happenings: _,
+        } = self;
+    }
+}
+
+// Where a run stands at its end. One that was cut still runs.
+fn state_at(end: End) -> State
+    ensures { result ≡ state_at end }
+{
+    match end {
+        End::Halted => State::Halted,
+        End::Quiet => State::Quiet,
+        End::Limit | End::Full | End::Memory => State::Running,
+    }
+}
+
+// How many of one run were cut.
+fn cut_at(state: State) -> u64
+    ensures value { result ≡ cond (is_running state) 1 0 }
+    ensures most { result ≤ 1 }
+{
+    match state {
+        State::Running => 1,
+        _ => 0,
+    }
+}
+
+/// What is told of a way's trials.
+#[derive(Drop)]
+pub(crate) struct WayTold {
+    /// One for each claim, in their order.
+    pub(crate) told: Vec<Told>,
+    /// So many runs were cut.
+    pub(crate) cut: u64,
+    /// So many entries the runs had in all; the greatest number, where they had more.
+    pub(crate) entries: u64,
+}
+
+// A way whose program is loaded.
+struct Way<'w> {
+    alloc: Global,
+    trials: &'w Trials<'w>,
+    loaded: Loaded,
+    sites: Vec<ClaimSite>,
+}
+
+impl Drop for Way<'_> {
+    fn drop(self) {
+        let Way {
+            alloc: _,
+            trials: _,
+            loaded: _,
+            sites: _,
+        } = self;
+    }
+}
+
+impl<'w> Way<'w> {
+    // The way of a script.
+    fn load(alloc: Global, trials: &'w Trials<'w>, script: &[u8]) -> Result<Way<'w>, TrialFault>
+        ensures says { IfOk result (λ w. Says script.now w.loaded.answers) }
+        ensures spells { IfOk result (λ w. IsProgramOf trials.now.source.now w.loaded.answers w.loaded.program) }
+        ensures sites { IfOk result (λ w. w.sites.items ≡ claim_sites w.loaded.answers (sites_of trials.now.sites.now)) }
+        ensures trials { IfOk result (λ w. w.trials.now ≡ trials.now) }
+        ensures fault { IfErr result (IsFaultOfWay trials.now.source.now script.now trials.now.limit) }
+    {
+        let loaded = match load(alloc, trials.source, script) {
+            Ok(loaded) => loaded,
+            Err(fault) => return Err(TrialFault::Load(fault)),
+        };
+        let sites = claim_sites(alloc, &loaded.answers, trials.sites)?;
+        Ok(Way {
+            alloc,
+            trials,
+            loaded,
+            sites,
+        })
+    }
+
+    // Makes the run in an order. One for which memory is refused tells nothing of the program.
+    fn run(&self, order: u64) -> Result<Run, TrialFault>
+        requires program { IsProgram (definitions self.now.loaded.program) (source self.now.loaded.program) }
+        ensures made { IfOk result (IsMade self.now.loaded.program self.now.loaded.answers self.now.sites.items self.now.trials.now.limit) }
+        ensures fault { (source : List ℕ) (script : List ℕ) → IfErr result (IsFaultOfWay source script self.now.trials.now.limit) }
+    {
+        let played = match run_alone(
+            self.alloc,
+            &self.loaded.program,
+            &self.loaded.answers,
+            Some(order),
+            true,
+            self.trials.limit,
+        ) {
+            Ok(played) => played,
+            Err(fault) => return Err(TrialFault::Engine(fault)),
+        };
+        if played.summary.end == End::Memory {
+            return Err(TrialFault::Engine(EngineFault::Memory));
+        }
+        let happenings = match &played.journal {
+            Some(journal) => happenings_of(self.alloc, self.sites.as_slice(), journal)?,
+            None => unreachable!(),
+        };
+        Ok(Run { played, happenings })
+    }
+
+    // What is told of the way of this number with the trial in one order more.
+    fn note(&self, way: u64, order: u64, told: &WayTold) -> Result<WayTold, TrialFault>
+        requires program { IsProgram (definitions self.now.loaded.program) (source self.now.loaded.program) }
+        requires few { told.now.cut + 1 < 2 ^ 64 }
+        ensures noted { IfOk result (IsNoted self.now.loaded.program self.now.loaded.answers self.now.sites.items self.now.trials.now.claims.now self.now.trials.now.limit way order told.now) }
+        ensures fault { (source : List ℕ) (script : List ℕ) → IfErr result (IsFaultOfWay source script self.now.trials.now.limit) }
+    {
+        let run = self.run(order)?;
+        let summary = run.played.summary;
+        let state = state_at(summary.end);
+        let happenings = run.happenings.as_slice();
+        let judged = judge(
+            self.alloc,
+            self.trials.claims,
+            happenings,
+            state,
+            summary.now,
+        )?;
+        Ok(WayTold {
+            told: noted(
+                self.alloc,
+                way,
+                order,
+                told.told.as_slice(),
+                judged.as_slice(),
+            )?,
+            cut: told.cut + cut_at(state),
+            entries: told.entries.saturating_add(summary.entries),
+        })
+    }
+}
+
+/// What is told of the way of this number, whose script this is. The fault is that of the source with the script, or the first of a run.
+#[tactic(auto, using(crate::proofs::Telling::no_order_yet, crate::proofs::Telling::one_trial_more, crate::proofs::Telling::few))]
+pub(crate) fn try_way(
+    alloc: Global,
+    trials: &Trials<'_>,
+    way: u64,
+    script: &[u8],
+) -> Result<WayTold, TrialFault>
+    ensures told { IfOk result (IsToldOfWay trials.now.source.now (sites_of trials.now.sites.now) trials.now.claims.now trials.now.orders trials.now.limit way script.now) }
+    ensures fault { IfErr result (IsFaultOfWay trials.now.source.now script.now trials.now.limit) }
+{
+    let its = Way::load(alloc, trials, script)?;
+    let mut told = WayTold {
+        told: nothing_told(alloc, trials.claims)?,
+        cut: 0,
+        entries: 0,
+    };
+    for order in 0..trials.orders {
+        told = its.note(way, order, &told)?;
+    }
+    Ok(told)
+}
+
+/// Makes a trial again: the run of this order in the way of this script, with its journal.
+///
+/// The fault is that of the source with the script; or the engine's: Range where the limit is 0 or over `MOST_ENTRIES`, and Memory where memory was refused.
+pub fn try_again(
+    alloc: Global,
+    trials: &Trials<'_>,
+    script: &[u8],
+    order: u64,
+) -> Result<Run, TrialFault>
+    ensures made { IfOk result (IsMadeAgain trials.now.source.now (sites_of trials.now.sites.now) trials.now.limit script.now) }
+    ensures fault { IfErr result (IsFaultOfWay trials.now.source.now script.now trials.now.limit) }
+{
+    let its = Way::load(alloc, trials, script)?;
+    its.run(order)
+}

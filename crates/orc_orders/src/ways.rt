@@ -1,0 +1,195 @@
+//! The ways of a case, each with its trials.
+
+ghost use Rattle.std.specs.Prelude.{◌≡◌, ◌<◌, ◌+◌, ◌^◌, ◌↔◌, ℕ, List, [], Err, length, IfOk, IfErr, OnOk};
+ghost use Rattle.orc_engine.specs.Ranges.{IsInRange};
+ghost use Rattle.orc_ways.specs.Claims.{Site};
+ghost use Rattle.orc_orders.specs.Trials.{texts, Adds, AreTold};
+ghost use Rattle.orc_orders.specs.TrialFaults.{Breaks};
+ghost use Rattle.orc_orders.specs.Trying.{AreTried, IsJoined, IsTriedAt};
+
+use crate::trials::{TrialFault, Trials, WayTold, try_way};
+use orc_claims::claim::Claim;
+use orc_engine::EngineFault;
+use orc_rules::limits::{MOST_ENTRIES, MOST_WORKERS};
+use orc_tally::{Told, joined, nothing_told};
+use std::alloc::{AllocError, Global};
+use std::thread;
+use std::thread::Threads;
+
+/// So many ways are tried before what is told of them is joined.
+const BATCH: usize = 64;
+
+/// The ways of a batch are shared out among threads where their runs have so many entries in all, as far as those before them tell. A thread that begins
+/// may wait longer for a processor than a shorter batch takes.
+const WORTH: u64 = 20_000;
+
+/// What is told of a case's claims in the ways that were tried so far.
+#[derive(Drop)]
+pub struct CaseTold {
+    /// So many ways were tried, from 0 on.
+    pub ways: u64,
+    /// One for each claim, in their order.
+    pub told: Vec<Told>,
+    /// So many runs were cut: by the limit, or by one of the engine's.
+    pub cut: u64,
+}
+
+impl CaseTold {
+    /// Before the first way. The error is refused memory.
+    #[tactic(auto, using(crate::proofs::Telling::no_way_yet))]
+    pub fn new(alloc: Global, claims: &[Claim]) -> Result<CaseTold, AllocError>
+        ensures { IfOk result (λ t. (source : List ℕ) (sites : List Site) (orders limit : ℕ) → AreTold source sites claims.now orders limit [] t) }
+    {
+        Ok(CaseTold {
+            ways: 0,
+            told: nothing_told(alloc, claims)?,
+            cut: 0,
+        })
+    }
+
+    // One way more. The error is refused memory.
+    fn join(&mut self, alloc: Global, way: &WayTold) -> Result<(), AllocError>
+        requires { self.old.ways + 1 < 2 ^ 64 }
+        ensures { OnOk result (IsJoined self.old way.now self.new) }
+    {
+        let Some(cut) = self.cut.checked_add(way.cut) else {
+            // No machine makes 2^64 runs.
+            return Err(AllocError);
+        };
+        self.told = joined(alloc, self.told.as_slice(), way.told.as_slice())?;
+        self.cut = cut;
+        self.ways += 1;
+        Ok(())
+    }
+}
+
+/// What came of a way's trials.
+#[derive(Drop)]
+struct Tried {
+    came: Result<WayTold, TrialFault>,
+}
+
+// Places for so many of them. Until its way is tried a place holds that memory was refused. The error is refused memory.
+fn places(alloc: Global, number: usize) -> Result<Vec<Tried>, AllocError>
+    ensures { IfOk result (λ places. length places.items ≡ number) }
+{
+    let mut places = Vec::new(alloc);
+    for _place in 0..number {
+        places.push(Tried {
+            came: Err(TrialFault::Engine(EngineFault::Memory)),
+        })?;
+    }
+    Ok(places)
+}
+
+// Ways whose numbers follow one another.
+#[derive(Drop)]
+struct Batch<'t, 's> {
+    alloc: Global,
+    trials: &'t Trials<'t>,
+    first: u64,
+    scripts: &'s [Vec<u8>],
+}
+
+impl Batch<'_, '_> {
+    // Tries each on one of so many threads. The error is refused memory.
+    fn run<R: Threads + Sync>(&self, rt: &R, threads: usize) -> Result<Vec<Tried>, AllocError>
+        requires threads { 0 < threads }
+        requires room { self.now.first + length self.now.scripts.now < 2 ^ 64 }
+        ensures all { IfOk result (λ tried. length tried.items ≡ length self.now.scripts.now) }
+        ensures tried { IfOk result (λ tried. AreTried self.now tried.items) }
+    {
+        let mut tried = places(self.alloc, self.scripts.len())?;
+        thread::for_each_mut(
+            rt,
+            &mut tried,
+            threads,
+            &|at: usize, place: &mut Tried|
+                requires { (at < length self.now.scripts.now) × (self.now.first + at < 2 ^ 64) }
+                ensures { IsTriedAt self.entry.now at place.exit.now }
+            {
+                let way = self.first + at as u64;
+                place.came = try_way(self.alloc, self.trials, way, self.scripts[at].as_slice());
+            },
+        );
+        Ok(tried)
+    }
+
+    // Tries them and adds what is told of them. Tells how many entries their runs have in a way on average.
+    #[tactic(auto, using(crate::proofs::Adding::none_added, crate::proofs::Adding::all_added))]
+    fn tell<R: Threads + Sync>(
+        &self,
+        rt: &R,
+        threads: usize,
+        told: &mut CaseTold,
+    ) -> Result<u64, TrialFault>
+        requires threads { 0 < threads }
+        requires first { told.old.ways ≡ self.now.first }
+        requires room { self.now.first + length self.now.scripts.now < 2 ^ 64 }
+        ensures told { OnOk result (Adds self.now.trials.now (texts self.now.scripts.now) told.old told.new) }
+        ensures ways { OnOk result (told.new.ways ≡ told.old.ways + length self.now.scripts.now) }
+        ensures cause { IfErr result (Breaks self.now.trials.now (texts self.now.scripts.now) told.old) }
+        ensures range { IfErr result (λ f. f ≡ TrialFault.Engine EngineFault.Range → IsInRange 1 self.now.trials.now.limit → ⊥) }
+    {
+        let tried = self.run(rt, threads)?;
+        let mut entries: u64 = 0;
+        for at in 0..self.scripts.len() {
+            let way = match &tried[at].came {
+                Ok(way) => way,
+                Err(fault) => return Err(*fault),
+            };
+            told.join(self.alloc, way)?;
+            entries = entries.saturating_add(way.entries);
+        }
+        Ok(entries / (self.scripts.len() as u64).max(1))
+    }
+}
+
+/// Tries the next ways of a case, whose scripts these are, and adds what is told of them. The runs are made on `workers` threads, of which the calling one
+/// is one; what is told is the same on any number of them.
+///
+/// The fault is Range where there are no workers or over `MOST_WORKERS`, or the limit is 0 or over `MOST_ENTRIES`, and then alone; `Load` with the fault of
+/// the first way with whose script the source is no program; or Memory where memory was refused. After a fault some of the ways are told of.
+#[tactic(auto, using(crate::proofs::Adding::none_added, crate::proofs::Adding::all_added))]
+pub fn try_ways<'t, R: Threads + Sync>(
+    rt: &R,
+    alloc: Global,
+    trials: &'t Trials<'t>,
+    workers: usize,
+    scripts: &[Vec<u8>],
+    told: &mut CaseTold,
+) -> Result<(), TrialFault>
+    ensures told { OnOk result (Adds trials.now (texts scripts.now) told.old told.new) }
+    ensures cause { IfErr result (Breaks trials.now (texts scripts.now) told.old) }
+    ensures range { result ≡ Err (TrialFault.Engine EngineFault.Range) ↔ (IsInRange workers trials.now.limit → ⊥) }
+{
+    if workers < 1 || workers > MOST_WORKERS || trials.limit < 1 || trials.limit > MOST_ENTRIES {
+        return Err(TrialFault::Engine(EngineFault::Range));
+    }
+    if told.ways.checked_add(scripts.len() as u64).is_none() {
+        // No machine tries 2^64 ways.
+        return Err(TrialFault::Engine(EngineFault::Memory));
+    }
+    let mut next = 0;
+    // The first way shows how long the runs are.
+    let mut number = 1;
+    let mut threads = 1;
+    while next < scripts.len() {
+        number = number.min(scripts.len() - next);
+        let batch = Batch {
+            alloc,
+            trials,
+            first: told.ways,
+            scripts: &scripts[next..next + number],
+        };
+        let mean = batch.tell(rt, threads, told)?;
+        next += number;
+        number = BATCH.max(workers);
+        threads = if mean.saturating_mul(number as u64) < WORTH {
+            1
+        } else {
+            workers
+        };
+    }
+    Ok(())
+}
