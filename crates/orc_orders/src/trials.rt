@@ -230,7 +230,8 @@ pub(crate) fn try_way(
 
 /// Makes a trial again: the run of this order in the way of this script, with its journal.
 ///
-/// The fault is that of the source with the script; or the engine's: Range where the limit is 0 or over `MOST_ENTRIES`, and Memory where memory was refused.
+/// The fault is that of the source with the script; or the engine's: Range where the limit is 0 or over `MOST_ENTRIES`, and Memory where memory was
+/// refused.
 pub fn try_again(
     alloc: Global,
     trials: &Trials<'_>,
