@@ -1,0 +1,13 @@
+//! The ways of a test's case, each as the text of a script, in their order.
+#![tactic(auto)]
+
+mod choices;
+mod lines;
+mod sizes;
+#[cfg(test)]
+mod tests;
+mod text;
+mod ways;
+
+pub use orc_ways::limits::MOST_WAYS;
+pub use ways::Ways;
