@@ -1,4 +1,5 @@
 pub mod Counting
 pub mod Noting
 pub mod Steps
+pub mod Trimming
 pub mod Truth

@@ -1,3 +1,4 @@
 pub mod Laws
 pub mod Sight
+pub mod Table
 pub mod Told

@@ -3,7 +3,9 @@
 
 pub mod laws;
 mod sight;
+mod table;
 mod told;
 
 pub use sight::{ClaimSite, happenings_of};
+pub use table::{CaseReport, Report, Row, Shown, failing, failure_at};
 pub use told::{Failure, Told, joined, noted, nothing_told};

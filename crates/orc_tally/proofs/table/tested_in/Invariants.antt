@@ -1,0 +1,10 @@
+-- What is left tells the same.
+use Rattle.std.proofs.Common.{◌≡◌, ◌+◌, length}
+use Rattle.orc_tally.specs.Table.{tested_in}
+use Rattle.orc_tally.proofs.table.tested_in.Given as goal
+
+abbrev pub decreases-loop-rest : goal.decreases-loop-rest
+decreases-loop-rest l = length l.rest
+
+abbrev pub invariant-loop-rest : goal.invariant-loop-rest
+invariant-loop-rest l = (tested_in l.section l.claim l.case l.rest ≡ tested_in l.fn.section l.fn.claim 0 l.fn.cases) × (l.case + length l.rest ≡ length l.fn.cases)

@@ -1,0 +1,186 @@
+-- The table that tells of a test's claims.
+use Rattle.std.specs.Prelude.{ℕ, zero, suc, List, [], ◌∷◌, ◌++◌, Option, Some, None, Bool, true, false, cond, ◌||◌, ◌&&◌, ◌-◌, codes, decimal, drop, take, length, nat_eq, nat_lt}
+use Rattle.std.specs.Char.{is_ascii_whitespace}
+use Rattle.std.specs.List.{prefix_len, suffix_len, slice_get}
+use Rattle.orc_tally.specs.declared.told.Told.{Told}
+use Rattle.orc_tally.specs.declared.told.Failure.{Failure}
+use Rattle.orc_tally.specs.declared.table.CaseReport.{CaseReport}
+use Rattle.orc_tally.specs.declared.table.Report.{Report}
+use Rattle.orc_tally.specs.declared.table.Row.{Row}
+use Rattle.orc_tally.specs.declared.table.Row.TheVariants as row
+use Rattle.orc_tally.specs.declared.table.Shown.{Shown}
+use Rattle.orc_ways.specs.declared.test.Case.{Case}
+use Rattle.orc_ways.specs.declared.test.ClaimLine.{ClaimLine}
+
+-- ---- rows
+
+-- a claim of this case, or of `always`, is held against the runs of the case at this place
+abbrev pub is_held : Option ℕ → ℕ → Bool
+is_held (Some own) case = nat_eq own case
+is_held None case = true
+
+-- both stand in the same case, or both below `always`
+abbrev pub is_same : Option ℕ → Option ℕ → Bool
+is_same (Some a) (Some b) = nat_eq a b
+is_same None None = true
+is_same _ _ = false
+
+-- what is told of a claim in a case that is held against its runs
+abbrev pub told_here : Option ℕ → ℕ → ℕ → CaseReport → Option Told
+told_here section claim case r = cond (is_held section case) (slice_get r.told.items claim) None
+
+abbrev pub failure_of : Option Told → Option Failure
+failure_of (Some t) = t.first
+failure_of None = None
+
+abbrev pub is_tested : Option Told → Bool
+is_tested (Some t) = t.tested
+is_tested None = false
+
+abbrev pub shown_or : ℕ → Option Failure → Option Shown → Option Shown
+shown_or case (Some f) other = Some (record { case = case; failure = f })
+shown_or case None other = other
+
+-- what shows that a claim fails: its first failure in the first case that has one, of the cases from a place on
+abbrev pub shown_in : Option ℕ → ℕ → ℕ → List CaseReport → Option Shown
+shown_in section claim case [] = None
+shown_in section claim case (r ∷ rs) = shown_or case (failure_of (told_here section claim case r)) (shown_in section claim (suc case) rs)
+
+-- whether it was put to the test in one of them
+abbrev pub tested_in : Option ℕ → ℕ → ℕ → List CaseReport → Bool
+tested_in section claim case [] = false
+tested_in section claim case (r ∷ rs) = is_tested (told_here section claim case r) || tested_in section claim (suc case) rs
+
+abbrev pub row_or : ℕ → Bool → Option Shown → Row
+row_or claim tested (Some s) = row.Fails claim s
+row_or claim tested None = row.Holds claim tested
+
+-- the row of a claim
+abbrev pub row_of : List CaseReport → Option ℕ → ℕ → Row
+row_of rs section claim = row_or claim (tested_in section claim 0 rs) (shown_in section claim 0 rs)
+
+-- the rows of the claims of a section, where these are the lines of claims from a place on
+abbrev pub claim_rows : List CaseReport → Option ℕ → ℕ → List ClaimLine → List Row
+claim_rows rs section claim [] = []
+claim_rows rs section claim (l ∷ ls) = cond (is_same l.case section) (row_of rs section claim ∷ claim_rows rs section (suc claim) ls) (claim_rows rs section (suc claim) ls)
+
+-- the rows of the cases from a place on
+abbrev pub case_rows : List CaseReport → List ClaimLine → ℕ → List CaseReport → List Row
+case_rows rs ls case [] = []
+case_rows rs ls case (r ∷ more) = row.Case case ∷ (claim_rows rs (Some case) 0 ls ++ case_rows rs ls (suc case) more)
+
+-- all rows
+abbrev pub rows : Report → List Row
+rows r = case_rows r.cases.now r.test.now.claim_lines.items 0 r.cases.now ++ (row.Always ∷ claim_rows r.cases.now None 0 r.test.now.claim_lines.items)
+
+-- how many of them tell of a failure
+abbrev pub failing : List Row → ℕ
+failing [] = 0
+failing (row.Fails c s ∷ rs) = suc (failing rs)
+failing (x ∷ rs) = failing rs
+
+-- what shows the failure with this number, from 1
+abbrev pub failure_at : ℕ → List Row → Option Shown
+failure_at n [] = None
+failure_at n (row.Fails c s ∷ rs) = cond (nat_eq n 1) (Some s) (failure_at (n - 1) rs)
+failure_at n (x ∷ rs) = failure_at n rs
+
+-- ---- their text
+
+-- what stands before a comment
+abbrev pub before_comment : List ℕ → List ℕ
+before_comment [] = []
+before_comment (c ∷ []) = c ∷ []
+before_comment (c ∷ d ∷ cs) = cond (nat_eq c 45 && nat_eq d 45) [] (c ∷ before_comment (d ∷ cs))
+
+-- without the blanks round it
+abbrev pub trimmed_end : List ℕ → List ℕ
+trimmed_end t = take (length t - suffix_len is_ascii_whitespace t) t
+
+abbrev pub trimmed : List ℕ → List ℕ
+trimmed s = trimmed_end (drop (prefix_len is_ascii_whitespace s) s)
+
+abbrev pub name_at : Option Case → List ℕ
+name_at (Some c) = c.name.now
+name_at None = []
+
+abbrev pub claim_at : Option ClaimLine → List ℕ
+claim_at (Some l) = trimmed (before_comment l.text.now)
+claim_at None = []
+
+abbrev pub orders_text : ℕ → List ℕ
+orders_text n = cond (nat_eq n 1) (codes ", 1 order") (codes ", " ++ (decimal n ++ codes " orders each"))
+
+-- how many ways a case has, and how many of them were tried where it isn't all
+abbrev pub ways_text : ℕ → ℕ → List ℕ
+ways_text ways tried = cond (nat_lt tried ways) (codes ": " ++ (decimal tried ++ (codes " of " ++ (decimal ways ++ codes " ways"))))
+    (cond (nat_eq ways 1) (codes ": 1 way") (codes ": " ++ (decimal ways ++ codes " ways")))
+
+abbrev pub case_ways : Option CaseReport → List ℕ
+case_ways (Some r) = ways_text r.ways r.tried
+case_ways None = []
+
+-- how many runs were cut, where some were
+abbrev pub cut_text : ℕ → List ℕ
+cut_text zero = []
+cut_text (suc n) = codes ", " ++ (decimal (suc n) ++ codes " runs cut")
+
+abbrev pub case_cut : Option CaseReport → List ℕ
+case_cut (Some r) = cut_text r.cut
+case_cut None = []
+
+-- `case slow: 378 ways, 20 orders each`
+abbrev pub case_text : Report → ℕ → List ℕ
+case_text r case = codes "case " ++ (name_at (slice_get r.test.now.cases.items case) ++ (case_ways (slice_get r.cases.now case) ++ (orders_text r.orders ++ (case_cut (slice_get r.cases.now case) ++ codes "\n"))))
+
+abbrev pub failing_in : Option Told → ℕ
+failing_in (Some t) = t.failing
+failing_in None = 0
+
+abbrev pub comma : Bool → List ℕ
+comma true = codes ""
+comma false = codes ", "
+
+-- in how many ways a claim fails, of each case from a place on in which it does: `27 of 378 ways of slow, 5 of 48 ways of anything`
+abbrev pub shares : List Case → Option ℕ → ℕ → Bool → ℕ → List CaseReport → List ℕ
+shares cs section claim is_first case [] = []
+shares cs section claim is_first case (r ∷ rs) =
+    cond (nat_lt 0 (failing_in (told_here section claim case r)))
+    (comma is_first ++ (decimal (failing_in (told_here section claim case r)) ++ (codes " of " ++ (decimal r.tried ++ (codes " ways of " ++ (name_at (slice_get cs case) ++ shares cs section claim false (suc case) rs))))))
+    (shares cs section claim is_first (suc case) rs)
+
+abbrev pub section_of : Option ClaimLine → Option ℕ
+section_of (Some l) = l.case
+section_of None = None
+
+abbrev pub note : Bool → List ℕ
+note true = codes "\n"
+note false = codes "    (never put to the test)\n"
+
+-- the line of a claim that holds, and of one that fails
+abbrev pub holds_text : Report → ℕ → Bool → List ℕ
+holds_text r claim tested = codes "  ok     " ++ (claim_at (slice_get r.test.now.claim_lines.items claim) ++ note tested)
+
+abbrev pub fails_text : Report → ℕ → List ℕ
+fails_text r claim = codes "  FAILS  " ++ (claim_at (slice_get r.test.now.claim_lines.items claim) ++ (codes "    " ++ (shares r.test.now.cases.items (section_of (slice_get r.test.now.claim_lines.items claim)) claim true 0 r.cases.now ++ codes "\n")))
+
+abbrev pub row_text : Report → Row → List ℕ
+row_text r (row.Case case) = case_text r case
+row_text r row.Always = codes "always\n"
+row_text r (row.Holds claim tested) = holds_text r claim tested
+row_text r (row.Fails claim s) = fails_text r claim
+
+-- the lines of rows, each failure with its details below it
+abbrev pub lines : Report → List (List ℕ) → List Row → List ℕ
+lines r ds [] = []
+lines r (d ∷ ds) (row.Fails claim s ∷ xs) = fails_text r claim ++ (d ++ lines r ds xs)
+lines r ds (x ∷ xs) = row_text r x ++ lines r ds xs
+
+-- the last line
+abbrev pub sum_text : ℕ → ℕ → List ℕ
+sum_text zero claims = codes "ok: " ++ (decimal claims ++ codes " claims\n")
+sum_text (suc n) claims = codes "fails: " ++ (decimal (suc n) ++ (codes " of " ++ (decimal claims ++ codes " claims\n")))
+
+-- the whole table
+abbrev pub table : Report → List (List ℕ) → List ℕ
+table r ds = lines r ds (rows r) ++ sum_text (failing (rows r)) (length r.test.now.claims.items)

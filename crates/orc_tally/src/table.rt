@@ -1,0 +1,521 @@
+//! The table that tells of a test's claims.
+
+ghost use Rattle.std.specs.Prelude.{◌≡◌, ◌++◌, IfOk, OnOk, length, map, true};
+ghost use Rattle.std.specs.List.{slice_get};
+ghost use Rattle.orc_tally.specs.Table.{before_comment, case_cut, case_rows, case_text, case_ways, claim_at, claim_rows, comma, failing, failing_in, failure_at, failure_of, fails_text, holds_text, is_held, is_same, is_tested, lines, name_at, note, orders_text, row_of, row_text, rows, section_of, shares, shown_in, shown_or, sum_text, table, tested_in, told_here, trimmed, ways_text};
+
+use crate::told::{Failure, Told};
+use orc_ways::test::{ClaimLine, Test};
+use std::alloc::{AllocError, Global};
+
+/// What is told of a case.
+#[derive(Drop)]
+pub struct CaseReport {
+    /// How many ways it has.
+    pub ways: u64,
+    /// How many of them were tried, the first ones.
+    pub tried: u64,
+    /// How many runs were cut: by the limit, or by one of the engine's.
+    pub cut: u64,
+    /// What is told of each claim of the test, whether it stands in the case or not.
+    pub told: Vec<Told>,
+}
+
+/// What shows that a claim fails: a run in a way of the case at this place.
+#[derive(Clone, Copy)]
+pub struct Shown {
+    pub case: usize,
+    pub failure: Failure,
+}
+
+/// A line of the table.
+#[derive(Clone, Copy)]
+pub enum Row {
+    /// The claims of the case at this place begin.
+    Case(usize),
+    /// The claims that stand below `always` begin.
+    Always,
+    /// The claim at this place failed in no run; whether it was put to the test in some.
+    Holds(usize, bool),
+    /// The claim at this place failed.
+    Fails(usize, Shown),
+}
+
+/// What is told of a test, whose ways were run in so many orders each.
+#[derive(Clone, Copy)]
+pub struct Report<'r, 'a> {
+    pub test: &'r Test<'a>,
+    /// One for each case.
+    pub cases: &'r [CaseReport],
+    pub orders: u64,
+}
+
+// Whether a claim of this case, or of `always`, is held against the runs of the case at this place.
+fn is_held(section: Option<usize>, case: usize) -> bool
+    ensures { result ≡ is_held section case }
+{
+    match section {
+        Some(own) => own == case,
+        None => true,
+    }
+}
+
+// Whether both stand in the same case, or both below `always`.
+fn is_same(section: Option<usize>, other: Option<usize>) -> bool
+    ensures { result ≡ is_same section other }
+{
+    match (section, other) {
+        (Some(one), Some(other)) => one == other,
+        (None, None) => true,
+        _ => false,
+    }
+}
+
+// What is told of a claim in a case that is held against its runs.
+fn told_here(section: Option<usize>, claim: usize, case: usize, report: &CaseReport) -> Option<Told>
+    ensures { result ≡ told_here section claim case report.now }
+{
+    if is_held(section, case) {
+        report.told.get(claim).copied()
+    } else {
+        None
+    }
+}
+
+fn failure_of(told: Option<Told>) -> Option<Failure>
+    ensures { result ≡ failure_of told }
+{
+    match told {
+        Some(told) => told.first,
+        None => None,
+    }
+}
+
+fn is_tested(told: Option<Told>) -> bool
+    ensures { result ≡ is_tested told }
+{
+    match told {
+        Some(told) => told.tested,
+        None => false,
+    }
+}
+
+// What shows that a claim fails: its first failure in the first case that has one.
+fn shown_in(section: Option<usize>, claim: usize, cases: &[CaseReport]) -> Option<Shown>
+    ensures { result ≡ shown_in section claim 0 cases.now }
+{
+    let mut case = 0;
+    let mut rest = cases;
+    loop {
+        match rest {
+            [] => return None,
+            [report, more @ ..] => {
+                if let Some(failure) = failure_of(told_here(section, claim, case, report)) {
+                    return Some(Shown { case, failure });
+                }
+                case += 1;
+                rest = more;
+            }
+        }
+    }
+}
+
+// Whether a claim was put to the test in some case.
+fn tested_in(section: Option<usize>, claim: usize, cases: &[CaseReport]) -> bool
+    ensures { result ≡ tested_in section claim 0 cases.now }
+{
+    let mut case = 0;
+    let mut rest = cases;
+    loop {
+        match rest {
+            [] => return false,
+            [report, more @ ..] => {
+                if is_tested(told_here(section, claim, case, report)) {
+                    return true;
+                }
+                case += 1;
+                rest = more;
+            }
+        }
+    }
+}
+
+fn row_of(cases: &[CaseReport], section: Option<usize>, claim: usize) -> Row
+    ensures { result ≡ row_of cases.now section claim }
+{
+    match shown_in(section, claim, cases) {
+        Some(shown) => Row::Fails(claim, shown),
+        None => Row::Holds(claim, tested_in(section, claim, cases)),
+    }
+}
+
+// Adds the rows of the claims of a section. The error is refused memory.
+fn add_claims(
+    cases: &[CaseReport],
+    section: Option<usize>,
+    claims: &[ClaimLine<'_>],
+    rows: &mut Vec<Row>,
+) -> Result<(), AllocError>
+    ensures { OnOk result (rows.new.items ≡ rows.old.items ++ claim_rows cases.now section 0 claims.now) }
+{
+    let mut claim = 0;
+    let mut rest = claims;
+    loop {
+        match rest {
+            [] => return Ok(()),
+            [line, more @ ..] => {
+                if is_same(line.case, section) {
+                    rows.push(row_of(cases, section, claim))?;
+                }
+                claim += 1;
+                rest = more;
+            }
+        }
+    }
+}
+
+impl Report<'_, '_> {
+    // The rows of the cases.
+    fn case_rows(&self, alloc: Global) -> Result<Vec<Row>, AllocError>
+        ensures { IfOk result (λ rows. rows.items ≡ case_rows self.now.cases.now self.now.test.now.claim_lines.items 0 self.now.cases.now) }
+    {
+        let mut rows = Vec::new(alloc);
+        let claims = self.test.claim_lines.as_slice();
+        let mut case = 0;
+        let mut rest = self.cases;
+        loop {
+            match rest {
+                [] => return Ok(rows),
+                [_, more @ ..] => {
+                    rows.push(Row::Case(case))?;
+                    add_claims(self.cases, Some(case), claims, &mut rows)?;
+                    case += 1;
+                    rest = more;
+                }
+            }
+        }
+    }
+
+    /// The rows: those of each case, and those of `always`. The error is refused memory.
+    pub fn rows(&self, alloc: Global) -> Result<Vec<Row>, AllocError>
+        ensures { IfOk result (λ all. all.items ≡ rows self.now) }
+    {
+        let mut rows = self.case_rows(alloc)?;
+        rows.push(Row::Always)?;
+        add_claims(
+            self.cases,
+            None,
+            self.test.claim_lines.as_slice(),
+            &mut rows,
+        )?;
+        Ok(rows)
+    }
+}
+
+/// How many rows tell of a failure.
+pub fn failing(rows: &[Row]) -> usize
+    ensures { result ≡ failing rows.now }
+{
+    let mut number = 0;
+    let mut rest = rows;
+    loop {
+        match rest {
+            [] => return number,
+            [row, more @ ..] => {
+                if let Row::Fails(_, _) = row {
+                    number += 1;
+                }
+                rest = more;
+            }
+        }
+    }
+}
+
+/// What shows the failure with this number, from 1, if there are so many.
+pub fn failure_at(rows: &[Row], number: u64) -> Option<Shown>
+    ensures { result ≡ failure_at number rows.now }
+{
+    let mut number = number;
+    let mut rest = rows;
+    loop {
+        match rest {
+            [] => return None,
+            [row, more @ ..] => {
+                if let Row::Fails(_, shown) = row {
+                    if number == 1 {
+                        return Some(*shown);
+                    }
+                    number = number.saturating_sub(1);
+                }
+                rest = more;
+            }
+        }
+    }
+}
+
+// What stands before a comment.
+fn before_comment(text: &[u8]) -> &[u8]
+    ensures { result.now ≡ before_comment text.now }
+{
+    let mut end = 0;
+    let mut rest = text;
+    loop {
+        match rest {
+            [] => return text,
+            [b'-', b'-', ..] => return &text[..end],
+            [_, more @ ..] => {
+                end += 1;
+                rest = more;
+            }
+        }
+    }
+}
+
+// Without the blanks round it.
+fn trimmed(text: &[u8]) -> &[u8]
+    ensures { result.now ≡ trimmed text.now }
+{
+    text.trim_ascii()
+}
+
+impl Report<'_, '_> {
+    fn write_name(&self, case: usize, text: &mut Vec<u8>) -> Result<(), AllocError>
+        ensures { OnOk result (text.new.items ≡ text.old.items ++ name_at (slice_get self.now.test.now.cases.items case)) }
+    {
+        match self.test.cases.get(case) {
+            Some(case) => text.extend_from_slice(case.name),
+            None => Ok(()),
+        }
+    }
+
+    fn write_claim(&self, claim: usize, text: &mut Vec<u8>) -> Result<(), AllocError>
+        ensures { OnOk result (text.new.items ≡ text.old.items ++ claim_at (slice_get self.now.test.now.claim_lines.items claim)) }
+    {
+        match self.test.claim_lines.get(claim) {
+            Some(line) => text.extend_from_slice(trimmed(before_comment(line.text))),
+            None => Ok(()),
+        }
+    }
+
+    fn write_orders(&self, alloc: Global, text: &mut Vec<u8>) -> Result<(), AllocError>
+        ensures { OnOk result (text.new.items ≡ text.old.items ++ orders_text self.now.orders) }
+    {
+        let orders = self.orders;
+        if orders == 1 {
+            return text.extend_from_slice(b", 1 order");
+        }
+        let line = format!(in alloc; ", {orders} orders each")?;
+        text.extend_from_slice(line.as_bytes())
+    }
+
+    fn write_ways(&self, alloc: Global, case: usize, text: &mut Vec<u8>) -> Result<(), AllocError>
+        ensures { OnOk result (text.new.items ≡ text.old.items ++ case_ways (slice_get self.now.cases.now case)) }
+    {
+        let Some(report) = self.cases.get(case) else {
+            return Ok(());
+        };
+        let ways = report.ways;
+        let tried = report.tried;
+        if tried < ways {
+            let number = format!(in alloc; ": {tried} of {ways} ways")?;
+            return text.extend_from_slice(number.as_bytes());
+        }
+        if ways == 1 {
+            return text.extend_from_slice(b": 1 way");
+        }
+        let number = format!(in alloc; ": {ways} ways")?;
+        text.extend_from_slice(number.as_bytes())
+    }
+
+    // `case slow: 378 ways, 20 orders each`
+    fn write_case(&self, alloc: Global, case: usize, text: &mut Vec<u8>) -> Result<(), AllocError>
+        ensures { OnOk result (text.new.items ≡ text.old.items ++ case_text self.now case) }
+    {
+        text.extend_from_slice(b"case ")?;
+        self.write_name(case, text)?;
+        self.write_ways(alloc, case, text)?;
+        self.write_orders(alloc, text)?;
+        self.write_cut(alloc, case, text)?;
+        text.push(b'\n')?;
+        Ok(())
+    }
+
+    // How many runs of a case were cut, where some were.
+    fn write_cut(&self, alloc: Global, case: usize, text: &mut Vec<u8>) -> Result<(), AllocError>
+        ensures { OnOk result (text.new.items ≡ text.old.items ++ case_cut (slice_get self.now.cases.now case)) }
+    {
+        let Some(report) = self.cases.get(case) else {
+            return Ok(());
+        };
+        let cut = report.cut;
+        if cut == 0 {
+            return Ok(());
+        }
+        let number = format!(in alloc; ", {cut} runs cut")?;
+        text.extend_from_slice(number.as_bytes())
+    }
+
+    // In how many ways a claim fails, of each case in which it does.
+    fn write_shares(
+        &self,
+        alloc: Global,
+        section: Option<usize>,
+        claim: usize,
+        text: &mut Vec<u8>,
+    ) -> Result<(), AllocError>
+        ensures { OnOk result (text.new.items ≡ text.old.items ++ shares self.now.test.now.cases.items section claim true 0 self.now.cases.now) }
+    {
+        let mut is_first = true;
+        let mut case = 0;
+        let mut rest = self.cases;
+        loop {
+            match rest {
+                [] => return Ok(()),
+                [report, more @ ..] => {
+                    let failing = failing_in(told_here(section, claim, case, report));
+                    if failing > 0 {
+                        text.extend_from_slice(comma(is_first).as_bytes())?;
+                        let tried = report.tried;
+                        let share = format!(in alloc; "{failing} of {tried} ways of ")?;
+                        text.extend_from_slice(share.as_bytes())?;
+                        self.write_name(case, text)?;
+                        is_first = false;
+                    }
+                    case += 1;
+                    rest = more;
+                }
+            }
+        }
+    }
+
+    // The line of a claim that fails.
+    fn write_failure(
+        &self,
+        alloc: Global,
+        claim: usize,
+        text: &mut Vec<u8>,
+    ) -> Result<(), AllocError>
+        ensures { OnOk result (text.new.items ≡ text.old.items ++ fails_text self.now claim) }
+    {
+        text.extend_from_slice(b"  FAILS  ")?;
+        self.write_claim(claim, text)?;
+        text.extend_from_slice(b"    ")?;
+        self.write_shares(alloc, self.section(claim), claim, text)?;
+        text.push(b'\n')?;
+        Ok(())
+    }
+
+    // The case of a claim.
+    fn section(&self, claim: usize) -> Option<usize>
+        ensures { result ≡ section_of (slice_get self.now.test.now.claim_lines.items claim) }
+    {
+        match self.test.claim_lines.get(claim) {
+            Some(line) => line.case,
+            None => None,
+        }
+    }
+
+    // The line of a claim that holds.
+    fn write_success(
+        &self,
+        claim: usize,
+        tested: bool,
+        text: &mut Vec<u8>,
+    ) -> Result<(), AllocError>
+        ensures { OnOk result (text.new.items ≡ text.old.items ++ holds_text self.now claim tested) }
+    {
+        text.extend_from_slice(b"  ok     ")?;
+        self.write_claim(claim, text)?;
+        text.extend_from_slice(note(tested).as_bytes())
+    }
+
+    fn write_row(&self, alloc: Global, row: Row, text: &mut Vec<u8>) -> Result<(), AllocError>
+        ensures { OnOk result (text.new.items ≡ text.old.items ++ row_text self.now row) }
+    {
+        match row {
+            Row::Case(case) => self.write_case(alloc, case, text),
+            Row::Always => text.extend_from_slice(b"always\n"),
+            Row::Holds(claim, tested) => self.write_success(claim, tested, text),
+            Row::Fails(claim, _) => self.write_failure(alloc, claim, text),
+        }
+    }
+
+    // The lines of rows, each failure with its details below it.
+    fn write_rows(
+        &self,
+        alloc: Global,
+        details: &[Vec<u8>],
+        rows: &[Row],
+        text: &mut Vec<u8>,
+    ) -> Result<(), AllocError>
+        ensures { OnOk result (text.new.items ≡ text.old.items ++ lines self.now (map (λ d. d.items) details.now) rows.now) }
+    {
+        let mut shown = details;
+        let mut rest = rows;
+        loop {
+            match rest {
+                [] => return Ok(()),
+                [row, more @ ..] => {
+                    self.write_row(alloc, *row, text)?;
+                    if let Row::Fails(_, _) = row {
+                        if let [detail, behind @ ..] = shown {
+                            text.extend_from_slice(detail.as_slice())?;
+                            shown = behind;
+                        }
+                    }
+                    rest = more;
+                }
+            }
+        }
+    }
+
+    // The last line.
+    fn write_sum(&self, alloc: Global, failing: usize, text: &mut Vec<u8>) -> Result<(), AllocError>
+        ensures { OnOk result (text.new.items ≡ text.old.items ++ sum_text failing (length self.now.test.now.claims.items)) }
+    {
+        let claims = self.test.claims.len();
+        let line = if failing == 0 {
+            format!(in alloc; "ok: {claims} claims\n")?
+        } else {
+            format!(in alloc; "fails: {failing} of {claims} claims\n")?
+        };
+        text.extend_from_slice(line.as_bytes())
+    }
+
+    /// The table: a line for each case and each claim, below each that fails its details, which come in the order of the rows, and a line that tells how many
+    /// fail. The error is refused memory.
+    pub fn table(&self, alloc: Global, details: &[Vec<u8>]) -> Result<Vec<u8>, AllocError>
+        ensures { IfOk result (λ text. text.items ≡ table self.now (map (λ d. d.items) details.now)) }
+    {
+        let rows = self.rows(alloc)?;
+        let mut text = Vec::new(alloc);
+        self.write_rows(alloc, details, rows.as_slice(), &mut text)?;
+        self.write_sum(alloc, failing(rows.as_slice()), &mut text)?;
+        Ok(text)
+    }
+}
+
+fn failing_in(told: Option<Told>) -> u64
+    ensures { result ≡ failing_in told }
+{
+    match told {
+        Some(told) => told.failing,
+        None => 0,
+    }
+}
+
+fn comma(is_first: bool) -> &'static str
+    ensures { result.now ≡ comma is_first }
+{
+    if is_first { "" } else { ", " }
+}
+
+fn note(tested: bool) -> &'static str
+    ensures { result.now ≡ note tested }
+{
+    if tested {
+        "\n"
+    } else {
+        "    (never put to the test)\n"
+    }
+}
