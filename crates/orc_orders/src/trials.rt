@@ -23,10 +23,10 @@ use std::alloc::{AllocError, Global};
 
 /// What is tried in each way.
 #[derive(Clone, Copy)]
-pub struct Trials<'t> {
+pub struct Trials<'t, 'a> {
     pub source: &'t [u8],
     /// The sites that the claims name, in the order of their numbers there.
-    pub sites: &'t [SiteName<'t>],
+    pub sites: &'t [SiteName<'a>],
     pub claims: &'t [Claim],
     /// A way is run in so many orders, from 0 on.
     pub orders: u64,
@@ -106,14 +106,14 @@ pub(crate) struct WayTold {
 }
 
 // A way whose program is loaded.
-struct Way<'w> {
+struct Way<'w, 'a> {
     alloc: Global,
-    trials: &'w Trials<'w>,
+    trials: &'w Trials<'w, 'a>,
     loaded: Loaded,
     sites: Vec<ClaimSite>,
 }
 
-impl Drop for Way<'_> {
+impl Drop for Way<'_, '_> {
     fn drop(self) {
         let Way {
             alloc: _,
@@ -124,9 +124,13 @@ impl Drop for Way<'_> {
     }
 }
 
-impl<'w> Way<'w> {
+impl<'w, 'a> Way<'w, 'a> {
     // The way of a script.
-    fn load(alloc: Global, trials: &'w Trials<'w>, script: &[u8]) -> Result<Way<'w>, TrialFault>
+    fn load(
+        alloc: Global,
+        trials: &'w Trials<'w, 'a>,
+        script: &[u8],
+    ) -> Result<Way<'w, 'a>, TrialFault>
         ensures says { IfOk result (λ w. Says script.now w.loaded.answers) }
         ensures spells { IfOk result (λ w. IsProgramOf trials.now.source.now w.loaded.answers w.loaded.program) }
         ensures sites { IfOk result (λ w. w.sites.items ≡ claim_sites w.loaded.answers (sites_of trials.now.sites.now)) }
@@ -209,7 +213,7 @@ impl<'w> Way<'w> {
 #[tactic(auto, using(crate::proofs::Telling::no_order_yet, crate::proofs::Telling::one_trial_more, crate::proofs::Telling::few))]
 pub(crate) fn try_way(
     alloc: Global,
-    trials: &Trials<'_>,
+    trials: &Trials<'_, '_>,
     way: u64,
     script: &[u8],
 ) -> Result<WayTold, TrialFault>
@@ -230,11 +234,10 @@ pub(crate) fn try_way(
 
 /// Makes a trial again: the run of this order in the way of this script, with its journal.
 ///
-/// The fault is that of the source with the script; or the engine's: Range where the limit is 0 or over `MOST_ENTRIES`, and Memory where memory was
-/// refused.
+/// The fault is that of the source with the script; or the engine's: Range where the limit is 0 or over `MOST_ENTRIES`, and Memory where memory was refused.
 pub fn try_again(
     alloc: Global,
-    trials: &Trials<'_>,
+    trials: &Trials<'_, '_>,
     script: &[u8],
     order: u64,
 ) -> Result<Run, TrialFault>

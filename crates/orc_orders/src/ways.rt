@@ -84,14 +84,14 @@ fn places(alloc: Global, number: usize) -> Result<Vec<Tried>, AllocError>
 
 // Ways whose numbers follow one another.
 #[derive(Drop)]
-struct Batch<'t, 's> {
+struct Batch<'t, 'a, 's> {
     alloc: Global,
-    trials: &'t Trials<'t>,
+    trials: &'t Trials<'t, 'a>,
     first: u64,
     scripts: &'s [Vec<u8>],
 }
 
-impl Batch<'_, '_> {
+impl Batch<'_, '_, '_> {
     // Tries each on one of so many threads. The error is refused memory.
     fn run<R: Threads + Sync>(&self, rt: &R, threads: usize) -> Result<Vec<Tried>, AllocError>
         requires threads { 0 < threads }
@@ -151,10 +151,10 @@ impl Batch<'_, '_> {
 /// The fault is Range where there are no workers or over `MOST_WORKERS`, or the limit is 0 or over `MOST_ENTRIES`, and then alone; `Load` with the fault of
 /// the first way with whose script the source is no program; or Memory where memory was refused. After a fault some of the ways are told of.
 #[tactic(auto, using(crate::proofs::Adding::none_added, crate::proofs::Adding::all_added))]
-pub fn try_ways<'t, R: Threads + Sync>(
+pub fn try_ways<'t, 'a, R: Threads + Sync>(
     rt: &R,
     alloc: Global,
-    trials: &'t Trials<'t>,
+    trials: &'t Trials<'t, 'a>,
     workers: usize,
     scripts: &[Vec<u8>],
     told: &mut CaseTold,
