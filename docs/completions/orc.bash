@@ -3,11 +3,11 @@ _orc() {
     local word=${COMP_WORDS[COMP_CWORD]} before=${COMP_WORDS[COMP_CWORD-1]}
     COMPREPLY=()
     if [ "$COMP_CWORD" = 1 ]; then
-        mapfile -t COMPREPLY < <(compgen -W 'run outcomes check draw print help --help --version -h -V' -- "$word")
+        mapfile -t COMPREPLY < <(compgen -W 'run outcomes check draw print test help --help --version -h -V' -- "$word")
         return
     fi
     case $before in
-    --workers | --order | --orders | --limit | --width) return ;;
+    --workers | --order | --orders | --ways | --limit | --fail | --width) return ;;
     --theme) mapfile -t COMPREPLY < <(compgen -W 'auto light dark' -- "$word"); return ;;
     --script) compopt -o filenames 2>/dev/null; mapfile -t COMPREPLY < <(compgen -f -- "$word"); return ;;
     esac
@@ -18,7 +18,8 @@ _orc() {
     check) options='--script --explain --help -h' ;;
     draw) options='--script --text --width --all --theme --explain --help -h' ;;
     print) options='--explain --help -h' ;;
-    help) mapfile -t COMPREPLY < <(compgen -W 'run outcomes check draw print' -- "$word"); return ;;
+    test) options='--script --ways --orders --workers --limit --fail --journal --explain --help -h' ;;
+    help) mapfile -t COMPREPLY < <(compgen -W 'run outcomes check draw print test' -- "$word"); return ;;
     esac
     case $word in
     -*) mapfile -t COMPREPLY < <(compgen -W "$options" -- "$word") ;;

@@ -17,7 +17,7 @@ const EXPLAIN: &str = "ORC_EXPLAIN";
 /// The option that asks for explanations, and the commands that take it.
 const OPTION: &str = "--explain";
 
-const EXPLAINING: [&str; 5] = ["run", "outcomes", "check", "draw", "print"];
+const EXPLAINING: [&str; 6] = ["run", "outcomes", "check", "draw", "print", "test"];
 
 /// A file of the system, or standard input.
 #[derive(Drop)]

@@ -20,3 +20,4 @@ shares (job.Outcomes file script options) = names_input file.now && may_name_inp
 shares (job.Check file journal script) = two_of (names_input file.now) (names_input journal.now) (may_name_input (option_map (λ p. p.now) script))
 shares (job.Draw file journal script options) = two_of (names_input file.now) (names_input journal.now) (may_name_input (option_map (λ p. p.now) script))
 shares (job.Print file) = false
+shares (job.Test file test script options) = two_of (names_input file.now) (names_input test.now) (may_name_input (option_map (λ p. p.now) script))

@@ -3,7 +3,7 @@
 ghost use Rattle.std.specs.Prelude.{◌≡◌, IfOk, false};
 ghost use Rattle.orc_cli.specs.Inputs.{shares};
 
-use crate::job::{Asked, Job, Options, SurveyOptions, Wanted};
+use crate::job::{Asked, Job, Options, Shown, SurveyOptions, TestOptions, Wanted};
 use clap::error::ErrorKind;
 use clap::{Arg, ArgAction, ArgMatches, Command, Error, value_parser};
 use orc_draw::{Form, Theme};
@@ -16,12 +16,24 @@ const MOST_ORDERS: i64 = 10_000;
 
 const DEFAULT_ORDERS: u64 = 100;
 
+/// How many ways of a case `test` tries, and in how many orders each, where nothing is said.
+const DEFAULT_WAYS: u64 = 10_000;
+
+const DEFAULT_TRIALS: u64 = 20;
+
+/// How many ways of a case `test` tries at most.
+const MOST_WAYS: i64 = 1_000_000;
+
+/// The most failures that a test may tell of.
+const MOST_FAILURES: i64 = 1_024;
+
 const VERSION: &str = "0.1.0 (proved with logic dac8208d650f15bf)";
 
 /// What stands below the list of commands.
 const CODES: &str = "Faults, each one line on standard error, a code with its place:
   S, C  the source's text, its names    (a byte, counted from 0)
   L, J  the script, the journal's text  (a line, counted from 1)
+  T     the test's text                 (a line, counted from 1)
   K     an entry of the journal         (counted from 1)
   E     the engine
 
@@ -54,6 +66,8 @@ impl Range {
 pub struct Ranges {
     workers: Range,
     orders: Range,
+    ways: Range,
+    trials: Range,
     limit: Range,
 }
 
@@ -63,6 +77,8 @@ impl Drop for Ranges {
         let Ranges {
             workers: _,
             orders: _,
+            ways: _,
+            trials: _,
             limit: _,
         } = self;
     }
@@ -73,10 +89,14 @@ impl Ranges {
     pub fn new(alloc: Global) -> Result<Ranges, AllocError> {
         let workers = "The number of workers";
         let orders = "In how many orders the program is run";
+        let ways = "How many ways of each case are tried";
+        let trials = "In how many orders each way is run";
         let limit = "The greatest number of journal entries";
         Ok(Ranges {
             workers: Range::new(alloc, workers, MOST_WORKERS as i64, DEFAULT_WORKERS as u64)?,
             orders: Range::new(alloc, orders, MOST_ORDERS, DEFAULT_ORDERS)?,
+            ways: Range::new(alloc, ways, MOST_WAYS, DEFAULT_WAYS)?,
+            trials: Range::new(alloc, trials, MOST_ORDERS, DEFAULT_TRIALS)?,
             limit: Range::new(alloc, limit, MOST_ENTRIES as i64, DEFAULT_ENTRIES)?,
         })
     }
@@ -237,6 +257,44 @@ fn print_command<'a>(alloc: Global) -> Result<Command<'a>, AllocError> {
         .arg(explain_flag(alloc, EXPLAIN))
 }
 
+fn test_argument<'a>(alloc: Global) -> Arg<'a> {
+    Arg::new(alloc, "test")
+        .value_name("TEST")
+        .required(true)
+        .help("The test's text; - is standard input")
+}
+
+fn fail_argument<'a>(alloc: Global) -> Arg<'a> {
+    Arg::new(alloc, "fail")
+        .long("fail")
+        .value_name("K")
+        .value_parser(value_parser!(u64).range(1..=MOST_FAILURES))
+        .help("Write the script that shows failure K instead")
+}
+
+fn failed_journal_flag<'a>(alloc: Global) -> Result<Arg<'a>, AllocError> {
+    Arg::new(alloc, "journal")
+        .long("journal")
+        .action(ArgAction::SetTrue)
+        .help("With --fail: write the journal of its run")
+        .requires_arg("fail")
+}
+
+fn test_command<'a>(alloc: Global, ranges: &'a Ranges) -> Result<Command<'a>, AllocError> {
+    Command::new(alloc, "test")
+        .about("Hold a test's claims against every way in which services may behave")
+        .arg(file_argument(alloc))?
+        .arg(test_argument(alloc))?
+        .arg(script_argument(alloc))?
+        .arg(number_argument(alloc, "ways", &ranges.ways))?
+        .arg(number_argument(alloc, "orders", &ranges.trials))?
+        .arg(number_argument(alloc, "workers", &ranges.workers))?
+        .arg(number_argument(alloc, "limit", &ranges.limit))?
+        .arg(fail_argument(alloc))?
+        .arg(failed_journal_flag(alloc)?)?
+        .arg(explain_flag(alloc, EXPLAIN))
+}
+
 fn orc_command<'a>(alloc: Global, ranges: &'a Ranges) -> Result<Command<'a>, AllocError> {
     Command::new(alloc, "orc")
         .version(VERSION)
@@ -248,7 +306,8 @@ fn orc_command<'a>(alloc: Global, ranges: &'a Ranges) -> Result<Command<'a>, All
         .subcommand(outcomes_command(alloc, ranges)?)?
         .subcommand(check_command(alloc)?)?
         .subcommand(draw_command(alloc)?)?
-        .subcommand(print_command(alloc)?)
+        .subcommand(print_command(alloc)?)?
+        .subcommand(test_command(alloc, ranges)?)
 }
 
 fn wanted_of(given: &ArgMatches) -> Wanted {
@@ -281,6 +340,29 @@ fn survey_options_of(given: &ArgMatches) -> Option<SurveyOptions> {
         workers: given.get_one::<u64>("workers")?,
         orders: given.get_one::<u64>("orders")?,
         limit: given.get_one::<u64>("limit")?,
+    })
+}
+
+fn shown_of(given: &ArgMatches) -> Shown {
+    match given.get_one::<u64>("fail") {
+        None => Shown::Table,
+        Some(number) => {
+            if given.get_flag("journal") {
+                Shown::Journal(number)
+            } else {
+                Shown::Script(number)
+            }
+        }
+    }
+}
+
+fn test_options_of(given: &ArgMatches) -> Option<TestOptions> {
+    Some(TestOptions {
+        workers: given.get_one::<u64>("workers")?,
+        ways: given.get_one::<u64>("ways")?,
+        orders: given.get_one::<u64>("orders")?,
+        limit: given.get_one::<u64>("limit")?,
+        shown: shown_of(given),
     })
 }
 
@@ -325,6 +407,12 @@ fn job_of<'a>(name: &str, given: &ArgMatches<'a>) -> Option<Job<'a>> {
             },
         }),
         "print" => Some(Job::Print { file }),
+        "test" => Some(Job::Test {
+            file,
+            test: given.get_str("test")?,
+            script: given.get_str("script"),
+            options: test_options_of(given)?,
+        }),
         _ => None,
     }
 }

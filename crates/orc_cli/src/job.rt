@@ -41,6 +41,12 @@ pub enum Job<'a> {
     Print {
         file: &'a str,
     },
+    Test {
+        file: &'a str,
+        test: &'a str,
+        script: Option<&'a str>,
+        options: TestOptions,
+    },
 }
 
 fn is_input(path: &str) -> bool
@@ -85,6 +91,12 @@ impl Job<'_> {
                 ..
             } => are_two(is_input(file), is_input(journal), may_be_input(script)),
             Job::Print { .. } => false,
+            Job::Test {
+                file,
+                test,
+                script,
+                ..
+            } => are_two(is_input(file), is_input(test), may_be_input(script)),
         }
     }
 }
@@ -98,6 +110,32 @@ pub struct SurveyOptions {
     pub orders: u64,
     /// The most entries that a run's journal may have, cancels not counted.
     pub limit: u64,
+}
+
+/// How a test is made.
+#[derive(Clone, Copy, Debug, PartialEq, Eq)]
+pub struct TestOptions {
+    /// How many workers make its runs, each one at a time, 1 to `MOST_WORKERS`.
+    pub workers: u64,
+    /// At most so many ways of each case are tried, the first ones.
+    pub ways: u64,
+    /// In how many orders each way is run.
+    pub orders: u64,
+    /// The most entries that a run's journal may have, cancels not counted.
+    pub limit: u64,
+    /// What is written of it.
+    pub shown: Shown,
+}
+
+/// What is written of a test.
+#[derive(Clone, Copy, Debug, PartialEq, Eq)]
+pub enum Shown {
+    /// A line for each claim, and what shows its failure below it.
+    Table,
+    /// The script of the failure with this number, from 1.
+    Script(u64),
+    /// The journal of its run.
+    Journal(u64),
 }
 
 /// How a program is run.

@@ -7,4 +7,4 @@ mod arguments;
 mod job;
 
 pub use arguments::{Ranges, read_words};
-pub use job::{Asked, Job, Options, STANDARD_INPUT, SurveyOptions, Wanted};
+pub use job::{Asked, Job, Options, STANDARD_INPUT, Shown, SurveyOptions, TestOptions, Wanted};

@@ -4,5 +4,6 @@ pub mod LoadFaults
 pub mod Outputs
 pub mod Parted
 pub mod Statuses
+pub mod Testing
 pub mod Timing
 pub mod Told

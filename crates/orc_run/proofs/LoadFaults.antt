@@ -32,6 +32,7 @@ pub of_other : (source script : List ℕ) (f : RunFault) → Loads source script
 of_other source script (fault.Syntax f) loads h = absurd h
 of_other source script (fault.Scope f) loads h = absurd h
 of_other source script (fault.Script f) loads h = absurd h
+of_other source script (fault.Test f) loads h = absurd h
 of_other source script (fault.Journal f) loads h = absurd h
 of_other source script (fault.Check f) loads h = absurd h
 of_other source script (fault.Engine f) loads h = loads
@@ -51,6 +52,7 @@ pub refused : (source script journal : List ℕ) (f : RunFault) → IsRefusal so
 refused source script journal (fault.Syntax f) h = h
 refused source script journal (fault.Scope f) h = h
 refused source script journal (fault.Script f) h = h
+refused source script journal (fault.Test f) h = absurd h
 refused source script journal (fault.Journal f) h = h
 refused source script journal (fault.Check f) h = h
 refused source script journal (fault.Engine f) h = h
@@ -71,6 +73,7 @@ pub check_left : (source script journal : List ℕ) (old new : Option (List ℕ)
 check_left source script journal old new (fault.Syntax f) h keeps = keeps
 check_left source script journal old new (fault.Scope f) h keeps = keeps
 check_left source script journal old new (fault.Script f) h keeps = keeps
+check_left source script journal old new (fault.Test f) h keeps = absurd h
 check_left source script journal old new (fault.Journal f) h keeps = keeps
 check_left source script journal old new (fault.Check f) h keeps = keeps
 check_left source script journal old new (fault.Engine f) h keeps = keeps
@@ -84,6 +87,7 @@ pub draw_left : (source script journal : List ℕ) (old new : Option (List ℕ))
 draw_left source script journal old new (fault.Syntax f) h keeps = keeps
 draw_left source script journal old new (fault.Scope f) h keeps = keeps
 draw_left source script journal old new (fault.Script f) h keeps = keeps
+draw_left source script journal old new (fault.Test f) h keeps = absurd h
 draw_left source script journal old new (fault.Journal f) h keeps = keeps
 draw_left source script journal old new (fault.Check f) h keeps = keeps
 draw_left source script journal old new (fault.Engine f) h keeps = keeps
@@ -96,6 +100,7 @@ undrawable_left source script journal out j state is undrawn.Rows h = Keeps-refl
 undrawable_left source script journal out j state is (undrawn.Fault (fault.Syntax f)) h = absurd h
 undrawable_left source script journal out j state is (undrawn.Fault (fault.Scope f)) h = absurd h
 undrawable_left source script journal out j state is (undrawn.Fault (fault.Script f)) h = absurd h
+undrawable_left source script journal out j state is (undrawn.Fault (fault.Test f)) h = absurd h
 undrawable_left source script journal out j state is (undrawn.Fault (fault.Journal f)) h = absurd h
 undrawable_left source script journal out j state is (undrawn.Fault (fault.Check f)) h = absurd h
 undrawable_left source script journal out j state is (undrawn.Fault (fault.Engine f)) h = absurd h

@@ -1,5 +1,5 @@
 -- What the status of a command line tells of standard output.
-use Rattle.std.proofs.Common.{◌≡◌, ◌≢◌, ◌<◌, ℕ, List, Option, sym, refl, subst, ◌∙◌, arith, ◌⊎◌, ⊎_elim, inl, inr}
+use Rattle.std.proofs.Common.{◌≡◌, ◌≢◌, ◌<◌, ℕ, zero, suc, Bool, true, false, cond, nat_eq, List, Option, sym, refl, subst, ◌∙◌, arith, ◌⊎◌, ⊎_elim, inl, inr}
 use Rattle.std.specs.Io.KnownBytes.{Keeps}
 use Rattle.std.proofs.KnownBytes.{Keeps-refl}
 use Rattle.orc_syntax.specs.declared.fault.SyntaxFault.{SyntaxFault}
@@ -15,7 +15,7 @@ use Rattle.orc_journal_text.specs.declared.text.JournalFault.TheVariants as jour
 use Rattle.orc_outcome.specs.Status.{end_status_of}
 use Rattle.orc_outcome.specs.declared.end.End.{End}
 use Rattle.orc_outcome.specs.declared.end.End.TheVariants as ends
-use Rattle.orc_run.specs.Commands.{HasEnded, IsDone, IsUnread, LeavesUndone, WasCut}
+use Rattle.orc_run.specs.Commands.{HasEnded, IsDone, IsUnread, LeavesUndone, TellsOfFailures, WasCut}
 use Rattle.orc_run.specs.Failures.{failure_status}
 use Rattle.orc_scheduler.specs.declared.fault.EngineFault.{EngineFault}
 use Rattle.orc_scheduler.specs.declared.fault.EngineFault.TheVariants as engine
@@ -23,6 +23,9 @@ use Rattle.orc_rules.specs.Faults.{reason_status}
 use Rattle.orc_syntax.specs.Faults.{syntax_status}
 use Rattle.orc_scope.specs.Faults.{scope_status}
 use Rattle.orc_site.specs.Faults.{script_status}
+use Rattle.orc_ways.specs.Faults.{test_status}
+use Rattle.orc_ways.specs.declared.fault.TestFault.{TestFault}
+use Rattle.orc_ways.specs.declared.fault.TestFault.TheVariants as test_fault
 use Rattle.orc_journal_text.specs.Faults.{journal_status}
 use Rattle.orc_scheduler.specs.Faults.{engine_status}
 use Rattle.orc_run.specs.Running.{LeavesAtFault}
@@ -32,6 +35,9 @@ use Rattle.orc_run.specs.declared.judge.Unchecked.TheVariants.{Fault}
 use Rattle.orc_run.specs.Drawn.{LeavesUndrawn}
 use Rattle.orc_run.specs.Printed.{LeavesUnprinted}
 use Rattle.orc_run.specs.Surveyed.{LeavesUnsurveyed}
+use Rattle.orc_run.specs.Tested.{LeavesUntested}
+use Rattle.orc_run.specs.declared.tests.Untested.{Untested}
+use Rattle.orc_run.specs.declared.tests.Untested.TheVariants as untested
 use Rattle.orc_cli.specs.declared.job.Options.{Options}
 use Rattle.orc_cli.specs.declared.job.Job.{Job}
 use Rattle.orc_cli.specs.declared.job.Job.TheVariants as job
@@ -52,12 +58,14 @@ pub unread : (f : Failure) (out : Option (List ℕ)) → IsUnread f → LeavesUn
 unread (failure.Unread path f) out u = Keeps-refl out
 unread (failure.Fault f) out u = absurd u
 unread failure.Rows out u = absurd u
+unread (failure.NoFailure n) out u = absurd u
 
 -- and so do a run, a survey, a check, a print and a drawing at a fault that is not of the output.
 pub unrun : (source script : List ℕ) (o : Options) (old new : Option (List ℕ)) (f : RunFault) → LeavesAtFault source script o old new f → LeavesUndone (failure.Fault f) old new
 unrun source script o old new (fault.Syntax f) k = k
 unrun source script o old new (fault.Scope f) k = k
 unrun source script o old new (fault.Script f) k = k
+unrun source script o old new (fault.Test f) k = k
 unrun source script o old new (fault.Journal f) k = k
 unrun source script o old new (fault.Check f) k = k
 unrun source script o old new (fault.Engine f) k = k
@@ -67,6 +75,7 @@ pub unsurveyed : (source script : List ℕ) (orders limit : ℕ) (old new : Opti
 unsurveyed source script orders limit old new (fault.Syntax f) k = k
 unsurveyed source script orders limit old new (fault.Scope f) k = k
 unsurveyed source script orders limit old new (fault.Script f) k = k
+unsurveyed source script orders limit old new (fault.Test f) k = k
 unsurveyed source script orders limit old new (fault.Journal f) k = k
 unsurveyed source script orders limit old new (fault.Check f) k = k
 unsurveyed source script orders limit old new (fault.Engine f) k = k
@@ -76,6 +85,7 @@ pub unjudged : (source script journal : List ℕ) (old new : Option (List ℕ)) 
 unjudged source script journal old new (fault.Syntax f) k = k
 unjudged source script journal old new (fault.Scope f) k = k
 unjudged source script journal old new (fault.Script f) k = k
+unjudged source script journal old new (fault.Test f) k = k
 unjudged source script journal old new (fault.Journal f) k = k
 unjudged source script journal old new (fault.Check f) k = k
 unjudged source script journal old new (fault.Engine f) k = k
@@ -88,15 +98,27 @@ pub unprinted : (source : List ℕ) (old new : Option (List ℕ)) (f : RunFault)
 unprinted source old new (fault.Syntax f) k = k
 unprinted source old new (fault.Scope f) k = k
 unprinted source old new (fault.Script f) k = k
+unprinted source old new (fault.Test f) k = k
 unprinted source old new (fault.Journal f) k = k
 unprinted source old new (fault.Check f) k = k
 unprinted source old new (fault.Engine f) k = k
 unprinted source old new (fault.Write w) k = tt
 
+pub untested_fault : (old new : Option (List ℕ)) (f : RunFault) → LeavesUntested old new (untested.Fault f) → LeavesUndone (failure.Fault f) old new
+untested_fault old new (fault.Syntax f) k = k
+untested_fault old new (fault.Scope f) k = k
+untested_fault old new (fault.Script f) k = k
+untested_fault old new (fault.Test f) k = k
+untested_fault old new (fault.Journal f) k = k
+untested_fault old new (fault.Check f) k = k
+untested_fault old new (fault.Engine f) k = k
+untested_fault old new (fault.Write w) k = tt
+
 pub undrawn_fault : (source script journal : List ℕ) (old new : Option (List ℕ)) (f : RunFault) → LeavesUndrawn source script journal old new (undrawn.Fault f) → LeavesUndone (failure.Fault f) old new
 undrawn_fault source script journal old new (fault.Syntax f) k = k
 undrawn_fault source script journal old new (fault.Scope f) k = k
 undrawn_fault source script journal old new (fault.Script f) k = k
+undrawn_fault source script journal old new (fault.Test f) k = k
 undrawn_fault source script journal old new (fault.Journal f) k = k
 undrawn_fault source script journal old new (fault.Check f) k = k
 undrawn_fault source script journal old new (fault.Engine f) k = k
@@ -111,34 +133,65 @@ kept (failure.Unread path f) old new status e d k = k
 kept (failure.Fault (fault.Syntax f)) old new status e d k = k
 kept (failure.Fault (fault.Scope f)) old new status e d k = k
 kept (failure.Fault (fault.Script f)) old new status e d k = k
+kept (failure.Fault (fault.Test f)) old new status e d k = k
 kept (failure.Fault (fault.Journal f)) old new status e d k = k
 kept (failure.Fault (fault.Check f)) old new status e d k = k
 kept (failure.Fault (fault.Engine f)) old new status e d k = k
 kept (failure.Fault (fault.Write w)) old new status e d k = absurd (d (sym e))
 kept failure.Rows old new status e d k = k
+kept (failure.NoFailure n) old new status e d k = k
 
 -- ---- how a run ended
 
-end_in : (e : End) → (end_status_of e < 8) × (end_status_of e ≢ 1) × (end_status_of e ≢ 2) × (end_status_of e ≢ 7)
-end_in ends.Halted = (omega arith, λ h. omega (arith, h), λ h. omega (arith, h), λ h. omega (arith, h))
-end_in ends.Quiet = (omega arith, λ h. omega (arith, h), λ h. omega (arith, h), λ h. omega (arith, h))
-end_in ends.Limit = (omega arith, λ h. omega (arith, h), λ h. omega (arith, h), λ h. omega (arith, h))
-end_in ends.Full = (omega arith, λ h. omega (arith, h), λ h. omega (arith, h), λ h. omega (arith, h))
-end_in ends.Memory = (omega arith, λ h. omega (arith, h), λ h. omega (arith, h), λ h. omega (arith, h))
-
 abbrev IsFaultless : ℕ → Type 0
-IsFaultless n = (n < 8) × (n ≢ 1) × (n ≢ 2) × (n ≢ 7)
+IsFaultless n = (n < 8) × (n ≢ 2) × (n ≢ 7)
+
+end_in : (e : End) → IsFaultless (end_status_of e)
+end_in ends.Halted = (omega arith, λ h. omega (arith, h), λ h. omega (arith, h))
+end_in ends.Quiet = (omega arith, λ h. omega (arith, h), λ h. omega (arith, h))
+end_in ends.Limit = (omega arith, λ h. omega (arith, h), λ h. omega (arith, h))
+end_in ends.Full = (omega arith, λ h. omega (arith, h), λ h. omega (arith, h))
+end_in ends.Memory = (omega arith, λ h. omega (arith, h), λ h. omega (arith, h))
 
 zero_faultless : IsFaultless 0
-zero_faultless = (omega arith, λ h. omega (arith, h), λ h. omega (arith, h), λ h. omega (arith, h))
+zero_faultless = (omega arith, λ h. omega (arith, h), λ h. omega (arith, h))
 
--- what was done has no status of a fault of a file's text, of a command line or of the engine
-pub faultless : (holds : List ℕ → Option (List ℕ)) (j : Job) (old new : Option (List ℕ)) (status : ℕ) → IsDone holds j old new status → (status < 8) × (status ≢ 1) × (status ≢ 2) × (status ≢ 7)
+one_faultless : IsFaultless 1
+one_faultless = (omega arith, λ h. omega (arith, h), λ h. omega (arith, h))
+
+of_failing : (b : Bool) → IsFaultless (cond b 0 1)
+of_failing true = zero_faultless
+of_failing false = one_faultless
+
+-- what was done has no status of a refused command line or of the engine
+pub faultless : (holds : List ℕ → Option (List ℕ)) (j : Job) (old new : Option (List ℕ)) (status : ℕ) → IsDone holds j old new status → (status < 8) × (status ≢ 2) × (status ≢ 7)
 faultless holds (job.Run file script options) old new status (source, read, s, held, said, ran, is) = subst IsFaultless (sym is) (end_in s.end)
 faultless holds (job.Outcomes file script options) old new status (source, read, held, said, told, is) = subst IsFaultless (sym is) zero_faultless
 faultless holds (job.Check file journal script) old new status (source, text, read, held, told, said, judges, is) = subst IsFaultless (sym is) zero_faultless
 faultless holds (job.Draw file journal script options) old new status (source, text, read, held, told, said, draws, is) = subst IsFaultless (sym is) zero_faultless
 faultless holds (job.Print file) old new status (source, held, prints, is) = subst IsFaultless (sym is) zero_faultless
+faultless holds (job.Test file test script options) old new status (source, text, read, failing, held, held_too, said, tested, is) = subst IsFaultless (sym is) (of_failing (nat_eq failing 0))
+
+-- no end has the status of a fault
+no_fault : (e : End) → end_status_of e ≢ 1
+no_fault ends.Halted h = omega (arith, h)
+no_fault ends.Quiet h = omega (arith, h)
+no_fault ends.Limit h = omega (arith, h)
+no_fault ends.Full h = omega (arith, h)
+no_fault ends.Memory h = omega (arith, h)
+
+some_failing : (n : ℕ) → ◌≡◌ {A = ℕ} (cond (nat_eq n 0) 0 1) 1 → 0 < n
+some_failing zero h = absurd (omega (arith, h))
+some_failing (suc n) h = omega arith
+
+-- what was done with the status of a fault tells of a test some claim of which fails
+pub failed : (holds : List ℕ → Option (List ℕ)) (j : Job) (old new : Option (List ℕ)) (status : ℕ) → IsDone holds j old new status → status ≡ 1 → TellsOfFailures old new
+failed holds (job.Run file script options) old new status (source, read, s, held, said, ran, is) one = absurd (no_fault s.end (sym is ∙ one))
+failed holds (job.Outcomes file script options) old new status (source, read, held, said, told, is) one = absurd (omega (arith, is, one))
+failed holds (job.Check file journal script) old new status (source, text, read, held, told, said, judges, is) one = absurd (omega (arith, is, one))
+failed holds (job.Draw file journal script options) old new status (source, text, read, held, told, said, draws, is) one = absurd (omega (arith, is, one))
+failed holds (job.Print file) old new status (source, held, prints, is) one = absurd (omega (arith, is, one))
+failed holds (job.Test file test script options) old new status (source, text, read, failing, held, held_too, said, tested, is) one = (options, source, text, read, failing, tested, some_failing failing (sym is ∙ one))
 
 quiet_only : (e : End) → end_status_of e ≡ 3 → e ≡ ends.Quiet
 quiet_only ends.Halted h = absurd (omega (arith, h))
@@ -154,12 +207,17 @@ cut_only ends.Limit h = inl refl
 cut_only ends.Full h = inr refl
 cut_only ends.Memory h = absurd (omega (arith, h))
 
+zero_or_one : (b : Bool) (n : ℕ) → 1 < n → ◌≡◌ {A = ℕ} (cond b 0 1) n → ⊥
+zero_or_one true n more h = omega (arith, more, h)
+zero_or_one false n more h = omega (arith, more, h)
+
 pub ended_quiet : (holds : List ℕ → Option (List ℕ)) (j : Job) (old new : Option (List ℕ)) (status : ℕ) → IsDone holds j old new status → status ≡ 3 → HasEnded ends.Quiet old new
 ended_quiet holds (job.Run file script options) old new status (source, read, s, held, said, ran, is) three = (options, source, read, s, ran, quiet_only s.end (sym is ∙ three))
 ended_quiet holds (job.Outcomes file script options) old new status (source, read, held, said, told, is) three = absurd (omega (arith, is, three))
 ended_quiet holds (job.Check file journal script) old new status (source, text, read, held, told, said, judges, is) three = absurd (omega (arith, is, three))
 ended_quiet holds (job.Draw file journal script options) old new status (source, text, read, held, told, said, draws, is) three = absurd (omega (arith, is, three))
 ended_quiet holds (job.Print file) old new status (source, held, prints, is) three = absurd (omega (arith, is, three))
+ended_quiet holds (job.Test file test script options) old new status (source, text, read, failing, held, held_too, said, tested, is) three = absurd (zero_or_one (nat_eq failing 0) 3 (omega arith) (sym is ∙ three))
 
 pub ended_cut : (holds : List ℕ → Option (List ℕ)) (j : Job) (old new : Option (List ℕ)) (status : ℕ) → IsDone holds j old new status → status ≡ 4 → WasCut old new
 ended_cut holds (job.Run file script options) old new status (source, read, s, held, said, ran, is) four = ⊎_elim (λ e. inl (options, source, read, s, ran, e)) (λ e. inr (options, source, read, s, ran, e)) (cut_only s.end (sym is ∙ four))
@@ -167,6 +225,7 @@ ended_cut holds (job.Outcomes file script options) old new status (source, read,
 ended_cut holds (job.Check file journal script) old new status (source, text, read, held, told, said, judges, is) four = absurd (omega (arith, is, four))
 ended_cut holds (job.Draw file journal script options) old new status (source, text, read, held, told, said, draws, is) four = absurd (omega (arith, is, four))
 ended_cut holds (job.Print file) old new status (source, held, prints, is) four = absurd (omega (arith, is, four))
+ended_cut holds (job.Test file test script options) old new status (source, text, read, failing, held, held_too, said, tested, is) four = absurd (zero_or_one (nat_eq failing 0) 4 (omega arith) (sym is ∙ four))
 
 -- no fault has the status of such an end
 module _ (n : ℕ) (not_one : n ≢ 1) (not_five : n ≢ 5) (not_six : n ≢ 6) (not_seven : n ≢ 7) where
@@ -195,6 +254,14 @@ module _ (n : ℕ) (not_one : n ≢ 1) (not_five : n ≢ 5) (not_six : n ≢ 6) 
   not_script (script.Line number) h = not_one (sym h)
   not_script script.Memory h = not_five (sym h)
   not_script script.Long h = not_one (sym h)
+
+  not_test : (f : TestFault) → test_status f ≢ n
+  not_test (test_fault.Line number) h = not_one (sym h)
+  not_test test_fault.Memory h = not_five (sym h)
+  not_test test_fault.Long h = not_one (sym h)
+  not_test (test_fault.Place number) h = not_one (sym h)
+  not_test (test_fault.Unknown number) h = not_one (sym h)
+  not_test (test_fault.Ways number) h = not_one (sym h)
 
   not_journal : (f : JournalFault) → journal_status f ≢ n
   not_journal journal.Header h = not_one (sym h)
@@ -228,11 +295,13 @@ module _ (n : ℕ) (not_one : n ≢ 1) (not_five : n ≢ 5) (not_six : n ≢ 6) 
   not_failed (failure.Fault (fault.Syntax f)) h = not_syntax f h
   not_failed (failure.Fault (fault.Scope f)) h = not_scope f.kind h
   not_failed (failure.Fault (fault.Script f)) h = not_script f h
+  not_failed (failure.Fault (fault.Test f)) h = not_test f h
   not_failed (failure.Fault (fault.Journal f)) h = not_journal f h
   not_failed (failure.Fault (fault.Check f)) h = not_reason f.why h
   not_failed (failure.Fault (fault.Engine f)) h = not_engine f h
   not_failed (failure.Fault (fault.Write w)) h = not_six (sym h)
   not_failed failure.Rows h = not_one (sym h)
+  not_failed (failure.NoFailure number) h = not_one (sym h)
 
 pub not_quiet : (f : Failure) → failure_status f ≢ 3
 not_quiet f = not_failed 3 (λ h. omega (arith, h)) (λ h. omega (arith, h)) (λ h. omega (arith, h)) (λ h. omega (arith, h)) f

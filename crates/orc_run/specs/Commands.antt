@@ -1,5 +1,5 @@
 -- The statuses of command lines, and what they leave on standard output.
-use Rattle.std.specs.Prelude.{◌≡◌, ◌⊎◌, ℕ, List, ⊤, option_map}
+use Rattle.std.specs.Prelude.{◌≡◌, ◌⊎◌, ◌<◌, ℕ, List, ⊤, cond, nat_eq, option_map}
 use Rattle.std.specs.declared.option.Option.{Option}
 use Rattle.std.specs.Io.KnownBytes.{Keeps}
 use Rattle.orc_outcome.specs.Status.{end_status_of}
@@ -12,12 +12,14 @@ use Rattle.orc_run.specs.Inputs.{IsHeld, IsRead}
 use Rattle.orc_run.specs.Printed.{Prints}
 use Rattle.orc_run.specs.Running.{Ran}
 use Rattle.orc_run.specs.Surveyed.{HasSurveyed}
+use Rattle.orc_run.specs.Tested.{HasFailing}
 use Rattle.orc_cli.specs.declared.job.Job.{Job}
 use Rattle.orc_cli.specs.declared.job.Job.TheVariants as job
 use Rattle.orc_run.specs.declared.failures.Failure.{Failure}
 use Rattle.orc_run.specs.declared.failures.Failure.TheVariants as failure
 use Rattle.orc_run.specs.declared.faults.RunFault.TheVariants as fault
 use Rattle.orc_cli.specs.declared.job.Options.{Options}
+use Rattle.orc_cli.specs.declared.job.TestOptions.{TestOptions}
 
 -- what was written is the whole text of a run of the file's program with the script's sites, and the status says how it ended; `holds` says what is known of the files
 abbrev pub HasRun : (List ℕ → Option (List ℕ)) → List ℕ → Option (List ℕ) → Options → Option (List ℕ) → Option (List ℕ) → ℕ → Type 0
@@ -39,6 +41,10 @@ HasDrawn holds file journal script old new status = (source text read : List ℕ
 abbrev pub HasPrinted : (List ℕ → Option (List ℕ)) → List ℕ → Option (List ℕ) → Option (List ℕ) → ℕ → Type 0
 HasPrinted holds file old new status = (source : List ℕ) × IsHeld (holds file) source × Prints source old new × (status ≡ 0)
 
+-- what was written tells of the file's program held against a test, and the status is 0 exactly if no claim fails
+abbrev pub HasTested : (List ℕ → Option (List ℕ)) → List ℕ → List ℕ → Option (List ℕ) → TestOptions → Option (List ℕ) → Option (List ℕ) → ℕ → Type 0
+HasTested holds file test script options old new status = (source text read : List ℕ) × (failing : ℕ) × IsHeld (holds file) source × IsHeld (holds test) text × IsRead holds script read × HasFailing source text read options old new failing × (status ≡ cond (nat_eq failing 0) 0 1)
+
 -- a job was done, with this status
 abbrev pub IsDone : (List ℕ → Option (List ℕ)) → Job → Option (List ℕ) → Option (List ℕ) → ℕ → Type 0
 IsDone holds (job.Run file script options) old new status = HasRun holds file.now (option_map (λ p. p.now) script) options old new status
@@ -46,6 +52,7 @@ IsDone holds (job.Outcomes file script options) old new status = HasTold holds f
 IsDone holds (job.Check file journal script) old new status = HasJudged holds file.now journal.now (option_map (λ p. p.now) script) old new status
 IsDone holds (job.Draw file journal script options) old new status = HasDrawn holds file.now journal.now (option_map (λ p. p.now) script) old new status
 IsDone holds (job.Print file) old new status = HasPrinted holds file.now old new status
+IsDone holds (job.Test file test script options) old new status = HasTested holds file.now test.now (option_map (λ p. p.now) script) options old new status
 
 -- what was written is the whole text of a run that ended so
 abbrev pub HasEnded : End → Option (List ℕ) → Option (List ℕ) → Type 0
@@ -55,11 +62,16 @@ HasEnded end old new = (options : Options) × (source script : List ℕ) × (s :
 abbrev pub WasCut : Option (List ℕ) → Option (List ℕ) → Type 0
 WasCut old new = HasEnded ends.Limit old new ⊎ HasEnded ends.Full old new
 
+-- what was written tells of a test some claim of which fails
+abbrev pub TellsOfFailures : Option (List ℕ) → Option (List ℕ) → Type 0
+TellsOfFailures old new = (options : TestOptions) × (source text script : List ℕ) × (failing : ℕ) × HasFailing source text script options old new failing × (0 < failing)
+
 -- a file could not be read
 abbrev pub IsUnread : Failure → Type 0
 IsUnread (failure.Unread path f) = ⊤
 IsUnread (failure.Fault f) = ⊥
 IsUnread failure.Rows = ⊥
+IsUnread (failure.NoFailure n) = ⊥
 
 -- nothing was written, unless the output was at fault
 abbrev pub LeavesUndone : Failure → Option (List ℕ) → Option (List ℕ) → Type 0

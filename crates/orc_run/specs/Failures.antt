@@ -13,6 +13,7 @@ abbrev pub failure_status : Failure → ℕ
 failure_status (failure.Unread path f) = read_status_of f
 failure_status (failure.Fault f) = status f
 failure_status failure.Rows = 1
+failure_status (failure.NoFailure n) = 1
 
 -- the line on standard error, without its LF
 abbrev pub failure_line : Failure → List ℕ
@@ -20,6 +21,7 @@ failure_line (failure.Unread path read.Memory) = codes "orc: memory"
 failure_line (failure.Unread path (read.Failed why)) = codes "orc: read " ++ path.now
 failure_line (failure.Fault f) = line f
 failure_line failure.Rows = codes "orc: draw: over " ++ (decimal MOST_ROWS ++ codes " rows")
+failure_line (failure.NoFailure n) = codes "orc: test: no failure " ++ decimal n
 
 -- what follows it: nothing unless it is asked for
 abbrev pub told : Explained → List ℕ

@@ -9,4 +9,5 @@ pub mod Printed
 pub mod Running
 pub mod Status
 pub mod Surveyed
+pub mod Tested
 pub mod Times

@@ -80,6 +80,7 @@ IsUnloaded source script _ = ⊥
 -- the fault of a run: why no program is loaded; or one of memory or the engine, where one is; or one of the output
 abbrev pub IsFaultOf : List ℕ → List ℕ → RunFault → Type 0
 IsFaultOf source script (fault.Journal f) = ⊥
+IsFaultOf source script (fault.Test f) = ⊥
 IsFaultOf source script (fault.Check f) = ⊥
 IsFaultOf source script (fault.Engine f) = Loads source script
 IsFaultOf source script (fault.Write w) = Unit {0}
@@ -92,6 +93,7 @@ IsOther (fault.Syntax f) = ⊥
 IsOther (fault.Scope f) = ⊥
 IsOther (fault.Script f) = ⊥
 IsOther (fault.Journal f) = ⊥
+IsOther (fault.Test f) = ⊥
 IsOther (fault.Check f) = ⊥
 IsOther _ = Unit {0}
 

@@ -1,10 +1,10 @@
 //! What a command line does, over the files and the streams that it is given.
 
-ghost use Rattle.std.specs.Prelude.{◌≡◌, ◌≢◌, ◌<◌, ℕ, List, IfOk, IfErr, option_map};
+ghost use Rattle.std.specs.Prelude.{◌≡◌, ◌≢◌, ◌<◌, ◌⊎◌, ℕ, List, IfOk, IfErr, cond, nat_eq, option_map};
 ghost use Rattle.std.specs.Io.KnownBytes.{Keeps};
 ghost use Rattle.orc_outcome.specs.declared.end.End.TheVariants as ends;
 ghost use Rattle.orc_run.specs.Inputs.{IsHeld, IsRead};
-ghost use Rattle.orc_run.specs.Commands.{HasDrawn, HasEnded, HasJudged, HasPrinted, HasRun, HasTold, IsDone, IsUnread, LeavesUndone, WasCut};
+ghost use Rattle.orc_run.specs.Commands.{HasDrawn, HasEnded, HasJudged, HasPrinted, HasRun, HasTested, HasTold, IsDone, IsUnread, LeavesUndone, TellsOfFailures, WasCut};
 
 use crate::explained::{Explained, subject_of, subject_with_journal};
 use crate::failures::{Failure, report};
@@ -16,10 +16,11 @@ use crate::output::WriteFault;
 use crate::picture::{Undrawn, draw_text};
 use crate::printer::print_text;
 use crate::runner::run_source;
+use crate::tests::{Untested, test_text};
 use clap::error::ErrorKind;
-use orc_cli::{Asked, Job, Options, Ranges, SurveyOptions, read_words};
+use orc_cli::{Asked, Job, Options, Ranges, SurveyOptions, TestOptions, read_words};
 use orc_explain_fault::Unread;
-use orc_report::Subject;
+use orc_report::{Document, Subject};
 use std::alloc::Global;
 use std::convert::AsStr;
 use std::io::Write;
@@ -281,6 +282,59 @@ fn print_file<'a, F: Files, W: Write>(
     }
 }
 
+// The status of a test of which so many claims fail.
+fn test_status(failing: usize) -> u8
+    ensures { result ≡ cond (nat_eq failing 0) 0 1 }
+{
+    if failing == 0 { 0 } else { 1 }
+}
+
+// Holds the claims of a test against the program of a file: the status says whether all hold.
+#[tactic(auto, using(crate::proofs::Statuses::unread, crate::proofs::Statuses::untested_fault))]
+fn test_file<'a, R: Threads + Wait + Sync, F: Files, W: Write>(
+    rt: &R,
+    alloc: Global,
+    file: &'a str,
+    test: &'a str,
+    script: Option<&'a str>,
+    options: &TestOptions,
+    files: &mut F,
+    out: &mut W,
+    explained: &mut Explained,
+) -> Result<u8, Failure<'a>>
+    ensures done { IfOk result (HasTested (F.holds files.old) file.now test.now (option_map (λ p. p.now) script.entry) options.now (W.contents out.old) (W.contents out.new)) }
+    ensures undone { IfErr result (λ f. LeavesUndone f (W.contents out.old) (W.contents out.new)) }
+{
+    let source = read(file, files)?;
+    let claims = read(test, files)?;
+    let answers = read_script(alloc, script, files)?;
+    match test_text(
+        rt,
+        alloc,
+        source.as_slice(),
+        claims.as_slice(),
+        answers.as_slice(),
+        options,
+        out,
+    ) {
+        Ok(failing) => Ok(test_status(failing)),
+        Err(Untested::Fault(RunFault::Test(fault))) => {
+            let document = Document {
+                name: title_of(test),
+                text: claims.as_slice(),
+            };
+            explained.test(alloc, &document, answers.as_slice(), fault);
+            Err(Failure::Fault(RunFault::Test(fault)))
+        }
+        Err(Untested::Fault(fault)) => {
+            let subject = subject_of(file, source.as_slice(), script, answers.as_slice());
+            explained.fault(alloc, &subject, fault);
+            Err(Failure::Fault(fault))
+        }
+        Err(Untested::NoFailure(number)) => Err(Failure::NoFailure(number)),
+    }
+}
+
 // Does what a command line asks for: the status.
 fn do_job<'a, R: Threads + Wait + Sync, F: Files, W: Write>(
     rt: &R,
@@ -316,6 +370,14 @@ fn do_job<'a, R: Threads + Wait + Sync, F: Files, W: Write>(
             options,
         } => draw_file(alloc, file, journal, script, options, files, out, explained),
         Job::Print { file } => print_file(alloc, file, files, out, explained),
+        Job::Test {
+            file,
+            test,
+            script,
+            options,
+        } => test_file(
+            rt, alloc, file, test, script, &options, files, out, explained,
+        ),
     }
 }
 
@@ -342,7 +404,7 @@ where
     W: Write,
     V: Write,
     ensures status { result < 8 }
-    ensures fault { result ≡ 1 → Keeps (W.contents out.old) (W.contents out.new) }
+    ensures fault { result ≡ 1 → Keeps (W.contents out.old) (W.contents out.new) ⊎ TellsOfFailures (W.contents out.old) (W.contents out.new) }
     ensures refused { result ≡ 2 → Keeps (W.contents out.old) (W.contents out.new) }
     ensures broken { result ≡ 7 → Keeps (W.contents out.old) (W.contents out.new) }
     ensures quiet { result ≡ 3 → HasEnded ends.Quiet (W.contents out.old) (W.contents out.new) }

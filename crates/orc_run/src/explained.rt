@@ -11,12 +11,16 @@ use crate::inputs::{ReadFault, title_of};
 use crate::output::{WriteFault, write_text};
 use crate::run_end::explain_run;
 use orc_engine::EngineFault;
-use orc_explain_fault::{Fault, explain, explain_refused, explain_rows, explain_unread};
+use orc_explain_fault::{
+    Fault, explain, explain_refused, explain_rows, explain_test, explain_unread,
+};
 use orc_explain_refusal::explain_refusal;
 use orc_load::Loaded;
 use orc_outcome::Played;
 use orc_report::{Document, Subject};
+use orc_site::read_script;
 use orc_verdict::CheckFault;
+use orc_ways::fault::TestFault;
 use std::alloc::{AllocError, Global};
 use std::io::Write;
 
@@ -36,6 +40,8 @@ fn fault_of(fault: RunFault) -> Option<Fault> {
         RunFault::Syntax(fault) => Some(Fault::Syntax(fault)),
         RunFault::Scope(fault) => Some(Fault::Scope(fault)),
         RunFault::Script(fault) => Some(Fault::Script(fault)),
+        // It is explained beside the test's text.
+        RunFault::Test(_) => None,
         RunFault::Journal(fault) => Some(Fault::Journal(fault)),
         RunFault::Check(_) => None,
         RunFault::Engine(EngineFault::Range) => Some(Fault::Range),
@@ -101,6 +107,18 @@ impl Explained {
         }
     }
 
+    /// Explains in the same way a fault of a test, with which the lines of this script were read.
+    pub fn test(&mut self, alloc: Global, test: &Document, script: &[u8], fault: TestFault)
+        ensures { self.old ≡ Unasked → self.new ≡ Unasked }
+    {
+        if !self.is_asked() {
+            return;
+        }
+        if let Ok(others) = read_script(alloc, script) {
+            self.tell(explain_test(alloc, test, &others, fault));
+        }
+    }
+
     /// Explains in the same way how a run of these files ended.
     pub fn ended(&mut self, alloc: Global, subject: &Subject, loaded: &Loaded, played: &Played)
         ensures { self.old ≡ Unasked → self.new ≡ Unasked }
@@ -140,7 +158,7 @@ impl Explained {
                 self.tell(explain_unread(alloc, title_of(path), why));
             }
             Failure::Rows => self.tell(explain_rows(alloc)),
-            Failure::Fault(_) => {}
+            Failure::Fault(_) | Failure::NoFailure(_) => {}
         }
     }
 }

@@ -20,6 +20,8 @@ pub enum Failure<'a> {
     Fault(RunFault),
     /// A picture would have too many rows.
     Rows,
+    /// A test has no failure with this number.
+    NoFailure(u64),
 }
 
 impl fmt::Display for Failure<'_> {
@@ -31,6 +33,7 @@ impl fmt::Display for Failure<'_> {
             Failure::Unread(path, ReadFault::Failed(_)) => write!(f, "orc: read {path}"),
             Failure::Fault(fault) => write!(f, "{fault}"),
             Failure::Rows => write!(f, "orc: draw: over {MOST_ROWS} rows"),
+            Failure::NoFailure(number) => write!(f, "orc: test: no failure {number}"),
         }
     }
 }
@@ -43,7 +46,7 @@ impl Failure<'_> {
         match self {
             Failure::Unread(_, fault) => fault.status(),
             Failure::Fault(fault) => fault.status(),
-            Failure::Rows => 1,
+            Failure::Rows | Failure::NoFailure(_) => 1,
         }
     }
 }

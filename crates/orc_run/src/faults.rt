@@ -12,6 +12,7 @@ use orc_scope::ScopeFault;
 use orc_site::ScriptFault;
 use orc_syntax::SyntaxFault;
 use orc_verdict::CheckFault;
+use orc_ways::fault::TestFault;
 use std::error::Error;
 use std::fmt;
 
@@ -24,6 +25,8 @@ pub enum RunFault {
     Scope(ScopeFault),
     /// The script is none.
     Script(ScriptFault),
+    /// The test is none.
+    Test(TestFault),
     /// The text is that of no journal.
     Journal(JournalFault),
     /// An entry of the journal is refused.
@@ -54,6 +57,7 @@ impl fmt::Display for RunFault {
             RunFault::Syntax(fault) => write!(f, "orc: {fault}"),
             RunFault::Scope(fault) => write!(f, "orc: {fault}"),
             RunFault::Script(fault) => write!(f, "orc: {fault}"),
+            RunFault::Test(fault) => write!(f, "orc: {fault}"),
             RunFault::Journal(fault) => write!(f, "orc: {fault}"),
             RunFault::Check(fault) => write!(f, "orc: {fault}"),
             RunFault::Engine(fault) => write!(f, "orc: {fault}"),
@@ -73,6 +77,7 @@ impl RunFault {
             RunFault::Syntax(fault) => fault.status(),
             RunFault::Scope(fault) => fault.status(),
             RunFault::Script(fault) => fault.status(),
+            RunFault::Test(fault) => fault.status(),
             RunFault::Journal(fault) => fault.status(),
             RunFault::Check(fault) => fault.why.status(),
             RunFault::Engine(fault) => fault.status(),

@@ -2,6 +2,7 @@
 #![tactic(auto)]
 
 mod commands;
+mod counterexample;
 mod explained;
 mod failures;
 mod faults;
@@ -15,6 +16,7 @@ mod printer;
 mod publications;
 mod run_end;
 mod runner;
+mod tests;
 mod times;
 
 pub use commands::command;
@@ -23,7 +25,7 @@ pub use failures::{Failure, report};
 pub use faults::RunFault;
 pub use inputs::{Files, ReadFault};
 pub use judge::{Unchecked, check_read, check_text};
-pub use orc_cli::{Options, STANDARD_INPUT, SurveyOptions, Wanted};
+pub use orc_cli::{Options, STANDARD_INPUT, Shown, SurveyOptions, TestOptions, Wanted};
 pub use orc_explain_fault::Unread;
 pub use orc_outcome::{End, Summary};
 pub use outcomes::survey_text;
@@ -31,3 +33,4 @@ pub use output::{WriteFault, write_text};
 pub use picture::{Undrawn, draw_text};
 pub use printer::print_text;
 pub use runner::run_text;
+pub use tests::{Untested, test_text};

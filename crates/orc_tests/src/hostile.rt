@@ -262,8 +262,9 @@ fn sites_may_be_refused_memory(rt: HostRuntime) -> Result<(), Fail> {
                 if let Ok(run) = run {
                     assert!(rt; is_accepted(alloc, source, b"", &run));
                     let journal = String::from_utf8(text_of(alloc, b"", &run))?;
-                    let cancelled = cancels_in(alloc, journal.as_str())?.contains(&number);
-                    if !cancelled || run.summary.end != End::Halted {
+                    let cancels = cancels_in(alloc, journal.as_str())?;
+                    let is_cancelled = cancels.contains(&number);
+                    if !is_cancelled || run.summary.end != End::Halted {
                         assert_eq!(rt; run.summary.end, End::Memory, "at {number} on {workers}");
                     }
                 }

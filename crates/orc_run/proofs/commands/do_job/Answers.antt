@@ -2,3 +2,6 @@ use Rattle.orc_run.proofs.commands.do_job.Goals as goal
 
 pub returns-in-Run-clause-done : goal.returns-in-Run-clause-done
 returns-in-Run-clause-done g c = rw c.in-Run.is c.run_file.ensures.done
+
+pub returns-in-Test-clause-done : goal.returns-in-Test-clause-done
+returns-in-Test-clause-done g c = rw c.in-Test.is c.test_file.ensures.done

@@ -1,0 +1,86 @@
+-- What holding a test against a source's program does.
+use Rattle.std.specs.Prelude.{◌≡◌, ℕ, List, Some, map, slice_get}
+use Rattle.std.specs.List.{AllZip}
+use Rattle.std.specs.declared.option.Option.{Option}
+use Rattle.std.specs.declared.vec.Vec.{Vec}
+use Rattle.std.specs.Io.KnownBytes.{Keeps, Appends}
+use Rattle.orc_rules.specs.Sites.{Table}
+use Rattle.orc_outcome.specs.declared.end.Summary.{Summary}
+use Rattle.orc_site.specs.Script.{Says}
+use Rattle.orc_ways.specs.Drafting.{test_of}
+use Rattle.orc_ways.specs.Finishing.{Says as SaysTest}
+use Rattle.orc_orders.specs.Trials.{Tells, texts}
+use Rattle.orc_orders.specs.declared.trials.TrialFault.{TrialFault}
+use Rattle.orc_orders.specs.declared.trials.TrialFault.TheVariants as trial
+use Rattle.orc_orders.specs.declared.trials.Trials.{Trials}
+use Rattle.orc_tally.specs.Table.{failing, failure_at, rows, table}
+use Rattle.orc_tally.specs.declared.table.CaseReport.{CaseReport}
+use Rattle.orc_tally.specs.declared.table.Report.{Report}
+use Rattle.orc_tally.specs.declared.table.Shown.{Shown as Failing}
+use Rattle.orc_cli.specs.declared.job.Options.{Options}
+use Rattle.orc_cli.specs.declared.job.Shown.{Shown}
+use Rattle.orc_cli.specs.declared.job.Shown.TheVariants as shown
+use Rattle.orc_cli.specs.declared.job.TestOptions.{TestOptions}
+use Rattle.orc_cli.specs.declared.job.Wanted.TheVariants as wanted
+use Rattle.orc_run.specs.Output.{AppendsPrefix}
+use Rattle.orc_run.specs.Running.{IsOwnOf, Ran, of_load}
+use Rattle.orc_run.specs.declared.faults.RunFault.{RunFault}
+use Rattle.orc_run.specs.declared.faults.RunFault.TheVariants as fault
+use Rattle.orc_run.specs.declared.tests.CaseScripts.{CaseScripts}
+use Rattle.orc_run.specs.declared.tests.Untested.{Untested}
+use Rattle.orc_run.specs.declared.tests.Untested.TheVariants as untested
+
+-- what is told of a case is told of the trials of the ways of these scripts
+abbrev pub IsTried : Trials → CaseScripts → CaseReport → Type 0
+IsTried t s r = Tells t (texts s.scripts.items) (record { ways = r.tried; told = r.told; cut = r.cut })
+
+-- the trials are those of the test
+pub record AreOf (source : List ℕ) (o : TestOptions) (r : Report) (t : Trials) : Type 0 where
+  pub of_source : t.source.now ≡ source
+  pub of_sites : t.sites.now ≡ r.test.now.sites.items
+  pub of_claims : t.claims.now ≡ r.test.now.claims.items
+  pub each : t.orders ≡ o.orders
+  pub most : t.limit ≡ o.limit
+
+-- What is reported of a test: the text says it, and of each of its cases some ways were tried, and it is told of them.
+pub record IsReport (source text script : List ℕ) (o : TestOptions) (scripts : List CaseScripts) (r : Report) : Type 0 where
+  pub others : Table
+  pub says : Says script others
+  pub reads : SaysTest text others (test_of r.test.now)
+  pub trials : Trials
+  pub of_test : AreOf source o r trials
+  pub tried : AllZip (IsTried trials) scripts r.cases.now
+  pub orders : r.orders ≡ o.orders
+
+-- the script of the way in which a failure is
+abbrev pub IsScript : List CaseScripts → Failing → List ℕ → Type 0
+IsScript scripts f text = (s : CaseScripts) × (slice_get scripts f.case ≡ Some s) × (slice_get (texts s.scripts.items) f.failure.way ≡ Some text)
+
+-- a run with that script, whose journal is wanted, in the order of the failure
+abbrev pub options_of : TestOptions → Failing → Options
+options_of o f = record { workers = 1; order = Some f.failure.order; limit = o.limit; wanted = wanted.Journal }
+
+-- what is written of it: its table, with some details below each failure; or the script or the journal that shows one failure
+abbrev pub Writes : List ℕ → TestOptions → List CaseScripts → Report → Shown → Option (List ℕ) → Option (List ℕ) → Type 0
+Writes source o scripts r shown.Table old new = (details : List (List ℕ)) × Appends old new (table r details)
+Writes source o scripts r (shown.Script n) old new = (f : Failing) × (text : List ℕ) × (failure_at n (rows r) ≡ Some f) × IsScript scripts f text × Appends old new text
+Writes source o scripts r (shown.Journal n) old new = (f : Failing) × (text : List ℕ) × (s : Summary) × (failure_at n (rows r) ≡ Some f) × IsScript scripts f text × Ran source text (options_of o f) old new s
+
+-- so many claims of the test fail, and that was written
+abbrev pub HasFailing : List ℕ → List ℕ → List ℕ → TestOptions → Option (List ℕ) → Option (List ℕ) → ℕ → Type 0
+HasFailing source text script o old new number = (scripts : List CaseScripts) × (r : Report) × IsReport source text script o scripts r × Writes source o scripts r o.shown old new × (number ≡ failing (rows r))
+
+-- at a fault nothing was written, or at a write fault a prefix of some text
+abbrev pub LeavesUntested : Option (List ℕ) → Option (List ℕ) → Untested → Type 0
+LeavesUntested old new (untested.Fault (fault.Write w)) = (text : List ℕ) × AppendsPrefix old new text
+LeavesUntested old new _ = Keeps old new
+
+-- a trial's fault, as a run's
+abbrev pub of_trial : TrialFault → RunFault
+of_trial (trial.Load f) = of_load f
+of_trial (trial.Engine f) = fault.Engine f
+
+-- a fault for which the engine itself is to blame
+abbrev pub IsOwnFault : Untested → Type 0
+IsOwnFault (untested.Fault f) = IsOwnOf f
+IsOwnFault (untested.NoFailure n) = ⊥

@@ -1,0 +1,552 @@
+//! From a test's text to what is told of its claims.
+
+ghost use Rattle.std.specs.Prelude.{◌≡◌, List, ℕ, Some, IfOk, IfErr, OnOk};
+ghost use Rattle.std.specs.List.{AllZip};
+ghost use Rattle.std.specs.Io.KnownBytes.{Appends};
+ghost use Rattle.orc_outcome.specs.declared.end.Summary.{Summary};
+ghost use Rattle.orc_tally.specs.Table.{failing, failure_at, rows as rows_of, table};
+ghost use Rattle.orc_tally.specs.declared.table.Report.{Report};
+ghost use Rattle.orc_tally.specs.declared.table.Shown.{Shown as Failing};
+ghost use Rattle.orc_rules.specs.Sites.{Table};
+ghost use Rattle.orc_site.specs.Script.{Says};
+ghost use Rattle.orc_ways.specs.Drafting.{test_of};
+ghost use Rattle.orc_ways.specs.Finishing.{Says as SaysTest};
+ghost use Rattle.orc_run.specs.Running.{Ran};
+ghost use Rattle.orc_run.specs.Tested.{HasFailing, IsOwnFault, IsScript, IsTried, LeavesUntested, Writes, of_trial, options_of};
+
+use crate::counterexample::{write_failing, write_lines};
+use crate::faults::RunFault;
+use crate::output::{WriteFault, write_text};
+use crate::runner::run_source;
+use orc_cases::Ways;
+use orc_cli::{Options, Shown, TestOptions, Wanted};
+use orc_engine::EngineFault;
+use orc_orders::{CaseTold, Run, TrialFault, Trials, try_again, try_ways};
+use orc_outcome::End;
+use orc_rules::answers::Answers;
+use orc_site::read_script;
+use orc_syntax::parse;
+use orc_tally::{CaseReport, Report, Row, Shown as Failing, failing, failure_at};
+use orc_ways::fault::TestFault;
+use orc_ways::read_test;
+use orc_ways::test::Test;
+use std::alloc::Global;
+use std::io::Write;
+use std::sync::Wait;
+use std::thread::Threads;
+
+/// Why nothing is told of a test.
+#[derive(Clone, Copy, Debug, PartialEq, Eq)]
+pub enum Untested {
+    Fault(RunFault),
+    /// The failure with this number was to be shown, and there are fewer.
+    NoFailure(u64),
+}
+
+/// Memory for what is to be written was refused.
+const NO_TEXT: Untested = Untested::Fault(RunFault::Write(WriteFault));
+
+/// Memory for what is tried was refused.
+const NO_MEMORY: Untested = Untested::Fault(RunFault::Engine(EngineFault::Memory));
+
+/// The scripts of the ways of a case that are tried.
+#[derive(Drop)]
+pub struct CaseScripts {
+    pub scripts: Vec<Vec<u8>>,
+}
+
+/// What is tried, and how.
+#[derive(Drop)]
+struct Tester<'s, 'a, R> {
+    rt: &'s R,
+    alloc: Global,
+    trials: &'s Trials<'s, 'a>,
+    workers: usize,
+}
+
+// The ways of each case. The fault is T6 where one has too many, or refused memory.
+fn ways_of(alloc: Global, test: &Test<'_>) -> Result<Vec<Ways>, TestFault> {
+    let mut all = Vec::new(alloc);
+    for (at, case) in test.cases.iter().enumerate() {
+        let Ok(found) = Ways::of_case(alloc, test, at) else {
+            return Err(TestFault::Memory);
+        };
+        let Some(ways) = found else {
+            return Err(TestFault::Ways(case.line));
+        };
+        if all.push(ways).is_err() {
+            return Err(TestFault::Memory);
+        }
+    }
+    Ok(all)
+}
+
+// The scripts of each case, so many at most, each with these lines behind it.
+fn scripts_of(
+    alloc: Global,
+    ways: &[Ways],
+    most: u64,
+    behind: &[u8],
+) -> Result<Vec<CaseScripts>, Untested>
+    ensures sound { IfErr result (λ f. IsOwnFault f → ⊥) }
+{
+    let mut all = Vec::new(alloc);
+    for ways in ways {
+        let Ok(scripts) = ways.scripts(alloc, most, behind) else {
+            return Err(NO_MEMORY);
+        };
+        if all.push(CaseScripts { scripts }).is_err() {
+            return Err(NO_MEMORY);
+        }
+    }
+    Ok(all)
+}
+
+// A trial's fault, as a run's.
+fn run_fault(fault: TrialFault) -> RunFault
+    ensures { result ≡ of_trial fault }
+{
+    match fault {
+        TrialFault::Load(fault) => RunFault::from(fault),
+        TrialFault::Engine(fault) => RunFault::Engine(fault),
+    }
+}
+
+impl<R: Threads + Sync> Tester<'_, '_, R> {
+    // Tries the ways of a case, which has so many in all.
+    fn try_case(&self, scripts: &CaseScripts, ways: u64) -> Result<CaseReport, Untested>
+        ensures tried { IfOk result (IsTried self.now.trials.now scripts.now) }
+        ensures sound { IfErr result (λ f. IsOwnFault f → ⊥) }
+    {
+        let Ok(mut told) = CaseTold::new(self.alloc, self.trials.claims) else {
+            return Err(NO_MEMORY);
+        };
+        if let Err(fault) = try_ways(
+            self.rt,
+            self.alloc,
+            self.trials,
+            self.workers,
+            scripts.scripts.as_slice(),
+            &mut told,
+        ) {
+            return Err(Untested::Fault(run_fault(fault)));
+        }
+        let CaseTold {
+            ways: tried,
+            told,
+            cut,
+        } = told;
+        Ok(CaseReport {
+            ways,
+            tried,
+            cut,
+            told,
+        })
+    }
+
+    // Tries the ways of each case.
+    #[tactic(auto, using(crate::proofs::Testing::one_tried))]
+    fn try_cases(&self, cases: &[CaseScripts], ways: &[Ways]) -> Result<Vec<CaseReport>, Untested>
+        ensures tried { IfOk result (λ reports. AllZip (IsTried self.now.trials.now) cases.now reports.items) }
+        ensures sound { IfErr result (λ f. IsOwnFault f → ⊥) }
+    {
+        let mut reports = Vec::new(self.alloc);
+        let mut at = 0;
+        let mut rest = cases;
+        loop {
+            match rest {
+                [] => return Ok(reports),
+                [scripts, more @ ..] => {
+                    let count = match ways.get(at) {
+                        Some(ways) => ways.count(),
+                        None => 0,
+                    };
+                    let report = self.try_case(scripts, count)?;
+                    if reports.push(report).is_err() {
+                        return Err(NO_MEMORY);
+                    }
+                    at += 1;
+                    rest = more;
+                }
+            }
+        }
+    }
+
+    // Makes the run again that shows a failure.
+    fn run_again(&self, script: &[u8], shown: Failing) -> Result<Run, Untested>
+        ensures sound { IfErr result (λ f. IsOwnFault f → ⊥) }
+    {
+        match try_again(self.alloc, self.trials, script, shown.failure.order) {
+            Ok(run) => Ok(run),
+            Err(fault) => Err(Untested::Fault(run_fault(fault))),
+        }
+    }
+
+    // What stands below a claim that fails: what isn't usual in the way that shows it, and where it fails there.
+    fn details_of(
+        &self,
+        test: &Test<'_>,
+        script: &[u8],
+        lines: &[u8],
+        number: usize,
+        shown: Failing,
+    ) -> Result<Vec<u8>, Untested>
+        ensures sound { IfErr result (λ f. IsOwnFault f → ⊥) }
+    {
+        let run = self.run_again(script, shown)?;
+        let mut text = Vec::new(self.alloc);
+        if write_lines(self.alloc, number, lines, &mut text).is_err() {
+            return Err(NO_TEXT);
+        }
+        if write_failing(self.alloc, test, shown, &run, &mut text).is_err() {
+            return Err(NO_TEXT);
+        }
+        Ok(text)
+    }
+
+    // The details of each failure, in the order of the rows.
+    fn all_details(
+        &self,
+        test: &Test<'_>,
+        cases: &[CaseScripts],
+        ways: &[Ways],
+        rows: &[Row],
+    ) -> Result<Vec<Vec<u8>>, Untested>
+        ensures sound { IfErr result (λ f. IsOwnFault f → ⊥) }
+    {
+        let mut all = Vec::new(self.alloc);
+        for row in rows {
+            if let Row::Fails(_, shown) = row {
+                let lines = unusual_lines(self.alloc, ways, *shown)?;
+                let script = script_at(cases, *shown)?;
+                let number = all.len().saturating_add(1);
+                let details = self.details_of(test, script, lines.as_slice(), number, *shown)?;
+                if all.push(details).is_err() {
+                    return Err(NO_TEXT);
+                }
+            }
+        }
+        Ok(all)
+    }
+}
+
+// The script of the way in which a failure is. No failure is told of a way that wasn't tried.
+fn script_at(cases: &[CaseScripts], shown: Failing) -> Result<&[u8], Untested>
+    ensures script { IfOk result (λ text. IsScript cases.now shown text.now) }
+    ensures sound { IfErr result (λ f. IsOwnFault f → ⊥) }
+{
+    let Some(case) = cases.get(shown.case) else {
+        return Err(NO_TEXT);
+    };
+    match case.scripts.get(shown.failure.way as usize) {
+        Some(script) => Ok(script.as_slice()),
+        None => Err(NO_TEXT),
+    }
+}
+
+// Those of its lines that tell it from other ways.
+fn unusual_lines(alloc: Global, ways: &[Ways], shown: Failing) -> Result<Vec<u8>, Untested>
+    ensures sound { IfErr result (λ f. IsOwnFault f → ⊥) }
+{
+    let Some(ways) = ways.get(shown.case) else {
+        return Ok(Vec::new(alloc));
+    };
+    match ways.unusual(alloc, shown.failure.way) {
+        Ok(lines) => Ok(lines),
+        Err(_) => Err(NO_TEXT),
+    }
+}
+
+// Writes a text, at whose fault a prefix of it was written.
+fn write_whole<W: Write>(out: &mut W, text: &[u8]) -> Result<(), Untested>
+    ensures ok { OnOk result (Appends (W.contents out.old) (W.contents out.new) text.now) }
+    ensures err { IfErr result (LeavesUntested (W.contents out.old) (W.contents out.new)) }
+    ensures sound { IfErr result (λ f. IsOwnFault f → ⊥) }
+{
+    match write_text(out, text) {
+        Ok(()) => Ok(()),
+        Err(fault) => Err(Untested::Fault(RunFault::Write(fault))),
+    }
+}
+
+// How the run is made that shows a failure, to write its journal.
+fn options_of(options: &TestOptions, shown: Failing) -> Options
+    ensures { result ≡ options_of options.now shown }
+{
+    Options {
+        workers: 1,
+        order: Some(shown.failure.order),
+        limit: options.limit,
+        wanted: Wanted::Journal,
+    }
+}
+
+impl<R: Threads + Wait + Sync> Tester<'_, '_, R> {
+    // Writes the table of a test.
+    #[tactic(auto, using(crate::proofs::Testing::unwritten))]
+    fn write_table<W: Write>(
+        &self,
+        cases: &[CaseScripts],
+        ways: &[Ways],
+        report: &Report<'_, '_>,
+        rows: &[Row],
+        out: &mut W,
+    ) -> Result<(), Untested>
+        ensures ok { OnOk result ((details : List (List ℕ)) × Appends (W.contents out.old) (W.contents out.new) (table report.now details)) }
+        ensures err { IfErr result (LeavesUntested (W.contents out.old) (W.contents out.new)) }
+        ensures sound { IfErr result (λ f. IsOwnFault f → ⊥) }
+    {
+        let details = self.all_details(report.test, cases, ways, rows)?;
+        let Ok(text) = report.table(self.alloc, details.as_slice()) else {
+            return Err(NO_TEXT);
+        };
+        write_whole(out, text.as_slice())
+    }
+
+    // Writes the journal of a run that shows a failure.
+    #[tactic(auto, using(crate::proofs::Testing::unrun_again, crate::proofs::Testing::cut_written))]
+    fn write_run<W: Write>(
+        &self,
+        script: &[u8],
+        options: &Options,
+        out: &mut W,
+    ) -> Result<(), Untested>
+        ensures ok { OnOk result ((s : Summary) × Ran self.now.trials.now.source.now script.now options.now (W.contents out.old) (W.contents out.new) s) }
+        ensures err { IfErr result (LeavesUntested (W.contents out.old) (W.contents out.new)) }
+        ensures sound { IfErr result (λ f. IsOwnFault f → ⊥) }
+    {
+        match run_source(
+            self.rt,
+            self.alloc,
+            self.trials.source,
+            script,
+            options,
+            false,
+            out,
+        ) {
+            Ok((_loaded, played)) => {
+                // Memory was refused in the run, and so for the rest of its journal.
+                if played.summary.end == End::Memory {
+                    return Err(NO_TEXT);
+                }
+                Ok(())
+            }
+            Err(fault) => Err(Untested::Fault(fault)),
+        }
+    }
+
+    // Writes the script that shows the failure with this number.
+    #[tactic(auto, using(crate::proofs::Testing::unwritten))]
+    fn write_script<W: Write>(
+        &self,
+        cases: &[CaseScripts],
+        rows: &[Row],
+        number: u64,
+        out: &mut W,
+    ) -> Result<(), Untested>
+        ensures ok { OnOk result ((f : Failing) × (text : List ℕ) × (failure_at number rows.now ≡ Some f) × IsScript cases.now f text × Appends (W.contents out.old) (W.contents out.new) text) }
+        ensures err { IfErr result (LeavesUntested (W.contents out.old) (W.contents out.new)) }
+        ensures sound { IfErr result (λ f. IsOwnFault f → ⊥) }
+    {
+        let Some(shown) = failure_at(rows, number) else {
+            return Err(Untested::NoFailure(number));
+        };
+        let script = script_at(cases, shown)?;
+        write_whole(out, script)?;
+        Ok(())
+    }
+
+    // Writes the journal of the run that shows the failure with this number.
+    #[tactic(auto, using(crate::proofs::Testing::unwritten))]
+    fn write_journal<W: Write>(
+        &self,
+        cases: &[CaseScripts],
+        rows: &[Row],
+        number: u64,
+        options: &TestOptions,
+        out: &mut W,
+    ) -> Result<(), Untested>
+        ensures ok { OnOk result ((f : Failing) × (text : List ℕ) × (s : Summary) × (failure_at number rows.now ≡ Some f) × IsScript cases.now f text × Ran self.now.trials.now.source.now text (options_of options.now f) (W.contents out.old) (W.contents out.new) s) }
+        ensures err { IfErr result (LeavesUntested (W.contents out.old) (W.contents out.new)) }
+        ensures sound { IfErr result (λ f. IsOwnFault f → ⊥) }
+    {
+        let Some(shown) = failure_at(rows, number) else {
+            return Err(Untested::NoFailure(number));
+        };
+        let script = script_at(cases, shown)?;
+        self.write_run(script, &options_of(options, shown), out)?;
+        Ok(())
+    }
+
+    // Writes what is wanted of a test whose ways were tried, of which these are the rows.
+    fn write_shown<W: Write>(
+        &self,
+        cases: &[CaseScripts],
+        ways: &[Ways],
+        report: &Report<'_, '_>,
+        rows: &[Row],
+        options: &TestOptions,
+        out: &mut W,
+    ) -> Result<(), Untested>
+        requires rows { rows.now ≡ rows_of report.now }
+        ensures ok { OnOk result (Writes self.now.trials.now.source.now options.now cases.now report.now options.now.shown (W.contents out.old) (W.contents out.new)) }
+        ensures err { IfErr result (LeavesUntested (W.contents out.old) (W.contents out.new)) }
+        ensures sound { IfErr result (λ f. IsOwnFault f → ⊥) }
+    {
+        match options.shown {
+            Shown::Table => self.write_table(cases, ways, report, rows, out),
+            Shown::Script(number) => self.write_script(cases, rows, number, out),
+            Shown::Journal(number) => self.write_journal(cases, rows, number, options, out),
+        }
+    }
+
+    // Writes what is wanted of a test whose ways were tried. How many claims fail.
+    #[tactic(auto, using(crate::proofs::Testing::unwritten))]
+    fn write_test<W: Write>(
+        &self,
+        cases: &[CaseScripts],
+        ways: &[Ways],
+        report: &Report<'_, '_>,
+        options: &TestOptions,
+        out: &mut W,
+    ) -> Result<usize, Untested>
+        ensures ok { IfOk result (λ n. Writes self.now.trials.now.source.now options.now cases.now report.now options.now.shown (W.contents out.old) (W.contents out.new)) }
+        ensures number { IfOk result (λ n. n ≡ failing (rows_of report.now)) }
+        ensures err { IfErr result (LeavesUntested (W.contents out.old) (W.contents out.new)) }
+        ensures sound { IfErr result (λ f. IsOwnFault f → ⊥) }
+    {
+        let Ok(all) = report.rows(self.alloc) else {
+            return Err(NO_TEXT);
+        };
+        let rows = all.as_slice();
+        self.write_shown(cases, ways, report, rows, options, out)?;
+        Ok(failing(rows))
+    }
+}
+
+// Tries the ways of a test's cases, and writes what is wanted of it.
+#[tactic(auto, using(crate::proofs::Testing::unwritten))]
+fn try_and_write<'t, 'a, R: Threads + Wait + Sync, W: Write>(
+    rt: &'t R,
+    alloc: Global,
+    trials: &'t Trials<'t, 'a>,
+    test: &'t Test<'a>,
+    cases: &'t [CaseScripts],
+    ways: &[Ways],
+    options: &TestOptions,
+    out: &mut W,
+) -> Result<usize, Untested>
+    ensures tested { IfOk result (λ n. (r : Report) × (r.test.now ≡ test.now) × AllZip (IsTried trials.now) cases.now r.cases.now × (r.orders ≡ options.now.orders) × Writes trials.now.source.now options.now cases.now r options.now.shown (W.contents out.old) (W.contents out.new) × (n ≡ failing (rows_of r))) }
+    ensures fault { IfErr result (LeavesUntested (W.contents out.old) (W.contents out.new)) }
+    ensures sound { IfErr result (λ f. IsOwnFault f → ⊥) }
+{
+    let tester = Tester {
+        rt,
+        alloc,
+        trials,
+        workers: options.workers as usize,
+    };
+    let reports = tester.try_cases(cases, ways)?;
+    let report = Report {
+        test,
+        cases: reports.as_slice(),
+        orders: options.orders,
+    };
+    let number = tester.write_test(cases, ways, &report, options, out)?;
+    Ok(number)
+}
+
+// Holds the claims of a test that was read.
+#[tactic(auto, using(crate::proofs::Testing::unwritten))]
+fn hold<'t, 'a, R: Threads + Wait + Sync, W: Write>(
+    rt: &R,
+    alloc: Global,
+    source: &'t [u8],
+    test: &'t Test<'a>,
+    script: &[u8],
+    options: &TestOptions,
+    out: &mut W,
+) -> Result<usize, Untested>
+    ensures tested { IfOk result (λ n. (text : List ℕ) (others : Table) → Says script.now others → SaysTest text others (test_of test.now) → HasFailing source.now text script.now options.now (W.contents out.old) (W.contents out.new) n) }
+    ensures fault { IfErr result (LeavesUntested (W.contents out.old) (W.contents out.new)) }
+    ensures sound { IfErr result (λ f. IsOwnFault f → ⊥) }
+{
+    let ways = match ways_of(alloc, test) {
+        Ok(ways) => ways,
+        Err(fault) => return Err(Untested::Fault(RunFault::Test(fault))),
+    };
+    let cases = scripts_of(alloc, ways.as_slice(), options.ways, script)?;
+    let sites = test.sites.as_slice();
+    let claims = test.claims.as_slice();
+    let trials = Trials {
+        source,
+        sites,
+        claims,
+        orders: options.orders,
+        limit: options.limit,
+    };
+    let tried = cases.as_slice();
+    let number = try_and_write(
+        rt,
+        alloc,
+        &trials,
+        test,
+        tried,
+        ways.as_slice(),
+        options,
+        out,
+    )?;
+    Ok(number)
+}
+
+// The sites of a script, and the built-in ones.
+fn others_of(alloc: Global, script: &[u8]) -> Result<Answers, Untested>
+    ensures says { IfOk result (Says script.now) }
+    ensures sound { IfErr result (λ f. IsOwnFault f → ⊥) }
+{
+    match read_script(alloc, script) {
+        Ok(others) => Ok(others),
+        Err(fault) => Err(Untested::Fault(RunFault::Script(fault))),
+    }
+}
+
+// The test that a text says.
+fn known_of<'a>(alloc: Global, text: &'a [u8], others: &Answers) -> Result<Test<'a>, Untested>
+    ensures says { IfOk result (λ t. SaysTest text.now others.now (test_of t)) }
+    ensures sound { IfErr result (λ f. IsOwnFault f → ⊥) }
+{
+    match read_test(alloc, text, others) {
+        Ok(test) => Ok(test),
+        Err(fault) => Err(Untested::Fault(RunFault::Test(fault))),
+    }
+}
+
+/// Holds the claims of a test against the program that a source spells, with the built-in sites, those of the test and those of a script: each case in its
+/// first ways, as many as the options say, each way in as many orders. Writes a line for each claim, and below one that fails what shows it; or instead the
+/// script or the journal that shows one failure. Answers how many claims fail.
+///
+/// The faults are those of the source's text, of the script, of the test and of the source's names, in this order; `Engine` where the number of workers or
+/// the limit is out of range, or memory is refused for what is tried; `Write` where memory for the text is refused or the output isn't taken whole; and
+/// `NoFailure` where one is to be shown that there isn't. Nothing is written then, but at a fault of the output a prefix of the text.
+#[tactic(auto, using(crate::proofs::Testing::unwritten))]
+pub fn test_text<R: Threads + Wait + Sync, W: Write>(
+    rt: &R,
+    alloc: Global,
+    source: &[u8],
+    test: &[u8],
+    script: &[u8],
+    options: &TestOptions,
+    out: &mut W,
+) -> Result<usize, Untested>
+    ensures tested { IfOk result (HasFailing source.now test.now script.now options.now (W.contents out.old) (W.contents out.new)) }
+    ensures fault { IfErr result (LeavesUntested (W.contents out.old) (W.contents out.new)) }
+    ensures sound { IfErr result (λ f. IsOwnFault f → ⊥) }
+{
+    if let Err(fault) = parse(alloc, source) {
+        return Err(Untested::Fault(RunFault::Syntax(fault)));
+    }
+    let others = others_of(alloc, script)?;
+    let known = known_of(alloc, test, &others)?;
+    let number = hold(rt, alloc, source, &known, script, options, out)?;
+    Ok(number)
+}
