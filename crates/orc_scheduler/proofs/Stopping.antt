@@ -166,7 +166,6 @@ nearer-spread s s' n n' (inr (same, fewer)) = inr (same, omega (arith, fewer))
 
 pub turned-spread : (s s' : Records) (n n' : ℕ) (t : Turn) → HasTurned s n s' n' t → HasSpread s n s' n'
 turned-spread s s' n n' turn.Went h = nearer-spread s s' n n' h
-turned-spread s s' n n' (turn.Asks k) h = nearer-spread s s' n n' h
 turned-spread s s' n n' turn.Rests h = inr h
 
 -- what is said of a result's value, weaker

@@ -1,5 +1,5 @@
 -- How far a run of a ledger is, and why it stops.
-use Rattle.std.specs.Prelude.{◌≡◌, ◌≤◌, ◌<◌, ◌+◌, ◌*◌, ◌-◌, ◌⊎◌, ℕ, Some}
+use Rattle.std.specs.Prelude.{◌≡◌, ◌≤◌, ◌<◌, ◌+◌, ◌*◌, ◌-◌, ◌⊎◌, ℕ, Option, Some}
 use Rattle.orc_rules.specs.Nodes.{Listing, code, definitions, source}
 use Rattle.orc_rules.specs.Program.{IsProgram}
 use Rattle.orc_rules.specs.Timed.{IsIn}
@@ -11,6 +11,8 @@ use Rattle.orc_journal.specs.Sizes.{IsCrowded}
 use Rattle.orc_ledger_spec.specs.Records.{Records}
 use Rattle.orc_ledger_spec.specs.Next.{members, numbers_of, next_of, quiet, work}
 use Rattle.orc_ledger_spec.specs.declared.faults.LedgerFault.TheVariants as fault
+use Rattle.orc_scheduler.specs.declared.ready.Drawn.{Drawn}
+use Rattle.orc_scheduler.specs.declared.ready.Drawn.TheVariants as drawn
 use Rattle.orc_scheduler.specs.declared.scheduler.Step.{Step}
 use Rattle.orc_scheduler.specs.declared.scheduler.Step.TheVariants as step
 use Rattle.orc_scheduler.specs.declared.scheduler.Stop.{Stop}
@@ -53,6 +55,11 @@ HasSpread s n s' n' = Advances s s' ⊎ ((s' ≡ s) × (n' ≤ n))
 abbrev pub HasTurned : Records → ℕ → Records → ℕ → Turn → Type 0
 HasTurned s n s' n' turn.Rests = (s' ≡ s) × (n' ≤ n)
 HasTurned s n s' n' _ = IsNearer s n s' n'
+
+-- a token that was drawn waits no more
+abbrev pub HasDrawn : Option Drawn → ℕ → ℕ → Type 0
+HasDrawn (Some (drawn.Token h)) n n' = n' + 1 ≡ n
+HasDrawn _ n n' = n' ≤ n
 
 -- ---- why it stops
 

@@ -1,12 +1,6 @@
 //! Where no token has its turn: answers that are due, ticks, and what the ledger finds. Calls are answered by their numbers.
 
-ghost use Rattle.std.specs.Prelude.{◌≡◌, ◌≤◌, ◌⊎◌, true, false, IfOk, IfErr, IfSome, MatchOption};
-ghost use Rattle.orc_indexes.specs.Same.{weight};
-ghost use Rattle.orc_ledger_spec.specs.Requests.{IsAsked};
-ghost use Rattle.orc_ledger_spec.specs.declared.results.Request.{Request as Asked};
-ghost use Rattle.orc_site.specs.Time.{due_from};
-ghost use Rattle.orc_tables.specs.PendingCalls.{has_number};
-ghost use Rattle.orc_tables.specs.declared.records.Call.{Call as Its};
+ghost use Rattle.std.specs.Prelude.{◌≡◌, ◌≤◌, true, false, IfOk, IfErr};
 ghost use Rattle.std.specs.VecDeque.{deque_len};
 ghost use Rattle.orc_rules.specs.Nodes.{code, definitions};
 ghost use Rattle.orc_frames.specs.Doing.{is_wait};
@@ -20,7 +14,6 @@ use orc_graph::Graph;
 use orc_ledger::{Call, LedgerFault, Next, Program as Naming, ReturnFault, Token};
 use orc_rules::answers::Answers;
 use orc_rules::value::Answer;
-use orc_site::{Due, Request, due_after};
 
 impl<P: Naming> Scheduler<P> {
     /// No token's turn comes: an answer that is due, by the table, else a tick, else what the ledger finds. It stops where nothing can come next.
@@ -72,7 +65,7 @@ impl<P: Naming> Scheduler<P> {
     {
         match self.step(graph, answers, slot, token)? {
             Step::On(next) => self.join_held(next),
-            Step::Done | Step::Asks(_) => Ok(()),
+            Step::Done => Ok(()),
             // In a program that the scope check took each call of a definition has its arguments.
             Step::Waits => Err(Stop::Broken),
         }
@@ -124,7 +117,7 @@ impl<P: Naming> Scheduler<P> {
 
     /// No token can move and no call is due: a tick to the time at which the next one is. False where another entry comes next. It stops where
     /// nothing can come next.
-    pub fn pass_time(&mut self, graph: &Graph) -> Result<bool, Stop>
+    pub(crate) fn pass_time(&mut self, graph: &Graph) -> Result<bool, Stop>
         requires graph { graph.now ≡ P.listing }
         ensures advances { IfOk result (λ passed. passed ≡ true → Advances self.old.ledger self.new.ledger) }
         ensures work { IfOk result (λ passed. passed ≡ false → (self.new.ledger ≡ self.old.ledger) × IsAtWork P.listing self.old.ledger) }
@@ -134,52 +127,15 @@ impl<P: Naming> Scheduler<P> {
         self.ledger.is_whole();
         match next {
             Next::Ticks(time) => match self.ledger.tick(time) {
-                Ok(()) => Ok(true),
+                Ok(()) => {
+                    self.note_due()?;
+                    Ok(true)
+                }
                 Err(fault) => Err(Stop::Refused(fault)),
             },
             Next::Quiet => Err(Stop::Rests),
             Next::Work if self.ledger.has_halted() => Err(Stop::Rests),
             Next::Work => Ok(false),
-        }
-    }
-
-    /// The least number over this one whose call is due.
-    pub fn due_beyond(&mut self, number: u64) -> Option<u64> {
-        self.ledger.due_beyond(number)
-    }
-
-    /// What the call with this number asks, if it pends.
-    pub fn request(&self, number: u64) -> Option<Request>
-        ensures asked { IfSome result (λ r. (q : Asked) × IsAsked P.listing P.sites self.now.ledger number q × (r.number ≡ number) × (r.site ≡ q.site) × (r.args ≡ q.args) × (r.nth ≡ q.nth) × (r.made_at ≡ q.made_at)) }
-    {
-        let asked = self.ledger.request(number)?;
-        if asked.nth < 1 {
-            return None;
-        }
-        Some(Request {
-            number,
-            site: asked.site,
-            args: asked.args.copied(),
-            nth: asked.nth,
-            made_at: asked.made_at,
-        })
-    }
-
-    /// When the call with this number is due, by the table, if it pends.
-    pub fn due_of(&self, number: u64) -> Option<Due>
-        ensures due { MatchOption result (weight (has_number number) self.now.ledger.calls ≡ 0) (λ due. (c : Its) × Pends self.now.ledger number c × (due ≡ due_from c.made_at c.found)) }
-    {
-        let call = self.ledger.pending(number)?;
-        Some(due_after(call.made_at, call.found))
-    }
-
-    /// The call with this number was answered so, if it still pends.
-    pub fn answered(&mut self, number: u64, answer: Answer) -> Result<(), Stop>
-        ensures taken { IfOk result (λ _. (weight (has_number number) self.old.ledger.calls ≡ 0) ⊎ Advances self.old.ledger self.new.ledger) }
-    {
-        match self.ledger.pending(number) {
-            Some(call) => self.answer_pending(call, answer),
-            None => Ok(()),
         }
     }
 }

@@ -4,6 +4,7 @@
 //! What moves and when is chosen here and by who holds the scheduler; that each entry is one of the rules is the ledger's own invariant, whatever is chosen.
 #![tactic(auto)]
 
+mod drawn;
 mod end;
 mod fault;
 mod held_output;
@@ -20,5 +21,5 @@ mod wait_list;
 
 pub use fault::EngineFault;
 pub use ready::{Handle, Ready};
-pub use scheduler::{Scheduler, Stop, Turn};
+pub use scheduler::{Scheduler, Stop};
 pub use sub_runs::{Came, SubRunJob};

@@ -2,8 +2,10 @@
 
 ghost use Rattle.std.specs.Prelude.{◌≡◌, ◌≤◌, ◌<◌, ◌+◌, MatchOption};
 ghost use Rattle.std.specs.VecDeque.{deque_len};
+ghost use Rattle.orc_scheduler.specs.Stops.{HasDrawn};
 
 use crate::order::Order;
+use orc_ledger::{Ledger, Program as Naming};
 use std::alloc::{AllocError, Global};
 use std::collections::VecDeque;
 
@@ -20,23 +22,37 @@ pub struct Handle {
 const ROUND: u64 = 64;
 
 /// So often a token goes on in its turn, each time as far as the ledger takes it in one go.
-const MOVES: u32 = 64;
+pub(crate) const MOVES: u32 = 64;
 
 /// The tokens whose turn comes. The one that came last goes first, so that few live at a time; but one turn in each round is that of the
-/// token which has waited longest, so that none is starved. Where an order is set, it says whose turn it is, and each turn is one move.
+/// token which has waited longest, so that none is starved. Where an order is set, it says whose turn it is.
 #[derive(Drop)]
 pub struct Ready {
     pub handles: VecDeque<Handle>,
     turns: u64,
-    // How many moves a turn has.
-    length: u32,
     order: Option<Order>,
 }
 
-// The rank of the token in a place.
-fn rank_at(handles: &VecDeque<Handle>, order: &Order, at: usize) -> u64 {
-    match handles.get(at) {
-        Some(handle) => order.rank(handle.slot),
+/// Whose turn an order draws.
+#[derive(Clone, Copy)]
+pub(crate) enum Drawn {
+    Token(Handle),
+    /// The call with this number.
+    Call(u64),
+}
+
+// The rank of what stands in a place: tokens come first, then calls.
+fn rank_at<P: Naming>(
+    handles: &VecDeque<Handle>,
+    ledger: &Ledger<P>,
+    order: &Order,
+    at: usize,
+) -> u64 {
+    let Some(handle) = handles.get(at) else {
+        return order.rank_of_call(at.saturating_sub(handles.len()));
+    };
+    match ledger.held(handle.slot) {
+        Some(token) => order.rank(handle.slot, token.standing),
         None => 0,
     }
 }
@@ -46,7 +62,6 @@ impl Ready {
         Ready {
             handles: VecDeque::new(alloc),
             turns: 0,
-            length: MOVES,
             order: None,
         }
     }
@@ -56,7 +71,6 @@ impl Ready {
         ensures { self.new.handles ≡ self.old.handles }
     {
         self.order = Some(order);
-        self.length = 1;
     }
 
     pub(crate) fn len(&self) -> usize
@@ -96,10 +110,7 @@ impl Ready {
 
     /// Whether a round has ended, and no turn of the next one has begun.
     pub(crate) fn is_between(&self) -> bool {
-        match &self.order {
-            Some(order) => order.answers_first(),
-            None => self.turns % ROUND == 0,
-        }
+        self.turns % ROUND == 0
     }
 
     /// The token in that place, from the one that has waited longest.
@@ -128,9 +139,6 @@ impl Ready {
     pub(crate) fn take(&mut self, spreads: bool) -> Option<Handle>
         ensures { MatchOption result (deque_len self.new.handles ≤ deque_len self.old.handles) (λ _. deque_len self.new.handles + 1 ≡ deque_len self.old.handles) }
     {
-        if self.order.is_some() {
-            return self.draw();
-        }
         self.turns = self.turns.wrapping_add(1);
         if spreads || self.turns % ROUND == 0 {
             self.handles.pop_front()
@@ -139,31 +147,88 @@ impl Ready {
         }
     }
 
-    // The token whose turn the order draws. Apart, so that runs without an order don't go round its code.
-    #[cold]
-    #[inline(never)]
-    fn draw(&mut self) -> Option<Handle>
-        ensures { MatchOption result (deque_len self.new.handles ≤ deque_len self.old.handles) (λ _. deque_len self.new.handles + 1 ≡ deque_len self.old.handles) }
+    /// Whether an order says whose turn it is.
+    #[inline(always)]
+    pub(crate) fn is_ordered(&self) -> bool {
+        self.order.is_some()
+    }
+
+    /// How many calls came due and weren't drawn yet, where there is an order.
+    pub(crate) fn call_count(&self) -> usize {
+        match &self.order {
+            Some(order) => order.calls.len(),
+            None => 0,
+        }
+    }
+
+    /// A call came due, and has a turn where there is an order. The error is refused memory.
+    pub(crate) fn note_call(&mut self, number: u64) -> Result<(), AllocError>
+        ensures { self.new.handles ≡ self.old.handles }
+    {
+        match &mut self.order {
+            Some(order) => order.note_call(number),
+            None => Ok(()),
+        }
+    }
+
+    /// The token that came last of those of which it isn't known whether somebody outside sees their next step.
+    pub(crate) fn newest_unsettled(&self) -> Option<Handle> {
+        let Some(order) = &self.order else {
+            return None;
+        };
+        if order.settled < self.handles.len() {
+            self.handles.back().copied()
+        } else {
+            None
+        }
+    }
+
+    /// Somebody outside sees the next step of the token that came last.
+    pub(crate) fn settle_newest(&mut self)
+        ensures { deque_len self.new.handles ≡ deque_len self.old.handles }
     {
         let Some(order) = &mut self.order else {
-            return self.handles.pop_back();
+            return;
         };
         let count = self.handles.len();
+        if order.settled < count {
+            self.handles.swap(order.settled, count - 1);
+            order.settled += 1;
+        }
+    }
+
+    /// Whose turn the order draws: that of a token, which is taken, or of a call.
+    pub(crate) fn draw<P: Naming>(&mut self, ledger: &Ledger<P>) -> Option<Drawn>
+        ensures { HasDrawn result (deque_len self.old.handles) (deque_len self.new.handles) }
+    {
+        let Some(order) = &mut self.order else {
+            return None;
+        };
+        let tokens = self.handles.len();
+        if order.goes_unseen(tokens) {
+            return match self.handles.pop_back() {
+                Some(handle) => Some(Drawn::Token(handle)),
+                None => None,
+            };
+        }
+        let count = tokens.saturating_add(order.calls.len());
         let mut at = order.draw(count);
         for _ in 0..order.rivals() {
             let rival = order.draw(count);
-            if rank_at(&self.handles, order, rival) > rank_at(&self.handles, order, at) {
+            let handles = &self.handles;
+            if rank_at(handles, ledger, order, rival) > rank_at(handles, ledger, order, at) {
                 at = rival;
             }
         }
-        self.handles.swap_remove_back(at)
-    }
-
-    /// How many moves a turn has.
-    #[inline(always)]
-    pub(crate) fn length(&self) -> u32
-        ensures { 0 < result }
-    {
-        self.length.max(1)
+        match self.handles.swap_remove_back(at) {
+            Some(handle) => {
+                order.settled = order.settled.min(self.handles.len());
+                Some(Drawn::Token(handle))
+            }
+            None => match order.take_call(at.saturating_sub(tokens)) {
+                Some(number) => Some(Drawn::Call(number)),
+                None => None,
+            },
+        }
     }
 }

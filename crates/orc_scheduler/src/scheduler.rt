@@ -1,6 +1,6 @@
-//! The records of a run and what its workers do with them: tokens have their turns, calls are made, groups halt.
+//! The records of a run and what is done with them: tokens have their turns, calls are made, groups halt.
 
-ghost use Rattle.std.specs.Prelude.{◌≡◌, ◌≤◌, ◌<◌, ◌^◌, ℕ, true, false, IfOk, IfErr, IfSome, OnErr};
+ghost use Rattle.std.specs.Prelude.{◌≡◌, ◌≤◌, ◌<◌, ◌+◌, ◌^◌, ℕ, true, false, IfOk, IfErr, IfSome, OnErr};
 ghost use Rattle.std.specs.VecDeque.{deque_len};
 ghost use Rattle.orc_rules.specs.Nodes.{code, definitions, source};
 ghost use Rattle.orc_rules.specs.Program.{IsProgram};
@@ -14,9 +14,10 @@ ghost use Rattle.orc_ledger_spec.specs.Next.{members, numbers_of};
 ghost use Rattle.orc_ledger_spec.specs.Passing.{Passes};
 ghost use Rattle.orc_scheduler.specs.Stops.{Goes, Advances, HasMoved, IsNearer, HasTurned, Stops};
 
+use crate::drawn::is_at_script;
 use crate::held_output::Holding;
 use crate::order::Order;
-use crate::ready::{Handle, Ready};
+use crate::ready::{Handle, MOVES, Ready};
 use crate::wait_list::Waiting;
 use orc_env::StoredScope;
 use orc_graph::{Graph, Node};
@@ -28,14 +29,11 @@ use orc_rules::answers::Answers;
 use orc_rules::limits::MOST_GROUPS;
 use orc_rules::value::Args;
 use std::alloc::Global;
-use std::mem;
 
 /// What a turn has come to.
 #[derive(Clone, Copy)]
-pub enum Turn {
+pub(crate) enum Turn {
     Went,
-    /// The call with this number was recorded, and is to be made.
-    Asks(u64),
     /// No token is left whose turn comes.
     Rests,
 }
@@ -70,8 +68,6 @@ pub(crate) enum Step {
     Done,
     /// It stays as it is until something comes for which it waits.
     Waits,
-    /// The call with this number was recorded in its place, and is to be made.
-    Asks(u64),
 }
 
 /// A run: its ledger, the tokens whose turn comes, and those that wait.
@@ -82,7 +78,6 @@ pub struct Scheduler<P: Naming> {
     pub(crate) keeps: bool,
     pub ready: Ready,
     waiting: Waiting,
-    asks: bool,
     // Whether a token goes through a `>x>` in one go.
     goes_through: bool,
     // Whether a token's turn ends at the next call of a definition, and the one that has waited longest goes first.
@@ -91,13 +86,11 @@ pub struct Scheduler<P: Naming> {
     moves: u32,
     // What a part holds back.
     pub(crate) holding: Holding,
-    // The calls that were cancelled, where others are told of them.
-    gone: Vec<u64>,
     // Lent to the ledger's calls.
     scopes: Vec<StoredScope>,
     cancelled: Vec<u64>,
     cells: Vec<u64>,
-    args: Args,
+    pub(crate) args: Args,
     ghost its_keeping: { keeps ≡ P.keeps },
 }
 
@@ -110,12 +103,10 @@ impl<P: Naming> Drop for Scheduler<P> {
             keeps: _,
             ready,
             waiting,
-            asks: _,
             goes_through: _,
             spreads: _,
             moves: _,
             holding: _,
-            gone,
             scopes,
             cancelled,
             cells,
@@ -124,7 +115,6 @@ impl<P: Naming> Drop for Scheduler<P> {
         drop(ledger);
         drop(ready);
         drop(waiting);
-        drop(gone);
         drop(scopes);
         drop(cancelled);
         drop(cells);
@@ -133,9 +123,8 @@ impl<P: Naming> Drop for Scheduler<P> {
 }
 
 impl<P: Naming> Scheduler<P> {
-    /// A run that begins, whose ledger `keeps` its journal or doesn't. Where it `asks`, somebody else makes the calls and is told which are cancelled; else the
-    /// table answers them here.
-    pub fn new(alloc: Global, ledger: Ledger<P>, keeps: bool, asks: bool) -> Scheduler<P>
+    /// A run that begins, whose ledger `keeps` its journal or doesn't. The table answers its calls.
+    pub fn new(alloc: Global, ledger: Ledger<P>, keeps: bool) -> Scheduler<P>
         requires { keeps ≡ P.keeps }
     {
         Scheduler {
@@ -144,12 +133,10 @@ impl<P: Naming> Scheduler<P> {
             keeps,
             ready: Ready::new(alloc),
             waiting: Waiting::new(alloc),
-            asks,
-            goes_through: !asks,
+            goes_through: true,
             spreads: false,
             moves: 0,
             holding: Holding::new(),
-            gone: Vec::new(alloc),
             scopes: Vec::new(alloc),
             cancelled: Vec::new(alloc),
             cells: Vec::new(alloc),
@@ -157,13 +144,13 @@ impl<P: Naming> Scheduler<P> {
         }
     }
 
-    /// From now on the order with this number says whose turn it is, each turn is one move, and each move an entry: so the moves that the rules leave
-    /// free come in another order.
+    /// From now on the order with this number says whose turn it is, and each move is an entry: so the moves that the rules leave free come in another
+    /// order.
     pub fn follow(&mut self, number: u64)
         ensures ledger { self.new.ledger ≡ self.old.ledger }
         ensures ready { self.new.ready.handles ≡ self.old.ready.handles }
     {
-        self.ready.follow(Order::new(number));
+        self.ready.follow(Order::new(self.alloc, number));
         self.goes_through = false;
     }
 
@@ -176,12 +163,10 @@ impl<P: Naming> Scheduler<P> {
             keeps: _,
             ready,
             waiting,
-            asks: _,
             goes_through: _,
             spreads: _,
             moves: _,
             holding: _,
-            gone,
             scopes,
             cancelled,
             cells,
@@ -189,7 +174,6 @@ impl<P: Naming> Scheduler<P> {
         } = self;
         drop(ready);
         drop(waiting);
-        drop(gone);
         drop(scopes);
         drop(cancelled);
         drop(cells);
@@ -230,8 +214,7 @@ impl<P: Naming> Scheduler<P> {
         ensures stops { IfErr result (λ stop. Stops P.listing self.new.ledger stop) }
     {
         let went = match self.turn(graph, answers) {
-            // The table answers each call here.
-            Ok(Turn::Went) | Ok(Turn::Asks(_)) => Ok(()),
+            Ok(Turn::Went) => Ok(()),
             Ok(Turn::Rests) => self.rest(graph, answers),
             Err(stop) => Err(stop),
         };
@@ -249,7 +232,7 @@ impl<P: Naming> Scheduler<P> {
         ensures few { deque_len self.new.ready.handles < 2 ^ 64 }
     {
         let went = match self.turn(graph, answers) {
-            Ok(Turn::Went) | Ok(Turn::Asks(_)) => Ok(true),
+            Ok(Turn::Went) => Ok(true),
             Ok(Turn::Rests) => Ok(false),
             Err(stop) => Err(stop),
         };
@@ -258,47 +241,77 @@ impl<P: Naming> Scheduler<P> {
         went
     }
 
-    /// The turn of a token: it moves until it is gone, waits, or has made its moves. Between two rounds that of a call which is due, if the table answers
-    /// it here: else tokens that move on and on would starve it.
-    pub fn turn(&mut self, graph: &Graph, answers: &Answers) -> Result<Turn, Stop>
+    /// The turn of a token: it moves until it is gone, waits, or has made its moves. Between two rounds that of a call which is due: else tokens that move
+    /// on and on would starve it.
+    pub(crate) fn turn(&mut self, graph: &Graph, answers: &Answers) -> Result<Turn, Stop>
         requires graph { graph.now ≡ P.listing }
         requires answers { answers.now.sites ≡ P.sites }
         ensures turned { IfOk result (λ turn. HasTurned self.old.ledger (deque_len self.old.ready.handles) self.new.ledger (deque_len self.new.ready.handles) turn) }
         ensures stops { IfErr result (λ stop. Stops P.listing self.new.ledger stop) }
     {
-        if self.is_between() {
+        if self.ready.is_ordered() {
+            return self.drawn_turn(graph, answers);
+        }
+        if self.ready.is_between() {
             self.sweep();
-            if !self.asks && self.answer_due()? {
+            if self.answer_due()? {
                 return Ok(Turn::Went);
             }
         }
         let Some(handle) = self.ready.take(self.spreads) else {
             return Ok(Turn::Rests);
         };
+        self.move_on(graph, answers, handle)?;
+        Ok(Turn::Went)
+    }
+
+    /// The token of a handle that was taken moves until it is gone, waits, or has made its moves, and then its turn comes again.
+    pub(crate) fn move_on(
+        &mut self,
+        graph: &Graph,
+        answers: &Answers,
+        handle: Handle,
+    ) -> Result<(), Stop>
+        requires graph { graph.now ≡ P.listing }
+        requires answers { answers.now.sites ≡ P.sites }
+        ensures nearer { IfOk result (λ _. IsNearer self.old.ledger (deque_len self.old.ready.handles + 1) self.new.ledger (deque_len self.new.ready.handles)) }
+        ensures stops { IfErr result (λ stop. Stops P.listing self.new.ledger stop) }
+    {
         if !self.is_there(handle) {
-            return Ok(Turn::Went);
+            return Ok(());
         }
         let mut slot = handle.slot;
-        for moved in 0..self.ready.length() {
+        for moved in 0..MOVES {
             self.moves = handle.moves.saturating_add(moved);
             let Some(token) = self.ledger.held(slot) else {
-                return Ok(Turn::Went);
+                return Ok(());
             };
-            if moved > 0 && self.spreads && is_at_call(graph, &token) {
+            if moved > 0 && self.is_turn_over(graph, answers, &token) {
                 break;
             }
             if self.is_held_back(graph, &token) {
                 self.holding.keep(slot);
-                return Ok(Turn::Went);
+                return Ok(());
             }
             match self.step(graph, answers, slot, token)? {
                 Step::On(next) => slot = next,
-                Step::Done | Step::Waits => return Ok(Turn::Went),
-                Step::Asks(number) => return Ok(Turn::Asks(number)),
+                Step::Done | Step::Waits => return Ok(()),
             }
         }
-        self.join_held(slot)?;
-        Ok(Turn::Went)
+        self.join_held(slot)
+    }
+
+    // Whether a token that has moved goes on in a later turn: where tokens spread at the next call of a definition, and in an order at the next step that
+    // somebody outside sees.
+    #[inline(always)]
+    fn is_turn_over(&self, graph: &Graph, answers: &Answers, token: &Token) -> bool
+        requires graph { graph.now ≡ P.listing }
+    {
+        if self.spreads {
+            is_at_call(graph, token)
+        } else {
+            self.ready.is_ordered() && self.is_seen(graph, answers, token)
+        }
     }
 
     // Whether the token would publish a value of the run next, which is held back.
@@ -394,7 +407,6 @@ impl<P: Naming> Scheduler<P> {
                 Ok(Step::Done)
             }
             Ok(Passed::Bound(cell, group)) => {
-                self.note_cancelled()?;
                 self.wake(cell)?;
                 self.close(group)?;
                 Ok(Step::Done)
@@ -421,7 +433,7 @@ impl<P: Naming> Scheduler<P> {
         }
     }
 
-    // A token moves: once, or through a `>x>` in one go, but where somebody else makes the calls or each move is to be an entry.
+    // A token moves: once, or through a `>x>` in one go, but where each move is to be an entry.
     #[inline(always)]
     fn pass(
         &mut self,
@@ -485,7 +497,7 @@ impl<P: Naming> Scheduler<P> {
         }
     }
 
-    // A call of a site. Where the table answers it here and at once, the token on its answer goes on.
+    // A call of a site. Where the table answers it at once, the token on its answer goes on; but in an order a script's answer has a turn of its own.
     #[inline(always)]
     fn call(
         &mut self,
@@ -501,17 +513,8 @@ impl<P: Naming> Scheduler<P> {
         ensures moved { IfOk result (λ step. Advances self.old.ledger self.new.ledger × (step ≡ Step.Waits → ⊥)) }
         ensures stops { IfErr result (λ stop. Stops P.listing self.new.ledger stop) }
     {
-        if self.asks {
-            return match self
-                .ledger
-                .call(graph, answers, slot, token, &mut self.args)
-            {
-                Ok(call) => Ok(Step::Asks(call.number)),
-                Err(fault) => {
-                    self.ledger.full_is_crowded();
-                    Err(Stop::Refused(fault))
-                }
-            };
+        if self.ready.is_ordered() && is_at_script(graph, answers, &token) {
+            return self.call_apart(graph, answers, slot, token);
         }
         match self
             .ledger
@@ -620,11 +623,6 @@ impl<P: Naming> Scheduler<P> {
         Ok(())
     }
 
-    /// Whether it is between two rounds of turns: calls that are due have their turn then.
-    pub fn is_between(&self) -> bool {
-        self.ready.is_between()
-    }
-
     /// How many tokens have a turn that comes.
     pub fn ready(&self) -> usize {
         self.ready.len()
@@ -633,25 +631,5 @@ impl<P: Naming> Scheduler<P> {
     /// How many entries there are, cancels not counted.
     pub fn entries(&self) -> usize {
         self.ledger.entries()
-    }
-
-    /// The time of the run.
-    pub fn time(&self) -> u64 {
-        self.ledger.time()
-    }
-
-    fn note_cancelled(&mut self) -> Result<(), Stop>
-        ensures same { self.new.ledger ≡ self.old.ledger }
-        ensures memory { IfErr result (λ stop. stop ≡ Stop.Refused LedgerFault.Memory) }
-    {
-        if self.asks && self.gone.extend_from_slice(&self.cancelled).is_err() {
-            return Err(Stop::Refused(LedgerFault::Memory));
-        }
-        Ok(())
-    }
-
-    /// Exchanges the numbers of the calls that were cancelled since the last time for those in `numbers`, of which there are none.
-    pub fn take_cancelled(&mut self, numbers: &mut Vec<u64>) {
-        mem::swap(&mut self.gone, numbers);
     }
 }

@@ -130,7 +130,7 @@ fn run_apart<Q: Naming, P: Naming>(
     let Ok(ledger) = Ledger::<Q>::begin(alloc, keeps, limit, graph.root()) else {
         return Came::Nothing;
     };
-    let mut scheduler = Scheduler::new(alloc, ledger, keeps, false);
+    let mut scheduler = Scheduler::new(alloc, ledger, keeps);
     if !task.is_outermost {
         scheduler.holding.begin();
     }

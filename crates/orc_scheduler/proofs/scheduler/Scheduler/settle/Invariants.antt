@@ -1,0 +1,7 @@
+-- Tokens were settled.
+use Rattle.std.proofs.Common.{◌≡◌}
+use Rattle.std.specs.VecDeque.{deque_len}
+use Rattle.orc_scheduler.proofs.scheduler.Scheduler.settle.Given as goal
+
+abbrev pub invariant-loop : goal.invariant-loop
+invariant-loop g l = (l.self.ledger ≡ l.fn.self.ledger) × (deque_len l.self.ready.handles ≡ deque_len l.fn.self.ready.handles)

@@ -1,8 +1,0 @@
--- The run is further, or the token hasn't moved yet.
-use Rattle.std.proofs.Common.{◌≡◌, ◌<◌, ◌⊎◌}
-use Rattle.std.specs.VecDeque.{deque_len}
-use Rattle.orc_scheduler.specs.Stops.{Advances}
-use Rattle.orc_scheduler.proofs.scheduler.Scheduler.turn.Given as goal
-
-abbrev pub invariant-loop-moved : goal.invariant-loop-moved
-invariant-loop-moved g l = Advances l.fn.self.ledger l.self.ledger ⊎ ((l.self.ledger ≡ l.fn.self.ledger) × (deque_len l.self.ready.handles < deque_len l.fn.self.ready.handles) × (l.moved ≡ 0))

@@ -1,0 +1,183 @@
+//! Turns in another order: a token's or a call's, as it draws them.
+
+ghost use Rattle.std.specs.Prelude.{◌≡◌, ◌≤◌, ◌<◌, true, false, IfOk, IfErr};
+ghost use Rattle.std.specs.VecDeque.{deque_len};
+ghost use Rattle.orc_rules.specs.Nodes.{code, definitions};
+ghost use Rattle.orc_tables.specs.Tokens.{IsHeld};
+ghost use Rattle.orc_ledger_spec.specs.Doing.{what_of};
+ghost use Rattle.orc_scheduler.specs.Stops.{Advances, HasTurned, Stops};
+
+use crate::ready::Drawn;
+use crate::scheduler::{Scheduler, Step, Stop, Turn};
+use orc_graph::{Graph, Node};
+use orc_ledger::{Action, Call, LedgerFault, Program as Naming, ReturnFault, Standing, Token};
+use orc_rules::answers::Answers;
+use orc_rules::limits::MOST_TOKENS;
+use orc_rules::value::Found;
+
+/// Whether a token stands at a call of a site whose calls a script answers.
+pub(crate) fn is_at_script(graph: &Graph, answers: &Answers, token: &Token) -> bool {
+    match token.standing {
+        Standing::At(node, _) => match graph.node(node as usize) {
+            Node::Site(site, _) => answers.is_scripted(site),
+            _ => false,
+        },
+        Standing::On(_) => false,
+    }
+}
+
+impl<P: Naming> Scheduler<P> {
+    /// The turn that the order draws.
+    #[cold]
+    #[inline(never)]
+    pub(crate) fn drawn_turn(&mut self, graph: &Graph, answers: &Answers) -> Result<Turn, Stop>
+        requires graph { graph.now ≡ P.listing }
+        requires answers { answers.now.sites ≡ P.sites }
+        ensures turned { IfOk result (λ turn. HasTurned self.old.ledger (deque_len self.old.ready.handles) self.new.ledger (deque_len self.new.ready.handles) turn) }
+        ensures stops { IfErr result (λ stop. Stops P.listing self.new.ledger stop) }
+    {
+        self.settle(graph, answers);
+        for _ in 0..self.ready.call_count().saturating_add(1) {
+            match self.ready.draw(&self.ledger) {
+                Some(Drawn::Token(handle)) => {
+                    self.move_on(graph, answers, handle)?;
+                    return Ok(Turn::Went);
+                }
+                Some(Drawn::Call(number)) => {
+                    if self.answer_drawn(number)? {
+                        return Ok(Turn::Went);
+                    }
+                }
+                None => return Ok(Turn::Rests),
+            }
+        }
+        Ok(Turn::Rests)
+    }
+
+    // Tokens whose next step somebody outside sees wait until they are drawn, as far as they came last.
+    fn settle(&mut self, graph: &Graph, answers: &Answers)
+        requires graph { graph.now ≡ P.listing }
+        ensures same { self.new.ledger ≡ self.old.ledger }
+        ensures as_many { deque_len self.new.ready.handles ≡ deque_len self.old.ready.handles }
+    {
+        for _ in 0..self.ready.len() {
+            let Some(handle) = self.ready.newest_unsettled() else {
+                return;
+            };
+            match self.token_of(handle) {
+                Some(token) if self.is_seen(graph, answers, &token) => self.ready.settle_newest(),
+                _ => return,
+            }
+        }
+    }
+
+    /// Whether somebody outside sees what a token does next: it publishes, binds, or calls a site whose calls a script answers.
+    pub(crate) fn is_seen(&self, graph: &Graph, answers: &Answers, token: &Token) -> bool
+        requires graph { graph.now ≡ P.listing }
+    {
+        match self.ledger.what(graph, token) {
+            Action::Publish(_) | Action::Bind(_, _) => true,
+            Action::Call => is_at_script(graph, answers, token),
+            _ => false,
+        }
+    }
+
+    // The call with this number is answered, by the table, and the turn of the token on its answer comes. Whether it pended.
+    fn answer_drawn(&mut self, number: u64) -> Result<bool, Stop>
+        ensures advances { IfOk result (λ answered. answered ≡ true → Advances self.old.ledger self.new.ledger) }
+        ensures none { IfOk result (λ answered. answered ≡ false → (self.new.ledger ≡ self.old.ledger) × (self.new.ready ≡ self.old.ready)) }
+        ensures stops { IfErr result (λ stop. Stops P.listing self.new.ledger stop) }
+    {
+        let Some(call) = self.ledger.pending(number) else {
+            return Ok(false);
+        };
+        let Found::After(answer, _) = call.found else {
+            return Ok(false);
+        };
+        match self.ledger.returned(number, answer) {
+            Ok(Some(slot)) => self.join_held(slot)?,
+            Ok(None) => {
+                let group = self.ledger.group_of_call(&call);
+                self.close(group)?;
+            }
+            Err(ReturnFault::Limit) => return Err(Stop::Refused(LedgerFault::Limit)),
+            Err(ReturnFault::Memory) => return Err(Stop::Refused(LedgerFault::Memory)),
+            // What the ledger doesn't take isn't due.
+            Err(ReturnFault::Wrong | ReturnFault::Gone) => return Ok(false),
+        }
+        Ok(true)
+    }
+
+    /// A call of a site whose answer has a turn of its own, also where it is due at once.
+    #[cold]
+    #[inline(never)]
+    pub(crate) fn call_apart(
+        &mut self,
+        graph: &Graph,
+        answers: &Answers,
+        slot: usize,
+        token: Token,
+    ) -> Result<Step, Stop>
+        requires graph { graph.now ≡ P.listing }
+        requires answers { answers.now.sites ≡ P.sites }
+        requires held { IsHeld self.old.ledger.slots slot token }
+        requires calls { what_of (code P.listing) (definitions P.listing) self.old.ledger token ≡ Action.Call }
+        ensures moved { IfOk result (λ step. Advances self.old.ledger self.new.ledger × (step ≡ Step.Waits → ⊥)) }
+        ensures stops { IfErr result (λ stop. Stops P.listing self.new.ledger stop) }
+    {
+        match self
+            .ledger
+            .call(graph, answers, slot, token, &mut self.args)
+        {
+            Ok(call) => {
+                self.note_made(&call)?;
+                Ok(Step::Done)
+            }
+            Err(fault) => {
+                self.ledger.full_is_crowded();
+                Err(Stop::Refused(fault))
+            }
+        }
+    }
+
+    // A call was made: if it is due at once it has a turn.
+    fn note_made(&mut self, call: &Call) -> Result<(), Stop>
+        ensures same { self.new.ledger ≡ self.old.ledger }
+        ensures memory { IfErr result (λ stop. stop ≡ Stop.Refused LedgerFault.Memory) }
+    {
+        match call.found {
+            Found::After(_, 0) => self.note_call(call.number),
+            _ => Ok(()),
+        }
+    }
+
+    fn note_call(&mut self, number: u64) -> Result<(), Stop>
+        ensures same { self.new.ledger ≡ self.old.ledger }
+        ensures memory { IfErr result (λ stop. stop ≡ Stop.Refused LedgerFault.Memory) }
+    {
+        match self.ready.note_call(number) {
+            Ok(()) => Ok(()),
+            Err(_) => Err(Stop::Refused(LedgerFault::Memory)),
+        }
+    }
+
+    /// Time has passed: the calls that are due now have turns, where there is an order.
+    pub(crate) fn note_due(&mut self) -> Result<(), Stop>
+        ensures same { self.new.ledger ≡ self.old.ledger }
+        ensures memory { IfErr result (λ stop. stop ≡ Stop.Refused LedgerFault.Memory) }
+    {
+        if !self.ready.is_ordered() {
+            return Ok(());
+        }
+        let mut number = 0;
+        // As many calls pend at most as there may be tokens.
+        for _ in 0..MOST_TOKENS {
+            let Some(next) = self.ledger.due_beyond(number) else {
+                return Ok(());
+            };
+            self.note_call(next)?;
+            number = next;
+        }
+        Ok(())
+    }
+}
