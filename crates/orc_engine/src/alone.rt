@@ -85,7 +85,7 @@ fn run_graph<P: Naming>(
     let Ok(ledger) = Ledger::<P>::begin(alloc, keeps, limit, graph.root()) else {
         return Err(EngineFault::Memory);
     };
-    let mut scheduler = Scheduler::new(alloc, ledger, keeps, false);
+    let mut scheduler = Scheduler::new(alloc, ledger, keeps);
     if let Some(number) = order {
         scheduler.follow(number);
     }

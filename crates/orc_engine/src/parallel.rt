@@ -196,7 +196,7 @@ where
     let Ok(ledger) = Ledger::<P>::begin(alloc, keeps, limit, graph.root()) else {
         return Err(EngineFault::Memory);
     };
-    let mut scheduler = Scheduler::new(alloc, ledger, keeps, false);
+    let mut scheduler = Scheduler::new(alloc, ledger, keeps);
     let crew = ParallelRun::<P, R> {
         rt,
         alloc,

@@ -9,10 +9,10 @@ mod gates;
 mod storm;
 
 use gates::{Sleepy, Slow, Turnstile};
-use orc_engine::EngineFault;
 use orc_load::Loaded;
 use orc_outcome::Played;
 use orc_site::{Gate, Scripted};
+use orc_workers::EngineFault;
 use std::alloc::Global;
 use std::sync::Wait;
 use std::thread::Threads;

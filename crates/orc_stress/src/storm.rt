@@ -1,12 +1,12 @@
 //! Programs, and what their runs have to come to.
 
-use orc_engine::{EngineFault, run_pool};
 use orc_journal_text::write_journal;
 use orc_load::{LoadFault, Loaded};
 use orc_outcome::{End, Played};
 use orc_rules::value::Value;
 use orc_run::check_text;
 use orc_site::{Gate, Sites};
+use orc_workers::{EngineFault, run_pool};
 use std::alloc::Global;
 use std::sync::Wait;
 use std::thread::Threads;

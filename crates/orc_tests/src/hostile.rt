@@ -4,11 +4,11 @@ use crate::gates::{
     Board, Hold, LOOKS, Liar, Manner, Noting, Odd, Refusing, Slow, Turnstile, Wrong,
 };
 use crate::pools::{is_accepted, play, text_of};
-use orc_engine::{EngineFault, run_pool};
 use orc_load::load;
 use orc_outcome::{End, Played};
 use orc_rules::value::Value;
 use orc_site::{Open, Scripted};
+use orc_workers::{EngineFault, run_pool};
 use std::alloc::Global;
 use std::sync::Wait;
 use std::test::Fail;

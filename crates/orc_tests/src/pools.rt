@@ -2,7 +2,6 @@
 
 use crate::gates::{Held, Slow, Turnstile};
 use crate::runs::ORDERED;
-use orc_engine::{EngineFault, run_pool};
 use orc_journal_text::write_journal;
 use orc_load::{Loaded, load};
 use orc_outcome::{End, Played};
@@ -10,6 +9,7 @@ use orc_reference::play as play_plainly;
 use orc_rules::value::Value;
 use orc_run::check_text;
 use orc_site::{Gate, Open, Scripted, read_script};
+use orc_workers::{EngineFault, run_pool};
 use std::alloc::Global;
 use std::sync::Wait;
 use std::test::Fail;

@@ -16,4 +16,4 @@ mod shift;
 mod worker;
 
 pub use orc_scheduler::EngineFault;
-pub use pool::run_graph;
+pub use pool::run_pool;

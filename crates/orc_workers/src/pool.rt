@@ -1,8 +1,12 @@
 //! Several workers: the calling thread, and others beside it.
 
-ghost use Rattle.std.specs.Prelude.{◌≡◌, ◌≤◌, ◌*◌, true, is_some, IfOk, IfErr};
+ghost use Rattle.std.specs.Prelude.{◌≡◌, ◌≤◌, ◌*◌, ◌↔◌, true, Err, is_some, IfOk, IfErr};
 ghost use Rattle.orc_rules.specs.declared.limits.TheConstants.{MOST_ENTRIES, MOST_GROUPS, MOST_WORKERS};
 ghost use Rattle.orc_outcome.specs.Outcome.{IsPlayed};
+ghost use Rattle.orc_rules.specs.Nodes.{definitions, source};
+ghost use Rattle.orc_rules.specs.Program.{IsProgram};
+ghost use Rattle.orc_scheduler.specs.Faults.{IsOwn};
+ghost use Rattle.orc_engine.specs.Ranges.{IsInRange};
 
 use crate::context::Context;
 use crate::inputs::Inputs;
@@ -10,12 +14,13 @@ use crate::local::Local;
 use crate::shared::Shared;
 use crate::worker::Worker;
 use orc_book::{Book, Token};
+use orc_engine::run_parallel;
 use orc_graph::Graph;
 use orc_log::Program as Run;
 use orc_outcome::Played;
 use orc_pool::{WorkerQueue, worker_queues};
 use orc_rules::answers::Answers;
-use orc_rules::limits::{MOST_ENTRIES, MOST_GROUPS};
+use orc_rules::limits::{MOST_ENTRIES, MOST_GROUPS, MOST_WORKERS};
 use orc_rules::program::Program;
 use orc_scheduler::{EngineFault, Scheduler};
 use orc_site::{Gate, Sites};
@@ -33,14 +38,53 @@ const WORDS: u32 = 2 * MOST_GROUPS as u32;
 /// The passes of each worker: more than the entries of a run take.
 const PASSES: u32 = 4 * MOST_ENTRIES as u32;
 
-/// Runs a program whose graph is built, on the calling thread and `workers - 1` more, which hold its tokens; one that can't be started is left out.
-/// The journal has at most `limit` entries, cancels not counted, and is kept. What the rules leave free comes as the workers make it.
+/// Runs a program on the calling thread and `workers - 1` more, which hold its tokens; one that can't be started is left out. What is run and what it
+/// answers is as of [`run_alone`](orc_engine::run_alone), whatever the workers do when.
 ///
-/// Each call goes through `gate`, is made by `sites` and polled outside every lock, and `sites` is told which ones are cancelled.
+/// Each call goes through `gate`, is made by `sites` and polled outside every lock, and `sites` is told which ones are cancelled; the journal is kept
+/// then. Where the sites go by the table and the gate is open, nobody is asked, and it is a run of [`run_parallel`](orc_engine::run_parallel).
 ///
-/// The fault is Site where the sites answered a call otherwise than the table says, or not when it was due; Broken where something is left that no
-/// worker has; or Memory where memory was refused before the run began, or for what is told of it.
-pub fn run_graph<R, S, G>(
+/// The fault is Range where there are no workers or over `MOST_WORKERS`, or the limit is 0 or over `MOST_ENTRIES`, and then alone; Site where the
+/// sites answered a call otherwise than the table says, or not when it was due; Broken where something is left that no worker has; Memory as of
+/// `run_alone`. Where nobody is asked Site and Broken come no more than there.
+pub fn run_pool<R, S, G>(
+    rt: &R,
+    alloc: Global,
+    program: &Program,
+    answers: &Answers,
+    sites: &S,
+    gate: &G,
+    workers: usize,
+    keeps: bool,
+    limit: u64,
+) -> Result<Played, EngineFault>
+where
+    R: Threads + Wait + Sync,
+    S: Sites + Sync,
+    S::Call: Send,
+    G: Gate + Sync,
+    ensures played { IfOk result (λ p. IsPlayed program.now answers.now limit p.summary p.published.items p.journal) }
+    ensures kept { IfOk result (λ p. keeps ≡ true → is_some p.journal ≡ true) }
+    ensures range { result ≡ Err EngineFault.Range ↔ (IsInRange workers limit → ⊥) }
+    ensures sound { S.by_table sites.now → G.holds_nobody gate.now → IfErr result (λ fault. IsOwn fault → IsProgram (definitions program.now) (source program.now) → ⊥) }
+{
+    if workers < 1 || workers > MOST_WORKERS || limit < 1 || limit > MOST_ENTRIES {
+        return Err(EngineFault::Range);
+    }
+    if sites.goes_by_table() && gate.is_open() {
+        return run_parallel(rt, alloc, program, answers, workers, keeps, limit);
+    }
+    let Ok(graph) = Graph::build(alloc, program) else {
+        return Err(EngineFault::Memory);
+    };
+    let limit = limit as usize;
+    run_graph(
+        rt, alloc, program, &graph, answers, sites, gate, workers, limit,
+    )
+}
+
+// The same of a program whose graph is built, with workers and a limit in range, where sites or a gate are asked. The journal is kept.
+fn run_graph<R, S, G>(
     rt: &R,
     alloc: Global,
     program: &Program,
@@ -121,7 +165,7 @@ where
         rt, alloc, inputs, supply, token, &shared, sites, gate, workers,
     )?;
     let (book, stop) = shared.into_inner().into_book();
-    let scheduler = Scheduler::new(alloc, book.into_ledger(), true, true);
+    let scheduler = Scheduler::new(alloc, book.into_ledger(), true);
     match scheduler.finish(program, graph, answers, stop) {
         Ok(Some(played)) => Ok(played),
         Ok(None) => unreachable!(),

@@ -1,0 +1,85 @@
+//! A program that runs a workflow on sites of its own: a clerk on another thread serves each call, and takes a millisecond for it.
+//!
+//! Whoever builds the engine into a program writes these three: how a call is made (`Office`), what it is while it is out (`Errand`), and the run.
+#![tactic(auto)]
+
+mod office;
+
+use crossbeam_channel::{Sender, unbounded};
+use office::{Job, Office, serve};
+use orc_load::{Loaded, load};
+use orc_outcome::Played;
+use orc_rules::value::Value;
+use orc_site::Open;
+use orc_workers::{EngineFault, run_pool};
+use std::alloc::Global;
+use std::sync::Wait;
+use std::sync::atomic::{AtomicU64, Ordering};
+use std::thread::Threads;
+use std::{io, thread};
+
+/// A hotel and a hostel are asked for a bed. Who answers first gets the guest.
+const WORKFLOW: &[u8] = b"val price = Hotel(2) | Hostel(2)\nprice";
+
+/// What they answer, and after how much logical time.
+const SERVICES: &[u8] = b"Hotel(_) = 70 after 3\nHostel(_) = 35 after 5\n";
+
+const WORKERS: usize = 2;
+
+const LIMIT: u64 = 1000;
+
+// Runs the workflow, and then sends the clerk home.
+fn run<R: Threads + Wait + Sync>(
+    rt: &R,
+    alloc: Global,
+    loaded: &Loaded,
+    office: &Office<'_, R>,
+) -> Result<Played, EngineFault> {
+    let played = run_pool(
+        rt,
+        alloc,
+        &loaded.program,
+        &loaded.answers,
+        office,
+        &Open,
+        WORKERS,
+        true,
+        LIMIT,
+    );
+    let _ = office.jobs.send(rt, None);
+    played
+}
+
+fn main(rt: HostRuntime) -> io::Result<()> {
+    let alloc = rt.alloc();
+    let (Ok(loaded), Ok((jobs, inbox))) = (
+        load(alloc, WORKFLOW, SERVICES),
+        unbounded::<Job, Global>(alloc),
+    ) else {
+        return println!(&rt; "memory was refused");
+    };
+    let office = Office {
+        rt: &rt,
+        alloc,
+        answers: &loaded.answers,
+        jobs: &jobs,
+        cancelled: AtomicU64::new(0),
+    };
+    let (played, served) = thread::join(
+        &rt,
+        || run(&rt, alloc, &loaded, &office),
+        || serve(&rt, &inbox),
+    );
+    let Ok(played) = played else {
+        return println!(&rt; "the engine has failed");
+    };
+    for value in &played.published {
+        if let Value::Number(price) = value {
+            println!(&rt; "a bed for {price}")?;
+        }
+    }
+    println!(&rt;
+        "{served} calls were served, and {} was cancelled",
+        office.cancelled.load(Ordering::SeqCst)
+    )
+}

@@ -1,0 +1,112 @@
+//! Sites of one's own: a clerk on another thread serves each call.
+
+use crossbeam_channel::{Receiver, Sender, bounded};
+use futures::Future;
+use futures::task::{Context, Poll};
+use orc_rules::answers::Answers;
+use orc_rules::value::Answer;
+use orc_site::{Due, Request, SiteCall, SiteFuture, Sites};
+use std::alloc::{AllocError, Global};
+use std::sync::Wait;
+use std::sync::atomic::{AtomicU64, Ordering};
+use std::thread;
+use std::time::{Clock, Duration};
+
+/// What the clerk is handed: where to say that a call has been served. Nothing, where no more calls come.
+pub type Job = Option<Sender<(), Global>>;
+
+/// Serves calls until no more come, a millisecond each, and tells how many there were.
+pub fn serve<R: Wait + Clock>(rt: &R, jobs: &Receiver<Job, Global>) -> u64 {
+    let mut served = 0u64;
+    for job in jobs.iter(rt) {
+        let Some(done) = job else {
+            return served;
+        };
+        thread::sleep(rt, Duration::from_millis(1));
+        served = served.saturating_add(1);
+        let _ = done.send(rt, ());
+    }
+    served
+}
+
+/// Makes calls: each is handed to the clerk, and answered as the script says.
+#[derive(Drop)]
+pub struct Office<'a, R: Wait> {
+    pub rt: &'a R,
+    pub alloc: Global,
+    pub answers: &'a Answers,
+    pub jobs: &'a Sender<Job, Global>,
+    pub cancelled: AtomicU64,
+}
+
+impl<'a, R: Wait> Sites for Office<'a, R> {
+    type Call = Errand<'a, R>;
+
+    fn call(&self, request: &Request) -> Result<Errand<'a, R>, AllocError> {
+        let (tell, done) = bounded(self.alloc, 1)?;
+        if self.jobs.send(self.rt, Some(tell)).is_err() {
+            return Err(AllocError);
+        }
+        Ok(Errand {
+            rt: self.rt,
+            call: SiteCall::new(self.answers, request.copied()),
+            now: request.made_at,
+            done,
+        })
+    }
+
+    fn cancel(&self, _number: u64) {
+        self.cancelled.fetch_add(1, Ordering::SeqCst);
+    }
+
+    fn goes_by_table(&self) -> bool {
+        false
+    }
+}
+
+/// A call that is out. Once it is due, who polls it waits until the clerk has served it.
+#[derive(Drop)]
+pub struct Errand<'a, R: Wait> {
+    rt: &'a R,
+    call: SiteCall<'a>,
+    now: u64,
+    done: Receiver<(), Global>,
+}
+
+impl<R: Wait> Future for Errand<'_, R> {
+    ghost use Rattle.orc_site.specs.Call.{IsReply};
+
+    type Output = Answer;
+
+    ghost gives = { λ errand. IsReply errand.call };
+
+    fn poll(&mut self, cx: &mut Context<'_>) -> Poll<Answer> {
+        if let Due::At(time) = self.call.due()
+            && time <= self.now
+        {
+            let _ = self.done.recv(self.rt);
+        }
+        self.call.poll(cx)
+    }
+}
+
+impl<R: Wait> SiteFuture for Errand<'_, R> {
+    ghost use Rattle.orc_site.specs.Call.{due_of};
+
+    ghost moment = { λ errand. errand.call.moment };
+
+    ghost when = { λ errand. due_of errand.call };
+
+    ghost always = { λ _. tt };
+
+    ghost early = { λ errand answer is. is.0 };
+
+    fn at(&mut self, now: u64) {
+        self.now = self.now.max(now);
+        self.call.at(now);
+    }
+
+    fn due(&self) -> Due {
+        self.call.due()
+    }
+}
