@@ -139,7 +139,7 @@ module _ (s : Records) (first ps : List Hold) (k : ℕ) (C : AreSettling s first
       done_by i true e lt = subst (λ z. held_at ps' z + out_at ps' z ≡ members (numbers_of s) s z) (sym (eqb-true i k e)) done_here
       done_by i false e lt = let off : i ≡ k → ⊥ = λ x. cc (eq-eqb i k x, e) in let same = its i off in omega (arith, C.done i (less i k lt off), ap passes_of same, ap out_of same)
 
-pub settling-done : (s : Records) (first ps : List Hold) → AreSettling s first ps (length first) → length first ≡ MOST_GROUPS → AreHeld ps s
+pub settling-done : (s : Records) (first ps : List Hold) → AreSettling s first ps (length first) → length first ≤ MOST_GROUPS → AreHeld ps s
 settling-done s first ps C few =
     record {
       tokens = λ i. (C.loose i).0;

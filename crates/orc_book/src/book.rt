@@ -24,7 +24,9 @@ use std::marker::Model;
 /// The records of a run, and of each record that is not out with a worker a pass to its group.
 pub struct Book<P: Program + Naming> {
     pub(crate) ledger: Ledger<P>,
-    // By the ledger's numbers of groups.
+    // For the posts of groups that are opened.
+    pub(crate) alloc: Global,
+    // By the ledger's numbers of groups, up to the highest one that was given.
     pub(crate) posts: Vec<Post<P>>,
     // By words, and which of these are free; and how many stand for killed groups.
     pub(crate) stands: Vec<Stand<P>>,
@@ -52,6 +54,7 @@ impl<P: Program + Naming> Drop for Book<P> {
     fn drop(self) {
         let Book {
             ledger,
+            alloc: _,
             posts,
             stands,
             words,
@@ -120,6 +123,7 @@ impl<P: Program + Naming> Book<P> {
         set_out(&mut posts, 0, 1);
         let book = Book {
             ledger,
+            alloc,
             posts,
             stands,
             words,
@@ -141,6 +145,7 @@ impl<P: Program + Naming> Book<P> {
     {
         let Book {
             ledger,
+            alloc: _,
             posts,
             stands,
             words,
@@ -167,6 +172,7 @@ impl<P: Program + Naming> Book<P> {
     {
         let Book {
             ledger,
+            alloc: _,
             posts,
             stands,
             words,

@@ -9,7 +9,7 @@ ghost use Rattle.orc_word.specs.Views.{group_of};
 ghost use Rattle.orc_book.specs.Held.{Hold, IsToken, IsOut, HasStayed, Changes, Same};
 
 use crate::book::Book;
-use crate::post::{bring_at, put_at, raise_at, reserve_at};
+use crate::post::{bring_at, grow_to, put_at, raise_at, reserve_opening};
 use crate::token::{BookFault, Refused, Token, fault_of};
 use crate::word_state::stand_for;
 use crate::words::Words;
@@ -115,7 +115,7 @@ impl<P: Program + Naming> Book<P> {
                 back,
             });
         }
-        if reserve_at(&mut self.posts, found.group).is_err() {
+        if reserve_opening(&mut self.posts, found.group).is_err() {
             let back = (token, same, idle);
             return Err(Refused {
                 why: BookFault::Memory,
@@ -145,6 +145,7 @@ impl<P: Program + Naming> Book<P> {
                     unreachable!()
                 };
                 let number = self.ledger.group_of_token(&inner);
+                grow_to(self.alloc, &mut self.posts, number);
                 put_at(&mut self.posts, found.group, same);
                 raise_at(&mut self.posts, number, opened.word, found.group);
                 stand_for(&mut self.stands, opened.word, number);
@@ -200,7 +201,7 @@ impl<P: Program + Naming> Book<P> {
                 back,
             });
         }
-        if reserve_at(&mut self.posts, found.group).is_err() {
+        if reserve_opening(&mut self.posts, found.group).is_err() {
             let back = (token, idle);
             return Err(Refused {
                 why: BookFault::Memory,
@@ -230,6 +231,7 @@ impl<P: Program + Naming> Book<P> {
                     unreachable!()
                 };
                 let number = self.ledger.group_of_token(&inner);
+                grow_to(self.alloc, &mut self.posts, number);
                 bring_at(&mut self.posts, found.group, found.out - 1, token.pass);
                 raise_at(&mut self.posts, number, opened.word, found.group);
                 stand_for(&mut self.stands, opened.word, number);

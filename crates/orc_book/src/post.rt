@@ -1,7 +1,8 @@
 //! What a book has of a group.
 ghost use Rattle.std.specs.Prelude.{◌≡◌, ◌+◌, ◌-◌, ◌<◌, ◌≤◌, ◌^◌, ◌∷◌, ◌++◌, [], Some, None, length, vec_len, vec_capacity, IfOk, OnOk, MatchOption, MatchResult};
 ghost use Rattle.orc_word.specs.Views.{group_of};
-ghost use Rattle.orc_book.specs.Held.{Hold, AreFirst, Becomes, Changes, Same, OneMore, OneFewer, held_at, kept_at, out_at, word_at, room_at};
+ghost use Rattle.orc_rules.specs.declared.limits.TheConstants.{MOST_GROUPS};
+ghost use Rattle.orc_book.specs.Held.{Hold, AreFirst, HaveGrown, Becomes, Changes, Same, OneMore, OneFewer, held_at, kept_at, out_at, word_at, room_at};
 
 use orc_rules::limits::MOST_GROUPS;
 use orc_word::{Groups, Naming, Pass};
@@ -395,16 +396,43 @@ pub(crate) fn word_in<J: Naming>(posts: &Vec<Post<J>>, number: u32) -> u32
     }
 }
 
-/// Posts of as many groups as there may be, with no passes.
+/// The post of the program's own group, with no passes.
 pub(crate) fn first_posts<J: Naming>(alloc: Global) -> Result<Vec<Post<J>>, AllocError>
     ensures { IfOk result (λ posts. AreFirst posts.items) }
 {
     let mut posts = Vec::new(alloc);
     posts.push(Post::new(alloc, 0, 0))?;
-    for _group in 1..MOST_GROUPS {
-        posts.push(Post::new(alloc, 0, 0))?;
-    }
     Ok(posts)
+}
+
+/// Makes room for one pass more of a group, and for the posts of as many groups as there may be.
+pub(crate) fn reserve_opening<J: Naming>(
+    posts: &mut Vec<Post<J>>,
+    number: u32,
+) -> Result<(), AllocError>
+    requires there { number < length posts.old.items }
+    requires few { length posts.old.items ≤ MOST_GROUPS }
+    ensures same { Changes posts.old.items number posts.new.items Same }
+    ensures room { OnOk result (1 ≤ room_at posts.new.items number) }
+    ensures posts { OnOk result (MOST_GROUPS ≤ vec_capacity posts.new) }
+{
+    reserve_at(posts, number)?;
+    let more = MOST_GROUPS - posts.len();
+    posts.try_reserve(more)
+}
+
+/// There are posts up to the group with this number.
+pub(crate) fn grow_to<J: Naming>(alloc: Global, posts: &mut Vec<Post<J>>, number: u32)
+    requires few { length posts.old.items ≤ MOST_GROUPS }
+    requires number { number < MOST_GROUPS }
+    requires room { MOST_GROUPS ≤ vec_capacity posts.old }
+    ensures grown { HaveGrown posts.old.items posts.new.items }
+    ensures there { number < length posts.new.items }
+    ensures few { length posts.new.items ≤ MOST_GROUPS }
+{
+    for _number in posts.len()..number as usize + 1 {
+        posts.push_reserved(Post::new(alloc, 0, 0));
+    }
 }
 
 /// A post is of a new group, whose word and whose parent's number are these, and one token of it is out.

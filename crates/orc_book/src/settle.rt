@@ -26,7 +26,7 @@ fn is_there<P: Program>(ledger: &Ledger<P>, number: u32) -> bool
 
 // Nobody is kept or out of a group that is there no more.
 pub(crate) fn clear_missing<P: Program, J: Naming>(ledger: &Ledger<P>, posts: &mut Vec<Post<J>>)
-    requires few { length posts.old.items ≡ MOST_GROUPS }
+    requires few { length posts.old.items ≤ MOST_GROUPS }
     requires loose { AreLoose posts.old.items ledger.now }
     ensures loose { (i : ℕ) → IsLoose ledger.now posts.new.items i }
     ensures bags { weight bag posts.new.items ≡ weight bag posts.old.items }
@@ -66,7 +66,7 @@ pub(crate) fn bury_missing<P: Program, J: Naming>(
     posts: &mut Vec<Post<J>>,
     stands: &mut Vec<Stand<J>>,
 ) -> usize
-    requires few { length posts.old.items ≡ MOST_GROUPS }
+    requires few { length posts.old.items ≤ MOST_GROUPS }
     requires loose { (i : ℕ) → IsLoose ledger.now posts.old.items i }
     ensures loose { (i : ℕ) → IsLoose ledger.now posts.new.items i }
     ensures bags { weight bag posts.new.items ≤ weight bag posts.old.items }
@@ -103,7 +103,7 @@ pub(crate) fn settle_all<P: Program, J: Naming>(
     posts: &mut Vec<Post<J>>,
     leave: &mut Vec<Pass<J>>,
 )
-    requires few { length posts.old.items ≡ MOST_GROUPS }
+    requires few { length posts.old.items ≤ MOST_GROUPS }
     requires loose { (i : ℕ) → IsLoose ledger.now posts.old.items i }
     requires room { vec_len leave.old + weight bag posts.old.items ≤ vec_capacity leave.old }
     ensures held { AreHeld posts.new.items ledger.now }

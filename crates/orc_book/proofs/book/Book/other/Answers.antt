@@ -1,4 +1,4 @@
-use Rattle.std.proofs.Common.{◌≡◌, ◌+◌, ℕ, arith, refl, ap, sym, ◌∙◌, subst, Some, length}
+use Rattle.std.proofs.Common.{◌≡◌, ◌+◌, ◌<◌, ℕ, arith, refl, ap, sym, ◌∙◌, subst, Some, length}
 use Rattle.orc_rules.specs.Timed.{IsIn}
 use Rattle.orc_ledger_spec.specs.Calls.{IsFree}
 use Rattle.orc_ledger_spec.specs.Moves.{Moves}
@@ -9,6 +9,7 @@ use Rattle.orc_word.specs.Views.{group_of}
 use Rattle.orc_book.specs.Held.{AreHeld, Becomes, HasStayed, held_at, out_at, word_at, passes_of, out_of, word_of}
 use Rattle.orc_book.proofs.Ones.{roomy-held, one-slot}
 use Rattle.orc_book.proofs.Moving.{tried-held}
+use Rattle.orc_book.proofs.Grown.{grown-held, stayed-grown}
 use Rattle.orc_book.proofs.Free.{free-none, free-apart}
 use Rattle.orc_book.proofs.Posts.{stayed, other-at, mine-at, length-becomes}
 use Rattle.orc_book.proofs.Reading.{tried}
@@ -19,16 +20,16 @@ invariant_of-self g c =
     let b = c.self.inside in
     let s = b.ledger in
     let ps = b.posts.items in
-    let ps1 = c.reserve_at.new.posts.items in
-    roomy-held s ps ps1 _ c.reserve_at.ensures.same c.self.invariant
+    let ps1 = c.reserve_opening.new.posts.items in
+    roomy-held s ps ps1 _ c.reserve_opening.ensures.same c.self.invariant
 
 pub returns-then-is_err-clause-refused : goal.returns-then-is_err-clause-refused
 returns-then-is_err-clause-refused g c =
     let b = c.self.inside in
     let s = b.ledger in
     let ps = b.posts.items in
-    let ps1 = c.reserve_at.new.posts.items in
-    let k : HasStayed (record { ledger = s; posts = ps }) (record { ledger = s; posts = ps1 }) = stayed s ps ps1 _ c.reserve_at.ensures.same in
+    let ps1 = c.reserve_opening.new.posts.items in
+    let k : HasStayed (record { ledger = s; posts = ps }) (record { ledger = s; posts = ps1 }) = stayed s ps ps1 _ c.reserve_opening.ensures.same in
     (rw (← c.self.view_is) k, refl, c.requires.idle)
 
 pub invariant_of-self-in-Err-open_word : goal.invariant_of-self-in-Err-open_word
@@ -36,16 +37,16 @@ invariant_of-self-in-Err-open_word g c =
     let b = c.self.inside in
     let s = b.ledger in
     let ps = b.posts.items in
-    let ps1 = c.reserve_at.new.posts.items in
-    roomy-held s ps ps1 _ c.reserve_at.ensures.same c.self.invariant
+    let ps1 = c.reserve_opening.new.posts.items in
+    roomy-held s ps ps1 _ c.reserve_opening.ensures.same c.self.invariant
 
 pub returns-in-Err-open_word-clause-refused : goal.returns-in-Err-open_word-clause-refused
 returns-in-Err-open_word-clause-refused g c =
     let b = c.self.inside in
     let s = b.ledger in
     let ps = b.posts.items in
-    let ps1 = c.reserve_at.new.posts.items in
-    let k : HasStayed (record { ledger = s; posts = ps }) (record { ledger = s; posts = ps1 }) = stayed s ps ps1 _ c.reserve_at.ensures.same in
+    let ps1 = c.reserve_opening.new.posts.items in
+    let k : HasStayed (record { ledger = s; posts = ps }) (record { ledger = s; posts = ps1 }) = stayed s ps ps1 _ c.reserve_opening.ensures.same in
     (rw (← c.self.view_is) k, refl, ap group_of c.in-Err-open_word.ensures.refused ∙ c.requires.idle)
 
 pub invariant_of-self-in-Err-advance : goal.invariant_of-self-in-Err-advance
@@ -53,16 +54,16 @@ invariant_of-self-in-Err-advance g c =
     let b = c.self.inside in
     let s = b.ledger in
     let ps = b.posts.items in
-    let ps1 = c.reserve_at.new.posts.items in
-    subst (AreHeld ps1) (sym c.in-Err-advance.ensures.refused) (roomy-held s ps ps1 _ c.reserve_at.ensures.same c.self.invariant)
+    let ps1 = c.reserve_opening.new.posts.items in
+    subst (AreHeld ps1) (sym c.in-Err-advance.ensures.refused) (roomy-held s ps ps1 _ c.reserve_opening.ensures.same c.self.invariant)
 
 pub returns-in-Err-advance-clause-refused : goal.returns-in-Err-advance-clause-refused
 returns-in-Err-advance-clause-refused g c =
     let b = c.self.inside in
     let s = b.ledger in
     let ps = b.posts.items in
-    let ps1 = c.reserve_at.new.posts.items in
-    let k : HasStayed (record { ledger = s; posts = ps }) (record { ledger = s; posts = ps1 }) = stayed s ps ps1 _ c.reserve_at.ensures.same in
+    let ps1 = c.reserve_opening.new.posts.items in
+    let k : HasStayed (record { ledger = s; posts = ps }) (record { ledger = s; posts = ps1 }) = stayed s ps ps1 _ c.reserve_opening.ensures.same in
     (rw (← c.self.view_is) (subst (λ z. HasStayed (record { ledger = s; posts = ps }) (record { ledger = z; posts = ps1 })) (sym c.in-Err-advance.ensures.refused) k), refl, c.leave-left.ensures.idle)
 
 pub bring_at-requires-clause-names : goal.bring_at-requires-clause-names
@@ -70,30 +71,22 @@ bring_at-requires-clause-names g c =
     let b = c.self.inside in
     let s = b.ledger in
     let ps = b.posts.items in
-    let ps1 = c.reserve_at.new.posts.items in
+    let ps0 = c.reserve_opening.new.posts.items in
+    let ps1 = c.grow_to.new.posts.items in
     let t = c.in-Ok.found.its in
     let n : ℕ = c.in-Ok.found.group in
     let at : n ≡ group_at s.steps t.step = rw (← c.self.view_is) at c.in-Ok.ensures.group in
     let named : group_of c.args.token.pass ≡ Some (word_at ps (group_at s.steps t.step)) = rw (← c.self.view_is) at c.in-Ok.ensures.token.2 in
-    let k = stayed s ps ps1 _ c.reserve_at.ensures.same in
+    let k = stayed-grown s ps0 ps1 c.grow_to.ensures.grown ps (stayed s ps ps0 _ c.reserve_opening.ensures.same) in
     named ∙ ap (λ z. Some (word_at ps z)) (sym at) ∙ ap Some (sym (k.words n))
 
-pub raise_at-requires-clause-there : goal.raise_at-requires-clause-there
-raise_at-requires-clause-there g c =
+pub grow_to-requires-clause-number : goal.grow_to-requires-clause-number
+grow_to-requires-clause-number g c =
     let b = c.self.inside in
     let s = b.ledger in
-    let ps = b.posts.items in
-    let ps1 = c.reserve_at.new.posts.items in
     let l = g.P.Program.listing in
-    let sites = g.P.Program.sites in
-    let L = c.stands.ensures.lawful in
-    let G = c.stands.ensures.grouped in
     let s' = c.advance.new.self in
-    let ps2 = c.bring_at.new.posts.items in
     let t = c.in-Ok.found.its in
-    let i : IsIn t s.tokens = rw (← c.self.view_is) at c.in-Ok.ensures.there in
-    let n : ℕ = c.in-Ok.found.group in
-    let at : n ≡ group_at s.steps t.step = rw (← c.self.view_is) at c.in-Ok.ensures.group in
     let m = subst (λ m. Moves l s c.args.token.slot t m c.advance.new.cancelled.items s') c.in-Ok-On.field-0-is c.in-Ok-On.ensures.done in
     let O = tried l s c.args.token.slot t s' _ (rw (← c.self.view_is) at (c.tries_next.ensures c.if-not-tries_next.false)) m in
     let number : ℕ = O.number in
@@ -102,18 +95,31 @@ raise_at-requires-clause-there g c =
     let inner : Token = c.in-Some.inner in
     let step : inner.step ≡ length s.steps + 1 = ap (λ (z : Token). z.step) (one-slot inner _ (sym (c.in-Some.ensures.held.0).0 ∙ (O.held).0)) in
     let its : c.group_of_token-number.result ≡ number = c.group_of_token-number.ensures ∙ ap (group_at s'.steps) step ∙ ap (λ z. group_at z (length s.steps + 1)) T.steps ∙ group-end s.steps _ in
-    let H : AreHeld ps1 s = roomy-held s ps ps1 n c.reserve_at.ensures.same c.self.invariant in
+    omega (arith, its, F.2)
+
+pub raise_at-requires-clause-there : goal.raise_at-requires-clause-there
+raise_at-requires-clause-there g c =
+    let ps1 = c.grow_to.new.posts.items in
+    let ps2 = c.bring_at.new.posts.items in
     let C = c.bring_at.ensures.more in
-    let none = free-none l sites s L G number F ps1 H in
-    let off : n ≡ number → ⊥ = λ e. free-apart l sites s L G number F t i (sym at ∙ e) in
-    omega (arith, its, F.2, length-becomes ps1 ps2 n C.0 C.1 C.2, H.few)
+    omega (arith, length-becomes ps1 ps2 _ C.0 C.1 C.2, c.grow_to.ensures.there)
+
+pub bring_at-requires-clause-there : goal.bring_at-requires-clause-there
+bring_at-requires-clause-there g c =
+    let b = c.self.inside in
+    let ps = b.posts.items in
+    let ps0 = c.reserve_opening.new.posts.items in
+    let C = c.reserve_opening.ensures.same in
+    let there : c.in-Ok.found.group < length ps = rw (← c.self.view_is) at c.in-Ok.ensures.out.2 in
+    omega (arith, there, length-becomes ps ps0 _ C.0 C.1 C.2, c.grow_to.ensures.grown.more)
 
 pub raise_at-requires-clause-empty : goal.raise_at-requires-clause-empty
 raise_at-requires-clause-empty g c =
     let b = c.self.inside in
     let s = b.ledger in
     let ps = b.posts.items in
-    let ps1 = c.reserve_at.new.posts.items in
+    let ps0 = c.reserve_opening.new.posts.items in
+    let ps1 = c.grow_to.new.posts.items in
     let l = g.P.Program.listing in
     let sites = g.P.Program.sites in
     let L = c.stands.ensures.lawful in
@@ -132,7 +138,7 @@ raise_at-requires-clause-empty g c =
     let inner : Token = c.in-Some.inner in
     let step : inner.step ≡ length s.steps + 1 = ap (λ (z : Token). z.step) (one-slot inner _ (sym (c.in-Some.ensures.held.0).0 ∙ (O.held).0)) in
     let its : c.group_of_token-number.result ≡ number = c.group_of_token-number.ensures ∙ ap (group_at s'.steps) step ∙ ap (λ z. group_at z (length s.steps + 1)) T.steps ∙ group-end s.steps _ in
-    let H : AreHeld ps1 s = roomy-held s ps ps1 n c.reserve_at.ensures.same c.self.invariant in
+    let H : AreHeld ps1 s = grown-held s ps0 ps1 c.grow_to.ensures.grown c.grow_to.ensures.few (roomy-held s ps ps0 n c.reserve_opening.ensures.same c.self.invariant) in
     let C = c.bring_at.ensures.more in
     let none = free-none l sites s L G number F ps1 H in
     let off : n ≡ number → ⊥ = λ e. free-apart l sites s L G number F t i (sym at ∙ e) in
@@ -143,7 +149,8 @@ invariant_of-self-in-Ok-On g c =
     let b = c.self.inside in
     let s = b.ledger in
     let ps = b.posts.items in
-    let ps1 = c.reserve_at.new.posts.items in
+    let ps0 = c.reserve_opening.new.posts.items in
+    let ps1 = c.grow_to.new.posts.items in
     let l = g.P.Program.listing in
     let sites = g.P.Program.sites in
     let L = c.stands.ensures.lawful in
@@ -162,13 +169,13 @@ invariant_of-self-in-Ok-On g c =
     let inner : Token = c.in-Some.inner in
     let step : inner.step ≡ length s.steps + 1 = ap (λ (z : Token). z.step) (one-slot inner _ (sym (c.in-Some.ensures.held.0).0 ∙ (O.held).0)) in
     let its : c.group_of_token-number.result ≡ number = c.group_of_token-number.ensures ∙ ap (group_at s'.steps) step ∙ ap (λ z. group_at z (length s.steps + 1)) T.steps ∙ group-end s.steps _ in
-    let H : AreHeld ps1 s = roomy-held s ps ps1 n c.reserve_at.ensures.same c.self.invariant in
+    let H : AreHeld ps1 s = grown-held s ps0 ps1 c.grow_to.ensures.grown c.grow_to.ensures.few (roomy-held s ps ps0 n c.reserve_opening.ensures.same c.self.invariant) in
     let C = c.bring_at.ensures.more in
     let none = free-none l sites s L G number F ps1 H in
     let off : n ≡ number → ⊥ = λ e. free-apart l sites s L G number F t i (sym at ∙ e) in
     let D = c.raise_at.ensures in
     let ps3 = c.raise_at.new.posts.items in
-    let k = stayed s ps ps1 _ c.reserve_at.ensures.same in
+    let k = stayed-grown s ps0 ps1 c.grow_to.ensures.grown ps (stayed s ps ps0 _ c.reserve_opening.ensures.same) in
     let out : c.in-Ok.found.out ≡ out_at ps n = rw (← c.self.view_is) at c.in-Ok.ensures.out.0 in
     let before : out_at ps2 number ≡ 0 = other-at out_of ps1 ps2 n C.0 C.1 C.2 number (λ e. off (sym e)) ∙ none.1 in
     let B : Becomes ps2 number D.0 D.1 ps3 = subst (λ z. Becomes ps2 z D.0 D.1 ps3) its D.2 in
@@ -180,7 +187,8 @@ born-requires g c =
     let b = c.self.inside in
     let s = b.ledger in
     let ps = b.posts.items in
-    let ps1 = c.reserve_at.new.posts.items in
+    let ps0 = c.reserve_opening.new.posts.items in
+    let ps1 = c.grow_to.new.posts.items in
     let l = g.P.Program.listing in
     let sites = g.P.Program.sites in
     let L = c.stands.ensures.lawful in
@@ -199,7 +207,7 @@ born-requires g c =
     let inner : Token = c.in-Some.inner in
     let step : inner.step ≡ length s.steps + 1 = ap (λ (z : Token). z.step) (one-slot inner _ (sym (c.in-Some.ensures.held.0).0 ∙ (O.held).0)) in
     let its : c.group_of_token-number.result ≡ number = c.group_of_token-number.ensures ∙ ap (group_at s'.steps) step ∙ ap (λ z. group_at z (length s.steps + 1)) T.steps ∙ group-end s.steps _ in
-    let H : AreHeld ps1 s = roomy-held s ps ps1 n c.reserve_at.ensures.same c.self.invariant in
+    let H : AreHeld ps1 s = grown-held s ps0 ps1 c.grow_to.ensures.grown c.grow_to.ensures.few (roomy-held s ps ps0 n c.reserve_opening.ensures.same c.self.invariant) in
     let C = c.bring_at.ensures.more in
     let none = free-none l sites s L G number F ps1 H in
     let off : n ≡ number → ⊥ = λ e. free-apart l sites s L G number F t i (sym at ∙ e) in
@@ -214,7 +222,7 @@ unreachable-requires g c =
     let b = c.self.inside in
     let s = b.ledger in
     let ps = b.posts.items in
-    let ps1 = c.reserve_at.new.posts.items in
+    let ps1 = c.reserve_opening.new.posts.items in
     let l = g.P.Program.listing in
     let sites = g.P.Program.sites in
     let L = c.stands.ensures.lawful in
@@ -227,3 +235,11 @@ unreachable-requires g c =
     let m = subst (λ m. Moves l s c.args.token.slot t m c.advance.new.cancelled.items s') c.in-Ok-On.field-0-is c.in-Ok-On.ensures.done in
     let O = tried l s c.args.token.slot t s' _ (rw (← c.self.view_is) at (c.tries_next.ensures c.if-not-tries_next.false)) m in
     c.in_default.ensures.none _ O.held
+
+pub reserve_opening-requires-clause-few : goal.reserve_opening-requires-clause-few
+reserve_opening-requires-clause-few g c = c.self.invariant.few
+
+pub grow_to-requires-clause-few : goal.grow_to-requires-clause-few
+grow_to-requires-clause-few g c =
+    let C = c.reserve_opening.ensures.same in
+    omega (arith, length-becomes c.self.inside.posts.items c.reserve_opening.new.posts.items _ C.0 C.1 C.2, c.self.invariant.few)
