@@ -1,6 +1,11 @@
 //! What a service may do in a way.
 
-use orc_rules::value::Found;
+ghost use Rattle.std.specs.Prelude.{◌≡◌, ◌++◌, ◌∷◌, ◌+◌, [], IfOk, OnOk, map};
+ghost use Rattle.orc_ways.specs.Values.{histories_of, service_of};
+ghost use Rattle.orc_cases.specs.Choices.{all_choices, answers_of, begin, choices, each_followed, followed_by, off_first, one_answer, options, with_calls, with_replies};
+ghost use Rattle.orc_cases.specs.Values.{choice_of, choices_from};
+
+use orc_rules::value::{Answer, Found};
 use orc_ways::test::{Reply, Service};
 use std::alloc::{AllocError, Global};
 
@@ -24,23 +29,38 @@ impl Drop for Choice {
     }
 }
 
+/// Two numbers of calls together. There are no more calls than answers that they take, for which memory is refused before the sum is too large.
+pub(crate) fn sum(a: u64, b: u64) -> Result<u64, AllocError>
+    ensures { IfOk result (λ n. n ≡ a + b) }
+{
+    match a.checked_add(b) {
+        Some(sum) => Ok(sum),
+        None => Err(AllocError),
+    }
+}
+
 impl Choice {
-    // A call that does nothing yet.
-    fn begin(alloc: Global) -> Choice {
+    // Before the first answer, where so many calls are off.
+    fn begin(alloc: Global, off: u64) -> Choice
+        ensures { choice_of result ≡ begin off }
+    {
         Choice {
-            off: 0,
+            off,
             is_ranged: false,
             answers: Vec::new(alloc),
         }
     }
 
     // This choice, and behind it the other. The error is refused memory.
-    fn then(&self, alloc: Global, other: &Choice) -> Result<Choice, AllocError> {
+    fn followed_by(&self, alloc: Global, other: &Choice) -> Result<Choice, AllocError>
+        ensures { IfOk result (λ c. choice_of c ≡ followed_by (choice_of self.now) (choice_of other.now)) }
+    {
         let mut answers = Vec::new(alloc);
         answers.extend_from_slice(self.answers.as_slice())?;
         answers.extend_from_slice(other.answers.as_slice())?;
+        let off = sum(self.off, other.off)?;
         Ok(Choice {
-            off: self.off.saturating_add(other.off),
+            off,
             is_ranged: self.is_ranged || other.is_ranged,
             answers,
         })
@@ -48,87 +68,172 @@ impl Choice {
 }
 
 // A choice of one answer.
-fn single(alloc: Global, answer: Found, is_ranged: bool) -> Result<Choice, AllocError> {
+fn one_answer(alloc: Global, is_ranged: bool, answer: Found) -> Result<Choice, AllocError>
+    ensures { IfOk result (λ c. choice_of c ≡ one_answer is_ranged answer) }
+{
+    let mut answers = Vec::new(alloc);
+    answers.push(answer)?;
     Ok(Choice {
         off: 0,
         is_ranged,
-        answers: vec![in alloc; answer]?,
+        answers,
     })
 }
 
+// Adds an answer for each delay of a range, from its low end.
+#[tactic(auto, using(crate::proofs::Lists::range_end, crate::proofs::Lists::range_none))]
+fn add_delays(
+    alloc: Global,
+    all: &mut Vec<Choice>,
+    answer: Answer,
+    low: u64,
+    high: u64,
+) -> Result<(), AllocError>
+    ensures { OnOk result (choices_from all.new.items ≡ choices_from all.old.items ++ answers_of (Reply.Between answer low high)) }
+{
+    if low > high {
+        return Ok(());
+    }
+    let mut delay = low;
+    loop {
+        all.push(one_answer(alloc, low < high, Found::After(answer, delay))?)?;
+        if delay >= high {
+            return Ok(());
+        }
+        delay += 1;
+    }
+}
+
 // The answers that a reply stands for, from the low end of its range.
-fn answers_of(alloc: Global, reply: Reply) -> Result<Vec<Choice>, AllocError> {
+fn answers_of(alloc: Global, reply: Reply) -> Result<Vec<Choice>, AllocError>
+    ensures { IfOk result (λ cs. choices_from cs.items ≡ answers_of reply) }
+{
     let mut all = Vec::new(alloc);
     match reply {
-        Reply::Never => all.push(single(alloc, Found::Never, false)?)?,
-        Reply::Between(answer, low, high) => {
-            for delay in low..=high {
-                all.push(single(alloc, Found::After(answer, delay), low < high)?)?;
+        Reply::Never => all.push(one_answer(alloc, false, Found::Never)?)?,
+        Reply::Between(answer, low, high) => add_delays(alloc, &mut all, answer, low, high)?,
+    }
+    Ok(all)
+}
+
+// Adds a choice followed by each of others.
+fn add_followed(
+    alloc: Global,
+    all: &mut Vec<Choice>,
+    first: &Choice,
+    others: &[Choice],
+) -> Result<(), AllocError>
+    ensures { OnOk result (choices_from all.new.items ≡ choices_from all.old.items ++ map (followed_by (choice_of first.now)) (choices_from others.now)) }
+{
+    let mut rest = others;
+    loop {
+        match rest {
+            [] => return Ok(()),
+            [other, more @ ..] => {
+                all.push(first.followed_by(alloc, other)?)?;
+                rest = more;
             }
         }
     }
-    Ok(all)
 }
 
 // Each of some choices followed by each of others, the others the fastest.
-fn product(alloc: Global, some: &[Choice], others: &[Choice]) -> Result<Vec<Choice>, AllocError> {
+fn each_followed(
+    alloc: Global,
+    some: &[Choice],
+    others: &[Choice],
+) -> Result<Vec<Choice>, AllocError>
+    ensures { IfOk result (λ cs. choices_from cs.items ≡ each_followed (choices_from some.now) (choices_from others.now)) }
+{
     let mut all = Vec::new(alloc);
-    for first in some {
-        for second in others {
-            all.push(first.then(alloc, second)?)?;
+    let mut rest = some;
+    loop {
+        match rest {
+            [] => return Ok(all),
+            [first, more @ ..] => {
+                add_followed(alloc, &mut all, first, others)?;
+                rest = more;
+            }
         }
     }
-    Ok(all)
 }
 
-// What an alternative stands for. Where it isn't the first one, a call is off.
-fn histories(alloc: Global, replies: &[Reply], is_first: bool) -> Result<Vec<Choice>, AllocError> {
-    let mut begin = Choice::begin(alloc);
-    if !is_first {
-        begin.off = 1;
-    }
-    let mut all = vec![in alloc; begin]?;
-    for reply in replies {
-        let answers = answers_of(alloc, *reply)?;
-        all = product(alloc, all.as_slice(), answers.as_slice())?;
-    }
-    Ok(all)
-}
-
-// What its alternatives stand for, in their order.
-fn options(alloc: Global, service: &Service<'_>) -> Result<Vec<Choice>, AllocError> {
+// What an alternative stands for, with so many calls off.
+fn histories(alloc: Global, off: u64, replies: &[Reply]) -> Result<Vec<Choice>, AllocError>
+    ensures { IfOk result (λ cs. choices_from cs.items ≡ with_replies (begin off ∷ []) replies.now) }
+{
     let mut all = Vec::new(alloc);
-    for (at, replies) in service.alternatives.iter().enumerate() {
-        for choice in histories(alloc, replies.as_slice(), at == 0)? {
-            all.push(choice)?;
+    all.push(Choice::begin(alloc, off))?;
+    let mut rest = replies;
+    loop {
+        match rest {
+            [] => return Ok(all),
+            [reply, more @ ..] => {
+                let answers = answers_of(alloc, *reply)?;
+                all = each_followed(alloc, all.as_slice(), answers.as_slice())?;
+                rest = more;
+            }
         }
     }
-    Ok(all)
+}
+
+// What alternatives stand for, in their order. Where an alternative isn't the first one, a call is off.
+fn options(alloc: Global, alternatives: &[Vec<Reply>]) -> Result<Vec<Choice>, AllocError>
+    ensures { IfOk result (λ cs. choices_from cs.items ≡ options 0 (histories_of alternatives.now)) }
+{
+    let mut all = Vec::new(alloc);
+    let mut off = 0;
+    let mut rest = alternatives;
+    loop {
+        match rest {
+            [] => return Ok(all),
+            [replies, more @ ..] => {
+                let mut choices = histories(alloc, off, replies.as_slice())?;
+                all.append(&mut choices)?;
+                off = 1;
+                rest = more;
+            }
+        }
+    }
 }
 
 // What a service may do: each of its calls takes an alternative of its own.
-fn all_choices(alloc: Global, service: &Service<'_>) -> Result<Vec<Choice>, AllocError> {
-    let options = options(alloc, service)?;
-    let mut all = vec![in alloc; Choice::begin(alloc)]?;
-    for _ in 0..service.calls.max(1) {
-        all = product(alloc, all.as_slice(), options.as_slice())?;
+fn all_choices(alloc: Global, service: &Service<'_>) -> Result<Vec<Choice>, AllocError>
+    ensures { IfOk result (λ cs. choices_from cs.items ≡ all_choices (service_of service.now)) }
+{
+    let options = options(alloc, service.alternatives.as_slice())?;
+    let mut all = Vec::new(alloc);
+    all.push(Choice::begin(alloc, 0))?;
+    let mut left = service.calls.max(1);
+    while left > 0 {
+        all = each_followed(alloc, all.as_slice(), options.as_slice())?;
+        left -= 1;
     }
     Ok(all)
 }
 
-/// What a service may do, in the order of its alternatives, what is off before what is usual. The error is refused memory.
-pub(crate) fn choices(alloc: Global, service: &Service<'_>) -> Result<Vec<Choice>, AllocError> {
+// Those that are off first.
+fn off_first(alloc: Global, choices: Vec<Choice>) -> Result<Vec<Choice>, AllocError>
+    ensures { IfOk result (λ cs. choices_from cs.items ≡ off_first (choices_from choices.items)) }
+{
     let mut off = Vec::new(alloc);
     let mut usual = Vec::new(alloc);
-    for choice in all_choices(alloc, service)? {
+    for choice in choices {
         if choice.off > 0 {
             off.push(choice)?;
         } else {
             usual.push(choice)?;
         }
     }
-    for choice in usual {
-        off.push(choice)?;
-    }
+    off.append(&mut usual)?;
     Ok(off)
+}
+
+/// What a service may do, in the order of its alternatives, what is off before what is usual. The error is refused memory.
+#[tactic(auto, unfolding(crate::specs::Choices::choices))]
+pub(crate) fn choices(alloc: Global, service: &Service<'_>) -> Result<Vec<Choice>, AllocError>
+    ensures { IfOk result (λ cs. choices_from cs.items ≡ choices (service_of service.now)) }
+{
+    let all = all_choices(alloc, service)?;
+    off_first(alloc, all)
 }

@@ -2,12 +2,15 @@
 #![tactic(auto)]
 
 mod choices;
+mod frame;
+pub mod laws;
 mod lines;
 mod sizes;
 #[cfg(test)]
 mod tests;
 mod text;
 mod ways;
+mod weights;
 
 pub use orc_ways::limits::MOST_WAYS;
 pub use ways::Ways;

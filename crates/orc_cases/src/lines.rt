@@ -1,34 +1,96 @@
 //! The lines of a case.
 
+ghost use Rattle.std.specs.Prelude.{◌≡◌, ◌++◌, IfOk, OnOk, map, option_map, slice_get};
+ghost use Rattle.std.specs.List.{list_any};
+ghost use Rattle.orc_ways.specs.Values.{service_of};
+ghost use Rattle.orc_ways.specs.Drafting.{service_line_of, service_lines_of};
+ghost use Rattle.orc_cases.specs.Services.{has_name, is_kept, is_own, is_same, kept, names, new_names, own, services_of, slot_eq, slots_eq};
+ghost use Rattle.orc_cases.specs.Values.{service_there, services_at};
+
 use orc_claims::claim::Slot;
 use orc_ways::test::{Service, ServiceLine};
 use std::alloc::{AllocError, Global};
 
-fn same_patterns(a: &[Slot], b: &[Slot]) -> bool {
-    if a.len() != b.len() {
-        return false;
+fn same_pattern(a: Slot, b: Slot) -> bool
+    ensures { result ≡ slot_eq a b }
+{
+    match (a, b) {
+        (Slot::Any, Slot::Any) => true,
+        (Slot::Literal(v), Slot::Literal(w)) => v == w,
+        (Slot::Variable(x), Slot::Variable(y)) => x == y,
+        _ => false,
     }
-    for (slot, other) in a.iter().zip(b) {
-        if slot != other {
-            return false;
-        }
-    }
-    true
 }
 
-// Whether one of a case's own services, which stand at these places, has the name and the patterns.
-fn is_overridden(services: &[ServiceLine<'_>], own: &[usize], given: &Service<'_>) -> bool {
-    for place in own {
-        if let Some(line) = services.get(*place) {
-            let service = &line.service;
-            if service.name == given.name
-                && same_patterns(service.patterns.as_slice(), given.patterns.as_slice())
-            {
-                return true;
+fn same_patterns(a: &[Slot], b: &[Slot]) -> bool
+    ensures { result ≡ slots_eq a.now b.now }
+{
+    let mut rest = a;
+    let mut others = b;
+    loop {
+        match rest {
+            [] => return others.is_empty(),
+            [slot, more @ ..] => match others {
+                [] => return false,
+                [other, behind @ ..] => {
+                    if !same_pattern(*slot, *other) {
+                        return false;
+                    }
+                    rest = more;
+                    others = behind;
+                }
+            },
+        }
+    }
+}
+
+// Whether both have the same name and the same patterns.
+fn is_same(a: &Service<'_>, b: &Service<'_>) -> bool
+    ensures { result ≡ is_same (service_of a.now) (service_of b.now) }
+{
+    a.name == b.name && same_patterns(a.patterns.as_slice(), b.patterns.as_slice())
+}
+
+fn is_own(case: usize, of: Option<usize>) -> bool
+    ensures { result ≡ is_own case of }
+{
+    match of {
+        Some(place) => place == case,
+        None => false,
+    }
+}
+
+/// The service of the line at a place, if there is one.
+pub(crate) fn service_at<'s, 'a>(
+    services: &'s [ServiceLine<'a>],
+    place: usize,
+) -> Option<&'s Service<'a>>
+    ensures { option_map (λ s. service_of s.now) result ≡ service_there (slice_get services.now place) }
+{
+    match services.get(place) {
+        Some(line) => Some(&line.service),
+        None => None,
+    }
+}
+
+// Whether one of the services at these places has the name and the patterns of this one.
+fn is_overridden(services: &[ServiceLine<'_>], places: &[usize], service: &Service<'_>) -> bool
+    ensures { result ≡ list_any (is_same (service_of service.now)) (services_at services.now places.now) }
+{
+    let mut rest = places;
+    loop {
+        match rest {
+            [] => return false,
+            [place, more @ ..] => {
+                if let Some(other) = service_at(services, *place) {
+                    if is_same(service, other) {
+                        return true;
+                    }
+                }
+                rest = more;
             }
         }
     }
-    false
 }
 
 // The places of a case's own services.
@@ -36,14 +98,39 @@ fn own_places(
     alloc: Global,
     services: &[ServiceLine<'_>],
     case: usize,
-) -> Result<Vec<usize>, AllocError> {
-    let mut own = Vec::new(alloc);
+) -> Result<Vec<usize>, AllocError>
+    ensures { IfOk result (λ places. services_at services.now places.items ≡ own case (service_lines_of services.now)) }
+{
+    let mut places = Vec::new(alloc);
     for (place, line) in services.iter().enumerate() {
-        if line.case == Some(case) {
-            own.push(place)?;
+        if is_own(case, line.case) {
+            places.push(place)?;
         }
     }
-    Ok(own)
+    Ok(places)
+}
+
+// Whether a line is one of `given`, and none of the services at these places has its name and its patterns.
+fn is_kept(services: &[ServiceLine<'_>], own: &[usize], line: &ServiceLine<'_>) -> bool
+    ensures { result ≡ is_kept (services_at services.now own.now) (service_line_of line.now) }
+{
+    line.case.is_none() && !is_overridden(services, own, &line.service)
+}
+
+// Adds the places of the services of `given` that none of those at these places overrides.
+fn add_kept(
+    services: &[ServiceLine<'_>],
+    own: &[usize],
+    places: &mut Vec<usize>,
+) -> Result<(), AllocError>
+    ensures { OnOk result (services_at services.now places.new.items ≡ services_at services.now places.old.items ++ kept (services_at services.now own.now) (service_lines_of services.now)) }
+{
+    for (place, line) in services.iter().enumerate() {
+        if is_kept(services, own, line) {
+            places.push(place)?;
+        }
+    }
+    Ok(())
 }
 
 /// The places of the services of a case: its own in their order, then those of `given` that don't have the name and the patterns of one of its own. The
@@ -52,25 +139,54 @@ pub(crate) fn case_places(
     alloc: Global,
     services: &[ServiceLine<'_>],
     case: usize,
-) -> Result<Vec<usize>, AllocError> {
+) -> Result<Vec<usize>, AllocError>
+    ensures { IfOk result (λ places. services_at services.now places.items ≡ services_of case (service_lines_of services.now)) }
+{
     let own = own_places(alloc, services, case)?;
     let mut places = Vec::new(alloc);
     places.extend_from_slice(own.as_slice())?;
-    for (place, line) in services.iter().enumerate() {
-        if line.case.is_none() && !is_overridden(services, own.as_slice(), &line.service) {
-            places.push(place)?;
-        }
-    }
+    add_kept(services, own.as_slice(), &mut places)?;
     Ok(places)
 }
 
-fn has_name(names: &[&[u8]], name: &[u8]) -> bool {
-    for other in names {
-        if *other == name {
-            return true;
+fn has_name(names: &[&[u8]], name: &[u8]) -> bool
+    ensures { result ≡ has_name (map (λ n. n.now) names.now) name.now }
+{
+    let mut rest = names;
+    loop {
+        match rest {
+            [] => return false,
+            [other, more @ ..] => {
+                if *other == name {
+                    return true;
+                }
+                rest = more;
+            }
         }
     }
-    false
+}
+
+// The names of the services at these places.
+fn names_at<'a>(
+    alloc: Global,
+    services: &[ServiceLine<'a>],
+    places: &[usize],
+) -> Result<Vec<&'a [u8]>, AllocError>
+    ensures { IfOk result (λ ns. map (λ n. n.now) ns.items ≡ names (services_at services.now places.now)) }
+{
+    let mut found: Vec<&'a [u8]> = Vec::new(alloc);
+    let mut rest = places;
+    loop {
+        match rest {
+            [] => return Ok(found),
+            [place, more @ ..] => {
+                if let Some(service) = service_at(services, *place) {
+                    found.push(service.name)?;
+                }
+                rest = more;
+            }
+        }
+    }
 }
 
 /// The names of services that none at these places has, each once. The error is refused memory.
@@ -78,20 +194,23 @@ pub(crate) fn other_names<'a>(
     alloc: Global,
     services: &[ServiceLine<'a>],
     places: &[usize],
-) -> Result<Vec<&'a [u8]>, AllocError> {
-    let mut seen: Vec<&'a [u8]> = Vec::new(alloc);
-    for place in places {
-        if let Some(line) = services.get(*place) {
-            seen.push(line.service.name)?;
-        }
-    }
+) -> Result<Vec<&'a [u8]>, AllocError>
+    ensures { IfOk result (λ ns. map (λ n. n.now) ns.items ≡ new_names (names (services_at services.now places.now)) (map (λ l. l.service) (service_lines_of services.now))) }
+{
+    let mut seen = names_at(alloc, services, places)?;
     let mut others = Vec::new(alloc);
-    for line in services {
-        let name = line.service.name;
-        if !has_name(seen.as_slice(), name) {
-            seen.push(name)?;
-            others.push(name)?;
+    let mut rest = services;
+    loop {
+        match rest {
+            [] => return Ok(others),
+            [line, more @ ..] => {
+                let name = line.service.name;
+                if !has_name(seen.as_slice(), name) {
+                    seen.push(name)?;
+                    others.push(name)?;
+                }
+                rest = more;
+            }
         }
     }
-    Ok(others)
 }

@@ -1,21 +1,37 @@
-//! How many answers there are, in numbers that stop above `MOST_WAYS`.
+//! How many ways there are, in numbers that stop above `MOST_WAYS`.
 
+ghost use Rattle.std.specs.Prelude.{◌≡◌, length};
+ghost use Rattle.orc_ways.specs.Values.{histories_of, service_of};
+ghost use Rattle.orc_cases.specs.Choices.{answers_of};
+ghost use Rattle.orc_cases.specs.Sizes.{capped, history_from, options_from, plus, service_capped, times, ways_from_size};
+ghost use Rattle.orc_cases.specs.Values.{services_at};
+
+use crate::lines::service_at;
 use orc_ways::limits::MOST_WAYS;
 use orc_ways::test::{Reply, Service, ServiceLine};
 
 /// Stands for each number above `MOST_WAYS`.
 const MANY: u64 = MOST_WAYS + 1;
 
-fn times(a: u64, b: u64) -> u64 {
+#[tactic(auto, unfolding(crate::specs::Sizes::capped, crate::specs::Sizes::times))]
+fn times(a: u64, b: u64) -> u64
+    ensures { result ≡ times a b }
+{
     a.saturating_mul(b).min(MANY)
 }
 
-fn plus(a: u64, b: u64) -> u64 {
+#[tactic(auto, unfolding(crate::specs::Sizes::capped, crate::specs::Sizes::plus))]
+fn plus(a: u64, b: u64) -> u64
+    ensures { result ≡ plus a b }
+{
     a.saturating_add(b).min(MANY)
 }
 
 // How many answers a reply stands for.
-fn reply_size(reply: Reply) -> u64 {
+#[tactic(auto, using(crate::proofs::Sizing::range_size, crate::proofs::Sizing::no_range), unfolding(crate::specs::Sizes::capped, crate::specs::Sizes::plus))]
+fn reply_size(reply: Reply) -> u64
+    ensures { result ≡ capped (length (answers_of reply)) }
+{
     match reply {
         Reply::Never => 1,
         Reply::Between(_, low, high) => { if low <= high { plus(high - low, 1) } else { 0 } }
@@ -23,45 +39,68 @@ fn reply_size(reply: Reply) -> u64 {
 }
 
 // How many histories an alternative stands for.
-fn history_size(replies: &[Reply]) -> u64 {
+fn history_size(replies: &[Reply]) -> u64
+    ensures { result ≡ history_from 1 replies.now }
+{
     let mut size = 1;
-    for reply in replies {
-        size = times(size, reply_size(*reply));
+    let mut rest = replies;
+    loop {
+        match rest {
+            [] => return size,
+            [reply, more @ ..] => {
+                size = times(size, reply_size(*reply));
+                rest = more;
+            }
+        }
     }
-    size
 }
 
 // How many histories alternatives stand for together.
-fn options_size(alternatives: &[Vec<Reply>]) -> u64 {
+fn options_size(alternatives: &[Vec<Reply>]) -> u64
+    ensures { result ≡ options_from 0 (histories_of alternatives.now) }
+{
     let mut size = 0;
-    for replies in alternatives {
-        size = plus(size, history_size(replies.as_slice()));
+    let mut rest = alternatives;
+    loop {
+        match rest {
+            [] => return size,
+            [replies, more @ ..] => {
+                size = plus(size, history_size(replies.as_slice()));
+                rest = more;
+            }
+        }
     }
-    size
 }
 
-// How many calls of a service take an alternative of their own.
-fn calls(service: &Service<'_>) -> usize {
-    service.calls.max(1)
-}
-
-/// How many histories a service has.
-fn line_size(service: &Service<'_>) -> u64 {
+// How much a service may do.
+fn service_size(service: &Service<'_>) -> u64
+    ensures { result ≡ service_capped (service_of service.now) }
+{
     let options = options_size(service.alternatives.as_slice());
     let mut size = 1;
-    for _ in 0..calls(service) {
+    let mut left = service.calls.max(1);
+    while left > 0 {
         size = times(size, options);
+        left -= 1;
     }
     size
 }
 
 /// How many ways the services at these places have together.
-pub(crate) fn ways_size(services: &[ServiceLine<'_>], places: &[usize]) -> u64 {
+pub(crate) fn ways_size(services: &[ServiceLine<'_>], places: &[usize]) -> u64
+    ensures { result ≡ ways_from_size 1 (services_at services.now places.now) }
+{
     let mut size = 1;
-    for place in places {
-        if let Some(line) = services.get(*place) {
-            size = times(size, line_size(&line.service));
+    let mut rest = places;
+    loop {
+        match rest {
+            [] => return size,
+            [place, more @ ..] => {
+                if let Some(service) = service_at(services, *place) {
+                    size = times(size, service_size(service));
+                }
+                rest = more;
+            }
         }
     }
-    size
 }

@@ -1,10 +1,16 @@
 //! The text of a script's lines.
 
+ghost use Rattle.std.specs.Prelude.{◌≡◌, ◌++◌, OnOk, map, codes};
+ghost use Rattle.orc_rules.specs.Text.{value_text};
+ghost use Rattle.orc_cases.specs.Texts.{after_text, answer_text, answers_text, closing, halts_text, more_answers, pattern_text, patterns_text};
+
 use orc_claims::claim::Slot;
 use orc_rules::value::{Answer, Found, Value};
 use std::alloc::AllocError;
 
-fn push_value(out: &mut Vec<u8>, value: Value) -> Result<(), AllocError> {
+fn push_value(out: &mut Vec<u8>, value: Value) -> Result<(), AllocError>
+    ensures { OnOk result (out.new.items ≡ out.old.items ++ value_text value) }
+{
     match value {
         Value::Number(number) => {
             let mut buffer = itoa::Buffer::new();
@@ -16,27 +22,48 @@ fn push_value(out: &mut Vec<u8>, value: Value) -> Result<(), AllocError> {
     }
 }
 
-fn push_pattern(out: &mut Vec<u8>, pattern: Slot) -> Result<(), AllocError> {
+fn push_pattern(out: &mut Vec<u8>, pattern: Slot) -> Result<(), AllocError>
+    ensures { OnOk result (out.new.items ≡ out.old.items ++ pattern_text pattern) }
+{
     match pattern {
         Slot::Literal(value) => push_value(out, value),
-        _ => out.extend_from_slice(b"_"),
+        Slot::Any | Slot::Variable(_) => out.extend_from_slice(b"_"),
     }
 }
 
-fn push_patterns(out: &mut Vec<u8>, patterns: &[Slot]) -> Result<(), AllocError> {
-    let mut lead: &[u8] = b"(";
-    for pattern in patterns {
-        out.extend_from_slice(lead)?;
-        push_pattern(out, *pattern)?;
-        lead = b", ";
+// Patterns behind the first one, and the bracket.
+fn push_closing(out: &mut Vec<u8>, patterns: &[Slot]) -> Result<(), AllocError>
+    ensures { OnOk result (out.new.items ≡ out.old.items ++ closing patterns.now) }
+{
+    let mut rest = patterns;
+    loop {
+        match rest {
+            [] => return out.extend_from_slice(b")"),
+            [pattern, more @ ..] => {
+                out.extend_from_slice(b", ")?;
+                push_pattern(out, *pattern)?;
+                rest = more;
+            }
+        }
     }
-    if patterns.is_empty() {
-        out.extend_from_slice(b"(")?;
-    }
-    out.extend_from_slice(b")")
 }
 
-fn push_after(out: &mut Vec<u8>, delay: u64) -> Result<(), AllocError> {
+fn push_patterns(out: &mut Vec<u8>, patterns: &[Slot]) -> Result<(), AllocError>
+    ensures { OnOk result (out.new.items ≡ out.old.items ++ patterns_text patterns.now) }
+{
+    match patterns {
+        [] => out.extend_from_slice(b"()"),
+        [pattern, more @ ..] => {
+            out.extend_from_slice(b"(")?;
+            push_pattern(out, *pattern)?;
+            push_closing(out, more)
+        }
+    }
+}
+
+fn push_after(out: &mut Vec<u8>, delay: u64) -> Result<(), AllocError>
+    ensures { OnOk result (out.new.items ≡ out.old.items ++ after_text delay) }
+{
     if delay == 0 {
         return Ok(());
     }
@@ -45,7 +72,9 @@ fn push_after(out: &mut Vec<u8>, delay: u64) -> Result<(), AllocError> {
     out.extend_from_slice(buffer.format(delay).as_bytes())
 }
 
-fn push_answer(out: &mut Vec<u8>, answer: Found) -> Result<(), AllocError> {
+fn push_answer(out: &mut Vec<u8>, answer: Found) -> Result<(), AllocError>
+    ensures { OnOk result (out.new.items ≡ out.old.items ++ answer_text answer) }
+{
     match answer {
         Found::Never => out.extend_from_slice(b"never"),
         Found::After(Answer::Halt, delay) => {
@@ -59,32 +88,58 @@ fn push_answer(out: &mut Vec<u8>, answer: Found) -> Result<(), AllocError> {
     }
 }
 
-/// Writes the rest of a line of a script behind its call: what answers it.
-pub(crate) fn push_answers(out: &mut Vec<u8>, answers: &[Found]) -> Result<(), AllocError> {
-    let mut lead: &[u8] = b" = ";
-    for answer in answers {
-        out.extend_from_slice(lead)?;
-        push_answer(out, *answer)?;
-        lead = b" then ";
+// Answers behind the first one, to the end of the line.
+fn push_more_answers(out: &mut Vec<u8>, answers: &[Found]) -> Result<(), AllocError>
+    ensures { OnOk result (out.new.items ≡ out.old.items ++ more_answers answers.now) }
+{
+    let mut rest = answers;
+    loop {
+        match rest {
+            [] => return out.extend_from_slice(b"\n"),
+            [answer, more @ ..] => {
+                out.extend_from_slice(b" then ")?;
+                push_answer(out, *answer)?;
+                rest = more;
+            }
+        }
     }
-    out.extend_from_slice(b"\n")
 }
 
-/// Writes a call of a script's line: its name and its patterns.
-pub(crate) fn push_call(
-    out: &mut Vec<u8>,
-    name: &[u8],
-    patterns: &[Slot],
-) -> Result<(), AllocError> {
+/// Writes the rest of a line of a script behind its call: what answers it. The error is refused memory.
+pub(crate) fn push_answers(out: &mut Vec<u8>, answers: &[Found]) -> Result<(), AllocError>
+    ensures { OnOk result (out.new.items ≡ out.old.items ++ answers_text answers.now) }
+{
+    match answers {
+        [] => out.extend_from_slice(b"\n"),
+        [answer, more @ ..] => {
+            out.extend_from_slice(b" = ")?;
+            push_answer(out, *answer)?;
+            push_more_answers(out, more)
+        }
+    }
+}
+
+/// Writes a call of a script's line: its name and its patterns. The error is refused memory.
+pub(crate) fn push_call(out: &mut Vec<u8>, name: &[u8], patterns: &[Slot]) -> Result<(), AllocError>
+    ensures { OnOk result (out.new.items ≡ out.old.items ++ (name.now ++ patterns_text patterns.now)) }
+{
     out.extend_from_slice(name)?;
     push_patterns(out, patterns)
 }
 
-/// Writes a line for each of these names, with which its calls without arguments halt.
-pub(crate) fn push_halts(out: &mut Vec<u8>, names: &[&[u8]]) -> Result<(), AllocError> {
-    for name in names {
-        out.extend_from_slice(name)?;
-        out.extend_from_slice(b"() = halt\n")?;
+/// Writes a line for each of these names, with which its calls without arguments halt. The error is refused memory.
+pub(crate) fn push_halts(out: &mut Vec<u8>, names: &[&[u8]]) -> Result<(), AllocError>
+    ensures { OnOk result (out.new.items ≡ out.old.items ++ halts_text (map (λ n. n.now) names.now)) }
+{
+    let mut rest = names;
+    loop {
+        match rest {
+            [] => return Ok(()),
+            [name, more @ ..] => {
+                out.extend_from_slice(name)?;
+                out.extend_from_slice(b"() = halt\n")?;
+                rest = more;
+            }
+        }
     }
-    Ok(())
 }

@@ -1,165 +1,90 @@
 //! The ways of a case.
 
-use crate::choices::{Choice, choices};
-use crate::lines::{case_places, other_names};
+ghost use Rattle.std.specs.Prelude.{◌≡◌, IfOk, length, map};
+ghost use Rattle.orc_ways.specs.Drafting.{test_of};
+ghost use Rattle.orc_cases.specs.Cases.{case_at};
+ghost use Rattle.orc_cases.specs.Values.{IsCounted, IsOrdered, ways_from};
+ghost use Rattle.orc_cases.specs.Ways.{CaseWays, choices_of, combinations, scripts, unusual, ways, ways_of};
+
+use crate::frame::{Frame, halts_of, lines_of};
+use crate::lines::case_places;
 use crate::sizes::ways_size;
-use crate::text::{push_answers, push_call, push_halts};
+use crate::weights::{in_order, weights_of};
 use orc_ways::limits::MOST_WAYS;
-use orc_ways::test::{Service, Test};
+use orc_ways::test::{ServiceLine, Test};
 use std::alloc::{AllocError, Global};
-
-/// A line of the script of each way: what stands before its `=`, and what its service may do.
-#[derive(Drop)]
-struct Line {
-    call: Vec<u8>,
-    choices: Vec<Choice>,
-}
-
-/// A way, by the number that its choices make as digits, the last line's the lowest, and what it is sorted by.
-#[derive(Clone, Copy, PartialEq, Eq, PartialOrd, Ord)]
-struct Place {
-    /// How many lines are off.
-    lines: u64,
-    /// How many calls are off.
-    calls: u64,
-    number: u64,
-}
+use std::marker::Model;
 
 /// The ways of a case: first those with fewer lines that are off, which is that a call doesn't take the first alternative; of these those with fewer calls
 /// that are off; and of these, as the lines stand, a line that is off comes before the same line usual, and ranges run from their low ends.
+#[derive(Drop)]
 pub struct Ways {
-    lines: Vec<Line>,
-    places: Vec<Place>,
-    /// The lines of the services of the test that have none in the case.
-    halts: Vec<u8>,
+    frame: Frame,
+    numbers: Vec<usize>,
 }
 
-impl Drop for Ways {
-    fn drop(self) {
-        let Ways {
-            lines: _,
-            places: _,
-            halts: _,
-        } = self;
-    }
+impl Model for Ways {
+    ghost Value = { CaseWays };
+
+    ghost view = { λ w. ways_from w.frame };
+
+    ghost invariant = { λ w. IsOrdered w.frame w.numbers.items };
 }
 
-fn line_of(alloc: Global, service: &Service<'_>) -> Result<Line, AllocError> {
-    let mut call = Vec::new(alloc);
-    push_call(&mut call, service.name, service.patterns.as_slice())?;
-    Ok(Line {
-        call,
-        choices: choices(alloc, service)?,
-    })
+// The numbers of the ways, in their order.
+fn numbers_of(alloc: Global, frame: &Frame) -> Result<Vec<usize>, AllocError>
+    requires { IsCounted frame.now }
+    ensures { IfOk result (λ ns. IsOrdered frame.now ns.items) }
+{
+    let lines = frame.lines.as_slice();
+    let weights = weights_of(alloc, lines)?;
+    let weighed = weights.as_slice();
+    let numbers = in_order(alloc, weighed)?;
+    Ok(numbers)
 }
 
-// The lines of the services at these places, each with what it may do.
-fn lines_of(alloc: Global, test: &Test<'_>, places: &[usize]) -> Result<Vec<Line>, AllocError> {
-    let mut lines = Vec::new(alloc);
-    for place in places {
-        if let Some(line) = test.services.get(*place) {
-            lines.push(line_of(alloc, &line.service)?)?;
-        }
-    }
-    Ok(lines)
-}
-
-// Where each way stands, in their order.
-fn places_of(alloc: Global, lines: &[Line], count: u64) -> Result<Vec<Place>, AllocError> {
-    let mut places = Vec::new(alloc);
-    for number in 0..count {
-        places.push(place_of(alloc, lines, number)?)?;
-    }
-    places.sort()?;
-    Ok(places)
-}
-
-// The lines of the services that have none at these places.
-fn halts_of(alloc: Global, test: &Test<'_>, places: &[usize]) -> Result<Vec<u8>, AllocError> {
-    let names = other_names(alloc, test.services.as_slice(), places)?;
-    let mut halts = Vec::new(alloc);
-    push_halts(&mut halts, names.as_slice())?;
-    Ok(halts)
-}
-
-// What each line does in the way of this number, the last line first. The error is refused memory.
-fn taken<'l>(alloc: Global, lines: &'l [Line], number: u64) -> Result<Vec<&'l Choice>, AllocError> {
-    let mut taken = Vec::new(alloc);
-    let mut rest = number;
-    for line in lines.iter().rev() {
-        let size = line.choices.len() as u64;
-        if size > 0 {
-            if let Some(choice) = line.choices.get((rest % size) as usize) {
-                taken.push(choice)?;
-            }
-            rest /= size;
-        }
-    }
-    Ok(taken)
-}
-
-// Where the way of this number stands.
-fn place_of(alloc: Global, lines: &[Line], number: u64) -> Result<Place, AllocError> {
-    let mut place = Place {
-        lines: 0,
-        calls: 0,
-        number,
+// The ways of the services at these places, which may take one choice each in so many ways.
+fn of_places(
+    alloc: Global,
+    services: &[ServiceLine<'_>],
+    places: &[usize],
+    count: usize,
+) -> Result<Ways, AllocError>
+    requires { count ≡ length (combinations (choices_of (case_at services.now places.now).lines)) }
+    ensures { IfOk result (λ w. w ≡ case_at services.now places.now) }
+{
+    let lines = lines_of(alloc, services, places)?;
+    let halts = halts_of(alloc, services, places)?;
+    let frame = Frame {
+        lines,
+        halts,
+        count,
     };
-    for choice in taken(alloc, lines, number)? {
-        if choice.off > 0 {
-            place.lines = place.lines.saturating_add(1);
-            place.calls = place.calls.saturating_add(choice.off);
-        }
-    }
-    Ok(place)
+    let numbers = numbers_of(alloc, &frame)?;
+    Ok(Ways { frame, numbers })
 }
 
 impl Ways {
     /// The ways of the case at this place among the test's cases. None where they are over `MOST_WAYS`, which is T6. The error is refused memory.
-    pub fn of_case(
-        alloc: Global,
-        test: &Test<'_>,
-        case: usize,
-    ) -> Result<Option<Ways>, AllocError> {
-        let services = case_places(alloc, test.services.as_slice(), case)?;
-        let places = services.as_slice();
-        let count = ways_size(test.services.as_slice(), places);
-        if count > MOST_WAYS {
+    pub fn of_case(alloc: Global, test: &Test<'_>, case: usize) -> Result<Option<Ways>, AllocError>
+        ensures { IfOk result (λ w. w ≡ ways_of (test_of test.now) case) }
+    {
+        let services = test.services.as_slice();
+        let found = case_places(alloc, services, case)?;
+        let places = found.as_slice();
+        let size = ways_size(services, places);
+        if size > MOST_WAYS {
             return Ok(None);
         }
-        let halts = halts_of(alloc, test, places)?;
-        let lines = lines_of(alloc, test, places)?;
-        let places = places_of(alloc, lines.as_slice(), count)?;
-        Ok(Some(Ways {
-            lines,
-            places,
-            halts,
-        }))
+        let ways = of_places(alloc, services, places, size as usize)?;
+        Ok(Some(ways))
     }
 
     /// How many ways there are.
-    pub fn count(&self) -> u64 {
-        self.places.len() as u64
-    }
-
-    // The lines of the script of the way at a place, or those alone that tell it from other ways. The error is refused memory.
-    fn way_lines(
-        &self,
-        alloc: Global,
-        place: Place,
-        only_shown: bool,
-    ) -> Result<Vec<u8>, AllocError> {
-        let mut choices = taken(alloc, self.lines.as_slice(), place.number)?;
-        let mut text = Vec::new(alloc);
-        for line in &self.lines {
-            if let Some(choice) = choices.pop() {
-                if !only_shown || choice.off > 0 || choice.is_ranged {
-                    text.extend_from_slice(line.call.as_slice())?;
-                    push_answers(&mut text, choice.answers.as_slice())?;
-                }
-            }
-        }
-        Ok(text)
+    pub fn count(&self) -> u64
+        ensures { result ≡ length (ways self.now) }
+    {
+        self.numbers.as_slice().len() as u64
     }
 
     /// The scripts of the first ways, so many at most: in each the lines of the case's services, a line for each other service of the test, and these lines
@@ -169,23 +94,26 @@ impl Ways {
         alloc: Global,
         most: u64,
         behind: &[u8],
-    ) -> Result<Vec<Vec<u8>>, AllocError> {
-        let mut scripts = Vec::new(alloc);
-        for place in self.places.iter().take(most as usize) {
-            let mut text = self.way_lines(alloc, *place, false)?;
-            text.extend_from_slice(self.halts.as_slice())?;
-            text.extend_from_slice(behind)?;
-            scripts.push(text)?;
-        }
+    ) -> Result<Vec<Vec<u8>>, AllocError>
+        ensures { IfOk result (λ ts. map (λ t. t.items) ts.items ≡ scripts self.now most behind.now) }
+    {
+        let numbers = self.numbers.as_slice();
+        let tried = numbers.len().min(most as usize);
+        let scripts = self.frame.scripts(alloc, &numbers[..tried], behind)?;
         Ok(scripts)
     }
 
     /// Those lines of the script of the way with this number, from 0, that tell it from other ways: they are off, or take an alternative with a range. None
     /// where there is no such way. The error is refused memory.
-    pub fn unusual(&self, alloc: Global, number: u64) -> Result<Vec<u8>, AllocError> {
-        match self.places.get(number as usize) {
-            Some(place) => self.way_lines(alloc, *place, true),
-            None => Ok(Vec::new(alloc)),
+    pub fn unusual(&self, alloc: Global, number: u64) -> Result<Vec<u8>, AllocError>
+        ensures { IfOk result (λ t. t.items ≡ unusual self.now number) }
+    {
+        let numbers = self.numbers.as_slice();
+        let place = number as usize;
+        if place >= numbers.len() {
+            return Ok(Vec::new(alloc));
         }
+        let way = self.frame.way(alloc, numbers[place], true)?;
+        Ok(way)
     }
 }

@@ -1,0 +1,12 @@
+pub mod Lists
+pub mod Capped
+pub mod Sizing
+pub mod Lengths
+pub mod Weighing
+pub mod Ordering
+pub mod Numbers
+pub mod Places
+pub mod Steps
+pub mod Limit
+pub mod Once
+pub mod Cases

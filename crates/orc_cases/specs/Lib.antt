@@ -1,0 +1,11 @@
+pub mod Services
+pub mod Choices
+pub mod Texts
+pub mod Ways
+pub mod Places
+pub mod Weights
+pub mod Sizes
+pub mod Digits
+pub mod Values
+pub mod Laws
+pub mod Cases

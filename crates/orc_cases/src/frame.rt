@@ -1,0 +1,186 @@
+//! What the scripts of a case have in common.
+
+ghost use Rattle.std.specs.Prelude.{◌≡◌, ◌++◌, ◌<◌, IfOk, OnOk, length, map};
+ghost use Rattle.orc_ways.specs.Values.{service_of};
+ghost use Rattle.orc_ways.specs.Drafting.{service_lines_of};
+ghost use Rattle.orc_cases.specs.Digits.{way_at};
+ghost use Rattle.orc_cases.specs.Places.{AreBelow};
+ghost use Rattle.orc_cases.specs.Services.{names, new_names};
+ghost use Rattle.orc_cases.specs.Texts.{answers_text, halts_text};
+ghost use Rattle.orc_cases.specs.Values.{IsCounted, all_choices_of, choice_of, line_from, lines_from, services_at, ways_from};
+ghost use Rattle.orc_cases.specs.Ways.{combinations, is_shown, line_of, line_text, lines_text, script_text};
+
+use crate::choices::{Choice, choices};
+use crate::lines::{other_names, service_at};
+use crate::text::{push_answers, push_call, push_halts};
+use orc_ways::test::{Service, ServiceLine};
+use std::alloc::{AllocError, Global};
+
+/// A line of the script of each way: what stands before its `=`, and what its service may do.
+#[derive(Drop)]
+pub(crate) struct Line {
+    pub(crate) call: Vec<u8>,
+    pub(crate) choices: Vec<Choice>,
+}
+
+/// What the scripts of a case have in common.
+#[derive(Drop)]
+pub(crate) struct Frame {
+    pub(crate) lines: Vec<Line>,
+    /// The lines of the services of the test that have none in the case.
+    pub(crate) halts: Vec<u8>,
+    /// In how many ways the lines may take one choice each. Each way has a number below, whose digits are the places of its choices, the last line's the lowest.
+    pub(crate) count: usize,
+}
+
+fn line_of(alloc: Global, service: &Service<'_>) -> Result<Line, AllocError>
+    ensures { IfOk result (λ l. line_from l ≡ line_of (service_of service.now)) }
+{
+    let mut call = Vec::new(alloc);
+    push_call(&mut call, service.name, service.patterns.as_slice())?;
+    let choices = choices(alloc, service)?;
+    Ok(Line { call, choices })
+}
+
+/// The lines of the services at these places, each with what it may do. The error is refused memory.
+pub(crate) fn lines_of(
+    alloc: Global,
+    services: &[ServiceLine<'_>],
+    places: &[usize],
+) -> Result<Vec<Line>, AllocError>
+    ensures { IfOk result (λ ls. lines_from ls.items ≡ map line_of (services_at services.now places.now)) }
+{
+    let mut lines = Vec::new(alloc);
+    let mut rest = places;
+    loop {
+        match rest {
+            [] => return Ok(lines),
+            [place, more @ ..] => {
+                if let Some(service) = service_at(services, *place) {
+                    lines.push(line_of(alloc, service)?)?;
+                }
+                rest = more;
+            }
+        }
+    }
+}
+
+/// The lines of the services that have none at these places. The error is refused memory.
+pub(crate) fn halts_of(
+    alloc: Global,
+    services: &[ServiceLine<'_>],
+    places: &[usize],
+) -> Result<Vec<u8>, AllocError>
+    ensures { IfOk result (λ t. t.items ≡ halts_text (new_names (names (services_at services.now places.now)) (map (λ l. l.service) (service_lines_of services.now)))) }
+{
+    let names = other_names(alloc, services, places)?;
+    let mut halts = Vec::new(alloc);
+    push_halts(&mut halts, names.as_slice())?;
+    Ok(halts)
+}
+
+fn is_shown(only_telling: bool, choice: &Choice) -> bool
+    ensures { result ≡ is_shown only_telling (choice_of choice.now) }
+{
+    !only_telling || choice.off > 0 || choice.is_ranged
+}
+
+// Writes a line with what it does, if it is shown.
+fn push_line(
+    text: &mut Vec<u8>,
+    line: &Line,
+    choice: &Choice,
+    only_telling: bool,
+) -> Result<(), AllocError>
+    ensures { OnOk result (text.new.items ≡ text.old.items ++ line_text only_telling (line_from line.now) (choice_of choice.now)) }
+{
+    if !is_shown(only_telling, choice) {
+        return Ok(());
+    }
+    text.extend_from_slice(line.call.as_slice())?;
+    push_answers(text, choice.answers.as_slice())
+}
+
+// Writes the lines of the way of this number, which is below so many; or those lines alone that tell it from other ways.
+fn push_way(
+    text: &mut Vec<u8>,
+    lines: &[Line],
+    count: usize,
+    number: usize,
+    only_telling: bool,
+) -> Result<(), AllocError>
+    requires counted { count ≡ length (combinations (all_choices_of lines.now)) }
+    requires within { number < count }
+    ensures { OnOk result (text.new.items ≡ text.old.items ++ lines_text only_telling (lines_from lines.now) (way_at (all_choices_of lines.now) number)) }
+{
+    let mut left = count;
+    let mut digits = number;
+    for line in lines {
+        let choices = line.choices.as_slice();
+        left /= choices.len();
+        let choice = &choices[digits / left];
+        push_line(text, line, choice, only_telling)?;
+        digits %= left;
+    }
+    Ok(())
+}
+
+impl Frame {
+    /// The lines of the way of this number, or those alone that tell it from other ways. The error is refused memory.
+    pub(crate) fn way(
+        &self,
+        alloc: Global,
+        number: usize,
+        only_telling: bool,
+    ) -> Result<Vec<u8>, AllocError>
+        requires counted { IsCounted self.now }
+        requires within { number < self.now.count }
+        ensures { IfOk result (λ t. t.items ≡ lines_text only_telling (lines_from self.now.lines.items) (way_at (all_choices_of self.now.lines.items) number)) }
+    {
+        let mut text = Vec::new(alloc);
+        push_way(
+            &mut text,
+            self.lines.as_slice(),
+            self.count,
+            number,
+            only_telling,
+        )?;
+        Ok(text)
+    }
+
+    // The script of the way of this number, with these lines behind it.
+    fn script(&self, alloc: Global, number: usize, behind: &[u8]) -> Result<Vec<u8>, AllocError>
+        requires counted { IsCounted self.now }
+        requires within { number < self.now.count }
+        ensures { IfOk result (λ t. t.items ≡ script_text (ways_from self.now) behind.now (way_at (all_choices_of self.now.lines.items) number)) }
+    {
+        let mut text = self.way(alloc, number, false)?;
+        text.extend_from_slice(self.halts.as_slice())?;
+        text.extend_from_slice(behind)?;
+        Ok(text)
+    }
+
+    /// The scripts of the ways of these numbers, each with these lines behind it. The error is refused memory.
+    pub(crate) fn scripts(
+        &self,
+        alloc: Global,
+        numbers: &[usize],
+        behind: &[u8],
+    ) -> Result<Vec<Vec<u8>>, AllocError>
+        requires counted { IsCounted self.now }
+        requires within { AreBelow self.now.count numbers.now }
+        ensures { IfOk result (λ ts. map (λ t. t.items) ts.items ≡ map (λ n. script_text (ways_from self.now) behind.now (way_at (all_choices_of self.now.lines.items) n)) numbers.now) }
+    {
+        let mut scripts = Vec::new(alloc);
+        let mut rest = numbers;
+        loop {
+            match rest {
+                [] => return Ok(scripts),
+                [number, more @ ..] => {
+                    scripts.push(self.script(alloc, *number, behind)?)?;
+                    rest = more;
+                }
+            }
+        }
+    }
+}
