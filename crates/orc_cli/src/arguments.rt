@@ -168,6 +168,28 @@ fn journal_argument<'a>(alloc: Global) -> Arg<'a> {
         .help("The journal's text; - is standard input")
 }
 
+fn drawn_argument<'a>(alloc: Global) -> Arg<'a> {
+    Arg::new(alloc, "journal").value_name("JOURNAL").help(
+        "The journal's text; - is standard input [default: that of a run of the program]",
+    )
+}
+
+fn drawn_order_argument<'a>(alloc: Global) -> Result<Arg<'a>, AllocError> {
+    Arg::new(alloc, "order")
+        .long("order")
+        .value_name("N")
+        .value_parser(value_parser!(u64))
+        .help("Without JOURNAL: run it in this order, on one worker")
+        .conflicts_with("journal")
+}
+
+fn claims_argument<'a>(alloc: Global) -> Arg<'a> {
+    Arg::new(alloc, "claims")
+        .long("claims")
+        .value_name("TEST")
+        .help("Hold the claims that a test makes of every run against it; - is standard input")
+}
+
 fn text_flag<'a>(alloc: Global) -> Arg<'a> {
     Arg::new(alloc, "text")
         .long("text")
@@ -234,15 +256,18 @@ fn check_command<'a>(alloc: Global) -> Result<Command<'a>, AllocError> {
         .arg(file_argument(alloc))?
         .arg(journal_argument(alloc))?
         .arg(script_argument(alloc))?
+        .arg(claims_argument(alloc))?
         .arg(explain_flag(alloc, EXPLAIN))
 }
 
-fn draw_command<'a>(alloc: Global) -> Result<Command<'a>, AllocError> {
+fn draw_command<'a>(alloc: Global, ranges: &'a Ranges) -> Result<Command<'a>, AllocError> {
     Command::new(alloc, "draw")
-        .about("Draw what happened in a run, from its journal")
+        .about("Draw what happened in a run, from its journal or made for it")
         .arg(file_argument(alloc))?
-        .arg(journal_argument(alloc))?
+        .arg(drawn_argument(alloc))?
         .arg(script_argument(alloc))?
+        .arg(drawn_order_argument(alloc)?)?
+        .arg(number_argument(alloc, "limit", &ranges.limit).conflicts_with("journal")?)?
         .arg(text_flag(alloc))?
         .arg(width_argument(alloc)?)?
         .arg(all_flag(alloc))?
@@ -305,7 +330,7 @@ fn orc_command<'a>(alloc: Global, ranges: &'a Ranges) -> Result<Command<'a>, All
         .subcommand(run_command(alloc, ranges)?)?
         .subcommand(outcomes_command(alloc, ranges)?)?
         .subcommand(check_command(alloc)?)?
-        .subcommand(draw_command(alloc)?)?
+        .subcommand(draw_command(alloc, ranges)?)?
         .subcommand(print_command(alloc)?)?
         .subcommand(test_command(alloc, ranges)?)
 }
@@ -378,6 +403,66 @@ fn form_of(given: &ArgMatches) -> Option<Form> {
     Some(Form::Svg(theme))
 }
 
+// How a journal is checked.
+fn check_of<'a>(
+    file: &'a str,
+    journal: &'a str,
+    script: Option<&'a str>,
+    claims: Option<&'a str>,
+) -> Job<'a> {
+    match claims {
+        Some(test) => Job::Claims {
+            file,
+            journal,
+            script,
+            test,
+        },
+        None => Job::Check {
+            file,
+            journal,
+            script,
+        },
+    }
+}
+
+// How a program is run whose journal is drawn.
+fn drawn_run_of(given: &ArgMatches) -> Option<Options> {
+    let order = given.get_one::<u64>("order");
+    let workers = match order {
+        Some(_) => 1,
+        None => DEFAULT_WORKERS as u64,
+    };
+    Some(Options {
+        workers,
+        order,
+        limit: given.get_one::<u64>("limit")?,
+        wanted: Wanted::Journal,
+    })
+}
+
+// What is drawn.
+fn draw_of<'a>(file: &'a str, given: &ArgMatches<'a>) -> Option<Job<'a>> {
+    let script = given.get_str("script");
+    let options = orc_draw::Options {
+        form: form_of(given)?,
+        all: given.get_flag("all"),
+    };
+    match given.get_str("journal") {
+        Some(journal) => Some(Job::Draw {
+            file,
+            journal,
+            script,
+            options,
+        }),
+        None => Some(Job::DrawRun {
+            file,
+            script,
+            run: drawn_run_of(given)?,
+            options,
+        }),
+    }
+}
+
 // What the words of a command ask for. None where the command has no arm here.
 fn job_of<'a>(name: &str, given: &ArgMatches<'a>) -> Option<Job<'a>> {
     let file = given.get_str("file")?;
@@ -392,20 +477,13 @@ fn job_of<'a>(name: &str, given: &ArgMatches<'a>) -> Option<Job<'a>> {
             script: given.get_str("script"),
             options: survey_options_of(given)?,
         }),
-        "check" => Some(Job::Check {
+        "check" => Some(check_of(
             file,
-            journal: given.get_str("journal")?,
-            script: given.get_str("script"),
-        }),
-        "draw" => Some(Job::Draw {
-            file,
-            journal: given.get_str("journal")?,
-            script: given.get_str("script"),
-            options: orc_draw::Options {
-                form: form_of(given)?,
-                all: given.get_flag("all"),
-            },
-        }),
+            given.get_str("journal")?,
+            given.get_str("script"),
+            given.get_str("claims"),
+        )),
+        "draw" => draw_of(file, given),
         "print" => Some(Job::Print { file }),
         "test" => Some(Job::Test {
             file,

@@ -1,7 +1,7 @@
 //! What a command line asks for.
 
 ghost use Rattle.std.specs.Prelude.{◌≡◌, option_map};
-ghost use Rattle.orc_cli.specs.Inputs.{names_input, may_name_input, two_of, shares};
+ghost use Rattle.orc_cli.specs.Inputs.{names_input, may_name_input, two_of, two_of_four, shares};
 ghost use Rattle.orc_cli.specs.Wanted.{keeps_journal};
 
 /// What stands for standard input where a file is named. A file of this name is `./-`.
@@ -32,10 +32,24 @@ pub enum Job<'a> {
         journal: &'a str,
         script: Option<&'a str>,
     },
+    /// The same, and what the claims of a test say of the run.
+    Claims {
+        file: &'a str,
+        journal: &'a str,
+        script: Option<&'a str>,
+        test: &'a str,
+    },
     Draw {
         file: &'a str,
         journal: &'a str,
         script: Option<&'a str>,
+        options: orc_draw::Options,
+    },
+    /// The same of the journal of a run that is made for it.
+    DrawRun {
+        file: &'a str,
+        script: Option<&'a str>,
+        run: Options,
         options: orc_draw::Options,
     },
     Print {
@@ -70,15 +84,22 @@ fn are_two(a: bool, b: bool, c: bool) -> bool
     a && b || (a || b) && c
 }
 
+// Whether two of four are so.
+fn are_two_of_four(a: bool, b: bool, c: bool, d: bool) -> bool
+    ensures { result ≡ two_of_four a b c d }
+{
+    are_two(a, b, c) || (a || b || c) && d
+}
+
 impl Job<'_> {
     /// Whether standard input is named for more than one file. It can be read only once.
     pub(crate) fn shares_input(&self) -> bool
         ensures { result ≡ shares self.now }
     {
         match *self {
-            Job::Run { file, script, .. } | Job::Outcomes { file, script, .. } => {
-                is_input(file) && may_be_input(script)
-            }
+            Job::Run { file, script, .. }
+            | Job::Outcomes { file, script, .. }
+            | Job::DrawRun { file, script, .. } => is_input(file) && may_be_input(script),
             Job::Check {
                 file,
                 journal,
@@ -90,6 +111,17 @@ impl Job<'_> {
                 script,
                 ..
             } => are_two(is_input(file), is_input(journal), may_be_input(script)),
+            Job::Claims {
+                file,
+                journal,
+                script,
+                test,
+            } => are_two_of_four(
+                is_input(file),
+                is_input(journal),
+                may_be_input(script),
+                is_input(test),
+            ),
             Job::Print { .. } => false,
             Job::Test {
                 file,

@@ -24,6 +24,19 @@ all_before first second third file journal script sources lines answers source t
   read_before first third script answers read (λ at. two at ∙ one at) that told,
 )
 
+-- the same with a test between the journal and the script
+pub four_before : (first second third fourth : List ℕ → Option (List ℕ)) (file journal test : List ℕ) (script : Option (List ℕ)) (sources lines claims answers source text said read : List ℕ)
+    → ((at : List ℕ) → second at ≡ first at) → ((at : List ℕ) → third at ≡ second at) → ((at : List ℕ) → fourth at ≡ third at) → source ≡ sources → text ≡ lines → said ≡ claims → read ≡ answers
+    → IsHeld (first file) sources → IsHeld (second journal) lines → IsHeld (third test) claims → IsRead fourth script answers
+    → IsHeld (first file) source × IsHeld (first journal) text × IsHeld (first test) said × IsRead first script read
+four_before first second third fourth file journal test script sources lines claims answers source text said read one two three is this those that held kept known told =
+    let later = all_before second third fourth journal test script lines claims answers text said read two three this those that kept known told in (
+      held_before (first file) (first file) sources source refl is held,
+      held_before (first journal) (second journal) text text (one journal) refl later.0,
+      held_before (first test) (second test) said said (one test) refl later.1,
+      read_before first second script read read one refl later.2,
+    )
+
 -- ---- a file that is read piece by piece
 
 -- its text, where its bytes are known

@@ -1,8 +1,11 @@
 pub mod Accepting
+pub mod Claiming
+pub mod Drawing
 pub mod KnownFiles
 pub mod LoadFaults
 pub mod Outputs
 pub mod Parted
+pub mod Scripting
 pub mod Statuses
 pub mod Testing
 pub mod Timing

@@ -32,7 +32,8 @@ use Rattle.orc_run.specs.Running.{LeavesAtFault}
 use Rattle.orc_run.specs.Status.{read_status_of}
 use Rattle.orc_run.specs.Checked.{LeavesUnchecked, LeavesUnjudged}
 use Rattle.orc_run.specs.declared.judge.Unchecked.TheVariants.{Fault}
-use Rattle.orc_run.specs.Drawn.{LeavesUndrawn}
+use Rattle.orc_run.specs.Claimed.{LeavesUnclaimed}
+use Rattle.orc_run.specs.Drawn.{LeavesUndrawn, LeavesUndrawnRun}
 use Rattle.orc_run.specs.Printed.{LeavesUnprinted}
 use Rattle.orc_run.specs.Surveyed.{LeavesUnsurveyed}
 use Rattle.orc_run.specs.Tested.{LeavesUntested}
@@ -94,6 +95,16 @@ unjudged source script journal old new (fault.Write w) k = tt
 pub unchecked : (source script journal : List ℕ) (old new : Option (List ℕ)) (f : RunFault) → LeavesUnchecked source script journal old new (Fault f) → LeavesUndone (failure.Fault f) old new
 unchecked source script journal old new f k = unjudged source script journal old new f k
 
+pub unclaimed : (source text script journal : List ℕ) (old new : Option (List ℕ)) (f : RunFault) → LeavesUnclaimed source text script journal old new f → LeavesUndone (failure.Fault f) old new
+unclaimed source text script journal old new (fault.Syntax f) k = k
+unclaimed source text script journal old new (fault.Scope f) k = k
+unclaimed source text script journal old new (fault.Script f) k = k
+unclaimed source text script journal old new (fault.Test f) k = k
+unclaimed source text script journal old new (fault.Journal f) k = k
+unclaimed source text script journal old new (fault.Check f) k = k
+unclaimed source text script journal old new (fault.Engine f) k = k
+unclaimed source text script journal old new (fault.Write w) k = tt
+
 pub unprinted : (source : List ℕ) (old new : Option (List ℕ)) (f : RunFault) → LeavesUnprinted source old new f → LeavesUndone (failure.Fault f) old new
 unprinted source old new (fault.Syntax f) k = k
 unprinted source old new (fault.Scope f) k = k
@@ -123,6 +134,16 @@ undrawn_fault source script journal old new (fault.Journal f) k = k
 undrawn_fault source script journal old new (fault.Check f) k = k
 undrawn_fault source script journal old new (fault.Engine f) k = k
 undrawn_fault source script journal old new (fault.Write w) k = tt
+
+pub undrawn_run : (old new : Option (List ℕ)) (f : RunFault) → LeavesUndrawnRun old new (undrawn.Fault f) → LeavesUndone (failure.Fault f) old new
+undrawn_run old new (fault.Syntax f) k = k
+undrawn_run old new (fault.Scope f) k = k
+undrawn_run old new (fault.Script f) k = k
+undrawn_run old new (fault.Test f) k = k
+undrawn_run old new (fault.Journal f) k = k
+undrawn_run old new (fault.Check f) k = k
+undrawn_run old new (fault.Engine f) k = k
+undrawn_run old new (fault.Write w) k = tt
 
 pub undrawn_rows : (source script journal : List ℕ) (old new : Option (List ℕ)) → LeavesUndrawn source script journal old new undrawn.Rows → LeavesUndone failure.Rows old new
 undrawn_rows source script journal old new k = k
@@ -168,7 +189,9 @@ pub faultless : (holds : List ℕ → Option (List ℕ)) (j : Job) (old new : Op
 faultless holds (job.Run file script options) old new status (source, read, s, held, said, ran, is) = subst IsFaultless (sym is) (end_in s.end)
 faultless holds (job.Outcomes file script options) old new status (source, read, held, said, told, is) = subst IsFaultless (sym is) zero_faultless
 faultless holds (job.Check file journal script) old new status (source, text, read, held, told, said, judges, is) = subst IsFaultless (sym is) zero_faultless
+faultless holds (job.Claims file journal script test) old new status (source, lines, text, read, failing, held, told, held_too, said, claimed, is) = subst IsFaultless (sym is) (of_failing (nat_eq failing 0))
 faultless holds (job.Draw file journal script options) old new status (source, text, read, held, told, said, draws, is) = subst IsFaultless (sym is) zero_faultless
+faultless holds (job.DrawRun file script run options) old new status (source, read, held, said, draws, is) = subst IsFaultless (sym is) zero_faultless
 faultless holds (job.Print file) old new status (source, held, prints, is) = subst IsFaultless (sym is) zero_faultless
 faultless holds (job.Test file test script options) old new status (source, text, read, failing, held, held_too, said, tested, is) = subst IsFaultless (sym is) (of_failing (nat_eq failing 0))
 
@@ -189,9 +212,11 @@ pub failed : (holds : List ℕ → Option (List ℕ)) (j : Job) (old new : Optio
 failed holds (job.Run file script options) old new status (source, read, s, held, said, ran, is) one = absurd (no_fault s.end (sym is ∙ one))
 failed holds (job.Outcomes file script options) old new status (source, read, held, said, told, is) one = absurd (omega (arith, is, one))
 failed holds (job.Check file journal script) old new status (source, text, read, held, told, said, judges, is) one = absurd (omega (arith, is, one))
+failed holds (job.Claims file journal script test) old new status (source, lines, text, read, failing, held, told, held_too, said, claimed, is) one = inr (source, text, read, lines, failing, claimed, some_failing failing (sym is ∙ one))
 failed holds (job.Draw file journal script options) old new status (source, text, read, held, told, said, draws, is) one = absurd (omega (arith, is, one))
+failed holds (job.DrawRun file script run options) old new status (source, read, held, said, draws, is) one = absurd (omega (arith, is, one))
 failed holds (job.Print file) old new status (source, held, prints, is) one = absurd (omega (arith, is, one))
-failed holds (job.Test file test script options) old new status (source, text, read, failing, held, held_too, said, tested, is) one = (options, source, text, read, failing, tested, some_failing failing (sym is ∙ one))
+failed holds (job.Test file test script options) old new status (source, text, read, failing, held, held_too, said, tested, is) one = inl (options, source, text, read, failing, tested, some_failing failing (sym is ∙ one))
 
 quiet_only : (e : End) → end_status_of e ≡ 3 → e ≡ ends.Quiet
 quiet_only ends.Halted h = absurd (omega (arith, h))
@@ -215,7 +240,9 @@ pub ended_quiet : (holds : List ℕ → Option (List ℕ)) (j : Job) (old new : 
 ended_quiet holds (job.Run file script options) old new status (source, read, s, held, said, ran, is) three = (options, source, read, s, ran, quiet_only s.end (sym is ∙ three))
 ended_quiet holds (job.Outcomes file script options) old new status (source, read, held, said, told, is) three = absurd (omega (arith, is, three))
 ended_quiet holds (job.Check file journal script) old new status (source, text, read, held, told, said, judges, is) three = absurd (omega (arith, is, three))
+ended_quiet holds (job.Claims file journal script test) old new status (source, lines, text, read, failing, held, told, held_too, said, claimed, is) three = absurd (zero_or_one (nat_eq failing 0) 3 (omega arith) (sym is ∙ three))
 ended_quiet holds (job.Draw file journal script options) old new status (source, text, read, held, told, said, draws, is) three = absurd (omega (arith, is, three))
+ended_quiet holds (job.DrawRun file script run options) old new status (source, read, held, said, draws, is) three = absurd (omega (arith, is, three))
 ended_quiet holds (job.Print file) old new status (source, held, prints, is) three = absurd (omega (arith, is, three))
 ended_quiet holds (job.Test file test script options) old new status (source, text, read, failing, held, held_too, said, tested, is) three = absurd (zero_or_one (nat_eq failing 0) 3 (omega arith) (sym is ∙ three))
 
@@ -223,7 +250,9 @@ pub ended_cut : (holds : List ℕ → Option (List ℕ)) (j : Job) (old new : Op
 ended_cut holds (job.Run file script options) old new status (source, read, s, held, said, ran, is) four = ⊎_elim (λ e. inl (options, source, read, s, ran, e)) (λ e. inr (options, source, read, s, ran, e)) (cut_only s.end (sym is ∙ four))
 ended_cut holds (job.Outcomes file script options) old new status (source, read, held, said, told, is) four = absurd (omega (arith, is, four))
 ended_cut holds (job.Check file journal script) old new status (source, text, read, held, told, said, judges, is) four = absurd (omega (arith, is, four))
+ended_cut holds (job.Claims file journal script test) old new status (source, lines, text, read, failing, held, told, held_too, said, claimed, is) four = absurd (zero_or_one (nat_eq failing 0) 4 (omega arith) (sym is ∙ four))
 ended_cut holds (job.Draw file journal script options) old new status (source, text, read, held, told, said, draws, is) four = absurd (omega (arith, is, four))
+ended_cut holds (job.DrawRun file script run options) old new status (source, read, held, said, draws, is) four = absurd (omega (arith, is, four))
 ended_cut holds (job.Print file) old new status (source, held, prints, is) four = absurd (omega (arith, is, four))
 ended_cut holds (job.Test file test script options) old new status (source, text, read, failing, held, held_too, said, tested, is) four = absurd (zero_or_one (nat_eq failing 0) 4 (omega arith) (sym is ∙ four))
 

@@ -13,6 +13,7 @@ use Rattle.orc_load.specs.declared.fault.LoadFault.TheVariants as load
 use Rattle.orc_ways.specs.Drafting.{test_of}
 use Rattle.orc_ways.specs.Finishing.{Says as SaysTest}
 use Rattle.orc_ways.specs.declared.test.Test.{Test}
+use Rattle.orc_cases.specs.Ways.{CaseWays}
 use Rattle.orc_cli.specs.declared.job.Options.{Options}
 use Rattle.orc_cli.specs.declared.job.TestOptions.{TestOptions}
 use Rattle.orc_orders.specs.TrialFaults.{Breaks, IsTrialFault}
@@ -28,7 +29,7 @@ use Rattle.orc_tally.specs.declared.table.Shown.{Shown as Failing}
 use Rattle.orc_outcome.specs.declared.end.Summary.{Summary}
 use Rattle.orc_run.specs.Running.{IsOwnOf, LeavesAtFault, Ran}
 use Rattle.orc_run.specs.declared.output.WriteFault.{WriteFault}
-use Rattle.orc_run.specs.Tested.{HasFailing, IsScript, IsTried, LeavesUntested, Writes, of_trial}
+use Rattle.orc_run.specs.Tested.{AreScripts, AreWays, HasFailing, IsScript, IsTried, LeavesUntested, Writes, of_trial}
 use Rattle.orc_run.specs.declared.faults.RunFault.{RunFault}
 use Rattle.orc_run.specs.declared.faults.RunFault.TheVariants as fault
 use Rattle.orc_run.specs.declared.tests.CaseScripts.{CaseScripts}
@@ -94,17 +95,22 @@ pub script_there : (cases : List CaseScripts) (f : Failing) (s : CaseScripts) (v
 script_there cases f s vs v text here same there is = (s, here, slice_get-map (λ w. w.items) s.scripts.items f.failure.way ∙ ap (option_map (λ w. w.items)) (ap (λ ws. slice_get ws f.failure.way) (sym same) ∙ there) ∙ ap Some (sym is))
 
 -- what was tried and written of a test that was read
-pub report_of : (source script text : List ℕ) (o : TestOptions) (t : Trials) (test : Test) (cases : List CaseScripts) (others : Table) (old new : Option (List ℕ)) (n : ℕ)
+pub report_of : (source script text : List ℕ) (o : TestOptions) (t : Trials) (test : Test) (cases : List CaseScripts) (others : Table) (old new : Option (List ℕ)) (n : ℕ) (ways : List CaseWays)
+    → AreWays (test_of test) 0 ways → length ways ≡ length test.cases.items → AllZip (AreScripts o.ways script) ways cases
     → t.source.now ≡ source → t.sites.now ≡ test.sites.items → t.claims.now ≡ test.claims.items → t.orders ≡ o.orders → t.limit ≡ o.limit → Says script others → SaysTest text others (test_of test)
     → (r : Report) × (r.test.now ≡ test) × AllZip (IsTried t) cases r.cases.now × (r.orders ≡ o.orders) × Writes t.source.now o cases r o.shown old new × (n ≡ failing (rows r))
     → HasFailing source text script o old new n
-report_of source script text o t test cases others old new n of_source sites claims orders limit says reads (r, is, tried, each, writes, number) = (
+report_of source script text o t test cases others old new n ways are every first of_source sites claims orders limit says reads (r, is, tried, each, writes, number) = (
   cases,
   r,
   record {
     others = others;
     says = says;
     reads = subst (λ x. SaysTest text others (test_of x)) (sym is) reads;
+    ways = ways;
+    cases = subst (λ x. AreWays (test_of x) 0 ways) (sym is) are;
+    every = every ∙ ap (λ x. length x.cases.items) (sym is);
+    first = first;
     trials = t;
     of_test = record {
       of_source = of_source;

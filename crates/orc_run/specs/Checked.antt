@@ -35,10 +35,14 @@ use Rattle.orc_run.specs.declared.faults.RunFault.TheVariants as fault
 abbrev pub verdict_line : ℕ → State → List ℕ
 verdict_line n state = codes "ok " ++ (decimal n ++ (codes " " ++ (state_word state ++ codes "\n")))
 
--- the text is that of a journal, which is a run of the source's program with the script's sites that now stands so
+-- the text is that of a journal, which is a run of the source's program with the script's sites, this table, that stands so at this time
+abbrev pub IsJudgedAt : List ℕ → List ℕ → List ℕ → Table → Written → State → ℕ → Type 0
+IsJudgedAt text script journal t j state now = (l : Listing) × Says script t × IsProgramOf text t l × IsJournal t.names journal j
+    × IsVerdict (context l t (records_cancels j.version)) (source l) j.entries state now
+
+-- the same, with some table and at some time
 abbrev pub IsJudged : List ℕ → List ℕ → List ℕ → Written → State → Type 0
-IsJudged text script journal j state = (l : Listing) × (t : Table) × Says script t × IsProgramOf text t l × IsJournal t.names journal j
-    × ((now : ℕ) × IsVerdict (context l t (records_cancels j.version)) (source l) j.entries state now)
+IsJudged text script journal j state = (t : Table) × (now : ℕ) × IsJudgedAt text script journal t j state now
 
 -- what was written is the line of the verdict
 abbrev pub Judges : List ℕ → List ℕ → List ℕ → Option (List ℕ) → Option (List ℕ) → Type 0

@@ -7,7 +7,8 @@ use Rattle.orc_outcome.specs.declared.end.End.{End}
 use Rattle.orc_outcome.specs.declared.end.End.TheVariants as ends
 use Rattle.orc_outcome.specs.declared.end.Summary.{Summary}
 use Rattle.orc_run.specs.Checked.{Judges}
-use Rattle.orc_run.specs.Drawn.{Draws}
+use Rattle.orc_run.specs.Claimed.{HasClaimed}
+use Rattle.orc_run.specs.Drawn.{Draws, DrawsRun}
 use Rattle.orc_run.specs.Inputs.{IsHeld, IsRead}
 use Rattle.orc_run.specs.Printed.{Prints}
 use Rattle.orc_run.specs.Running.{Ran}
@@ -33,9 +34,17 @@ HasTold holds file script orders limit old new status = (source read : List ℕ)
 abbrev pub HasJudged : (List ℕ → Option (List ℕ)) → List ℕ → List ℕ → Option (List ℕ) → Option (List ℕ) → Option (List ℕ) → ℕ → Type 0
 HasJudged holds file journal script old new status = (source text read : List ℕ) × IsHeld (holds file) source × IsHeld (holds journal) text × IsRead holds script read × Judges source read text old new × (status ≡ 0)
 
+-- what was written is the line of the verdict on the journal and what the claims of a test say of it, and the status is 0 exactly if no claim fails
+abbrev pub HasHeld : (List ℕ → Option (List ℕ)) → List ℕ → List ℕ → Option (List ℕ) → List ℕ → Option (List ℕ) → Option (List ℕ) → ℕ → Type 0
+HasHeld holds file journal script test old new status = (source lines text read : List ℕ) × (failing : ℕ) × IsHeld (holds file) source × IsHeld (holds journal) lines × IsHeld (holds test) text × IsRead holds script read × HasClaimed source text read lines old new failing × (status ≡ cond (nat_eq failing 0) 0 1)
+
 -- what was written is a picture of the journal, which the check accepts
 abbrev pub HasDrawn : (List ℕ → Option (List ℕ)) → List ℕ → List ℕ → Option (List ℕ) → Option (List ℕ) → Option (List ℕ) → ℕ → Type 0
 HasDrawn holds file journal script old new status = (source text read : List ℕ) × IsHeld (holds file) source × IsHeld (holds journal) text × IsRead holds script read × Draws source read text old new × (status ≡ 0)
+
+-- what was written is a picture of the journal of a run of the file's program with the script's sites
+abbrev pub HasDrawnRun : (List ℕ → Option (List ℕ)) → List ℕ → Option (List ℕ) → Options → Option (List ℕ) → Option (List ℕ) → ℕ → Type 0
+HasDrawnRun holds file script run old new status = (source read : List ℕ) × IsHeld (holds file) source × IsRead holds script read × DrawsRun source read run old new × (status ≡ 0)
 
 -- what was written is the printed text of the file's program
 abbrev pub HasPrinted : (List ℕ → Option (List ℕ)) → List ℕ → Option (List ℕ) → Option (List ℕ) → ℕ → Type 0
@@ -50,7 +59,9 @@ abbrev pub IsDone : (List ℕ → Option (List ℕ)) → Job → Option (List �
 IsDone holds (job.Run file script options) old new status = HasRun holds file.now (option_map (λ p. p.now) script) options old new status
 IsDone holds (job.Outcomes file script options) old new status = HasTold holds file.now (option_map (λ p. p.now) script) options.orders options.limit old new status
 IsDone holds (job.Check file journal script) old new status = HasJudged holds file.now journal.now (option_map (λ p. p.now) script) old new status
+IsDone holds (job.Claims file journal script test) old new status = HasHeld holds file.now journal.now (option_map (λ p. p.now) script) test.now old new status
 IsDone holds (job.Draw file journal script options) old new status = HasDrawn holds file.now journal.now (option_map (λ p. p.now) script) old new status
+IsDone holds (job.DrawRun file script run options) old new status = HasDrawnRun holds file.now (option_map (λ p. p.now) script) run old new status
 IsDone holds (job.Print file) old new status = HasPrinted holds file.now old new status
 IsDone holds (job.Test file test script options) old new status = HasTested holds file.now test.now (option_map (λ p. p.now) script) options old new status
 
@@ -62,9 +73,10 @@ HasEnded end old new = (options : Options) × (source script : List ℕ) × (s :
 abbrev pub WasCut : Option (List ℕ) → Option (List ℕ) → Type 0
 WasCut old new = HasEnded ends.Limit old new ⊎ HasEnded ends.Full old new
 
--- what was written tells of a test some claim of which fails
+-- what was written tells of a test some claim of which fails, of a program or of a journal
 abbrev pub TellsOfFailures : Option (List ℕ) → Option (List ℕ) → Type 0
-TellsOfFailures old new = (options : TestOptions) × (source text script : List ℕ) × (failing : ℕ) × HasFailing source text script options old new failing × (0 < failing)
+TellsOfFailures old new = ((options : TestOptions) × (source text script : List ℕ) × (failing : ℕ) × HasFailing source text script options old new failing × (0 < failing))
+    ⊎ ((source text script journal : List ℕ) × (failing : ℕ) × HasClaimed source text script journal old new failing × (0 < failing))
 
 -- a file could not be read
 abbrev pub IsUnread : Failure → Type 0

@@ -6,6 +6,10 @@ use Rattle.orc_rules.specs.declared.entry.State.{State}
 use Rattle.orc_journal.specs.Written.{Written}
 use Rattle.orc_run.specs.Checked.{IsCheckFault, IsJudged}
 use Rattle.orc_run.specs.Output.{AppendsPrefix}
+use Rattle.orc_run.specs.Running.{Runs}
+use Rattle.orc_outcome.specs.declared.end.Summary.{Summary}
+use Rattle.orc_cli.specs.declared.job.Options.{Options as RunOptions}
+use Rattle.orc_cli.specs.declared.job.Wanted.TheVariants as wanted
 use Rattle.orc_run.specs.declared.picture.Undrawn.{Undrawn}
 use Rattle.orc_run.specs.declared.picture.Undrawn.TheVariants as undrawn
 use Rattle.orc_run.specs.declared.faults.RunFault.TheVariants as fault
@@ -27,6 +31,21 @@ LeavesUndrawn text script journal old new _ = Keeps old new
 abbrev pub IsUndrawnFor : List ℕ → List ℕ → List ℕ → Undrawn → Type 0
 IsUndrawnFor text script journal (undrawn.Fault f) = IsCheckFault text script journal f
 IsUndrawnFor text script journal undrawn.Rows = IsAccepted text script journal
+
+-- ---- the journal of a run
+
+-- the same run, of which the journal is wanted
+abbrev pub with_journal : RunOptions → RunOptions
+with_journal o = record o { wanted = wanted.Journal }
+
+-- what was written is a picture of the journal of such a run, which the check accepts
+abbrev pub DrawsRun : List ℕ → List ℕ → RunOptions → Option (List ℕ) → Option (List ℕ) → Type 0
+DrawsRun source script run old new = (journal : List ℕ) × (s : Summary) × Runs source script (with_journal run) s journal × Draws source script journal old new
+
+-- where none was drawn nothing was written, or at a write fault a prefix of a picture
+abbrev pub LeavesUndrawnRun : Option (List ℕ) → Option (List ℕ) → Undrawn → Type 0
+LeavesUndrawnRun old new (undrawn.Fault (fault.Write w)) = (picture : List ℕ) × AppendsPrefix old new picture
+LeavesUndrawnRun old new _ = Keeps old new
 
 -- why a journal that the check accepts isn't drawn
 abbrev pub IsUndrawable : Undrawn → Type 0

@@ -1,4 +1,5 @@
 pub mod Checked
+pub mod Claimed
 pub mod Commands
 pub mod Drawn
 pub mod Failures

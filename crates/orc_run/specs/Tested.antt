@@ -1,5 +1,5 @@
 -- What holding a test against a source's program does.
-use Rattle.std.specs.Prelude.{◌≡◌, ℕ, List, Some, map, slice_get}
+use Rattle.std.specs.Prelude.{◌≡◌, ℕ, suc, List, [], ◌∷◌, Some, length, map, slice_get}
 use Rattle.std.specs.List.{AllZip}
 use Rattle.std.specs.declared.option.Option.{Option}
 use Rattle.std.specs.declared.vec.Vec.{Vec}
@@ -8,7 +8,9 @@ use Rattle.orc_rules.specs.Sites.{Table}
 use Rattle.orc_outcome.specs.declared.end.Summary.{Summary}
 use Rattle.orc_site.specs.Script.{Says}
 use Rattle.orc_ways.specs.Drafting.{test_of}
+use Rattle.orc_ways.specs.Drafts.{Test as DraftedTest}
 use Rattle.orc_ways.specs.Finishing.{Says as SaysTest}
+use Rattle.orc_cases.specs.Ways.{CaseWays, scripts, ways, ways_of}
 use Rattle.orc_orders.specs.Trials.{Tells, texts}
 use Rattle.orc_orders.specs.declared.trials.TrialFault.{TrialFault}
 use Rattle.orc_orders.specs.declared.trials.TrialFault.TheVariants as trial
@@ -30,9 +32,19 @@ use Rattle.orc_run.specs.declared.tests.CaseScripts.{CaseScripts}
 use Rattle.orc_run.specs.declared.tests.Untested.{Untested}
 use Rattle.orc_run.specs.declared.tests.Untested.TheVariants as untested
 
+-- these are the ways of the cases of a test from a place on
+abbrev pub AreWays : DraftedTest → ℕ → List CaseWays → Type 0
+AreWays t case [] = Unit {0}
+AreWays t case (c ∷ cs) = (ways_of t case ≡ Some c) × AreWays t (suc case) cs
+
+-- the scripts of the first of them, so many at most, each with these lines behind it
+pub record AreScripts (most : ℕ) (behind : List ℕ) (c : CaseWays) (s : CaseScripts) : Type 0 where
+  pub count : s.count ≡ length (ways c)
+  pub first : texts s.scripts.items ≡ scripts c most behind
+
 -- what is told of a case is told of the trials of the ways of these scripts
 abbrev pub IsTried : Trials → CaseScripts → CaseReport → Type 0
-IsTried t s r = Tells t (texts s.scripts.items) (record { ways = r.tried; told = r.told; cut = r.cut })
+IsTried t s r = Tells t (texts s.scripts.items) (record { ways = r.tried; told = r.told; cut = r.cut }) × (r.ways ≡ s.count)
 
 -- the trials are those of the test
 pub record AreOf (source : List ℕ) (o : TestOptions) (r : Report) (t : Trials) : Type 0 where
@@ -42,11 +54,16 @@ pub record AreOf (source : List ℕ) (o : TestOptions) (r : Report) (t : Trials)
   pub each : t.orders ≡ o.orders
   pub most : t.limit ≡ o.limit
 
--- What is reported of a test: the text says it, and of each of its cases some ways were tried, and it is told of them.
+-- What is reported of a test: the text says it, the scripts are those of the first ways of each of its cases, so many as are to be tried, and it is told of
+-- the trials of these ways.
 pub record IsReport (source text script : List ℕ) (o : TestOptions) (scripts : List CaseScripts) (r : Report) : Type 0 where
   pub others : Table
   pub says : Says script others
   pub reads : SaysTest text others (test_of r.test.now)
+  pub ways : List CaseWays
+  pub cases : AreWays (test_of r.test.now) 0 ways
+  pub every : length ways ≡ length r.test.now.cases.items
+  pub first : AllZip (AreScripts o.ways script) ways scripts
   pub trials : Trials
   pub of_test : AreOf source o r trials
   pub tried : AllZip (IsTried trials) scripts r.cases.now

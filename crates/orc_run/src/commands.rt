@@ -4,8 +4,9 @@ ghost use Rattle.std.specs.Prelude.{◌≡◌, ◌≢◌, ◌<◌, ◌⊎◌, �
 ghost use Rattle.std.specs.Io.KnownBytes.{Keeps};
 ghost use Rattle.orc_outcome.specs.declared.end.End.TheVariants as ends;
 ghost use Rattle.orc_run.specs.Inputs.{IsHeld, IsRead};
-ghost use Rattle.orc_run.specs.Commands.{HasDrawn, HasEnded, HasJudged, HasPrinted, HasRun, HasTested, HasTold, IsDone, IsUnread, LeavesUndone, TellsOfFailures, WasCut};
+ghost use Rattle.orc_run.specs.Commands.{HasDrawn, HasDrawnRun, HasEnded, HasHeld, HasJudged, HasPrinted, HasRun, HasTested, HasTold, IsDone, IsUnread, LeavesUndone, TellsOfFailures, WasCut};
 
+use crate::claims::claims_text;
 use crate::explained::{Explained, subject_of, subject_with_journal};
 use crate::failures::{Failure, report};
 use crate::faults::RunFault;
@@ -13,7 +14,7 @@ use crate::inputs::{Files, ReadFault, title_of};
 use crate::judge::{Unchecked, check_read, check_text};
 use crate::outcomes::survey_text;
 use crate::output::WriteFault;
-use crate::picture::{Undrawn, draw_text};
+use crate::picture::{Undrawn, draw_run, draw_text};
 use crate::printer::print_text;
 use crate::runner::run_source;
 use crate::tests::{Untested, test_text};
@@ -208,6 +209,65 @@ fn check_file<'a, F: Files, W: Write>(
     }
 }
 
+// The status of a test or of a journal of which so many claims fail.
+fn claims_status(failing: usize) -> u8
+    ensures { result ≡ cond (nat_eq failing 0) 0 1 }
+{
+    if failing == 0 { 0 } else { 1 }
+}
+
+// Checks the journal of a file and holds the claims of a test against it: the status says whether all hold.
+#[tactic(auto, using(crate::proofs::Statuses::unread, crate::proofs::Statuses::unclaimed))]
+fn claims_file<'a, F: Files, W: Write>(
+    alloc: Global,
+    file: &'a str,
+    journal: &'a str,
+    script: Option<&'a str>,
+    test: &'a str,
+    files: &mut F,
+    out: &mut W,
+    explained: &mut Explained,
+) -> Result<u8, Failure<'a>>
+    ensures done { IfOk result (HasHeld (F.holds files.old) file.now journal.now (option_map (λ p. p.now) script.entry) test.now (W.contents out.old) (W.contents out.new)) }
+    ensures undone { IfErr result (λ f. LeavesUndone f (W.contents out.old) (W.contents out.new)) }
+{
+    let source = read(file, files)?;
+    let lines = read(journal, files)?;
+    let claims = read(test, files)?;
+    let answers = read_script(alloc, script, files)?;
+    match claims_text(
+        alloc,
+        source.as_slice(),
+        claims.as_slice(),
+        answers.as_slice(),
+        lines.as_slice(),
+        out,
+    ) {
+        Ok(failing) => Ok(claims_status(failing)),
+        Err(RunFault::Test(fault)) => {
+            let document = Document {
+                name: title_of(test),
+                text: claims.as_slice(),
+            };
+            explained.test(alloc, &document, answers.as_slice(), fault);
+            Err(Failure::Fault(RunFault::Test(fault)))
+        }
+        Err(fault) => {
+            let lines = lines.as_slice();
+            let subject = subject_with_journal(
+                file,
+                source.as_slice(),
+                script,
+                answers.as_slice(),
+                journal,
+                lines,
+            );
+            explained.fault(alloc, &subject, fault);
+            Err(Failure::Fault(fault))
+        }
+    }
+}
+
 // What a picture of this file's program is called.
 fn name_of(path: &str) -> &str {
     let title = title_of(path);
@@ -259,6 +319,44 @@ fn draw_file<'a, F: Files, W: Write>(
     }
 }
 
+// Draws the journal of a run of a file's program.
+#[tactic(auto, using(crate::proofs::Statuses::unread, crate::proofs::Statuses::undrawn_run))]
+fn draw_run_of<'a, R: Threads + Wait + Sync, F: Files, W: Write>(
+    rt: &R,
+    alloc: Global,
+    file: &'a str,
+    script: Option<&'a str>,
+    run: &Options,
+    options: orc_draw::Options,
+    files: &mut F,
+    out: &mut W,
+    explained: &mut Explained,
+) -> Result<u8, Failure<'a>>
+    ensures done { IfOk result (HasDrawnRun (F.holds files.old) file.now (option_map (λ p. p.now) script.entry) run.now (W.contents out.old) (W.contents out.new)) }
+    ensures undone { IfErr result (λ f. LeavesUndone f (W.contents out.old) (W.contents out.new)) }
+{
+    let source = read(file, files)?;
+    let answers = read_script(alloc, script, files)?;
+    match draw_run(
+        rt,
+        alloc,
+        name_of(file),
+        source.as_slice(),
+        answers.as_slice(),
+        run,
+        options,
+        out,
+    ) {
+        Ok(()) => Ok(0),
+        Err(Undrawn::Fault(fault)) => {
+            let subject = subject_of(file, source.as_slice(), script, answers.as_slice());
+            explained.fault(alloc, &subject, fault);
+            Err(Failure::Fault(fault))
+        }
+        Err(Undrawn::Rows) => Err(Failure::Rows),
+    }
+}
+
 // Prints the program of a file.
 #[tactic(auto, using(crate::proofs::Statuses::unread, crate::proofs::Statuses::unprinted))]
 fn print_file<'a, F: Files, W: Write>(
@@ -280,13 +378,6 @@ fn print_file<'a, F: Files, W: Write>(
             Err(Failure::Fault(fault))
         }
     }
-}
-
-// The status of a test of which so many claims fail.
-fn test_status(failing: usize) -> u8
-    ensures { result ≡ cond (nat_eq failing 0) 0 1 }
-{
-    if failing == 0 { 0 } else { 1 }
 }
 
 // Holds the claims of a test against the program of a file: the status says whether all hold.
@@ -317,7 +408,7 @@ fn test_file<'a, R: Threads + Wait + Sync, F: Files, W: Write>(
         options,
         out,
     ) {
-        Ok(failing) => Ok(test_status(failing)),
+        Ok(failing) => Ok(claims_status(failing)),
         Err(Untested::Fault(RunFault::Test(fault))) => {
             let document = Document {
                 name: title_of(test),
@@ -363,12 +454,26 @@ fn do_job<'a, R: Threads + Wait + Sync, F: Files, W: Write>(
             journal,
             script,
         } => check_file(alloc, file, journal, script, files, out, explained),
+        Job::Claims {
+            file,
+            journal,
+            script,
+            test,
+        } => claims_file(alloc, file, journal, script, test, files, out, explained),
         Job::Draw {
             file,
             journal,
             script,
             options,
         } => draw_file(alloc, file, journal, script, options, files, out, explained),
+        Job::DrawRun {
+            file,
+            script,
+            run,
+            options,
+        } => draw_run_of(
+            rt, alloc, file, script, &run, options, files, out, explained,
+        ),
         Job::Print { file } => print_file(alloc, file, files, out, explained),
         Job::Test {
             file,
@@ -383,7 +488,7 @@ fn do_job<'a, R: Threads + Wait + Sync, F: Files, W: Write>(
 
 /// Does one command line, whose first word is the program's name, and gives the process's status.
 ///
-/// FILE, JOURNAL and the script are read in this order, before anything else; but where no explanation is asked for, a JOURNAL that is to be
+/// FILE, JOURNAL, TEST and the script are read in this order, before anything else; but where no explanation is asked for, a JOURNAL that is to be
 /// checked is only opened then, and read while it is checked. Standard output is `out`, standard error `err`; what standard error doesn't
 /// take changes no status. Where the status says that a file's text, the command line or the engine was at
 /// fault, nothing was written to standard output. Where it says that a run ended quiet, or was cut by its limit or one of the

@@ -1,11 +1,9 @@
 //! What shows that a claim fails.
 
 use orc_claims::Verdict;
-use orc_claims::happening::{Happening, Occurrence, Phase};
-use orc_journal_text::write_value;
+use orc_findings::{write_happening, write_published};
 use orc_orders::Run;
 use orc_outcome::End;
-use orc_rules::value::Value;
 use orc_tally::Shown;
 use orc_ways::test::Test;
 use std::alloc::{AllocError, Global};
@@ -50,51 +48,6 @@ pub fn write_lines(
     Ok(())
 }
 
-fn write_arguments(values: &[Value], text: &mut Vec<u8>) -> Result<(), AllocError> {
-    for (at, value) in values.iter().enumerate() {
-        if at > 0 {
-            text.extend_from_slice(b", ")?;
-        }
-        write_value(text, *value)?;
-    }
-    Ok(())
-}
-
-fn write_phase(phase: Phase, text: &mut Vec<u8>) -> Result<(), AllocError> {
-    match phase {
-        Phase::Called => text.extend_from_slice(b" called"),
-        Phase::Answered(value) => {
-            text.extend_from_slice(b" answered ")?;
-            write_value(text, value)
-        }
-        Phase::Halted => text.extend_from_slice(b" halted"),
-        Phase::Cancelled => text.extend_from_slice(b" cancelled"),
-    }
-}
-
-// What happens: `Pay(7, 100) answered 2001`.
-fn write_happening(
-    test: &Test<'_>,
-    happening: &Happening,
-    text: &mut Vec<u8>,
-) -> Result<(), AllocError> {
-    match &happening.what {
-        Occurrence::Published(value) => {
-            text.extend_from_slice(b"published ")?;
-            write_value(text, *value)
-        }
-        Occurrence::Call(site, args, phase) => {
-            if let Some(site) = test.sites.get(*site as usize) {
-                text.extend_from_slice(site.name)?;
-            }
-            text.push(b'(')?;
-            write_arguments(args.as_slice(), text)?;
-            text.push(b')')?;
-            write_phase(*phase, text)
-        }
-    }
-}
-
 fn word_of(end: End) -> &'static str {
     match end {
         End::Halted => "Halted",
@@ -112,14 +65,7 @@ fn write_end(alloc: Global, run: &Run, text: &mut Vec<u8>) -> Result<(), AllocEr
     let word = word_of(summary.end);
     let end = format!(in alloc; "ended {word} at time {now}, having published")?;
     text.extend_from_slice(end.as_bytes())?;
-    if run.played.published.is_empty() {
-        text.extend_from_slice(b" nothing")?;
-    }
-    for value in run.played.published.as_slice() {
-        text.push(b' ')?;
-        write_value(text, *value)?;
-    }
-    Ok(())
+    write_published(run.happenings.as_slice(), text)
 }
 
 // Where in a run a claim fails.
@@ -135,7 +81,7 @@ fn write_place(
             let time = happening.time;
             let line = format!(in alloc; "time {time}: ")?;
             text.extend_from_slice(line.as_bytes())?;
-            return write_happening(test, happening, text);
+            return write_happening(test.sites.as_slice(), happening, text);
         }
     }
     write_end(alloc, run, text)

@@ -2,7 +2,7 @@
 
 ghost use Rattle.std.specs.Prelude.{◌≡◌, List, ℕ, length, Some, IfOk, IfErr, OnOk};
 ghost use Rattle.orc_journal_text.specs.Pieces.{MayCome};
-ghost use Rattle.orc_run.specs.Checked.{verdict_line, Accepts, Judges, LeavesUnchecked, LeavesUnjudged, IsBeyond, IsCheckFault, IsJudged, IsOfRun, IsRefusal, IsUnchecked, IsUnjudged, MayFail, StandsSo};
+ghost use Rattle.orc_run.specs.Checked.{verdict_line, Accepts, Judges, LeavesUnchecked, LeavesUnjudged, IsBeyond, IsCheckFault, IsJudged, IsJudgedAt, IsOfRun, IsRefusal, IsUnchecked, IsUnjudged, MayFail, StandsSo};
 ghost use Rattle.orc_run.specs.Running.{of_load};
 ghost use Rattle.orc_run.specs.declared.judge.Unchecked.TheVariants.{Fault};
 ghost use Rattle.orc_journal.specs.Written.{Written};
@@ -19,8 +19,8 @@ use orc_verdict::{TextFault, check_journal, check_lines};
 use std::alloc::{AllocError, Global};
 use std::io::{Read, Write};
 
-// The line of a yes. The error is refused memory.
-fn line_of(alloc: Global, entries: usize, state: State) -> Result<Vec<u8>, AllocError>
+/// The line of a yes. The error is refused memory.
+pub(crate) fn line_of(alloc: Global, entries: usize, state: State) -> Result<Vec<u8>, AllocError>
     ensures { IfOk result (λ t. t.items ≡ verdict_line entries state) }
 {
     let word = state.word();
@@ -28,12 +28,13 @@ fn line_of(alloc: Global, entries: usize, state: State) -> Result<Vec<u8>, Alloc
     Ok(line.into_bytes())
 }
 
-/// A journal that was checked, the sites that answered its calls, and where it has brought the run.
+/// A journal that was checked, the sites that answered its calls, where it has brought the run, and the time there.
 #[derive(Drop)]
 pub struct Judged {
     pub answers: Answers,
     pub journal: Journal,
     pub state: State,
+    pub time: u64,
 }
 
 /// The verdict on a journal's text, by the program that a source spells, with the built-in sites and those of a script. The fault is the
@@ -44,7 +45,7 @@ pub fn judge(
     script: &[u8],
     journal: &[u8],
 ) -> Result<Judged, RunFault>
-    ensures judged { IfOk result (λ j. IsJudged source.now script.now journal.now j.journal j.state) }
+    ensures judged { IfOk result (λ j. IsJudgedAt source.now script.now journal.now j.answers j.journal j.state j.time) }
     ensures cause { IfErr result (IsRefusal source.now script.now journal.now) }
     // What a run of this source and script wrote as its journal has this verdict, unless that journal is beyond a limit.
     ensures accepted { (s : RunSummary) → IsOfRun source.now script.now journal.now s → IfOk result (λ j. StandsSo s.end j.state × (length j.journal.entries ≡ s.entries)) }
@@ -61,6 +62,7 @@ pub fn judge(
             answers: loaded.into_answers(),
             journal,
             state: verdict.state,
+            time: verdict.now,
         }),
         Err(fault) => Err(RunFault::Check(fault)),
     }

@@ -1,6 +1,7 @@
 //! The program `orc` as a library: its commands, its statuses and its texts.
 #![tactic(auto)]
 
+mod claims;
 mod commands;
 mod counterexample;
 mod explained;
@@ -19,6 +20,7 @@ mod runner;
 mod tests;
 mod times;
 
+pub use claims::claims_text;
 pub use commands::command;
 pub use explained::Explained;
 pub use failures::{Failure, report};
@@ -30,7 +32,7 @@ pub use orc_explain_fault::Unread;
 pub use orc_outcome::{End, Summary};
 pub use outcomes::survey_text;
 pub use output::{WriteFault, write_text};
-pub use picture::{Undrawn, draw_text};
+pub use picture::{Undrawn, draw_run, draw_text};
 pub use printer::print_text;
 pub use runner::run_text;
 pub use tests::{Untested, test_text};

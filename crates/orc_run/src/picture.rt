@@ -1,15 +1,23 @@
 //! From a journal's text to its picture.
 
-ghost use Rattle.std.specs.Prelude.{IfOk, IfErr, OnOk};
-ghost use Rattle.orc_run.specs.Drawn.{Draws, IsUndrawable, IsUndrawnFor, LeavesUndrawn};
+ghost use Rattle.std.specs.Prelude.{◌≡◌, IfOk, IfErr, OnOk, List, ℕ};
+ghost use Rattle.orc_outcome.specs.declared.end.Summary.{Summary};
+ghost use Rattle.orc_run.specs.Drawn.{Draws, DrawsRun, IsUndrawable, IsUndrawnFor, LeavesUndrawn, LeavesUndrawnRun, with_journal};
+ghost use Rattle.orc_run.specs.Running.{Runs};
 
 use crate::faults::RunFault;
 use crate::judge::{Judged, judge};
 use crate::output::{WriteFault, write_text};
+use crate::runner::run_source;
+use orc_cli::{Options as RunOptions, Wanted};
 use orc_draw::{DrawFault, Options, Subject, draw};
+use orc_engine::EngineFault;
+use orc_outcome::End;
 use orc_syntax::{Ast, parse};
 use std::alloc::Global;
 use std::io::Write;
+use std::sync::Wait;
+use std::thread::Threads;
 
 /// Why no picture was written.
 #[derive(Clone, Copy, Debug, PartialEq, Eq)]
@@ -35,6 +43,7 @@ fn picture_of<'a>(
         answers,
         journal,
         state,
+        time: _,
     } = judged;
     let subject = Subject {
         name,
@@ -81,5 +90,83 @@ pub fn draw_text<W: Write>(
     match write_text(out, picture.as_str().as_bytes()) {
         Ok(()) => Ok(()),
         Err(fault) => Err(Undrawn::Fault(RunFault::Write(fault))),
+    }
+}
+
+// The same run, of which the journal is wanted.
+fn with_journal(options: &RunOptions) -> RunOptions
+    ensures { result ≡ with_journal options.now }
+{
+    RunOptions {
+        workers: options.workers,
+        order: options.order,
+        limit: options.limit,
+        wanted: Wanted::Journal,
+    }
+}
+
+// The journal's text of a run.
+fn journal_of<R: Threads + Wait + Sync>(
+    rt: &R,
+    alloc: Global,
+    source: &[u8],
+    script: &[u8],
+    run: &RunOptions,
+) -> Result<Vec<u8>, Undrawn>
+    ensures { IfOk result (λ text. (s : Summary) × Runs source.now script.now (with_journal run.now) s text.items) }
+{
+    let mut text = Vec::new(alloc);
+    match run_source(
+        rt,
+        alloc,
+        source,
+        script,
+        &with_journal(run),
+        false,
+        &mut text,
+    ) {
+        Ok((_loaded, played)) => {
+            if played.summary.end == End::Memory {
+                return Err(Undrawn::Fault(RunFault::Engine(EngineFault::Memory)));
+            }
+            Ok(text)
+        }
+        Err(fault) => Err(Undrawn::Fault(fault)),
+    }
+}
+
+/// Runs the program that a source spells as [`run_text`](crate::run_text) does, and draws the run's journal as [`draw_text`] does.
+///
+/// A fault is answered where either of them answers it, and the same one; and `Engine` where memory was refused in the run. Nothing is written
+/// then, but at a fault of the output a prefix of a picture.
+#[tactic(auto, using(crate::proofs::Drawing::undrawn_after, crate::proofs::Drawing::undrawn_still))]
+pub fn draw_run<R: Threads + Wait + Sync, W: Write>(
+    rt: &R,
+    alloc: Global,
+    name: &str,
+    source: &[u8],
+    script: &[u8],
+    run: &RunOptions,
+    options: Options,
+    out: &mut W,
+) -> Result<(), Undrawn>
+    ensures drawn { OnOk result (DrawsRun source.now script.now run.now (W.contents out.old) (W.contents out.new)) }
+    ensures undrawn { IfErr result (LeavesUndrawnRun (W.contents out.old) (W.contents out.new)) }
+{
+    let journal = match journal_of(rt, alloc, source, script, run) {
+        Ok(journal) => journal,
+        Err(undrawn) => return Err(undrawn),
+    };
+    match draw_text(
+        alloc,
+        name,
+        source,
+        script,
+        journal.as_slice(),
+        options,
+        out,
+    ) {
+        Ok(()) => Ok(()),
+        Err(undrawn) => Err(undrawn),
     }
 }

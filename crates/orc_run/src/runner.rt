@@ -22,11 +22,10 @@ use crate::publications::write_values;
 use crate::times::write_times;
 // The engine. Another one with the same contract takes its place here.
 use orc_cli::{Options, Wanted};
-use orc_engine::{EngineFault, run_alone, run_pool};
+use orc_engine::{EngineFault, run_alone, run_parallel};
 use orc_load::{Loaded, load};
 use orc_outcome::{Played, Summary};
 use orc_rules::answers::Answers;
-use orc_site::{Open, Scripted};
 use std::alloc::Global;
 use std::io::Write;
 use std::sync::Wait;
@@ -60,13 +59,11 @@ fn play<R: Threads + Wait + Sync>(
             options.limit,
         );
     }
-    run_pool(
+    run_parallel(
         rt,
         alloc,
         &loaded.program,
         &loaded.answers,
-        &Scripted::new(&loaded.answers),
-        &Open,
         options.workers as usize,
         keeps,
         options.limit,

@@ -1,6 +1,6 @@
 //! From a test's text to what is told of its claims.
 
-ghost use Rattle.std.specs.Prelude.{◌≡◌, List, ℕ, Some, IfOk, IfErr, OnOk};
+ghost use Rattle.std.specs.Prelude.{◌≡◌, List, ℕ, Some, IfOk, IfErr, OnOk, length};
 ghost use Rattle.std.specs.List.{AllZip};
 ghost use Rattle.std.specs.Io.KnownBytes.{Appends};
 ghost use Rattle.orc_outcome.specs.declared.end.Summary.{Summary};
@@ -12,7 +12,7 @@ ghost use Rattle.orc_site.specs.Script.{Says};
 ghost use Rattle.orc_ways.specs.Drafting.{test_of};
 ghost use Rattle.orc_ways.specs.Finishing.{Says as SaysTest};
 ghost use Rattle.orc_run.specs.Running.{Ran};
-ghost use Rattle.orc_run.specs.Tested.{HasFailing, IsOwnFault, IsScript, IsTried, LeavesUntested, Writes, of_trial, options_of};
+ghost use Rattle.orc_run.specs.Tested.{AreScripts, AreWays, HasFailing, IsOwnFault, IsScript, IsTried, LeavesUntested, Writes, of_trial, options_of};
 
 use crate::counterexample::{write_failing, write_lines};
 use crate::faults::RunFault;
@@ -52,6 +52,8 @@ const NO_MEMORY: Untested = Untested::Fault(RunFault::Engine(EngineFault::Memory
 /// The scripts of the ways of a case that are tried.
 #[derive(Drop)]
 pub struct CaseScripts {
+    /// How many ways the case has.
+    pub count: u64,
     pub scripts: Vec<Vec<u8>>,
 }
 
@@ -64,42 +66,81 @@ struct Tester<'s, 'a, R> {
     workers: usize,
 }
 
-// The ways of each case. The fault is T6 where one has too many, or refused memory.
-fn ways_of(alloc: Global, test: &Test<'_>) -> Result<Vec<Ways>, TestFault> {
-    let mut all = Vec::new(alloc);
-    for (at, case) in test.cases.iter().enumerate() {
-        let Ok(found) = Ways::of_case(alloc, test, at) else {
-            return Err(TestFault::Memory);
-        };
-        let Some(ways) = found else {
-            return Err(TestFault::Ways(case.line));
-        };
-        if all.push(ways).is_err() {
-            return Err(TestFault::Memory);
-        }
-    }
-    Ok(all)
+// A fault of the test's text.
+fn unread(fault: TestFault) -> Untested
+    ensures { result ≡ Untested.Fault (RunFault.Test fault) }
+{
+    Untested::Fault(RunFault::Test(fault))
 }
 
-// The scripts of each case, so many at most, each with these lines behind it.
-fn scripts_of(
+// The ways of each case. The fault is T6 where one has too many, or refused memory.
+#[tactic(auto, using(crate::proofs::Scripting::one_case))]
+fn ways_of(alloc: Global, test: &Test<'_>) -> Result<Vec<Ways>, Untested>
+    ensures ways { IfOk result (λ ws. AreWays (test_of test.now) 0 ws.items × (length ws.items ≡ length test.now.cases.items)) }
+    ensures sound { IfErr result (λ f. IsOwnFault f → ⊥) }
+{
+    let mut all = Vec::new(alloc);
+    let mut at = 0;
+    let mut rest = test.cases.as_slice();
+    loop {
+        match rest {
+            [] => return Ok(all),
+            [case, more @ ..] => {
+                let Ok(found) = Ways::of_case(alloc, test, at) else {
+                    return Err(unread(TestFault::Memory));
+                };
+                let Some(ways) = found else {
+                    return Err(unread(TestFault::Ways(case.line)));
+                };
+                if all.push(ways).is_err() {
+                    return Err(unread(TestFault::Memory));
+                }
+                at += 1;
+                rest = more;
+            }
+        }
+    }
+}
+
+// The scripts of a case, so many at most, each with these lines behind it.
+fn scripts_of(alloc: Global, ways: &Ways, most: u64, behind: &[u8]) -> Result<CaseScripts, Untested>
+    ensures scripts { IfOk result (AreScripts most behind.now ways.now) }
+    ensures sound { IfErr result (λ f. IsOwnFault f → ⊥) }
+{
+    match ways.scripts(alloc, most, behind) {
+        Ok(scripts) => Ok(CaseScripts {
+            count: ways.count(),
+            scripts,
+        }),
+        Err(_) => Err(NO_MEMORY),
+    }
+}
+
+// The scripts of each case.
+#[tactic(auto, using(crate::proofs::Scripting::one_written))]
+fn all_scripts(
     alloc: Global,
     ways: &[Ways],
     most: u64,
     behind: &[u8],
 ) -> Result<Vec<CaseScripts>, Untested>
+    ensures scripts { IfOk result (λ ss. AllZip (AreScripts most behind.now) ways.now ss.items) }
     ensures sound { IfErr result (λ f. IsOwnFault f → ⊥) }
 {
     let mut all = Vec::new(alloc);
-    for ways in ways {
-        let Ok(scripts) = ways.scripts(alloc, most, behind) else {
-            return Err(NO_MEMORY);
-        };
-        if all.push(CaseScripts { scripts }).is_err() {
-            return Err(NO_MEMORY);
+    let mut rest = ways;
+    loop {
+        match rest {
+            [] => return Ok(all),
+            [ways, more @ ..] => {
+                let scripts = scripts_of(alloc, ways, most, behind)?;
+                if all.push(scripts).is_err() {
+                    return Err(NO_MEMORY);
+                }
+                rest = more;
+            }
         }
     }
-    Ok(all)
 }
 
 // A trial's fault, as a run's.
@@ -113,8 +154,8 @@ fn run_fault(fault: TrialFault) -> RunFault
 }
 
 impl<R: Threads + Sync> Tester<'_, '_, R> {
-    // Tries the ways of a case, which has so many in all.
-    fn try_case(&self, scripts: &CaseScripts, ways: u64) -> Result<CaseReport, Untested>
+    // Tries the ways of a case.
+    fn try_case(&self, scripts: &CaseScripts) -> Result<CaseReport, Untested>
         ensures tried { IfOk result (IsTried self.now.trials.now scripts.now) }
         ensures sound { IfErr result (λ f. IsOwnFault f → ⊥) }
     {
@@ -137,7 +178,7 @@ impl<R: Threads + Sync> Tester<'_, '_, R> {
             cut,
         } = told;
         Ok(CaseReport {
-            ways,
+            ways: scripts.count,
             tried,
             cut,
             told,
@@ -146,26 +187,20 @@ impl<R: Threads + Sync> Tester<'_, '_, R> {
 
     // Tries the ways of each case.
     #[tactic(auto, using(crate::proofs::Testing::one_tried))]
-    fn try_cases(&self, cases: &[CaseScripts], ways: &[Ways]) -> Result<Vec<CaseReport>, Untested>
+    fn try_cases(&self, cases: &[CaseScripts]) -> Result<Vec<CaseReport>, Untested>
         ensures tried { IfOk result (λ reports. AllZip (IsTried self.now.trials.now) cases.now reports.items) }
         ensures sound { IfErr result (λ f. IsOwnFault f → ⊥) }
     {
         let mut reports = Vec::new(self.alloc);
-        let mut at = 0;
         let mut rest = cases;
         loop {
             match rest {
                 [] => return Ok(reports),
                 [scripts, more @ ..] => {
-                    let count = match ways.get(at) {
-                        Some(ways) => ways.count(),
-                        None => 0,
-                    };
-                    let report = self.try_case(scripts, count)?;
+                    let report = self.try_case(scripts)?;
                     if reports.push(report).is_err() {
                         return Err(NO_MEMORY);
                     }
-                    at += 1;
                     rest = more;
                 }
             }
@@ -446,7 +481,7 @@ fn try_and_write<'t, 'a, R: Threads + Wait + Sync, W: Write>(
         trials,
         workers: options.workers as usize,
     };
-    let reports = tester.try_cases(cases, ways)?;
+    let reports = tester.try_cases(cases)?;
     let report = Report {
         test,
         cases: reports.as_slice(),
@@ -471,11 +506,9 @@ fn hold<'t, 'a, R: Threads + Wait + Sync, W: Write>(
     ensures fault { IfErr result (LeavesUntested (W.contents out.old) (W.contents out.new)) }
     ensures sound { IfErr result (λ f. IsOwnFault f → ⊥) }
 {
-    let ways = match ways_of(alloc, test) {
-        Ok(ways) => ways,
-        Err(fault) => return Err(Untested::Fault(RunFault::Test(fault))),
-    };
-    let cases = scripts_of(alloc, ways.as_slice(), options.ways, script)?;
+    let ways = ways_of(alloc, test)?;
+    let known = ways.as_slice();
+    let cases = all_scripts(alloc, known, options.ways, script)?;
     let sites = test.sites.as_slice();
     let claims = test.claims.as_slice();
     let trials = Trials {
@@ -486,16 +519,7 @@ fn hold<'t, 'a, R: Threads + Wait + Sync, W: Write>(
         limit: options.limit,
     };
     let tried = cases.as_slice();
-    let number = try_and_write(
-        rt,
-        alloc,
-        &trials,
-        test,
-        tried,
-        ways.as_slice(),
-        options,
-        out,
-    )?;
+    let number = try_and_write(rt, alloc, &trials, test, tried, known, options, out)?;
     Ok(number)
 }
 
@@ -517,7 +541,7 @@ fn known_of<'a>(alloc: Global, text: &'a [u8], others: &Answers) -> Result<Test<
 {
     match read_test(alloc, text, others) {
         Ok(test) => Ok(test),
-        Err(fault) => Err(Untested::Fault(RunFault::Test(fault))),
+        Err(fault) => Err(unread(fault)),
     }
 }
 

@@ -27,7 +27,7 @@ or_true true = refl
 or_true false = refl
 
 -- a claim fails where it isn't said to hold
-fails_as : (c : Claim) (o : Sight) → says_so (Judged.verdict (said c o)) ≡ holds c o.happened o.state o.now
+pub fails_as : (c : Claim) (o : Sight) → says_so (Judged.verdict (said c o)) ≡ holds c o.happened o.state o.now
 fails_as c o =
     let each : map (λ (j : Judged). says_so j.verdict) (said c o ∷ []) ≡ map (λ c. holds c o.happened o.state o.now) (c ∷ []) = says_what_holds (c ∷ []) o.happened o.state o.now (said c o ∷ []) 1 (omega arith) (sym (ap (map (λ c. judged c o.happened o.state o.now)) (take_all 1 (c ∷ []) (omega arith)))) in
     cc each

@@ -7,5 +7,5 @@ mod table;
 mod told;
 
 pub use sight::{ClaimSite, happenings_of};
-pub use table::{CaseReport, Report, Row, Shown, failing, failure_at};
+pub use table::{CaseReport, Report, Row, Shown, claim_text, failing, failure_at, note, write_sum};
 pub use told::{Failure, Told, joined, noted, nothing_told};

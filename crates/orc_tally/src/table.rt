@@ -1,6 +1,6 @@
 //! The table that tells of a test's claims.
 
-ghost use Rattle.std.specs.Prelude.{◌≡◌, ◌++◌, IfOk, OnOk, length, map, true};
+ghost use Rattle.std.specs.Prelude.{◌≡◌, ◌++◌, IfOk, OnOk, Some, length, map, true};
 ghost use Rattle.std.specs.List.{slice_get};
 ghost use Rattle.orc_tally.specs.Table.{before_comment, case_cut, case_rows, case_text, case_ways, claim_at, claim_rows, comma, failing, failing_in, failure_at, failure_of, fails_text, holds_text, is_held, is_same, is_tested, lines, name_at, note, orders_text, row_of, row_text, rows, section_of, shares, shown_in, shown_or, sum_text, table, tested_in, told_here, trimmed, ways_text};
 
@@ -278,6 +278,13 @@ fn trimmed(text: &[u8]) -> &[u8]
     text.trim_ascii()
 }
 
+/// A claim as its line has it, without a comment and the blanks round it.
+pub fn claim_text<'a>(line: &ClaimLine<'a>) -> &'a [u8]
+    ensures { result.now ≡ claim_at (Some line.now) }
+{
+    trimmed(before_comment(line.text))
+}
+
 impl Report<'_, '_> {
     fn write_name(&self, case: usize, text: &mut Vec<u8>) -> Result<(), AllocError>
         ensures { OnOk result (text.new.items ≡ text.old.items ++ name_at (slice_get self.now.test.now.cases.items case)) }
@@ -292,7 +299,7 @@ impl Report<'_, '_> {
         ensures { OnOk result (text.new.items ≡ text.old.items ++ claim_at (slice_get self.now.test.now.claim_lines.items claim)) }
     {
         match self.test.claim_lines.get(claim) {
-            Some(line) => text.extend_from_slice(trimmed(before_comment(line.text))),
+            Some(line) => text.extend_from_slice(claim_text(line)),
             None => Ok(()),
         }
     }
@@ -469,19 +476,6 @@ impl Report<'_, '_> {
         }
     }
 
-    // The last line.
-    fn write_sum(&self, alloc: Global, failing: usize, text: &mut Vec<u8>) -> Result<(), AllocError>
-        ensures { OnOk result (text.new.items ≡ text.old.items ++ sum_text failing (length self.now.test.now.claims.items)) }
-    {
-        let claims = self.test.claims.len();
-        let line = if failing == 0 {
-            format!(in alloc; "ok: {claims} claims\n")?
-        } else {
-            format!(in alloc; "fails: {failing} of {claims} claims\n")?
-        };
-        text.extend_from_slice(line.as_bytes())
-    }
-
     /// The table: a line for each case and each claim, below each that fails its details, which come in the order of the rows, and a line that tells how many
     /// fail. The error is refused memory.
     pub fn table(&self, alloc: Global, details: &[Vec<u8>]) -> Result<Vec<u8>, AllocError>
@@ -490,7 +484,12 @@ impl Report<'_, '_> {
         let rows = self.rows(alloc)?;
         let mut text = Vec::new(alloc);
         self.write_rows(alloc, details, rows.as_slice(), &mut text)?;
-        self.write_sum(alloc, failing(rows.as_slice()), &mut text)?;
+        write_sum(
+            alloc,
+            failing(rows.as_slice()),
+            self.test.claims.len(),
+            &mut text,
+        )?;
         Ok(text)
     }
 }
@@ -510,7 +509,8 @@ fn comma(is_first: bool) -> &'static str
     if is_first { "" } else { ", " }
 }
 
-fn note(tested: bool) -> &'static str
+/// The end of the line of a claim that holds.
+pub fn note(tested: bool) -> &'static str
     ensures { result.now ≡ note tested }
 {
     if tested {
@@ -518,4 +518,21 @@ fn note(tested: bool) -> &'static str
     } else {
         "    (never put to the test)\n"
     }
+}
+
+/// Writes the last line: how many of so many claims fail. The error is refused memory.
+pub fn write_sum(
+    alloc: Global,
+    failing: usize,
+    claims: usize,
+    text: &mut Vec<u8>,
+) -> Result<(), AllocError>
+    ensures { OnOk result (text.new.items ≡ text.old.items ++ sum_text failing claims) }
+{
+    let line = if failing == 0 {
+        format!(in alloc; "ok: {claims} claims\n")?
+    } else {
+        format!(in alloc; "fails: {failing} of {claims} claims\n")?
+    };
+    text.extend_from_slice(line.as_bytes())
 }

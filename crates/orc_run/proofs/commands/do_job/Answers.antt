@@ -5,3 +5,9 @@ returns-in-Run-clause-done g c = rw c.in-Run.is c.run_file.ensures.done
 
 pub returns-in-Test-clause-done : goal.returns-in-Test-clause-done
 returns-in-Test-clause-done g c = rw c.in-Test.is c.test_file.ensures.done
+
+pub returns-in-Claims-clause-done : goal.returns-in-Claims-clause-done
+returns-in-Claims-clause-done g c = rw c.in-Claims.is c.claims_file.ensures.done
+
+pub returns-in-DrawRun-clause-done : goal.returns-in-DrawRun-clause-done
+returns-in-DrawRun-clause-done g c = rw c.in-DrawRun.is c.draw_run_of.ensures.done

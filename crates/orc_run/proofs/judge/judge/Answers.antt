@@ -1,4 +1,6 @@
+use Rattle.std.proofs.Common.{subst, sym}
 use Rattle.std.proofs.lemmas.Result.{err_from_is_err_and}
+use Rattle.orc_run.specs.Checked.{IsJudgedAt}
 use Rattle.orc_run.proofs.LoadFaults.{beyond}
 use Rattle.orc_run.proofs.Accepting.{told_of, text_beyond, check_beyond, verdict_so}
 use Rattle.orc_run.proofs.judge.judge.Goals as goal
@@ -30,3 +32,10 @@ returns-in-Ok-check_journal-clause-accepted c = λ s of.
     let (options, kept, told) = told_of c.args.source.now c.args.script.now c.args.journal.now s loaded.program loaded.answers of c.in_ok-loaded.ensures.says c.in_ok-loaded.ensures.spells in
     let verdict = c.in-Ok-check_journal.verdict in
     verdict_so options s c.args.journal.now loaded.program loaded.answers c.are_apart.ensures.0 kept told c.in-Ok.journal c.in-Ok.ensures.read verdict.state verdict.now c.in-Ok-check_journal.ensures.verdict
+
+-- the sites that answered its calls are those that were read
+pub returns-in-Ok-check_journal-clause-judged : goal.returns-in-Ok-check_journal-clause-judged
+returns-in-Ok-check_journal-clause-judged c =
+    let loaded = c.in_ok-loaded.loaded in
+    let verdict = c.in-Ok-check_journal.verdict in
+    subst (λ t. IsJudgedAt c.args.source.now c.args.script.now c.args.journal.now t c.in-Ok.journal verdict.state verdict.now) (sym c.into_answers.ensures) (loaded.program, c.in_ok-loaded.ensures.says, c.in_ok-loaded.ensures.spells, c.in-Ok.ensures.read, c.in-Ok-check_journal.ensures.verdict)

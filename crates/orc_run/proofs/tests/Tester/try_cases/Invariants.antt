@@ -1,5 +1,5 @@
 -- What is left tells the rest.
-use Rattle.std.proofs.Common.{◌≡◌, ◌+◌, ◌++◌, List, length}
+use Rattle.std.proofs.Common.{◌++◌, List, length}
 use Rattle.std.specs.List.{AllZip}
 use Rattle.orc_tally.specs.declared.table.CaseReport.{CaseReport}
 use Rattle.orc_run.specs.Tested.{IsTried}
@@ -9,4 +9,4 @@ abbrev pub decreases-loop-rest : goal.decreases-loop-rest
 decreases-loop-rest g l = length l.rest
 
 abbrev pub invariant-loop-rest : goal.invariant-loop-rest
-invariant-loop-rest g l = ((ys : List CaseReport) → AllZip (IsTried l.fn.self.trials.now) l.rest ys → AllZip (IsTried l.fn.self.trials.now) l.fn.cases (l.reports.items ++ ys)) × (l.at + length l.rest ≡ length l.fn.cases)
+invariant-loop-rest g l = (ys : List CaseReport) → AllZip (IsTried l.fn.self.trials.now) l.rest ys → AllZip (IsTried l.fn.self.trials.now) l.fn.cases (l.reports.items ++ ys)

@@ -1,0 +1,14 @@
+use Rattle.std.proofs.Common.{refl}
+use Rattle.orc_run.proofs.KnownFiles.{held_before, read_before}
+use Rattle.orc_run.proofs.commands.draw_run_of.Goals as goal
+
+-- a run of the files that the words name was drawn
+pub returns-in-Ok-clause-done : goal.returns-in-Ok-clause-done
+returns-in-Ok-clause-done g c = (
+  c.as_slice.result.now,
+  c.as_slice-2.result.now,
+  held_before _ _ _ _ refl c.as_slice.ensures.value c.in_ok-source.ensures.held,
+  read_before _ _ _ _ _ c.in_ok-source.ensures.same c.as_slice-2.ensures.value c.in_ok-answers.ensures.held,
+  c.in-Ok.ensures.drawn,
+  refl,
+)

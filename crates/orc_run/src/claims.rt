@@ -1,0 +1,111 @@
+//! From a journal's text to what the claims of a test say of its run.
+
+ghost use Rattle.std.specs.Prelude.{◌≡◌, ◌++◌, List, ℕ, length, IfOk, IfErr};
+ghost use Rattle.orc_rules.specs.Sites.{Table};
+ghost use Rattle.orc_site.specs.Script.{Says};
+ghost use Rattle.orc_ways.specs.Drafting.{test_of};
+ghost use Rattle.orc_ways.specs.Finishing.{Says as SaysTest};
+ghost use Rattle.orc_findings.specs.Findings.{failing, findings_text};
+ghost use Rattle.orc_run.specs.Checked.{verdict_line};
+ghost use Rattle.orc_run.specs.Claimed.{HasClaimed, IsUnclaimedFor, IsUnreadTest, LeavesUnclaimed, sight_at};
+
+use crate::faults::RunFault;
+use crate::judge::{Judged, judge, line_of};
+use crate::output::{WriteFault, write_text};
+use orc_findings::{Findings, Seen, find};
+use orc_orders::claim_sites;
+use orc_site::read_script;
+use orc_syntax::parse;
+use orc_tally::happenings_of;
+use orc_ways::read_test;
+use orc_ways::test::Test;
+use std::alloc::{AllocError, Global};
+use std::io::Write;
+
+// The test that a text says, beside this source and script.
+fn test_beside<'a>(
+    alloc: Global,
+    source: &[u8],
+    test: &'a [u8],
+    script: &[u8],
+) -> Result<Test<'a>, RunFault>
+    ensures says { IfOk result (λ t. (others : Table) × Says script.now others × SaysTest test.now others (test_of t)) }
+    ensures cause { IfErr result (IsUnreadTest source.now test.now script.now) }
+{
+    let _ast = match parse(alloc, source) {
+        Ok(ast) => ast,
+        Err(fault) => return Err(RunFault::Syntax(fault)),
+    };
+    let others = match read_script(alloc, script) {
+        Ok(others) => others,
+        Err(fault) => return Err(RunFault::Script(fault)),
+    };
+    match read_test(alloc, test, &others) {
+        Ok(test) => Ok(test),
+        Err(fault) => Err(RunFault::Test(fault)),
+    }
+}
+
+// What the claims say of a journal that was checked. The error is refused memory.
+fn findings_of(alloc: Global, test: &Test<'_>, judged: &Judged) -> Result<Findings, AllocError>
+    ensures text { IfOk result (λ f. f.text.items ≡ findings_text test.now (sight_at test.now judged.now.answers judged.now.journal judged.now.state judged.now.time)) }
+    ensures failing { IfOk result (λ f. f.failing ≡ failing test.now (sight_at test.now judged.now.answers judged.now.journal judged.now.state judged.now.time)) }
+{
+    let sites = claim_sites(alloc, &judged.answers, test.sites.as_slice())?;
+    let happenings = happenings_of(alloc, sites.as_slice(), &judged.journal)?;
+    let seen = Seen {
+        happenings: happenings.as_slice(),
+        state: judged.state,
+        time: judged.time,
+    };
+    find(alloc, test, &seen)
+}
+
+// The whole text: the line of the check, and what the claims say. The error is refused memory.
+fn text_of(alloc: Global, judged: &Judged, findings: &Findings) -> Result<Vec<u8>, AllocError>
+    ensures { IfOk result (λ t. t.items ≡ verdict_line (length judged.now.journal.entries) judged.now.state ++ findings.now.text.items) }
+{
+    let mut text = line_of(alloc, judged.journal.len(), judged.state)?;
+    text.extend_from_slice(findings.text.as_slice())?;
+    Ok(text)
+}
+
+/// Checks a journal's text as [`check_text`](crate::check_text) does, and holds the claims of a test that stand below `always` against its run.
+/// Writes the line of the check, a line for each claim, below each that fails where it does, and a last one that tells how many fail. Answers how
+/// many fail.
+///
+/// A fault is answered where the source's text, the script, the test, the source's names, the journal's text or one of its entries is at fault, in
+/// this order; and where memory for what is written is refused or the output isn't taken whole. Nothing is written then, but at a fault of the
+/// output a prefix of the text.
+#[tactic(auto, using(crate::proofs::Claiming::unread_for, crate::proofs::Claiming::unread_leaves, crate::proofs::Claiming::refused_for, crate::proofs::Claiming::refused_leaves))]
+pub fn claims_text<W: Write>(
+    alloc: Global,
+    source: &[u8],
+    test: &[u8],
+    script: &[u8],
+    journal: &[u8],
+    out: &mut W,
+) -> Result<usize, RunFault>
+    ensures claimed { IfOk result (HasClaimed source.now test.now script.now journal.now (W.contents out.old) (W.contents out.new)) }
+    ensures fault { IfErr result (LeavesUnclaimed source.now test.now script.now journal.now (W.contents out.old) (W.contents out.new)) }
+    ensures cause { IfErr result (IsUnclaimedFor source.now test.now script.now journal.now) }
+{
+    let known = match test_beside(alloc, source, test, script) {
+        Ok(known) => known,
+        Err(fault) => return Err(fault),
+    };
+    let judged = match judge(alloc, source, script, journal) {
+        Ok(judged) => judged,
+        Err(fault) => return Err(fault),
+    };
+    let Ok(findings) = findings_of(alloc, &known, &judged) else {
+        return Err(RunFault::Write(WriteFault));
+    };
+    let Ok(text) = text_of(alloc, &judged, &findings) else {
+        return Err(RunFault::Write(WriteFault));
+    };
+    match write_text(out, text.as_slice()) {
+        Ok(()) => Ok(findings.failing),
+        Err(fault) => Err(RunFault::Write(fault)),
+    }
+}
