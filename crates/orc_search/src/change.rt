@@ -1,0 +1,280 @@
+//! Changes of all of a small term: something is put for a name, a cell is settled, or time passes.
+
+ghost use Rattle.std.specs.Prelude.{◌≡◌, ◌<◌, List, length, map, false, Some, slice_get, IfOk, OnOk, IfSome};
+ghost use Rattle.orc_rules.specs.Term.{put_param};
+ghost use Rattle.orc_search.specs.Small.{settle_param};
+ghost use Rattle.orc_search.specs.Ticks.{less};
+ghost use Rattle.orc_search.specs.Nodes.{tip_of, small_at, smalls, Extends};
+ghost use Rattle.orc_search.specs.declared.change.Progress.TheVariants.{Is};
+ghost use Rattle.orc_search.specs.Changes.{changed, changed_param, changed_rest, left_stays, right_stays, AreImages, IsPlan, IsPart, ProgressIs};
+
+use crate::node::{Joint, Node, Tip, Waiting};
+use crate::terms::Terms;
+use orc_rules::param::Param;
+use orc_rules::value::{Found, Value};
+use std::alloc::{AllocError, Global};
+
+/// What happens to all of a term: a parameter is put for a name, a value or nothing for a cell, so that the cells behind it move up by one, or
+/// time passes.
+#[derive(Clone, Copy)]
+pub enum Change {
+    Put(Param, u32),
+    Settle(Param, u64),
+    Pass(u64),
+}
+
+/// A term and what it becomes, by their numbers.
+#[derive(Clone, Copy)]
+pub struct Image {
+    pub from: usize,
+    pub to: usize,
+}
+
+/// What a term becomes, or a part that has to be changed before it, by their numbers.
+#[derive(Clone, Copy)]
+pub enum Progress {
+    Is(usize),
+    Wants(usize),
+}
+
+fn put_param(q: Param, x: u32, param: Param) -> Param
+    ensures { result ≡ put_param q x param }
+{
+    match param {
+        Param::Name(y) => { if x == y { q } else { param } }
+        _ => param,
+    }
+}
+
+fn settle_param(w: Param, n: u64, param: Param) -> Param
+    ensures { result ≡ settle_param w n param }
+{
+    match param {
+        Param::Cell(c) => {
+            if n == c {
+                w
+            } else if n < c {
+                Param::Cell(c - 1)
+            } else {
+                param
+            }
+        }
+        _ => param,
+    }
+}
+
+fn changed_param(change: Change, param: Param) -> Param
+    ensures { result ≡ changed_param change param }
+{
+    match change {
+        Change::Put(q, x) => put_param(q, x, param),
+        Change::Settle(w, n) => settle_param(w, n, param),
+        Change::Pass(_) => param,
+    }
+}
+
+fn changed_params(alloc: Global, change: Change, params: &[Param]) -> Result<Vec<Param>, AllocError>
+    ensures { IfOk result (λ v. v.items ≡ map (changed_param change) params.now) }
+{
+    let mut changed = Vec::new(alloc);
+    for param in params {
+        changed.push(changed_param(change, *param))?;
+    }
+    Ok(changed)
+}
+
+fn less(by: u64, rest: Found) -> Found
+    ensures { result ≡ less by rest }
+{
+    match rest {
+        Found::After(answer, delay) => Found::After(answer, delay.saturating_sub(by)),
+        Found::Never => Found::Never,
+    }
+}
+
+fn changed_rest(change: Change, rest: Found) -> Found
+    ensures { result ≡ changed_rest change rest }
+{
+    match change {
+        Change::Pass(by) => less(by, rest),
+        _ => rest,
+    }
+}
+
+// What a term without parts becomes. The error is refused memory.
+fn changed_tip(alloc: Global, change: Change, tip: &Tip) -> Result<Tip, AllocError>
+    ensures { IfOk result (λ t. tip_of t ≡ changed change (tip_of tip.now)) }
+{
+    match tip {
+        Tip::Nothing => Ok(Tip::Nothing),
+        Tip::Gives(param) => Ok(Tip::Gives(changed_param(change, *param))),
+        Tip::Asks(site, params) => {
+            let params = changed_params(alloc, change, params)?;
+            Ok(Tip::Asks(*site, params))
+        }
+        Tip::Enters(definition, params) => {
+            let params = changed_params(alloc, change, params)?;
+            Ok(Tip::Enters(*definition, params))
+        }
+        Tip::Awaits(waiting) => {
+            let args = Vec::from_slice(alloc, &waiting.args)?;
+            Ok(Tip::Awaits(Waiting {
+                site: waiting.site,
+                args,
+                rest: changed_rest(change, waiting.rest),
+            }))
+        }
+    }
+}
+
+// Whether the left part of such a term stays as it is: the name that is put is another one there.
+fn left_stays(change: Change, joint: Joint) -> bool
+    ensures { result ≡ left_stays change joint }
+{
+    match (change, joint) {
+        (Change::Put(_, x), Joint::Prunes(y)) => x == y,
+        _ => false,
+    }
+}
+
+fn right_stays(change: Change, joint: Joint) -> bool
+    ensures { result ≡ right_stays change joint }
+{
+    match (change, joint) {
+        (Change::Put(_, x), Joint::Feeds(y)) => x == y,
+        _ => false,
+    }
+}
+
+// What the term of that number is changed from. The error is refused memory, or that there is no such term.
+fn plan(terms: &Terms, alloc: Global, change: Change, at: usize) -> Result<Node, AllocError>
+    ensures { IfOk result (λ n. IsPlan (smalls terms.now) change at n) }
+{
+    match terms.node(at) {
+        None => Err(AllocError),
+        Some(Node::Pair(joint, f, g)) => Ok(Node::Pair(*joint, *f, *g)),
+        Some(Node::Tip(tip)) => {
+            let tip = changed_tip(alloc, change, tip)?;
+            Ok(Node::Tip(tip))
+        }
+    }
+}
+
+fn image_at(images: &[Image], k: usize) -> Option<Image>
+    ensures { result ≡ slice_get images.now k }
+{
+    match images.get(k) {
+        Some(image) => Some(*image),
+        None => None,
+    }
+}
+
+// The image of a term, if it is there.
+fn image_of(images: &[Image], at: usize) -> Option<usize>
+    ensures { IfSome result (λ to. IsPart images.now false at to) }
+{
+    for k in 0..images.len() {
+        if let Some(image) = image_at(images, k) {
+            if image.from == at {
+                return Some(image.to);
+            }
+        }
+    }
+    None
+}
+
+// The number of a part after the change, if it is known.
+fn part(images: &[Image], stays: bool, at: usize) -> Option<usize>
+    ensures { IfSome result (λ to. IsPart images.now stays at to) }
+{
+    if stays {
+        Some(at)
+    } else {
+        image_of(images, at)
+    }
+}
+
+// What a term becomes, where its parts have their images.
+fn step(
+    terms: &mut Terms,
+    alloc: Global,
+    images: &[Image],
+    change: Change,
+    at: usize,
+) -> Result<Progress, AllocError>
+    requires { AreImages (smalls terms.old) change images.now }
+    ensures progress { IfOk result (λ s. ProgressIs (smalls terms.old) (smalls terms.new) change at s) }
+    ensures kept { Extends (smalls terms.old) (smalls terms.new) }
+{
+    match plan(terms, alloc, change, at)? {
+        Node::Tip(tip) => {
+            let to = terms.number_of(Node::Tip(tip))?;
+            Ok(Progress::Is(to))
+        }
+        Node::Pair(joint, f, g) => {
+            let Some(left) = part(images, left_stays(change, joint), f) else {
+                return Ok(Progress::Wants(f));
+            };
+            let Some(right) = part(images, right_stays(change, joint), g) else {
+                return Ok(Progress::Wants(g));
+            };
+            let to = terms.number_of(Node::Pair(joint, left, right))?;
+            Ok(Progress::Is(to))
+        }
+    }
+}
+
+// Goes one step on: the number of what the term becomes, if that is known now. If it isn't, the term is looked at again once a part of it is known.
+fn advance(
+    terms: &mut Terms,
+    alloc: Global,
+    images: &mut Vec<Image>,
+    todo: &mut Vec<usize>,
+    change: Change,
+    at: usize,
+) -> Result<Option<usize>, AllocError>
+    requires { AreImages (smalls terms.old) change images.old.items }
+    ensures is { IfOk result (λ o. IfSome o (λ to. ProgressIs (smalls terms.old) (smalls terms.new) change at (Is to))) }
+    ensures images { OnOk result (AreImages (smalls terms.new) change images.new.items) }
+    ensures kept { Extends (smalls terms.old) (smalls terms.new) }
+{
+    match step(terms, alloc, images, change, at)? {
+        Progress::Is(to) => {
+            images.push(Image { from: at, to })?;
+            Ok(Some(to))
+        }
+        Progress::Wants(part) => {
+            todo.push(at)?;
+            todo.push(part)?;
+            Ok(None)
+        }
+    }
+}
+
+/// The number of what a term that is there becomes by a change. The error is refused memory. The terms that were there stay, in both cases.
+pub fn changed(
+    terms: &mut Terms,
+    alloc: Global,
+    change: Change,
+    root: usize,
+) -> Result<usize, AllocError>
+    requires { root < length terms.old }
+    ensures image { IfOk result (λ to. slice_get (smalls terms.new) to ≡ Some (changed change (small_at (smalls terms.old) root))) }
+    ensures kept { Extends (smalls terms.old) (smalls terms.new) }
+{
+    let mut images: Vec<Image> = Vec::new(alloc);
+    let mut todo: Vec<usize> = Vec::new(alloc);
+    todo.push(root)?;
+    for _step in 0..u64::MAX {
+        let Some(at) = todo.pop() else {
+            return Err(AllocError);
+        };
+        let known = advance(terms, alloc, &mut images, &mut todo, change, at)?;
+        if at == root {
+            if let Some(to) = known {
+                return Ok(to);
+            }
+        }
+    }
+    Err(AllocError)
+}

@@ -1,0 +1,177 @@
+//! The nodes of small terms.
+
+ghost use Rattle.std.specs.Prelude.{◌≡◌, ◌&&◌, List, true};
+ghost use Rattle.orc_search.specs.Nodes.{small_of_node, tip_of, out_of};
+ghost use Rattle.orc_search.specs.Small.{Small};
+
+use orc_rules::builtin::{are_same, is_same};
+use orc_rules::param::Param;
+use orc_rules::value::{Answer, Found, Value};
+
+/// A call that is out: its site and arguments, and what comes of it, an answer after the time left or never one.
+#[derive(Drop)]
+pub struct Waiting {
+    pub site: u32,
+    pub args: Vec<Value>,
+    pub rest: Found,
+}
+
+/// A term without parts: nothing, a parameter, a call of a site or of a definition, with its number, or a call that is out.
+#[derive(Drop)]
+pub enum Tip {
+    Nothing,
+    Gives(Param),
+    Asks(u32, Vec<Param>),
+    Enters(u32, Vec<Param>),
+    Awaits(Waiting),
+}
+
+/// How two terms are joined: `f | g`, `f >x> g`, `f <x< g`, `f ; g`, or an opened pruning, whose cell is told by where it stands.
+#[derive(Clone, Copy, PartialEq, Eq)]
+pub enum Joint {
+    Both,
+    Feeds(u32),
+    Prunes(u32),
+    Instead,
+    Needs,
+}
+
+/// A node, which names its parts by their numbers.
+#[derive(Drop)]
+pub enum Node {
+    Tip(Tip),
+    Pair(Joint, usize, usize),
+}
+
+/// Whether a term is over, and the least time that a call has left which is out in it.
+#[derive(Clone, Copy)]
+pub struct Summary {
+    pub over: bool,
+    pub left: Option<u64>,
+}
+
+fn are_same_params(a: &[Param], b: &[Param]) -> bool
+    ensures { result ≡ true → a.now ≡ b.now }
+{
+    // It recurses over the parameters of one call, which are `MOST_ARGUMENTS` at most.
+    match a {
+        [] => b.is_empty(),
+        [p, rest @ ..] => match b {
+            [] => false,
+            [q, others @ ..] => *p == *q && are_same_params(rest, others),
+        },
+    }
+}
+
+#[tactic(auto, using(crate::proofs::Nodes::values_same))]
+fn are_same_values(a: &[Value], b: &[Value]) -> bool
+    ensures { result ≡ true → a.now ≡ b.now }
+{
+    are_same(a, b)
+}
+
+fn is_same_waiting(a: &Waiting, b: &Waiting) -> bool
+    ensures { result ≡ true → out_of a.now ≡ out_of b.now }
+{
+    if a.site != b.site {
+        return false;
+    }
+    if a.rest != b.rest {
+        return false;
+    }
+    are_same_values(&a.args, &b.args)
+}
+
+fn is_same_tip(a: &Tip, b: &Tip) -> bool
+    ensures { result ≡ true → tip_of a.now ≡ tip_of b.now }
+{
+    match (a, b) {
+        (Tip::Nothing, Tip::Nothing) => true,
+        (Tip::Gives(p), Tip::Gives(q)) => *p == *q,
+        (Tip::Asks(m, ps), Tip::Asks(n, qs)) => *m == *n && are_same_params(ps, qs),
+        (Tip::Enters(d, ps), Tip::Enters(e, qs)) => *d == *e && are_same_params(ps, qs),
+        (Tip::Awaits(v), Tip::Awaits(w)) => is_same_waiting(v, w),
+        _ => false,
+    }
+}
+
+/// Whether two nodes are the same, so that they have the same term wherever they stand.
+pub fn is_same_node(a: &Node, b: &Node) -> bool
+    ensures { result ≡ true → (terms : List Small) → small_of_node terms a.now ≡ small_of_node terms b.now }
+{
+    match (a, b) {
+        (Node::Tip(t), Node::Tip(u)) => is_same_tip(t, u),
+        (Node::Pair(j, f, g), Node::Pair(k, p, q)) => *j == *k && *f == *p && *g == *q,
+        _ => false,
+    }
+}
+
+// A number that differs for most texts of numbers: the words are mixed in one after another.
+fn mix(seed: u64, word: u64) -> u64 {
+    (seed ^ word)
+        .wrapping_mul(0x9E37_79B9_7F4A_7C15)
+        .rotate_left(29)
+}
+
+fn mix_value(seed: u64, value: Value) -> u64 {
+    match value {
+        Value::Number(n) => { mix(mix(seed, if n < 0 { 1 } else { 0 }), n.unsigned_abs()) }
+        Value::Truth(truth) => mix(seed, if truth { 2 } else { 3 }),
+        Value::Signal => mix(seed, 4),
+    }
+}
+
+fn mix_param(seed: u64, param: Param) -> u64 {
+    match param {
+        Param::Name(x) => mix(mix(seed, 5), x as u64),
+        Param::Is(v) => mix_value(seed, v),
+        Param::Cell(c) => mix(mix(seed, 6), c),
+        Param::Void => mix(seed, 7),
+    }
+}
+
+fn mix_params(seed: u64, params: &[Param]) -> u64 {
+    let mut mixed = seed;
+    for param in params {
+        mixed = mix_param(mixed, *param);
+    }
+    mixed
+}
+
+fn mix_found(seed: u64, found: Found) -> u64 {
+    match found {
+        Found::After(Answer::Value(v), delay) => mix(mix_value(seed, v), delay),
+        Found::After(Answer::Halt, delay) => mix(mix(seed, 8), delay),
+        Found::Never => mix(seed, 9),
+    }
+}
+
+fn mix_waiting(seed: u64, waiting: &Waiting) -> u64 {
+    let mut mixed = mix(seed, waiting.site as u64);
+    for arg in &waiting.args {
+        mixed = mix_value(mixed, *arg);
+    }
+    mix_found(mixed, waiting.rest)
+}
+
+fn mix_joint(joint: Joint) -> u64 {
+    match joint {
+        Joint::Both => 10,
+        Joint::Feeds(x) => mix(11, x as u64),
+        Joint::Prunes(x) => mix(12, x as u64),
+        Joint::Instead => 13,
+        Joint::Needs => 14,
+    }
+}
+
+/// A number by which a node is looked for. Equal nodes have the same one.
+pub fn hash_of(node: &Node) -> u64 {
+    match node {
+        Node::Tip(Tip::Nothing) => 15,
+        Node::Tip(Tip::Gives(p)) => mix_param(16, *p),
+        Node::Tip(Tip::Asks(m, ps)) => mix_params(mix(17, *m as u64), ps),
+        Node::Tip(Tip::Enters(e, ps)) => mix_params(mix(18, *e as u64), ps),
+        Node::Tip(Tip::Awaits(w)) => mix_waiting(19, w),
+        Node::Pair(joint, f, g) => mix(mix(mix_joint(*joint), *f as u64), *g as u64),
+    }
+}

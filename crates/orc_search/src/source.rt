@@ -1,0 +1,112 @@
+//! A program's terms as small ones, by their numbers.
+
+ghost use Rattle.std.specs.Prelude.{◌≡◌, length, map, slice_get, IfOk};
+ghost use Rattle.orc_rules.specs.Nodes.{param_of};
+ghost use Rattle.orc_search.specs.Nodes.{smalls, Extends};
+ghost use Rattle.orc_search.specs.Sources.{AreNumbered, IsNodeOf, IsPairOf};
+
+use crate::node::{Joint, Node, Tip};
+use crate::terms::Terms;
+use orc_rules::param::{Operand, Param};
+use orc_rules::program::{Program, TermNode};
+use std::alloc::{AllocError, Global};
+
+fn param_of(operand: Operand) -> Param
+    ensures { result ≡ param_of operand }
+{
+    match operand {
+        Operand::Name(x) => Param::Name(x),
+        Operand::Is(v) => Param::Is(v),
+    }
+}
+
+fn params_of(alloc: Global, operands: &[Operand]) -> Result<Vec<Param>, AllocError>
+    ensures { IfOk result (λ v. v.items ≡ map param_of operands.now) }
+{
+    let mut params = Vec::new(alloc);
+    for operand in operands {
+        params.push(param_of(*operand))?;
+    }
+    Ok(params)
+}
+
+fn number_at(numbers: &[usize], i: usize) -> Option<usize>
+    ensures { result ≡ slice_get numbers.now i }
+{
+    match numbers.get(i) {
+        Some(number) => Some(*number),
+        None => None,
+    }
+}
+
+// The node of two parts of a program, whose numbers are known. The error is that one isn't.
+fn pair_of(numbers: &[usize], joint: Joint, f: usize, g: usize) -> Result<Node, AllocError>
+    ensures { IfOk result (λ n. IsPairOf numbers.now joint f g n) }
+{
+    let Some(left) = number_at(numbers, f) else {
+        return Err(AllocError);
+    };
+    let Some(right) = number_at(numbers, g) else {
+        return Err(AllocError);
+    };
+    Ok(Node::Pair(joint, left, right))
+}
+
+// What a program's node is, where the numbers of its parts are known. The error is refused memory.
+fn node_of(
+    alloc: Global,
+    program: &Program,
+    numbers: &[usize],
+    unfolded: TermNode,
+) -> Result<Node, AllocError>
+    ensures { IfOk result (λ n. IsNodeOf program.now numbers.now unfolded n) }
+{
+    match unfolded {
+        TermNode::Stop => Ok(Node::Tip(Tip::Nothing)),
+        TermNode::Operand(operand) => Ok(Node::Tip(Tip::Gives(param_of(operand)))),
+        TermNode::Site(site, list) => {
+            let params = params_of(alloc, program.operands(list))?;
+            Ok(Node::Tip(Tip::Asks(site, params)))
+        }
+        TermNode::Call(definition, list) => {
+            let params = params_of(alloc, program.operands(list))?;
+            Ok(Node::Tip(Tip::Enters(definition, params)))
+        }
+        TermNode::Par(f, g) => {
+            let node = pair_of(numbers, Joint::Both, f, g)?;
+            Ok(node)
+        }
+        TermNode::Seq(f, x, g) => {
+            let node = pair_of(numbers, Joint::Feeds(x), f, g)?;
+            Ok(node)
+        }
+        TermNode::Prune(f, x, g) => {
+            let node = pair_of(numbers, Joint::Prunes(x), f, g)?;
+            Ok(node)
+        }
+        TermNode::Other(f, g) => {
+            let node = pair_of(numbers, Joint::Instead, f, g)?;
+            Ok(node)
+        }
+    }
+}
+
+/// The numbers of the small terms of a program's nodes, in the order of the nodes. The error is refused memory. The terms that were there stay, in
+/// both cases.
+pub fn numbered(
+    terms: &mut Terms,
+    alloc: Global,
+    program: &Program,
+) -> Result<Vec<usize>, AllocError>
+    ensures numbers { IfOk result (λ v. AreNumbered (smalls terms.new) program.now v.items) }
+    ensures all { IfOk result (λ v. length v.items ≡ length program.now.nodes) }
+    ensures kept { Extends (smalls terms.old) (smalls terms.new) }
+{
+    let mut numbers: Vec<usize> = Vec::new(alloc);
+    for at in 0..program.len() {
+        let node = node_of(alloc, program, &numbers, program.node(at))?;
+        let number = terms.number_of(node)?;
+        numbers.push(number)?;
+    }
+    Ok(numbers)
+}

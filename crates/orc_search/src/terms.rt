@@ -1,0 +1,236 @@
+//! Small terms by their numbers.
+
+ghost use Rattle.std.specs.Prelude.{◌≡◌, ◌<◌, ◌≤◌, ◌++◌, ◌∷◌, [], List, length, Some, true, slice_get, IfOk, OnOk, OnErr, IfSome, IfNone, slice_index_or};
+ghost use Rattle.orc_search.specs.Nodes.{small_at, small_of_node, smalls, summary_of, tip_of, JoinsSummaries, HasParts, Extends};
+ghost use Rattle.orc_search.specs.Small.{nothing};
+ghost use Rattle.orc_search.specs.Successors.{sooner, time_left};
+
+use crate::node::{Joint, Node, Summary, Tip, hash_of, is_same_node};
+use orc_rules::value::Found;
+use std::alloc::{AllocError, Global};
+use std::collections::HashMap;
+use std::marker::Model;
+
+/// Small terms by their numbers. A node that is asked for again has the same number again, unless one with an equal hash came between.
+pub struct Terms {
+    nodes: Vec<Node>,
+    summaries: Vec<Summary>,
+    // Where the node last made with a hash stands. Nothing is promised of it: what is found there is compared.
+    places: HashMap<u64, usize>,
+    alloc: Global,
+}
+
+// Written out, so that a caller's proof sees one call and not the drop of each field.
+impl Drop for Terms {
+    fn drop(self) {
+        let Terms {
+            nodes: _,
+            summaries: _,
+            places: _,
+            alloc: _,
+        } = self;
+    }
+}
+
+impl Model for Terms {
+    ghost use Rattle.std.specs.Prelude.{◌≡◌, List, map};
+    ghost use Rattle.orc_search.specs.declared.node.Node.{Node};
+    ghost use Rattle.orc_search.specs.Nodes.{smalls, summary_of, ArePartsFirst};
+
+    ghost Value = { List Node };
+
+    ghost view = { λ t. t.nodes.items };
+
+    ghost invariant = { λ t. ArePartsFirst t.nodes.items × (t.summaries.items ≡ map summary_of (smalls t.nodes.items)) };
+}
+
+fn node_at(nodes: &Vec<Node>, at: usize) -> Option<&Node>
+    ensures there { IfSome result (λ n. slice_get nodes.now.items at ≡ Some n.now) }
+    ensures none { IfNone result (slice_get nodes.now.items at ≡ None) }
+{
+    match nodes.get(at) {
+        Some(node) => Some(node),
+        None => None,
+    }
+}
+
+fn summary_in(summaries: &Vec<Summary>, at: usize) -> Summary
+    ensures { result ≡ slice_index_or summaries.now.items at (summary_of nothing) }
+{
+    match summaries.get(at) {
+        Some(summary) => *summary,
+        None => Summary {
+            over: true,
+            left: None,
+        },
+    }
+}
+
+// What is known of a term without parts.
+fn tip_summary(tip: &Tip) -> Summary
+    ensures { result ≡ summary_of (tip_of tip.now) }
+{
+    match tip {
+        Tip::Nothing => Summary {
+            over: true,
+            left: None,
+        },
+        Tip::Awaits(waiting) => Summary {
+            over: false,
+            left: time_left(waiting.rest),
+        },
+        _ => Summary {
+            over: false,
+            left: None,
+        },
+    }
+}
+
+fn time_left(rest: Found) -> Option<u64>
+    ensures { result ≡ time_left rest }
+{
+    match rest {
+        Found::After(_, delay) => Some(delay),
+        Found::Never => None,
+    }
+}
+
+fn sooner(a: Option<u64>, b: Option<u64>) -> Option<u64>
+    ensures { result ≡ sooner a b }
+{
+    match (a, b) {
+        (None, b) => b,
+        (Some(a), None) => Some(a),
+        (Some(a), Some(b)) => Some(a.min(b)),
+    }
+}
+
+// What is known of two terms that are joined.
+fn joined_summary(joint: Joint, f: Summary, g: Summary) -> Summary
+    ensures { JoinsSummaries joint f g result }
+{
+    match joint {
+        Joint::Both | Joint::Needs => Summary {
+            over: f.over && g.over,
+            left: sooner(f.left, g.left),
+        },
+        Joint::Feeds(_) => f,
+        Joint::Prunes(_) => Summary {
+            over: false,
+            left: None,
+        },
+        Joint::Instead => Summary {
+            over: false,
+            left: f.left,
+        },
+    }
+}
+
+impl Terms {
+    /// No terms.
+    pub fn new(alloc: Global) -> Terms
+        ensures { result ≡ [] }
+    {
+        Terms {
+            nodes: Vec::new(alloc),
+            summaries: Vec::new(alloc),
+            places: HashMap::new(alloc),
+            alloc,
+        }
+    }
+
+    /// How many terms there are.
+    pub fn len(&self) -> usize
+        ensures { result ≡ length self.now }
+    {
+        self.nodes.len()
+    }
+
+    /// The node of that number: its parts have lower numbers.
+    pub fn node(&self, at: usize) -> Option<&Node>
+        ensures term { IfSome result (λ n. slice_get (smalls self.now) at ≡ Some (small_of_node (smalls self.now) n.now)) }
+        ensures parts { IfSome result (λ n. HasParts at n.now) }
+        ensures none { IfNone result (length self.now ≤ at) }
+    {
+        match node_at(&self.nodes, at) {
+            Some(node) => Some(node),
+            None => None,
+        }
+    }
+
+    /// Whether the term of that number is over, and the least time that a call has left which is out in it; of no term, as of one that is nothing.
+    pub fn summary(&self, at: usize) -> Summary
+        ensures { result ≡ summary_of (small_at (smalls self.now) at) }
+    {
+        summary_in(&self.summaries, at)
+    }
+
+    // What is known of the term of a node.
+    fn summary_of(&self, node: &Node) -> Summary
+        ensures { result ≡ summary_of (small_of_node (smalls self.now) node.now) }
+    {
+        match node {
+            Node::Tip(tip) => tip_summary(tip),
+            Node::Pair(joint, f, g) => {
+                joined_summary(*joint, self.summary(*f), self.summary(*g))
+            }
+        }
+    }
+
+    // Adds a node behind the others, whose parts are there: its number. Where memory is refused nothing changes.
+    fn push(&mut self, node: Node) -> Result<usize, AllocError>
+        requires { HasParts (length self.old) node }
+        ensures number { IfOk result (λ at. at ≡ length self.old) }
+        ensures added { OnOk result (self.new ≡ self.old ++ node ∷ []) }
+        ensures refused { OnErr result (self.new ≡ self.old) }
+    {
+        let summary = self.summary_of(&node);
+        self.summaries.try_reserve(1)?;
+        let at = self.nodes.len();
+        self.nodes.push(node)?;
+        let pushed = self.summaries.push(summary);
+        prove!(pushed.is_ok());
+        Ok(at)
+    }
+
+    // Whether this node stands at that place.
+    fn stands_at(&self, at: usize, node: &Node) -> bool
+        ensures { result ≡ true → slice_get (smalls self.now) at ≡ Some (small_of_node (smalls self.now) node.now) }
+    {
+        match self.node(at) {
+            Some(found) => is_same_node(found, node),
+            None => false,
+        }
+    }
+
+    // A place where a node with this hash may stand.
+    fn place_of(&self, hash: u64) -> Option<usize> {
+        self.places.get(&hash).copied()
+    }
+
+    // A node with this hash stands there. The error is refused memory.
+    fn remember(&mut self, hash: u64, at: usize) -> Result<(), AllocError>
+        ensures { self.new ≡ self.old }
+    {
+        self.places.insert(hash, at)?;
+        Ok(())
+    }
+
+    /// The number of a node's term, whose parts are there: that of an equal node, or else of a new one. The error is refused memory. The terms
+    /// that were there stay, in both cases.
+    pub fn number_of(&mut self, node: Node) -> Result<usize, AllocError>
+        requires { HasParts (length self.old) node }
+        ensures number { IfOk result (λ at. slice_get (smalls self.new) at ≡ Some (small_of_node (smalls self.old) node)) }
+        ensures kept { Extends (smalls self.old) (smalls self.new) }
+    {
+        let hash = hash_of(&node);
+        if let Some(at) = self.place_of(hash) {
+            if self.stands_at(at, &node) {
+                return Ok(at);
+            }
+        }
+        let at = self.push(node)?;
+        self.remember(hash, at)?;
+        Ok(at)
+    }
+}
