@@ -1,6 +1,6 @@
 // A heap that refuses one request: preloaded before a program, the one whose number, counted from 1, stands in REFUSE. The start of a thread is
 // a request too. The file that is open as descriptor 9 gets a byte when one is refused, so that whoever runs the program knows whether that many
-// requests came.
+// requests came; the one that is open as descriptor 8 gets a byte for each thread that starts.
 typedef __SIZE_TYPE__ size_t;
 
 extern char **environ;
@@ -39,6 +39,7 @@ void *realloc(void *old, size_t bytes) {
 int pthread_create(void *thread, const void *attributes, void *(*start)(void *), void *argument) {
     static int (*create)(void *, const void *, void *(*)(void *), void *);
     if (is_refused()) return 11; // EAGAIN
+    write(8, "t", 1);
     if (!create) *(void **)&create = dlsym((void *)-1, "pthread_create"); // RTLD_NEXT
     return create(thread, attributes, start, argument);
 }
