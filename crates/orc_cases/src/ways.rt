@@ -65,7 +65,7 @@ fn of_places(
 }
 
 impl Ways {
-    /// The ways of the case at this place among the test's cases. None where they are over `MOST_WAYS`, which is T6. The error is refused memory.
+    /// The ways of the case at this place among the test's cases. None where they are over `MOST_WAYS`. The error is refused memory.
     pub fn of_case(alloc: Global, test: &Test<'_>, case: usize) -> Result<Option<Ways>, AllocError>
         ensures { IfOk result (λ w. w ≡ ways_of (test_of test.now) case) }
     {

@@ -73,7 +73,7 @@ fn unread(fault: TestFault) -> Untested
     Untested::Fault(RunFault::Test(fault))
 }
 
-// The ways of each case. The fault is T6 where one has too many, or refused memory.
+// The ways of each case. The fault is of the first case that has too many, or refused memory.
 #[tactic(auto, using(crate::proofs::Scripting::one_case))]
 fn ways_of(alloc: Global, test: &Test<'_>) -> Result<Vec<Ways>, Untested>
     ensures ways { IfOk result (λ ws. AreWays (test_of test.now) 0 ws.items × (length ws.items ≡ length test.now.cases.items)) }
