@@ -32,7 +32,7 @@ const ALONE: Link = Link {
 /// The places of each group's members in a table, the latest first. They are hints: who goes by them looks at each member, and counts them.
 #[derive(Drop)]
 pub struct Chains {
-    // By group: where its chain begins.
+    // By group: where its chain begins. It grows as far as a member of a group comes.
     firsts: Vec<usize>,
     // By place.
     links: Vec<Link>,
@@ -78,19 +78,41 @@ fn link_at(links: &Vec<Link>, place: usize) -> Link {
     }
 }
 
+// Where the chain of a group begins. None for group 0, whose members aren't chained, for a number that no group has, and where memory is refused.
+#[inline(always)]
+fn reach_first(firsts: &mut Vec<usize>, group: u32) -> Option<usize> {
+    if group == 0 {
+        return None;
+    }
+    if group as usize >= firsts.len() {
+        grow_firsts(firsts, group as usize);
+    }
+    firsts.get(group as usize).copied()
+}
+
+// Each group up to this one has a chain, where it may be the number of one and memory isn't refused.
+// Kept apart, since a number is seldom met for the first time.
+#[cold]
+#[inline(never)]
+fn grow_firsts(firsts: &mut Vec<usize>, group: usize) {
+    if group >= MOST_GROUPS {
+        return;
+    }
+    for _group in firsts.len()..group + 1 {
+        if reserve(firsts).is_err() {
+            return;
+        }
+        push_within(firsts, NOWHERE);
+    }
+}
+
 impl Chains {
     /// No places, and room for one.
     pub fn begin(alloc: Global) -> Result<Chains, AllocError> {
-        let mut firsts = Vec::new(alloc);
-        // As many groups as there may be.
-        for _group in 0..MOST_GROUPS {
-            reserve(&mut firsts)?;
-            push_within(&mut firsts, NOWHERE);
-        }
         let mut links = Vec::new(alloc);
         reserve(&mut links)?;
         Ok(Chains {
-            firsts,
+            firsts: Vec::new(alloc),
             links,
             rank: 0,
         })
@@ -120,9 +142,8 @@ impl Chains {
             self.links.push_reserved(ALONE);
         }
         self.take(place);
-        let first = match self.firsts.get(group as usize) {
-            Some(first) if group > 0 => *first,
-            _ => return,
+        let Some(first) = reach_first(&mut self.firsts, group) else {
+            return;
         };
         self.rank = self.rank.saturating_add(1);
         let link = Link {

@@ -11,17 +11,11 @@ use orc_rules::value::{Args, Value};
 use std::alloc::AllocError;
 
 // Writes a number in decimal.
-#[tactic(auto, using(std::proofs::lemmas::Fmt::decimal_digit))]
 fn push_decimal(out: &mut Vec<u8>, n: u64) -> Result<(), AllocError>
     ensures { OnOk result (out.new.items ≡ out.old.items ++ decimal n) }
 {
-    if n >= 10 {
-        push_decimal(out, n / 10)?;
-        out.push(b'0' + (n % 10) as u8)?;
-    } else {
-        out.push(b'0' + n as u8)?;
-    }
-    Ok(())
+    let mut buffer = itoa::Buffer::new();
+    out.extend_from_slice(buffer.format(n).as_bytes())
 }
 
 fn push_signed(out: &mut Vec<u8>, n: i64) -> Result<(), AllocError>

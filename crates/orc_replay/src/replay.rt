@@ -145,11 +145,12 @@ impl<P: Naming> Replay<P> {
         })
     }
 
-    /// Has the ledger do what an entry says, by the call for its kind. A `cancel` comes with its bind.
+    /// Has the ledger do what an entry says, by the call for its kind. A `cancel` comes with its bind. Where memory is refused nothing has changed.
     pub fn enter(&mut self, graph: &Graph, answers: &Answers, entry: &Entry) -> Result<(), Odd>
         requires graph { graph.now ≡ P.listing }
         requires answers { answers.now.sites ≡ P.sites }
     {
+        self.make_room()?;
         match entry {
             Entry::End(serial)
             | Entry::Fork(serial, _, _)
@@ -170,6 +171,25 @@ impl<P: Naming> Replay<P> {
             Entry::Cancel(_) => return Err(Odd::Other),
         }
         self.close_left()
+    }
+
+    // Room for what is noted of an entry: two tokens and a group. So the notes are refused no memory once the ledger has moved.
+    fn make_room(&mut self) -> Result<(), Odd> {
+        if self.slots.try_reserve(2).is_err() || self.groups.try_reserve(1).is_err() {
+            return Err(Odd::Memory);
+        }
+        Ok(())
+    }
+
+    // Has the ledger do what an entry says, and once more where it was refused memory: it has changed nothing then.
+    fn enter_again(&mut self, graph: &Graph, answers: &Answers, entry: &Entry) -> Result<(), Odd>
+        requires graph { graph.now ≡ P.listing }
+        requires answers { answers.now.sites ≡ P.sites }
+    {
+        match self.enter(graph, answers, entry) {
+            Err(Odd::Memory) => self.enter(graph, answers, entry),
+            entered => entered,
+        }
     }
 
     // A token does what its word says, which is the entry.
@@ -316,6 +336,14 @@ impl<P: Naming> Replay<P> {
         self.groups.iter().position(|open| open.parent != 0 && self.place_of(open.parent).is_none())
     }
 
+    // Halts a group, and once more where memory was refused.
+    fn halt_again(&mut self, number: u32) -> Result<Halted, HaltFault> {
+        match self.ledger.halt(number) {
+            Err(HaltFault::Refused(LedgerFault::Memory)) => self.ledger.halt(number),
+            halted => halted,
+        }
+    }
+
     // Groups that a publication has left, and in which nobody is, go without an entry.
     fn close_left(&mut self) -> Result<(), Odd> {
         for _outwards in 0..MOST_GROUPS {
@@ -327,7 +355,7 @@ impl<P: Naming> Replay<P> {
                 return Ok(());
             };
             let open = self.groups.swap_remove(place);
-            match self.ledger.halt(open.number) {
+            match self.halt_again(open.number) {
                 Ok(Halted::Closed(parent)) if parent == open.parent => {}
                 _ => return Err(Odd::Other),
             }
@@ -413,7 +441,7 @@ impl<P: Naming> Replay<P> {
                 return Ok(());
             };
             if self.ledger.journal_len() <= at
-                && let Err(why) = self.enter(graph, answers, &entry)
+                && let Err(why) = self.enter_again(graph, answers, &entry)
             {
                 return Err(Stop {
                     at: at.saturating_add(1),

@@ -89,11 +89,11 @@ impl<'n> Near<'n> {
         if self.most == 0 || self.name.len().abs_diff(candidate.len()) > self.most {
             return false;
         }
-        self.is_few_edits_to(candidate)
+        self.take_if_near(candidate)
     }
 
-    // Whether few edits lead to a name. From then on only fewer do.
-    fn is_few_edits_to(&mut self, candidate: &[u8]) -> bool
+    // Takes a name to which few edits lead: whether it did. From then on only nearer ones are taken.
+    fn take_if_near(&mut self, candidate: &[u8]) -> bool
         ensures { self.new ≤ self.old }
     {
         match edits(self.alloc, self.name, candidate) {

@@ -9,6 +9,7 @@ pub mod Explained
 pub mod Final
 pub mod Idle
 pub mod Inside
+pub mod LastAnswers
 pub mod Late
 pub mod Lift
 pub mod Listed

@@ -142,6 +142,17 @@ site_answer None args nth = halts
 site_answer (Some (built_in b)) args nth = built_in_answer b args
 site_answer (Some (scripted ls)) args nth = line_answer ls args (nth - 1)
 
+-- the number, from 0, of the last answer of the first line that matches
+abbrev pub last_of_line : List Line → List Value → ℕ
+last_of_line [] args = 0
+last_of_line (l ∷ ls) args = cond (matches l.patterns args) (length l.answers - 1) (last_of_line ls args)
+
+-- that of a site
+abbrev pub last_answer : Option Site → List Value → ℕ
+last_answer None args = 0
+last_answer (Some (built_in b)) args = 0
+last_answer (Some (scripted ls)) args = last_of_line ls args
+
 -- what the table says of the nth call, from 1, of a site with these arguments
 abbrev pub find : List Site → ℕ → List Value → ℕ → Found
 find sites site args nth = site_answer (slice_get sites site) args nth

@@ -1,7 +1,7 @@
 //! The lines of a site that a script answers.
 
 ghost use Rattle.std.specs.Prelude.{◌≡◌, ◌++◌, ◌∷◌, [], Some, None, option_map, IfOk, OnOk, OnErr};
-ghost use Rattle.orc_rules.specs.Sites.{matches, nth_answer, line_answer};
+ghost use Rattle.orc_rules.specs.Sites.{matches, nth_answer, line_answer, last_of_line};
 ghost use Rattle.orc_rules.specs.Lines.{line_of, lines_of, exact_values, exact_place, wildcard_places, wildcard_at, Enters, Indexes};
 
 use crate::builtin::{is_same, no_answer};
@@ -97,6 +97,18 @@ fn answer_of(lines: &[Line], args: &[Value], n: u64) -> Found
         }
     }
     no_answer()
+}
+
+// The number of the last answer of the first line that matches.
+fn last_of(lines: &[Line], args: &[Value]) -> u64
+    ensures { result ≡ last_of_line (lines_of lines.now) args.now }
+{
+    for line in lines {
+        if is_match(&line.patterns, args) {
+            return (line.answers.len() as u64).saturating_sub(1);
+        }
+    }
+    0
 }
 
 // The answer of the first line that matches: one with a `_` that stands before the place `exact`, or the one there.
@@ -223,5 +235,12 @@ impl Lines {
             let exact = self.index.exact.get(args).copied();
             answer_among(&self.lines, &self.index.wildcards, exact, args, n)
         }
+    }
+
+    /// The number, from 0, of the last answer of the first line that matches these arguments, 0 where none matches. It looks at the lines one by one.
+    pub fn last_answer(&self, args: &[Value]) -> u64
+        ensures { result ≡ last_of_line self.now args.now }
+    {
+        last_of(&self.lines, args)
     }
 }
