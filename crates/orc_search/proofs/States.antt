@@ -28,7 +28,7 @@ from_none : (n : ℕ) → n ≡ 0 + n
 from_none n = omega arith
 
 -- what is asked of the table at a moment, and in its state
-same_ask : (sites : List Site) (now : ℕ) (made : List CallMade) (m : ℕ) (args : List Value) → ask_of sites now made m args ≡ next_call (coming_of sites made) m args
+pub same_ask : (sites : List Site) (now : ℕ) (made : List CallMade) (m : ℕ) (args : List Value) → ask_of sites now made m args ≡ next_call (coming_of sites made) m args
 same_ask sites now made m args =
     (λ i. record { site = m; args = args; rest = whole now (find sites m args (nth_of m args made)) i })
     ∙ (λ i. record { site = m; args = args; rest = find sites m args (from_none (nth_of m args made) i) })
@@ -43,7 +43,7 @@ one_more sites made c m args i =
     let is : CallMade → Bool = λ d. nat_eq m (CallMade.site d) && values_eq args (CallMade.args d) in
     ap (find sites m args) (ap (λ k. i + suc k) (sum_by-cons (λ d. cond (is d) 1 0) c made) ∙ numbers (is c) i (count_by is made))
 
-coming_next : (x : Context) (s : Moment) (a : Act) → coming_of x.sites (calls_after s a) ≡ coming_after (happening (out_of x.sites s.now s.calls) a) (coming_of x.sites s.calls)
+pub coming_next : (x : Context) (s : Moment) (a : Act) → coming_of x.sites (calls_after s a) ≡ coming_after (happening (out_of x.sites s.now s.calls) a) (coming_of x.sites s.calls)
 coming_next x s (calls k m args cs) = λ j n vs i. one_more x.sites s.calls (record { number = k; site = m; args = args; nth = nth_of m args s.calls; at = s.now }) n vs i j
 coming_next x s (returns k a) = refl
 coming_next x s (binds c v) = refl

@@ -58,7 +58,7 @@ both_true true true p q = refl
 both_true true false p q = q
 both_true false b p q = p
 
-over_true : (f : Small) → IsOver f → is_over f ≡ true
+pub over_true : (f : Small) → IsOver f → is_over f ≡ true
 over_true nothing o = refl
 over_true (both f g) o = both_true (is_over f) (is_over g) (over_true f o.0) (over_true g o.1)
 over_true (needs f g) o = both_true (is_over f) (is_over g) (over_true f o.0) (over_true g o.1)

@@ -11,6 +11,8 @@ use Rattle.orc_search.specs.Moves.{called, answered, published, unseen}
 use Rattle.orc_search.specs.Ticks.{pass}
 use Rattle.orc_search.specs.Successors.{moves, wait}
 use Rattle.orc_search.specs.Graphs.{halted, quiet, ending}
+use Rattle.orc_search.specs.States.{happens, waits as passing}
+use Rattle.orc_search.specs.Paths.{time_in, published_in}
 
 abbrev one : Value
 one = Number (pos 1)
@@ -78,3 +80,10 @@ stuck = refl
 
 goes_on : ending [] (awaits (out 3)) ≡ None
 goes_on = refl
+
+-- what is published on a path, and how long it takes
+shows : published_in (happens (called 7 []) ∷ passing 3 ∷ happens (answered 7 [] (Gives one)) ∷ happens (published one) ∷ happens unseen ∷ happens (published one) ∷ []) ≡ one ∷ one ∷ []
+shows = refl
+
+takes : time_in (passing 3 ∷ happens (published one) ∷ passing 2 ∷ []) ≡ 5
+takes = refl

@@ -106,14 +106,16 @@ pub fn is_same_node(a: &Node, b: &Node) -> bool
     }
 }
 
-// A number that differs for most texts of numbers: the words are mixed in one after another.
-fn mix(seed: u64, word: u64) -> u64 {
+/// A number that differs for most texts of numbers: the words are mixed in one after another. Nothing is promised of it.
+pub fn mix(seed: u64, word: u64) -> u64 {
     (seed ^ word)
+        .wrapping_add(0x9E37_79B9_7F4A_7C15)
         .wrapping_mul(0x9E37_79B9_7F4A_7C15)
         .rotate_left(29)
 }
 
-fn mix_value(seed: u64, value: Value) -> u64 {
+/// The same with a value mixed in.
+pub fn mix_value(seed: u64, value: Value) -> u64 {
     match value {
         Value::Number(n) => { mix(mix(seed, if n < 0 { 1 } else { 0 }), n.unsigned_abs()) }
         Value::Truth(truth) => mix(seed, if truth { 2 } else { 3 }),

@@ -1,10 +1,12 @@
 //! Worked terms: what is made of them, by their numbers.
 
 use crate::change::{Change, changed};
+use crate::moves::{Source, successors};
 use crate::node::{Joint, Node, Tip, Waiting};
 use crate::source::numbered;
 use crate::successor::{Frame, Happening, Successor, lifted};
 use crate::terms::Terms;
+use orc_rules::answers::Answers;
 use orc_rules::param::{Operand, Operands, Param};
 use orc_rules::program::{Program, TermNode, Terms as Nodes};
 use orc_rules::value::{Answer, Found, Value};
@@ -168,5 +170,68 @@ fn a_program_has_its_terms(rt: HostRuntime) -> Result<(), Fail> {
     let right = terms.number_of(Node::Tip(Tip::Gives(Param::Is(ONE))))?;
     let wanted = pair(&mut terms, Joint::Prunes(5), left, right)?;
     assert_eq!(rt; numbers.get(program.source()).copied(), Some(wanted));
+    Ok(())
+}
+
+// All that a term may do before any call was made.
+fn coming(
+    terms: &mut Terms,
+    alloc: Global,
+    program: &Program,
+    answers: &Answers,
+    root: usize,
+) -> Result<Vec<Successor>, AllocError> {
+    let numbers = numbered(terms, alloc, program)?;
+    let source = Source {
+        program,
+        answers,
+        numbers,
+    };
+    if root >= terms.len() {
+        return Err(AllocError);
+    }
+    successors(terms, alloc, &source, &[], root)
+}
+
+// The number of the term after the only move, of which nothing is seen; an error where there is another.
+fn after_silence(
+    terms: &mut Terms,
+    alloc: Global,
+    program: &Program,
+    answers: &Answers,
+    root: usize,
+) -> Result<usize, AllocError> {
+    let moves = coming(terms, alloc, program, answers, root)?;
+    match moves.as_slice() {
+        [
+            Successor {
+                happening: Happening::Unseen,
+                to,
+            },
+        ] => Ok(*to),
+        _ => Err(AllocError),
+    }
+}
+
+#[test]
+fn a_call_is_made_once_its_cell_is_bound(rt: HostRuntime) -> Result<(), Fail> {
+    let alloc = rt.alloc();
+    let program = program(alloc)?;
+    let answers = Answers::builtin(alloc)?;
+    let mut terms = Terms::new(alloc);
+    let numbers = numbered(&mut terms, alloc, &program)?;
+    let Some(main) = numbers.get(program.source()) else {
+        return Err(Fail::from(AllocError));
+    };
+    let opened = after_silence(&mut terms, alloc, &program, &answers, *main)?;
+    let bound = after_silence(&mut terms, alloc, &program, &answers, opened)?;
+    let calls = coming(&mut terms, alloc, &program, &answers, bound)?;
+    assert_eq!(rt; calls.len(), 1);
+    for call in &calls {
+        match &call.happening {
+            Happening::Called(7, args) => assert_eq!(rt; args.as_slice(), [ONE, ONE].as_slice()),
+            _ => assert!(rt; false),
+        }
+    }
     Ok(())
 }

@@ -1,0 +1,11 @@
+pub mod Found
+pub mod Ends
+pub mod Growing
+pub mod Longer
+pub mod Raised
+pub mod Waits
+pub mod Keeping
+pub mod Starting
+pub mod Whole
+pub mod Adding
+pub mod Exact

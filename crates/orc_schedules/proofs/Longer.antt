@@ -1,0 +1,102 @@
+-- Lists by their numbers.
+use Rattle.std.proofs.Common.{◌≡◌, ◌<◌, ◌≤◌, ◌+◌, ◌-◌, ℕ, zero, suc, List, [], ◌∷◌, ◌++◌, length, Option, Some, None, ◌⊎◌, refl, sym, ap, ◌∙◌, inl, inr, arith, length-append}
+use Rattle.std.proofs.lemmas.List.{get_or_append_left, append_assoc, reverse-append}
+use Rattle.std.proofs.Math.Seq.{get_or-append_seam}
+use Rattle.std.specs.Prelude.{slice_get, reverse, IfSome, IfNone}
+use Rattle.orc_rules.specs.declared.value.Value.{Value}
+use Rattle.orc_search.proofs.Nodes.{at_end, none_term, within}
+use Rattle.orc_schedules.specs.declared.lists.Longer.{Longer}
+use Rattle.orc_schedules.specs.Growing.{Grows}
+use Rattle.orc_schedules.specs.Lists.{list_at, list_of, lists_from, lists, AreBehind}
+use Rattle.orc_schedules.proofs.Growing.{or_else, get_there, get_or_is}
+
+-- one more list
+lists_last : (ls : List (List Value)) (xs : List Longer) (x : Longer) → lists_from ls (xs ++ x ∷ []) ≡ lists_from ls xs ++ list_of (lists_from ls xs) x ∷ []
+lists_last ls [] x = refl
+lists_last ls (y ∷ xs) x = lists_last (ls ++ list_of ls y ∷ []) xs x
+
+as_many : (ls : List (List Value)) (xs : List Longer) → length (lists_from ls xs) ≡ length ls + length xs
+as_many ls [] = omega arith
+as_many ls (x ∷ xs) = let e = as_many (ls ++ list_of ls x ∷ []) xs in omega (arith, e, length-append ls (list_of ls x ∷ []))
+
+pub lists_len : (xs : List Longer) → length (lists xs) ≡ suc (length xs)
+lists_len xs = let e = as_many ([] ∷ []) xs in omega (arith, e)
+
+kept : (ls : List (List Value)) (xs : List Longer) (i : ℕ) → i < length ls → list_at (lists_from ls xs) i ≡ list_at ls i
+kept ls [] i lt = refl
+kept ls (x ∷ xs) i lt = kept (ls ++ list_of ls x ∷ []) xs i (omega (arith, lt, length-append ls (list_of ls x ∷ []))) ∙ get_or_append_left ls (list_of ls x ∷ []) [] i lt
+
+made : (ls : List (List Value)) (xs : List Longer) (j k : ℕ) (x : Longer) → k ≡ length ls + j → slice_get xs j ≡ Some x → x.before < k → list_at (lists_from ls xs) k ≡ list_of (lists_from ls xs) x
+made ls [] j k x e h before = cc h
+made ls (y ∷ xs) zero k x e h before =
+    let is : k ≡ length ls = omega (arith, e) in
+    let same : y ≡ x = ap (or_else y) h in
+    ap (list_at (lists_from ls (y ∷ xs))) is ∙
+    (kept (ls ++ list_of ls y ∷ []) xs (length ls) (omega (arith, length-append ls (list_of ls y ∷ []))) ∙
+    (get_or-append_seam ls (list_of ls y) [] [] ∙
+    (ap (list_of ls) same ∙ λ i. sym (kept ls (y ∷ xs) x.before (omega (arith, before, is))) i ++ x.value ∷ [])))
+made ls (y ∷ xs) (suc j) k x e h before = made (ls ++ list_of ls y ∷ []) xs j k x (omega (arith, e, length-append ls (list_of ls y ∷ []))) h before
+
+-- the list of a number is what it is made of
+pub is_made : (xs : List Longer) (i : ℕ) (x : Longer) → AreBehind xs → slice_get xs i ≡ Some x → (x.before < suc i) × (list_at (lists xs) (suc i) ≡ list_of (lists xs) x)
+is_made xs i x behind h =
+    let le = behind i x h in
+    (omega (arith, le), made ([] ∷ []) xs i (suc i) x (omega arith) h (omega (arith, le)))
+
+pub none_made : (xs : List Longer) (i : ℕ) → slice_get xs i ≡ None → list_at (lists xs) (suc i) ≡ []
+none_made xs i h = let le = none_term xs i h in past (lists xs) (suc i) (let e = lists_len xs in omega (arith, le, e)) where
+  past : (ls : List (List Value)) (k : ℕ) → length ls ≤ k → list_at ls k ≡ []
+  past [] k le = refl
+  past (l ∷ ls) zero le = absurd (omega (arith, le))
+  past (l ∷ ls) (suc k) le = past ls k (omega (arith, le))
+
+pub empty_made : (xs : List Longer) → list_at (lists xs) 0 ≡ []
+empty_made xs = kept ([] ∷ []) xs 0 (omega arith)
+
+pub behind_last : (xs : List Longer) (x : Longer) → AreBehind xs → x.before < length (lists xs) → AreBehind (xs ++ x ∷ [])
+behind_last xs x behind lt i y h = go (at_end xs x y i h) where
+  go : (slice_get xs i ≡ Some y) ⊎ ((i ≡ length xs) × (x ≡ y)) → y.before ≤ i
+  go (inl p) = behind i y p
+  go (inr p) = let e = lists_len xs in let is = p.0 in let same : x.before ≡ y.before = ap Longer.before p.1 in omega (arith, e, lt, is, same)
+
+pub lists_grow : (xs : List Longer) (x : Longer) → Grows (lists xs) (lists (xs ++ x ∷ []))
+lists_grow xs x = (list_of (lists xs) x ∷ [], lists_last ([] ∷ []) xs x)
+
+pub last_list : (xs : List Longer) (x : Longer) → slice_get (lists (xs ++ x ∷ [])) (length (lists xs)) ≡ Some (list_of (lists xs) x)
+last_list xs x = ap (λ (ls : List (List Value)). slice_get ls (length (lists xs))) (lists_last ([] ∷ []) xs x) ∙ seam (lists xs) (list_of (lists xs) x)
+  where
+    seam : (ls : List (List Value)) (l : List Value) → slice_get (ls ++ l ∷ []) (length ls) ≡ Some l
+    seam [] l = refl
+    seam (m ∷ ls) l = seam ls l
+
+-- of a number that isn't 0
+pub made_there : (xs : List Longer) (at : ℕ) (x : Longer) → AreBehind xs → (at ≡ 0 → ⊥) → slice_get xs (at - 1) ≡ Some x → (x.before < at) × (slice_get (lists xs) at ≡ Some (list_of (lists xs) x))
+made_there xs zero x behind some h = absurd (some refl)
+made_there xs (suc i) x behind some h =
+    let e : suc i - 1 ≡ i = omega arith in
+    let g : slice_get xs i ≡ Some x = ap (slice_get xs) (sym e) ∙ h in
+    let m = is_made xs i x behind g in
+    let lt = within xs i x g in
+    let len = lists_len xs in
+    (m.0, get_there (lists xs) (suc i) [] (omega (arith, lt, len)) ∙ ap Some m.1)
+
+pub none_there : (xs : List Longer) (at : ℕ) → (at ≡ 0 → ⊥) → slice_get xs (at - 1) ≡ None → list_at (lists xs) at ≡ []
+none_there xs zero some h = absurd (some refl)
+none_there xs (suc i) some h =
+    let e : suc i - 1 ≡ i = omega arith in
+    none_made xs i (ap (slice_get xs) (sym e) ∙ h)
+
+-- one value further on
+pub further : (ls : List (List Value)) (at rest : ℕ) (x : Longer) (vs : List Value) → list_at ls at ≡ list_at ls rest ++ reverse vs → slice_get ls rest ≡ Some (list_of ls x) → list_at ls at ≡ list_at ls x.before ++ reverse (vs ++ x.value ∷ [])
+further ls at rest x vs so is =
+    so ∙ ap (λ (l : List Value). l ++ reverse vs) (get_or_is ls rest (list_of ls x) [] is)
+    ∙ append_assoc (list_at ls x.before) (x.value ∷ []) (reverse vs)
+    ∙ ap (λ (l : List Value). list_at ls x.before ++ l) (sym (reverse-append vs (x.value ∷ [])))
+
+pub some_made : (xs : List Longer) (at : ℕ) (o : Option Longer) → AreBehind xs → (at ≡ 0 → ⊥) → o ≡ slice_get xs (at - 1) → IfSome o (λ x. (x.before < at) × (slice_get (lists xs) at ≡ Some (list_of (lists xs) x)))
+some_made xs at None behind some e = tt
+some_made xs at (Some x) behind some e = made_there xs at x behind some (sym e)
+
+pub else_made : (xs : List Longer) (at : ℕ) (o : Option Longer) → (at ≡ 0 → ⊥) → o ≡ slice_get xs (at - 1) → IfNone o (list_at (lists xs) at ≡ [])
+else_made xs at None some e = none_there xs at some (sym e)
+else_made xs at (Some x) some e = tt

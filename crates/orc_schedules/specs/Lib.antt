@@ -1,0 +1,9 @@
+pub mod Reached
+pub mod Found
+pub mod Ends
+pub mod Searched
+pub mod Growing
+pub mod Lists
+pub mod Counts
+pub mod Tables
+pub mod Adding

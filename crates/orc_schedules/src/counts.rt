@@ -1,0 +1,324 @@
+//! Lists of calls that were made by their numbers.
+
+ghost use Rattle.std.specs.Prelude.{◌≡◌, ◌<◌, ◌≤◌, ◌++◌, ◌∷◌, [], ℕ, List, length, map, true, false, Some, slice_get, IfSome, IfOk, OnOk, OnErr};
+ghost use Rattle.orc_rules.specs.declared.value.Value.{Value as Datum};
+ghost use Rattle.orc_search.specs.Asked.{times_of, coming_of_made};
+ghost use Rattle.orc_search.specs.Moving.{happening_of};
+ghost use Rattle.orc_search.specs.States.{coming_after, without_next};
+ghost use Rattle.orc_search.specs.declared.made.Made.{Made as Entry};
+ghost use Rattle.orc_schedules.specs.Growing.{Grows};
+ghost use Rattle.orc_schedules.specs.Counts.{count_of, made_at, is_kind, raised, times_with};
+
+use orc_rules::answers::Answers;
+use orc_rules::builtin::are_same;
+use orc_rules::limits::MOST_ARGUMENTS;
+use orc_rules::value::{Args, Value};
+use orc_search::made::{Made, times_of};
+use orc_search::node::{mix, mix_value};
+use orc_search::successor::Happening;
+use std::alloc::{AllocError, Global};
+use std::collections::HashMap;
+use std::marker::Model;
+
+/// Lists of calls that were made by their numbers; the empty list has the number 0. A list that is asked for again has the same number again, unless
+/// one with an equal hash came between.
+pub struct Counts {
+    lists: Vec<Vec<Made>>,
+    // Where the list last made with a hash stands. Nothing is promised of it: what is found there is compared.
+    places: HashMap<u64, usize>,
+}
+
+impl Drop for Counts {
+    fn drop(self) {
+        let Counts {
+            lists: _,
+            places: _,
+        } = self;
+    }
+}
+
+impl Model for Counts {
+    ghost use Rattle.std.specs.Prelude.{List, map};
+    ghost use Rattle.orc_search.specs.declared.made.Made.{Made};
+
+    ghost Value = { List (List Made) };
+
+    ghost view = { λ c. map (λ v. v.items) c.lists.items };
+}
+
+// Where the entry of some calls stands in a list: at one of the same calls, or before the entry that stands there.
+#[derive(Clone, Copy)]
+struct Place {
+    at: usize,
+    again: bool,
+}
+
+// Whether both count the same calls.
+fn is_kind(one: &Made, other: &Made) -> bool
+    ensures { result ≡ is_kind (count_of one.now) (count_of other.now) }
+{
+    one.site == other.site && are_same(&one.args, &other.args)
+}
+
+fn is_same(one: &Made, other: &Made) -> bool
+    ensures { result ≡ true → count_of one.now ≡ count_of other.now }
+{
+    if !is_kind(one, other) {
+        return false;
+    }
+    one.times == other.times
+}
+
+fn hash_of_kind(calls: &Made) -> u64 {
+    let mut mixed = mix(2, calls.site as u64);
+    for arg in &calls.args {
+        mixed = mix_value(mixed, *arg);
+    }
+    mixed
+}
+
+// A number by which a list is looked for.
+fn hash_of(made: &[Made]) -> u64 {
+    let mut mixed = 3;
+    for calls in made {
+        mixed = mix(mix(mixed, hash_of_kind(calls)), calls.times);
+    }
+    mixed
+}
+
+// Where the entry of these calls stands or is to stand. The entries of a list stand in the order of hashes, so that it is the same list whichever
+// calls were made first; nothing is promised of that order.
+fn place_of(made: &[Made], calls: &Made) -> Place
+    ensures within { result.at ≤ length made.now }
+    ensures before { (i : ℕ) (e : Entry) → i < result.at → slice_get made.now i ≡ Some e → is_kind (count_of e) (count_of calls.now) ≡ false }
+    ensures again { result.again ≡ true → (e : Entry) × (slice_get made.now result.at ≡ Some e) × (is_kind (count_of e) (count_of calls.now) ≡ true) }
+{
+    let hash = hash_of_kind(calls);
+    for at in 0..made.len() {
+        let entry = &made[at];
+        if is_kind(entry, calls) {
+            return Place { at, again: true };
+        }
+        if hash < hash_of_kind(entry) {
+            return Place { at, again: false };
+        }
+    }
+    Place {
+        at: made.len(),
+        again: false,
+    }
+}
+
+fn copy_of(alloc: Global, calls: &Made) -> Result<Made, AllocError>
+    ensures { IfOk result (λ m. count_of m ≡ count_of calls.now) }
+{
+    Ok(Made {
+        site: calls.site,
+        args: Vec::from_slice(alloc, &calls.args)?,
+        times: calls.times,
+    })
+}
+
+// Adds the same entries once more. The error is refused memory.
+fn push_copies(alloc: Global, list: &mut Vec<Made>, made: &[Made]) -> Result<(), AllocError>
+    ensures { OnOk result (map count_of list.new.items ≡ map count_of list.old.items ++ map count_of made.now) }
+{
+    for calls in made {
+        let copy = copy_of(alloc, calls)?;
+        list.push(copy)?;
+    }
+    Ok(())
+}
+
+// A copy of the list, with this entry at that place. The error is refused memory.
+fn raised(alloc: Global, made: &[Made], place: Place, calls: Made) -> Result<Vec<Made>, AllocError>
+    requires within { place.at ≤ length made.now }
+    requires again { place.again ≡ true → place.at < length made.now }
+    ensures { IfOk result (λ v. map count_of v.items ≡ raised (count_of calls) place.at place.again (map count_of made.now)) }
+{
+    let rest = if place.again { place.at + 1 } else { place.at };
+    let mut list = Vec::new(alloc);
+    push_copies(alloc, &mut list, &made[..place.at])?;
+    list.push(calls)?;
+    push_copies(alloc, &mut list, &made[rest..])?;
+    Ok(list)
+}
+
+// Whether two lists have the same counts in the same order.
+fn are_same_counts(one: &[Made], other: &[Made]) -> bool
+    ensures { result ≡ true → map count_of one.now ≡ map count_of other.now }
+{
+    let mut rest = one;
+    let mut others = other;
+    loop {
+        match rest {
+            [] => return others.is_empty(),
+            [calls, more @ ..] => match others {
+                [] => return false,
+                [other_calls, more_others @ ..] => {
+                    if !is_same(calls, other_calls) {
+                        return false;
+                    }
+                    rest = more;
+                    others = more_others;
+                }
+            },
+        }
+    }
+}
+
+// The arguments of a call, in place; None where there are more than a call can have.
+fn in_place(args: &[Value]) -> Option<Args>
+    ensures { IfSome result (λ a. a ≡ args.now) }
+{
+    let mut placed = Args::new();
+    if args.len() > MOST_ARGUMENTS {
+        return None;
+    }
+    for arg in args {
+        placed.push(*arg);
+    }
+    Some(placed)
+}
+
+impl Counts {
+    /// The empty list alone. The error is refused memory.
+    pub fn new(alloc: Global) -> Result<Counts, AllocError>
+        ensures { IfOk result (λ c. c ≡ [] ∷ []) }
+    {
+        let mut lists = Vec::new(alloc);
+        lists.push(Vec::new(alloc))?;
+        Ok(Counts {
+            lists,
+            places: HashMap::new(alloc),
+        })
+    }
+
+    /// The list of that number; the empty one where there is none.
+    pub fn made(&self, at: usize) -> &[Made]
+        ensures { result.now ≡ made_at self.now at }
+    {
+        match self.lists.get(at) {
+            Some(made) => made,
+            None => &[],
+        }
+    }
+
+    // Adds a list behind the others: its number. Where memory is refused nothing changes.
+    fn push(&mut self, list: Vec<Made>) -> Result<usize, AllocError>
+        ensures number { IfOk result (λ at. at ≡ length self.old) }
+        ensures added { OnOk result (self.new ≡ self.old ++ list.items ∷ []) }
+        ensures refused { OnErr result (self.new ≡ self.old) }
+    {
+        let at = self.lists.len();
+        self.lists.push(list)?;
+        Ok(at)
+    }
+
+    fn place_of(&self, hash: u64) -> Option<usize> {
+        self.places.get(&hash).copied()
+    }
+
+    // A list with this hash stands there. The error is refused memory.
+    fn remember(&mut self, hash: u64, at: usize) -> Result<(), AllocError>
+        ensures { self.new ≡ self.old }
+    {
+        self.places.insert(hash, at)?;
+        Ok(())
+    }
+
+    // Whether a list with the same counts stands there.
+    fn stands_at(&self, at: usize, list: &[Made]) -> bool
+        ensures { result ≡ true → (at < length self.now) × (map count_of (made_at self.now at) ≡ map count_of list.now) }
+    {
+        at < self.lists.len() && are_same_counts(self.made(at), list)
+    }
+
+    // The number of a list with these counts: that of one that is found, or else that of the list itself, which stands behind the others then. The
+    // error is refused memory. The lists that were there stay, in both cases.
+    fn number_of(&mut self, list: Vec<Made>) -> Result<usize, AllocError>
+        ensures there { IfOk result (λ at. at < length self.new) }
+        ensures counts { IfOk result (λ at. map count_of (made_at self.new at) ≡ map count_of list.items) }
+        ensures kept { Grows self.old self.new }
+    {
+        let hash = hash_of(&list);
+        if let Some(at) = self.place_of(hash) {
+            if self.stands_at(at, &list) {
+                return Ok(at);
+            }
+        }
+        let at = self.push(list)?;
+        self.remember(hash, at)?;
+        Ok(at)
+    }
+
+    // The number of the list after one call more of those calls, of which there were fewer than those after which all are answered alike.
+    fn raised(&mut self, alloc: Global, at: usize, calls: Made) -> Result<usize, AllocError>
+        requires { at < length self.old }
+        ensures there { IfOk result (λ to. to < length self.new) }
+        ensures times { IfOk result (λ to. (m : ℕ) (args : List Datum) → times_of (made_at self.new to) m args ≡ times_with (count_of calls) (times_of (made_at self.old at)) m args) }
+        ensures kept { Grows self.old self.new }
+    {
+        let made = self.made(at);
+        let place = place_of(made, &calls);
+        let list = raised(alloc, made, place, calls)?;
+        let to = self.number_of(list)?;
+        Ok(to)
+    }
+
+    /// The number of the list after a call of the site with these arguments: what the calls to come are answered after it is what they are answered
+    /// before, without the next one of such calls. A count goes no higher than where all later calls are answered alike, so that a loop comes back to
+    /// the same list. The error is refused memory, or that no call can have so many arguments. The lists that were there stay, in both cases.
+    pub fn called(
+        &mut self,
+        alloc: Global,
+        answers: &Answers,
+        at: usize,
+        site: u32,
+        args: &[Value],
+    ) -> Result<usize, AllocError>
+        requires { at < length self.old }
+        ensures there { IfOk result (λ to. to < length self.new) }
+        ensures coming { IfOk result (λ to. coming_of_made answers.now.sites (made_at self.new to) ≡ without_next site args.now (coming_of_made answers.now.sites (made_at self.old at))) }
+        ensures kept { Grows self.old self.new }
+    {
+        let Some(placed) = in_place(args) else {
+            return Err(AllocError);
+        };
+        let last = answers.last_answer(site, &placed);
+        let times = times_of(self.made(at), site, args);
+        if times >= last {
+            return Ok(at);
+        }
+        let calls = Made {
+            site,
+            args: Vec::from_slice(alloc, args)?,
+            times: times + 1,
+        };
+        let to = self.raised(alloc, at, calls)?;
+        Ok(to)
+    }
+
+    /// The number of the list after what happens: after a call as `called` has it. The errors are those of `called`. The lists that were there stay,
+    /// in both cases.
+    pub fn after(
+        &mut self,
+        alloc: Global,
+        answers: &Answers,
+        at: usize,
+        happening: &Happening,
+    ) -> Result<usize, AllocError>
+        requires { at < length self.old }
+        ensures there { IfOk result (λ to. to < length self.new) }
+        ensures coming { IfOk result (λ to. coming_of_made answers.now.sites (made_at self.new to) ≡ coming_after (happening_of happening.now) (coming_of_made answers.now.sites (made_at self.old at))) }
+        ensures kept { Grows self.old self.new }
+    {
+        match happening {
+            Happening::Called(site, args) => {
+                let called = self.called(alloc, answers, at, *site, args)?;
+                Ok(called)
+            }
+            _ => Ok(at),
+        }
+    }
+}

@@ -1,0 +1,122 @@
+//! The search through all schedules of a program.
+
+ghost use Rattle.std.specs.Prelude.{◌≡◌, ◌<◌, ◌*◌, ◌^◌, suc, length, true, Some, slice_get, IfOk};
+ghost use Rattle.orc_rules.specs.Nodes.{source};
+ghost use Rattle.orc_search.specs.Nodes.{smalls, Extends};
+ghost use Rattle.orc_search.specs.Programs.{small};
+ghost use Rattle.orc_search.specs.Sources.{AreNumbered};
+ghost use Rattle.orc_schedules.specs.Searched.{IsSearched};
+
+use crate::counts::Counts;
+use crate::ended::Ended;
+use crate::lists::Lists;
+use crate::states::{Key, States};
+use crate::tables::Tables;
+use crate::told::Ends;
+use orc_rules::answers::Answers;
+use orc_rules::program::Program;
+use orc_search::moves::Source;
+use orc_search::node::{Node, Tip};
+use orc_search::source::numbered;
+use orc_search::terms::Terms;
+use std::alloc::{AllocError, Global};
+
+/// What a search through all schedules came to.
+#[derive(Drop)]
+pub enum Schedules {
+    /// The ends of all runs, each that of one, and how many states there are.
+    All(Vec<Ended>, usize),
+    /// There are more states than the search was to look at.
+    TooMany,
+    /// A run within the limit of entries, or one to a state that was found, may come to a time of more than 64 bits.
+    TooLong,
+}
+
+fn number_at(numbers: &[usize], at: usize) -> Option<usize>
+    ensures { result ≡ slice_get numbers.now at }
+{
+    match numbers.get(at) {
+        Some(number) => Some(*number),
+        None => None,
+    }
+}
+
+// The number of a program's term. The error is refused memory.
+fn number_of_source(
+    terms: &mut Terms,
+    program: &Program,
+    numbers: &[usize],
+) -> Result<usize, AllocError>
+    requires numbers { AreNumbered (smalls terms.old) program.now numbers.now }
+    requires all { length numbers.now ≡ length program.now.nodes }
+    ensures number { IfOk result (λ n. slice_get (smalls terms.new) n ≡ Some (small (source program.now))) }
+    ensures kept { Extends (smalls terms.old) (smalls terms.new) }
+{
+    match number_at(numbers, program.source()) {
+        Some(number) => Ok(number),
+        None => {
+            let number = terms.number_of(Node::Tip(Tip::Nothing))?;
+            Ok(number)
+        }
+    }
+}
+
+// Whether no way of at most so many steps, and no run of at most so many entries, can come to a time past 2^64 by waits of at most this length.
+fn is_in_time(longest: u64, steps: u64) -> bool
+    ensures { result ≡ true → suc steps * longest < 2 ^ 64 }
+{
+    if longest == 0 {
+        return true;
+    }
+    match steps.checked_add(1) {
+        Some(waits) => waits.checked_mul(longest).is_some(),
+        None => false,
+    }
+}
+
+/// Searches all schedules of a program whose calls these sites answer, through `most` states at most. The answer is every outcome that a run of at
+/// most `limit` entries, cancels not counted, ends with by itself, be it halted or quiet, and none with which no run ends, of however many entries;
+/// or that there are more states, as where a loop goes on publishing; or that waits may add up to a time past 2^64, in such a run or on the way to
+/// a state. The error is refused memory.
+pub fn search(
+    alloc: Global,
+    program: &Program,
+    answers: &Answers,
+    most: usize,
+    limit: u64,
+) -> Result<Schedules, AllocError>
+    ensures all { IfOk result (λ s. IsSearched program.now answers.now limit s) }
+{
+    let mut terms = Terms::new(alloc);
+    let numbers = numbered(&mut terms, alloc, program)?;
+    let term = number_of_source(&mut terms, program, &numbers)?;
+    let source = Source {
+        program,
+        answers,
+        numbers,
+    };
+    let mut tables = Tables {
+        terms,
+        counts: Counts::new(alloc)?,
+        lists: Lists::new(alloc),
+        states: States::new(alloc),
+        ends: Ends::new(alloc),
+        longest: 0,
+    };
+    tables.states.add(Key {
+        term,
+        made: 0,
+        values: 0,
+    })?;
+    let all = tables.look_at_all(alloc, &source, most)?;
+    if !all {
+        return Ok(Schedules::TooMany);
+    }
+    let states = tables.states.len();
+    let steps = limit.max(states as u64);
+    if !is_in_time(tables.longest, steps) {
+        return Ok(Schedules::TooLong);
+    }
+    let ended = tables.ended(alloc)?;
+    Ok(Schedules::All(ended, states))
+}

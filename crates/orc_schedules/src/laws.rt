@@ -1,0 +1,14 @@
+//! Laws of the definitions: each function's contract is one.
+
+ghost use Rattle.orc_schedules.specs.Ends.{FoundAreOfRuns};
+ghost use Rattle.orc_schedules.specs.Found.{AllAreFound};
+
+/// Of states that are closed under all that may happen, with what was published on the way to them, the ends are those of all runs.
+pub fn all_are_found()
+    ensures { AllAreFound }
+{}
+
+/// States that are found one from another say only ends of runs: each end that is told is one to which a run of the program comes.
+pub fn found_are_of_runs()
+    ensures { FoundAreOfRuns }
+{}

@@ -1,0 +1,446 @@
+//! All that a numbered term may do.
+
+ghost use Rattle.std.specs.Prelude.{◌≡◌, ◌<◌, ◌≤◌, ◌++◌, List, ℕ, length, map, reverse, Some, None, slice_get, IfOk, OnOk, IfSome, IfNone};
+ghost use Rattle.std.specs.List.{AllZip};
+ghost use Rattle.orc_rules.specs.declared.limits.TheConstants.{MOST_ARGUMENTS};
+ghost use Rattle.orc_rules.specs.declared.param.Param.TheVariants.{Cell};
+ghost use Rattle.orc_rules.specs.declared.value.Value.{Value as Datum};
+ghost use Rattle.orc_rules.specs.Term.{values_of};
+ghost use Rattle.orc_rules.specs.Idle.{has_void};
+ghost use Rattle.orc_rules.specs.Nodes.{code, definition_of};
+ghost use Rattle.orc_rules.specs.Programs.{routine_of};
+ghost use Rattle.orc_search.specs.Small.{Out, left_by, nothing, needs, set, set_all};
+ghost use Rattle.orc_search.specs.Moves.{SmallDefinition};
+ghost use Rattle.orc_search.specs.Successors.{moves, given, asked, entered, returned, silently};
+ghost use Rattle.orc_search.specs.States.{next_call};
+ghost use Rattle.orc_search.specs.Nodes.{joined, out_of, small_at, smalls, tip_of, Extends};
+ghost use Rattle.orc_search.specs.Programs.{small, small_definition, small_definitions};
+ghost use Rattle.orc_search.specs.Moving.{successor_of, IsSuccessor};
+ghost use Rattle.orc_search.specs.Asked.{coming_of_made};
+ghost use Rattle.orc_search.specs.Ready.{IsReady};
+ghost use Rattle.orc_search.specs.Own.{becoming_of, list_of, silent_of, own, IsOwn, Turns};
+ghost use Rattle.orc_search.specs.Walks.{through, AreAround, IsPlanned};
+
+use crate::change::{Change, changed};
+use crate::made::{Made, times_of};
+use crate::node::{Joint, Node, Tip, Waiting};
+use crate::successor::{Frame, Happening, Successor};
+use crate::terms::Terms;
+use crate::walk::{Spot, Walk, lifted_out};
+use orc_rules::answers::Answers;
+use orc_rules::limits::MOST_ARGUMENTS;
+use orc_rules::param::Param;
+use orc_rules::program::{Definition, Program};
+use orc_rules::value::{Answer, Args, Found, Value};
+use std::alloc::{AllocError, Global};
+
+/// A program with its sites, and the numbers of its nodes' terms, as `numbered` gives them.
+#[derive(Drop)]
+pub struct Source<'a> {
+    pub program: &'a Program,
+    pub answers: &'a Answers,
+    pub numbers: Vec<usize>,
+}
+
+// What happens, and the term without parts that is there after it.
+#[derive(Drop)]
+struct Becoming {
+    happening: Happening,
+    tip: Tip,
+}
+
+// What a term does by itself: what it becomes, if anything, or a definition is entered, or it has parts, which are joined.
+#[derive(Drop)]
+enum Own {
+    Becomes(Option<Becoming>),
+    Enters(u32, Vec<Param>),
+    Joins(Joint, usize, usize),
+}
+
+fn silently(happens: bool) -> Option<Becoming>
+    ensures { becoming_of result ≡ silently happens nothing }
+{
+    if happens {
+        Some(Becoming {
+            happening: Happening::Unseen,
+            tip: Tip::Nothing,
+        })
+    } else {
+        None
+    }
+}
+
+fn given(param: Param) -> Option<Becoming>
+    ensures { becoming_of result ≡ given param }
+{
+    match param {
+        Param::Is(value) => Some(Becoming {
+            happening: Happening::Published(value),
+            tip: Tip::Nothing,
+        }),
+        Param::Void => silently(true),
+        _ => None,
+    }
+}
+
+fn has_void(params: &[Param]) -> bool
+    ensures { result ≡ has_void params.now }
+{
+    for param in params {
+        if let Param::Void = *param {
+            return true;
+        }
+    }
+    false
+}
+
+// The values, where all parameters are values.
+fn values_of(params: &[Param]) -> Option<Args>
+    requires { length params.now ≤ MOST_ARGUMENTS }
+    ensures { result ≡ values_of params.now }
+{
+    let mut args = Args::new();
+    for param in params {
+        let Param::Is(value) = *param else {
+            return None;
+        };
+        args.push(value);
+    }
+    Some(args)
+}
+
+// What the next call of a site with these arguments is answered. The error is that more were made than can be counted.
+fn answer(source: &Source, made: &[Made], site: u32, args: &Args) -> Result<Found, AllocError>
+    ensures { IfOk result (λ found. found ≡ coming_of_made source.now.answers.now.sites made.now site args.now 0) }
+{
+    let Some(nth) = times_of(made, site, args.as_slice()).checked_add(1) else {
+        return Err(AllocError);
+    };
+    Ok(source.answers.find(site, args, nth))
+}
+
+// A call of a site, with what comes of it. The error is refused memory.
+fn call(alloc: Global, site: u32, args: &[Value], rest: Found) -> Result<Becoming, AllocError>
+    ensures { IfOk result (λ b. becoming_of (Some b) ≡ asked (λ _ _. record { site = site; args = args.now; rest = rest }) site (Some args.now)) }
+{
+    let made = Vec::from_slice(alloc, args)?;
+    let out = Vec::from_slice(alloc, args)?;
+    Ok(Becoming {
+        happening: Happening::Called(site, made),
+        tip: Tip::Awaits(Waiting {
+            site,
+            args: out,
+            rest,
+        }),
+    })
+}
+
+// What comes of a call of a site. The error is refused memory, or that it has more than `MOST_ARGUMENTS` parameters.
+fn asked(
+    alloc: Global,
+    source: &Source,
+    made: &[Made],
+    site: u32,
+    params: &[Param],
+) -> Result<Option<Becoming>, AllocError>
+    ensures { IfOk result (λ o. becoming_of o ≡ asked (next_call (coming_of_made source.now.answers.now.sites made.now)) site (values_of params.now) ++ silently (has_void params.now) nothing) }
+{
+    if params.len() > MOST_ARGUMENTS {
+        return Err(AllocError);
+    }
+    let Some(args) = values_of(params) else {
+        return Ok(silently(has_void(params)));
+    };
+    let rest = answer(source, made, site, &args)?;
+    let becoming = call(alloc, site, args.as_slice(), rest)?;
+    Ok(Some(becoming))
+}
+
+fn left_by(answer: Answer) -> Tip
+    ensures { tip_of result ≡ left_by answer }
+{
+    match answer {
+        Answer::Value(value) => Tip::Gives(Param::Is(value)),
+        Answer::Halt => Tip::Nothing,
+    }
+}
+
+// A call that is out returns, if it has no time left. The error is refused memory.
+fn returned(alloc: Global, waiting: &Waiting) -> Result<Option<Becoming>, AllocError>
+    ensures { IfOk result (λ o. becoming_of o ≡ returned (out_of waiting.now) waiting.now.rest) }
+{
+    let Found::After(answer, 0) = waiting.rest else {
+        return Ok(None);
+    };
+    let args = Vec::from_slice(alloc, &waiting.args)?;
+    Ok(Some(Becoming {
+        happening: Happening::Answered(waiting.site, args, answer),
+        tip: left_by(answer),
+    }))
+}
+
+// What the term of that number does by itself. The error is refused memory, or a call with more than `MOST_ARGUMENTS` parameters.
+fn own_of(
+    terms: &Terms,
+    alloc: Global,
+    source: &Source,
+    made: &[Made],
+    at: usize,
+) -> Result<Own, AllocError>
+    ensures { IfOk result (λ o. IsOwn (next_call (coming_of_made source.now.answers.now.sites made.now)) (smalls terms.now) at o) }
+{
+    match terms.node(at) {
+        None => Err(AllocError),
+        Some(Node::Pair(joint, f, g)) => Ok(Own::Joins(*joint, *f, *g)),
+        Some(Node::Tip(Tip::Nothing)) => Ok(Own::Becomes(None)),
+        Some(Node::Tip(Tip::Gives(param))) => Ok(Own::Becomes(given(*param))),
+        Some(Node::Tip(Tip::Asks(site, params))) => {
+            let becoming = asked(alloc, source, made, *site, params)?;
+            Ok(Own::Becomes(becoming))
+        }
+        Some(Node::Tip(Tip::Enters(definition, params))) => {
+            let params = Vec::from_slice(alloc, params)?;
+            Ok(Own::Enters(*definition, params))
+        }
+        Some(Node::Tip(Tip::Awaits(waiting))) => {
+            let becoming = returned(alloc, waiting)?;
+            Ok(Own::Becomes(becoming))
+        }
+    }
+}
+
+fn definition(program: &Program, number: u32) -> Option<&Definition>
+    ensures there { IfSome result (λ d. slice_get (small_definitions program.now) number ≡ Some (small_definition (definition_of program.now (routine_of d.now)))) }
+    ensures none { IfNone result (slice_get (small_definitions program.now) number ≡ None) }
+{
+    match program.definitions().get(number as usize) {
+        Some(called) => Some(called),
+        None => None,
+    }
+}
+
+// The number of the term of a program's node; where there is no such node, its term is nothing. The error is refused memory.
+fn number_of_node(terms: &mut Terms, source: &Source, node: usize) -> Result<usize, AllocError>
+    requires { IsReady (smalls terms.old) source.now }
+    ensures number { IfOk result (λ n. slice_get (smalls terms.new) n ≡ Some (small (code source.now.program.now node))) }
+    ensures kept { Extends (smalls terms.old) (smalls terms.new) }
+{
+    source.program.are_unfolded();
+    match source.numbers.get(node) {
+        Some(number) => Ok(*number),
+        None => terms.number_of(Node::Tip(Tip::Nothing)),
+    }
+}
+
+// The parameters put for the names, one after another, in a term that is there: the number of what it becomes. The error is refused memory.
+fn filled(
+    terms: &mut Terms,
+    alloc: Global,
+    names: &[u32],
+    params: &[Param],
+    body: usize,
+) -> Result<usize, AllocError>
+    requires { body < length terms.old }
+    ensures number { IfOk result (λ n. slice_get (smalls terms.new) n ≡ Some (set_all names.now params.now (small_at (smalls terms.old) body))) }
+    ensures kept { Extends (smalls terms.old) (smalls terms.new) }
+{
+    let mut filled = body;
+    for (i, name) in names.iter().enumerate() {
+        let Some(param) = params.get(i) else {
+            return Ok(filled);
+        };
+        filled = changed(terms, alloc, Change::Put(*param, *name), filled)?;
+    }
+    Ok(filled)
+}
+
+// A definition's body with these parameters. The error is refused memory.
+fn entered(
+    terms: &mut Terms,
+    alloc: Global,
+    source: &Source,
+    number: u32,
+    params: &[Param],
+) -> Result<Option<Successor>, AllocError>
+    requires { IsReady (smalls terms.old) source.now }
+    ensures entered { IfOk result (λ o. AllZip (IsSuccessor (smalls terms.new)) (list_of o) (entered (slice_get (small_definitions source.now.program.now) number) params.now)) }
+    ensures kept { Extends (smalls terms.old) (smalls terms.new) }
+{
+    let Some(called) = definition(source.program, number) else {
+        return Ok(None);
+    };
+    let body = number_of_node(terms, source, called.body)?;
+    let to = filled(terms, alloc, &called.params, params, body)?;
+    Ok(Some(Successor {
+        happening: Happening::Unseen,
+        to,
+    }))
+}
+
+// A pruning opens: its left side has the cell of that number for the name.
+fn opened(
+    terms: &mut Terms,
+    alloc: Global,
+    f: usize,
+    x: u32,
+    g: usize,
+    depth: u64,
+) -> Result<usize, AllocError>
+    requires left { f < length terms.old }
+    requires right { g < length terms.old }
+    ensures number { IfOk result (λ n. slice_get (smalls terms.new) n ≡ Some (needs (set (Cell depth) x (small_at (smalls terms.old) f)) (small_at (smalls terms.old) g))) }
+    ensures kept { Extends (smalls terms.old) (smalls terms.new) }
+{
+    let left = changed(terms, alloc, Change::Put(Param::Cell(depth), x), f)?;
+    let to = terms.number_of(Node::Pair(Joint::Needs, left, g))?;
+    Ok(to)
+}
+
+// What two joined terms become by themselves. The error is refused memory.
+fn turned(
+    terms: &mut Terms,
+    alloc: Global,
+    joint: Joint,
+    f: usize,
+    g: usize,
+    depth: u64,
+) -> Result<Option<usize>, AllocError>
+    requires left { f < length terms.old }
+    requires right { g < length terms.old }
+    ensures turned { IfOk result (λ o. (defs : List SmallDefinition) (ask : ℕ → List Datum → Out) → Turns (smalls terms.new) o (own defs ask depth (joined joint (small_at (smalls terms.old) f) (small_at (smalls terms.old) g)))) }
+    ensures kept { Extends (smalls terms.old) (smalls terms.new) }
+{
+    match joint {
+        Joint::Both => Ok(None),
+        Joint::Feeds(_) => Ok(None),
+        Joint::Prunes(x) => {
+            let to = opened(terms, alloc, f, x, g, depth)?;
+            Ok(Some(to))
+        }
+        Joint::Instead => {
+            if terms.summary(f).over {
+                Ok(Some(g))
+            } else {
+                Ok(None)
+            }
+        }
+        Joint::Needs => {
+            if terms.summary(g).over {
+                let to = changed(terms, alloc, Change::Settle(Param::Void, depth), f)?;
+                Ok(Some(to))
+            } else {
+                Ok(None)
+            }
+        }
+    }
+}
+
+// What a part does by itself, and its parts are to be entered next. The error is refused memory, or a call with more than `MOST_ARGUMENTS`
+// parameters.
+fn step(
+    terms: &mut Terms,
+    alloc: Global,
+    source: &Source,
+    made: &[Made],
+    walk: &mut Walk,
+    spot: Spot,
+) -> Result<Option<Successor>, AllocError>
+    requires ready { IsReady (smalls terms.old) source.now }
+    requires there { spot.at < length terms.old }
+    ensures own { IfOk result (λ o. AllZip (IsSuccessor (smalls terms.new)) (list_of o) (own (small_definitions source.now.program.now) (next_call (coming_of_made source.now.answers.now.sites made.now)) spot.depth (small_at (smalls terms.old) spot.at))) }
+    ensures planned { IfOk result (λ _. IsPlanned (smalls terms.old) spot walk.old walk.new) }
+    ensures kept { Extends (smalls terms.old) (smalls terms.new) }
+{
+    match own_of(terms, alloc, source, made, spot.at)? {
+        Own::Becomes(None) => Ok(None),
+        Own::Becomes(Some(becoming)) => {
+            let to = terms.number_of(Node::Tip(becoming.tip))?;
+            Ok(Some(Successor {
+                happening: becoming.happening,
+                to,
+            }))
+        }
+        Own::Enters(definition, params) => {
+            let body = entered(terms, alloc, source, definition, &params)?;
+            Ok(body)
+        }
+        Own::Joins(joint, f, g) => {
+            walk.plan_parts(joint, f, g, spot.depth)?;
+            let turned = turned(terms, alloc, joint, f, g, spot.depth)?;
+            Ok(silent(turned))
+        }
+    }
+}
+
+fn silent(turned: Option<usize>) -> Option<Successor>
+    ensures { list_of result ≡ silent_of turned }
+{
+    match turned {
+        Some(to) => Some(Successor {
+            happening: Happening::Unseen,
+            to,
+        }),
+        None => None,
+    }
+}
+
+// The move of a part, if there is one, as a move of the whole. The error is refused memory.
+fn whole_of(
+    terms: &mut Terms,
+    alloc: Global,
+    path: &[Frame],
+    own: Option<Successor>,
+) -> Result<Option<Successor>, AllocError>
+    requires around { AreAround (length terms.old) (reverse path.now) }
+    requires part { IfSome own (λ s. s.to < length terms.old) }
+    ensures lifted { IfOk result (λ o. AllZip (IsSuccessor (smalls terms.new)) (list_of o) (map (λ s. through (smalls terms.old) (reverse path.now) (successor_of (smalls terms.old) s)) (list_of own))) }
+    ensures kept { Extends (smalls terms.old) (smalls terms.new) }
+{
+    match own {
+        Some(successor) => {
+            let whole = lifted_out(terms, alloc, path, successor)?;
+            Ok(Some(whole))
+        }
+        None => Ok(None),
+    }
+}
+
+// Adds a successor, if there is one. Where memory is refused nothing changes.
+fn add(found: &mut Vec<Successor>, successor: Option<Successor>) -> Result<(), AllocError>
+    ensures { OnOk result (found.new.items ≡ found.old.items ++ list_of successor) }
+{
+    if let Some(successor) = successor {
+        found.push(successor)?;
+    }
+    Ok(())
+}
+
+/// All that a term that is there may do, as the list `moves` of the definitions has it, after calls that were made. The error is refused memory,
+/// or that a count is past its type: a call with more than `MOST_ARGUMENTS` parameters, 2^64 calls, or prunings opened in one another. The terms
+/// that were there stay, in both cases.
+pub fn successors(
+    terms: &mut Terms,
+    alloc: Global,
+    source: &Source,
+    made: &[Made],
+    root: usize,
+) -> Result<Vec<Successor>, AllocError>
+    requires ready { IsReady (smalls terms.old) source.now }
+    requires there { root < length terms.old }
+    ensures all { IfOk result (λ v. AllZip (IsSuccessor (smalls terms.new)) v.items (moves (small_definitions source.now.program.now) (next_call (coming_of_made source.now.answers.now.sites made.now)) 0 (small_at (smalls terms.old) root))) }
+    ensures kept { Extends (smalls terms.old) (smalls terms.new) }
+{
+    let mut walk = Walk::new(alloc);
+    let mut found = Vec::new(alloc);
+    let mut spot = Spot { at: root, depth: 0 };
+    for _step in 0..u64::MAX {
+        let own = step(terms, alloc, source, made, &mut walk, spot)?;
+        let whole = whole_of(terms, alloc, &walk.path, own)?;
+        add(&mut found, whole)?;
+        let Some(next) = walk.next()? else {
+            return Ok(found);
+        };
+        spot = next;
+    }
+    Err(AllocError)
+}
