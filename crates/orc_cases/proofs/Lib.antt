@@ -1,4 +1,5 @@
 pub mod Lists
+pub mod Covering
 pub mod Capped
 pub mod Sizing
 pub mod Lengths

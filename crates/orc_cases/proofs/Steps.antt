@@ -1,5 +1,5 @@
 -- One line more of a way.
-use Rattle.std.proofs.Common.{◌≡◌, ℕ, zero, suc, ◌+◌, ◌*◌, ◌/◌, ◌%◌, ◌<◌, ◌≤◌, Bool, List, [], ◌∷◌, ◌++◌, Option, Some, length, drop, get_or, sym, ap, ◌∙◌, arith}
+use Rattle.std.proofs.Common.{◌≡◌, ℕ, zero, suc, ◌+◌, ◌*◌, ◌/◌, ◌%◌, ◌<◌, ◌≤◌, Bool, List, [], ◌∷◌, ◌++◌, Option, Some, None, length, drop, get_or, sym, ap, ◌∙◌, arith}
 use Rattle.std.specs.Prelude.{slice_get}
 use Rattle.std.specs.Option.{option_to_list}
 use Rattle.std.proofs.lemmas.List.{append_assoc, append-nil, drop_more, drop_all, length-map}
@@ -63,6 +63,7 @@ pub record Step (ls : List CodeLine) (i left digits : ℕ) (x : CodeLine) (cs : 
   pub digit : digits / (left / length cs) < length cs
   pub counted : left / length cs ≡ length (combinations (all_choices_of (drop (i + 1) ls)))
   pub within : digits % (left / length cs) < left / length cs
+  pub way : (c : CodeChoice) → c ≡ get_or cs (digits / (left / length cs)) c → way_at (all_choices_of (drop i ls)) digits ≡ choice_of c ∷ way_at (all_choices_of (drop (i + 1) ls)) (digits % (left / length cs))
   pub text : (only : Bool) (c : CodeChoice) → c ≡ get_or cs (digits / (left / length cs)) c →
       lines_text only (lines_from (drop i ls)) (way_at (all_choices_of (drop i ls)) digits)
       ≡ line_text only (line_from x) (choice_of c) ++ lines_text only (lines_from (drop (i + 1) ls)) (way_at (all_choices_of (drop (i + 1) ls)) (digits % (left / length cs)))
@@ -82,6 +83,13 @@ step ls i left digits x cs lt is same counted within =
       digit = digit;
       counted = rw (← long) (left_is (choices_from cs) more left digits here within);
       within = rw (← long) (rest_within (choices_from cs) more left digits here within);
+      way = λ c read.
+          let there : slice_get (choices_from cs) (digits / (left / length (choices_from cs))) ≡ Some (choice_of c) =
+          ap (λ (n : ℕ). slice_get (choices_from cs) (digits / (left / n))) long ∙ choice_there cs (digits / (left / length cs)) c digit read in
+          ap (λ (rest : List CodeLine). way_at (all_choices_of rest) digits) front
+          ∙ ap (λ (ds : List Choice). way_at (ds ∷ more) digits) (sym own)
+          ∙ way_is (choices_from cs) more left digits here within (choice_of c) there
+          ∙ ap (λ (n : ℕ). choice_of c ∷ way_at more (digits % (left / n))) long;
       text = λ only c read.
           let there : slice_get (choices_from cs) (digits / (left / length (choices_from cs))) ≡ Some (choice_of c) =
           ap (λ (n : ℕ). slice_get (choices_from cs) (digits / (left / n))) long ∙ choice_there cs (digits / (left / length cs)) c digit read in
@@ -106,3 +114,19 @@ text_done ls i digits only text total le so_far =
     sym (append-nil text)
     ∙ ap (λ (rest : List CodeLine). text ++ lines_text only (lines_from rest) (way_at (all_choices_of rest) digits)) (sym (drop_all i ls le))
     ∙ so_far
+
+-- what a line behind it does stands one place lower in what is left
+pub place_more : (ls : List CodeLine) (i left digits : ℕ) (x : CodeLine) (cs : List CodeChoice) → Step ls i left digits x cs → (c : CodeChoice) → c ≡ get_or cs (digits / (left / length cs)) c →
+    (before rest : ℕ) (total : Option Choice) → before ≡ suc rest → slice_get (way_at (all_choices_of (drop i ls)) digits) before ≡ total →
+    slice_get (way_at (all_choices_of (drop (i + 1) ls)) (digits % (left / length cs))) rest ≡ total
+place_more ls i left digits x cs s c read before rest total more so_far =
+    sym (ap (λ (w : Way). slice_get w (suc rest)) (s.way c read)) ∙ sym (ap (λ (n : ℕ). slice_get (way_at (all_choices_of (drop i ls)) digits) n) more) ∙ so_far
+
+-- and its own at the first place
+pub place_here : (ls : List CodeLine) (i left digits : ℕ) (x : CodeLine) (cs : List CodeChoice) → Step ls i left digits x cs → (c : CodeChoice) → c ≡ get_or cs (digits / (left / length cs)) c →
+    (before : ℕ) (total : Option Choice) → before ≡ 0 → slice_get (way_at (all_choices_of (drop i ls)) digits) before ≡ total → Some (choice_of c) ≡ total
+place_here ls i left digits x cs s c read before total none so_far =
+    sym (ap (λ (w : Way). slice_get w 0) (s.way c read)) ∙ ap (λ (n : ℕ). slice_get (way_at (all_choices_of (drop i ls)) digits) n) (sym none) ∙ so_far
+
+pub place_none : (ls : List CodeLine) (i digits before : ℕ) (total : Option Choice) → length ls ≤ i → slice_get (way_at (all_choices_of (drop i ls)) digits) before ≡ total → None ≡ total
+place_none ls i digits before total le so_far = sym (ap (λ (rest : List CodeLine). slice_get (way_at (all_choices_of rest) digits) before) (drop_all i ls le)) ∙ so_far

@@ -1,8 +1,10 @@
 pub mod Services
 pub mod Choices
+pub mod Intervals
 pub mod Texts
 pub mod Ways
 pub mod Places
+pub mod Ranges
 pub mod Weights
 pub mod Sizes
 pub mod Digits

@@ -1,12 +1,14 @@
 -- The text of a script's lines.
-use Rattle.std.specs.Prelude.{ℕ, zero, suc, List, [], ◌∷◌, ◌++◌, codes, decimal}
+use Rattle.std.specs.Prelude.{ℕ, zero, suc, List, [], ◌∷◌, ◌++◌, Bool, false, cond, nat_eq, codes, decimal}
 use Rattle.orc_rules.specs.Text.{value_text}
+use Rattle.orc_rules.specs.declared.value.Answer.{Answer}
 use Rattle.orc_rules.specs.declared.value.Answer.TheVariants.{Value, Halt}
 use Rattle.orc_rules.specs.declared.value.Found.{Found}
 use Rattle.orc_rules.specs.declared.value.Found.TheVariants.{After, Never}
 use Rattle.orc_claims.specs.declared.claim.Slot.{Slot}
 use Rattle.orc_claims.specs.declared.claim.Slot.TheVariants.{Literal, Any, Variable}
 use Rattle.orc_ways.specs.Lines.{Service}
+use Rattle.orc_cases.specs.declared.intervals.Interval.{Interval}
 
 abbrev pub pattern_text : Slot → List ℕ
 pattern_text (Literal v) = value_text v
@@ -29,6 +31,19 @@ call_text s = s.name ++ patterns_text s.patterns
 abbrev pub after_text : ℕ → List ℕ
 after_text zero = []
 after_text (suc n) = codes " after " ++ decimal (suc n)
+
+-- what is answered, without its time
+abbrev pub reply_text : Answer → List ℕ
+reply_text (Value v) = value_text v
+reply_text Halt = codes "halt"
+
+abbrev pub interval_text : Interval → List ℕ
+interval_text i = decimal i.first ++ cond (nat_eq i.first i.last) [] (codes ".." ++ decimal i.last)
+
+-- intervals, each but the first of all behind a comma: `3..7, 12`
+abbrev pub intervals_text : Bool → List Interval → List ℕ
+intervals_text is_first [] = []
+intervals_text is_first (i ∷ is) = cond is_first [] (codes ", ") ++ (interval_text i ++ intervals_text false is)
 
 abbrev pub answer_text : Found → List ℕ
 answer_text (After (Value v) d) = value_text v ++ after_text d

@@ -1,6 +1,6 @@
 //! What the scripts of a case have in common.
 
-ghost use Rattle.std.specs.Prelude.{◌≡◌, ◌++◌, ◌<◌, IfOk, OnOk, length, map};
+ghost use Rattle.std.specs.Prelude.{◌≡◌, ◌++◌, ◌<◌, IfOk, OnOk, length, map, option_map, slice_get};
 ghost use Rattle.orc_ways.specs.Values.{service_of};
 ghost use Rattle.orc_ways.specs.Drafting.{service_lines_of};
 ghost use Rattle.orc_cases.specs.Digits.{way_at};
@@ -125,7 +125,53 @@ fn push_way(
     Ok(())
 }
 
+// What the line at a place does in the way of this number, which is below so many; None where there is no such line.
+fn choice_at(lines: &[Line], count: usize, number: usize, place: usize) -> Option<&Choice>
+    requires counted { count ≡ length (combinations (all_choices_of lines.now)) }
+    requires within { number < count }
+    ensures { option_map (λ c. choice_of c.now) result ≡ slice_get (way_at (all_choices_of lines.now) number) place }
+{
+    let mut left = count;
+    let mut digits = number;
+    let mut before = place;
+    for line in lines {
+        let choices = line.choices.as_slice();
+        left /= choices.len();
+        let choice = &choices[digits / left];
+        if before == 0 {
+            return Some(choice);
+        }
+        before -= 1;
+        digits %= left;
+    }
+    None
+}
+
 impl Frame {
+    /// What the line at a place does in the way of this number; None where there is no such line.
+    pub(crate) fn choice(&self, number: usize, place: usize) -> Option<&Choice>
+        requires counted { IsCounted self.now }
+        requires within { number < self.now.count }
+        ensures { option_map (λ c. choice_of c.now) result ≡ slice_get (way_at (all_choices_of self.now.lines.items) number) place }
+    {
+        choice_at(self.lines.as_slice(), self.count, number, place)
+    }
+
+    /// Whether a line takes an alternative with a range in the way of this number.
+    pub(crate) fn has_range(&self, number: usize) -> bool
+        requires counted { IsCounted self.now }
+        requires within { number < self.now.count }
+    {
+        for place in 0..self.lines.len() {
+            if let Some(choice) = self.choice(number, place) {
+                if choice.is_ranged {
+                    return true;
+                }
+            }
+        }
+        false
+    }
+
     /// The lines of the way of this number, or those alone that tell it from other ways. The error is refused memory.
     pub(crate) fn way(
         &self,

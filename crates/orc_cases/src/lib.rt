@@ -3,8 +3,10 @@
 
 mod choices;
 mod frame;
+mod intervals;
 pub mod laws;
 mod lines;
+mod ranges;
 mod sizes;
 #[cfg(test)]
 mod tests;

@@ -1,9 +1,10 @@
 //! The text of a script's lines.
 
-ghost use Rattle.std.specs.Prelude.{◌≡◌, ◌++◌, OnOk, map, codes};
+ghost use Rattle.std.specs.Prelude.{◌≡◌, ◌++◌, OnOk, map, codes, decimal, true};
 ghost use Rattle.orc_rules.specs.Text.{value_text};
-ghost use Rattle.orc_cases.specs.Texts.{after_text, answer_text, answers_text, closing, halts_text, more_answers, pattern_text, patterns_text};
+ghost use Rattle.orc_cases.specs.Texts.{after_text, answer_text, answers_text, closing, halts_text, interval_text, intervals_text, more_answers, pattern_text, patterns_text, reply_text};
 
+use crate::intervals::Interval;
 use orc_claims::claim::Slot;
 use orc_rules::value::{Answer, Found, Value};
 use std::alloc::AllocError;
@@ -70,6 +71,55 @@ fn push_after(out: &mut Vec<u8>, delay: u64) -> Result<(), AllocError>
     let mut buffer = itoa::Buffer::new();
     out.extend_from_slice(b" after ")?;
     out.extend_from_slice(buffer.format(delay).as_bytes())
+}
+
+/// Writes what is answered, without its time. The error is refused memory.
+pub(crate) fn push_reply(out: &mut Vec<u8>, answer: Answer) -> Result<(), AllocError>
+    ensures { OnOk result (out.new.items ≡ out.old.items ++ reply_text answer) }
+{
+    match answer {
+        Answer::Halt => out.extend_from_slice(b"halt"),
+        Answer::Value(value) => push_value(out, value),
+    }
+}
+
+fn push_number(out: &mut Vec<u8>, number: u64) -> Result<(), AllocError>
+    ensures { OnOk result (out.new.items ≡ out.old.items ++ decimal number) }
+{
+    let mut buffer = itoa::Buffer::new();
+    out.extend_from_slice(buffer.format(number).as_bytes())
+}
+
+fn push_interval(out: &mut Vec<u8>, interval: Interval) -> Result<(), AllocError>
+    ensures { OnOk result (out.new.items ≡ out.old.items ++ interval_text interval) }
+{
+    push_number(out, interval.first)?;
+    if interval.first == interval.last {
+        return Ok(());
+    }
+    out.extend_from_slice(b"..")?;
+    push_number(out, interval.last)
+}
+
+/// Writes intervals: `3..7, 12`. The error is refused memory.
+pub(crate) fn push_intervals(out: &mut Vec<u8>, intervals: &[Interval]) -> Result<(), AllocError>
+    ensures { OnOk result (out.new.items ≡ out.old.items ++ intervals_text true intervals.now) }
+{
+    let mut is_first = true;
+    let mut rest = intervals;
+    loop {
+        match rest {
+            [] => return Ok(()),
+            [interval, more @ ..] => {
+                if !is_first {
+                    out.extend_from_slice(b", ")?;
+                }
+                push_interval(out, *interval)?;
+                is_first = false;
+                rest = more;
+            }
+        }
+    }
 }
 
 fn push_answer(out: &mut Vec<u8>, answer: Found) -> Result<(), AllocError>

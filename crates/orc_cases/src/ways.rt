@@ -8,6 +8,7 @@ ghost use Rattle.orc_cases.specs.Ways.{CaseWays, choices_of, combinations, scrip
 
 use crate::frame::{Frame, halts_of, lines_of};
 use crate::lines::case_places;
+use crate::ranges::Failing;
 use crate::sizes::ways_size;
 use crate::weights::{in_order, weights_of};
 use orc_ways::limits::MOST_WAYS;
@@ -115,5 +116,37 @@ impl Ways {
         }
         let way = self.frame.way(alloc, numbers[place], true)?;
         Ok(way)
+    }
+
+    /// Whether the way with this number, from 0, takes an alternative with a range.
+    pub fn has_range(&self, number: u64) -> bool {
+        let numbers = self.numbers.as_slice();
+        let place = number as usize;
+        if place >= numbers.len() {
+            return false;
+        }
+        self.frame.has_range(numbers[place])
+    }
+
+    /// Those lines of the way with this number, from 0, that take an alternative with a range; in place of each number of units after which they answer stand
+    /// all those with which they give this answer in a way that fails, as intervals: `Pay(_) = 1 after 3..7, 12`. Whether each of the first ways fails is
+    /// handed in. None where there is no such way. The error is refused memory.
+    pub fn failing_ranges(
+        &self,
+        alloc: Global,
+        number: u64,
+        fails: &[bool],
+    ) -> Result<Vec<u8>, AllocError> {
+        let numbers = self.numbers.as_slice();
+        let place = number as usize;
+        if place >= numbers.len() {
+            return Ok(Vec::new(alloc));
+        }
+        let failing = Failing {
+            frame: &self.frame,
+            numbers,
+            fails,
+        };
+        failing.lines(alloc, numbers[place])
     }
 }

@@ -21,4 +21,4 @@ mod svg;
 mod text;
 
 pub use fault::DrawFault;
-pub use picture::{Form, Options, Subject, Theme, draw};
+pub use picture::{Form, Options, Subject, Theme, draw, draw_rows};

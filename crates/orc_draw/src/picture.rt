@@ -101,6 +101,14 @@ pub fn draw(alloc: Global, subject: &Subject, options: Options) -> Result<String
     Ok(written)
 }
 
+/// The rows of that picture as text of about so many columns, without the line that names it and without what says how many calls aren't drawn: they
+/// stand below a text that says what the journal is of. The faults are those of [`draw`].
+pub fn draw_rows(alloc: Global, subject: &Subject, width: u64) -> Result<String, DrawFault> {
+    let picture = Picture::new(alloc, subject, false)?;
+    let written = text::write_rows(alloc, &picture, width)?;
+    Ok(written)
+}
+
 impl<'a> Picture<'a> {
     fn new(alloc: Global, subject: &Subject<'a>, all: bool) -> Result<Picture<'a>, DrawFault> {
         let sketch = Sketch::new(alloc, &subject.ast)?;

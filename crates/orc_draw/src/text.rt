@@ -36,12 +36,20 @@ pub(crate) fn write(alloc: Global, picture: &Picture, width: u64) -> Result<Stri
     let mut page = Page::new(alloc);
     let columns = Columns::new(alloc, picture, width)?;
     columns.title(&mut page);
-    columns.times(&mut page);
-    columns.publications(&mut page);
-    for row in &picture.rows.rows {
-        columns.row(&mut page, row);
-    }
+    columns.rows(&mut page);
     columns.note(&mut page);
+    page.finish()
+}
+
+/// Writes its rows alone.
+pub(crate) fn write_rows(
+    alloc: Global,
+    picture: &Picture,
+    width: u64,
+) -> Result<String, AllocError> {
+    let mut page = Page::new(alloc);
+    let columns = Columns::new(alloc, picture, width)?;
+    columns.rows(&mut page);
     page.finish()
 }
 
@@ -107,6 +115,15 @@ impl<'a> Columns<'a> {
         page.say(": ");
         page.say(self.picture.summary.as_str());
         page.say("\n")
+    }
+
+    // The times, what was published, and the rows of the calls and of the sides.
+    fn rows(&self, page: &mut Page) {
+        self.times(page);
+        self.publications(page);
+        for row in &self.picture.rows.rows {
+            self.row(page, row);
+        }
     }
 
     // What stands left of the plot.

@@ -12,7 +12,7 @@ use orc_rules::entry::Entry;
 use orc_rules::limits::{MOST_ENTRIES, MOST_FRAMES, MOST_GROUPS, MOST_TOKENS};
 use orc_rules::value::Found;
 use orc_source_map::Sketch;
-use orc_syntax::parse;
+use orc_syntax::{Ast, parse};
 use orc_verdict::mark_named;
 use std::alloc::{AllocError, Global};
 
@@ -298,13 +298,14 @@ pub fn explain_end(alloc: Global, subject: &Subject, ended: &Ended) -> Result<St
         return Err(AllocError);
     };
     let sketch = Sketch::new(alloc, &ast)?;
-    end_of(alloc, subject, ended, &sketch)
+    end_of(alloc, subject, ended, &ast, &sketch)
 }
 
 fn end_of(
     alloc: Global,
     subject: &Subject,
     ended: &Ended,
+    ast: &Ast,
     sketch: &Sketch,
 ) -> Result<String, AllocError> {
     let mut replay = Replay::new(alloc, ended, sketch, ended.journal)?;
@@ -314,6 +315,7 @@ fn end_of(
         subject,
         ended,
         sketch,
+        definitions: ast.definitions.as_slice(),
         journal: ended.journal,
         replay: &replay,
     };

@@ -137,6 +137,11 @@ const HALTS: [(&[u8], &str); 5] = [
     (b"Rwait", "the time is negative"),
 ];
 
+// Whether a built-in site is called so.
+fn is_built_in(name: &[u8]) -> bool {
+    SITES.iter().any(|(site, _taken)| *site == name)
+}
+
 // What a built-in site takes, where the arguments are something else.
 fn wanted(name: &[u8], args: &[Value]) -> Option<&'static str> {
     for (site, taken) in SITES.iter() {
@@ -323,7 +328,7 @@ impl Scene<'_, '_> {
 
     fn remarks(&self, page: &mut Page, remarks: &Remarks, rules: &Rules) {
         let is_silent = self.ended.summary.published == 0;
-        if !is_silent && remarks.is_empty() {
+        if !is_silent && remarks.is_empty() && !self.hides_a_site() {
             return;
         }
         begin(page, self.ended.summary);
@@ -337,6 +342,7 @@ impl Scene<'_, '_> {
             self.losses(page);
         }
         self.unused_lines(page, remarks, rules);
+        self.hidden_sites(page);
     }
 
     // `call 3, Ift(3), in line 1, column 5 halted`, the first call of a group.
@@ -470,6 +476,32 @@ impl Scene<'_, '_> {
             }
         }
         self.rest(page, remarks.unused(), shown);
+    }
+
+    // Whether a definition has the name of a built-in site.
+    fn hides_a_site(&self) -> bool {
+        self.definitions
+            .iter()
+            .any(|definition| is_built_in(definition.name.text))
+    }
+
+    // The definitions that have the name of a built-in site: calls with this name are calls of the definition.
+    fn hidden_sites(&self, page: &mut Page) {
+        let source = self.subject.source;
+        let mut all: u64 = 0;
+        for definition in self.definitions {
+            let name = definition.name;
+            if is_built_in(name.text) {
+                all = all.saturating_add(1);
+                if all <= SHOWN {
+                    page.note("");
+                    page.say_word("`", name.text, "`, defined in ");
+                    page.place(source.text, name.span.start);
+                    page.say(", hides the built-in site of this name\n");
+                }
+            }
+        }
+        self.rest(page, all, all.min(SHOWN));
     }
 
     // That an earlier line hides a line, or that its site was never called.

@@ -12,6 +12,7 @@ use orc_rules::entry::Entry;
 use orc_rules::param::Param;
 use orc_rules::program::TermNode;
 use orc_source_map::{Purpose, Sketch};
+use orc_syntax::Definition;
 use std::alloc::Global;
 
 /// How many columns of a term are shown.
@@ -24,6 +25,7 @@ pub(crate) struct Scene<'s, 'a> {
     pub subject: &'s Subject<'a>,
     pub ended: &'s Ended<'s>,
     pub sketch: &'s Sketch<'a>,
+    pub definitions: &'s [Definition<'a>],
     pub journal: &'s Journal,
     pub replay: &'s Replay<'a>,
 }
