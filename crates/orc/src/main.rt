@@ -19,6 +19,9 @@ const OPTION: &str = "--explain";
 
 const EXPLAINING: [&str; 6] = ["run", "outcomes", "check", "draw", "print", "test"];
 
+/// The command that explains on standard output, too.
+const TESTING: &str = "test";
+
 /// A file of the system, or standard input.
 #[derive(Drop)]
 enum Input<F> {
@@ -108,11 +111,19 @@ fn refused(rt: &impl Eprint) -> ExitCode {
     ExitCode::from(failure.status())
 }
 
-// Whether what went wrong is explained without being asked: as the environment says, else where somebody reads standard error on a terminal.
-fn explains(rt: &HostRuntime) -> bool {
+fn is_test(words: &[String]) -> bool {
+    match words.get(1) {
+        Some(word) => word.as_str() == TESTING,
+        None => false,
+    }
+}
+
+// Whether what went wrong is explained without being asked: as the environment says, else where somebody reads standard error on a terminal, and of a test
+// its table, too. So a file that a table goes to doesn't depend on where standard error goes.
+fn explains(rt: &HostRuntime, words: &[String]) -> bool {
     match env::var(rt, EXPLAIN) {
         Ok(word) => word.as_str() == "1",
-        Err(_) => rt.stderr().is_terminal(),
+        Err(_) => rt.stderr().is_terminal() && (!is_test(words) || rt.stdout().is_terminal()),
     }
 }
 
@@ -138,7 +149,7 @@ fn main(rt: HostRuntime) -> ExitCode {
     let Ok(mut words) = args.collect::<Vec<String>>(alloc) else {
         return refused(&rt);
     };
-    if explains(&rt) && ask_for_explanations(alloc, &mut words).is_err() {
+    if explains(&rt, words.as_slice()) && ask_for_explanations(alloc, &mut words).is_err() {
         return refused(&rt);
     }
     let mut files = SystemFiles {

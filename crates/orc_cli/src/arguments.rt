@@ -16,6 +16,11 @@ const MOST_ORDERS: i64 = 10_000;
 
 const DEFAULT_ORDERS: u64 = 100;
 
+/// Through how many states `outcomes --all` searches at most, and where nothing is said.
+const MOST_STATES: i64 = 10_000_000;
+
+const DEFAULT_STATES: u64 = 5_000;
+
 /// How many ways of a case `test` tries, and in how many orders each, where nothing is said.
 const DEFAULT_WAYS: u64 = 10_000;
 
@@ -66,6 +71,7 @@ impl Range {
 pub struct Ranges {
     workers: Range,
     orders: Range,
+    states: Range,
     ways: Range,
     trials: Range,
     limit: Range,
@@ -77,6 +83,7 @@ impl Drop for Ranges {
         let Ranges {
             workers: _,
             orders: _,
+            states: _,
             ways: _,
             trials: _,
             limit: _,
@@ -89,12 +96,14 @@ impl Ranges {
     pub fn new(alloc: Global) -> Result<Ranges, AllocError> {
         let workers = "The number of workers";
         let orders = "In how many orders the program is run";
+        let states = "With --all: the greatest number of states";
         let ways = "How many ways of each case are tried";
         let trials = "In how many orders each way is run";
         let limit = "The greatest number of journal entries";
         Ok(Ranges {
             workers: Range::new(alloc, workers, MOST_WORKERS as i64, DEFAULT_WORKERS as u64)?,
             orders: Range::new(alloc, orders, MOST_ORDERS, DEFAULT_ORDERS)?,
+            states: Range::new(alloc, states, MOST_STATES, DEFAULT_STATES)?,
             ways: Range::new(alloc, ways, MOST_WAYS, DEFAULT_WAYS)?,
             trials: Range::new(alloc, trials, MOST_ORDERS, DEFAULT_TRIALS)?,
             limit: Range::new(alloc, limit, MOST_ENTRIES as i64, DEFAULT_ENTRIES)?,
@@ -132,6 +141,17 @@ fn order_argument<'a>(alloc: Global) -> Result<Arg<'a>, AllocError> {
         .value_parser(value_parser!(u64))
         .help("Take another order where the rules leave it free, on one worker")
         .conflicts_with("workers")
+}
+
+fn schedules_flag<'a>(alloc: Global) -> Arg<'a> {
+    Arg::new(alloc, "all")
+        .long("all")
+        .action(ArgAction::SetTrue)
+        .help("Search all schedules too: can a run end by itself in yet another way?")
+}
+
+fn states_argument<'a>(alloc: Global, range: &'a Range) -> Result<Arg<'a>, AllocError> {
+    number_argument(alloc, "states", range).requires_arg("all")
 }
 
 fn times_flag<'a>(alloc: Global) -> Result<Arg<'a>, AllocError> {
@@ -247,6 +267,8 @@ fn outcomes_command<'a>(alloc: Global, ranges: &'a Ranges) -> Result<Command<'a>
         .arg(number_argument(alloc, "workers", &ranges.workers))?
         .arg(number_argument(alloc, "orders", &ranges.orders))?
         .arg(number_argument(alloc, "limit", &ranges.limit))?
+        .arg(schedules_flag(alloc))?
+        .arg(states_argument(alloc, &ranges.states)?)?
         .arg(explain_flag(alloc, EXPLAIN))
 }
 
@@ -368,6 +390,25 @@ fn survey_options_of(given: &ArgMatches) -> Option<SurveyOptions> {
     })
 }
 
+// In how many orders a program is run, and whether all schedules are searched then.
+fn outcomes_of<'a>(file: &'a str, given: &ArgMatches<'a>) -> Option<Job<'a>> {
+    let script = given.get_str("script");
+    let options = survey_options_of(given)?;
+    if given.get_flag("all") {
+        return Some(Job::Search {
+            file,
+            script,
+            options,
+            states: given.get_one::<u64>("states")?,
+        });
+    }
+    Some(Job::Outcomes {
+        file,
+        script,
+        options,
+    })
+}
+
 fn shown_of(given: &ArgMatches) -> Shown {
     match given.get_one::<u64>("fail") {
         None => Shown::Table,
@@ -472,11 +513,7 @@ fn job_of<'a>(name: &str, given: &ArgMatches<'a>) -> Option<Job<'a>> {
             script: given.get_str("script"),
             options: options_of(given)?,
         }),
-        "outcomes" => Some(Job::Outcomes {
-            file,
-            script: given.get_str("script"),
-            options: survey_options_of(given)?,
-        }),
+        "outcomes" => outcomes_of(file, given),
         "check" => Some(check_of(
             file,
             given.get_str("journal")?,

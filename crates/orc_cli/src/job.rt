@@ -27,6 +27,13 @@ pub enum Job<'a> {
         script: Option<&'a str>,
         options: SurveyOptions,
     },
+    /// The same, and a search through all schedules, of so many states at most.
+    Search {
+        file: &'a str,
+        script: Option<&'a str>,
+        options: SurveyOptions,
+        states: u64,
+    },
     Check {
         file: &'a str,
         journal: &'a str,
@@ -99,6 +106,7 @@ impl Job<'_> {
         match *self {
             Job::Run { file, script, .. }
             | Job::Outcomes { file, script, .. }
+            | Job::Search { file, script, .. }
             | Job::DrawRun { file, script, .. } => is_input(file) && may_be_input(script),
             Job::Check {
                 file,

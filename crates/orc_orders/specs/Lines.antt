@@ -2,6 +2,7 @@
 use Rattle.std.specs.Prelude.{ℕ, List, ◌++◌, codes, decimal}
 use Rattle.std.specs.List.{flat_map}
 use Rattle.orc_rules.specs.Text.{value}
+use Rattle.orc_rules.specs.declared.value.Value.{Value}
 use Rattle.orc_outcome.specs.declared.end.End.{End}
 use Rattle.orc_outcome.specs.declared.end.End.TheVariants as ends
 use Rattle.orc_orders.specs.declared.seen.Seen.{Seen}
@@ -20,6 +21,13 @@ head orders x = codes "order " ++ (decimal x.first ++ (codes " (" ++ (decimal x.
 -- the values behind it, each after one space
 abbrev pub line : ℕ → Seen → List ℕ
 line orders x = head orders x ++ (flat_map value x.values.items ++ codes "\n")
+
+-- `no order (0 of 100) Halted:`, of an outcome that none of so many orders came to
+abbrev pub unseen_head : ℕ → End → List ℕ
+unseen_head orders end = codes "no order (0 of " ++ (decimal orders ++ (codes ") " ++ (end_word end ++ codes ":")))
+
+abbrev pub unseen_line : ℕ → End → List Value → List ℕ
+unseen_line orders end values = unseen_head orders end ++ (flat_map value values ++ codes "\n")
 
 -- a line each
 abbrev pub lines : ℕ → List Seen → List ℕ

@@ -1,9 +1,9 @@
 //! The lines that tell of outcomes.
 
-ghost use Rattle.std.specs.Prelude.{◌≡◌, ◌++◌, IfOk, OnOk};
+ghost use Rattle.std.specs.Prelude.{◌≡◌, ◌++◌, codes, IfOk, OnOk};
 ghost use Rattle.std.specs.List.{flat_map};
 ghost use Rattle.orc_rules.specs.Text.{value};
-ghost use Rattle.orc_orders.specs.Lines.{end_word, head, line, lines};
+ghost use Rattle.orc_orders.specs.Lines.{end_word, head, lines, unseen_head, unseen_line};
 
 use crate::seen::Seen;
 use orc_journal_text::write_value;
@@ -34,6 +34,15 @@ fn head_of(alloc: Global, orders: u64, seen: &Seen) -> Result<Vec<u8>, AllocErro
     Ok(head.into_bytes())
 }
 
+// The same of an outcome that none of so many orders came to.
+fn unseen_head_of(alloc: Global, orders: u64, end: End) -> Result<Vec<u8>, AllocError>
+    ensures { IfOk result (λ t. t.items ≡ unseen_head orders end) }
+{
+    let word = word_of(end);
+    let head = format!(in alloc; "no order (0 of {orders}) {word}:")?;
+    Ok(head.into_bytes())
+}
+
 fn write_values(out: &mut Vec<u8>, published: &[Value]) -> Result<(), AllocError>
     ensures { OnOk result (out.new.items ≡ out.old.items ++ flat_map value published.now) }
 {
@@ -44,12 +53,12 @@ fn write_values(out: &mut Vec<u8>, published: &[Value]) -> Result<(), AllocError
     Ok(())
 }
 
-fn write_line(alloc: Global, out: &mut Vec<u8>, orders: u64, seen: &Seen) -> Result<(), AllocError>
-    ensures { OnOk result (out.new.items ≡ out.old.items ++ line orders seen.now) }
+// A line: what stands before the values, and these.
+fn write_line(out: &mut Vec<u8>, head: &[u8], published: &[Value]) -> Result<(), AllocError>
+    ensures { OnOk result (out.new.items ≡ out.old.items ++ (head.now ++ (flat_map value published.now ++ codes "\n"))) }
 {
-    let head = head_of(alloc, orders, seen)?;
-    out.extend_from_slice(head.as_slice())?;
-    write_values(out, seen.values.as_slice())?;
+    out.extend_from_slice(head)?;
+    write_values(out, published)?;
     out.push(b'\n')?;
     Ok(())
 }
@@ -60,7 +69,22 @@ pub fn lines_of(alloc: Global, orders: u64, seen: &[Seen]) -> Result<Vec<u8>, Al
 {
     let mut text = Vec::new(alloc);
     for outcome in seen {
-        write_line(alloc, &mut text, orders, outcome)?;
+        let head = head_of(alloc, orders, outcome)?;
+        write_line(&mut text, head.as_slice(), outcome.values.as_slice())?;
     }
     Ok(text)
+}
+
+/// The line of an outcome that none of so many orders came to, behind a text: `no order (0 of 100) Halted: 43`. The error is refused memory.
+pub fn write_unseen(
+    alloc: Global,
+    out: &mut Vec<u8>,
+    orders: u64,
+    end: End,
+    published: &[Value],
+) -> Result<(), AllocError>
+    ensures { OnOk result (out.new.items ≡ out.old.items ++ unseen_line orders end published.now) }
+{
+    let head = unseen_head_of(alloc, orders, end)?;
+    write_line(out, head.as_slice(), published)
 }

@@ -55,8 +55,8 @@ impl Seen {
     }
 }
 
-// The place of an outcome, if it came up before.
-fn place_of(seen: &[Seen], end: End, values: &[Value]) -> Option<usize>
+/// The place of an outcome among those that came up, if it is one of them.
+pub fn place_of(seen: &[Seen], end: End, values: &[Value]) -> Option<usize>
     ensures { MatchOption result (All (λ y. IsOf (record { end = end; values = values.now }) y → ⊥) seen.now) (λ at. (at < length seen.now) × ((d : Seen) → IsOf (record { end = end; values = values.now }) (slice_index_or seen.now at d))) }
 {
     for at in 0..seen.len() {

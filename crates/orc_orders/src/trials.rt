@@ -72,8 +72,8 @@ impl Drop for Run {
     }
 }
 
-// Where a run stands at its end. One that was cut still runs.
-fn state_at(end: End) -> State
+/// Where a run stands at its end. One that was cut still runs.
+pub fn state_at(end: End) -> State
     ensures { result ≡ state_at end }
 {
     match end {

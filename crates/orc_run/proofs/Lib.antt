@@ -2,10 +2,12 @@ pub mod Accepting
 pub mod Claiming
 pub mod Drawing
 pub mod KnownFiles
+pub mod Listed
 pub mod LoadFaults
 pub mod Outputs
 pub mod Parted
 pub mod Scripting
+pub mod Searching
 pub mod Statuses
 pub mod Testing
 pub mod Timing

@@ -15,7 +15,7 @@ use Rattle.orc_journal_text.specs.declared.text.JournalFault.TheVariants as jour
 use Rattle.orc_outcome.specs.Status.{end_status_of}
 use Rattle.orc_outcome.specs.declared.end.End.{End}
 use Rattle.orc_outcome.specs.declared.end.End.TheVariants as ends
-use Rattle.orc_run.specs.Commands.{HasEnded, IsDone, IsUnread, LeavesUndone, TellsOfFailures, WasCut}
+use Rattle.orc_run.specs.Commands.{HasEnded, IsDone, IsUnread, LeavesUndone, TellsNotAll, TellsOfFailures, WasCut}
 use Rattle.orc_run.specs.Failures.{failure_status}
 use Rattle.orc_scheduler.specs.declared.fault.EngineFault.{EngineFault}
 use Rattle.orc_scheduler.specs.declared.fault.EngineFault.TheVariants as engine
@@ -35,6 +35,7 @@ use Rattle.orc_run.specs.declared.judge.Unchecked.TheVariants.{Fault}
 use Rattle.orc_run.specs.Claimed.{LeavesUnclaimed}
 use Rattle.orc_run.specs.Drawn.{LeavesUndrawn, LeavesUndrawnRun}
 use Rattle.orc_run.specs.Printed.{LeavesUnprinted}
+use Rattle.orc_run.specs.Searched.{HasSearched, LeavesUnsearched}
 use Rattle.orc_run.specs.Surveyed.{LeavesUnsurveyed}
 use Rattle.orc_run.specs.Tested.{LeavesUntested}
 use Rattle.orc_run.specs.declared.tests.Untested.{Untested}
@@ -81,6 +82,16 @@ unsurveyed source script orders limit old new (fault.Journal f) k = k
 unsurveyed source script orders limit old new (fault.Check f) k = k
 unsurveyed source script orders limit old new (fault.Engine f) k = k
 unsurveyed source script orders limit old new (fault.Write w) k = tt
+
+pub unsearched : (source script : List ℕ) (orders limit states : ℕ) (old new : Option (List ℕ)) (f : RunFault) → LeavesUnsearched source script orders limit states old new f → LeavesUndone (failure.Fault f) old new
+unsearched source script orders limit states old new (fault.Syntax f) k = k
+unsearched source script orders limit states old new (fault.Scope f) k = k
+unsearched source script orders limit states old new (fault.Script f) k = k
+unsearched source script orders limit states old new (fault.Test f) k = k
+unsearched source script orders limit states old new (fault.Journal f) k = k
+unsearched source script orders limit states old new (fault.Check f) k = k
+unsearched source script orders limit states old new (fault.Engine f) k = k
+unsearched source script orders limit states old new (fault.Write w) k = tt
 
 pub unjudged : (source script journal : List ℕ) (old new : Option (List ℕ)) (f : RunFault) → LeavesUnjudged source script journal old new f → LeavesUndone (failure.Fault f) old new
 unjudged source script journal old new (fault.Syntax f) k = k
@@ -184,10 +195,15 @@ of_failing : (b : Bool) → IsFaultless (cond b 0 1)
 of_failing true = zero_faultless
 of_failing false = one_faultless
 
+of_all : (b : Bool) → IsFaultless (cond b 0 4)
+of_all true = zero_faultless
+of_all false = (omega arith, λ h. omega (arith, h), λ h. omega (arith, h))
+
 -- what was done has no status of a refused command line or of the engine
 pub faultless : (holds : List ℕ → Option (List ℕ)) (j : Job) (old new : Option (List ℕ)) (status : ℕ) → IsDone holds j old new status → (status < 8) × (status ≢ 2) × (status ≢ 7)
 faultless holds (job.Run file script options) old new status (source, read, s, held, said, ran, is) = subst IsFaultless (sym is) (end_in s.end)
 faultless holds (job.Outcomes file script options) old new status (source, read, held, said, told, is) = subst IsFaultless (sym is) zero_faultless
+faultless holds (job.Search file script options states) old new status (source, read, all, held, said, searched, is) = subst IsFaultless (sym is) (of_all all)
 faultless holds (job.Check file journal script) old new status (source, text, read, held, told, said, judges, is) = subst IsFaultless (sym is) zero_faultless
 faultless holds (job.Claims file journal script test) old new status (source, lines, text, read, failing, held, told, held_too, said, claimed, is) = subst IsFaultless (sym is) (of_failing (nat_eq failing 0))
 faultless holds (job.Draw file journal script options) old new status (source, text, read, held, told, said, draws, is) = subst IsFaultless (sym is) zero_faultless
@@ -207,10 +223,15 @@ some_failing : (n : ℕ) → ◌≡◌ {A = ℕ} (cond (nat_eq n 0) 0 1) 1 → 0
 some_failing zero h = absurd (omega (arith, h))
 some_failing (suc n) h = omega arith
 
+zero_or_four : (b : Bool) (n : ℕ) → n ≢ 0 → n ≢ 4 → ◌≡◌ {A = ℕ} (cond b 0 4) n → ⊥
+zero_or_four true n more other h = more (sym h)
+zero_or_four false n more other h = other (sym h)
+
 -- what was done with the status of a fault tells of a test some claim of which fails
 pub failed : (holds : List ℕ → Option (List ℕ)) (j : Job) (old new : Option (List ℕ)) (status : ℕ) → IsDone holds j old new status → status ≡ 1 → TellsOfFailures old new
 failed holds (job.Run file script options) old new status (source, read, s, held, said, ran, is) one = absurd (no_fault s.end (sym is ∙ one))
 failed holds (job.Outcomes file script options) old new status (source, read, held, said, told, is) one = absurd (omega (arith, is, one))
+failed holds (job.Search file script options states) old new status (source, read, all, held, said, searched, is) one = absurd (zero_or_four all 1 (λ h. omega (arith, h)) (λ h. omega (arith, h)) (sym is ∙ one))
 failed holds (job.Check file journal script) old new status (source, text, read, held, told, said, judges, is) one = absurd (omega (arith, is, one))
 failed holds (job.Claims file journal script test) old new status (source, lines, text, read, failing, held, told, held_too, said, claimed, is) one = inr (source, text, read, lines, failing, claimed, some_failing failing (sym is ∙ one))
 failed holds (job.Draw file journal script options) old new status (source, text, read, held, told, said, draws, is) one = absurd (omega (arith, is, one))
@@ -239,6 +260,7 @@ zero_or_one false n more h = omega (arith, more, h)
 pub ended_quiet : (holds : List ℕ → Option (List ℕ)) (j : Job) (old new : Option (List ℕ)) (status : ℕ) → IsDone holds j old new status → status ≡ 3 → HasEnded ends.Quiet old new
 ended_quiet holds (job.Run file script options) old new status (source, read, s, held, said, ran, is) three = (options, source, read, s, ran, quiet_only s.end (sym is ∙ three))
 ended_quiet holds (job.Outcomes file script options) old new status (source, read, held, said, told, is) three = absurd (omega (arith, is, three))
+ended_quiet holds (job.Search file script options states) old new status (source, read, all, held, said, searched, is) three = absurd (zero_or_four all 3 (λ h. omega (arith, h)) (λ h. omega (arith, h)) (sym is ∙ three))
 ended_quiet holds (job.Check file journal script) old new status (source, text, read, held, told, said, judges, is) three = absurd (omega (arith, is, three))
 ended_quiet holds (job.Claims file journal script test) old new status (source, lines, text, read, failing, held, told, held_too, said, claimed, is) three = absurd (zero_or_one (nat_eq failing 0) 3 (omega arith) (sym is ∙ three))
 ended_quiet holds (job.Draw file journal script options) old new status (source, text, read, held, told, said, draws, is) three = absurd (omega (arith, is, three))
@@ -246,9 +268,15 @@ ended_quiet holds (job.DrawRun file script run options) old new status (source, 
 ended_quiet holds (job.Print file) old new status (source, held, prints, is) three = absurd (omega (arith, is, three))
 ended_quiet holds (job.Test file test script options) old new status (source, text, read, failing, held, held_too, said, tested, is) three = absurd (zero_or_one (nat_eq failing 0) 3 (omega arith) (sym is ∙ three))
 
-pub ended_cut : (holds : List ℕ → Option (List ℕ)) (j : Job) (old new : Option (List ℕ)) (status : ℕ) → IsDone holds j old new status → status ≡ 4 → WasCut old new
-ended_cut holds (job.Run file script options) old new status (source, read, s, held, said, ran, is) four = ⊎_elim (λ e. inl (options, source, read, s, ran, e)) (λ e. inr (options, source, read, s, ran, e)) (cut_only s.end (sym is ∙ four))
+-- the status of a search that didn't find all
+not_all : (source script : List ℕ) (orders limit states : ℕ) (old new : Option (List ℕ)) (all : Bool) → HasSearched source script orders limit states old new all → ◌≡◌ {A = ℕ} (cond all 0 4) 4 → TellsNotAll old new
+not_all source script orders limit states old new true searched h = absurd (omega (arith, h))
+not_all source script orders limit states old new false searched h = (source, script, orders, limit, states, searched)
+
+pub ended_cut : (holds : List ℕ → Option (List ℕ)) (j : Job) (old new : Option (List ℕ)) (status : ℕ) → IsDone holds j old new status → status ≡ 4 → WasCut old new ⊎ TellsNotAll old new
+ended_cut holds (job.Run file script options) old new status (source, read, s, held, said, ran, is) four = inl (⊎_elim (λ e. inl (options, source, read, s, ran, e)) (λ e. inr (options, source, read, s, ran, e)) (cut_only s.end (sym is ∙ four)))
 ended_cut holds (job.Outcomes file script options) old new status (source, read, held, said, told, is) four = absurd (omega (arith, is, four))
+ended_cut holds (job.Search file script options states) old new status (source, read, all, held, said, searched, is) four = inr (not_all source read options.orders options.limit states old new all searched (sym is ∙ four))
 ended_cut holds (job.Check file journal script) old new status (source, text, read, held, told, said, judges, is) four = absurd (omega (arith, is, four))
 ended_cut holds (job.Claims file journal script test) old new status (source, lines, text, read, failing, held, told, held_too, said, claimed, is) four = absurd (zero_or_one (nat_eq failing 0) 4 (omega arith) (sym is ∙ four))
 ended_cut holds (job.Draw file journal script options) old new status (source, text, read, held, told, said, draws, is) four = absurd (omega (arith, is, four))

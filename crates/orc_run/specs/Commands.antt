@@ -1,5 +1,5 @@
 -- The statuses of command lines, and what they leave on standard output.
-use Rattle.std.specs.Prelude.{◌≡◌, ◌⊎◌, ◌<◌, ℕ, List, ⊤, cond, nat_eq, option_map}
+use Rattle.std.specs.Prelude.{◌≡◌, ◌⊎◌, ◌<◌, ℕ, List, ⊤, Bool, false, cond, nat_eq, option_map}
 use Rattle.std.specs.declared.option.Option.{Option}
 use Rattle.std.specs.Io.KnownBytes.{Keeps}
 use Rattle.orc_outcome.specs.Status.{end_status_of}
@@ -12,6 +12,7 @@ use Rattle.orc_run.specs.Drawn.{Draws, DrawsRun}
 use Rattle.orc_run.specs.Inputs.{IsHeld, IsRead}
 use Rattle.orc_run.specs.Printed.{Prints}
 use Rattle.orc_run.specs.Running.{Ran}
+use Rattle.orc_run.specs.Searched.{HasSearched}
 use Rattle.orc_run.specs.Surveyed.{HasSurveyed}
 use Rattle.orc_run.specs.Tested.{HasFailing}
 use Rattle.orc_cli.specs.declared.job.Job.{Job}
@@ -29,6 +30,10 @@ HasRun holds file script options old new status = (source read : List ℕ) × (s
 -- what was written are the outcomes of so many orders of the file's program with the script's sites
 abbrev pub HasTold : (List ℕ → Option (List ℕ)) → List ℕ → Option (List ℕ) → ℕ → ℕ → Option (List ℕ) → Option (List ℕ) → ℕ → Type 0
 HasTold holds file script orders limit old new status = (source read : List ℕ) × IsHeld (holds file) source × IsRead holds script read × HasSurveyed source read orders limit old new × (status ≡ 0)
+
+-- the same with what a search through all its schedules found, of so many states at most, and the status is 0 exactly if it says that this is all
+abbrev pub HasToldAll : (List ℕ → Option (List ℕ)) → List ℕ → Option (List ℕ) → ℕ → ℕ → ℕ → Option (List ℕ) → Option (List ℕ) → ℕ → Type 0
+HasToldAll holds file script orders limit states old new status = (source read : List ℕ) × (all : Bool) × IsHeld (holds file) source × IsRead holds script read × HasSearched source read orders limit states old new all × (status ≡ cond all 0 4)
 
 -- what was written is the line of the verdict on the journal
 abbrev pub HasJudged : (List ℕ → Option (List ℕ)) → List ℕ → List ℕ → Option (List ℕ) → Option (List ℕ) → Option (List ℕ) → ℕ → Type 0
@@ -58,6 +63,7 @@ HasTested holds file test script options old new status = (source text read : Li
 abbrev pub IsDone : (List ℕ → Option (List ℕ)) → Job → Option (List ℕ) → Option (List ℕ) → ℕ → Type 0
 IsDone holds (job.Run file script options) old new status = HasRun holds file.now (option_map (λ p. p.now) script) options old new status
 IsDone holds (job.Outcomes file script options) old new status = HasTold holds file.now (option_map (λ p. p.now) script) options.orders options.limit old new status
+IsDone holds (job.Search file script options states) old new status = HasToldAll holds file.now (option_map (λ p. p.now) script) options.orders options.limit states old new status
 IsDone holds (job.Check file journal script) old new status = HasJudged holds file.now journal.now (option_map (λ p. p.now) script) old new status
 IsDone holds (job.Claims file journal script test) old new status = HasHeld holds file.now journal.now (option_map (λ p. p.now) script) test.now old new status
 IsDone holds (job.Draw file journal script options) old new status = HasDrawn holds file.now journal.now (option_map (λ p. p.now) script) old new status
@@ -72,6 +78,10 @@ HasEnded end old new = (options : Options) × (source script : List ℕ) × (s :
 -- the same of one that was cut by its limit, or by one of the engine's
 abbrev pub WasCut : Option (List ℕ) → Option (List ℕ) → Type 0
 WasCut old new = HasEnded ends.Limit old new ⊎ HasEnded ends.Full old new
+
+-- what was written tells of a search that didn't find all
+abbrev pub TellsNotAll : Option (List ℕ) → Option (List ℕ) → Type 0
+TellsNotAll old new = (source script : List ℕ) × (orders limit states : ℕ) × HasSearched source script orders limit states old new false
 
 -- what was written tells of a test some claim of which fails, of a program or of a journal
 abbrev pub TellsOfFailures : Option (List ℕ) → Option (List ℕ) → Type 0

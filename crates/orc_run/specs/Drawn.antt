@@ -1,12 +1,14 @@
 -- What the drawing of a journal's text does. Of the picture itself nothing is said.
-use Rattle.std.specs.Prelude.{ℕ, List}
+use Rattle.std.specs.Prelude.{◌≡◌, ◌⊎◌, ℕ, List}
 use Rattle.std.specs.declared.option.Option.{Option}
 use Rattle.std.specs.Io.KnownBytes.{Keeps, Appends}
 use Rattle.orc_rules.specs.declared.entry.State.{State}
 use Rattle.orc_journal.specs.Written.{Written}
 use Rattle.orc_run.specs.Checked.{IsCheckFault, IsJudged}
 use Rattle.orc_run.specs.Output.{AppendsPrefix}
-use Rattle.orc_run.specs.Running.{Runs}
+use Rattle.orc_engine.specs.Ranges.{IsInRange}
+use Rattle.orc_scheduler.specs.declared.fault.EngineFault.TheVariants as engine
+use Rattle.orc_run.specs.Running.{IsFaultOf, Runs}
 use Rattle.orc_outcome.specs.declared.end.Summary.{Summary}
 use Rattle.orc_cli.specs.declared.job.Options.{Options as RunOptions}
 use Rattle.orc_cli.specs.declared.job.Wanted.TheVariants as wanted
@@ -46,6 +48,19 @@ DrawsRun source script run old new = (journal : List ℕ) × (s : Summary) × Ru
 abbrev pub LeavesUndrawnRun : Option (List ℕ) → Option (List ℕ) → Undrawn → Type 0
 LeavesUndrawnRun old new (undrawn.Fault (fault.Write w)) = (picture : List ℕ) × AppendsPrefix old new picture
 LeavesUndrawnRun old new _ = Keeps old new
+
+-- why a run isn't made, or not to its end
+abbrev pub IsUnrunFor : List ℕ → List ℕ → Undrawn → Type 0
+IsUnrunFor source script (undrawn.Fault f) = IsFaultOf source script f
+IsUnrunFor source script undrawn.Rows = ⊥
+
+-- why none was drawn: a fault of the run; or of the check of such a run's journal, or too many rows of it
+abbrev pub IsRunUndrawnFor : List ℕ → List ℕ → RunOptions → Undrawn → Type 0
+IsRunUndrawnFor source script run u = IsUnrunFor source script u ⊎ ((journal : List ℕ) × (s : Summary) × Runs source script (with_journal run) s journal × IsUndrawnFor source script journal u)
+
+-- the fault is that the number of workers or the limit is out of range, and not where they are within it
+abbrev pub IsRangeOf : RunOptions → Undrawn → Type 0
+IsRangeOf run u = u ≡ undrawn.Fault (fault.Engine engine.Range) → IsInRange run.workers run.limit → ⊥
 
 -- why a journal that the check accepts isn't drawn
 abbrev pub IsUndrawable : Undrawn → Type 0

@@ -8,6 +8,7 @@ pub mod Inputs
 pub mod Output
 pub mod Printed
 pub mod Running
+pub mod Searched
 pub mod Status
 pub mod Surveyed
 pub mod Tested

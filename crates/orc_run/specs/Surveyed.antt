@@ -13,6 +13,11 @@ use Rattle.orc_run.specs.Output.{AppendsPrefix}
 use Rattle.orc_run.specs.declared.faults.RunFault.{RunFault}
 use Rattle.orc_run.specs.declared.faults.RunFault.TheVariants as fault
 
+-- a fault that comes before anything is written
+abbrev pub IsUnwritten : RunFault → Type 0
+IsUnwritten (fault.Write w) = ⊥
+IsUnwritten _ = Unit {0}
+
 -- so many orders of the source's program, with the sites that the script says, came to these outcomes
 abbrev pub CameTo : List ℕ → List ℕ → ℕ → ℕ → List Seen → Type 0
 CameTo source script orders limit seen = (l : Listing) × (t : Table) × Says script t × IsProgramOf source t l × IsSurvey l t limit orders seen

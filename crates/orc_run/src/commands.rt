@@ -4,7 +4,7 @@ ghost use Rattle.std.specs.Prelude.{◌≡◌, ◌≢◌, ◌<◌, ◌⊎◌, �
 ghost use Rattle.std.specs.Io.KnownBytes.{Keeps};
 ghost use Rattle.orc_outcome.specs.declared.end.End.TheVariants as ends;
 ghost use Rattle.orc_run.specs.Inputs.{IsHeld, IsRead};
-ghost use Rattle.orc_run.specs.Commands.{HasDrawn, HasDrawnRun, HasEnded, HasHeld, HasJudged, HasPrinted, HasRun, HasTested, HasTold, IsDone, IsUnread, LeavesUndone, TellsOfFailures, WasCut};
+ghost use Rattle.orc_run.specs.Commands.{HasDrawn, HasDrawnRun, HasEnded, HasHeld, HasJudged, HasPrinted, HasRun, HasTested, HasTold, HasToldAll, IsDone, IsUnread, LeavesUndone, TellsNotAll, TellsOfFailures, WasCut};
 
 use crate::claims::claims_text;
 use crate::explained::{Explained, subject_of, subject_with_journal};
@@ -12,7 +12,7 @@ use crate::failures::{Failure, report};
 use crate::faults::RunFault;
 use crate::inputs::{Files, ReadFault, title_of};
 use crate::judge::{Unchecked, check_read, check_text};
-use crate::outcomes::survey_text;
+use crate::outcomes::{search_text, survey_text};
 use crate::output::WriteFault;
 use crate::picture::{Undrawn, draw_run, draw_text};
 use crate::printer::print_text;
@@ -144,6 +144,49 @@ fn survey_file<'a, R: Threads + Sync, F: Files, W: Write>(
         out,
     ) {
         Ok(()) => Ok(0),
+        Err(fault) => {
+            let subject = subject_of(file, source.as_slice(), script, answers.as_slice());
+            explained.fault(alloc, &subject, fault);
+            Err(Failure::Fault(fault))
+        }
+    }
+}
+
+// The status of a search, which told all outcomes or not.
+fn search_status(all: bool) -> u8
+    ensures { result ≡ cond all 0 4 }
+{
+    if all { 0 } else { 4 }
+}
+
+// Runs the program of a file in many orders, and searches all its schedules, through so many states at most: the status says whether all is told.
+#[tactic(auto, using(crate::proofs::Statuses::unread, crate::proofs::Statuses::unsearched))]
+fn search_file<'a, R: Threads + Sync, F: Files, W: Write>(
+    rt: &R,
+    alloc: Global,
+    file: &'a str,
+    script: Option<&'a str>,
+    options: &SurveyOptions,
+    states: u64,
+    files: &mut F,
+    out: &mut W,
+    explained: &mut Explained,
+) -> Result<u8, Failure<'a>>
+    ensures done { IfOk result (HasToldAll (F.holds files.old) file.now (option_map (λ p. p.now) script.entry) options.now.orders options.now.limit states (W.contents out.old) (W.contents out.new)) }
+    ensures undone { IfErr result (λ f. LeavesUndone f (W.contents out.old) (W.contents out.new)) }
+{
+    let source = read(file, files)?;
+    let answers = read_script(alloc, script, files)?;
+    match search_text(
+        rt,
+        alloc,
+        source.as_slice(),
+        answers.as_slice(),
+        options,
+        states,
+        out,
+    ) {
+        Ok(all) => Ok(search_status(all)),
         Err(fault) => {
             let subject = subject_of(file, source.as_slice(), script, answers.as_slice());
             explained.fault(alloc, &subject, fault);
@@ -407,6 +450,7 @@ fn test_file<'a, R: Threads + Wait + Sync, F: Files, W: Write>(
         answers.as_slice(),
         options,
         out,
+        explained,
     ) {
         Ok(failing) => Ok(claims_status(failing)),
         Err(Untested::Fault(RunFault::Test(fault))) => {
@@ -449,6 +493,14 @@ fn do_job<'a, R: Threads + Wait + Sync, F: Files, W: Write>(
             script,
             options,
         } => survey_file(rt, alloc, file, script, &options, files, out, explained),
+        Job::Search {
+            file,
+            script,
+            options,
+            states,
+        } => search_file(
+            rt, alloc, file, script, &options, states, files, out, explained,
+        ),
         Job::Check {
             file,
             journal,
@@ -492,7 +544,8 @@ fn do_job<'a, R: Threads + Wait + Sync, F: Files, W: Write>(
 /// checked is only opened then, and read while it is checked. Standard output is `out`, standard error `err`; what standard error doesn't
 /// take changes no status. Where the status says that a file's text, the command line or the engine was at
 /// fault, nothing was written to standard output. Where it says that a run ended quiet, or was cut by its limit or one of the
-/// engine's, the whole text of a run that ended so was.
+/// engine's, the whole text of a run that ended so was; but that of a cut run is also the status of a search that doesn't say all, whose whole text
+/// was written then.
 #[tactic(auto, using(crate::proofs::Statuses::kept, crate::proofs::Statuses::untouched, crate::proofs::Statuses::faultless, crate::proofs::Statuses::ended_quiet, crate::proofs::Statuses::not_quiet, crate::proofs::Statuses::not_cut))]
 pub fn command<R, S, F, W, V>(
     rt: &R,
@@ -513,7 +566,7 @@ where
     ensures refused { result ≡ 2 → Keeps (W.contents out.old) (W.contents out.new) }
     ensures broken { result ≡ 7 → Keeps (W.contents out.old) (W.contents out.new) }
     ensures quiet { result ≡ 3 → HasEnded ends.Quiet (W.contents out.old) (W.contents out.new) }
-    ensures cut { result ≡ 4 → WasCut (W.contents out.old) (W.contents out.new) }
+    ensures cut { result ≡ 4 → WasCut (W.contents out.old) (W.contents out.new) ⊎ TellsNotAll (W.contents out.old) (W.contents out.new) }
 {
     let ranges = match Ranges::new(alloc) {
         Err(error) => return refuse(&clap::Error::from(error), out, err),

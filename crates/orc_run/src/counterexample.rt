@@ -1,12 +1,22 @@
 //! What shows that a claim fails.
 
 use orc_claims::Verdict;
+use orc_draw::{DrawFault, Subject, draw_rows};
 use orc_findings::{write_happening, write_published};
-use orc_orders::Run;
+use orc_load::load;
+use orc_orders::{Run, state_at};
 use orc_outcome::End;
+use orc_rules::limits::MOST_ROWS;
+use orc_syntax::parse;
 use orc_tally::Shown;
 use orc_ways::test::Test;
 use std::alloc::{AllocError, Global};
+
+/// What stands before a line on the run that shows a failure.
+const MARGIN: &[u8] = b"         ";
+
+/// About how many columns wide the picture of a run is.
+const WIDTH: u64 = 80;
 
 /// Writes what stands before a line below a failure: its number, or as many blanks.
 fn write_margin(
@@ -95,9 +105,67 @@ pub fn write_failing(
     run: &Run,
     text: &mut Vec<u8>,
 ) -> Result<(), AllocError> {
-    text.extend_from_slice(b"         ")?;
+    text.extend_from_slice(MARGIN)?;
     write_place(alloc, test, shown.failure.verdict, run, text)?;
     let order = shown.failure.order;
     let line = format!(in alloc; " (order {order})\n")?;
     text.extend_from_slice(line.as_bytes())
+}
+
+/// Writes lines, with its margin and a word before each.
+fn write_each(lines: &[u8], word: &[u8], text: &mut Vec<u8>) -> Result<(), AllocError> {
+    let mut begins = true;
+    for byte in lines {
+        if begins {
+            text.extend_from_slice(MARGIN)?;
+            text.extend_from_slice(word)?;
+        }
+        text.push(*byte)?;
+        begins = *byte == b'\n';
+    }
+    Ok(())
+}
+
+/// Writes the lines with a range of a way in which a claim fails, each with the numbers with which a way fails. The error is refused memory.
+pub fn write_ranges(lines: &[u8], text: &mut Vec<u8>) -> Result<(), AllocError> {
+    write_each(lines, b"fails with ", text)
+}
+
+/// Writes the rows of the picture of a run that shows a failure, of the program that a source spells with the way's script; or that they are too many. The
+/// error is refused memory.
+pub fn write_picture(
+    alloc: Global,
+    source: &[u8],
+    script: &[u8],
+    mut run: Run,
+    text: &mut Vec<u8>,
+) -> Result<(), AllocError> {
+    // The run was made of both: only memory can be refused here.
+    let Ok(loaded) = load(alloc, source, script) else {
+        return Err(AllocError);
+    };
+    let Ok(ast) = parse(alloc, source) else {
+        return Err(AllocError);
+    };
+    let state = state_at(run.played.summary.end);
+    let Some(journal) = run.played.journal.take() else {
+        return Err(AllocError);
+    };
+    let subject = Subject {
+        name: "",
+        source,
+        ast,
+        answers: loaded.into_answers(),
+        journal,
+        state,
+    };
+    match draw_rows(alloc, &subject, WIDTH) {
+        Ok(rows) => write_each(rows.as_str().as_bytes(), b"", text),
+        Err(DrawFault::Rows) => {
+            text.extend_from_slice(MARGIN)?;
+            let line = format!(in alloc; "(not drawn: over {MOST_ROWS} rows)\n")?;
+            text.extend_from_slice(line.as_bytes())
+        }
+        Err(DrawFault::Memory) => Err(AllocError),
+    }
 }

@@ -128,6 +128,16 @@ impl Explained {
         }
     }
 
+    /// Tells in the same way of the services that no run of a test asked.
+    pub fn services(&mut self, text: Result<String, AllocError>)
+        ensures { self.old ≡ Unasked → self.new ≡ Unasked }
+    {
+        if !self.is_asked() {
+            return;
+        }
+        self.tell(text);
+    }
+
     /// Writes what is told where no failure has a line. At a fault of the stream some of it may be missing at the end.
     pub fn write<V: Write>(&self, err: &mut V) -> Result<(), WriteFault>
         ensures { OnOk result (Appends (V.contents err.old) (V.contents err.new) (told self.now)) }

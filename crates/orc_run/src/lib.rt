@@ -1,10 +1,12 @@
 //! The program `orc` as a library: its commands, its statuses and its texts.
 #![tactic(auto)]
 
+mod asked;
 mod claims;
 mod commands;
 mod counterexample;
 mod explained;
+mod failing_ways;
 mod failures;
 mod faults;
 mod inputs;
@@ -30,7 +32,7 @@ pub use judge::{Unchecked, check_read, check_text};
 pub use orc_cli::{Options, STANDARD_INPUT, Shown, SurveyOptions, TestOptions, Wanted};
 pub use orc_explain_fault::Unread;
 pub use orc_outcome::{End, Summary};
-pub use outcomes::survey_text;
+pub use outcomes::{search_text, survey_text};
 pub use output::{WriteFault, write_text};
 pub use picture::{Undrawn, draw_run, draw_text};
 pub use printer::print_text;

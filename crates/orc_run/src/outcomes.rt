@@ -1,19 +1,57 @@
-//! From a source text to what came of its program in many orders.
+//! From a source text to what came of its program in many orders, and to what may come of it in all schedules.
 
-ghost use Rattle.std.specs.Prelude.{◌≡◌, IfErr, OnOk};
+ghost use Rattle.std.specs.Prelude.{◌≡◌, ◌++◌, List, IfOk, IfErr, OnOk};
 ghost use Rattle.orc_engine.specs.Ranges.{IsInRange};
+ghost use Rattle.orc_load.specs.Loading.{IsProgramOf};
+ghost use Rattle.orc_orders.specs.Lines.{lines};
+ghost use Rattle.orc_orders.specs.Survey.{IsSurvey};
+ghost use Rattle.orc_schedules.specs.declared.ended.Ended.{Ended as AnEnd};
+ghost use Rattle.orc_site.specs.Script.{Says};
 ghost use Rattle.orc_run.specs.Running.{IsFaultOf, IsOwnOf};
-ghost use Rattle.orc_run.specs.Surveyed.{HasSurveyed, LeavesUnsurveyed};
+ghost use Rattle.orc_run.specs.Searched.{AreMore, HasSearched, LeavesUnsearched, found_of, last_line, line_of_all, says_all, unseen_lines};
+ghost use Rattle.orc_run.specs.Surveyed.{HasSurveyed, IsUnwritten, LeavesUnsurveyed};
 
 use crate::faults::RunFault;
 use crate::output::{WriteFault, write_text};
 use orc_cli::SurveyOptions;
 use orc_engine::EngineFault;
-use orc_load::load;
-use orc_orders::{lines_of, survey};
-use std::alloc::Global;
+use orc_load::{Loaded, load};
+use orc_orders::{Seen, lines_of, place_of, survey, write_unseen};
+use orc_schedules::{Ended, Schedules, search};
+use std::alloc::{AllocError, Global};
 use std::io::Write;
 use std::thread::Threads;
+
+// The program that a source spells, with the built-in sites and those of a script, and what came up in its orders.
+fn surveyed<R: Threads + Sync>(
+    rt: &R,
+    alloc: Global,
+    source: &[u8],
+    script: &[u8],
+    options: &SurveyOptions,
+) -> Result<(Loaded, Vec<Seen>), RunFault>
+    ensures says { IfOk result (λ r. Says script.now r.0.answers) }
+    ensures spells { IfOk result (λ r. IsProgramOf source.now r.0.answers r.0.program) }
+    ensures survey { IfOk result (λ r. IsSurvey r.0.program r.0.answers options.now.limit options.now.orders r.1.items) }
+    ensures unwritten { IfErr result IsUnwritten }
+    ensures cause { IfErr result (IsFaultOf source.now script.now) }
+    ensures range { IfErr result (λ f. f ≡ RunFault.Engine EngineFault.Range → IsInRange options.now.workers options.now.limit → ⊥) }
+    ensures sound { IfErr result (λ f. IsOwnOf f → ⊥) }
+{
+    let loaded = load(alloc, source, script)?;
+    match survey(
+        rt,
+        alloc,
+        &loaded.program,
+        &loaded.answers,
+        options.workers as usize,
+        options.orders,
+        options.limit,
+    ) {
+        Ok(seen) => Ok((loaded, seen)),
+        Err(fault) => Err(RunFault::Engine(fault)),
+    }
+}
 
 /// Runs the program that a source spells in many orders, with the built-in sites and those of a script, and writes each outcome that came up, a line
 /// each: `order 3 (43 of 100) Halted: 41` tells the first order that came to it, how many did, how they ended, and what they published.
@@ -21,6 +59,7 @@ use std::thread::Threads;
 /// The faults are those of a run: of the source's text, of the script and of the source's names, in this order; `Engine` where the number of workers or
 /// the limit is out of range, or memory is refused in one of the runs; and `Write` where memory for the text is refused or the output isn't taken whole.
 /// Nothing is written then, but at a fault of the output a prefix of the text.
+#[tactic(auto, using(crate::proofs::Searching::unsurveyed_before))]
 pub fn survey_text<R: Threads + Sync, W: Write>(
     rt: &R,
     alloc: Global,
@@ -35,24 +74,139 @@ pub fn survey_text<R: Threads + Sync, W: Write>(
     ensures range { IfErr result (λ f. f ≡ RunFault.Engine EngineFault.Range → IsInRange options.now.workers options.now.limit → ⊥) }
     ensures sound { IfErr result (λ f. IsOwnOf f → ⊥) }
 {
-    let loaded = load(alloc, source, script)?;
-    let seen = match survey(
-        rt,
-        alloc,
-        &loaded.program,
-        &loaded.answers,
-        options.workers as usize,
-        options.orders,
-        options.limit,
-    ) {
-        Ok(seen) => seen,
-        Err(fault) => return Err(RunFault::Engine(fault)),
-    };
+    let (_loaded, seen) = surveyed(rt, alloc, source, script, options)?;
     let Ok(text) = lines_of(alloc, options.orders, seen.as_slice()) else {
         return Err(RunFault::Write(WriteFault));
     };
     match write_text(out, text.as_slice()) {
         Ok(()) => Ok(()),
+        Err(fault) => Err(RunFault::Write(fault)),
+    }
+}
+
+fn found_of(found: &Schedules) -> &[Ended]
+    ensures { result.now ≡ found_of found.now }
+{
+    match found {
+        Schedules::All(ends, _) => ends.as_slice(),
+        Schedules::TooMany | Schedules::TooLong => &[],
+    }
+}
+
+fn says_all(found: &Schedules) -> bool
+    ensures { result ≡ says_all found.now }
+{
+    match found {
+        Schedules::All(..) => true,
+        Schedules::TooMany | Schedules::TooLong => false,
+    }
+}
+
+// A line for each outcome that a search found and no order came to. The error is refused memory.
+fn write_more(
+    alloc: Global,
+    text: &mut Vec<u8>,
+    orders: u64,
+    seen: &[Seen],
+    found: &[Ended],
+) -> Result<(), AllocError>
+    ensures { OnOk result ((more : List AnEnd) × AreMore seen.now found.now more × (text.new.items ≡ text.old.items ++ unseen_lines orders more)) }
+{
+    for ended in found {
+        let values = ended.values.as_slice();
+        if place_of(seen, ended.end, values).is_none() {
+            write_unseen(alloc, text, orders, ended.end, values)?;
+        }
+    }
+    Ok(())
+}
+
+// What is said where all outcomes were found, in so many states. The error is refused memory.
+fn line_of_all(alloc: Global, found: &[Ended], states: usize) -> Result<Vec<u8>, AllocError>
+    ensures { IfOk result (λ t. t.items ≡ line_of_all found.now states) }
+{
+    let line = if found.is_empty() {
+        format!(in alloc; "all: no run ends by itself ({states} states)\n")?
+    } else {
+        format!(in alloc;
+            "all: every run that ends by itself has one of these outcomes ({states} states)\n"
+        )?
+    };
+    Ok(line.into_bytes())
+}
+
+// The last line: whether a search of so many states at most found all outcomes, and where not, why. The error is refused memory.
+fn last_line(alloc: Global, most: u64, found: &Schedules) -> Result<Vec<u8>, AllocError>
+    ensures { IfOk result (λ t. t.items ≡ last_line most found.now) }
+{
+    match found {
+        Schedules::All(ends, states) => line_of_all(alloc, ends.as_slice(), *states),
+        Schedules::TooMany => {
+            let line = format!(in alloc; "not all: there are over {most} states\n")?;
+            Ok(line.into_bytes())
+        }
+        Schedules::TooLong => {
+            let line = format!(in alloc; "not all: delays may add up to 2^64 or more\n")?;
+            Ok(line.into_bytes())
+        }
+    }
+}
+
+// What came up in so many orders, and what a search of so many states at most found. The error is refused memory.
+fn text_of(
+    alloc: Global,
+    orders: u64,
+    seen: &[Seen],
+    most: u64,
+    found: &Schedules,
+) -> Result<Vec<u8>, AllocError>
+    ensures { IfOk result (λ t. (more : List AnEnd) × AreMore seen.now (found_of found.now) more × (t.items ≡ lines orders seen.now ++ (unseen_lines orders more ++ last_line most found.now))) }
+{
+    let mut text = lines_of(alloc, orders, seen)?;
+    write_more(alloc, &mut text, orders, seen, found_of(found))?;
+    let last = last_line(alloc, most, found)?;
+    text.extend_from_slice(last.as_slice())?;
+    Ok(text)
+}
+
+/// Does as [`survey_text`], and searches all schedules of the program too, through `states` states at most. Behind the outcomes that came up it writes a
+/// line for each other one that the search found, `no order (0 of 100) Halted: 43`, and a last line. That says that each run that ends by itself has one
+/// of these outcomes, be it halted or quiet; or why it isn't known: there are more states, as where a loop goes on publishing, or delays within the
+/// limit of entries may add up to a time of over 64 bits. Runs that are cut by their limit are told as they came up, and nothing is said of
+/// others. Answers whether all is told.
+///
+/// The faults are those of [`survey_text`]; `Engine` comes also where memory is refused to the search.
+#[tactic(auto, using(crate::proofs::Searching::unsearched_before))]
+pub fn search_text<R: Threads + Sync, W: Write>(
+    rt: &R,
+    alloc: Global,
+    source: &[u8],
+    script: &[u8],
+    options: &SurveyOptions,
+    states: u64,
+    out: &mut W,
+) -> Result<bool, RunFault>
+    ensures searched { IfOk result (HasSearched source.now script.now options.now.orders options.now.limit states (W.contents out.old) (W.contents out.new)) }
+    ensures fault { IfErr result (LeavesUnsearched source.now script.now options.now.orders options.now.limit states (W.contents out.old) (W.contents out.new)) }
+    ensures cause { IfErr result (IsFaultOf source.now script.now) }
+    ensures range { IfErr result (λ f. f ≡ RunFault.Engine EngineFault.Range → IsInRange options.now.workers options.now.limit → ⊥) }
+    ensures sound { IfErr result (λ f. IsOwnOf f → ⊥) }
+{
+    let (loaded, seen) = surveyed(rt, alloc, source, script, options)?;
+    let Ok(found) = search(
+        alloc,
+        &loaded.program,
+        &loaded.answers,
+        states as usize,
+        options.limit,
+    ) else {
+        return Err(RunFault::Engine(EngineFault::Memory));
+    };
+    let Ok(text) = text_of(alloc, options.orders, seen.as_slice(), states, &found) else {
+        return Err(RunFault::Write(WriteFault));
+    };
+    match write_text(out, text.as_slice()) {
+        Ok(()) => Ok(says_all(&found)),
         Err(fault) => Err(RunFault::Write(fault)),
     }
 }

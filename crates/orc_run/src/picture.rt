@@ -2,7 +2,7 @@
 
 ghost use Rattle.std.specs.Prelude.{◌≡◌, IfOk, IfErr, OnOk, List, ℕ};
 ghost use Rattle.orc_outcome.specs.declared.end.Summary.{Summary};
-ghost use Rattle.orc_run.specs.Drawn.{Draws, DrawsRun, IsUndrawable, IsUndrawnFor, LeavesUndrawn, LeavesUndrawnRun, with_journal};
+ghost use Rattle.orc_run.specs.Drawn.{Draws, DrawsRun, IsRangeOf, IsRunUndrawnFor, IsUndrawable, IsUndrawnFor, IsUnrunFor, LeavesUndrawn, LeavesUndrawnRun, with_journal};
 ghost use Rattle.orc_run.specs.Running.{Runs};
 
 use crate::faults::RunFault;
@@ -113,7 +113,9 @@ fn journal_of<R: Threads + Wait + Sync>(
     script: &[u8],
     run: &RunOptions,
 ) -> Result<Vec<u8>, Undrawn>
-    ensures { IfOk result (λ text. (s : Summary) × Runs source.now script.now (with_journal run.now) s text.items) }
+    ensures ran { IfOk result (λ text. (s : Summary) × Runs source.now script.now (with_journal run.now) s text.items) }
+    ensures cause { IfErr result (IsUnrunFor source.now script.now) }
+    ensures range { IfErr result (IsRangeOf run.now) }
 {
     let mut text = Vec::new(alloc);
     match run_source(
@@ -152,6 +154,8 @@ pub fn draw_run<R: Threads + Wait + Sync, W: Write>(
 ) -> Result<(), Undrawn>
     ensures drawn { OnOk result (DrawsRun source.now script.now run.now (W.contents out.old) (W.contents out.new)) }
     ensures undrawn { IfErr result (LeavesUndrawnRun (W.contents out.old) (W.contents out.new)) }
+    ensures cause { IfErr result (IsRunUndrawnFor source.now script.now run.now) }
+    ensures range { IfErr result (IsRangeOf run.now) }
 {
     let journal = match journal_of(rt, alloc, source, script, run) {
         Ok(journal) => journal,

@@ -14,7 +14,10 @@ ghost use Rattle.orc_ways.specs.Finishing.{Says as SaysTest};
 ghost use Rattle.orc_run.specs.Running.{Ran};
 ghost use Rattle.orc_run.specs.Tested.{AreScripts, AreWays, HasFailing, IsOwnFault, IsScript, IsTried, LeavesUntested, Writes, of_trial, options_of};
 
-use crate::counterexample::{write_failing, write_lines};
+use crate::asked::services_never_asked;
+use crate::counterexample::{write_failing, write_lines, write_picture, write_ranges};
+use crate::explained::Explained;
+use crate::failing_ways::failing_ways;
 use crate::faults::RunFault;
 use crate::output::{WriteFault, write_text};
 use crate::runner::run_source;
@@ -30,7 +33,7 @@ use orc_tally::{CaseReport, Report, Row, Shown as Failing, failing, failure_at};
 use orc_ways::fault::TestFault;
 use orc_ways::read_test;
 use orc_ways::test::Test;
-use std::alloc::Global;
+use std::alloc::{AllocError, Global};
 use std::io::Write;
 use std::sync::Wait;
 use std::thread::Threads;
@@ -64,6 +67,8 @@ struct Tester<'s, 'a, R> {
     alloc: Global,
     trials: &'s Trials<'s, 'a>,
     workers: usize,
+    /// Whether failures are explained: the numbers of ranges that fail, and a picture of the run that shows it.
+    explains: bool,
 }
 
 // A fault of the test's text.
@@ -217,12 +222,83 @@ impl<R: Threads + Sync> Tester<'_, '_, R> {
         }
     }
 
-    // What stands below a claim that fails: what isn't usual in the way that shows it, and where it fails there.
+    // Those lines of the way that shows a failure that have a range, with the numbers with which the claim fails in a way. Nothing where it isn't explained.
+    fn ranges_of(
+        &self,
+        cases: &[CaseScripts],
+        ways: &[Ways],
+        claim: usize,
+        shown: Failing,
+    ) -> Result<Vec<u8>, Untested>
+        ensures sound { IfErr result (λ f. IsOwnFault f → ⊥) }
+    {
+        let (true, Some(case), Some(ways)) = (
+            self.explains,
+            cases.get(shown.case),
+            ways.get(shown.case),
+        ) else {
+            return Ok(Vec::new(self.alloc));
+        };
+        match self.failing_ranges(case, ways, claim, shown.failure.way) {
+            Ok(lines) => Ok(lines),
+            Err(_) => Err(NO_MEMORY),
+        }
+    }
+
+    // The same of a case.
+    fn failing_ranges(
+        &self,
+        case: &CaseScripts,
+        ways: &Ways,
+        claim: usize,
+        way: u64,
+    ) -> Result<Vec<u8>, AllocError> {
+        if !ways.has_range(way) {
+            return Ok(Vec::new(self.alloc));
+        }
+        let claims = self
+            .trials
+            .claims
+            .get(claim..claim.saturating_add(1))
+            .unwrap_or(&[]);
+        let scripts = case.scripts.as_slice();
+        let fails = failing_ways(
+            self.rt,
+            self.alloc,
+            self.trials,
+            self.workers,
+            claims,
+            scripts,
+        )?;
+        ways.failing_ranges(self.alloc, way, fails.as_slice())
+    }
+
+    // Writes what explains a failure: these lines, and the picture of the run that shows it.
+    fn explain(
+        &self,
+        script: &[u8],
+        ranges: &[u8],
+        run: Run,
+        text: &mut Vec<u8>,
+    ) -> Result<(), Untested>
+        ensures sound { IfErr result (λ f. IsOwnFault f → ⊥) }
+    {
+        if write_ranges(ranges, text).is_err() {
+            return Err(NO_TEXT);
+        }
+        match write_picture(self.alloc, self.trials.source, script, run, text) {
+            Ok(()) => Ok(()),
+            Err(_) => Err(NO_TEXT),
+        }
+    }
+
+    // What stands below a claim that fails: what isn't usual in the way that shows it, where it fails there, and what explains it.
     fn details_of(
         &self,
         test: &Test<'_>,
         script: &[u8],
         lines: &[u8],
+        ranges: &[u8],
         number: usize,
         shown: Failing,
     ) -> Result<Vec<u8>, Untested>
@@ -235,6 +311,9 @@ impl<R: Threads + Sync> Tester<'_, '_, R> {
         }
         if write_failing(self.alloc, test, shown, &run, &mut text).is_err() {
             return Err(NO_TEXT);
+        }
+        if self.explains {
+            self.explain(script, ranges, run, &mut text)?;
         }
         Ok(text)
     }
@@ -251,11 +330,19 @@ impl<R: Threads + Sync> Tester<'_, '_, R> {
     {
         let mut all = Vec::new(self.alloc);
         for row in rows {
-            if let Row::Fails(_, shown) = row {
+            if let Row::Fails(claim, shown) = row {
                 let lines = unusual_lines(self.alloc, ways, *shown)?;
+                let ranges = self.ranges_of(cases, ways, *claim, *shown)?;
                 let script = script_at(cases, *shown)?;
                 let number = all.len().saturating_add(1);
-                let details = self.details_of(test, script, lines.as_slice(), number, *shown)?;
+                let details = self.details_of(
+                    test,
+                    script,
+                    lines.as_slice(),
+                    ranges.as_slice(),
+                    number,
+                    *shown,
+                )?;
                 if all.push(details).is_err() {
                     return Err(NO_TEXT);
                 }
@@ -459,6 +546,25 @@ impl<R: Threads + Wait + Sync> Tester<'_, '_, R> {
     }
 }
 
+// Tells of the services that no run asked, where the table is wanted and explanations are asked for.
+fn tell_services<'t, 'a, R: Threads + Sync>(
+    rt: &R,
+    alloc: Global,
+    trials: &'t Trials<'t, 'a>,
+    test: &'t Test<'a>,
+    cases: &'t [CaseScripts],
+    options: &TestOptions,
+    explained: &mut Explained,
+) {
+    match options.shown {
+        Shown::Table if explained.is_asked() => {
+            let workers = options.workers as usize;
+            explained.services(services_never_asked(rt, alloc, trials, test, cases, workers));
+        }
+        _ => {}
+    }
+}
+
 // Tries the ways of a test's cases, and writes what is wanted of it.
 #[tactic(auto, using(crate::proofs::Testing::unwritten))]
 fn try_and_write<'t, 'a, R: Threads + Wait + Sync, W: Write>(
@@ -470,6 +576,7 @@ fn try_and_write<'t, 'a, R: Threads + Wait + Sync, W: Write>(
     ways: &[Ways],
     options: &TestOptions,
     out: &mut W,
+    explained: &mut Explained,
 ) -> Result<usize, Untested>
     ensures tested { IfOk result (λ n. (r : Report) × (r.test.now ≡ test.now) × AllZip (IsTried trials.now) cases.now r.cases.now × (r.orders ≡ options.now.orders) × Writes trials.now.source.now options.now cases.now r options.now.shown (W.contents out.old) (W.contents out.new) × (n ≡ failing (rows_of r))) }
     ensures fault { IfErr result (LeavesUntested (W.contents out.old) (W.contents out.new)) }
@@ -480,6 +587,7 @@ fn try_and_write<'t, 'a, R: Threads + Wait + Sync, W: Write>(
         alloc,
         trials,
         workers: options.workers as usize,
+        explains: explained.is_asked(),
     };
     let reports = tester.try_cases(cases)?;
     let report = Report {
@@ -488,6 +596,7 @@ fn try_and_write<'t, 'a, R: Threads + Wait + Sync, W: Write>(
         orders: options.orders,
     };
     let number = tester.write_test(cases, ways, &report, options, out)?;
+    tell_services(rt, alloc, trials, test, cases, options, explained);
     Ok(number)
 }
 
@@ -501,6 +610,7 @@ fn hold<'t, 'a, R: Threads + Wait + Sync, W: Write>(
     script: &[u8],
     options: &TestOptions,
     out: &mut W,
+    explained: &mut Explained,
 ) -> Result<usize, Untested>
     ensures tested { IfOk result (λ n. (text : List ℕ) (others : Table) → Says script.now others → SaysTest text others (test_of test.now) → HasFailing source.now text script.now options.now (W.contents out.old) (W.contents out.new) n) }
     ensures fault { IfErr result (LeavesUntested (W.contents out.old) (W.contents out.new)) }
@@ -519,7 +629,9 @@ fn hold<'t, 'a, R: Threads + Wait + Sync, W: Write>(
         limit: options.limit,
     };
     let tried = cases.as_slice();
-    let number = try_and_write(rt, alloc, &trials, test, tried, known, options, out)?;
+    let number = try_and_write(
+        rt, alloc, &trials, test, tried, known, options, out, explained,
+    )?;
     Ok(number)
 }
 
@@ -547,7 +659,8 @@ fn known_of<'a>(alloc: Global, text: &'a [u8], others: &Answers) -> Result<Test<
 
 /// Holds the claims of a test against the program that a source spells, with the built-in sites, those of the test and those of a script: each case in its
 /// first ways, as many as the options say, each way in as many orders. Writes a line for each claim, and below one that fails what shows it; or instead the
-/// script or the journal that shows one failure. Answers how many claims fail.
+/// script or the journal that shows one failure. Answers how many claims fail. Where explanations are asked for, the picture of the run stands below each
+/// failure, and `explained` tells which services no run asked.
 ///
 /// The faults are those of the source's text, of the script, of the test and of the source's names, in this order; `Engine` where the number of workers or
 /// the limit is out of range, or memory is refused for what is tried; `Write` where memory for the text is refused or the output isn't taken whole; and
@@ -561,6 +674,7 @@ pub fn test_text<R: Threads + Wait + Sync, W: Write>(
     script: &[u8],
     options: &TestOptions,
     out: &mut W,
+    explained: &mut Explained,
 ) -> Result<usize, Untested>
     ensures tested { IfOk result (HasFailing source.now test.now script.now options.now (W.contents out.old) (W.contents out.new)) }
     ensures fault { IfErr result (LeavesUntested (W.contents out.old) (W.contents out.new)) }
@@ -571,6 +685,6 @@ pub fn test_text<R: Threads + Wait + Sync, W: Write>(
     }
     let others = others_of(alloc, script)?;
     let known = known_of(alloc, test, &others)?;
-    let number = hold(rt, alloc, source, &known, script, options, out)?;
+    let number = hold(rt, alloc, source, &known, script, options, out, explained)?;
     Ok(number)
 }

@@ -1,5 +1,5 @@
 //! Tests over several crates of what the program by itself can't show: sites and gates of one's own, streams and files that fail, the parts of an
-//! engine with workers, and the reference. A test that needs no more than the program is a row of `checks/rows.d`.
+//! engine with workers, and the reference. A test that needs no more than the program is a row of `crates/orc_rows/data`.
 #![tactic(auto)]
 
 #[cfg(test)]

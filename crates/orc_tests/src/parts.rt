@@ -425,7 +425,7 @@ fn a_call_is_ready_from_its_due_time_on(rt: HostRuntime) -> Result<(), Fail> {
     let signal = Some(Answer::Value(Value::Signal));
     assert_eq!(rt; call.due(), Due::At(8));
     assert_eq!(rt; poll(&solo, &mut call), None);
-    for (moment, answer) in [(7, None), (6, None), (8, signal), (8, signal), (9, signal)] {
+    for (moment, answer) in [(7, None), (6, None), (8, signal), (3, signal), (9, signal)] {
         call.at(moment);
         assert_eq!(rt; poll(&solo, &mut call), answer, "at {moment}");
         assert_eq!(rt; call.due(), Due::At(8));

@@ -20,6 +20,10 @@ const OUTCOMES: &[&str] = &[
     "orc", "outcomes", "a.orc", "--script", "a.script", "--orders", "3",
 ];
 
+const SEARCH: &[&str] = &[
+    "orc", "outcomes", "a.orc", "--script", "a.script", "--orders", "1", "--all",
+];
+
 const PRINT: &[&str] = &["orc", "print", "a.orc"];
 
 // A writer that takes one byte a call and fails at the first call, the second and so on, until it takes all: what it has is always
@@ -27,9 +31,14 @@ const PRINT: &[&str] = &["orc", "print", "a.orc"];
 #[test]
 fn fails_at_each_call_of_a_writer(rt: HostRuntime) -> Result<(), Fail> {
     let alloc = rt.alloc();
-    let rows: [(&[&str], &str); 6] = [
+    let rows: [(&[&str], &str); 7] = [
         (RUN, "6\n5\n"),
         (OUTCOMES, "order 0 (3 of 3) Halted: 6 5\n"),
+        // The left call is to be made or out in five states of the right side each, and due, answered or published in its last one.
+        (
+            SEARCH,
+            "order 0 (1 of 1) Halted: 6 5\nall: every run that ends by itself has one of these outcomes (13 states)\n",
+        ),
         (CHECK, "ok 1 Running\n"),
         (PRINT, "Pair(1, 9) | (Pair(2, 9) ; 6)\n"),
         (
@@ -74,7 +83,7 @@ fn fails_at_each_call_of_a_writer(rt: HostRuntime) -> Result<(), Fail> {
 #[test]
 fn fails_at_a_writer_that_takes_nothing(rt: HostRuntime) -> Result<(), Fail> {
     let alloc = rt.alloc();
-    for words in [RUN, OUTCOMES, CHECK, PRINT, &["orc", "--version"]] {
+    for words in [RUN, OUTCOMES, SEARCH, CHECK, PRINT, &["orc", "--version"]] {
         let (status, err) = orc_into(&rt, words, FILES.as_slice(), &mut IdleWriter)?;
         assert_eq!(rt; status, 6, "at {words:?}");
         assert_eq!(rt; err.as_str(), "orc: write\n", "at {words:?}");

@@ -1,0 +1,66 @@
+//! Rows that are a journal.
+
+use crate::trial::Trial;
+use std::io;
+use std::sync::Wait;
+use std::thread::Threads;
+
+/// The fields that such a row may have.
+pub const FIELDS: &str = "source script journal check fronts";
+
+// What a check has to say of the first bytes of a journal, cut anywhere: that it is a journal at the end of a line, else that its last line is at fault.
+fn said_of(front: &str) -> Option<u64> {
+    if front.contains('\n') {
+        Some(front.split('\n').count() as u64)
+    } else {
+        None
+    }
+}
+
+impl<R: Threads + Wait + Sync> Trial<'_, R> {
+    // Checks each front of the row's journal.
+    fn try_fronts(&mut self, whole: &str) -> io::Result<()> {
+        for at in 0..whole.len() {
+            let Some(front) = whole.get(..at) else {
+                continue;
+            };
+            self.folder.put("a.journal", Vec::from_slice(self.alloc, front.as_bytes())?)?;
+            let said = match said_of(front) {
+                None => String::from_str(self.alloc, "orc: J1")?,
+                Some(lines) if front.ends_with('\n') => {
+                    let entries = lines.saturating_sub(2);
+                    format!(in self.alloc; "ok {entries} Running")?
+                }
+                Some(lines) => format!(in self.alloc; "orc: J2 at line {lines}")?,
+            };
+            self.check(said.as_str(), "a.script")?;
+            self.count("orc check of a front of the journal")?;
+        }
+        Ok(())
+    }
+
+    /// Tries a row that is a journal.
+    pub fn try_journal(&mut self) -> io::Result<()> {
+        let Some(wanted) = self.row.field("check") else {
+            self.note("a row with a journal has to say", "check")?;
+            self.count("no check")?;
+            return Ok(());
+        };
+        let done = self.check(wanted, "a.script")?;
+        if !wanted.starts_with("ok ") {
+            self.draw(done.err.as_str().trim_end())?;
+        }
+        self.count("orc check a.orc a.journal --script a.script")?;
+        if self.row.has("fronts") {
+            let whole = match self.folder.find("a.journal") {
+                Some(bytes) => match str::from_utf8(bytes) {
+                    Ok(text) => String::from_str(self.alloc, text)?,
+                    Err(_) => String::new(self.alloc),
+                },
+                None => String::new(self.alloc),
+            };
+            self.try_fronts(whole.as_str())?;
+        }
+        Ok(())
+    }
+}

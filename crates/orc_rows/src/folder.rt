@@ -1,0 +1,115 @@
+//! Files in memory, and a command line over them.
+
+use orc_run::{Files, ReadFault, Unread, command};
+use std::alloc::{AllocError, Global};
+use std::io;
+use std::io::ErrorKind;
+use std::sync::Wait;
+use std::thread::Threads;
+
+/// A file in memory.
+#[derive(Drop)]
+struct File {
+    name: &'static str,
+    bytes: Vec<u8>,
+}
+
+/// The files that a row's command lines name.
+#[derive(Drop)]
+pub struct Folder {
+    files: Vec<File>,
+}
+
+impl Folder {
+    pub fn new(alloc: Global) -> Folder {
+        Folder {
+            files: Vec::new(alloc),
+        }
+    }
+
+    /// Puts a file there, in the place of the one that has its name.
+    pub fn put(&mut self, name: &'static str, bytes: Vec<u8>) -> Result<(), AllocError> {
+        match self.files.iter().position(|file| file.name == name) {
+            Some(at) => {
+                if let Some(file) = self.files.get_mut(at) {
+                    file.bytes = bytes;
+                }
+            }
+            None => self.files.push(File { name, bytes })?,
+        }
+        Ok(())
+    }
+
+    /// What the file of this name holds.
+    pub fn find(&self, name: &str) -> Option<&[u8]> {
+        for file in &self.files {
+            if file.name == name {
+                return Some(file.bytes.as_slice());
+            }
+        }
+        None
+    }
+}
+
+/// A folder as a command line reads it.
+#[derive(Drop)]
+struct Reading<'a> {
+    alloc: Global,
+    folder: &'a Folder,
+}
+
+impl<'a> Files for Reading<'a> {
+    type Reader = &'a [u8];
+
+    fn read(&mut self, path: &str) -> Result<Vec<u8>, ReadFault> {
+        let bytes = self.open(path)?;
+        Vec::from_slice(self.alloc, bytes).map_err(|_| ReadFault::Memory)
+    }
+
+    fn open(&mut self, path: &str) -> Result<&'a [u8], ReadFault> {
+        match self.folder.find(path) {
+            Some(bytes) => Ok(bytes),
+            None => Err(ReadFault::Failed(Unread::Missing)),
+        }
+    }
+}
+
+/// What a command line did.
+#[derive(Drop)]
+pub struct Done {
+    pub status: u8,
+    pub out: String,
+    pub err: String,
+}
+
+impl Done {
+    /// Whether it ended with this status and wrote nothing to standard output but this.
+    pub fn is_plain(&self, status: u8, out: &str) -> bool {
+        self.status == status && self.out.as_str() == out
+    }
+}
+
+// The text that bytes are, in UTF-8.
+fn text_of(bytes: Vec<u8>) -> io::Result<String> {
+    match String::from_utf8(bytes) {
+        Ok(text) => Ok(text),
+        Err(_) => Err(io::Error::from(ErrorKind::InvalidData)),
+    }
+}
+
+/// Does one command line over the files of a folder.
+pub fn orc<R: Threads + Wait + Sync>(
+    rt: &R,
+    alloc: Global,
+    words: &[&str],
+    folder: &Folder,
+) -> io::Result<Done> {
+    let mut files = Reading { alloc, folder };
+    let (mut out, mut err) = (Vec::new(alloc), Vec::new(alloc));
+    let status = command(rt, alloc, words, &mut files, &mut out, &mut err);
+    Ok(Done {
+        status,
+        out: text_of(out)?,
+        err: text_of(err)?,
+    })
+}

@@ -1,0 +1,73 @@
+//! Does the rows of this crate's `data` by the program's own function, over files and streams in memory: what a source with its script publishes on
+//! 1, 2, 4 and 16 workers, how and when it ends, what a check says of its journal, which texts are refused, and what each command line writes.
+//! `checks/rows` describes the tables, and does them with the built program; what needs a shell is left to it.
+//!
+//!     orc_rows FILE..                         these tables
+#![tactic(auto)]
+
+mod checks;
+mod folder;
+mod journal;
+mod lines;
+mod programs;
+mod report;
+mod spelling;
+mod table;
+mod trial;
+
+use report::Report;
+use std::alloc::Global;
+use std::process::ExitCode;
+use std::sync::Wait;
+use std::thread::Threads;
+use std::{env, fs, io};
+use table::{Row, read_rows};
+use trial::Trial;
+
+// What came of a row.
+fn try_row<R: Threads + Wait + Sync>(rt: &R, alloc: Global, row: &Row) -> io::Result<Report> {
+    let mut trial = Trial::new(rt, alloc, row)?;
+    let (line, has_journal) = (row.field("line"), row.has("journal"));
+    let fields = if line.is_some() {
+        lines::FIELDS
+    } else if has_journal {
+        checks::FIELDS
+    } else {
+        programs::FIELDS
+    };
+    if let Some(name) = row.stranger(fields) {
+        trial.note("such a row has no field", name)?;
+        trial.count("not tried")?;
+    } else if let Some(line) = line {
+        trial.try_line(line)?;
+    } else if has_journal {
+        trial.try_journal()?;
+    } else {
+        trial.try_program()?;
+    }
+    Ok(trial.report)
+}
+
+// What came of a table's rows.
+fn try_table<R: Threads + Wait + Sync>(rt: &R, alloc: Global, table: &str) -> io::Result<Report> {
+    let mut report = Report::new(alloc);
+    for row in &read_rows(alloc, table)? {
+        report.add(&try_row(rt, alloc, row)?)?;
+    }
+    Ok(report)
+}
+
+fn main(rt: HostRuntime) -> io::Result<ExitCode> {
+    let alloc = rt.alloc();
+    let words = env::args(&rt)?.collect::<Vec<String>>(alloc)?;
+    let mut status = ExitCode::SUCCESS;
+    for name in words.iter().skip(1) {
+        let table = fs::read_to_string(&rt, name.as_str())?;
+        let report = try_table(&rt, alloc, table.as_str())?;
+        report.print(&rt, name.as_str())?;
+        if report.failed > 0 || report.passed == 0 {
+            status = ExitCode::from(1);
+        }
+    }
+    Ok(status)
+}

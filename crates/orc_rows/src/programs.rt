@@ -1,0 +1,260 @@
+//! Rows that are a program, which is run on several numbers of workers.
+
+use crate::folder::Done;
+use crate::journal::{Told, count_lines, is_lost, line_with, read_journal};
+use crate::spelling::{is_one_of, spell};
+use crate::trial::Trial;
+use std::alloc::{AllocError, Global};
+use std::io;
+use std::io::ErrorKind;
+use std::sync::Wait;
+use std::thread::Threads;
+
+/// The fields that such a row may have.
+pub const FIELDS: &str =
+    "source script words workers status err text out each published entries counted time end check has lacks lost draw instead refuses marks explains";
+
+/// The numbers of workers on which a program is run, where its row says nothing.
+const WORKERS: &str = "1 2 4 16";
+
+/// How many entries a journal may have whose end is explained: what is told of a long one takes long.
+const MOST_EXPLAINED: u64 = 10_000;
+
+// The words of a command line that runs the row's program.
+fn words_of<'a>(
+    alloc: Global,
+    workers: &'a str,
+    words: &'a str,
+) -> Result<Vec<&'a str>, AllocError> {
+    let mut line = Vec::new(alloc);
+    line.extend_from_slice(["orc", "run", "a.orc", "--script", "a.script"].as_slice())?;
+    line.push("--workers")?;
+    line.push(workers)?;
+    for word in words.split_whitespace() {
+        line.push(word)?;
+    }
+    Ok(line)
+}
+
+// Words with a blank between two of them.
+fn joined(alloc: Global, words: &[&str]) -> Result<String, AllocError> {
+    let mut text = String::new(alloc);
+    for word in words {
+        if !text.is_empty() {
+            text.push(' ')?;
+        }
+        text.push_str(word)?;
+    }
+    Ok(text)
+}
+
+// The state in which a run with this status leaves its program.
+fn state_of(status: u8) -> &'static str {
+    match status {
+        0 => "Halted",
+        3 => "Quiet",
+        _ => "Running",
+    }
+}
+
+// How many bytes a text's blanks and, behind a `|`, its `^` have: where it underlines, and how much.
+fn underlined(line: &str) -> Option<(usize, usize)> {
+    let (front, rest) = line.split_once('|')?;
+    let marks = rest.trim_start();
+    if !front.trim_start().is_empty() || marks.len() == rest.len() || !marks.starts_with('^') {
+        return None;
+    }
+    let behind = marks.trim_start_matches('^');
+    Some((
+        line.len().saturating_sub(marks.len()),
+        marks.len().saturating_sub(behind.len()),
+    ))
+}
+
+// What the explanation of a fault underlines.
+fn marked(text: &str) -> &str {
+    for (above, line) in text.lines().zip(text.lines().skip(1)) {
+        if let Some((at, many)) = underlined(line) {
+            return above.get(at..at.saturating_add(many)).unwrap_or("");
+        }
+    }
+    ""
+}
+
+impl<R: Threads + Wait + Sync> Trial<'_, R> {
+    // Notes what a fault's explanation says otherwise than the row.
+    fn look_at_fault(&mut self, words: &mut Vec<&str>) -> io::Result<()> {
+        if !self.row.has("marks") && !self.row.has("explains") {
+            return Ok(());
+        }
+        words.push("--explain")?;
+        let done = self.run(words.as_slice())?;
+        let err = done.err.as_str();
+        if let Some(wanted) = self.row.field("marks") {
+            if marked(err) != wanted {
+                self.note("--explain underlines", marked(err))?;
+            }
+        }
+        for part in self.row.field("explains").unwrap_or("").split('\n') {
+            if !err.contains(part) {
+                self.note("--explain has to say", part)?;
+            }
+        }
+        Ok(())
+    }
+
+    // Notes what a run publishes otherwise than the row says.
+    fn look_at_values(&mut self, out: &str) -> io::Result<()> {
+        let words = out.split_whitespace().collect::<Vec<&str>>(self.alloc)?;
+        let mut values = joined(self.alloc, words.as_slice())?;
+        if values.is_empty() {
+            values.push_str("nothing")?;
+        }
+        if let Some(wanted) = self.row.field("out") {
+            let Ok(wanted) = String::from_utf8(spell(self.alloc, wanted)?) else {
+                return Err(io::Error::from(ErrorKind::InvalidData));
+            };
+            if !is_one_of(wanted.as_str().trim_end(), values.as_str()) {
+                self.note("it publishes", values.as_str())?;
+            }
+        }
+        if let Some(each) = self.row.field("each") {
+            for line in out.lines() {
+                if line != each {
+                    self.note("a line is", line)?;
+                }
+            }
+        }
+        self.look_at_number("published", words.len() as u64)?;
+        Ok(())
+    }
+
+    // Notes what a journal's lines are otherwise than the row says.
+    fn look_at_lines(&mut self, text: &str) -> Result<(), AllocError> {
+        if let Some(line) = self.row.field("has") {
+            if count_lines(text, line) != 1 {
+                self.note("its journal has not once the line", line)?;
+            }
+        }
+        if let Some(front) = self.row.field("lacks") {
+            if let Some(line) = line_with(text, front) {
+                self.note("its journal has the line", line)?;
+            }
+        }
+        if let Some(call) = self.row.field("lost") {
+            if !is_lost(text, call) {
+                self.note("its journal has no call that is lost", call)?;
+            }
+        }
+        Ok(())
+    }
+
+    // Notes how the end of a run is explained otherwise than it went.
+    fn look_at_end(&mut self, words: &mut Vec<&str>, told: &Told, plain: &Done) -> io::Result<()> {
+        let is_halted = plain.status == 0;
+        if is_halted && !plain.out.is_empty() || told.entries > MOST_EXPLAINED {
+            return Ok(());
+        }
+        words.push("--explain")?;
+        let done = self.run(words.as_slice())?;
+        words.pop();
+        // A run that halted with nothing to remark on isn't explained.
+        if is_halted && done.err.is_empty() {
+            return Ok(());
+        }
+        let end = match plain.status {
+            4 => self.row.field("end").unwrap_or("Limit"),
+            status => state_of(status),
+        };
+        let (entries, time) = (told.entries, told.time);
+        let noun = if entries == 1 { "entry" } else { "entries" };
+        let wanted = format!(in self.alloc; "orc: {end} at time {time}, after {entries} {noun}")?;
+        let line = done.err.as_str().lines().next().unwrap_or("");
+        if line != wanted.as_str() {
+            self.note("--explain has to say", wanted.as_str())?;
+            self.note("but says", line)?;
+        }
+        Ok(())
+    }
+
+    // Runs the program again with `--journal`, and notes what its journal has otherwise than the row or the run says.
+    fn try_run_journal(&mut self, words: &mut Vec<&str>, plain: &Done) -> io::Result<()> {
+        words.push("--journal")?;
+        let done = self.run(words.as_slice())?;
+        words.pop();
+        if done.status != plain.status || !done.err.is_empty() {
+            self.note("with --journal it says", done.err.as_str())?;
+        }
+        let text = done.out.as_str();
+        let bytes = Vec::from_slice(self.alloc, text.as_bytes())?;
+        self.folder.put("a.journal", bytes)?;
+        let told = read_journal(self.alloc, text)?;
+        if told.published.as_str() != plain.out.as_str() {
+            self.note("its journal publishes", told.published.as_str())?;
+        }
+        self.look_at_number("entries", told.entries)?;
+        self.look_at_number("counted", told.counted)?;
+        if self.row.field("time").unwrap_or(told.time) != told.time {
+            self.note("it ends at time", told.time)?;
+        }
+        self.look_at_lines(text)?;
+        let (entries, state) = (told.entries, state_of(plain.status));
+        let verdict = format!(in self.alloc; "ok {entries} {state}")?;
+        let wanted = self.row.field("check").unwrap_or(verdict.as_str());
+        self.check(wanted, "a.script")?;
+        if let Some(wanted) = self.row.field("refuses") {
+            self.check(wanted, "instead.script")?;
+        }
+        if let Some(wanted) = self.row.field("draw") {
+            self.draw(wanted)?;
+        }
+        self.look_at_end(words, &told, plain)
+    }
+
+    // Notes what a run does otherwise than the row says.
+    fn look_at_run(&mut self, words: &mut Vec<&str>, done: &Done) -> io::Result<()> {
+        let status = format!(in self.alloc; "{}", done.status)?;
+        if !is_one_of(self.row.field("status").unwrap_or("0"), status.as_str()) {
+            self.note("the status is", status.as_str())?;
+        }
+        self.look_at_error(done)?;
+        let out = done.out.as_str();
+        if !matches!(done.status, 0 | 3 | 4) {
+            if !out.is_empty() {
+                self.note("standard output is", out)?;
+            }
+            return self.look_at_fault(words);
+        }
+        if let Some(text) = self.row.field("text") {
+            if out.strip_suffix('\n') != Some(text) {
+                self.note("standard output is", out)?;
+            }
+            return Ok(());
+        }
+        self.look_at_values(out)?;
+        self.try_run_journal(words, done)
+    }
+
+    /// Tries a row that is a program: with each of its lines of words, on each number of workers.
+    pub fn try_program(&mut self) -> io::Result<()> {
+        let mut last: Option<String> = None;
+        for more in self.row.field("words").unwrap_or("").split('\n') {
+            for workers in self.row.field("workers").unwrap_or(WORKERS).split(' ') {
+                let mut words = words_of(self.alloc, workers, more)?;
+                let line = joined(self.alloc, words.as_slice())?;
+                let done = self.run(words.as_slice())?;
+                self.look_at_run(&mut words, &done)?;
+                let is_same = match &last {
+                    Some(before) => before.as_str() == done.out.as_str(),
+                    None => true,
+                };
+                if self.row.has("each") && !is_same {
+                    self.note("not what it publishes on others", done.out.as_str())?;
+                }
+                self.count(line.as_str())?;
+                last = Some(done.out);
+            }
+        }
+        Ok(())
+    }
+}

@@ -1,0 +1,79 @@
+//! How many command lines did what their rows say, and what is told of the others.
+
+use std::alloc::{AllocError, Global};
+use std::io;
+
+/// How many failures are told in full.
+const MOST_TOLD: u64 = 20;
+
+/// How many command lines did what their rows say, how many didn't, and what is told of these.
+#[derive(Drop)]
+pub struct Report {
+    pub passed: u64,
+    pub failed: u64,
+    told: String,
+    // What the command line that is being tried did otherwise than it has to.
+    wrong: String,
+}
+
+impl Report {
+    pub fn new(alloc: Global) -> Report {
+        Report {
+            passed: 0,
+            failed: 0,
+            told: String::new(alloc),
+            wrong: String::new(alloc),
+        }
+    }
+
+    /// Notes one thing that a command line did otherwise than it has to.
+    pub fn note(&mut self, wanted: &str, got: &str) -> Result<(), AllocError> {
+        self.wrong.push_str("  ")?;
+        self.wrong.push_str(wanted)?;
+        self.wrong.push_str(": ")?;
+        self.wrong.push_str(front_of(got))?;
+        self.wrong.push('\n')
+    }
+
+    /// Counts a command line of a row. Where something of it was noted, that is a failure.
+    pub fn count(&mut self, sentence: &str, line: &str) -> Result<(), AllocError> {
+        if self.wrong.is_empty() {
+            self.passed = self.passed.saturating_add(1);
+            return Ok(());
+        }
+        self.failed = self.failed.saturating_add(1);
+        if self.failed <= MOST_TOLD {
+            self.told.push_str(sentence)?;
+            self.told.push_str("\n  ")?;
+            self.told.push_str(line)?;
+            self.told.push('\n')?;
+            self.told.push_str(self.wrong.as_str())?;
+        }
+        self.wrong.clear();
+        Ok(())
+    }
+
+    /// Adds what another report has.
+    pub fn add(&mut self, other: &Report) -> Result<(), AllocError> {
+        self.passed = self.passed.saturating_add(other.passed);
+        self.failed = self.failed.saturating_add(other.failed);
+        self.told.push_str(other.told.as_str())
+    }
+
+    /// Writes what is told of a table.
+    pub fn print<R: Print>(&self, rt: &R, table: &str) -> io::Result<()> {
+        if self.failed > 0 {
+            let (failed, told) = (self.failed, self.told.as_str());
+            return println!(rt; "{table}: {failed} command lines do otherwise\n{told}");
+        }
+        if self.passed == 0 {
+            return println!(rt; "{table}: no row was tried");
+        }
+        println!(rt; "{table}: each row does what it says")
+    }
+}
+
+// The first few hundred bytes of a text.
+fn front_of(text: &str) -> &str {
+    text.get(..400).unwrap_or(text)
+}

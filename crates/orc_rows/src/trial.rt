@@ -1,0 +1,144 @@
+//! A row that is being tried, and what command lines over its files have to say.
+
+use crate::folder::{Done, Folder, orc};
+use crate::report::Report;
+use crate::spelling::{is_line, spell};
+use crate::table::Row;
+use std::alloc::{AllocError, Global};
+use std::io;
+use std::sync::Wait;
+use std::thread::Threads;
+
+/// A row that is being tried, with its files.
+#[derive(Drop)]
+pub struct Trial<'a, R> {
+    pub rt: &'a R,
+    pub alloc: Global,
+    pub row: &'a Row<'a>,
+    pub folder: Folder,
+    pub report: Report,
+}
+
+/// The fields that spell a file, and its name.
+const FILES: [(&str, &str); 5] = [
+    ("source", "a.orc"),
+    ("script", "a.script"),
+    ("instead", "instead.script"),
+    ("test", "a.test"),
+    ("journal", "a.journal"),
+];
+
+/// How a journal is drawn.
+const DRAWN: [(&str, &str); 2] = [("--theme", "dark"), ("--text", "--all")];
+
+// The files of a row, as its fields spell them.
+fn folder_of(alloc: Global, row: &Row) -> Result<Folder, AllocError> {
+    let mut folder = Folder::new(alloc);
+    folder.put("a.script", Vec::new(alloc))?;
+    folder.put("instead.script", Vec::new(alloc))?;
+    for (field, name) in FILES.iter() {
+        if let Some(text) = row.field(field) {
+            let mut whole = String::from_str(alloc, text)?;
+            if *field == "journal" {
+                whole.push('\n')?;
+            }
+            folder.put(name, spell(alloc, whole.as_str())?)?;
+        }
+    }
+    Ok(folder)
+}
+
+impl<'a, R: Threads + Wait + Sync> Trial<'a, R> {
+    pub fn new(rt: &'a R, alloc: Global, row: &'a Row<'a>) -> Result<Trial<'a, R>, AllocError> {
+        Ok(Trial {
+            rt,
+            alloc,
+            row,
+            folder: folder_of(alloc, row)?,
+            report: Report::new(alloc),
+        })
+    }
+
+    /// Does a command line over the row's files.
+    pub fn run(&self, words: &[&str]) -> io::Result<Done> {
+        orc(self.rt, self.alloc, words, &self.folder)
+    }
+
+    /// Notes what a command line has to do, and what it does in place of that.
+    pub fn note(&mut self, wanted: &str, got: &str) -> Result<(), AllocError> {
+        self.report.note(wanted, got)
+    }
+
+    /// Notes a number that isn't what a field of the row says.
+    pub fn look_at_number(&mut self, field: &str, got: u64) -> Result<(), AllocError> {
+        let Some(wanted) = self.row.field(field) else {
+            return Ok(());
+        };
+        if wanted.parse::<u64>() == Ok(got) {
+            return Ok(());
+        }
+        let got = format!(in self.alloc; "{got}")?;
+        self.report.note(field, got.as_str())
+    }
+
+    /// Counts the command line that was tried.
+    pub fn count(&mut self, line: &str) -> Result<(), AllocError> {
+        self.report.count(self.row.sentence, line)
+    }
+
+    /// Notes standard error that isn't what the row says: nothing, where it says nothing.
+    pub fn look_at_error(&mut self, done: &Done) -> Result<(), AllocError> {
+        let is_right = match self.row.field("err") {
+            Some(wanted) => is_line(wanted, done.err.as_str()),
+            None => done.err.is_empty(),
+        };
+        if is_right {
+            return Ok(());
+        }
+        self.report.note("standard error", done.err.as_str())
+    }
+
+    /// Has a journal checked: it has to say this.
+    pub fn check(&mut self, wanted: &str, script: &str) -> io::Result<Done> {
+        let words = ["orc", "check", "a.orc", "a.journal", "--script", script];
+        let done = self.run(words.as_slice())?;
+        let is_right = if wanted.starts_with("ok ") {
+            done.status == 0 && is_line(wanted, done.out.as_str()) && done.err.is_empty()
+        } else {
+            done.is_plain(1, "") && is_line(wanted, done.err.as_str())
+        };
+        if !is_right {
+            self.report.note("a check has to say", wanted)?;
+            self.report.note("but says", done.out.as_str())?;
+            self.report.note("and", done.err.as_str())?;
+        }
+        Ok(done)
+    }
+
+    /// Has a journal drawn in two ways: it has to be a picture, or to say this.
+    pub fn draw(&mut self, wanted: &str) -> io::Result<()> {
+        for (kind, option) in DRAWN.iter() {
+            let words = [
+                "orc",
+                "draw",
+                "a.orc",
+                "a.journal",
+                "--script",
+                "a.script",
+                kind,
+                option,
+            ];
+            let done = self.run(words.as_slice())?;
+            let is_right = if wanted == "a picture" {
+                done.status == 0 && done.err.is_empty() && !done.out.is_empty()
+            } else {
+                done.is_plain(1, "") && is_line(wanted, done.err.as_str())
+            };
+            if !is_right {
+                self.report.note("drawing has to say", wanted)?;
+                self.report.note("but says", done.err.as_str())?;
+            }
+        }
+        Ok(())
+    }
+}

@@ -1,0 +1,15 @@
+use Rattle.std.proofs.Common.{refl}
+use Rattle.orc_run.proofs.KnownFiles.{held_before, read_before}
+use Rattle.orc_run.proofs.commands.search_file.Goals as goal
+
+-- what came of the program of the files that the words name was told
+pub returns-in-Ok-clause-done : goal.returns-in-Ok-clause-done
+returns-in-Ok-clause-done g c = (
+  c.as_slice.result.now,
+  c.as_slice-2.result.now,
+  c.in-Ok.all,
+  held_before _ _ _ _ refl c.as_slice.ensures.value c.in_ok-source.ensures.held,
+  read_before _ _ _ _ _ c.in_ok-source.ensures.same c.as_slice-2.ensures.value c.in_ok-answers.ensures.held,
+  c.in-Ok.ensures.searched,
+  c.search_status.ensures,
+)

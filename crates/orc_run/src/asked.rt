@@ -1,0 +1,197 @@
+//! Which services of a test no run has asked: a line that nobody calls may be mistyped.
+
+use crate::tests::CaseScripts;
+use orc_claims::claim::{Claim, Event, Plain, Simple, Slot, Wanted};
+use orc_orders::{CaseTold, Trials, try_ways};
+use orc_report::Page;
+use orc_tally::Told;
+use orc_ways::test::{Service, ServiceLine, SiteName, Test};
+use std::alloc::{AllocError, Global};
+use std::thread::Threads;
+
+/// So many ways are tried before it is seen whether a service is left that wasn't asked.
+const SOME: usize = 64;
+
+// The place of a service's site among those of its test.
+fn site_of(sites: &[SiteName<'_>], service: &Service<'_>) -> u32 {
+    let mut place: u32 = 0;
+    for site in sites {
+        if site.name == service.name && site.arguments == service.patterns.len() {
+            return place;
+        }
+        place = place.saturating_add(1);
+    }
+    place
+}
+
+// The claim that is put to the test where a run makes a call that the service's patterns match: that there are any number of such calls.
+fn claim_of(
+    alloc: Global,
+    sites: &[SiteName<'_>],
+    service: &Service<'_>,
+) -> Result<Claim, AllocError> {
+    let mut patterns = Vec::new(alloc);
+    patterns.extend_from_slice(service.patterns.as_slice())?;
+    let call = Simple::Call(site_of(sites, service), patterns, Wanted::Called);
+    let mut alternatives = Vec::new(alloc);
+    alternatives.push(call)?;
+    Ok(Claim {
+        conditions: Vec::new(alloc),
+        plain: Plain::Count(Event { alternatives }, 0, None, None),
+    })
+}
+
+// That claim of each service.
+fn claims_of(alloc: Global, test: &Test<'_>) -> Result<Vec<Claim>, AllocError> {
+    let mut claims = Vec::new(alloc);
+    for line in &test.services {
+        claims.push(claim_of(alloc, test.sites.as_slice(), &line.service)?)?;
+    }
+    Ok(claims)
+}
+
+// Whether a service is one of the case at this place. One of `given` is one of each.
+fn is_of(line: &ServiceLine<'_>, case: usize) -> bool {
+    match line.case {
+        Some(own) => own == case,
+        None => true,
+    }
+}
+
+/// The services of a test, and whether a run has asked each of them.
+#[derive(Drop)]
+struct Services<'s, 'a> {
+    lines: &'s [ServiceLine<'a>],
+    asked: Vec<bool>,
+}
+
+impl<'s, 'a> Services<'s, 'a> {
+    // Before the first run.
+    fn new(alloc: Global, lines: &'s [ServiceLine<'a>]) -> Result<Services<'s, 'a>, AllocError> {
+        let mut asked = Vec::new(alloc);
+        for _line in lines {
+            asked.push(false)?;
+        }
+        Ok(Services { lines, asked })
+    }
+
+    fn is_asked(&self, place: usize) -> bool {
+        self.asked.get(place).copied().unwrap_or(true)
+    }
+
+    // Whether a service of the case wasn't asked yet.
+    fn has_unasked(&self, case: usize) -> bool {
+        for (place, line) in self.lines.iter().enumerate() {
+            if is_of(line, case) && !self.is_asked(place) {
+                return true;
+            }
+        }
+        false
+    }
+
+    // Some runs of a case were made, of which this is told of each service's claim.
+    fn note(&mut self, case: usize, told: &[Told]) {
+        for (place, line) in self.lines.iter().enumerate() {
+            let is_tested = match told.get(place) {
+                Some(told) => told.tested,
+                None => false,
+            };
+            if is_of(line, case) && is_tested {
+                if let Some(asked) = self.asked.get_mut(place) {
+                    *asked = true;
+                }
+            }
+        }
+    }
+
+    // Makes runs of a case until each of its services was asked, or none is left.
+    fn try_case<'t, 'c, R: Threads + Sync>(
+        &mut self,
+        rt: &R,
+        alloc: Global,
+        trials: &'t Trials<'t, 'c>,
+        workers: usize,
+        case: usize,
+        scripts: &[Vec<u8>],
+    ) -> Result<(), AllocError> {
+        let mut told = CaseTold::new(alloc, trials.claims)?;
+        for some in scripts.chunks(SOME) {
+            if !self.has_unasked(case) {
+                return Ok(());
+            }
+            // All of these runs were made before: only memory can be refused.
+            if try_ways(rt, alloc, trials, workers, some, &mut told).is_err() {
+                return Err(AllocError);
+            }
+            self.note(case, told.told.as_slice());
+        }
+        Ok(())
+    }
+
+    // A line for each that wasn't asked.
+    fn text(&self, alloc: Global, test: &Test<'_>) -> Result<String, AllocError> {
+        let mut page = Page::new(alloc);
+        for (place, line) in self.lines.iter().enumerate() {
+            if !self.is_asked(place) {
+                if page.len() == 0 {
+                    page.say("orc: services never asked\n");
+                }
+                say_service(&mut page, test, line);
+            }
+        }
+        page.finish()
+    }
+}
+
+// `Pay(_, 2)`
+fn say_call(page: &mut Page, service: &Service<'_>) {
+    page.say_word("`", service.name, "(");
+    for (place, pattern) in service.patterns.iter().enumerate() {
+        if place > 0 {
+            page.say(", ");
+        }
+        match pattern {
+            Slot::Literal(value) => page.value(*value),
+            Slot::Any | Slot::Variable(_) => page.say("_"),
+        }
+    }
+    page.say(")`");
+}
+
+fn say_service(page: &mut Page, test: &Test<'_>, line: &ServiceLine<'_>) {
+    page.note("no run ");
+    if let Some(case) = line.case {
+        if let Some(case) = test.cases.get(case) {
+            page.say_word("of case ", case.name, " ");
+        }
+    }
+    page.say("asked ");
+    say_call(page, &line.service);
+    page.say("\n");
+}
+
+/// The text that tells which services of a test no run asks, of the ways that were tried in their orders; empty where each is asked. A service of a case
+/// is asked by the runs of its case, and one of `given` by those of any. The error is refused memory.
+pub fn services_never_asked<R: Threads + Sync>(
+    rt: &R,
+    alloc: Global,
+    tried: &Trials<'_, '_>,
+    test: &Test<'_>,
+    cases: &[CaseScripts],
+    workers: usize,
+) -> Result<String, AllocError> {
+    let claims = claims_of(alloc, test)?;
+    let trials = Trials {
+        source: tried.source,
+        sites: tried.sites,
+        claims: claims.as_slice(),
+        orders: tried.orders,
+        limit: tried.limit,
+    };
+    let mut services = Services::new(alloc, test.services.as_slice())?;
+    for (case, scripts) in cases.iter().enumerate() {
+        let scripts = scripts.scripts.as_slice();
+        services.try_case(rt, alloc, &trials, workers, case, scripts)?;
+    }
+    services.text(alloc, test)
+}

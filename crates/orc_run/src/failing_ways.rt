@@ -1,0 +1,80 @@
+//! In which ways of a case a claim fails.
+
+use orc_claims::claim::Claim;
+use orc_orders::{CaseTold, Trials, try_ways};
+use std::alloc::{AllocError, Global};
+use std::thread::Threads;
+
+/// So many ways are tried at once. Where a claim fails in some of them and not in others, each is tried alone.
+const SOME: usize = 64;
+
+/// A claim that is held against the ways of a case.
+#[derive(Drop)]
+struct Held<'s, 'a, R> {
+    rt: &'s R,
+    alloc: Global,
+    trials: Trials<'s, 'a>,
+    workers: usize,
+}
+
+impl<R: Threads + Sync> Held<'_, '_, R> {
+    // In how many of these ways the claim fails. All of these runs were made before, so the error is refused memory.
+    fn count(&self, scripts: &[Vec<u8>]) -> Result<u64, AllocError> {
+        let mut told = CaseTold::new(self.alloc, self.trials.claims)?;
+        let tried = try_ways(
+            self.rt,
+            self.alloc,
+            &self.trials,
+            self.workers,
+            scripts,
+            &mut told,
+        );
+        match (tried, told.told.first()) {
+            (Ok(()), Some(told)) => Ok(told.failing),
+            _ => Err(AllocError),
+        }
+    }
+
+    // Notes of each of these ways whether the claim fails in it.
+    fn add(&self, scripts: &[Vec<u8>], fails: &mut Vec<bool>) -> Result<(), AllocError> {
+        let failing = self.count(scripts)?;
+        let is_one = failing == 0 || failing == scripts.len() as u64;
+        for way in scripts.chunks(1) {
+            let does_fail = if is_one {
+                failing > 0
+            } else {
+                self.count(way)? > 0
+            };
+            fails.push(does_fail)?;
+        }
+        Ok(())
+    }
+}
+
+/// Whether a claim fails in each of the ways of a case that were tried, whose scripts these are. The error is refused memory.
+pub fn failing_ways<R: Threads + Sync>(
+    rt: &R,
+    alloc: Global,
+    tried: &Trials<'_, '_>,
+    workers: usize,
+    claim: &[Claim],
+    scripts: &[Vec<u8>],
+) -> Result<Vec<bool>, AllocError> {
+    let held = Held {
+        rt,
+        alloc,
+        trials: Trials {
+            source: tried.source,
+            sites: tried.sites,
+            claims: claim,
+            orders: tried.orders,
+            limit: tried.limit,
+        },
+        workers,
+    };
+    let mut fails = Vec::new(alloc);
+    for some in scripts.chunks(SOME) {
+        held.add(some, &mut fails)?;
+    }
+    Ok(fails)
+}
