@@ -7,14 +7,14 @@ _orc() {
         return
     fi
     case $before in
-    --workers | --order | --orders | --ways | --limit | --fail | --width) return ;;
+    --workers | --order | --orders | --states | --ways | --limit | --fail | --width) return ;;
     --theme) mapfile -t COMPREPLY < <(compgen -W 'auto light dark' -- "$word"); return ;;
     --script | --claims) compopt -o filenames 2>/dev/null; mapfile -t COMPREPLY < <(compgen -f -- "$word"); return ;;
     esac
     local options=
     case ${COMP_WORDS[1]} in
     run) options='--script --workers --order --limit --times --journal --explain --help -h' ;;
-    outcomes) options='--script --workers --orders --limit --explain --help -h' ;;
+    outcomes) options='--script --workers --orders --limit --all --states --explain --help -h' ;;
     check) options='--script --claims --explain --help -h' ;;
     draw) options='--script --order --limit --text --width --all --theme --explain --help -h' ;;
     print) options='--explain --help -h' ;;

@@ -13,6 +13,8 @@ complete -c orc -n '__fish_seen_subcommand_from run outcomes check draw test' -l
 complete -c orc -n '__fish_seen_subcommand_from run outcomes test' -l workers -x -d 'The number of workers'
 complete -c orc -n '__fish_seen_subcommand_from run draw' -l order -x -d 'Another order, by its number'
 complete -c orc -n '__fish_seen_subcommand_from outcomes test' -l orders -x -d 'In how many orders the program is run'
+complete -c orc -n '__fish_seen_subcommand_from outcomes' -l all -d 'Search all schedules too'
+complete -c orc -n '__fish_seen_subcommand_from outcomes' -l states -x -d 'The greatest number of states'
 complete -c orc -n '__fish_seen_subcommand_from run outcomes draw test' -l limit -x -d 'The greatest number of entries'
 complete -c orc -n '__fish_seen_subcommand_from run' -l times -d 'Write the time of each value behind it'
 complete -c orc -n '__fish_seen_subcommand_from run test' -l journal -d 'Write the journal'
