@@ -19,6 +19,7 @@ use orc_journal::{Journal, Version};
 use orc_rules::answers::Answers;
 use orc_rules::entry::Entry;
 use std::alloc::{AllocError, Global};
+use std::error::Error;
 use std::fmt;
 
 /// Why a journal isn't read.
@@ -47,6 +48,8 @@ impl fmt::Display for JournalFault {
         }
     }
 }
+
+impl Error for JournalFault {}
 
 impl JournalFault {
     /// The process's status at this fault.

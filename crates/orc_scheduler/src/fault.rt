@@ -3,6 +3,7 @@
 ghost use Rattle.std.specs.Prelude.{◌≡◌, Some};
 ghost use Rattle.orc_scheduler.specs.Faults.{engine_line, engine_status};
 
+use std::error::Error;
 use std::fmt;
 
 /// Why a program was not run to an end.
@@ -31,6 +32,8 @@ impl fmt::Display for EngineFault {
         }
     }
 }
+
+impl Error for EngineFault {}
 
 impl EngineFault {
     /// The process's status at this fault.

@@ -8,6 +8,7 @@ ghost use Rattle.orc_scope.specs.Scope.{IsBefore, IsLeast, rank};
 
 use orc_syntax::Span;
 use std::alloc::AllocError;
+use std::error::Error;
 use std::fmt;
 
 /// What is wrong with a name or a number of parts.
@@ -71,6 +72,8 @@ impl fmt::Display for ScopeFault {
         write!(f, "{code} at {start}")
     }
 }
+
+impl Error for ScopeFault {}
 
 impl ScopeFault {
     /// The process's status at this fault.

@@ -4,6 +4,7 @@ ghost use Rattle.std.specs.Prelude.{◌≡◌, Some};
 ghost use Rattle.orc_syntax.specs.Faults.{syntax_line, syntax_status};
 
 use orc_lex::token::{Span, What};
+use std::error::Error;
 use std::fmt;
 
 /// Why a text is no program, and where. Places are bytes from 0.
@@ -50,6 +51,8 @@ impl fmt::Display for SyntaxFault {
         }
     }
 }
+
+impl Error for SyntaxFault {}
 
 impl SyntaxFault {
     /// The process's status at this fault.

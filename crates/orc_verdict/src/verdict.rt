@@ -24,6 +24,7 @@ use orc_rules::laws::{meets_and_leads, tests_are_right};
 use orc_rules::limits::MOST_LEVELS;
 use orc_rules::program::Program;
 use std::alloc::Global;
+use std::error::Error;
 use std::fmt;
 
 /// Where a journal has brought a run, and the time there, in units of logical time.
@@ -50,6 +51,8 @@ impl fmt::Display for CheckFault {
         write!(f, "K at entry {at}: {why}")
     }
 }
+
+impl Error for CheckFault {}
 
 /// The marked term after the entries that were taken, and a number of levels that it doesn't exceed.
 #[derive(Drop)]

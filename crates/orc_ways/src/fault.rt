@@ -3,6 +3,7 @@
 ghost use Rattle.std.specs.Prelude.{◌≡◌, Some};
 ghost use Rattle.orc_ways.specs.Faults.{test_line, test_status};
 
+use std::error::Error;
 use std::fmt;
 
 /// Why a test isn't read. Lines are counted from 1.
@@ -38,6 +39,8 @@ impl fmt::Display for TestFault {
         }
     }
 }
+
+impl Error for TestFault {}
 
 impl TestFault {
     /// The process's status at this fault.
