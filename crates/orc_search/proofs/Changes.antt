@@ -5,7 +5,7 @@ use Rattle.std.specs.Prelude.{cond, slice_get}
 use Rattle.orc_rules.specs.declared.param.Param.{Param}
 use Rattle.orc_search.specs.declared.change.Change.{Change}
 use Rattle.orc_search.specs.declared.change.Change.TheVariants.{Put, Settle, Pass}
-use Rattle.orc_search.specs.declared.change.Image.{Image}
+use Rattle.orc_search.specs.declared.images.Image.{Image}
 use Rattle.orc_search.specs.declared.node.Joint.{Joint}
 use Rattle.orc_search.specs.declared.node.Joint.TheVariants.{Both, Feeds, Prunes, Instead, Needs}
 use Rattle.orc_search.specs.Small.{Out, Small, nothing, gives, asks, enters, awaits}

@@ -5,7 +5,7 @@ use Rattle.orc_rules.specs.declared.param.Param.{Param}
 use Rattle.orc_rules.specs.Term.{put_param}
 use Rattle.orc_search.specs.declared.change.Change.{Change}
 use Rattle.orc_search.specs.declared.change.Change.TheVariants.{Put, Settle, Pass}
-use Rattle.orc_search.specs.declared.change.Image.{Image}
+use Rattle.orc_search.specs.declared.images.Image.{Image}
 use Rattle.orc_search.specs.declared.change.Progress.{Progress}
 use Rattle.orc_search.specs.declared.change.Progress.TheVariants.{Is, Wants}
 use Rattle.orc_search.specs.declared.node.Joint.{Joint}

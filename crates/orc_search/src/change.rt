@@ -1,6 +1,6 @@
 //! Changes of all of a small term: something is put for a name, a cell is settled, or time passes.
 
-ghost use Rattle.std.specs.Prelude.{◌≡◌, ◌<◌, List, length, map, false, Some, slice_get, IfOk, OnOk, IfSome};
+ghost use Rattle.std.specs.Prelude.{◌≡◌, ◌<◌, List, length, map, Some, slice_get, IfOk, OnOk, IfSome};
 ghost use Rattle.orc_rules.specs.Term.{put_param};
 ghost use Rattle.orc_search.specs.Small.{settle_param};
 ghost use Rattle.orc_search.specs.Ticks.{less};
@@ -8,6 +8,7 @@ ghost use Rattle.orc_search.specs.Nodes.{tip_of, small_at, smalls, Extends};
 ghost use Rattle.orc_search.specs.declared.change.Progress.TheVariants.{Is};
 ghost use Rattle.orc_search.specs.Changes.{changed, changed_param, changed_rest, left_stays, right_stays, AreImages, IsPlan, IsPart, ProgressIs};
 
+use crate::images::{Image, Images};
 use crate::node::{Joint, Node, Tip, Waiting};
 use crate::terms::Terms;
 use orc_rules::param::Param;
@@ -21,13 +22,6 @@ pub enum Change {
     Put(Param, u32),
     Settle(Param, u64),
     Pass(u64),
-}
-
-/// A term and what it becomes, by their numbers.
-#[derive(Clone, Copy)]
-pub struct Image {
-    pub from: usize,
-    pub to: usize,
 }
 
 /// What a term becomes, or a part that has to be changed before it, by their numbers.
@@ -160,45 +154,18 @@ fn plan(terms: &Terms, alloc: Global, change: Change, at: usize) -> Result<Node,
     }
 }
 
-fn image_at(images: &[Image], k: usize) -> Option<Image>
-    ensures { result ≡ slice_get images.now k }
-{
-    match images.get(k) {
-        Some(image) => Some(*image),
-        None => None,
-    }
-}
-
-// The image of a term, if it is there.
-fn image_of(images: &[Image], at: usize) -> Option<usize>
-    ensures { IfSome result (λ to. IsPart images.now false at to) }
-{
-    for k in 0..images.len() {
-        if let Some(image) = image_at(images, k) {
-            if image.from == at {
-                return Some(image.to);
-            }
-        }
-    }
-    None
-}
-
 // The number of a part after the change, if it is known.
-fn part(images: &[Image], stays: bool, at: usize) -> Option<usize>
+fn part(images: &Images, stays: bool, at: usize) -> Option<usize>
     ensures { IfSome result (λ to. IsPart images.now stays at to) }
 {
-    if stays {
-        Some(at)
-    } else {
-        image_of(images, at)
-    }
+    if stays { Some(at) } else { images.of(at) }
 }
 
 // What a term becomes, where its parts have their images.
 fn step(
     terms: &mut Terms,
     alloc: Global,
-    images: &[Image],
+    images: &Images,
     change: Change,
     at: usize,
 ) -> Result<Progress, AllocError>
@@ -228,14 +195,14 @@ fn step(
 fn advance(
     terms: &mut Terms,
     alloc: Global,
-    images: &mut Vec<Image>,
+    images: &mut Images,
     todo: &mut Vec<usize>,
     change: Change,
     at: usize,
 ) -> Result<Option<usize>, AllocError>
-    requires { AreImages (smalls terms.old) change images.old.items }
+    requires { AreImages (smalls terms.old) change images.old }
     ensures is { IfOk result (λ o. IfSome o (λ to. ProgressIs (smalls terms.old) (smalls terms.new) change at (Is to))) }
-    ensures images { OnOk result (AreImages (smalls terms.new) change images.new.items) }
+    ensures images { OnOk result (AreImages (smalls terms.new) change images.new) }
     ensures kept { Extends (smalls terms.old) (smalls terms.new) }
 {
     match step(terms, alloc, images, change, at)? {
@@ -262,7 +229,7 @@ pub fn changed(
     ensures image { IfOk result (λ to. slice_get (smalls terms.new) to ≡ Some (changed change (small_at (smalls terms.old) root))) }
     ensures kept { Extends (smalls terms.old) (smalls terms.new) }
 {
-    let mut images: Vec<Image> = Vec::new(alloc);
+    let mut images = Images::new(alloc);
     let mut todo: Vec<usize> = Vec::new(alloc);
     todo.push(root)?;
     for _step in 0..u64::MAX {
