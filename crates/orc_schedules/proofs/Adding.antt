@@ -24,13 +24,14 @@ use Rattle.orc_search.proofs.Successors as time
 use Rattle.orc_schedules.specs.declared.states.Key.{Key}
 use Rattle.orc_schedules.specs.declared.told.Told.{Told}
 use Rattle.orc_schedules.specs.declared.tables.Tables.{Tables}
-use Rattle.orc_schedules.specs.Adding.{AddsOnly, IsAfterOne, IsWaited, AddsEnd, ComesBy, IsSaid, AreFound}
-use Rattle.orc_schedules.specs.Ends.{ComesFrom, AreFoundFrom}
+use Rattle.orc_schedules.specs.Adding.{AddsOnly, IsAfterOne, IsWaited, AddsEnd, ComesBy, AreFound}
+use Rattle.orc_schedules.specs.Ends.{ComesFrom, AreFoundFrom, IsSaid}
 use Rattle.orc_schedules.specs.Growing.{Grows}
-use Rattle.orc_schedules.specs.Reached.{Reached, end_of}
-use Rattle.orc_schedules.specs.Tables.{IsKnown, AreKnown, Keeps, Outcome, outcomes, outcome_at, reached, reached_at, coming_at, values_at, after, waited, ending_if}
+use Rattle.orc_schedules.specs.Reached.{Reached, EndSeen, end_of}
+use Rattle.orc_schedules.specs.Seen.{Kept}
+use Rattle.orc_schedules.specs.Tables.{IsKnown, AreKnown, Keeps, outcomes, outcome_at, reached, reached_at, coming_at, seen_at, after, waited, ending_if}
 use Rattle.orc_schedules.proofs.Growing.{or_else, grows_get, get_back, get_or_is, in_get, in_grows, in_map, of_map}
-use Rattle.orc_schedules.proofs.Keeping.{keeps_both, reached_kept, reached_grow, after_kept, term_kept, values_kept}
+use Rattle.orc_schedules.proofs.Keeping.{keeps_both, reached_kept, reached_grow, after_kept, term_kept, seen_kept}
 use Rattle.orc_schedules.proofs.Waits.{none_moves, still_ends}
 
 -- what an element of a mapped list was made of
@@ -47,7 +48,7 @@ get_map f (x ∷ xs) (suc i) y h = let m = get_map f xs i y h in record { by = m
 map_get : {X Y : Type 0} (f : X → Y) (xs : List X) (i : ℕ) (x : X) → slice_get xs i ≡ Some x → slice_get (map f xs) i ≡ Some (f x)
 map_get f xs i x h = mapped_get f xs i ∙ ap (option_map f) h
 
-in_last : {X : Type 0} (x y : X) (xs : List X) → IsIn x (xs ++ y ∷ []) → IsIn x xs ⊎ (x ≡ y)
+pub in_last : {X : Type 0} (x y : X) (xs : List X) → IsIn x (xs ++ y ∷ []) → IsIn x xs ⊎ (x ≡ y)
 in_last x y [] (inl same) = inr same
 in_last x y [] (inr later) = elim later [ ]
 in_last x y (z ∷ xs) (inl same) = inl (inl same)
@@ -122,96 +123,97 @@ added_one sites Fits t u key (inr more) fits i k h = go (at_end t.states key k i
   go (inr new) = inr (subst (λ (x : Key). Fits (reached_at sites u x)) new.1 fits)
 
 -- what is added further, over one more successor
-pub added_next : (sites : List Site) (t u v : Tables) (k : Key) (next : List Successor) (at : ℕ) (s : Successor) → Keeps t u → Keeps u v → AreKnown u → IsKnown t k → s.to < length (smalls t.terms) → slice_get next at ≡ Some s
-    → AddsOnly sites (IsAfterOne sites t k next) t u → AddsOnly sites (λ r. r ≡ after sites u k s) u v → AddsOnly sites (IsAfterOne sites t k next) t v
-added_next sites t u v k next at s keeps more known is lt here before adds i x h = go (adds i x h) where
-  older : (slice_get u.states i ≡ Some x) → (slice_get t.states i ≡ Some x) ⊎ IsAfterOne sites t k next (reached_at sites u x) → (slice_get t.states i ≡ Some x) ⊎ IsAfterOne sites t k next (reached_at sites v x)
+pub added_next : (keep : Kept) (sites : List Site) (t u v : Tables) (k : Key) (next : List Successor) (at : ℕ) (s : Successor) → Keeps t u → Keeps u v → AreKnown u → IsKnown t k → s.to < length (smalls t.terms) → slice_get next at ≡ Some s
+    → AddsOnly sites (IsAfterOne keep sites t k next) t u → AddsOnly sites (λ r. r ≡ after keep sites u k s) u v → AddsOnly sites (IsAfterOne keep sites t k next) t v
+added_next keep sites t u v k next at s keeps more known is lt here before adds i x h = go (adds i x h) where
+  older : (slice_get u.states i ≡ Some x) → (slice_get t.states i ≡ Some x) ⊎ IsAfterOne keep sites t k next (reached_at sites u x) → (slice_get t.states i ≡ Some x) ⊎ IsAfterOne keep sites t k next (reached_at sites v x)
   older there (inl old) = inl old
-  older there (inr m) = inr (m.0, m.1, m.2, reached_kept sites u v x more (known.0 i x there) ∙ m.3)
+  older there (inr m) = inr (m.0, m.1, m.2, reached_kept keep sites u v x more (known.0 i x there) ∙ m.3)
 
-  go : (slice_get u.states i ≡ Some x) ⊎ (reached_at sites v x ≡ after sites u k s) → (slice_get t.states i ≡ Some x) ⊎ IsAfterOne sites t k next (reached_at sites v x)
+  go : (slice_get u.states i ≡ Some x) ⊎ (reached_at sites v x ≡ after keep sites u k s) → (slice_get t.states i ≡ Some x) ⊎ IsAfterOne keep sites t k next (reached_at sites v x)
   go (inl there) = older there (before i x there)
-  go (inr new) = inr (at, s, here, new ∙ after_kept sites t u k s keeps is lt)
+  go (inr new) = inr (at, s, here, new ∙ after_kept keep sites t u k s keeps is lt)
 
 -- one end more
 pub added_end : (t : Tables) (ends : List Told) (told : Told) (end : Option Ending) (e : Ending) → (ends ≡ t.ends) ⊎ (ends ≡ t.ends ++ told ∷ []) → end ≡ Some e → told.end ≡ end_of e
-    → AddsEnd (outcomes t) end (values_at t told.values) (outcomes (record t { ends = ends }))
+    → AddsEnd (outcomes t) end (seen_at t told.seen) (outcomes (record t { ends = ends }))
 added_end t ends told end e added is how o there = go added (of_map (outcome_at t) o ends there) where
   old : (x : Told) → IsIn x t.ends → o ≡ outcome_at t x → IsIn o (outcomes t)
-  old x in_ends same = subst (λ (p : Outcome). IsIn {X = Outcome} p (outcomes t)) (sym same) (in_map (outcome_at t) x t.ends in_ends)
+  old x in_ends same = subst (λ (p : EndSeen). IsIn {X = EndSeen} p (outcomes t)) (sym same) (in_map (outcome_at t) x t.ends in_ends)
 
-  last : (x : Told) → o ≡ outcome_at t x → IsIn x t.ends ⊎ (x ≡ told) → IsIn o (outcomes t) ⊎ ((d : Ending) × (end ≡ Some d) × (o ≡ (end_of d, values_at t told.values)))
+  last : (x : Told) → o ≡ outcome_at t x → IsIn x t.ends ⊎ (x ≡ told) → IsIn o (outcomes t) ⊎ ((d : Ending) × (end ≡ Some d) × (o ≡ (end_of d, seen_at t told.seen)))
   last x same (inl in_ends) = inl (old x in_ends same)
-  last x same (inr new) = inr (e, is, same ∙ ap (outcome_at t) new ∙ (λ i. (how i, values_at t told.values)))
+  last x same (inr new) = inr (e, is, same ∙ ap (outcome_at t) new ∙ (λ i. (how i, seen_at t told.seen)))
 
-  go : (ends ≡ t.ends) ⊎ (ends ≡ t.ends ++ told ∷ []) → (x : Told) × IsIn x ends × (o ≡ outcome_at t x) → IsIn o (outcomes t) ⊎ ((d : Ending) × (end ≡ Some d) × (o ≡ (end_of d, values_at t told.values)))
+  go : (ends ≡ t.ends) ⊎ (ends ≡ t.ends ++ told ∷ []) → (x : Told) × IsIn x ends × (o ≡ outcome_at t x) → IsIn o (outcomes t) ⊎ ((d : Ending) × (end ≡ Some d) × (o ≡ (end_of d, seen_at t told.seen)))
   go (inl same) m = inl (old m.0 (subst (λ (es : List Told). IsIn m.0 es) same m.1) m.2)
   go (inr more) m = last m.0 m.2 (in_last m.0 told t.ends (subst (λ (es : List Told). IsIn m.0 es) more m.1))
 
 -- the same ends, with more lists of values
-same_ends : (t u : Tables) → Keeps t u → AreKnown t → u.ends ≡ t.ends → (o : Outcome) → IsIn o (outcomes u) → IsIn o (outcomes t)
+same_ends : (t u : Tables) → Keeps t u → AreKnown t → u.ends ≡ t.ends → (o : EndSeen) → IsIn o (outcomes u) → IsIn o (outcomes t)
 same_ends t u keeps known same o is =
     let m = of_map (outcome_at u) o u.ends is in
     let there : IsIn m.0 t.ends = subst (λ (es : List Told). IsIn m.0 es) same m.1 in
     let at = in_get m.0 t.ends there in
-    let kept : values_at u m.0.values ≡ values_at t m.0.values = values_kept t u m.0.values keeps (known.1 at.0 m.0 at.1) in
+    let kept : seen_at u m.0.seen ≡ seen_at t m.0.seen = seen_kept t u m.0.seen keeps (known.1 at.0 m.0 at.1) in
     let eq : o ≡ outcome_at t m.0 = m.2 ∙ (λ i. (m.0.end, kept i)) in
-    subst (λ (p : Outcome). IsIn {X = Outcome} p (outcomes t)) (sym eq) (in_map (outcome_at t) m.0 t.ends there)
+    subst (λ (p : EndSeen). IsIn {X = EndSeen} p (outcomes t)) (sym eq) (in_map (outcome_at t) m.0 t.ends there)
 
-module _ (defs : List SmallDefinition) (sites : List Site) where
+module _ (defs : List SmallDefinition) (keep : Kept) (sites : List Site) where
   -- the first state, or one that comes from one before it
-  abbrev IsFound : State → List Reached → ℕ → Reached → Type 0
-  IsFound begin rs i r = ((r.0 ≡ begin) × (r.1 ≡ [])) ⊎ ComesFrom defs rs i r.0 r.1
+  abbrev IsFound : ℕ → State → List Reached → ℕ → Reached → Type 0
+  IsFound longest begin rs i r = ((r.0 ≡ begin) × (r.1 ≡ [])) ⊎ ComesFrom defs keep longest rs i r.0 r.1
 
-  found_kept : (begin : State) (rs us : List Reached) (i : ℕ) (r : Reached) → Grows rs us → IsFound begin rs i r → IsFound begin us i r
-  found_kept begin rs us i r g (inl e) = inl e
-  found_kept begin rs us i r g (inr c) = inr (record { at = c.at; before = c.before; from = c.from; there = grows_get rs us c.at c.from g c.there; sight = c.sight; goes = c.goes; shows = c.shows })
+  found_kept : (a b : ℕ) → a ≤ b → (begin : State) (rs us : List Reached) (i : ℕ) (r : Reached) → Grows rs us → IsFound a begin rs i r → IsFound b begin us i r
+  found_kept a b le begin rs us i r g (inl e) = inl e
+  found_kept a b le begin rs us i r g (inr c) = inr (record { at = c.at; before = c.before; from = c.from; there = grows_get rs us c.at c.from g c.there; sight = c.sight; goes = c.goes; shows = c.shows; short = let short = c.short in omega (arith, short, le) })
 
   -- what is said of ends stays so with more states
-  said_kept : (rs us : List Reached) (o : Outcome) → Grows rs us → IsSaid defs rs o → IsSaid defs us o
+  said_kept : (rs us : List Reached) (o : EndSeen) → Grows rs us → IsSaid defs rs o → IsSaid defs us o
   said_kept rs us o g s = record { state = s.state; ending = s.ending; is = in_grows (s.state, o.1) rs us g s.is; says = s.says; end = s.end }
 
   module _ (begin : State) (t u : Tables) (known : AreKnown t) (keeps : Keeps t u) where
-    old_found : AreFoundFrom defs begin (reached sites t) → (i : ℕ) (k : Key) → slice_get t.states i ≡ Some k → IsFound begin (reached sites u) i (reached_at sites u k)
+    old_found : AreFoundFrom defs keep t.longest begin (reached sites t) → (i : ℕ) (k : Key) → slice_get t.states i ≡ Some k → IsFound u.longest begin (reached sites u) i (reached_at sites u k)
     old_found found i k h =
         let r = reached_at sites t k in
-        subst (λ (x : Reached). IsFound begin (reached sites u) i x) (sym (reached_kept sites t u k keeps (known.0 i k h)))
-        (found_kept begin (reached sites t) (reached sites u) i r (reached_grow sites t u keeps known) (found i r.0 r.1 (map_get (reached_at sites t) t.states i k h)))
+        subst (λ (x : Reached). IsFound u.longest begin (reached sites u) i x) (sym (reached_kept keep sites t u k keeps (known.0 i k h)))
+        (found_kept t.longest u.longest keeps.longest begin (reached sites t) (reached sites u) i r (reached_grow keep sites t u keeps known) (found i r.0 r.1 (map_get (reached_at sites t) t.states i k h)))
 
     -- where new states come from one that was there
-    found_more : (from : Key) (at : ℕ) → slice_get t.states at ≡ Some from → AddsOnly sites (ComesBy defs (reached_at sites t from)) t u → AreFoundFrom defs begin (reached sites t) → AreFoundFrom defs begin (reached sites u)
+    found_more : (from : Key) (at : ℕ) → slice_get t.states at ≡ Some from → AddsOnly sites (ComesBy defs keep u.longest (reached_at sites t from)) t u → AreFoundFrom defs keep t.longest begin (reached sites t) → AreFoundFrom defs keep u.longest begin (reached sites u)
     found_more from at here adds found i s vs h =
         let m = get_map (reached_at sites u) u.states i (s, vs) h in
-        subst (λ (r : Reached). IsFound begin (reached sites u) i r) m.is (go (nat_lt at i) refl m.by m.there (adds i m.by m.there))
+        subst (λ (r : Reached). IsFound u.longest begin (reached sites u) i r) m.is (go (nat_lt at i) refl m.by m.there (adds i m.by m.there))
       where
-        new_found : (r : Reached) → at < i → ComesBy defs (reached_at sites t from) r → ComesFrom defs (reached sites u) i r.0 r.1
+        new_found : (r : Reached) → at < i → ComesBy defs keep u.longest (reached_at sites t from) r → ComesFrom defs keep u.longest (reached sites u) i r.0 r.1
         new_found r lt c = record {
           at = at;
           before = lt;
           from = reached_at sites t from;
-          there = grows_get (reached sites t) (reached sites u) at (reached_at sites t from) (reached_grow sites t u keeps known) (map_get (reached_at sites t) t.states at from here);
+          there = grows_get (reached sites t) (reached sites u) at (reached_at sites t from) (reached_grow keep sites t u keeps known) (map_get (reached_at sites t) t.states at from here);
           sight = c.sight;
           goes = c.goes;
           shows = c.shows;
+          short = c.short;
         }
 
-        go : (b : Bool) → nat_lt at i ≡ b → (k : Key) → slice_get u.states i ≡ Some k → (slice_get t.states i ≡ Some k) ⊎ ComesBy defs (reached_at sites t from) (reached_at sites u k) → IsFound begin (reached sites u) i (reached_at sites u k)
+        go : (b : Bool) → nat_lt at i ≡ b → (k : Key) → slice_get u.states i ≡ Some k → (slice_get t.states i ≡ Some k) ⊎ ComesBy defs keep u.longest (reached_at sites t from) (reached_at sites u k) → IsFound u.longest begin (reached sites u) i (reached_at sites u k)
         go b lt k there (inl old) = old_found found i k old
         go true lt k there (inr new) = inr (new_found (reached_at sites u k) (ltb-true at i lt) new)
         go false lt k there (inr new) = old_found found i k (get_back t.states u.states i k keeps.states (let le = ltb-false at i lt in omega (arith, le, within t.states at from here)) there)
 
     -- with more states
-    states_found : (from : Key) → IsIn from t.states → AddsOnly sites (ComesBy defs (reached_at sites t from)) t u → u.ends ≡ t.ends → AreFound defs begin sites t → AreFound defs begin sites u
+    states_found : (from : Key) → IsIn from t.states → AddsOnly sites (ComesBy defs keep u.longest (reached_at sites t from)) t u → u.ends ≡ t.ends → AreFound defs keep begin sites t → AreFound defs keep begin sites u
     states_found from is adds same found =
         let at = in_get from t.states is in
         record {
           states = found_more from at.0 at.1 adds found.states;
-          ends = λ o there. said_kept (reached sites t) (reached sites u) o (reached_grow sites t u keeps known) (found.ends o (same_ends t u keeps known same o there));
+          ends = λ o there. said_kept (reached sites t) (reached sites u) o (reached_grow keep sites t u keeps known) (found.ends o (same_ends t u keeps known same o there));
         }
 
     -- with an end more, which one of the states says
-    ends_found : (from : Key) (end : Option Ending) → IsIn from t.states → u.states ≡ t.states → AddsEnd (outcomes t) end (values_at t from.values) (outcomes u)
-        → ((e : Ending) → end ≡ Some e → ending defs (small_at (smalls t.terms) from.term) ≡ Some e) → AreFound defs begin sites t → AreFound defs begin sites u
+    ends_found : (from : Key) (end : Option Ending) → IsIn from t.states → u.states ≡ t.states → AddsEnd (outcomes t) end (seen_at t from.seen) (outcomes u)
+        → ((e : Ending) → end ≡ Some e → ending defs (small_at (smalls t.terms) from.term) ≡ Some e) → AreFound defs keep begin sites t → AreFound defs keep begin sites u
     ends_found from end is same adds says found =
         let at = in_get from t.states is in
         record {
@@ -220,23 +222,23 @@ module _ (defs : List SmallDefinition) (sites : List Site) where
         }
       where
         grown : Grows (reached sites t) (reached sites u)
-        grown = reached_grow sites t u keeps known
+        grown = reached_grow keep sites t u keeps known
 
         here : IsIn (reached_at sites t from) (reached sites u)
         here = in_grows (reached_at sites t from) (reached sites t) (reached sites u) grown (in_map (reached_at sites t) from t.states is)
 
-        go : (o : Outcome) → IsIn o (outcomes t) ⊎ ((e : Ending) × (end ≡ Some e) × (o ≡ (end_of e, values_at t from.values))) → IsSaid defs (reached sites u) o
+        go : (o : EndSeen) → IsIn o (outcomes t) ⊎ ((e : Ending) × (end ≡ Some e) × (o ≡ (end_of e, seen_at t from.seen))) → IsSaid defs (reached sites u) o
         go o (inl old) = said_kept (reached sites t) (reached sites u) o grown (found.ends o old)
         go o (inr new) =
-            let one : IsSaid defs (reached sites u) (end_of new.0, values_at t from.values) = record { state = (reached_at sites t from).0; ending = new.0; is = here; says = says new.0 new.1; end = refl } in
-            subst (λ (x : Outcome). IsSaid defs (reached sites u) x) (sym new.2) one
+            let one : IsSaid defs (reached sites u) (end_of new.0, seen_at t from.seen) = record { state = (reached_at sites t from).0; ending = new.0; is = here; says = says new.0 new.1; end = refl } in
+            subst (λ (x : EndSeen). IsSaid defs (reached sites u) x) (sym new.2) one
 
   -- what comes of a state by the successors of its term
   pub after_comes : (t : Tables) (terms : List Node) (k : Key) (next : List Successor) (u : Tables)
       → AllZip (IsSuccessor (smalls terms)) next (moves defs (next_call (coming_at sites t k.made)) 0 (small_at (smalls t.terms) k.term))
-      → AddsOnly sites (IsAfterOne sites (record t { terms = terms }) k next) (record t { terms = terms }) u → AddsOnly sites (ComesBy defs (reached_at sites t k)) t u
+      → AddsOnly sites (IsAfterOne keep sites (record t { terms = terms }) k next) (record t { terms = terms }) u → AddsOnly sites (ComesBy defs keep u.longest (reached_at sites t k)) t u
   after_comes t terms k next u all adds i x h = go (adds i x h) where
-    one : (j : ℕ) (s : Successor) → slice_get next j ≡ Some s → ComesBy defs (reached_at sites t k) (after sites (record t { terms = terms }) k s)
+    one : (j : ℕ) (s : Successor) → slice_get next j ≡ Some s → ComesBy defs keep u.longest (reached_at sites t k) (after keep sites (record t { terms = terms }) k s)
     one j s is =
         let ask = next_call (coming_at sites t k.made) in
         let f = small_at (smalls t.terms) k.term in
@@ -248,29 +250,30 @@ module _ (defs : List SmallDefinition) (sites : List Site) where
           sight = happens (happening_of s.happening);
           goes = (subst (λ (g : Small). Moves defs ask 0 f (happening_of s.happening) g) (sym to) (subst (λ (w : Happening). Moves defs ask 0 f w z.to.1) (sym what) move), refl);
           shows = refl;
+          short = omega arith;
         }
 
-    go : (slice_get t.states i ≡ Some x) ⊎ IsAfterOne sites (record t { terms = terms }) k next (reached_at sites u x) → (slice_get t.states i ≡ Some x) ⊎ ComesBy defs (reached_at sites t k) (reached_at sites u x)
+    go : (slice_get t.states i ≡ Some x) ⊎ IsAfterOne keep sites (record t { terms = terms }) k next (reached_at sites u x) → (slice_get t.states i ≡ Some x) ⊎ ComesBy defs keep u.longest (reached_at sites t k) (reached_at sites u x)
     go (inl old) = inl old
-    go (inr m) = inr (subst (λ (r : Reached). ComesBy defs (reached_at sites t k) r) (sym m.3) (one m.0 m.1 m.2))
+    go (inr m) = inr (subst (λ (r : Reached). ComesBy defs keep u.longest (reached_at sites t k) r) (sym m.3) (one m.0 m.1 m.2))
 
   -- and what comes of it where it waits
-  pub waited_comes : (t u : Tables) (k : Key) → moves_now defs (small_at (smalls t.terms) k.term) ≡ false → AddsOnly sites (IsWaited sites t k) t u → AddsOnly sites (ComesBy defs (reached_at sites t k)) t u
+  pub waited_comes : (t u : Tables) (k : Key) → moves_now defs (small_at (smalls t.terms) k.term) ≡ false → AddsOnly sites (IsWaited sites t k u.longest) t u → AddsOnly sites (ComesBy defs keep u.longest (reached_at sites t k)) t u
   waited_comes t u k still adds i x h = go (adds i x h) where
-    one : (by : ℕ) → some_time (least_left (small_at (smalls t.terms) k.term)) ≡ Some by → ComesBy defs (reached_at sites t k) (waited sites t k by)
-    one by left = record { sight = waits by; goes = (wait_passes defs (small_at (smalls t.terms) k.term) by still left, refl); shows = refl }
+    one : (by : ℕ) → by ≤ u.longest → some_time (least_left (small_at (smalls t.terms) k.term)) ≡ Some by → ComesBy defs keep u.longest (reached_at sites t k) (waited sites t k by)
+    one by le left = record { sight = waits by; goes = (wait_passes defs (small_at (smalls t.terms) k.term) by still left, refl); shows = refl; short = le }
 
-    go : (slice_get t.states i ≡ Some x) ⊎ IsWaited sites t k (reached_at sites u x) → (slice_get t.states i ≡ Some x) ⊎ ComesBy defs (reached_at sites t k) (reached_at sites u x)
+    go : (slice_get t.states i ≡ Some x) ⊎ IsWaited sites t k u.longest (reached_at sites u x) → (slice_get t.states i ≡ Some x) ⊎ ComesBy defs keep u.longest (reached_at sites t k) (reached_at sites u x)
     go (inl old) = inl old
-    go (inr m) = inr (subst (λ (r : Reached). ComesBy defs (reached_at sites t k) r) (sym m.2) (one m.0 m.1))
+    go (inr m) = inr (subst (λ (r : Reached). ComesBy defs keep u.longest (reached_at sites t k) r) (sym m.2) (one m.0 m.3 m.1))
 
   -- a state at which something can move is looked at
   pub moving_found : (begin : State) (t u v : Tables) (k : Key) (terms : List Node) (next : List Successor)
       → AllZip (IsSuccessor (smalls terms)) next (moves defs (next_call (coming_at sites t k.made)) 0 (small_at (smalls t.terms) k.term))
       → AreKnown t → Keeps t u → AreKnown u → Keeps u v → IsKnown t k → IsIn k t.states
-      → AddsOnly sites (IsAfterOne sites (record t { terms = terms }) k next) (record t { terms = terms }) u → u.ends ≡ t.ends
-      → v.states ≡ u.states → AddsEnd (outcomes u) (ending_if false (small_at (smalls u.terms) k.term)) (values_at u k.values) (outcomes v)
-      → AreFound defs begin sites t → AreFound defs begin sites v
+      → AddsOnly sites (IsAfterOne keep sites (record t { terms = terms }) k next) (record t { terms = terms }) u → u.ends ≡ t.ends
+      → v.states ≡ u.states → AddsEnd (outcomes u) (ending_if false (small_at (smalls u.terms) k.term)) (seen_at u k.seen) (outcomes v)
+      → AreFound defs keep begin sites t → AreFound defs keep begin sites v
   moving_found begin t u v k terms next all known keeps known' keeps' is there adds ends states end found =
       let there' : IsIn k u.states = in_grows k t.states u.states keeps.states there in
       let f = small_at (smalls u.terms) k.term in
@@ -281,10 +284,10 @@ module _ (defs : List SmallDefinition) (sites : List Site) where
   pub still_found : (begin : State) (t u w v : Tables) (k : Key) (terms : List Node) (next : List Successor)
       → AllZip (IsSuccessor (smalls terms)) next (moves defs (next_call (coming_at sites t k.made)) 0 (small_at (smalls t.terms) k.term)) → next ≡ []
       → AreKnown t → Keeps t u → AreKnown u → Keeps u w → AreKnown w → Keeps w v → IsKnown t k → IsIn k t.states
-      → AddsOnly sites (IsAfterOne sites (record t { terms = terms }) k next) (record t { terms = terms }) u → u.ends ≡ t.ends
-      → AddsOnly sites (IsWaited sites u k) u w → w.ends ≡ u.ends
-      → v.states ≡ w.states → AddsEnd (outcomes w) (ending_if true (small_at (smalls w.terms) k.term)) (values_at w k.values) (outcomes v)
-      → AreFound defs begin sites t → AreFound defs begin sites v
+      → AddsOnly sites (IsAfterOne keep sites (record t { terms = terms }) k next) (record t { terms = terms }) u → u.ends ≡ t.ends
+      → AddsOnly sites (IsWaited sites u k w.longest) u w → w.ends ≡ u.ends
+      → v.states ≡ w.states → AddsEnd (outcomes w) (ending_if true (small_at (smalls w.terms) k.term)) (seen_at w k.seen) (outcomes v)
+      → AreFound defs keep begin sites t → AreFound defs keep begin sites v
   still_found begin t u w v k terms next all none known keeps known_u keeps_w known_w keeps_v is there adds ends waited ends_w states end found =
       let ask = next_call (coming_at sites t k.made) in
       let f = small_at (smalls t.terms) k.term in

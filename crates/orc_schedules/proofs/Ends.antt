@@ -1,34 +1,39 @@
 -- The end that a state says is that of a run: the way on which the state was found is a path.
 use Rattle.std.proofs.Common.{◌≡◌, ◌<◌, ◌≤◌, ℕ, zero, suc, ◌+◌, ◌*◌, ◌^◌, List, [], ◌∷◌, ◌++◌, length, true, Some, ◌⊎◌, refl, sym, ap, ◌∙◌, subst, inl, inr, arith}
 use Rattle.std.specs.Prelude.{slice_get}
+use Rattle.std.proofs.lemmas.List.{append-nil, append_assoc}
 use Rattle.std.proofs.Math.Nat.{mul-le-mul_right}
-use Rattle.orc_rules.specs.declared.value.Value.{Value}
+use Rattle.orc_rules.specs.declared.entry.Entry.{Entry}
+use Rattle.orc_rules.specs.Journal.{Place, moment, Journal, begin, AreEventsOf}
+use Rattle.orc_rules.specs.Lost.{IsSource, AreSource}
 use Rattle.orc_rules.specs.Nodes.{Listing, source}
 use Rattle.orc_rules.specs.Sites.{Table}
-use Rattle.orc_rules.specs.Timed.{IsIn, start}
-use Rattle.orc_rules.specs.Journal.{moment}
+use Rattle.orc_rules.specs.Term.{Term}
+use Rattle.orc_rules.specs.Timed.{Context, Moment, IsIn, start}
+use Rattle.orc_rules.proofs.Listed.{program_is_source}
+use Rattle.orc_rules.proofs.Runs.{run_is_journal}
+use Rattle.orc_claims.specs.declared.claim.Simple.{Simple}
+use Rattle.orc_claims.specs.declared.happening.Occurrence.{Occurrence}
+use Rattle.orc_tally.specs.declared.sight.ClaimSite.{ClaimSite}
 use Rattle.orc_journal.specs.Written.{count}
 use Rattle.orc_outcome.specs.Outcome.{context, EndsAt}
-use Rattle.orc_search.specs.Moves.{SmallDefinition, called, answered, published, unseen}
+use Rattle.orc_search.specs.Moves.{SmallDefinition}
 use Rattle.orc_search.specs.Moments.{small_of}
 use Rattle.orc_search.specs.Graphs.{Ending, halted, quiet, ending}
 use Rattle.orc_search.specs.Programs.{small_definitions}
-use Rattle.orc_search.specs.Paths.{time_in, published_in, IsJournalOf}
+use Rattle.orc_search.specs.Paths.{time_in, plain, IsOrderly, IsRunOf}
+use Rattle.orc_search.specs.Runs.{IsWell}
 use Rattle.orc_search.specs.States.{State, Sight, happens, waits, Goes, Path, state_of}
-use Rattle.orc_search.proofs.Paths.{path_is_journal, ending_is_halted, ending_is_quiet}
+use Rattle.orc_search.proofs.Begun.{source_holds}
+use Rattle.orc_search.proofs.Paths.{path_is_run, ending_is_halted, ending_is_quiet}
 use Rattle.orc_search.proofs.Programs.{program_is_ready}
-use Rattle.orc_search.proofs.Successors.{passes_by_wait}
-use Rattle.orc_schedules.specs.Reached.{Reached, published_after, first, WaitsWithin, end_of}
-use Rattle.orc_schedules.specs.Ends.{IsEndOfRun, ComesFrom, AreFoundFrom, FoundAreOfRuns}
-use Rattle.orc_schedules.specs.declared.ended.Ended.{Ended}
+use Rattle.orc_schedules.specs.Reached.{Reached, EndSeen, first, end_of}
+use Rattle.orc_schedules.specs.Ends.{IsSeenOfRun, ComesFrom, AreFoundFrom, FoundAreOfRuns, time_of}
+use Rattle.orc_schedules.specs.Seen.{Kept, kept, seen_after, seen_in, seen_of}
 use Rattle.orc_schedules.proofs.Found.{begins_there}
+use Rattle.orc_schedules.proofs.Journals.{journal_seen, run_counted}
 
 module _ {X : Type 0} where
-  listed : (xs : List X) (i : ℕ) (x : X) → slice_get xs i ≡ Some x → IsIn x xs
-  listed [] i x e = cc e
-  listed (y ∷ xs) zero x e = let same : y ≡ x = cc e in inl (sym same)
-  listed (y ∷ xs) (suc i) x e = inr (listed xs i x e)
-
   -- where an element stands
   record At (x : X) (xs : List X) : Type 0 where
     at : ℕ
@@ -41,27 +46,12 @@ module _ {X : Type 0} where
   place_of x (y ∷ xs) (inr i) = let p = place_of x xs i in record { at = suc p.at; is = p.is; within = omega (arith, p.within) }
 
 -- one more thing seen at the end of a path
-publishes_more : (vs : List Sight) (v : Sight) → published_in (vs ++ v ∷ []) ≡ published_after (published_in vs) v
-publishes_more [] (happens (called m args)) = refl
-publishes_more [] (happens (answered m args a)) = refl
-publishes_more [] (happens (published w)) = refl
-publishes_more [] (happens unseen) = refl
-publishes_more [] (waits by) = refl
-publishes_more (happens (called m args) ∷ vs) v = publishes_more vs v
-publishes_more (happens (answered m args a) ∷ vs) v = publishes_more vs v
-publishes_more (happens (published w) ∷ vs) v = ap (λ (r : List Value). w ∷ r) (publishes_more vs v) ∙ first_stays w (published_in vs) v where
-  first_stays : (w : Value) (ws : List Value) (v : Sight) → w ∷ published_after ws v ≡ published_after (w ∷ ws) v
-  first_stays w ws (happens (called m args)) = refl
-  first_stays w ws (happens (answered m args a)) = refl
-  first_stays w ws (happens (published u)) = refl
-  first_stays w ws (happens unseen) = refl
-  first_stays w ws (waits by) = refl
-publishes_more (happens unseen ∷ vs) v = publishes_more vs v
-publishes_more (waits by ∷ vs) v = publishes_more vs v
-
-abbrev time_of : Sight → ℕ
-time_of (happens h) = 0
-time_of (waits by) = by
+sees_more : (keep : Kept) (vs : List Sight) (v : Sight) → seen_in keep (vs ++ v ∷ []) ≡ seen_after keep (seen_in keep vs) v
+sees_more keep [] (happens h) = append-nil (keep h)
+sees_more keep [] (waits by) = refl
+sees_more keep (happens g ∷ vs) (happens h) = ap (λ (l : List Occurrence). keep g ++ l) (sees_more keep vs (happens h)) ∙ sym (append_assoc (keep g) (seen_in keep vs) (keep h))
+sees_more keep (happens g ∷ vs) (waits by) = ap (λ (l : List Occurrence). keep g ++ l) (sees_more keep vs (waits by))
+sees_more keep (waits by ∷ vs) v = sees_more keep vs v
 
 takes_more : (vs : List Sight) (v : Sight) → time_in (vs ++ v ∷ []) ≡ time_in vs + time_of v
 takes_more [] (happens h) = refl
@@ -73,58 +63,102 @@ goes_on : (defs : List SmallDefinition) (s : State) (vs : List Sight) (t : State
 goes_on defs s [] t v u p g = (u, subst (λ (w : State). Goes defs w v u) (sym p) g, refl)
 goes_on defs s (w ∷ vs) t v u p g = (p.0, p.1, goes_on defs p.0 vs t v u p.2 g)
 
-module _ (defs : List SmallDefinition) (begin : State) (longest : ℕ) (rs : List Reached) (found : AreFoundFrom defs begin rs) (within : WaitsWithin defs longest rs) where
-  -- a path to a state, on which this is published
-  record IsWay (s : State) (vs : List Value) (time : ℕ) : Type 0 where
+module _ (defs : List SmallDefinition) (keep : Kept) (begin : State) (longest : ℕ) (rs : List Reached) (found : AreFoundFrom defs keep longest begin rs) where
+  -- a path to a state, on which this is seen
+  record IsWay (s : State) (ws : List Occurrence) (time : ℕ) : Type 0 where
     seen : List Sight
     path : Path defs begin seen s
-    shows : published_in seen ≡ vs
+    shows : seen_in keep seen ≡ ws
     early : time_in seen ≤ time
 
-  short : (s : State) (vs : List Value) (v : Sight) (t : State) → IsIn {X = Reached} (s, vs) rs → Goes defs s v t → time_of v ≤ longest
-  short s vs (happens h) t is g = omega arith
-  short s vs (waits by) t is g = within s vs by is (passes_by_wait defs s.term (State.term t) by g.0).0
-
-  way : (n i : ℕ) → i < n → (s : State) (vs : List Value) → slice_get rs i ≡ Some (s, vs) → IsWay s vs (i * longest)
-  way zero i lt s vs at = absurd (omega (arith, lt))
-  way (suc n) i lt s vs at = go (found i s vs at) (way n) where
-    go : ((s ≡ begin) × (vs ≡ [])) ⊎ ComesFrom defs rs i s vs → ((j : ℕ) → j < n → (s : State) (vs : List Value) → slice_get rs j ≡ Some (s, vs) → IsWay s vs (j * longest)) → IsWay s vs (i * longest)
+  way : (n i : ℕ) → i < n → (s : State) (ws : List Occurrence) → slice_get rs i ≡ Some (s, ws) → IsWay s ws (i * longest)
+  way zero i lt s ws at = absurd (omega (arith, lt))
+  way (suc n) i lt s ws at = go (found i s ws at) (way n) where
+    go : ((s ≡ begin) × (ws ≡ [])) ⊎ ComesFrom defs keep longest rs i s ws → ((j : ℕ) → j < n → (s : State) (ws : List Occurrence) → slice_get rs j ≡ Some (s, ws) → IsWay s ws (j * longest)) → IsWay s ws (i * longest)
     go (inl e) before = record { seen = []; path = sym e.0; shows = sym e.1; early = omega arith }
     go (inr f) before =
         let r : Reached = f.from in
         let w = before f.at (omega (arith, lt, f.before)) r.0 r.1 f.there in
-        let by : time_of f.sight ≤ longest = short r.0 r.1 f.sight s (listed rs f.at r f.there) f.goes in
         record {
           seen = w.seen ++ f.sight ∷ [];
           path = goes_on defs begin w.seen r.0 f.sight s w.path f.goes;
-          shows = publishes_more w.seen f.sight ∙ ap (λ (us : List Value). published_after us f.sight) w.shows ∙ f.shows;
-          early = omega (arith, takes_more w.seen f.sight, w.early, by, mul-le-mul_right longest f.before);
+          shows = sees_more keep w.seen f.sight ∙ ap (λ (us : List Occurrence). seen_after keep us f.sight) w.shows ∙ f.shows;
+          early = omega (arith, takes_more w.seen f.sight, w.early, f.short, mul-le-mul_right longest f.before);
         }
 
--- where the way is a journal's
-module _ (l : Listing) (t : Table) (s : State) (seen : List Sight) (j : IsJournalOf (context l t) (source l) seen s) where
-  ends_so : (d : Ending) → ending (small_definitions l) s.term ≡ Some d → EndsAt (context l t) (count j.entries) j.entries j.place (end_of d)
-  ends_so d says = go d (ap (λ (u : State). ending (small_definitions l) u.term) j.is ∙ says) where
-    go : (d : Ending) → ending (small_definitions l) (small_of (context l t) (moment j.place)) ≡ Some d → EndsAt (context l t) (count j.entries) j.entries j.place (end_of d)
-    go halted e = ending_is_halted (context l t) (small_definitions l) (moment j.place) e
-    go quiet e = let ready = program_is_ready l t.sites true in ending_is_quiet (context l t) (small_definitions l) (moment j.place) ready.0 j.well e
+-- a journal of a program of which this is named, and that comes to this state with no cancel due
+record IsSeen (names : List Simple) (sites : List ClaimSite) (x : Context) (t : Term) (vs : List Sight) (end : State) : Type 0 where
+  entries : List Entry
+  place : Place
+  leads : Journal x (begin t) entries place
+  shows : seen_of names sites entries ≡ seen_in (kept names sites) vs
+  is : state_of x (moment place) ≡ end
+  well : IsWell (moment place)
+  paid : place.to_cancel ≡ []
 
-  end_of_run : (e : Ended) (d : Ending) → ending (small_definitions l) s.term ≡ Some d → e.end ≡ end_of d → published_in seen ≡ e.values.items → IsEndOfRun l t e
-  end_of_run e d says end shows = record {
-    limit = count j.entries;
-    outcome = record { journal = j.entries; end = end_of d; now = j.place.now };
-    run = record { place = j.place; leads = j.leads; ends = ends_so d says; paid = j.paid; now = refl; within = omega arith };
-    end = sym end;
-    shows = j.shows ∙ shows;
+module _ (names : List Simple) (sites : List ClaimSite) where
+  -- each path is that of a journal
+  journal_of : (x : Context) (source : Term) (vs : List Sight) (t : State) → AreSource x.definitions → IsSource source → IsRunOf x (start source) vs t → IsSeen names sites x source vs t
+  journal_of x source vs t ds is_source r =
+      let j = run_is_journal x source r.events r.end ds is_source r.run in
+      made j.0 j.1 j.2 j.3 j.4
+    where
+      made : (es : List Entry) (q : Place) → Journal x (begin source) es q → AreEventsOf es r.events → moment q ≡ r.end → IsSeen names sites x source vs t
+      made es q leads named same = record {
+        entries = es;
+        place = q;
+        leads = leads;
+        shows = journal_seen names sites x r.end source es r.events named (run_counted x (start source) r.events r.end r.run) (plain x (start source) r.events r.end r.run) ∙ ap (seen_in (kept names sites)) r.shows;
+        is = ap (state_of x) same ∙ r.is;
+        well = subst IsWell (sym same) r.orderly.well;
+        paid = ap Moment.to_cancel same ∙ r.orderly.free;
+      }
+
+  -- the first moment
+  begins : (x : Context) (source : Term) → IsSource source → IsWell (start source) → IsOrderly x (start source)
+  begins x source is_source well = record {
+    well = well;
+    holds = source_holds source is_source;
+    calls = λ k i. elim i [ ];
+    cells = λ c i. elim i [ ];
+    in_time = λ c a delay i. elim i [ ];
+    fits = omega arith;
+    free = refl;
   }
 
+  path_is_seen : (l : Listing) (t : Table) (vs : List Sight) (u : State) → time_in vs < 2 ^ 64 → Path (small_definitions l) (state_of (context l t) (start (source l))) vs u → IsSeen names sites (context l t) (source l) vs u
+  path_is_seen l t vs u fits p =
+      let x : Context = context l t in
+      let ready = program_is_ready l t.sites true in
+      let sources = program_is_source l in
+      let is_source : IsSource (source l) = sources.0 l.root in
+      let r = path_is_run x (small_definitions l) (start (source l)) vs u ready.0 (begins x (source l) is_source ready.1) p (omega (arith, fits)) in
+      journal_of x (source l) vs u sources.1 is_source r
+
+  -- where the way is a journal's
+  module _ (l : Listing) (t : Table) (s : State) (vs : List Sight) (j : IsSeen names sites (context l t) (source l) vs s) where
+    ends_so : (d : Ending) → ending (small_definitions l) s.term ≡ Some d → EndsAt (context l t) (count j.entries) j.entries j.place (end_of d)
+    ends_so d says = go d (ap (λ (u : State). ending (small_definitions l) u.term) j.is ∙ says) where
+      go : (d : Ending) → ending (small_definitions l) (small_of (context l t) (moment j.place)) ≡ Some d → EndsAt (context l t) (count j.entries) j.entries j.place (end_of d)
+      go halted e = ending_is_halted (context l t) (small_definitions l) (moment j.place) e
+      go quiet e = let ready = program_is_ready l t.sites true in ending_is_quiet (context l t) (small_definitions l) (moment j.place) ready.0 j.well e
+
+    end_of_run : (o : EndSeen) (d : Ending) → ending (small_definitions l) s.term ≡ Some d → o.0 ≡ end_of d → seen_in (kept names sites) vs ≡ o.1 → IsSeenOfRun l t names sites o
+    end_of_run o d says end shows = record {
+      limit = count j.entries;
+      outcome = record { journal = j.entries; end = end_of d; now = j.place.now };
+      run = record { place = j.place; leads = j.leads; ends = ends_so d says; paid = j.paid; now = refl; within = omega arith };
+      end = sym end;
+      shows = j.shows ∙ shows;
+    }
+
 pub found_are_of_runs : FoundAreOfRuns
-found_are_of_runs l t longest rs es found within fits told e is =
+found_are_of_runs l t names sites longest rs o found fits k =
     let defs : List SmallDefinition = small_definitions l in
-    let k = told e is in
-    let p = place_of {X = Reached} (k.state, e.values.items) rs k.is in
-    let w = way defs (first l t) longest rs found within (suc p.at) p.at (omega arith) k.state e.values.items p.is in
+    let keep : Kept = kept names sites in
+    let p = place_of {X = Reached} (k.state, o.1) rs k.is in
+    let w = way defs keep (first l t) longest rs found (suc p.at) p.at (omega arith) k.state o.1 p.is in
     let early : time_in w.seen < 2 ^ 64 = omega (arith, w.early, fits, mul-le-mul_right longest p.within) in
     let path : Path defs (state_of (context l t) (start (source l))) w.seen k.state = subst (λ (b : State). Path defs b w.seen k.state) (begins_there l t) w.path in
-    let j = path_is_journal l t.sites true w.seen k.state early path in
-    end_of_run l t k.state w.seen j e k.ending k.says k.end w.shows
+    let j = path_is_seen names sites l t w.seen k.state early path in
+    end_of_run names sites l t k.state w.seen j o k.ending k.says k.end w.shows

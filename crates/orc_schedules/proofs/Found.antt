@@ -4,17 +4,16 @@ use Rattle.std.specs.Prelude.{cond, if◌then◌else◌}
 use Rattle.std.specs.Option.{option_to_list}
 use Rattle.std.proofs.Math.Nat.{mul-le-mul_right}
 use Rattle.std.proofs.lemmas.List.{append-nil, append_assoc}
-use Rattle.orc_rules.specs.declared.value.Value.{Value}
+use Rattle.orc_claims.specs.declared.happening.Occurrence.{Occurrence}
 use Rattle.orc_rules.specs.declared.entry.Entry.{Entry}
 use Rattle.orc_rules.specs.declared.entry.Entry.TheVariants.{End, Fork, Seq, Other, Def, Open, Send, Call, Return, ReturnHalt, Bind, Lost, Right, Publish, Tick, Cancel}
 use Rattle.orc_rules.specs.declared.entry.Entry.TheVariants as entry
 use Rattle.orc_rules.specs.Nodes.{Listing, code, definitions, source}
 use Rattle.orc_rules.specs.Sites.{Table, find}
-use Rattle.orc_rules.specs.Step.{Act, calls, returns, binds, loses, publishes, silent, opens}
 use Rattle.orc_rules.specs.Timed.{Context, Moment, Event, does, ticks, cancels, Does, IsIn, IsQuiet, Run, start}
-use Rattle.orc_rules.specs.Journal.{moment, event_of, AreEventsOf}
+use Rattle.orc_rules.specs.Journal.{begin, moment, event_of, AreEventsOf}
 use Rattle.orc_rules.specs.Lost.{IsSource, AreSource}
-use Rattle.orc_rules.specs.Trace.{publications, published, IsExplained}
+use Rattle.orc_rules.specs.Trace.{IsExplained}
 use Rattle.orc_rules.proofs.Settled.{journal_is_explained}
 use Rattle.orc_rules.proofs.Tests.{idle_by}
 use Rattle.orc_rules.proofs.Listed.{program_is_source}
@@ -29,7 +28,7 @@ use Rattle.orc_search.specs.Ticks.{moves_now}
 use Rattle.orc_search.specs.Graphs.{halted, quiet, ending, IsBeyond}
 use Rattle.orc_search.specs.Programs.{small_definitions}
 use Rattle.orc_search.specs.Runs.{IsWell}
-use Rattle.orc_search.specs.States.{State, Sight, happens, waits, state_of, AreOf}
+use Rattle.orc_search.specs.States.{State, Sight, happens, waits, sights, state_of, AreOf}
 use Rattle.orc_search.specs.Successors.{some_time, wait}
 use Rattle.orc_search.proofs.Graphs.{halted_is_ending, quiet_is_ending}
 use Rattle.orc_search.proofs.Programs.{program_is_ready}
@@ -37,8 +36,10 @@ use Rattle.orc_search.proofs.Runs.{run_is_well}
 use Rattle.orc_search.proofs.States.{run_is_path}
 use Rattle.orc_search.proofs.Successors.{passes_by_wait}
 use Rattle.orc_search.proofs.Ticks.{moves_same}
-use Rattle.orc_schedules.specs.Reached.{Reached, published_after, IsClosedUnder, first, WaitsWithin, HasEnded, IsAmong}
+use Rattle.orc_schedules.specs.Reached.{Reached, EndSeen, IsClosedUnder, first, WaitsWithin, HasEnded}
 use Rattle.orc_schedules.specs.Found.{AllAreFound}
+use Rattle.orc_schedules.specs.Seen.{Kept, kept, seen_after, seen_in, seen_of}
+use Rattle.orc_schedules.proofs.Journals.{journal_counted, journal_seen}
 
 -- how many ticks there are in a run
 abbrev ticks_in : List Event → ℕ
@@ -71,37 +72,26 @@ ticks_count : (es : List Entry) (events : List Event) → AreEventsOf es events 
 ticks_count [] events h = subst (λ (w : List Event). ticks_in w ≤ 0) (sym h) (omega arith)
 ticks_count (e ∷ es) events (cs, rest, h, more) = subst (λ (w : List Event). ticks_in w ≤ count (e ∷ es)) (sym h) (one_counts e cs rest (count es) (ticks_count es rest more))
 
--- the values of a run
-shown : (x : Context) (s : Moment) (vs : List Value) (a : Act) (es : List Event)
-    → published_after vs (happens (happening (out_of x.sites s.now s.calls) a)) ++ publications es ≡ vs ++ publications (does a ∷ es)
-shown x s vs (calls k m args cs) es = refl
-shown x s vs (returns k a) es = refl
-shown x s vs (binds c v) es = refl
-shown x s vs (loses c) es = refl
-shown x s vs (publishes v) es = append_assoc vs (v ∷ []) (publications es)
-shown x s vs silent es = refl
-shown x s vs (opens c) es = refl
-
-module _ (x : Context) (smalls : List SmallDefinition) (of : AreOf smalls x) (longest : ℕ) (rs : List Reached) (closed : IsClosedUnder smalls rs) (within : WaitsWithin smalls longest rs) where
-  -- a moment stands among the states with these values, at this time or before
-  record Stands (s : Moment) (vs : List Value) (time : ℕ) : Type 0 where
+module _ (x : Context) (smalls : List SmallDefinition) (of : AreOf smalls x) (keep : Kept) (longest : ℕ) (rs : List Reached) (closed : IsClosedUnder smalls keep rs) (within : WaitsWithin smalls longest rs) where
+  -- a moment stands among the states with this seen, at this time or before
+  record Stands (s : Moment) (vs : List Occurrence) (time : ℕ) : Type 0 where
     is : IsIn {X = Reached} (state_of x s, vs) rs
     now : s.now ≤ time
 
-  stands : (s : Moment) (es : List Event) (s' : Moment) (vs : List Value) → IsWell s → IsIn {X = Reached} (state_of x s, vs) rs → Run x s es s' → Stands s' (vs ++ publications es) (s.now + ticks_in es * longest)
+  stands : (s : Moment) (es : List Event) (s' : Moment) (vs : List Occurrence) → IsWell s → IsIn {X = Reached} (state_of x s, vs) rs → (r : Run x s es s') → Stands s' (vs ++ seen_in keep (sights x s es s' r)) (s.now + ticks_in es * longest)
   stands s [] s' vs w is r = record {
-    is = subst (λ (ws : List Value). IsIn {X = Reached} (state_of x s', ws) rs) (sym (append-nil vs)) (subst (λ (m : Moment). IsIn {X = Reached} (state_of x m, vs) rs) r is);
+    is = subst (λ (ws : List Occurrence). IsIn {X = Reached} (state_of x s', ws) rs) (sym (append-nil vs)) (subst (λ (m : Moment). IsIn {X = Reached} (state_of x m, vs) rs) r is);
     now = omega (arith, ap Moment.now r);
   }
   stands s (does a ∷ es) s' vs w is r =
       let v : Sight = happens (happening (out_of x.sites s.now s.calls) a) in
       let run : Run x s (does a ∷ []) r.0 = (r.0, r.1, refl) in
       let p = run_is_path x smalls s r.0 (does a ∷ []) of w run in
-      let there : IsIn {X = Reached} (state_of x r.0, published_after vs v) rs = subst (λ (t : State). IsIn {X = Reached} (t, published_after vs v) rs) p.2 (closed (state_of x s) vs v p.0 is p.1) in
-      let rest = stands r.0 es s' (published_after vs v) (run_is_well x s r.0 (does a ∷ []) of.bodies of.closed w run) there r.2 in
+      let there : IsIn {X = Reached} (state_of x r.0, seen_after keep vs v) rs = subst (λ (t : State). IsIn {X = Reached} (t, seen_after keep vs v) rs) p.2 (closed (state_of x s) vs v p.0 is p.1) in
+      let rest = stands r.0 es s' (seen_after keep vs v) (run_is_well x s r.0 (does a ∷ []) of.bodies of.closed w run) there r.2 in
       let d : Does x s a r.0 = r.1 in
       record {
-        is = subst (λ (ws : List Value). IsIn {X = Reached} (state_of x s', ws) rs) (shown x s vs a es) rest.is;
+        is = subst (λ (ws : List Occurrence). IsIn {X = Reached} (state_of x s', ws) rs) (append_assoc vs (keep (happening (out_of x.sites s.now s.calls) a)) (seen_in keep (sights x r.0 es s' r.2))) rest.is;
         now = omega (arith, rest.now, d.now);
       }
   stands s (ticks t ∷ es) s' vs w is r =
@@ -129,7 +119,7 @@ module _ (x : Context) (smalls : List SmallDefinition) (of : AreOf smalls x) (lo
       }
 
   -- within the limit a quiet run waits for nothing
-  not_beyond : (limit : ℕ) (s : Moment) (vs : List Value) → IsWell s → IsIn {X = Reached} (state_of x s, vs) rs → IsQuiet x s → s.now ≤ limit * longest → suc limit * longest < 2 ^ 64 → IsBeyond x s → ⊥
+  not_beyond : (limit : ℕ) (s : Moment) (vs : List Occurrence) → IsWell s → IsIn {X = Reached} (state_of x s, vs) rs → IsQuiet x s → s.now ≤ limit * longest → suc limit * longest < 2 ^ 64 → IsBeyond x s → ⊥
   not_beyond limit s vs w is q early fits (zero, left, late) = omega (arith, early, fits, late)
   not_beyond limit s vs w is q early fits (suc by, left, late) =
       let still : moves_now smalls (small_of x s) ≡ false = moves_same x.definitions smalls of.there (out_of x.sites s.now s.calls) [] s.term w.1 ∙ ((idle_by x s).0 q.idle).0 in
@@ -143,13 +133,16 @@ begins_there l t = λ i. record { term = small_of (context l t) (start (source l
     one n = omega arith
 
 pub all_are_found : AllAreFound
-all_are_found l t limit longest rs es closed begins within fits tells o run = go o.end run.ends
+all_are_found l t names sites limit longest rs os closed begins within fits tells o run = go o.end run.ends
   where
     x : Context
     x = context l t
 
     smalls : List SmallDefinition
     smalls = small_definitions l
+
+    keep : Kept
+    keep = kept names sites
 
     ready : AreOf smalls x × IsWell (start (source l))
     ready = program_is_ready l t.sites true
@@ -169,22 +162,28 @@ all_are_found l t limit longest rs es closed begins within fits tells o run = go
     begun : IsIn {X = Reached} (state_of x (start (source l)), []) rs
     begun = subst (λ (s : State). IsIn {X = Reached} (s, []) rs) (begins_there l t) begins
 
-    at : Stands x smalls ready.0 longest rs closed within last (publications explained.events) (0 + ticks_in explained.events * longest)
-    at = stands x smalls ready.0 longest rs closed within (start (source l)) explained.events last [] ready.1 begun explained.run
+    seen : List Occurrence
+    seen = seen_in keep (sights x (start (source l)) explained.events last explained.run)
 
-    is : IsIn {X = Reached} (state_of x last, published o.journal) rs
-    is = subst (λ (vs : List Value). IsIn {X = Reached} (state_of x last, vs) rs) (sym explained.shown) at.is
+    at : Stands x smalls ready.0 keep longest rs closed within last seen (0 + ticks_in explained.events * longest)
+    at = stands x smalls ready.0 keep longest rs closed within (start (source l)) explained.events last [] ready.1 begun explained.run
+
+    named : seen_of names sites o.journal ≡ seen
+    named = journal_seen names sites x last (source l) o.journal explained.events explained.named (journal_counted x (begin (source l)) o.journal explained.events run.place run.leads explained.named) explained.run
+
+    is : IsIn {X = Reached} (state_of x last, seen_of names sites o.journal) rs
+    is = subst (λ (ws : List Occurrence). IsIn {X = Reached} (state_of x last, ws) rs) (sym named) at.is
 
     early : last.now ≤ limit * longest
     early = omega (arith, at.now, mul-le-mul_right longest (ticks_count o.journal explained.events explained.named), mul-le-mul_right longest run.within)
 
-    go : (e : HowEnded) → EndsAt x limit o.journal run.place e → HasEnded e → IsAmong es e (published o.journal)
-    go ends.Halted h ended = tells (state_of x last) (published o.journal) halted is (halted_is_ending x smalls last h)
+    go : (e : HowEnded) → EndsAt x limit o.journal run.place e → HasEnded e → IsIn {X = EndSeen} (e, seen_of names sites o.journal) os
+    go ends.Halted h ended = tells (state_of x last) (seen_of names sites o.journal) halted is (halted_is_ending x smalls last h)
     go ends.Quiet q ended = either (quiet_is_ending x smalls last ready.0 well q)
       where
-        either : (ending smalls (small_of x last) ≡ Some quiet) ⊎ IsBeyond x last → IsAmong es ends.Quiet (published o.journal)
-        either (inl e) = tells (state_of x last) (published o.journal) quiet is e
-        either (inr b) = absurd (not_beyond x smalls ready.0 longest rs closed within limit last (published o.journal) well is q early fits b)
+        either : (ending smalls (small_of x last) ≡ Some quiet) ⊎ IsBeyond x last → IsIn {X = EndSeen} (ends.Quiet, seen_of names sites o.journal) os
+        either (inl e) = tells (state_of x last) (seen_of names sites o.journal) quiet is e
+        either (inr b) = absurd (not_beyond x smalls ready.0 keep longest rs closed within limit last (seen_of names sites o.journal) well is q early fits b)
     go ends.Limit h ended = elim ended [ ]
     go ends.Full h ended = elim ended [ ]
     go ends.Memory h ended = elim ended [ ]

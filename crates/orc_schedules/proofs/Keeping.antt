@@ -2,7 +2,7 @@
 use Rattle.std.proofs.Common.{◌≡◌, ◌<◌, ◌≤◌, ℕ, zero, suc, List, [], ◌∷◌, ◌++◌, length, map, Some, None, ◌⊎◌, Bool, true, false, refl, sym, ap, ◌∙◌, subst, inl, inr, arith, below_more, ◌+◌}
 use Rattle.std.specs.Prelude.{slice_get, cond, not}
 use Rattle.std.specs.List.{AllZip}
-use Rattle.orc_rules.specs.declared.value.Value.{Value}
+use Rattle.orc_claims.specs.declared.happening.Occurrence.{Occurrence}
 use Rattle.orc_rules.specs.Sites.{Site}
 use Rattle.orc_rules.specs.Timed.{IsIn}
 use Rattle.orc_outcome.specs.declared.end.End.{End}
@@ -25,8 +25,9 @@ use Rattle.orc_schedules.specs.declared.told.Told.{Told}
 use Rattle.orc_schedules.specs.declared.tables.Tables.{Tables}
 use Rattle.orc_schedules.specs.Growing.{Grows}
 use Rattle.orc_schedules.specs.Lists.{lists}
-use Rattle.orc_schedules.specs.Reached.{Reached, published_after, end_of}
-use Rattle.orc_schedules.specs.Tables.{IsKnown, AreKnown, values_at, coming_at, reached_at, reached, Outcome, outcome_at, outcomes, Keeps, after, IsDone, waited, ending_if}
+use Rattle.orc_schedules.specs.Reached.{Reached, EndSeen, end_of}
+use Rattle.orc_schedules.specs.Seen.{Kept, seen_after}
+use Rattle.orc_schedules.specs.Tables.{IsKnown, AreKnown, seen_at, coming_at, reached_at, reached, outcome_at, outcomes, Keeps, after, IsDone, waited, ending_if}
 use Rattle.orc_schedules.proofs.Growing.{or_else, grows_self, grows_both, grows_len, grows_or, get_or_is, in_grows, in_map, each_added}
 use Rattle.orc_schedules.proofs.Waits.{moving_waits, moving_ends, still_waits, still_ends}
 
@@ -55,12 +56,12 @@ known_kept t u k keeps known =
 
 -- with one state more
 pub states_known : (a b c a' b' c' : ℕ) → a ≤ a' → b ≤ b' → c ≤ c' → (old new : List Key) (key : Key) → (new ≡ old) ⊎ (new ≡ old ++ key ∷ [])
-    → ((i : ℕ) (k : Key) → slice_get old i ≡ Some k → (k.term < a) × (k.made < b) × (k.values < c)) → (key.term < a') × (key.made < b') × (key.values < c')
-    → (i : ℕ) (k : Key) → slice_get new i ≡ Some k → (k.term < a') × (k.made < b') × (k.values < c')
-states_known a b c a' b' c' p q r old new key added all here = each_added (λ (k : Key). (k.term < a') × (k.made < b') × (k.values < c')) old new key added
+    → ((i : ℕ) (k : Key) → slice_get old i ≡ Some k → (k.term < a) × (k.made < b) × (k.seen < c)) → (key.term < a') × (key.made < b') × (key.seen < c')
+    → (i : ℕ) (k : Key) → slice_get new i ≡ Some k → (k.term < a') × (k.made < b') × (k.seen < c')
+states_known a b c a' b' c' p q r old new key added all here = each_added (λ (k : Key). (k.term < a') × (k.made < b') × (k.seen < c')) old new key added
     (λ i k h. let known = all i k h in (omega (arith, p, known.0), omega (arith, q, known.1), omega (arith, r, known.2))) here
 
-pub ends_known : (c c' : ℕ) → c ≤ c' → (ends : List Told) → ((i : ℕ) (e : Told) → slice_get ends i ≡ Some e → e.values < c) → (i : ℕ) (e : Told) → slice_get ends i ≡ Some e → e.values < c'
+pub ends_known : (c c' : ℕ) → c ≤ c' → (ends : List Told) → ((i : ℕ) (e : Told) → slice_get ends i ≡ Some e → e.seen < c) → (i : ℕ) (e : Told) → slice_get ends i ≡ Some e → e.seen < c'
 ends_known c c' r ends all i e h = let known = all i e h in omega (arith, r, known)
 
 map_same : {X Y : Type 0} (f g : X → Y) (xs : List X) → ((i : ℕ) (x : X) → slice_get xs i ≡ Some x → f x ≡ g x) → map f xs ≡ map g xs
@@ -74,44 +75,44 @@ map_both f (x ∷ xs) ys = λ i. f x ∷ map_both f xs ys i
 map_grows : {X Y : Type 0} (f : X → Y) (xs ys : List X) → Grows xs ys → Grows (map f xs) (map f ys)
 map_grows f xs ys g = (map f g.0, ap (map f) g.1 ∙ map_both f xs g.0)
 
-pub values_kept : (t u : Tables) (i : ℕ) → Keeps t u → i < length (lists t.lists) → values_at u i ≡ values_at t i
-values_kept t u i keeps lt = grows_or (lists t.lists) (lists u.lists) i [] keeps.lists lt
+pub seen_kept : (t u : Tables) (i : ℕ) → Keeps t u → i < length (lists t.lists) → seen_at u i ≡ seen_at t i
+seen_kept t u i keeps lt = grows_or (lists t.lists) (lists u.lists) i [] keeps.lists lt
 
 pub term_kept : (t u : Tables) (i : ℕ) → Keeps t u → i < length (smalls t.terms) → small_at (smalls u.terms) i ≡ small_at (smalls t.terms) i
 term_kept t u i keeps lt = grows_or (smalls t.terms) (smalls u.terms) i nothing keeps.terms lt
 
 pub outcomes_grow : (t u : Tables) → Keeps t u → AreKnown t → Grows (outcomes t) (outcomes u)
-outcomes_grow t u keeps known = subst (λ (os : List Outcome). Grows os (outcomes u)) (map_same (outcome_at u) (outcome_at t) t.ends (λ i e h j. (e.end, values_kept t u e.values keeps (known.1 i e h) j))) (map_grows (outcome_at u) t.ends u.ends keeps.ends)
+outcomes_grow t u keeps known = subst (λ (os : List EndSeen). Grows os (outcomes u)) (map_same (outcome_at u) (outcome_at t) t.ends (λ i e h j. (e.end, seen_kept t u e.seen keeps (known.1 i e h) j))) (map_grows (outcome_at u) t.ends u.ends keeps.ends)
 
-module _ (sites : List Site) where
+module _ (keep : Kept) (sites : List Site) where
   pub coming_kept : (t u : Tables) (i : ℕ) → Keeps t u → i < length t.counts → coming_at sites u i ≡ coming_at sites t i
   coming_kept t u i keeps lt = ap (coming_of_made sites) (grows_or t.counts u.counts i [] keeps.counts lt)
 
   pub reached_kept : (t u : Tables) (k : Key) → Keeps t u → IsKnown t k → reached_at sites u k ≡ reached_at sites t k
-  reached_kept t u k keeps known = λ i. (record { term = term_kept t u k.term keeps known.0 i; coming = coming_kept t u k.made keeps known.1 i }, values_kept t u k.values keeps known.2 i)
+  reached_kept t u k keeps known = λ i. (record { term = term_kept t u k.term keeps known.0 i; coming = coming_kept t u k.made keeps known.1 i }, seen_kept t u k.seen keeps known.2 i)
 
   pub reached_grow : (t u : Tables) → Keeps t u → AreKnown t → Grows (reached sites t) (reached sites u)
   reached_grow t u keeps known = subst (λ (rs : List Reached). Grows rs (reached sites u)) (map_same (reached_at sites u) (reached_at sites t) t.states (λ i k h. reached_kept t u k keeps (known.0 i k h))) (map_grows (reached_at sites u) t.states u.states keeps.states)
 
-  pub after_kept : (t u : Tables) (k : Key) (s : Successor) → Keeps t u → IsKnown t k → s.to < length (smalls t.terms) → after sites u k s ≡ after sites t k s
-  after_kept t u k s keeps known lt = λ i. (record { term = term_kept t u s.to keeps lt i; coming = coming_after (happening_of s.happening) (coming_kept t u k.made keeps known.1 i) }, published_after (values_kept t u k.values keeps known.2 i) (happens (happening_of s.happening)))
+  pub after_kept : (t u : Tables) (k : Key) (s : Successor) → Keeps t u → IsKnown t k → s.to < length (smalls t.terms) → after keep sites u k s ≡ after keep sites t k s
+  after_kept t u k s keeps known lt = λ i. (record { term = term_kept t u s.to keeps lt i; coming = coming_after (happening_of s.happening) (coming_kept t u k.made keeps known.1 i) }, seen_after keep (seen_kept t u k.seen keeps known.2 i) (happens (happening_of s.happening)))
 
   pub done_kept : (defs : List SmallDefinition) (t u : Tables) (k : Key) → Keeps t u → AreKnown t → IsKnown t k
-      → IsDone defs (reached sites t) t.longest (outcomes t) (reached_at sites t k) → IsDone defs (reached sites u) u.longest (outcomes u) (reached_at sites u k)
-  done_kept defs t u k keeps known is done = subst (λ (r : Reached). IsDone defs (reached sites u) u.longest (outcomes u) r) (sym (reached_kept t u k keeps is)) (record {
-    followed = λ v s g. in_grows (s, published_after (values_at t k.values) v) (reached sites t) (reached sites u) (reached_grow t u keeps known) (done.followed v s g);
+      → IsDone defs keep (reached sites t) t.longest (outcomes t) (reached_at sites t k) → IsDone defs keep (reached sites u) u.longest (outcomes u) (reached_at sites u k)
+  done_kept defs t u k keeps known is done = subst (λ (r : Reached). IsDone defs keep (reached sites u) u.longest (outcomes u) r) (sym (reached_kept t u k keeps is)) (record {
+    followed = λ v s g. in_grows (s, seen_after keep (seen_at t k.seen) v) (reached sites t) (reached sites u) (reached_grow t u keeps known) (done.followed v s g);
     waits = λ by h. let le = done.waits by h in let more = keeps.longest in omega (arith, le, more);
-    told = λ e h. in_grows (end_of e, values_at t k.values) (outcomes t) (outcomes u) (outcomes_grow t u keeps known) (done.told e h);
+    told = λ e h. in_grows (end_of e, seen_at t k.seen) (outcomes t) (outcomes u) (outcomes_grow t u keeps known) (done.told e h);
   })
 
   -- what is followed further, over one more successor
   pub followed_next : (t u v : Tables) (k : Key) (next : List Successor) (at : ℕ) (s : Successor) → Keeps t u → Keeps u v → AreKnown u → IsKnown t k → ((i : ℕ) (s : Successor) → slice_get next i ≡ Some s → s.to < length (smalls t.terms))
-      → slice_get next at ≡ Some s → ((i : ℕ) (s : Successor) → i < at → slice_get next i ≡ Some s → IsIn {X = Reached} (after sites t k s) (reached sites u)) → IsIn {X = Reached} (after sites u k s) (reached sites v)
-      → (i : ℕ) (s : Successor) → i < at + 1 → slice_get next i ≡ Some s → IsIn {X = Reached} (after sites t k s) (reached sites v)
-  followed_next t u v k next at s keeps more known is within h before here = λ i r lt g. below_more (λ (j : ℕ). (r : Successor) → slice_get next j ≡ Some r → IsIn {X = Reached} (after sites t k r) (reached sites v)) at
-      (λ j l r q. in_grows (after sites t k r) (reached sites u) (reached sites v) (reached_grow u v more known) (before j r l q))
+      → slice_get next at ≡ Some s → ((i : ℕ) (s : Successor) → i < at → slice_get next i ≡ Some s → IsIn {X = Reached} (after keep sites t k s) (reached sites u)) → IsIn {X = Reached} (after keep sites u k s) (reached sites v)
+      → (i : ℕ) (s : Successor) → i < at + 1 → slice_get next i ≡ Some s → IsIn {X = Reached} (after keep sites t k s) (reached sites v)
+  followed_next t u v k next at s keeps more known is within h before here = λ i r lt g. below_more (λ (j : ℕ). (r : Successor) → slice_get next j ≡ Some r → IsIn {X = Reached} (after keep sites t k r) (reached sites v)) at
+      (λ j l r q. in_grows (after keep sites t k r) (reached sites u) (reached sites v) (reached_grow u v more known) (before j r l q))
       (λ r q. let same : s ≡ r = some_same s r (sym h ∙ q) in
-      subst (λ (x : Successor). IsIn {X = Reached} (after sites t k x) (reached sites v)) same
+      subst (λ (x : Successor). IsIn {X = Reached} (after keep sites t k x) (reached sites v)) same
       (subst (λ (x : Reached). IsIn {X = Reached} x (reached sites v)) (after_kept t u k s keeps is (within at s h)) here))
       i lt r g
     where
@@ -143,11 +144,11 @@ module _ {A B : Type 0} (R : A → B → Type 0) where
   zip_each P all (a ∷ xs) (b ∷ ys) z (suc i) x h = zip_each P all xs ys z.1 i x h
 
 -- a state after which all successors were followed
-module _ (defs : List SmallDefinition) (sites : List Site) (t : Tables) (terms : List Node) (k : Key) (next : List Successor)
+module _ (defs : List SmallDefinition) (keep : Kept) (sites : List Site) (t : Tables) (terms : List Node) (k : Key) (next : List Successor)
     (all : AllZip (IsSuccessor (smalls terms)) next (moves defs (next_call (coming_at sites t k.made)) 0 (small_at (smalls t.terms) k.term))) where
-  happens_in : (rs : List Reached) → ((i : ℕ) (s : Successor) → slice_get next i ≡ Some s → IsIn {X = Reached} (after sites (record t { terms = terms }) k s) rs)
+  happens_in : (rs : List Reached) → ((i : ℕ) (s : Successor) → slice_get next i ≡ Some s → IsIn {X = Reached} (after keep sites (record t { terms = terms }) k s) rs)
       → (h : Happening) (s : State) → Moves defs (next_call (coming_at sites t k.made)) 0 (small_at (smalls t.terms) k.term) h s.term → s.coming ≡ coming_after h (coming_at sites t k.made)
-      → IsIn {X = Reached} (s, published_after (values_at t k.values) (happens h)) rs
+      → IsIn {X = Reached} (s, seen_after keep (seen_at t k.seen) (happens h)) rs
   happens_in rs followed h s move coming =
       let ask = next_call (coming_at sites t k.made) in
       let f = small_at (smalls t.terms) k.term in
@@ -155,28 +156,28 @@ module _ (defs : List SmallDefinition) (sites : List Site) (t : Tables) (terms :
       let to : small_at (smalls terms) m.1.to ≡ s.term = get_or_is (smalls terms) m.1.to s.term nothing m.3.1 in
       let what : happening_of m.1.happening ≡ h = m.3.0 in
       let later : coming_after (happening_of m.1.happening) (coming_at sites t k.made) ≡ s.coming = ap (λ (x : Happening). coming_after x (coming_at sites t k.made)) what ∙ sym coming in
-      subst (λ (r : Reached). IsIn {X = Reached} r rs) (λ i. (record { term = to i; coming = later i }, published_after (values_at t k.values) (happens (what i)))) (followed m.0 m.1 m.2)
+      subst (λ (r : Reached). IsIn {X = Reached} r rs) (λ i. (record { term = to i; coming = later i }, seen_after keep (seen_at t k.seen) (happens (what i)))) (followed m.0 m.1 m.2)
 
   moving : (next ≡ [] → ⊥) → moves defs (next_call (coming_at sites t k.made)) 0 (small_at (smalls t.terms) k.term) ≡ [] → ⊥
   moving some e = some (zip_none (IsSuccessor (smalls terms)) next (moves defs (next_call (coming_at sites t k.made)) 0 (small_at (smalls t.terms) k.term)) all e)
 
-  moving_followed : (u v : Tables) → (next ≡ [] → ⊥) → AreKnown u → Keeps u v → ((i : ℕ) (s : Successor) → slice_get next i ≡ Some s → IsIn {X = Reached} (after sites (record t { terms = terms }) k s) (reached sites u))
-      → (x : Sight) (s : State) → Goes defs (reached_at sites t k).0 x s → IsIn {X = Reached} (s, published_after (values_at t k.values) x) (reached sites v)
-  moving_followed u v some known more followed (happens h) s g = in_grows (s, published_after (values_at t k.values) (happens h)) (reached sites u) (reached sites v) (reached_grow sites u v more known) (happens_in (reached sites u) followed h s g.0 g.1)
+  moving_followed : (u v : Tables) → (next ≡ [] → ⊥) → AreKnown u → Keeps u v → ((i : ℕ) (s : Successor) → slice_get next i ≡ Some s → IsIn {X = Reached} (after keep sites (record t { terms = terms }) k s) (reached sites u))
+      → (x : Sight) (s : State) → Goes defs (reached_at sites t k).0 x s → IsIn {X = Reached} (s, seen_after keep (seen_at t k.seen) x) (reached sites v)
+  moving_followed u v some known more followed (happens h) s g = in_grows (s, seen_after keep (seen_at t k.seen) (happens h)) (reached sites u) (reached sites v) (reached_grow keep sites u v more known) (happens_in (reached sites u) followed h s g.0 g.1)
   moving_followed u v some known more followed (waits by) s g =
       absurd (moving_waits defs (next_call (coming_at sites t k.made)) 0 (small_at (smalls t.terms) k.term) by (moving some) ((passes_by_wait defs (small_at (smalls t.terms) k.term) s.term by g.0).0))
 
   pub moving_done : (u v : Tables) → (next ≡ [] → ⊥) → Keeps t u → AreKnown u → IsKnown t k → Keeps u v
-      → ((i : ℕ) (s : Successor) → slice_get next i ≡ Some s → IsIn {X = Reached} (after sites (record t { terms = terms }) k s) (reached sites u))
-      → ((e : Ending) → ending_if false (small_at (smalls u.terms) k.term) ≡ Some e → IsIn {X = Outcome} (end_of e, values_at u k.values) (outcomes v))
-      → IsDone defs (reached sites v) v.longest (outcomes v) (reached_at sites t k)
+      → ((i : ℕ) (s : Successor) → slice_get next i ≡ Some s → IsIn {X = Reached} (after keep sites (record t { terms = terms }) k s) (reached sites u))
+      → ((e : Ending) → ending_if false (small_at (smalls u.terms) k.term) ≡ Some e → IsIn {X = EndSeen} (end_of e, seen_at u k.seen) (outcomes v))
+      → IsDone defs keep (reached sites v) v.longest (outcomes v) (reached_at sites t k)
   moving_done u v some keeps known is more followed told =
       let ask = next_call (coming_at sites t k.made) in
       let f = small_at (smalls t.terms) k.term in
       record {
         followed = moving_followed u v some known more followed;
         waits = λ by h. absurd (moving_waits defs ask 0 f by (moving some) h);
-        told = λ e h. subst (λ (vs : List Value). IsIn {X = Outcome} (end_of e, vs) (outcomes v)) (values_kept t u k.values keeps is.2)
+        told = λ e h. subst (λ (vs : List Occurrence). IsIn {X = EndSeen} (end_of e, vs) (outcomes v)) (seen_kept t u k.seen keeps is.2)
             (told e (ap (ending_if false) (term_kept t u k.term keeps is.0) ∙ moving_ends defs ask 0 f e (moving some) h));
       }
 
@@ -193,23 +194,23 @@ module _ (defs : List SmallDefinition) (sites : List Site) (t : Tables) (terms :
         ap (λ (g : Small). some_time (least_left g)) (term_kept t u k.term keeps is.0)
         ∙ sym (still_waits defs (next_call (coming_at sites t k.made)) 0 (small_at (smalls t.terms) k.term) (still none)) ∙ h
 
-    still_followed : (v : Tables) → AreKnown w → Keeps w v → (x : Sight) (s : State) → Goes defs (reached_at sites t k).0 x s → IsIn {X = Reached} (s, published_after (values_at t k.values) x) (reached sites v)
+    still_followed : (v : Tables) → AreKnown w → Keeps w v → (x : Sight) (s : State) → Goes defs (reached_at sites t k).0 x s → IsIn {X = Reached} (s, seen_after keep (seen_at t k.seen) x) (reached sites v)
     still_followed v known more (happens h) s g = happens_in (reached sites v) (λ i r q. absurd (no_item none i r q)) h s g.0 g.1
     still_followed v known more (waits by) s g =
         let f = small_at (smalls t.terms) k.term in
         let p = passes_by_wait defs f s.term by g.0 in
         let there = (waiting sites by (time_there by p.0)).1 in
         let term : pass by (small_at (smalls u.terms) k.term) ≡ s.term = ap (pass by) (term_kept t u k.term keeps is.0) ∙ sym p.1 in
-        let coming : coming_at sites u k.made ≡ s.coming = coming_kept sites t u k.made keeps is.1 ∙ sym g.1 in
-        in_grows (s, values_at t k.values) (reached sites w) (reached sites v) (reached_grow sites w v more known)
-        (subst (λ (r : Reached). IsIn {X = Reached} r (reached sites w)) (λ i. (record { term = term i; coming = coming i }, values_kept t u k.values keeps is.2 i)) there)
+        let coming : coming_at sites u k.made ≡ s.coming = coming_kept keep sites t u k.made keeps is.1 ∙ sym g.1 in
+        in_grows (s, seen_at t k.seen) (reached sites w) (reached sites v) (reached_grow keep sites w v more known)
+        (subst (λ (r : Reached). IsIn {X = Reached} r (reached sites w)) (λ i. (record { term = term i; coming = coming i }, seen_kept t u k.seen keeps is.2 i)) there)
 
-    pub still_done : (v : Tables) → Keeps t w → AreKnown w → Keeps w v → ((e : Ending) → ending_if true (small_at (smalls w.terms) k.term) ≡ Some e → IsIn {X = Outcome} (end_of e, values_at w k.values) (outcomes v))
-        → IsDone defs (reached sites v) v.longest (outcomes v) (reached_at sites t k)
+    pub still_done : (v : Tables) → Keeps t w → AreKnown w → Keeps w v → ((e : Ending) → ending_if true (small_at (smalls w.terms) k.term) ≡ Some e → IsIn {X = EndSeen} (end_of e, seen_at w k.seen) (outcomes v))
+        → IsDone defs keep (reached sites v) v.longest (outcomes v) (reached_at sites t k)
     still_done v keeps' known more told = record {
       followed = still_followed v known more;
       waits = λ by h. let le = (waiting sites by (time_there by h)).0 in let further = more.longest in omega (arith, le, further);
-      told = λ e h. subst (λ (vs : List Value). IsIn {X = Outcome} (end_of e, vs) (outcomes v)) (values_kept t w k.values keeps' is.2)
+      told = λ e h. subst (λ (vs : List Occurrence). IsIn {X = EndSeen} (end_of e, vs) (outcomes v)) (seen_kept t w k.seen keeps' is.2)
           (told e (ap (ending_if true) (term_kept t w k.term keeps' is.0) ∙ sym (still_ends defs (next_call (coming_at sites t k.made)) 0 (small_at (smalls t.terms) k.term) (still none)) ∙ h));
     }
 
@@ -234,5 +235,5 @@ time_some f s by by' is left h = go by (ap some_time (sym left ∙ ap Summary.le
   go zero e = cc e
   go (suc n) e = cc e
 
-pub told_in : (t : Tables) (ends : List Told) (end : End) (values : ℕ) (how : End) → IsIn (record { end = end; values = values }) ends → end ≡ how → IsIn {X = Outcome} (how, values_at t values) (outcomes (record t { ends = ends }))
-told_in t ends end values how there same = subst (λ (h : End). IsIn {X = Outcome} (h, values_at t values) (outcomes (record t { ends = ends }))) same (in_map (outcome_at (record t { ends = ends })) (record { end = end; values = values }) ends there)
+pub told_in : (t : Tables) (ends : List Told) (end : End) (seen : ℕ) (how : End) → IsIn (record { end = end; seen = seen }) ends → end ≡ how → IsIn {X = EndSeen} (how, seen_at t seen) (outcomes (record t { ends = ends }))
+told_in t ends end seen how there same = subst (λ (h : End). IsIn {X = EndSeen} (h, seen_at t seen) (outcomes (record t { ends = ends }))) same (in_map (outcome_at (record t { ends = ends })) (record { end = end; seen = seen }) ends there)

@@ -1,3 +1,4 @@
+pub mod Journals
 pub mod Found
 pub mod Ends
 pub mod Growing
@@ -9,3 +10,7 @@ pub mod Starting
 pub mod Whole
 pub mod Adding
 pub mod Exact
+pub mod Failing
+pub mod Claims
+pub mod Watching
+pub mod WatchingNames

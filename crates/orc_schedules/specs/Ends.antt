@@ -1,17 +1,20 @@
 -- Ends that are told are those of runs.
-use Rattle.std.specs.Prelude.{◌≡◌, ◌<◌, ℕ, ◌*◌, ◌^◌, ◌⊎◌, List, [], length, Some, slice_get}
-use Rattle.orc_rules.specs.declared.value.Value.{Value}
+use Rattle.std.specs.Prelude.{◌≡◌, ◌<◌, ◌≤◌, ℕ, ◌*◌, ◌^◌, ◌⊎◌, List, [], length, Some, slice_get}
 use Rattle.orc_rules.specs.Nodes.{Listing}
 use Rattle.orc_rules.specs.Sites.{Table}
 use Rattle.orc_rules.specs.Timed.{IsIn}
 use Rattle.orc_rules.specs.Trace.{published}
+use Rattle.orc_claims.specs.declared.claim.Simple.{Simple}
+use Rattle.orc_claims.specs.declared.happening.Occurrence.{Occurrence}
+use Rattle.orc_tally.specs.declared.sight.ClaimSite.{ClaimSite}
 use Rattle.orc_outcome.specs.Outcome.{Outcome, IsRun}
 use Rattle.orc_search.specs.Moves.{SmallDefinition}
 use Rattle.orc_search.specs.Graphs.{Ending}
 use Rattle.orc_search.specs.Graphs as graph
 use Rattle.orc_search.specs.Programs.{small_definitions}
-use Rattle.orc_search.specs.States.{State, Sight, Goes}
-use Rattle.orc_schedules.specs.Reached.{Reached, published_after, first, WaitsWithin, end_of}
+use Rattle.orc_search.specs.States.{State, Sight, happens, waits, Goes}
+use Rattle.orc_schedules.specs.Reached.{Reached, EndSeen, first, end_of}
+use Rattle.orc_schedules.specs.Seen.{Kept, kept, seen_after, seen_of}
 use Rattle.orc_schedules.specs.declared.ended.Ended.{Ended}
 
 -- a run of the program with these sites ended so, within a limit that is high enough
@@ -26,30 +29,44 @@ pub record IsEndOfRun (l : Listing) (t : Table) (e : Ended) : Type 0 where
 abbrev pub AreOfRuns : Listing → Table → List Ended → Type 0
 AreOfRuns l t es = (e : Ended) → IsIn e es → IsEndOfRun l t e
 
--- a state before this place in the list goes to s, and with what is published on the way it makes vs
-pub record ComesFrom (defs : List SmallDefinition) (rs : List Reached) (place : ℕ) (s : State) (vs : List Value) : Type 0 where
+-- a run ended so, and of it this is named
+pub record IsSeenOfRun (l : Listing) (t : Table) (names : List Simple) (sites : List ClaimSite) (o : EndSeen) : Type 0 where
+  pub limit : ℕ
+  pub outcome : Outcome
+  pub run : IsRun l t limit outcome
+  pub end : outcome.end ≡ o.0
+  pub shows : seen_of names sites outcome.journal ≡ o.1
+
+-- how long it takes
+abbrev pub time_of : Sight → ℕ
+time_of (happens h) = 0
+time_of (waits by) = by
+
+-- a state before this place in the list goes to s, in no more time than this, and with what is seen on the way it makes ws
+pub record ComesFrom (defs : List SmallDefinition) (keep : Kept) (longest : ℕ) (rs : List Reached) (place : ℕ) (s : State) (ws : List Occurrence) : Type 0 where
   pub at : ℕ
   pub before : at < place
   pub from : Reached
   pub there : slice_get rs at ≡ Some from
   pub sight : Sight
   pub goes : Goes defs from.0 sight s
-  pub shows : published_after from.1 sight ≡ vs
+  pub shows : seen_after keep from.1 sight ≡ ws
+  pub short : time_of sight ≤ longest
 
 -- each of the states is the first one, or comes from one before it in the list
-abbrev pub AreFoundFrom : List SmallDefinition → State → List Reached → Type 0
-AreFoundFrom defs begin rs = (i : ℕ) (s : State) (vs : List Value) → slice_get rs i ≡ Some (s, vs) → ((s ≡ begin) × (vs ≡ [])) ⊎ ComesFrom defs rs i s vs
+abbrev pub AreFoundFrom : List SmallDefinition → Kept → ℕ → State → List Reached → Type 0
+AreFoundFrom defs keep longest begin rs = (i : ℕ) (s : State) (ws : List Occurrence) → slice_get rs i ≡ Some (s, ws) → ((s ≡ begin) × (ws ≡ [])) ⊎ ComesFrom defs keep longest rs i s ws
 
 -- one of the states says this end
-pub record IsTold (defs : List SmallDefinition) (rs : List Reached) (e : Ended) : Type 0 where
+pub record IsSaid (defs : List SmallDefinition) (rs : List Reached) (o : EndSeen) : Type 0 where
   pub state : State
   pub ending : Ending
-  pub is : IsIn {X = Reached} (state, e.values.items) rs
+  pub is : IsIn {X = Reached} (state, o.1) rs
   pub says : graph.ending defs state.term ≡ Some ending
-  pub end : e.end ≡ end_of ending
+  pub end : o.0 ≡ end_of ending
 
--- states that are found one from another, where no wait is so long that the way to one of them comes to the last time, say only ends of runs
+-- states that are found one from another, where the way to none of them comes to the last time, say only ends of runs
 abbrev pub FoundAreOfRuns : Type 0
-FoundAreOfRuns = (l : Listing) (t : Table) (longest : ℕ) (rs : List Reached) (es : List Ended)
-    → AreFoundFrom (small_definitions l) (first l t) rs → WaitsWithin (small_definitions l) longest rs → length rs * longest < 2 ^ 64 → ((e : Ended) → IsIn e es → IsTold (small_definitions l) rs e)
-    → AreOfRuns l t es
+FoundAreOfRuns = (l : Listing) (t : Table) (names : List Simple) (sites : List ClaimSite) (longest : ℕ) (rs : List Reached) (o : EndSeen)
+    → AreFoundFrom (small_definitions l) (kept names sites) longest (first l t) rs → length rs * longest < 2 ^ 64 → IsSaid (small_definitions l) rs o
+    → IsSeenOfRun l t names sites o

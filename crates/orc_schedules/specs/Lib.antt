@@ -1,9 +1,13 @@
+pub mod Watch
+pub mod Seen
 pub mod Reached
 pub mod Found
 pub mod Ends
 pub mod Searched
+pub mod Claimed
 pub mod Growing
 pub mod Lists
 pub mod Counts
 pub mod Tables
 pub mod Adding
+pub mod Explored

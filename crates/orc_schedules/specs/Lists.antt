@@ -1,23 +1,44 @@
--- Lists of published values by their numbers.
-use Rattle.std.specs.Prelude.{◌≡◌, ◌≤◌, ℕ, List, [], ◌∷◌, ◌++◌, Some, slice_get, slice_index_or}
-use Rattle.orc_rules.specs.declared.value.Value.{Value}
+-- Lists of what was seen by their numbers.
+use Rattle.std.specs.Prelude.{◌≡◌, ◌<◌, ◌≤◌, ℕ, List, [], ◌∷◌, ◌++◌, length, Some, slice_get, slice_index_or}
+use Rattle.orc_rules.specs.declared.value.Value.TheVariants.{Signal}
+use Rattle.orc_claims.specs.declared.happening.Occurrence.{Occurrence}
+use Rattle.orc_claims.specs.declared.happening.Occurrence.TheVariants as occurrence
 use Rattle.orc_schedules.specs.declared.lists.Longer.{Longer}
+use Rattle.orc_schedules.specs.declared.lists.What.{What}
+use Rattle.orc_schedules.specs.declared.lists.What.TheVariants.{Published, Call}
+
+-- what became of calls by numbers, and of what each list is made but the empty one
+pub record Linked : Type 0 where
+  pub calls : List Occurrence
+  pub longer : List Longer
 
 -- the list of a number, and the empty one where there is none
-abbrev pub list_at : List (List Value) → ℕ → List Value
+abbrev pub list_at : List (List Occurrence) → ℕ → List Occurrence
 list_at ls i = slice_index_or ls i []
 
--- a list with one value more
-abbrev pub list_of : List (List Value) → Longer → List Value
-list_of ls x = list_at ls x.before ++ x.value ∷ []
+abbrev pub what_of : List Occurrence → What → Occurrence
+what_of calls (Published v) = occurrence.Published v
+what_of calls (Call n) = slice_index_or calls n (occurrence.Published Signal)
 
-abbrev pub lists_from : List (List Value) → List Longer → List (List Value)
-lists_from ls [] = ls
-lists_from ls (x ∷ xs) = lists_from (ls ++ list_of ls x ∷ []) xs
+-- a list with one thing more
+abbrev pub list_of : List Occurrence → List (List Occurrence) → Longer → List Occurrence
+list_of calls ls x = list_at ls x.before ++ what_of calls x.what ∷ []
+
+abbrev pub lists_from : List Occurrence → List (List Occurrence) → List Longer → List (List Occurrence)
+lists_from calls ls [] = ls
+lists_from calls ls (x ∷ xs) = lists_from calls (ls ++ list_of calls ls x ∷ []) xs
 
 -- the lists in the order of their numbers: the empty one, and each other behind the one that it is longer than
-abbrev pub lists : List Longer → List (List Value)
-lists xs = lists_from ([] ∷ []) xs
+abbrev pub lists : Linked → List (List Occurrence)
+lists l = lists_from l.calls ([] ∷ []) l.longer
 
 abbrev pub AreBehind : List Longer → Type 0
 AreBehind xs = (i : ℕ) (x : Longer) → slice_get xs i ≡ Some x → x.before ≤ i
+
+-- a call's number is that of one
+abbrev pub IsMade : ℕ → What → Type 0
+IsMade n (Published v) = Unit {0}
+IsMade n (Call k) = k < n
+
+abbrev pub AreMade : List Occurrence → List Longer → Type 0
+AreMade calls xs = (i : ℕ) (x : Longer) → slice_get xs i ≡ Some x → IsMade (length calls) x.what

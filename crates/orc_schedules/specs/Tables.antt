@@ -1,9 +1,8 @@
 -- What stands in the tables of a search.
 use Rattle.std.specs.Prelude.{◌≡◌, ◌<◌, ◌≤◌, ℕ, List, map, length, Bool, not, cond, Option, Some, slice_get}
-use Rattle.orc_rules.specs.declared.value.Value.{Value}
 use Rattle.orc_rules.specs.Sites.{Site}
 use Rattle.orc_rules.specs.Timed.{IsIn}
-use Rattle.orc_outcome.specs.declared.end.End.{End}
+use Rattle.orc_claims.specs.declared.happening.Occurrence.{Occurrence}
 use Rattle.orc_search.specs.declared.successor.Successor.{Successor}
 use Rattle.orc_search.specs.Asked.{coming_of_made}
 use Rattle.orc_search.specs.Graphs.{Ending, halted, quiet_if, ending}
@@ -20,38 +19,36 @@ use Rattle.orc_schedules.specs.declared.tables.Tables.{Tables}
 use Rattle.orc_schedules.specs.Counts.{made_at}
 use Rattle.orc_schedules.specs.Growing.{Grows}
 use Rattle.orc_schedules.specs.Lists.{list_at, lists}
-use Rattle.orc_schedules.specs.Reached.{Reached, published_after, end_of}
+use Rattle.orc_schedules.specs.Reached.{Reached, EndSeen, end_of}
+use Rattle.orc_schedules.specs.Seen.{Kept, seen_after}
 
--- its numbers are those of a term, of a list of calls and of a list of values
+-- its numbers are those of a term, of a list of calls and of a list of what was seen
 abbrev pub IsKnown : Tables → Key → Type 0
-IsKnown t k = (k.term < length (smalls t.terms)) × (k.made < length t.counts) × (k.values < length (lists t.lists))
+IsKnown t k = (k.term < length (smalls t.terms)) × (k.made < length t.counts) × (k.seen < length (lists t.lists))
 
 -- so are those of all states, and those of all ends
 abbrev pub AreKnown : Tables → Type 0
-AreKnown t = ((i : ℕ) (k : Key) → slice_get t.states i ≡ Some k → IsKnown t k) × ((i : ℕ) (e : Told) → slice_get t.ends i ≡ Some e → e.values < length (lists t.lists))
+AreKnown t = ((i : ℕ) (k : Key) → slice_get t.states i ≡ Some k → IsKnown t k) × ((i : ℕ) (e : Told) → slice_get t.ends i ≡ Some e → e.seen < length (lists t.lists))
 
--- what was published on the way
-abbrev pub values_at : Tables → ℕ → List Value
-values_at t i = list_at (lists t.lists) i
+-- what was seen on the way
+abbrev pub seen_at : Tables → ℕ → List Occurrence
+seen_at t i = list_at (lists t.lists) i
 
 abbrev pub coming_at : List Site → Tables → ℕ → Coming
 coming_at sites t i = coming_of_made sites (made_at t.counts i)
 
 -- a state by its numbers
 abbrev pub reached_at : List Site → Tables → Key → Reached
-reached_at sites t k = (record { term = small_at (smalls t.terms) k.term; coming = coming_at sites t k.made }, values_at t k.values)
+reached_at sites t k = (record { term = small_at (smalls t.terms) k.term; coming = coming_at sites t k.made }, seen_at t k.seen)
 
 abbrev pub reached : List Site → Tables → List Reached
 reached sites t = map (reached_at sites t) t.states
 
--- an end: how a run ended, and what it published
-abbrev pub Outcome : Type 0
-Outcome = End × List Value
+-- an end: how a run ended, and what was seen of it
+abbrev pub outcome_at : Tables → Told → EndSeen
+outcome_at t e = (e.end, seen_at t e.seen)
 
-abbrev pub outcome_at : Tables → Told → Outcome
-outcome_at t e = (e.end, values_at t e.values)
-
-abbrev pub outcomes : Tables → List Outcome
+abbrev pub outcomes : Tables → List EndSeen
 outcomes t = map (outcome_at t) t.ends
 
 -- all that was there stays, with its number
@@ -64,22 +61,22 @@ pub record Keeps (t u : Tables) : Type 0 where
   pub longest : t.longest ≤ u.longest
 
 -- what a state becomes by a successor of its term
-abbrev pub after : List Site → Tables → Key → Successor → Reached
-after sites t k s = (record { term = small_at (smalls t.terms) s.to; coming = coming_after (happening_of s.happening) (coming_at sites t k.made) }, published_after (values_at t k.values) (happens (happening_of s.happening)))
+abbrev pub after : Kept → List Site → Tables → Key → Successor → Reached
+after keep sites t k s = (record { term = small_at (smalls t.terms) s.to; coming = coming_after (happening_of s.happening) (coming_at sites t k.made) }, seen_after keep (seen_at t k.seen) (happens (happening_of s.happening)))
 
 -- all that may come of a reached state is among those that are reached, its wait is no longer than the longest, and its end is told
-pub record IsDone (defs : List SmallDefinition) (rs : List Reached) (longest : ℕ) (os : List Outcome) (r : Reached) : Type 0 where
-  pub followed : (v : Sight) (s : State) → Goes defs r.0 v s → IsIn {X = Reached} (s, published_after r.1 v) rs
+pub record IsDone (defs : List SmallDefinition) (keep : Kept) (rs : List Reached) (longest : ℕ) (os : List EndSeen) (r : Reached) : Type 0 where
+  pub followed : (v : Sight) (s : State) → Goes defs r.0 v s → IsIn {X = Reached} (s, seen_after keep r.1 v) rs
   pub waits : (by : ℕ) → wait defs r.0.term ≡ Some by → by ≤ longest
-  pub told : (e : Ending) → ending defs r.0.term ≡ Some e → IsIn {X = Outcome} (end_of e, r.1) os
+  pub told : (e : Ending) → ending defs r.0.term ≡ Some e → IsIn {X = EndSeen} (end_of e, r.1) os
 
 -- so are the first states, so many
-abbrev pub AreDone : List SmallDefinition → List Site → Tables → ℕ → Type 0
-AreDone defs sites t n = (i : ℕ) (k : Key) → i < n → slice_get t.states i ≡ Some k → IsDone defs (reached sites t) t.longest (outcomes t) (reached_at sites t k)
+abbrev pub AreDone : List SmallDefinition → Kept → List Site → Tables → ℕ → Type 0
+AreDone defs keep sites t n = (i : ℕ) (k : Key) → i < n → slice_get t.states i ≡ Some k → IsDone defs keep (reached sites t) t.longest (outcomes t) (reached_at sites t k)
 
 -- what a state becomes once so much time has passed
 abbrev pub waited : List Site → Tables → Key → ℕ → Reached
-waited sites t k by = (record { term = pass by (small_at (smalls t.terms) k.term); coming = coming_at sites t k.made }, values_at t k.values)
+waited sites t k by = (record { term = pass by (small_at (smalls t.terms) k.term); coming = coming_at sites t k.made }, seen_at t k.seen)
 
 -- how a run can end at a term, where it is known whether nothing can move there
 abbrev pub ending_if : Bool → Small → Option Ending

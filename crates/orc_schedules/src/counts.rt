@@ -168,7 +168,7 @@ fn are_same_counts(one: &[Made], other: &[Made]) -> bool
 }
 
 // The arguments of a call, in place; None where there are more than a call can have.
-fn in_place(args: &[Value]) -> Option<Args>
+pub(crate) fn in_place(args: &[Value]) -> Option<Args>
     ensures { IfSome result (λ a. a ≡ args.now) }
 {
     let mut placed = Args::new();

@@ -5,20 +5,28 @@ ghost use Rattle.orc_rules.specs.Nodes.{source};
 ghost use Rattle.orc_search.specs.Nodes.{smalls, Extends};
 ghost use Rattle.orc_search.specs.Programs.{small};
 ghost use Rattle.orc_search.specs.Sources.{AreNumbered};
+ghost use Rattle.orc_schedules.specs.Claimed.{IsClaimSearched};
+ghost use Rattle.orc_schedules.specs.Explored.{IsExplored, IfFails, IfHolds};
 ghost use Rattle.orc_schedules.specs.Searched.{IsSearched};
+ghost use Rattle.orc_schedules.specs.Seen.{kept_by};
 
+use crate::claimed::ClaimSearched;
 use crate::counts::Counts;
 use crate::ended::Ended;
 use crate::lists::Lists;
+use crate::sieve::Sieve;
 use crate::states::{Key, States};
 use crate::tables::Tables;
 use crate::told::Ends;
+use crate::watch::Watch;
+use orc_claims::claim::Claim;
 use orc_rules::answers::Answers;
 use orc_rules::program::Program;
 use orc_search::moves::Source;
 use orc_search::node::{Node, Tip};
 use orc_search::source::numbered;
 use orc_search::terms::Terms;
+use orc_tally::ClaimSite;
 use std::alloc::{AllocError, Global};
 
 /// What a search through all schedules came to.
@@ -38,6 +46,18 @@ fn number_at(numbers: &[usize], at: usize) -> Option<usize>
     match numbers.get(at) {
         Some(number) => Some(*number),
         None => None,
+    }
+}
+
+// What a search explored, and whether these were all states that there are.
+pub(crate) struct Explored {
+    pub(crate) tables: Tables,
+    pub(crate) all: bool,
+}
+
+impl Drop for Explored {
+    fn drop(self) {
+        let Explored { tables: _, all: _ } = self;
     }
 }
 
@@ -74,18 +94,16 @@ fn is_in_time(longest: u64, steps: u64) -> bool
     }
 }
 
-/// Searches all schedules of a program whose calls these sites answer, through `most` states at most. The answer is every outcome that a run of at
-/// most `limit` entries, cancels not counted, ends with by itself, be it halted or quiet, and none with which no run ends, of however many entries;
-/// or that there are more states, as where a loop goes on publishing; or that waits may add up to a time past 2^64, in such a run or on the way to
-/// a state. The error is refused memory.
-pub fn search(
+// All that a search of a program looks at, through `most` states at most, and whether these were all. The error is refused memory, or one of the
+// sieve's.
+fn explore(
     alloc: Global,
     program: &Program,
     answers: &Answers,
+    sieve: &Sieve,
     most: usize,
-    limit: u64,
-) -> Result<Schedules, AllocError>
-    ensures all { IfOk result (λ s. IsSearched program.now answers.now limit s) }
+) -> Result<Explored, AllocError>
+    ensures { IfOk result (λ e. IsExplored program.now answers.now (kept_by sieve.now) e) }
 {
     let mut terms = Terms::new(alloc);
     let numbers = numbered(&mut terms, alloc, program)?;
@@ -106,12 +124,30 @@ pub fn search(
     tables.states.add(Key {
         term,
         made: 0,
-        values: 0,
+        seen: 0,
     })?;
-    let all = tables.look_at_all(alloc, &source, most)?;
-    if !all {
+    let all = tables.look_at_all(alloc, &source, sieve, most)?;
+    Ok(Explored { tables, all })
+}
+
+/// Searches all schedules of a program whose calls these sites answer, through `most` states at most. The answer is every outcome that a run of at
+/// most `limit` entries, cancels not counted, ends with by itself, be it halted or quiet, and none with which no run ends, of however many entries;
+/// or that there are more states, as where a loop goes on publishing; or that waits may add up to a time past 2^64, in such a run or on the way to
+/// a state. The error is refused memory.
+pub fn search(
+    alloc: Global,
+    program: &Program,
+    answers: &Answers,
+    most: usize,
+    limit: u64,
+) -> Result<Schedules, AllocError>
+    ensures all { IfOk result (λ s. IsSearched program.now answers.now limit s) }
+{
+    let explored = explore(alloc, program, answers, &Sieve::Publications, most)?;
+    if !explored.all {
         return Ok(Schedules::TooMany);
     }
+    let tables = &explored.tables;
     let states = tables.states.len();
     let steps = limit.max(states as u64);
     if !is_in_time(tables.longest, steps) {
@@ -119,4 +155,56 @@ pub fn search(
     }
     let ended = tables.ended(alloc)?;
     Ok(Schedules::All(ended, states))
+}
+
+// What a search for a claim came to, once it has explored.
+fn claimed(
+    alloc: Global,
+    explored: &Explored,
+    claim: &Claim,
+    limit: u64,
+) -> Result<ClaimSearched, AllocError>
+    ensures fails { IfOk result (λ s. IfFails explored.now.tables claim.now s) }
+    ensures holds { IfOk result (λ s. IfHolds explored.now claim.now limit s) }
+{
+    let tables = &explored.tables;
+    let states = tables.states.len();
+    if !is_in_time(tables.longest, states as u64) {
+        return Ok(ClaimSearched::TooLong);
+    }
+    if let Some(seen) = tables.first_failing(alloc, claim)? {
+        return Ok(ClaimSearched::Fails(seen));
+    }
+    if !explored.all {
+        return Ok(ClaimSearched::TooMany);
+    }
+    if !is_in_time(tables.longest, limit) {
+        return Ok(ClaimSearched::TooLong);
+    }
+    Ok(ClaimSearched::Holds(states))
+}
+
+/// Searches all schedules of a program whose calls these sites answer for a run in which a claim fails, through `most` states at most. The answer is
+/// that the claim holds in every run of at most `limit` entries, cancels not counted, that ends by itself; or how one run ends in which it fails, of
+/// however many entries, with what of it the claim names; or that there are more states and it fails at none of the ends that were found; or that waits
+/// may add up to a time past 2^64; or that a search can't watch for such a claim. The error is refused memory, also where there are 2^32 sites.
+pub fn search_claim(
+    alloc: Global,
+    program: &Program,
+    answers: &Answers,
+    sites: &[ClaimSite],
+    claim: &Claim,
+    most: usize,
+    limit: u64,
+) -> Result<ClaimSearched, AllocError>
+    ensures { IfOk result (λ s. IsClaimSearched program.now answers.now sites.now claim.now limit s) }
+{
+    let watched = Watch::of_claim(alloc, claim)?;
+    let Some(watch) = watched else {
+        return Ok(ClaimSearched::NotWatched);
+    };
+    let sieve = Sieve::Named(&watch, sites);
+    let explored = explore(alloc, program, answers, &sieve, most)?;
+    let searched = claimed(alloc, &explored, claim, limit)?;
+    Ok(searched)
 }

@@ -2,8 +2,9 @@
 
 ghost use Rattle.orc_schedules.specs.Ends.{FoundAreOfRuns};
 ghost use Rattle.orc_schedules.specs.Found.{AllAreFound};
+ghost use Rattle.orc_schedules.specs.Watch.{HoldsByWatched};
 
-/// Of states that are closed under all that may happen, with what was published on the way to them, the ends are those of all runs.
+/// Of states that are closed under all that may happen, with what was seen on the way to them, the ends are those of all runs.
 pub fn all_are_found()
     ensures { AllAreFound }
 {}
@@ -11,4 +12,9 @@ pub fn all_are_found()
 /// States that are found one from another say only ends of runs: each end that is told is one to which a run of the program comes.
 pub fn found_are_of_runs()
     ensures { FoundAreOfRuns }
+{}
+
+/// Whether a claim that a search can watch for holds in a run depends only on what its events name, in its order.
+pub fn holds_by_watched()
+    ensures { HoldsByWatched }
 {}

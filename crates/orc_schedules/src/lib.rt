@@ -1,20 +1,29 @@
-//! A search through all schedules of a program: every outcome that its runs can end with.
+//! A search through all schedules of a program: every outcome that its runs can end with, and whether a claim fails in one of them.
 //!
-//! A state is three numbers: of its term, of the list of the calls that were made, and of the list of what was published. `lists` and `counts` give a
-//! list its number, `states` has the states in the order in which they were found, and `told` the ends. `tables` looks at each state once.
+//! A state is three numbers: of its term, of the list of the calls that were made, and of the list of what was seen, as far as `sieve` keeps it. `lists`,
+//! `calls` and `counts` give a list its number, `states` has the states in the order in which they were found, and `told` the ends. `tables` looks at each
+//! state once. `watch` says what a claim depends on, and `judging` holds it against an end.
 #![tactic(auto)]
 
+mod calls;
+mod claimed;
 mod counts;
 mod ended;
 mod exploration;
+mod judging;
 mod laws;
 mod lists;
+mod sieve;
 mod states;
 mod tables;
 #[cfg(test)]
 mod tests;
 mod told;
+mod watch;
 
+pub use claimed::{ClaimSearched, Seen};
 pub use ended::Ended;
-pub use exploration::{Schedules, search};
-pub use laws::{all_are_found, found_are_of_runs};
+pub use exploration::{Schedules, search, search_claim};
+pub use judging::fails_by;
+pub use laws::{all_are_found, found_are_of_runs, holds_by_watched};
+pub use watch::Watch;

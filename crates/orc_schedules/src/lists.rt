@@ -1,29 +1,43 @@
-//! Lists of published values by their numbers.
+//! Lists of what was seen by their numbers.
 
 ghost use Rattle.std.specs.Prelude.{◌≡◌, ◌<◌, ◌++◌, ◌∷◌, [], length, true, Some, slice_get, IfSome, IfNone, IfOk, OnOk, OnErr};
+ghost use Rattle.orc_rules.specs.declared.value.Value.{Value as Datum};
+ghost use Rattle.orc_claims.specs.declared.happening.Occurrence.{Occurrence as Event};
 ghost use Rattle.orc_search.specs.Moving.{happening_of};
 ghost use Rattle.orc_search.specs.States.{happens};
 ghost use Rattle.orc_schedules.specs.Growing.{Grows};
-ghost use Rattle.orc_schedules.specs.Lists.{list_at, lists, list_of};
-ghost use Rattle.orc_schedules.specs.Reached.{published_after};
+ghost use Rattle.orc_schedules.specs.Lists.{list_at, lists, list_of, what_of, IsMade};
+ghost use Rattle.orc_schedules.specs.Seen.{becomes, kept_by, names_of, phase_of, seen_after, sites_of, values_of};
+ghost use Rattle.orc_schedules.specs.Watch.{named};
 
-use orc_rules::value::Value;
+use crate::calls::Calls;
+use crate::sieve::Sieve;
+use orc_claims::happening::{Occurrence, Phase};
+use orc_rules::value::{Answer, Value};
 use orc_search::node::{mix, mix_value};
 use orc_search::successor::Happening;
 use std::alloc::{AllocError, Global};
 use std::collections::HashMap;
 use std::marker::Model;
 
-/// A list: that of a number, and one value more behind it.
+/// What was seen: a publication, or something of a call, by its number.
+#[derive(Clone, Copy, PartialEq, Eq)]
+pub enum What {
+    Published(Value),
+    Call(usize),
+}
+
+/// A list: that of a number, and one thing more behind it.
 #[derive(Clone, Copy, PartialEq, Eq)]
 pub struct Longer {
     pub before: usize,
-    pub value: Value,
+    pub what: What,
 }
 
-/// Lists of values by their numbers; the empty list has the number 0. A list that is asked for again has the same number again, unless one with an
-/// equal hash came between.
+/// Lists of what was seen by their numbers; the empty list has the number 0. A list that is asked for again has the same number again, unless one with
+/// an equal hash came between.
 pub struct Lists {
+    calls: Calls,
     longer: Vec<Longer>,
     // The number of the list last made with a hash. Nothing is promised of it: what is found there is compared.
     places: HashMap<u64, usize>,
@@ -32,6 +46,7 @@ pub struct Lists {
 impl Drop for Lists {
     fn drop(self) {
         let Lists {
+            calls: _,
             longer: _,
             places: _,
         } = self;
@@ -39,15 +54,13 @@ impl Drop for Lists {
 }
 
 impl Model for Lists {
-    ghost use Rattle.std.specs.Prelude.{List};
-    ghost use Rattle.orc_schedules.specs.declared.lists.Longer.{Longer};
-    ghost use Rattle.orc_schedules.specs.Lists.{AreBehind};
+    ghost use Rattle.orc_schedules.specs.Lists.{AreBehind, AreMade, Linked};
 
-    ghost Value = { List Longer };
+    ghost Value = { Linked };
 
-    ghost view = { λ l. l.longer.items };
+    ghost view = { λ l. record { calls = l.calls; longer = l.longer.items } };
 
-    ghost invariant = { λ l. AreBehind l.longer.items };
+    ghost invariant = { λ l. AreBehind l.longer.items × AreMade l.calls l.longer.items };
 }
 
 fn longer_at(longer: &[Longer], at: usize) -> Option<Longer>
@@ -59,12 +72,29 @@ fn longer_at(longer: &[Longer], at: usize) -> Option<Longer>
     }
 }
 
+fn hash_of(longer: Longer) -> u64 {
+    match longer.what {
+        What::Published(value) => mix_value(mix(1, longer.before as u64), value),
+        What::Call(number) => mix(mix(2, longer.before as u64), number as u64),
+    }
+}
+
+fn phase_of(answer: Answer) -> Phase
+    ensures { result ≡ phase_of answer }
+{
+    match answer {
+        Answer::Value(value) => Phase::Answered(value),
+        Answer::Halt => Phase::Halted,
+    }
+}
+
 impl Lists {
     /// The empty list alone.
     pub fn new(alloc: Global) -> Lists
-        ensures { result ≡ [] }
+        ensures { result ≡ record { calls = []; longer = [] } }
     {
         Lists {
+            calls: Calls::new(alloc),
             longer: Vec::new(alloc),
             places: HashMap::new(alloc),
         }
@@ -79,7 +109,7 @@ impl Lists {
 
     // What the list of that number is made of; None for the empty one, and where there is none.
     fn made_of(&self, at: usize) -> Option<Longer>
-        ensures some { IfSome result (λ x. (x.before < at) × (slice_get (lists self.now) at ≡ Some (list_of (lists self.now) x))) }
+        ensures some { IfSome result (λ x. (x.before < at) × (slice_get (lists self.now) at ≡ Some (list_of self.now.calls (lists self.now) x))) }
         ensures none { IfNone result (list_at (lists self.now) at ≡ []) }
     {
         if at == 0 {
@@ -88,14 +118,50 @@ impl Lists {
         longer_at(&self.longer, at - 1)
     }
 
-    /// The values of the list of that number; none where there is none. The error is refused memory.
-    pub fn values(&self, alloc: Global, at: usize) -> Result<Vec<Value>, AllocError>
+    fn occurrence(&self, what: What) -> Occurrence
+        ensures { result ≡ what_of self.now.calls what }
+    {
+        match what {
+            What::Published(value) => Occurrence::Published(value),
+            What::Call(number) => self.calls.copied_at(number),
+        }
+    }
+
+    /// The list of that number; the empty one where there is none. The error is refused memory.
+    pub fn occurrences(&self, alloc: Global, at: usize) -> Result<Vec<Occurrence>, AllocError>
         ensures { IfOk result (λ v. v.items ≡ list_at (lists self.now) at) }
+    {
+        let mut occurrences = Vec::new(alloc);
+        let mut rest = at;
+        while let Some(longer) = self.made_of(rest) {
+            occurrences.push(self.occurrence(longer.what))?;
+            rest = longer.before;
+        }
+        occurrences.reverse();
+        Ok(occurrences)
+    }
+
+    // Adds what was published there, if it is a publication. The error is refused memory.
+    fn push_value(&self, values: &mut Vec<Value>, what: What) -> Result<(), AllocError>
+        ensures { OnOk result (values.new.items ≡ values.old.items ++ values_of (what_of self.now.calls what ∷ [])) }
+    {
+        match self.occurrence(what) {
+            Occurrence::Published(value) => {
+                values.push(value)?;
+                Ok(())
+            }
+            Occurrence::Call(_, _, _) => Ok(()),
+        }
+    }
+
+    /// The values that are published in the list of that number. The error is refused memory.
+    pub fn values(&self, alloc: Global, at: usize) -> Result<Vec<Value>, AllocError>
+        ensures { IfOk result (λ v. v.items ≡ values_of (list_at (lists self.now) at)) }
     {
         let mut values = Vec::new(alloc);
         let mut rest = at;
         while let Some(longer) = self.made_of(rest) {
-            values.push(longer.value)?;
+            self.push_value(&mut values, longer.what)?;
             rest = longer.before;
         }
         values.reverse();
@@ -104,7 +170,7 @@ impl Lists {
 
     // Whether this list has that number.
     fn stands_at(&self, at: usize, longer: Longer) -> bool
-        ensures { result ≡ true → slice_get (lists self.now) at ≡ Some (list_of (lists self.now) longer) }
+        ensures { result ≡ true → slice_get (lists self.now) at ≡ Some (list_of self.now.calls (lists self.now) longer) }
     {
         match self.made_of(at) {
             Some(found) => found == longer,
@@ -114,9 +180,10 @@ impl Lists {
 
     // Adds a list behind the others: its number. Where memory is refused nothing changes.
     fn push(&mut self, longer: Longer) -> Result<usize, AllocError>
-        requires { longer.before < length (lists self.old) }
+        requires before { longer.before < length (lists self.old) }
+        requires made { IsMade (length self.old.calls) longer.what }
         ensures number { IfOk result (λ at. at ≡ length (lists self.old)) }
-        ensures added { OnOk result (self.new ≡ self.old ++ longer ∷ []) }
+        ensures added { OnOk result (self.new ≡ record { calls = self.old.calls; longer = self.old.longer ++ longer ∷ [] }) }
         ensures refused { OnErr result (self.new ≡ self.old) }
     {
         let number = self.len();
@@ -137,15 +204,24 @@ impl Lists {
         Ok(())
     }
 
-    /// The number of the list with one value more: that of an equal list, or else of a new one. The error is refused memory. The lists that were
-    /// there stay, in both cases.
-    pub fn longer(&mut self, before: usize, value: Value) -> Result<usize, AllocError>
-        requires { before < length (lists self.old) }
-        ensures number { IfOk result (λ at. slice_get (lists self.new) at ≡ Some (list_at (lists self.old) before ++ value ∷ [])) }
+    // The number of what became of a call. The error is refused memory. The lists stay, in both cases.
+    fn number_of(&mut self, what: Occurrence) -> Result<usize, AllocError>
+        ensures number { IfOk result (λ n. slice_get self.new.calls n ≡ Some what) }
+        ensures kept { lists self.new ≡ lists self.old }
+    {
+        self.calls.number_of(what)
+    }
+
+    // The number of the list with one thing more: that of an equal list, or else of a new one. The error is refused memory. The lists that were there
+    // stay, in both cases.
+    fn longer(&mut self, before: usize, what: What) -> Result<usize, AllocError>
+        requires before { before < length (lists self.old) }
+        requires made { IsMade (length self.old.calls) what }
+        ensures number { IfOk result (λ at. slice_get (lists self.new) at ≡ Some (list_at (lists self.old) before ++ what_of self.old.calls what ∷ [])) }
         ensures kept { Grows (lists self.old) (lists self.new) }
     {
-        let longer = Longer { before, value };
-        let hash = mix_value(mix(1, before as u64), value);
+        let longer = Longer { before, what };
+        let hash = hash_of(longer);
         if let Some(at) = self.place_of(hash) {
             if self.stands_at(at, longer) {
                 return Ok(at);
@@ -156,20 +232,64 @@ impl Lists {
         Ok(at)
     }
 
-    /// The number of the list after what happens: with a value more behind it where one is published. The error is refused memory. The lists that were
-    /// there stay, in both cases.
-    pub fn after(&mut self, at: usize, happening: &Happening) -> Result<usize, AllocError>
+    // The number of the list after a publication, if the sieve keeps it.
+    fn after_value(&mut self, at: usize, sieve: &Sieve, value: Value) -> Result<usize, AllocError>
         requires { at < length (lists self.old) }
         ensures there { IfOk result (λ to. to < length (lists self.new)) }
-        ensures list { IfOk result (λ to. list_at (lists self.new) to ≡ published_after (list_at (lists self.old) at) (happens (happening_of happening.now))) }
+        ensures list { IfOk result (λ to. list_at (lists self.new) to ≡ list_at (lists self.old) at ++ named (names_of sieve.now) (Event.Published value ∷ [])) }
+        ensures kept { Grows (lists self.old) (lists self.new) }
+    {
+        if !sieve.keeps_value(value) {
+            return Ok(at);
+        }
+        let to = self.longer(at, What::Published(value))?;
+        Ok(to)
+    }
+
+    // The number of the list after what became of a call, if the sieve keeps it.
+    fn after_call(
+        &mut self,
+        at: usize,
+        sieve: &Sieve,
+        site: u32,
+        args: &[Value],
+        phase: Phase,
+    ) -> Result<usize, AllocError>
+        requires { at < length (lists self.old) }
+        ensures there { IfOk result (λ to. to < length (lists self.new)) }
+        ensures list { IfOk result (λ to. list_at (lists self.new) to ≡ list_at (lists self.old) at ++ named (names_of sieve.now) (becomes (sites_of sieve.now) site args.now phase ∷ [])) }
+        ensures kept { Grows (lists self.old) (lists self.new) }
+    {
+        let Some(what) = sieve.call(site, args, phase)? else {
+            return Ok(at);
+        };
+        let number = self.number_of(what)?;
+        let to = self.longer(at, What::Call(number))?;
+        Ok(to)
+    }
+
+    /// The number of the list after what happens: with one thing more behind it where the sieve keeps it. The error is refused memory, or one of the
+    /// sieve's. The lists that were there stay, in both cases.
+    pub(crate) fn after(
+        &mut self,
+        at: usize,
+        sieve: &Sieve,
+        happening: &Happening,
+    ) -> Result<usize, AllocError>
+        requires { at < length (lists self.old) }
+        ensures there { IfOk result (λ to. to < length (lists self.new)) }
+        ensures list { IfOk result (λ to. list_at (lists self.new) to ≡ seen_after (kept_by sieve.now) (list_at (lists self.old) at) (happens (happening_of happening.now))) }
         ensures kept { Grows (lists self.old) (lists self.new) }
     {
         match happening {
-            Happening::Published(value) => {
-                let longer = self.longer(at, *value)?;
-                Ok(longer)
+            Happening::Published(value) => self.after_value(at, sieve, *value),
+            Happening::Called(site, args) => {
+                self.after_call(at, sieve, *site, args, Phase::Called)
             }
-            _ => Ok(at),
+            Happening::Answered(site, args, answer) => {
+                self.after_call(at, sieve, *site, args, phase_of(*answer))
+            }
+            Happening::Unseen => Ok(at),
         }
     }
 }

@@ -8,12 +8,12 @@ use std::alloc::{AllocError, Global};
 use std::collections::HashMap;
 use std::marker::Model;
 
-/// A state, with what was published on the way to it: the numbers of its term, of the list of calls that were made and of the list of values.
+/// A state, with what was seen on the way to it: the numbers of its term, of the list of calls that were made and of the list of what was seen.
 #[derive(Clone, Copy, PartialEq, Eq)]
 pub struct Key {
     pub term: usize,
     pub made: usize,
-    pub values: usize,
+    pub seen: usize,
 }
 
 /// States in the order in which they were found, each once, unless one with an equal hash came between.
@@ -104,7 +104,7 @@ impl States {
     {
         let hash = mix(
             mix(mix(1, key.term as u64), key.made as u64),
-            key.values as u64,
+            key.seen as u64,
         );
         if let Some(place) = self.place_of(hash) {
             if self.stands_at(place, key) {

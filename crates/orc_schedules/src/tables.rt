@@ -1,6 +1,6 @@
 //! What a search has found, and its steps.
 
-ghost use Rattle.std.specs.Prelude.{◌≡◌, ◌<◌, ◌≤◌, ℕ, List, length, map, true, Some, slice_get, IfOk, OnOk};
+ghost use Rattle.std.specs.Prelude.{◌≡◌, ◌<◌, ◌≤◌, ℕ, List, length, map, true, false, Some, slice_get, IfSome, IfNone, IfOk, OnOk};
 ghost use Rattle.orc_rules.specs.Sites.{Site};
 ghost use Rattle.orc_rules.specs.Timed.{IsIn};
 ghost use Rattle.orc_search.specs.declared.successor.Successor.{Successor as Next};
@@ -10,15 +10,20 @@ ghost use Rattle.orc_search.specs.Programs.{small_definitions};
 ghost use Rattle.orc_search.specs.Ready.{IsReady};
 ghost use Rattle.orc_search.specs.States.{State};
 ghost use Rattle.orc_search.specs.Successors.{least_left, some_time};
-ghost use Rattle.orc_schedules.specs.Adding.{outcome_of, AddsOnly, AddsEnd, IsAfterOne, IsWaited, AreFound};
-ghost use Rattle.orc_schedules.specs.Reached.{end_of};
-ghost use Rattle.orc_schedules.specs.Tables.{AreKnown, IsKnown, Keeps, IsDone, AreDone, after, waited, ending_if, reached, reached_at, outcome_at, outcomes, values_at};
+ghost use Rattle.orc_schedules.specs.Adding.{end_seen, holds_by, outcome_of, shown_of, AddsOnly, AddsEnd, IsAfterOne, IsWaited, AreFound};
+ghost use Rattle.orc_schedules.specs.Reached.{EndSeen, end_of};
+ghost use Rattle.orc_schedules.specs.Seen.{kept_by};
+ghost use Rattle.orc_schedules.specs.Tables.{AreKnown, IsKnown, Keeps, IsDone, AreDone, after, waited, ending_if, reached, reached_at, outcome_at, outcomes, seen_at};
 
+use crate::claimed::Seen;
 use crate::counts::Counts;
 use crate::ended::Ended;
+use crate::judging::fails_by;
 use crate::lists::Lists;
+use crate::sieve::Sieve;
 use crate::states::{Key, States};
 use crate::told::{Ends, Told};
+use orc_claims::claim::Claim;
 use orc_outcome::End;
 use orc_rules::answers::Answers;
 use orc_search::change::{Change, changed};
@@ -27,7 +32,7 @@ use orc_search::successor::Successor;
 use orc_search::terms::Terms;
 use std::alloc::{AllocError, Global};
 
-// What a search has found: terms, lists of calls and lists of values by their numbers, the states and the ends made of them, and the longest wait.
+// What a search has found: terms, lists of calls and lists of what was seen by their numbers, the states and the ends made of them, and the longest wait.
 pub(crate) struct Tables {
     pub(crate) terms: Terms,
     pub(crate) counts: Counts,
@@ -57,6 +62,7 @@ impl Tables {
         &mut self,
         alloc: Global,
         answers: &Answers,
+        sieve: &Sieve,
         from: Key,
         successor: &Successor,
     ) -> Result<(), AllocError>
@@ -65,17 +71,17 @@ impl Tables {
         requires to { successor.now.to < length (smalls self.old.terms) }
         ensures all { OnOk result (AreKnown self.new) }
         ensures kept { OnOk result (Keeps self.old self.new) }
-        ensures followed { OnOk result (IsIn (after answers.now.sites self.old from successor.now) (reached answers.now.sites self.new)) }
-        ensures added { OnOk result (AddsOnly answers.now.sites (λ r. r ≡ after answers.now.sites self.old from successor.now) self.old self.new) }
+        ensures followed { OnOk result (IsIn (after (kept_by sieve.now) answers.now.sites self.old from successor.now) (reached answers.now.sites self.new)) }
+        ensures added { OnOk result (AddsOnly answers.now.sites (λ r. r ≡ after (kept_by sieve.now) answers.now.sites self.old from successor.now) self.old self.new) }
         ensures ends { OnOk result (self.new.ends ≡ self.old.ends) }
     {
         let happening = &successor.happening;
         let made = self.counts.after(alloc, answers, from.made, happening)?;
-        let values = self.lists.after(from.values, happening)?;
+        let seen = self.lists.after(from.seen, sieve, happening)?;
         self.states.add(Key {
             term: successor.to,
             made,
-            values,
+            seen,
         })?;
         Ok(())
     }
@@ -84,6 +90,7 @@ impl Tables {
         &mut self,
         alloc: Global,
         answers: &Answers,
+        sieve: &Sieve,
         from: Key,
         successors: &[Successor],
     ) -> Result<(), AllocError>
@@ -92,12 +99,12 @@ impl Tables {
         requires to { (i : ℕ) (s : Next) → slice_get successors.now i ≡ Some s → s.to < length (smalls self.old.terms) }
         ensures all { OnOk result (AreKnown self.new) }
         ensures kept { OnOk result (Keeps self.old self.new) }
-        ensures followed { OnOk result ((i : ℕ) (s : Next) → slice_get successors.now i ≡ Some s → IsIn (after answers.now.sites self.old from s) (reached answers.now.sites self.new)) }
-        ensures added { OnOk result (AddsOnly answers.now.sites (IsAfterOne answers.now.sites self.old from successors.now) self.old self.new) }
+        ensures followed { OnOk result ((i : ℕ) (s : Next) → slice_get successors.now i ≡ Some s → IsIn (after (kept_by sieve.now) answers.now.sites self.old from s) (reached answers.now.sites self.new)) }
+        ensures added { OnOk result (AddsOnly answers.now.sites (IsAfterOne (kept_by sieve.now) answers.now.sites self.old from successors.now) self.old self.new) }
         ensures ends { OnOk result (self.new.ends ≡ self.old.ends) }
     {
         for successor in successors {
-            self.follow(alloc, answers, from, successor)?;
+            self.follow(alloc, answers, sieve, from, successor)?;
         }
         Ok(())
     }
@@ -109,7 +116,7 @@ impl Tables {
         ensures all { OnOk result (AreKnown self.new) }
         ensures kept { OnOk result (Keeps self.old self.new) }
         ensures waited { OnOk result ((sites : List Site) (by : ℕ) → some_time (least_left (small_at (smalls self.old.terms) from.term)) ≡ Some by → (by ≤ self.new.longest) × IsIn (waited sites self.old from by) (reached sites self.new)) }
-        ensures added { OnOk result ((sites : List Site) → AddsOnly sites (IsWaited sites self.old from) self.old self.new) }
+        ensures added { OnOk result ((sites : List Site) → AddsOnly sites (IsWaited sites self.old from self.new.longest) self.old self.new) }
         ensures ends { OnOk result (self.new.ends ≡ self.old.ends) }
     {
         let Some(by) = self.terms.summary(from.term).left else {
@@ -122,7 +129,7 @@ impl Tables {
         self.states.add(Key {
             term,
             made: from.made,
-            values: from.values,
+            seen: from.seen,
         })?;
         self.longest = self.longest.max(by);
         Ok(())
@@ -134,16 +141,16 @@ impl Tables {
         requires from { IsKnown self.old from }
         ensures all { OnOk result (AreKnown self.new) }
         ensures kept { OnOk result (Keeps self.old self.new) }
-        ensures told { OnOk result ((e : Ending) → ending_if still (small_at (smalls self.old.terms) from.term) ≡ Some e → IsIn (end_of e, values_at self.old from.values) (outcomes self.new)) }
-        ensures added { OnOk result (AddsEnd (outcomes self.old) (ending_if still (small_at (smalls self.old.terms) from.term)) (values_at self.old from.values) (outcomes self.new)) }
+        ensures told { OnOk result ((e : Ending) → ending_if still (small_at (smalls self.old.terms) from.term) ≡ Some e → IsIn (end_of e, seen_at self.old from.seen) (outcomes self.new)) }
+        ensures added { OnOk result (AddsEnd (outcomes self.old) (ending_if still (small_at (smalls self.old.terms) from.term)) (seen_at self.old from.seen) (outcomes self.new)) }
         ensures states { OnOk result (self.new.states ≡ self.old.states) }
     {
         let summary = self.terms.summary(from.term);
-        let values = from.values;
+        let seen = from.seen;
         if summary.over {
             let halted = Told {
                 end: End::Halted,
-                values,
+                seen,
             };
             self.ends.add(halted)?;
             return Ok(());
@@ -154,7 +161,7 @@ impl Tables {
         if let None = summary.left {
             let quiet = Told {
                 end: End::Quiet,
-                values,
+                seen,
             };
             self.ends.add(quiet)?;
         }
@@ -162,14 +169,20 @@ impl Tables {
     }
 
     // Adds all that may come of a state, and its end, if it is one. The error is refused memory.
-    fn look_at(&mut self, alloc: Global, source: &Source, from: Key) -> Result<(), AllocError>
+    fn look_at(
+        &mut self,
+        alloc: Global,
+        source: &Source,
+        sieve: &Sieve,
+        from: Key,
+    ) -> Result<(), AllocError>
         requires all { AreKnown self.old }
         requires from { IsKnown self.old from }
         requires ready { IsReady (smalls self.old.terms) source.now }
         ensures all { OnOk result (AreKnown self.new) }
         ensures kept { OnOk result (Keeps self.old self.new) }
-        ensures done { OnOk result (IsDone (small_definitions source.now.program.now) (reached source.now.answers.now.sites self.new) self.new.longest (outcomes self.new) (reached_at source.now.answers.now.sites self.old from)) }
-        ensures found { OnOk result ((begin : State) → IsIn from self.old.states → AreFound (small_definitions source.now.program.now) begin source.now.answers.now.sites self.old → AreFound (small_definitions source.now.program.now) begin source.now.answers.now.sites self.new) }
+        ensures done { OnOk result (IsDone (small_definitions source.now.program.now) (kept_by sieve.now) (reached source.now.answers.now.sites self.new) self.new.longest (outcomes self.new) (reached_at source.now.answers.now.sites self.old from)) }
+        ensures found { OnOk result ((begin : State) → IsIn from self.old.states → AreFound (small_definitions source.now.program.now) (kept_by sieve.now) begin source.now.answers.now.sites self.old → AreFound (small_definitions source.now.program.now) (kept_by sieve.now) begin source.now.answers.now.sites self.new) }
     {
         let next = successors(
             &mut self.terms,
@@ -178,7 +191,7 @@ impl Tables {
             self.counts.made(from.made),
             from.term,
         )?;
-        self.follow_all(alloc, source.answers, from, &next)?;
+        self.follow_all(alloc, source.answers, sieve, from, &next)?;
         if next.is_empty() {
             self.wait(alloc, from)?;
             self.tell(from, true)?;
@@ -194,19 +207,20 @@ impl Tables {
         &mut self,
         alloc: Global,
         source: &Source,
+        sieve: &Sieve,
         most: usize,
     ) -> Result<bool, AllocError>
         requires all { AreKnown self.old }
         requires ready { IsReady (smalls self.old.terms) source.now }
         ensures kept { OnOk result (Keeps self.old self.new) }
-        ensures done { IfOk result (λ all. all ≡ true → AreDone (small_definitions source.now.program.now) source.now.answers.now.sites self.new (length self.new.states)) }
-        ensures found { OnOk result ((begin : State) → AreFound (small_definitions source.now.program.now) begin source.now.answers.now.sites self.old → AreFound (small_definitions source.now.program.now) begin source.now.answers.now.sites self.new) }
+        ensures done { IfOk result (λ all. all ≡ true → AreDone (small_definitions source.now.program.now) (kept_by sieve.now) source.now.answers.now.sites self.new (length self.new.states)) }
+        ensures found { OnOk result ((begin : State) → AreFound (small_definitions source.now.program.now) (kept_by sieve.now) begin source.now.answers.now.sites self.old → AreFound (small_definitions source.now.program.now) (kept_by sieve.now) begin source.now.answers.now.sites self.new) }
     {
         for at in 0..most {
             let Some(key) = self.states.get(at) else {
                 return Ok(true);
             };
-            self.look_at(alloc, source, key)?;
+            self.look_at(alloc, source, sieve, key)?;
             if self.states.len() > most {
                 return Ok(false);
             }
@@ -216,9 +230,9 @@ impl Tables {
 
     // An end, with what was published. The error is refused memory.
     fn ended_of(&self, alloc: Global, told: Told) -> Result<Ended, AllocError>
-        ensures { IfOk result (λ e. outcome_of e ≡ outcome_at self.now told) }
+        ensures { IfOk result (λ e. outcome_of e ≡ shown_of (outcome_at self.now told)) }
     {
-        let values = self.lists.values(alloc, told.values)?;
+        let values = self.lists.values(alloc, told.seen)?;
         Ok(Ended {
             end: told.end,
             values,
@@ -227,7 +241,7 @@ impl Tables {
 
     // All ends, with what was published. The error is refused memory.
     pub(crate) fn ended(&self, alloc: Global) -> Result<Vec<Ended>, AllocError>
-        ensures { IfOk result (λ v. map outcome_of v.items ≡ outcomes self.now) }
+        ensures { IfOk result (λ v. map outcome_of v.items ≡ map shown_of (outcomes self.now)) }
     {
         let mut ended = Vec::new(alloc);
         for told in self.ends.as_slice() {
@@ -235,5 +249,52 @@ impl Tables {
             ended.push(end)?;
         }
         Ok(ended)
+    }
+
+    // An end, with what was seen of it. The error is refused memory.
+    fn seen_of(&self, alloc: Global, told: Told) -> Result<Seen, AllocError>
+        ensures { IfOk result (λ s. end_seen s ≡ outcome_at self.now told) }
+    {
+        let occurrences = self.lists.occurrences(alloc, told.seen)?;
+        Ok(Seen {
+            end: told.end,
+            occurrences,
+        })
+    }
+
+    // The end, with what was seen of it, if the claim fails there. The error is refused memory.
+    fn failing_at(
+        &self,
+        alloc: Global,
+        claim: &Claim,
+        told: Told,
+    ) -> Result<Option<Seen>, AllocError>
+        ensures some { IfOk result (λ o. IfSome o (λ s. (end_seen s ≡ outcome_at self.now told) × (holds_by claim.now (outcome_at self.now told) ≡ false))) }
+        ensures none { IfOk result (λ o. IfNone o (holds_by claim.now (outcome_at self.now told) ≡ true)) }
+    {
+        let seen = self.seen_of(alloc, told)?;
+        if fails_by(alloc, claim, seen.end, &seen.occurrences)? {
+            Ok(Some(seen))
+        } else {
+            Ok(None)
+        }
+    }
+
+    // The first end at which the claim fails. The error is refused memory.
+    pub(crate) fn first_failing(
+        &self,
+        alloc: Global,
+        claim: &Claim,
+    ) -> Result<Option<Seen>, AllocError>
+        ensures some { IfOk result (λ o. IfSome o (λ s. IsIn (end_seen s) (outcomes self.now) × (holds_by claim.now (end_seen s) ≡ false))) }
+        ensures none { IfOk result (λ o. IfNone o ((e : EndSeen) → IsIn e (outcomes self.now) → holds_by claim.now e ≡ true)) }
+    {
+        for told in self.ends.as_slice() {
+            match self.failing_at(alloc, claim, *told)? {
+                Some(seen) => return Ok(Some(seen)),
+                None => {}
+            }
+        }
+        Ok(None)
     }
 }

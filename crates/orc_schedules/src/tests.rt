@@ -1,11 +1,15 @@
 //! Programs whose outcomes follow from the rules.
 
-use crate::exploration::{Schedules, search};
+use crate::claimed::ClaimSearched;
+use crate::exploration::{Schedules, search, search_claim};
+use orc_claims::claim::{Claim, Event, Plain, Simple, Slot, Wanted};
+use orc_claims::happening::{Occurrence, Phase};
 use orc_outcome::End;
 use orc_rules::answers::Answers;
 use orc_rules::param::{Operand, Operands};
 use orc_rules::program::{Definition, Program, TermNode, Terms};
 use orc_rules::value::Value;
+use orc_tally::ClaimSite;
 use std::alloc::{AllocError, Global};
 use std::test::Fail;
 
@@ -76,9 +80,8 @@ fn are_numbers(values: &[Value], numbers: &[i64]) -> bool {
     true
 }
 
-#[test]
-fn a_race_has_both_outcomes(rt: HostRuntime) -> Result<(), Fail> {
-    let alloc = rt.alloc();
+// Rwait(1) >> 1 | Rwait(1) >> 2
+fn race(alloc: Global) -> Result<Program, AllocError> {
     let mut nodes = Terms::new(alloc);
     let first = delay(&mut nodes, 1)?;
     let one = value(&mut nodes, 1)?;
@@ -87,7 +90,13 @@ fn a_race_has_both_outcomes(rt: HostRuntime) -> Result<(), Fail> {
     let two = value(&mut nodes, 2)?;
     let right = pair(&mut nodes, Sign::Seq, second, two)?;
     let main = pair(&mut nodes, Sign::Par, left, right)?;
-    let program = plain(alloc, nodes, main);
+    Ok(plain(alloc, nodes, main))
+}
+
+#[test]
+fn a_race_has_both_outcomes(rt: HostRuntime) -> Result<(), Fail> {
+    let alloc = rt.alloc();
+    let program = race(alloc)?;
     let found = search(alloc, &program, &Answers::builtin(alloc)?, 1000, 1000)?;
     assert!(rt; has(&found, End::Halted, &[1, 2], 2));
     assert!(rt; has(&found, End::Halted, &[2, 1], 2));
@@ -143,5 +152,110 @@ fn waits_of_a_run_come_to_the_last_time(rt: HostRuntime) -> Result<(), Fail> {
     assert!(rt; matches!(&found, Schedules::All(_, 5)));
     let found = search(alloc, &program, &sites, 1000, 15)?;
     assert!(rt; matches!(&found, Schedules::TooLong));
+    Ok(())
+}
+
+// At most so many calls of the only site that a claim names are answered, up to a time.
+fn at_most(alloc: Global, most: u64, by: Option<u64>) -> Result<Claim, AllocError> {
+    let slots = vec![in alloc; Slot::Any]?;
+    let answered = Simple::Call(0, slots, Wanted::Answered(Slot::Any));
+    let event = Event {
+        alternatives: vec![in alloc; answered]?,
+    };
+    Ok(Claim {
+        conditions: Vec::new(alloc),
+        plain: Plain::Count(event, 0, Some(most), by),
+    })
+}
+
+fn publishes(alloc: Global, n: i64) -> Result<Event, AllocError> {
+    let published = Simple::Published(Slot::Literal(Value::Number(n)));
+    Ok(Event {
+        alternatives: vec![in alloc; published]?,
+    })
+}
+
+const WAITS: [ClaimSite; 1] = [ClaimSite {
+    site: RWAIT,
+    arguments: 1,
+}];
+
+fn searched(
+    alloc: Global,
+    program: &Program,
+    claim: &Claim,
+    most: usize,
+) -> Result<ClaimSearched, AllocError> {
+    let sites = WAITS;
+    search_claim(
+        alloc,
+        program,
+        &Answers::builtin(alloc)?,
+        &sites,
+        claim,
+        most,
+        1000,
+    )
+}
+
+fn is_answer(what: &Occurrence) -> bool {
+    matches!(what, Occurrence::Call(0, _, Phase::Answered(_)))
+}
+
+fn is_number(what: &Occurrence, n: i64) -> bool {
+    match what {
+        Occurrence::Published(value) => *value == Value::Number(n),
+        Occurrence::Call(_, _, _) => false,
+    }
+}
+
+// Whether a claim fails where two answers are all that it sees.
+fn fails_by_answers(found: &ClaimSearched) -> bool {
+    match found {
+        ClaimSearched::Fails(seen) => match seen.occurrences.as_slice() {
+            [one, other] => seen.end == End::Halted && is_answer(one) && is_answer(other),
+            _ => false,
+        },
+        _ => false,
+    }
+}
+
+// Whether it fails where these two numbers are published, in this order.
+fn fails_by_numbers(found: &ClaimSearched, n: i64, m: i64) -> bool {
+    match found {
+        ClaimSearched::Fails(seen) => match seen.occurrences.as_slice() {
+            [one, other] => is_number(one, n) && is_number(other, m),
+            _ => false,
+        },
+        _ => false,
+    }
+}
+
+#[test]
+fn both_waits_of_a_race_are_answered(rt: HostRuntime) -> Result<(), Fail> {
+    let alloc = rt.alloc();
+    let program = race(alloc)?;
+    let found = searched(alloc, &program, &at_most(alloc, 1, None)?, 1000)?;
+    assert!(rt; fails_by_answers(&found));
+    let found = searched(alloc, &program, &at_most(alloc, 2, None)?, 1000)?;
+    assert!(rt; matches!(&found, ClaimSearched::Holds(_)));
+    let found = searched(alloc, &program, &at_most(alloc, 1, Some(5))?, 1000)?;
+    assert!(rt; matches!(&found, ClaimSearched::NotWatched));
+    Ok(())
+}
+
+#[test]
+fn either_of_a_race_may_be_published_first(rt: HostRuntime) -> Result<(), Fail> {
+    let alloc = rt.alloc();
+    let program = race(alloc)?;
+    let mut claim = at_most(alloc, 0, None)?;
+    claim.plain = Plain::OnlyAfter(publishes(alloc, 2)?, publishes(alloc, 1)?);
+    let found = searched(alloc, &program, &claim, 1000)?;
+    assert!(rt; fails_by_numbers(&found, 2, 1));
+    claim.plain = Plain::OnlyAfter(publishes(alloc, 1)?, publishes(alloc, 2)?);
+    let found = searched(alloc, &program, &claim, 1000)?;
+    assert!(rt; fails_by_numbers(&found, 1, 2));
+    let found = searched(alloc, &program, &claim, 3)?;
+    assert!(rt; matches!(&found, ClaimSearched::TooMany));
     Ok(())
 }

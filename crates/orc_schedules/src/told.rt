@@ -9,11 +9,11 @@ use std::alloc::{AllocError, Global};
 use std::collections::HashMap;
 use std::marker::Model;
 
-/// An end: how a run ended, and the number of the list of what it published.
+/// An end: how a run ended, and the number of the list of what was seen of it.
 #[derive(Clone, Copy, PartialEq, Eq)]
 pub struct Told {
     pub end: End,
-    pub values: usize,
+    pub seen: usize,
 }
 
 /// Ends in the order in which they were found, each once, unless one with an equal hash came between.
@@ -101,7 +101,7 @@ impl Ends {
         ensures there { OnOk result (IsIn told self.new) }
         ensures kept { (self.new ≡ self.old) ⊎ (self.new ≡ self.old ++ told ∷ []) }
     {
-        let hash = mix(mix(1, told.end.status() as u64), told.values as u64);
+        let hash = mix(mix(1, told.end.status() as u64), told.seen as u64);
         if let Some(place) = self.place_of(hash) {
             if self.stands_at(place, told) {
                 return Ok(());

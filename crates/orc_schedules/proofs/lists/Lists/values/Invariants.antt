@@ -1,10 +1,11 @@
 use Rattle.std.proofs.Common.{◌≡◌, ◌++◌}
 use Rattle.std.specs.Prelude.{reverse}
 use Rattle.orc_schedules.specs.Lists.{list_at, lists}
+use Rattle.orc_schedules.specs.Seen.{values_of}
 use Rattle.orc_schedules.proofs.lists.Lists.values.Given as goal
 
 abbrev pub invariant-loop-longer : goal.invariant-loop-longer
-invariant-loop-longer l = list_at (lists l.self) l.at ≡ list_at (lists l.self) l.rest ++ reverse l.values.items
+invariant-loop-longer l = values_of (list_at (lists l.self) l.at) ≡ values_of (list_at (lists l.self) l.rest) ++ reverse l.values.items
 
 abbrev pub decreases-loop-longer : goal.decreases-loop-longer
 decreases-loop-longer l = l.rest

@@ -14,6 +14,7 @@ use Rattle.orc_search.proofs.Nodes.{same_len, within}
 use Rattle.orc_schedules.specs.declared.tables.Tables.{Tables}
 use Rattle.orc_schedules.specs.Counts.{made_at}
 use Rattle.orc_schedules.specs.Adding.{AddsOnly, IsAfterOne}
+use Rattle.orc_schedules.specs.Seen.{kept_by}
 use Rattle.orc_schedules.proofs.Adding.{still_found, moving_found}
 use Rattle.orc_schedules.proofs.Growing.{none_of_len}
 use Rattle.orc_schedules.proofs.Keeping.{zip_each, terms_keep, keeps_both, moving_done, still_done}
@@ -33,6 +34,7 @@ pub returns-then-is_empty-clause-done : goal.returns-then-is_empty-clause-done
 returns-then-is_empty-clause-done c =
     let t = c.args.self.now in
     let defs = small_definitions c.args.source.now.program.now in
+    let keep = kept_by c.args.sieve.now in
     let sites = c.args.source.now.answers.now.sites in
     let terms = c.successors.new.terms in
     let k = c.args.from in
@@ -48,12 +50,13 @@ returns-then-is_empty-clause-done c =
     let empty = eqb-true (vec_len c.in_ok-next.next) 0 (sym c.is_empty.ensures ∙ c.if-is_empty.true) in
     let ok = c.in_ok-next.next.ok.0 in
     let none = none_of_len next (omega (arith, empty, ok)) in
-    still_done defs sites t terms k next all u w none keeps c.requires.from c.in_ok-wait.ensures.waited v (keeps_both t u w keeps c.in_ok-wait.ensures.kept) c.in_ok-wait.ensures.all c.in_ok-tell.ensures.kept c.in_ok-tell.ensures.told
+    still_done defs keep sites t terms k next all u w none keeps c.requires.from c.in_ok-wait.ensures.waited v (keeps_both t u w keeps c.in_ok-wait.ensures.kept) c.in_ok-wait.ensures.all c.in_ok-tell.ensures.kept c.in_ok-tell.ensures.told
 
 pub returns-clause-done : goal.returns-clause-done
 returns-clause-done c =
     let t = c.args.self.now in
     let defs = small_definitions c.args.source.now.program.now in
+    let keep = kept_by c.args.sieve.now in
     let sites = c.args.source.now.answers.now.sites in
     let terms = c.successors.new.terms in
     let k = c.args.from in
@@ -72,13 +75,14 @@ returns-clause-done c =
     let tested = eq-eqb (vec_len c.in_ok-next.next) 0 zero in
     let empty = sym c.is_empty.ensures ∙ c.if-is_empty.false in
     cc (tested, empty) in
-    moving_done defs sites t terms k next all u v some keeps c.in_ok-follow_all.ensures.all c.requires.from c.in_ok-tell-2.ensures.kept
+    moving_done defs keep sites t terms k next all u v some keeps c.in_ok-follow_all.ensures.all c.requires.from c.in_ok-tell-2.ensures.kept
     (λ i s h. c.in_ok-follow_all.ensures.followed i s (ap (λ (xs : List Successor). slice_get xs i) c.deref.ensures.value ∙ h)) c.in_ok-tell-2.ensures.told
 
 pub returns-then-is_empty-clause-found : goal.returns-then-is_empty-clause-found
 returns-then-is_empty-clause-found c = λ begin is found.
     let t = c.args.self.now in
     let defs = small_definitions c.args.source.now.program.now in
+    let keep = kept_by c.args.sieve.now in
     let sites = c.args.source.now.answers.now.sites in
     let terms = c.successors.new.terms in
     let k = c.args.from in
@@ -96,14 +100,15 @@ returns-then-is_empty-clause-found c = λ begin is found.
     let empty = eqb-true (vec_len c.in_ok-next.next) 0 (sym c.is_empty.ensures ∙ c.if-is_empty.true) in
     let ok = c.in_ok-next.next.ok.0 in
     let none = none_of_len next (omega (arith, empty, ok)) in
-    let adds = subst (λ (xs : List Successor). AddsOnly sites (IsAfterOne sites first k xs) first u) c.deref.ensures.value c.in_ok-follow_all.ensures.added in
-    still_found defs sites begin t u w v k terms next all none c.requires.all keeps c.in_ok-follow_all.ensures.all c.in_ok-wait.ensures.kept c.in_ok-wait.ensures.all c.in_ok-tell.ensures.kept c.requires.from is
+    let adds = subst (λ (xs : List Successor). AddsOnly sites (IsAfterOne keep sites first k xs) first u) c.deref.ensures.value c.in_ok-follow_all.ensures.added in
+    still_found defs keep sites begin t u w v k terms next all none c.requires.all keeps c.in_ok-follow_all.ensures.all c.in_ok-wait.ensures.kept c.in_ok-wait.ensures.all c.in_ok-tell.ensures.kept c.requires.from is
     adds c.in_ok-follow_all.ensures.ends (c.in_ok-wait.ensures.added sites) c.in_ok-wait.ensures.ends c.in_ok-tell.ensures.states c.in_ok-tell.ensures.added found
 
 pub returns-clause-found : goal.returns-clause-found
 returns-clause-found c = λ begin is found.
     let t = c.args.self.now in
     let defs = small_definitions c.args.source.now.program.now in
+    let keep = kept_by c.args.sieve.now in
     let sites = c.args.source.now.answers.now.sites in
     let terms = c.successors.new.terms in
     let k = c.args.from in
@@ -117,6 +122,6 @@ returns-clause-found c = λ begin is found.
     let grown = terms_keep t terms c.in_ok-next.ensures.kept in
     let first : Tables = record { terms = terms; counts = t.counts; lists = t.lists; states = t.states; ends = t.ends; longest = t.longest } in
     let keeps = keeps_both t first u grown c.in_ok-follow_all.ensures.kept in
-    let adds = subst (λ (xs : List Successor). AddsOnly sites (IsAfterOne sites first k xs) first u) c.deref.ensures.value c.in_ok-follow_all.ensures.added in
-    moving_found defs sites begin t u v k terms next all c.requires.all keeps c.in_ok-follow_all.ensures.all c.in_ok-tell-2.ensures.kept c.requires.from is
+    let adds = subst (λ (xs : List Successor). AddsOnly sites (IsAfterOne keep sites first k xs) first u) c.deref.ensures.value c.in_ok-follow_all.ensures.added in
+    moving_found defs keep sites begin t u v k terms next all c.requires.all keeps c.in_ok-follow_all.ensures.all c.in_ok-tell-2.ensures.kept c.requires.from is
     adds c.in_ok-follow_all.ensures.ends c.in_ok-tell-2.ensures.states c.in_ok-tell-2.ensures.added found

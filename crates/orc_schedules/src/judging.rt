@@ -1,0 +1,62 @@
+//! Claims held against what a search saw.
+
+ghost use Rattle.std.specs.Prelude.{◌≡◌, not, IfOk};
+ghost use Rattle.orc_claims.specs.Claims.{holds};
+ghost use Rattle.orc_schedules.specs.Watch.{state_of_end, untimed};
+
+use crate::calls::copied;
+use orc_claims::claim::Claim;
+use orc_claims::happening::{Happening, Occurrence};
+use orc_claims::{Verdict, judge};
+use orc_outcome::End;
+use orc_rules::entry::State;
+use std::alloc::{AllocError, Global};
+use std::slice::from_ref;
+
+// Where a run stands that ended so. One that was cut is still running.
+fn state_of_end(end: End) -> State
+    ensures { result ≡ state_of_end end }
+{
+    match end {
+        End::Halted => State::Halted,
+        End::Quiet => State::Quiet,
+        End::Limit | End::Full | End::Memory => State::Running,
+    }
+}
+
+// All of it at time 0. The error is refused memory.
+fn untimed(alloc: Global, seen: &[Occurrence]) -> Result<Vec<Happening>, AllocError>
+    ensures { IfOk result (λ happenings. happenings.items ≡ untimed seen.now) }
+{
+    let mut happenings = Vec::new(alloc);
+    for what in seen {
+        happenings.push(Happening {
+            time: 0,
+            what: copied(what),
+        })?;
+    }
+    Ok(happenings)
+}
+
+/// Whether a claim fails in a run that ended so, of which this was seen. The error is refused memory.
+pub fn fails_by(
+    alloc: Global,
+    claim: &Claim,
+    end: End,
+    seen: &[Occurrence],
+) -> Result<bool, AllocError>
+    ensures { IfOk result (λ fails. fails ≡ not (holds claim.now (untimed seen.now) (state_of_end end) 0)) }
+{
+    let happenings = untimed(alloc, seen)?;
+    let judged = judge(
+        alloc,
+        from_ref(claim),
+        happenings.as_slice(),
+        state_of_end(end),
+        0,
+    )?;
+    match judged.first() {
+        Some(one) => Ok(one.verdict != Verdict::Holds),
+        None => unreachable!(),
+    }
+}

@@ -1,0 +1,83 @@
+//! What a search keeps of what happens.
+
+ghost use Rattle.std.specs.Prelude.{◌≡◌, ◌<◌, ◌^◌, ◌∷◌, [], length, IfOk, option_to_list};
+ghost use Rattle.orc_claims.specs.declared.happening.Occurrence.TheVariants.{Published as published};
+ghost use Rattle.orc_tally.specs.Sight.{number_from};
+ghost use Rattle.orc_schedules.specs.Seen.{becomes, names_of, sites_of};
+ghost use Rattle.orc_schedules.specs.Watch.{is_named, named};
+
+use crate::counts::in_place;
+use crate::watch::Watch;
+use orc_claims::happening::{Occurrence, Phase};
+use orc_rules::value::Value;
+use orc_tally::ClaimSite;
+use std::alloc::AllocError;
+
+/// What a search keeps: publications alone; or what is watched for, of sites with the numbers that claims have for them.
+#[derive(Clone, Copy)]
+pub(crate) enum Sieve<'a> {
+    Publications,
+    Named(&'a Watch, &'a [ClaimSite]),
+}
+
+// The number that claims have for a site with so many arguments; one past the last where they name none such.
+fn number_of(sites: &[ClaimSite], site: u32, arguments: usize) -> u32
+    requires { length sites.now < 2 ^ 32 }
+    ensures { result ≡ number_from 0 sites.now site arguments }
+{
+    let mut number = 0;
+    let mut rest = sites;
+    loop {
+        match rest {
+            [] => return number,
+            [known, more @ ..] => {
+                if known.site == site && known.arguments == arguments {
+                    return number;
+                }
+                number += 1;
+                rest = more;
+            }
+        }
+    }
+}
+
+impl Sieve<'_> {
+    /// Whether it keeps that a value is published.
+    pub(crate) fn keeps_value(&self, value: Value) -> bool
+        ensures { result ≡ is_named (names_of self.now) (published value) }
+    {
+        match self {
+            Sieve::Publications => true,
+            Sieve::Named(watch, _) => watch.names(&Occurrence::Published(value)),
+        }
+    }
+
+    /// What it keeps of what became of a call. The error is that no call can have so many arguments, or that there are 2^32 sites.
+    pub(crate) fn call(
+        &self,
+        site: u32,
+        args: &[Value],
+        phase: Phase,
+    ) -> Result<Option<Occurrence>, AllocError>
+        ensures { IfOk result (λ o. option_to_list o ≡ named (names_of self.now) (becomes (sites_of self.now) site args.now phase ∷ [])) }
+    {
+        match self {
+            Sieve::Publications => Ok(None),
+            Sieve::Named(watch, sites) => {
+                if sites.len() > u32::MAX as usize {
+                    return Err(AllocError);
+                }
+                let Some(placed) = in_place(args) else {
+                    return Err(AllocError);
+                };
+                let number = number_of(sites, site, args.len());
+                let what = Occurrence::Call(number, placed, phase);
+                if watch.names(&what) {
+                    Ok(Some(what))
+                } else {
+                    Ok(None)
+                }
+            }
+        }
+    }
+}

@@ -1,0 +1,330 @@
+//! What a search keeps of what happens, so that it can tell of a claim.
+
+ghost use Rattle.std.specs.Prelude.{◌≡◌, ◌++◌, ◌∷◌, [], IfOk, OnOk};
+ghost use Rattle.orc_claims.specs.declared.happening.Occurrence.{Occurrence as What};
+ghost use Rattle.orc_schedules.specs.Watch.{all_seen, is_named, is_same_phase, is_seen, is_timeless, is_watchable, names_it, publications, sees, watched, watched_conditions, watched_plain, IsWatchOf, NameSame};
+
+use orc_claims::claim::{Claim, Condition, Event, Plain, Simple, Slot, Wanted};
+use orc_claims::happening::{Occurrence, Phase};
+use std::alloc::{AllocError, Global};
+use std::marker::Model;
+
+/// What a search keeps of what happens: calls of these sites of which the same became, and publications. Arguments and values don't matter.
+#[derive(Drop)]
+pub struct Watch {
+    // Their slots are left out.
+    names: Vec<Simple>,
+}
+
+impl Model for Watch {
+    ghost use Rattle.std.specs.Prelude.{List};
+    ghost use Rattle.orc_claims.specs.declared.claim.Simple.{Simple};
+
+    ghost Value = { List Simple };
+
+    ghost view = { λ w. w.names.items };
+}
+
+// Whether the same became of a call as was wanted. A cancel is never the same.
+fn is_same_phase(wanted: Wanted, phase: Phase) -> bool
+    ensures { result ≡ is_same_phase wanted phase }
+{
+    match (wanted, phase) {
+        (Wanted::Called, Phase::Called) => true,
+        (Wanted::Answered(_), Phase::Answered(_)) => true,
+        (Wanted::Halted, Phase::Halted) => true,
+        _ => false,
+    }
+}
+
+// Whether this names what happened.
+fn names_it(name: &Simple, what: &Occurrence) -> bool
+    ensures { result ≡ names_it name.now what.now }
+{
+    match (name, what) {
+        (Simple::Call(site, _, wanted), Occurrence::Call(called, _, phase)) => {
+            *site == *called && is_same_phase(*wanted, *phase)
+        }
+        (Simple::Published(_), Occurrence::Published(_)) => true,
+        _ => false,
+    }
+}
+
+// Whether no cancel is wanted.
+fn sees(name: &Simple) -> bool
+    ensures { result ≡ sees name.now }
+{
+    match name {
+        Simple::Call(_, _, Wanted::Cancelled) => false,
+        _ => true,
+    }
+}
+
+fn all_seen(names: &[Simple]) -> bool
+    ensures { result ≡ all_seen names.now }
+{
+    let mut rest = names;
+    loop {
+        match rest {
+            [] => return true,
+            [name, more @ ..] => {
+                if !sees(name) {
+                    return false;
+                }
+                rest = more;
+            }
+        }
+    }
+}
+
+// Whether a claim without conditions asks for no time, and counts no calls that are out at once.
+fn is_timeless(plain: &Plain) -> bool
+    ensures { result ≡ is_timeless plain.now }
+{
+    match plain {
+        Plain::Count(_, _, _, by) => by.is_none(),
+        Plain::AtOnce(_, _) => false,
+        Plain::EachThen(_, _, within) => within.is_none(),
+        Plain::Ends(_, _, by) => by.is_none(),
+        _ => true,
+    }
+}
+
+// What names the same, without its slots.
+fn outline(alloc: Global, name: &Simple) -> Simple
+    ensures names { (w : What) → names_it result w ≡ names_it name.now w }
+    ensures seen { sees result ≡ sees name.now }
+{
+    match name {
+        Simple::Call(site, _, wanted) => Simple::Call(*site, Vec::new(alloc), *wanted),
+        Simple::Published(_) => Simple::Published(Slot::Any),
+    }
+}
+
+impl Watch {
+    // Nothing is kept.
+    fn nothing(alloc: Global) -> Watch
+        ensures { result ≡ [] }
+    {
+        Watch {
+            names: Vec::new(alloc),
+        }
+    }
+
+    // Keeps what this names too. The error is refused memory.
+    fn add(&mut self, alloc: Global, name: &Simple) -> Result<(), AllocError>
+        ensures names { OnOk result (NameSame self.new (self.old ++ name.now ∷ [])) }
+        ensures seen { OnOk result (all_seen self.new ≡ all_seen (self.old ++ name.now ∷ [])) }
+    {
+        self.names.push(outline(alloc, name))?;
+        Ok(())
+    }
+
+    // The same of all that an event names.
+    fn add_event(&mut self, alloc: Global, event: &Event) -> Result<(), AllocError>
+        ensures names { OnOk result (NameSame self.new (self.old ++ event.now.alternatives.items)) }
+        ensures seen { OnOk result (all_seen self.new ≡ all_seen (self.old ++ event.now.alternatives.items)) }
+    {
+        let mut rest = event.alternatives.as_slice();
+        loop {
+            match rest {
+                [] => return Ok(()),
+                [name, more @ ..] => {
+                    self.add(alloc, name)?;
+                    rest = more;
+                }
+            }
+        }
+    }
+
+    // The same of two events.
+    fn add_events(&mut self, alloc: Global, event: &Event, other: &Event) -> Result<(), AllocError>
+        ensures names { OnOk result (NameSame self.new (self.old ++ (event.now.alternatives.items ++ other.now.alternatives.items))) }
+        ensures seen { OnOk result (all_seen self.new ≡ all_seen (self.old ++ (event.now.alternatives.items ++ other.now.alternatives.items))) }
+    {
+        self.add_event(alloc, event)?;
+        self.add_event(alloc, other)?;
+        Ok(())
+    }
+
+    // The same of a claim without conditions.
+    fn add_plain(&mut self, alloc: Global, plain: &Plain) -> Result<(), AllocError>
+        ensures names { OnOk result (NameSame self.new (self.old ++ watched_plain plain.now)) }
+        ensures seen { OnOk result (all_seen self.new ≡ all_seen (self.old ++ watched_plain plain.now)) }
+    {
+        match plain {
+            Plain::Count(event, _, _, _) | Plain::AtOnce(event, _) => self.add_event(alloc, event),
+            Plain::OnlyAfter(event, other)
+            | Plain::NoneAfter(event, other)
+            | Plain::EachThen(event, other, _) => self.add_events(alloc, event, other),
+            Plain::Ends(_, _, _) => Ok(()),
+            Plain::InOrder(_) | Plain::InAnyOrder(_) | Plain::OneOf(_) => {
+                self.add(alloc, &Simple::Published(Slot::Any))
+            }
+        }
+    }
+
+    // The same of conditions.
+    fn add_conditions(&mut self, alloc: Global, conditions: &[Condition]) -> Result<(), AllocError>
+        ensures names { OnOk result (NameSame self.new (self.old ++ watched_conditions conditions.now)) }
+        ensures seen { OnOk result (all_seen self.new ≡ all_seen (self.old ++ watched_conditions conditions.now)) }
+    {
+        let mut rest = conditions;
+        loop {
+            match rest {
+                [] => return Ok(()),
+                [condition, more @ ..] => {
+                    self.add_event(alloc, &condition.event)?;
+                    rest = more;
+                }
+            }
+        }
+    }
+
+    // All that a claim names.
+    fn of_all(alloc: Global, claim: &Claim) -> Result<Watch, AllocError>
+        ensures names { IfOk result (λ w. NameSame w (watched claim.now)) }
+        ensures seen { IfOk result (λ w. all_seen w ≡ all_seen (watched claim.now)) }
+    {
+        let mut watch = Watch::nothing(alloc);
+        watch.add_plain(alloc, &claim.plain)?;
+        watch.add_conditions(alloc, claim.conditions.as_slice())?;
+        Ok(watch)
+    }
+
+    // Whether none of them is a cancel.
+    fn sees_all(&self) -> bool
+        ensures { result ≡ all_seen self.now }
+    {
+        all_seen(self.names.as_slice())
+    }
+
+    /// What a claim depends on; None where a search can't watch for it: it asks for a time, sees a cancel, or counts calls that are out at once. The
+    /// error is refused memory.
+    pub fn of_claim(alloc: Global, claim: &Claim) -> Result<Option<Watch>, AllocError>
+        ensures { IfOk result (IsWatchOf claim.now) }
+    {
+        let watch = Watch::of_all(alloc, claim)?;
+        if !is_timeless(&claim.plain) || !watch.sees_all() {
+            return Ok(None);
+        }
+        Ok(Some(watch))
+    }
+
+    /// Publications alone. The error is refused memory.
+    pub fn of_publications(alloc: Global) -> Result<Watch, AllocError>
+        ensures { IfOk result (λ w. w ≡ publications) }
+    {
+        let mut names = Vec::new(alloc);
+        names.push(Simple::Published(Slot::Any))?;
+        Ok(Watch { names })
+    }
+
+    /// Whether it keeps this.
+    pub fn names(&self, what: &Occurrence) -> bool
+        ensures { result ≡ is_named self.now what.now }
+    {
+        let mut rest = self.names.as_slice();
+        loop {
+            match rest {
+                [] => return false,
+                [name, more @ ..] => {
+                    if names_it(name, what) {
+                        return true;
+                    }
+                    rest = more;
+                }
+            }
+        }
+    }
+}
+
+#[cfg(test)]
+mod tests {
+    use super::*;
+    use crate::judging::fails_by;
+    use orc_outcome::End;
+    use orc_rules::value::{Args, Value};
+    use std::test::Fail;
+
+    // This becomes of a call of site 7, with any one argument.
+    fn event(alloc: Global, wanted: Wanted) -> Result<Event, AllocError> {
+        let slots = vec![in alloc; Slot::Any]?;
+        let alternatives = vec![in alloc; Simple::Call(7, slots, wanted)]?;
+        Ok(Event { alternatives })
+    }
+
+    fn plain(alloc: Global, plain: Plain) -> Claim {
+        Claim {
+            conditions: Vec::new(alloc),
+            plain,
+        }
+    }
+
+    fn of_seven(phase: Phase) -> Occurrence {
+        let mut args = Args::new();
+        args.push(Value::Number(1));
+        Occurrence::Call(7, args, phase)
+    }
+
+    // Site 7 is called once at most, up to a time.
+    fn once(alloc: Global, by: Option<u64>) -> Result<Claim, AllocError> {
+        let event = event(alloc, Wanted::Called)?;
+        Ok(plain(alloc, Plain::Count(event, 0, Some(1), by)))
+    }
+
+    fn has_watch(alloc: Global, claim: &Claim) -> Result<bool, AllocError> {
+        let watch = Watch::of_claim(alloc, claim)?;
+        Ok(watch.is_some())
+    }
+
+    #[test]
+    fn a_claim_with_a_time_is_not_watched(rt: HostRuntime) -> Result<(), Fail> {
+        let alloc = rt.alloc();
+        assert!(rt; !has_watch(alloc, &once(alloc, Some(5))?)?);
+        assert!(rt; has_watch(alloc, &once(alloc, None)?)?);
+        Ok(())
+    }
+
+    #[test]
+    fn a_claim_with_a_cancel_in_a_condition_is_not_watched(rt: HostRuntime) -> Result<(), Fail> {
+        let alloc = rt.alloc();
+        let mut claim = once(alloc, None)?;
+        claim.conditions.push(Condition {
+            event: event(alloc, Wanted::Cancelled)?,
+            happens: false,
+        })?;
+        assert!(rt; !has_watch(alloc, &claim)?);
+        Ok(())
+    }
+
+    #[test]
+    fn what_conditions_name_is_kept(rt: HostRuntime) -> Result<(), Fail> {
+        let alloc = rt.alloc();
+        let mut claim = once(alloc, None)?;
+        claim.conditions.push(Condition {
+            event: event(alloc, Wanted::Halted)?,
+            happens: true,
+        })?;
+        let Some(watch) = Watch::of_claim(alloc, &claim)? else {
+            return Err(Fail::from(AllocError));
+        };
+        assert!(rt; watch.names(&of_seven(Phase::Called)));
+        assert!(rt; watch.names(&of_seven(Phase::Halted)));
+        assert!(rt; !watch.names(&of_seven(Phase::Answered(Value::Signal))));
+        assert!(rt; !watch.names(&of_seven(Phase::Cancelled)));
+        assert!(rt; !watch.names(&Occurrence::Published(Value::Signal)));
+        Ok(())
+    }
+
+    #[test]
+    fn the_second_of_two_calls_fails_a_claim(rt: HostRuntime) -> Result<(), Fail> {
+        let alloc = rt.alloc();
+        let claim = once(alloc, None)?;
+        let mut seen = vec![in alloc; of_seven(Phase::Called)]?;
+        assert!(rt; !fails_by(alloc, &claim, End::Halted, seen.as_slice())?);
+        seen.push(of_seven(Phase::Called))?;
+        assert!(rt; fails_by(alloc, &claim, End::Quiet, seen.as_slice())?);
+        Ok(())
+    }
+}
