@@ -10,7 +10,7 @@ mod ways;
 
 pub use exploration::survey;
 pub use lines::{lines_of, write_unseen};
-pub use seen::{Seen, place_of};
+pub use seen::{Seen, are_same, place_of};
 pub use sites::claim_sites;
 pub use trials::{Run, TrialFault, Trials, state_at, try_again};
 pub use ways::{CaseTold, try_ways};

@@ -22,8 +22,8 @@ pub struct Seen {
     pub times: u64,
 }
 
-// Whether two lists have the same values, however long they are.
-fn are_same(one: &[Value], other: &[Value]) -> bool
+/// Whether two lists have the same values, however long they are.
+pub fn are_same(one: &[Value], other: &[Value]) -> bool
     ensures { result ≡ values_eq one.now other.now }
 {
     let mut rest = one;

@@ -1,5 +1,6 @@
 //! What can come next in a run: the tokens that can move, in the order of their turns, and the calls by their due times.
 
+use crate::reference::{Choice, Turns};
 use orc_checker::{Marked, Side};
 use orc_rules::entry::Entry;
 use orc_rules::limits::MOST_ARGUMENTS;
@@ -26,14 +27,6 @@ pub struct Agenda {
     due: BinaryHeap<Reverse<(u64, u64)>>,
 }
 
-/// What comes next in a run.
-#[derive(Drop)]
-pub enum Choice {
-    Entry(Entry),
-    /// No token can move, and no call will ever be due.
-    Nothing,
-}
-
 impl Agenda {
     /// The agenda of a run's beginning: token 1.
     pub fn new(alloc: Global) -> Result<Agenda, AllocError> {
@@ -47,34 +40,6 @@ impl Agenda {
             waiting: BTreeMap::new(alloc),
             due: BinaryHeap::new(alloc),
         })
-    }
-
-    /// An entry that can come next, while no cancel is due: a move of a token, else the end of `side`, which has halted, else a return that is
-    /// due now, else a tick.
-    pub fn choose(
-        &mut self,
-        program: &Program,
-        marked: &Marked,
-        side: Option<Side>,
-    ) -> Result<Choice, AllocError> {
-        for _ in 0..self.tokens.len() {
-            let Some(turn) = self.tokens.pop_front() else {
-                break;
-            };
-            if let Some(next) = marked.next(program, turn.token) {
-                match token_entry(marked, turn.token, next) {
-                    Some(entry) => return Ok(Choice::Entry(entry)),
-                    None if turn.listed => {}
-                    None => self.wait(program, marked, turn.token)?,
-                }
-            }
-        }
-        if let Some(side) = side {
-            if let Some(entry) = side_entry(marked, side) {
-                return Ok(Choice::Entry(entry));
-            }
-        }
-        Ok(self.choose_call(marked))
     }
 
     // Puts a token that waits into the lists of its cells.
@@ -116,8 +81,48 @@ impl Agenda {
         Choice::Nothing
     }
 
-    /// Takes note of what an entry has made: new tokens, a call, or tokens that wait no more.
-    pub fn note(&mut self, entry: &Entry, marked: &Marked) -> Result<(), AllocError> {
+    // The tokens that waited for a cell can move.
+    fn wake(&mut self, cell: u64) -> Result<(), AllocError> {
+        if let Some(tokens) = self.waiting.remove(&cell) {
+            for token in tokens {
+                self.tokens.push_back(Turn {
+                    token,
+                    listed: true,
+                })?;
+            }
+        }
+        Ok(())
+    }
+}
+
+impl Turns for Agenda {
+    fn choose(
+        &mut self,
+        program: &Program,
+        marked: &Marked,
+        side: Option<Side>,
+    ) -> Result<Choice, AllocError> {
+        for _ in 0..self.tokens.len() {
+            let Some(turn) = self.tokens.pop_front() else {
+                break;
+            };
+            if let Some(next) = marked.next(program, turn.token) {
+                match token_entry(marked, turn.token, next) {
+                    Some(entry) => return Ok(Choice::Entry(entry)),
+                    None if turn.listed => {}
+                    None => self.wait(program, marked, turn.token)?,
+                }
+            }
+        }
+        if let Some(side) = side {
+            if let Some(entry) = side_entry(marked, side) {
+                return Ok(Choice::Entry(entry));
+            }
+        }
+        Ok(self.choose_call(marked))
+    }
+
+    fn note(&mut self, entry: &Entry, marked: &Marked) -> Result<(), AllocError> {
         let new = numbers_of(entry);
         if let Some(mark) = new.mark {
             self.join(mark)?;
@@ -134,18 +139,5 @@ impl Agenda {
             Entry::Bind(_, cell, _) | Entry::Lost(cell) => self.wake(*cell),
             _ => Ok(()),
         }
-    }
-
-    // The tokens that waited for a cell can move.
-    fn wake(&mut self, cell: u64) -> Result<(), AllocError> {
-        if let Some(tokens) = self.waiting.remove(&cell) {
-            for token in tokens {
-                self.tokens.push_back(Turn {
-                    token,
-                    listed: true,
-                })?;
-            }
-        }
-        Ok(())
     }
 }

@@ -5,13 +5,37 @@ ghost use Rattle.orc_outcome.specs.Outcome.{IsPlayed};
 ghost use Rattle.orc_reference.specs.Stories.{IsReached, HasEnded, Settles};
 ghost use Rattle.orc_rules.specs.Sites.{Table};
 
-use crate::agenda::{Agenda, Choice};
+use crate::agenda::Agenda;
 use crate::history::History;
+use orc_checker::{Marked, Side};
 use orc_outcome::{End, PlayFault, Played};
 use orc_rules::answers::Answers;
 use orc_rules::entry::{Entry, RuleFault};
 use orc_rules::program::Program;
-use std::alloc::Global;
+use std::alloc::{AllocError, Global};
+
+/// What comes next in a run.
+#[derive(Drop)]
+pub(crate) enum Choice {
+    Entry(Entry),
+    /// No token can move, and no call will ever be due.
+    Nothing,
+}
+
+/// What says which entry comes next. No contract depends on it.
+pub(crate) trait Turns {
+    /// An entry that can come next, while no cancel is due: a move of a token, else the end of `side`, which has halted, else a return that is
+    /// due now, else a tick.
+    fn choose(
+        &mut self,
+        program: &Program,
+        marked: &Marked,
+        side: Option<Side>,
+    ) -> Result<Choice, AllocError>;
+
+    /// Takes note of what an entry has made: new tokens, a call, or tokens that wait no more.
+    fn note(&mut self, entry: &Entry, marked: &Marked) -> Result<(), AllocError>;
+}
 
 // How a run ends where nothing can come next.
 fn rest(history: &mut History, program: &Program) -> Result<End, PlayFault>
@@ -56,9 +80,9 @@ fn settle(history: &mut History, program: &Program, answers: &Answers) -> Result
 }
 
 // Adds entries until nothing can come next or the journal has `limit` of them, cancels not counted.
-fn proceed(
+pub(crate) fn proceed<T: Turns>(
     history: &mut History,
-    agenda: &mut Agenda,
+    turns: &mut T,
     program: &Program,
     answers: &Answers,
     limit: u64,
@@ -67,7 +91,7 @@ fn proceed(
 {
     for _turn in 0..limit {
         let side = history.halted_side();
-        let entry = match agenda.choose(program, history.marked(), side) {
+        let entry = match turns.choose(program, history.marked(), side) {
             Ok(Choice::Entry(entry)) => entry,
             Ok(Choice::Nothing) => return rest(history, program),
             Err(_) => return Ok(End::Memory),
@@ -78,12 +102,12 @@ fn proceed(
             Err(_) => return Err(PlayFault::Broken),
         }
         settle(history, program, answers)?;
-        if agenda.note(&entry, history.marked()).is_err() {
+        if turns.note(&entry, history.marked()).is_err() {
             return Ok(End::Memory);
         }
     }
     let side = history.halted_side();
-    match agenda.choose(program, history.marked(), side) {
+    match turns.choose(program, history.marked(), side) {
         Ok(Choice::Entry(_)) => Ok(cut(history, program, limit)),
         Ok(Choice::Nothing) => rest(history, program),
         Err(_) => Ok(End::Memory),

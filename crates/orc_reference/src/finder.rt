@@ -1,0 +1,429 @@
+//! A run that shows what is wanted, looked for among all that the rules allow.
+//!
+//! The search goes along one run as far as it shows no more than is wanted, and then back to the last choice. What it finds is played again, entry by
+//! entry, so nothing that is said of the run rests on the search.
+
+ghost use Rattle.std.specs.Prelude.{◌≡◌, IfOk, IfSome};
+ghost use Rattle.orc_outcome.specs.Outcome.{IsPlayed};
+
+use crate::form::{Forms, mix, mix_value};
+use crate::history::History;
+use crate::reference::{Choice, Turns, proceed};
+use orc_checker::{Marked, Next, Side};
+use orc_outcome::{End, PlayFault, Played};
+use orc_rules::answers::Answers;
+use orc_rules::entry::Entry;
+use orc_rules::program::Program;
+use orc_rules::value::{Answer, Args, Value};
+use orc_term::arena::{Double, Kind, Single, Tip};
+use orc_verdict::{entry_of, return_entry, side_entry, token_entry};
+use std::alloc::{AllocError, Global};
+use std::collections::HashMap;
+use std::mem::replace;
+
+/// What happens in a run, as those outside see it. Cancels aren't told.
+#[derive(Clone, Copy)]
+pub enum Happened<'e> {
+    /// A site, by its number in the table, is called with these arguments.
+    Called(u32, &'e Args),
+    /// Such a call is answered.
+    Answered(u32, &'e Args, Answer),
+    Published(Value),
+}
+
+/// What is wanted of a run.
+pub trait Wanted {
+    /// How much of it has been seen after this happened, where so much had been before. None where this isn't to happen.
+    fn after(&self, seen: usize, happened: Happened<'_>) -> Option<usize>;
+
+    /// Whether a run is wanted that ends so after so much of it has been seen.
+    fn is_met(&self, seen: usize, end: End) -> bool;
+}
+
+// A call that was made on the way: where its entry stands, and a number of what was called.
+#[derive(Clone, Copy)]
+struct Made {
+    entry: usize,
+    called: u64,
+}
+
+// Where the way stood before a choice: the term, the entries that are still to be tried there, and how far the way, its calls and what was seen had come.
+struct Level {
+    marked: Marked,
+    next: Vec<Entry>,
+    entries: usize,
+    calls: usize,
+    counts: u64,
+    seen: usize,
+}
+
+impl Drop for Level {
+    fn drop(self) {
+        let Level {
+            marked: _,
+            next: _,
+            entries: _,
+            calls: _,
+            counts: _,
+            seen: _,
+        } = self;
+    }
+}
+
+// What a turn of the search comes to.
+#[derive(Clone, Copy)]
+enum Turn {
+    /// The way leads to what is wanted.
+    Found,
+    More,
+    /// All has been tried.
+    Nothing,
+}
+
+struct Search<'s> {
+    alloc: Global,
+    program: &'s Program,
+    answers: &'s Answers,
+    way: Vec<Entry>,
+    calls: Vec<Made>,
+    levels: Vec<Level>,
+    /// The places to which a way has led, by numbers of what they look like.
+    known: HashMap<u64, ()>,
+}
+
+impl Drop for Search<'_> {
+    fn drop(self) {
+        let Search {
+            alloc: _,
+            program: _,
+            answers: _,
+            way: _,
+            calls: _,
+            levels: _,
+            known: _,
+        } = self;
+    }
+}
+
+// A number of the site that is called and the arguments.
+fn mix_args(site: u32, args: &Args) -> u64 {
+    let mut mixed = mix(1, site as u64);
+    for value in args.as_slice() {
+        mixed = mix_value(mixed, *value);
+    }
+    mixed
+}
+
+// Whether a token can do no more than move marks, which no rule asks for.
+fn is_of_marks(next: &Next) -> bool {
+    matches!(next, Next::End | Next::Fork | Next::Seq | Next::Other)
+}
+
+impl Search<'_> {
+    // A call that was made on the way, by its number.
+    fn made(&self, call: u64) -> Option<(u32, &Args)> {
+        let made = self.calls.get(call.saturating_sub(1) as usize)?;
+        match self.way.get(made.entry) {
+            Some(Entry::Call(_, _, site, args)) => Some((*site, args)),
+            _ => None,
+        }
+    }
+
+    fn answered<W: Wanted>(
+        &self,
+        wanted: &W,
+        seen: usize,
+        call: u64,
+        answer: Answer,
+    ) -> Option<usize> {
+        let (site, args) = self.made(call)?;
+        wanted.after(seen, Happened::Answered(site, args, answer))
+    }
+
+    // How much has been seen after an entry. None where it isn't to be.
+    fn seen_after<W: Wanted>(&self, wanted: &W, seen: usize, entry: &Entry) -> Option<usize> {
+        match entry {
+            Entry::Call(_, _, site, args) => { wanted.after(seen, Happened::Called(*site, args)) }
+            Entry::Return(call, _, value) => self.answered(
+                wanted,
+                seen,
+                *call,
+                Answer::Value(*value),
+            ),
+            Entry::ReturnHalt(call) => self.answered(wanted, seen, *call, Answer::Halt),
+            Entry::Publish(_, value) => wanted.after(seen, Happened::Published(*value)),
+            _ => Some(seen),
+        }
+    }
+
+    // Adds an entry to the way. For a call, the counts of calls so far with this one, as far as later calls are answered otherwise for it.
+    fn add(&mut self, entry: Entry, counts: u64) -> Result<u64, AllocError> {
+        let mut after = counts;
+        if let Entry::Call(_, _, site, args) = &entry {
+            let called = mix_args(*site, args);
+            let mut earlier = 0_u64;
+            for made in self.calls.as_slice() {
+                if made.called == called {
+                    earlier = earlier.saturating_add(1);
+                }
+            }
+            if earlier < self.answers.last_answer(*site, args) {
+                after = counts.wrapping_add(mix(called, earlier));
+            }
+            self.calls.push(Made {
+                entry: self.way.len(),
+                called,
+            })?;
+        }
+        self.way.push(entry)?;
+        Ok(after)
+    }
+
+    // Applies an entry to a term and adds it to the way, if the rules take it.
+    fn apply(&mut self, marked: &mut Marked, entry: Entry) -> Result<(), AllocError> {
+        if marked.step(self.program, self.answers, &entry).is_ok() {
+            self.way.push(entry)?;
+        }
+        Ok(())
+    }
+
+    // Applies the cancels that are due, and the moves of marks of the tokens from this mark on, which no rule asks for.
+    fn settle(&mut self, marked: &mut Marked, from: u64) -> Result<(), AllocError> {
+        for _turn in 0..marked.new_call() {
+            match marked.next_cancel() {
+                Some(call) => self.apply(marked, Entry::Cancel(call))?,
+                None => break,
+            }
+        }
+        for mark in from..u64::MAX {
+            if mark >= marked.new_mark() {
+                break;
+            }
+            if let Some(next) = marked.next(self.program, mark) {
+                if is_of_marks(&next) {
+                    if let Some(entry) = token_entry(marked, mark, next) {
+                        self.apply(marked, entry)?;
+                    }
+                }
+            }
+        }
+        Ok(())
+    }
+
+    // The entry by which the token or the side of a node can go on.
+    fn entry_at(&self, marked: &Marked, kind: Kind) -> Option<Entry> {
+        match kind {
+            Kind::Leaf(Tip::Token(mark, _, _)) | Kind::Leaf(Tip::Bears(mark, _)) => {
+                entry_of(marked, self.program, mark)
+            }
+            Kind::One(Single::Entered(mark, _, _), _) => side_entry(
+                marked,
+                Side::Left(mark as u64),
+            ),
+            Kind::Two(Double::Side(cell), _, _) => side_entry(marked, Side::Right(cell)),
+            _ => None,
+        }
+    }
+
+    // The entries that can come next: moves of tokens and sides, and returns that are due; a tick where there are none.
+    fn entries(&self, marked: &mut Marked) -> Result<Vec<Entry>, AllocError> {
+        let mut entries = Vec::new(self.alloc);
+        for slot in marked.nodes() {
+            if let Some(entry) = self.entry_at(marked, slot.node().kind) {
+                entries.push(entry)?;
+            }
+        }
+        for call in 1..marked.new_call() {
+            match marked.due(call) {
+                Some((answer, time)) if time == marked.now() => {
+                    entries.push(return_entry(marked, call, answer))?;
+                }
+                _ => {}
+            }
+        }
+        if entries.is_empty() {
+            if let Some(time) = marked.next_due() {
+                entries.push(Entry::Tick(time))?;
+            }
+        }
+        // The last one is tried first.
+        entries.reverse();
+        Ok(entries)
+    }
+
+    // What a place looks like, as a number: its term, the calls that count and what was seen.
+    fn number_of(&self, marked: &Marked, counts: u64, seen: usize) -> Result<u64, AllocError> {
+        let mut called = Vec::new(self.alloc);
+        for made in self.calls.as_slice() {
+            called.push(made.called)?;
+        }
+        let form = Forms::new(self.alloc, self.program).of(marked, called.as_slice())?;
+        Ok(mix(mix(mix(1, form), counts), seen as u64))
+    }
+
+    // Goes on from a place to which the way has led: a new level of choices, unless it ends there or was there before.
+    fn stand<W: Wanted>(
+        &mut self,
+        wanted: &W,
+        mut marked: Marked,
+        counts: u64,
+        seen: usize,
+    ) -> Result<Turn, AllocError> {
+        if marked.has_halted() {
+            return Ok(if wanted.is_met(seen, End::Halted) {
+                Turn::Found
+            } else {
+                Turn::More
+            });
+        }
+        let number = self.number_of(&marked, counts, seen)?;
+        if self.known.contains_key(&number) {
+            return Ok(Turn::More);
+        }
+        self.known.insert(number, ())?;
+        let next = self.entries(&mut marked)?;
+        if next.is_empty() {
+            return Ok(if wanted.is_met(seen, End::Quiet) {
+                Turn::Found
+            } else {
+                Turn::More
+            });
+        }
+        self.levels.push(Level {
+            marked,
+            next,
+            entries: self.way.len(),
+            calls: self.calls.len(),
+            counts,
+            seen,
+        })?;
+        Ok(Turn::More)
+    }
+
+    // Tries the next entry at the last choice, or goes back to the one before.
+    fn turn<W: Wanted>(&mut self, wanted: &W) -> Result<Turn, AllocError> {
+        let Some(level) = self.levels.last_mut() else {
+            return Ok(Turn::Nothing);
+        };
+        self.way.truncate(level.entries);
+        self.calls.truncate(level.calls);
+        let Some(entry) = level.next.pop() else {
+            let _level = self.levels.pop();
+            return Ok(Turn::More);
+        };
+        let mut marked = level.marked.copy(self.alloc)?;
+        let counts = level.counts;
+        let before = level.seen;
+        let Some(seen) = self.seen_after(wanted, before, &entry) else {
+            return Ok(Turn::More);
+        };
+        let from = marked.new_mark();
+        if marked.step(self.program, self.answers, &entry).is_err() {
+            return Ok(Turn::More);
+        }
+        let counts = self.add(entry, counts)?;
+        self.settle(&mut marked, from)?;
+        self.stand(wanted, marked, counts, seen)
+    }
+
+    // Looks for what is wanted through so many places at most: the way that leads there.
+    fn go<W: Wanted>(&mut self, wanted: &W, most: usize) -> Result<Option<Vec<Entry>>, AllocError> {
+        let mut marked = Marked::new(self.alloc, self.program, true)?;
+        self.settle(&mut marked, 1)?;
+        let mut turn = self.stand(wanted, marked, 0, 0)?;
+        for _turn in 0..u64::MAX {
+            match turn {
+                Turn::Found => return Ok(Some(replace(&mut self.way, Vec::new(self.alloc)))),
+                Turn::Nothing => return Ok(None),
+                Turn::More => {}
+            }
+            if self.known.len() > most {
+                return Ok(None);
+            }
+            turn = self.turn(wanted)?;
+        }
+        Ok(None)
+    }
+}
+
+// The entries of a way, one in each turn. Cancels follow by themselves.
+#[derive(Drop)]
+struct Steps {
+    // The next one last.
+    rest: Vec<Entry>,
+}
+
+impl Turns for Steps {
+    fn choose(
+        &mut self,
+        _program: &Program,
+        _marked: &Marked,
+        _side: Option<Side>,
+    ) -> Result<Choice, AllocError> {
+        for _ in 0..u64::MAX {
+            match self.rest.pop() {
+                None => break,
+                Some(Entry::Cancel(_)) => {}
+                Some(entry) => return Ok(Choice::Entry(entry)),
+            }
+        }
+        Ok(Choice::Nothing)
+    }
+
+    fn note(&mut self, _entry: &Entry, _marked: &Marked) -> Result<(), AllocError> {
+        Ok(())
+    }
+}
+
+// A way to what is wanted, through so many places at most. The error is refused memory.
+fn way_to<W: Wanted>(
+    alloc: Global,
+    program: &Program,
+    answers: &Answers,
+    wanted: &W,
+    most: usize,
+) -> Result<Option<Vec<Entry>>, AllocError> {
+    let mut search = Search {
+        alloc,
+        program,
+        answers,
+        way: Vec::new(alloc),
+        calls: Vec::new(alloc),
+        levels: Vec::new(alloc),
+        known: HashMap::new(alloc),
+    };
+    let way = search.go(wanted, most)?;
+    Ok(way)
+}
+
+/// A run of a program that shows what is wanted, with its journal: looked for through so many places at most, at which a run may stand. None where no such
+/// run was found. A run has at most `limit` entries, cancels not counted.
+///
+/// The fault is Memory where memory was refused; or Broken where the rules refuse an entry that was to come next.
+pub fn find<W: Wanted>(
+    alloc: Global,
+    program: &Program,
+    answers: &Answers,
+    wanted: &W,
+    most: usize,
+    limit: u64,
+) -> Result<Option<Played>, PlayFault>
+    ensures { IfOk result (λ found. IfSome found (λ p. IsPlayed program.now answers.now limit p.summary p.published.items p.journal)) }
+{
+    let Ok(found) = way_to(alloc, program, answers, wanted, most) else {
+        return Err(PlayFault::Memory);
+    };
+    let Some(mut way) = found else {
+        return Ok(None);
+    };
+    way.reverse();
+    let Ok(mut history) = History::new(alloc, program) else {
+        return Err(PlayFault::Memory);
+    };
+    let mut steps = Steps { rest: way };
+    let end = proceed(&mut history, &mut steps, program, answers, limit)?;
+    if end == End::Memory {
+        return Err(PlayFault::Memory);
+    }
+    Ok(Some(history.played(end)))
+}

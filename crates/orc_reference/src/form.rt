@@ -1,0 +1,210 @@
+//! The form of a marked term as one number: terms that differ in marks and in the numbers of calls and cells alone have the same one.
+//!
+//! Nothing is promised of it. Two terms may have the same number by chance, and then a search takes one for the other.
+
+use orc_checker::Marked;
+use orc_rules::param::{Operand, Param};
+use orc_rules::program::{Program, TermNode};
+use orc_rules::value::{Answer, Found, Value};
+use orc_term::arena::{Double, Kind, Single, Tip};
+use std::alloc::{AllocError, Global};
+use std::collections::HashMap;
+
+/// A number that differs for most texts of numbers, into which the words are mixed one after another.
+pub(crate) fn mix(seed: u64, word: u64) -> u64 {
+    (seed ^ word)
+        .wrapping_add(0x9E37_79B9_7F4A_7C15)
+        .wrapping_mul(0x9E37_79B9_7F4A_7C15)
+        .rotate_left(29)
+}
+
+/// The same with a value mixed in.
+pub(crate) fn mix_value(seed: u64, value: Value) -> u64 {
+    match value {
+        Value::Number(number) => mix(
+            mix(seed, if number < 0 { 1 } else { 0 }),
+            number.unsigned_abs(),
+        ),
+        Value::Truth(truth) => mix(seed, if truth { 2 } else { 3 }),
+        Value::Signal => mix(seed, 4),
+    }
+}
+
+// The same with what a call is answered, and the time that it has left.
+fn mix_found(seed: u64, found: Found, at: u64, now: u64) -> u64 {
+    match found {
+        Found::Never => mix(seed, 5),
+        Found::After(answer, delay) => {
+            let left = at.saturating_add(delay).saturating_sub(now);
+            match answer {
+                Answer::Halt => mix(mix(seed, 6), left),
+                Answer::Value(value) => mix(mix_value(mix(seed, 7), value), left),
+            }
+        }
+    }
+}
+
+/// What the form of a marked term is taken of.
+pub(crate) struct Forms<'p> {
+    pub alloc: Global,
+    pub program: &'p Program,
+    /// The place of the pruning of each cell that was opened on the way to where the walk stands.
+    cells: HashMap<u64, u64>,
+}
+
+impl Drop for Forms<'_> {
+    fn drop(self) {
+        let Forms {
+            alloc: _,
+            program: _,
+            cells: _,
+        } = self;
+    }
+}
+
+impl Forms<'_> {
+    /// For terms of a program.
+    pub(crate) fn new(alloc: Global, program: &Program) -> Forms<'_> {
+        Forms {
+            alloc,
+            program,
+            cells: HashMap::new(alloc),
+        }
+    }
+
+    fn mix_operand(&self, seed: u64, marked: &Marked, operand: Operand, scope: u32) -> u64 {
+        match marked.param(operand, scope as usize) {
+            Param::Is(value) => mix_value(mix(seed, 8), value),
+            Param::Void => mix(seed, 9),
+            Param::Name(name) => mix(mix(seed, 10), name as u64),
+            Param::Cell(cell) => {
+                let place = self.cells.get(&cell).copied().unwrap_or(0);
+                mix(mix(seed, 11), place)
+            }
+        }
+    }
+
+    // With a call of a site or a definition mixed in.
+    fn mix_call(&self, seed: u64, marked: &Marked, list: usize, scope: u32) -> u64 {
+        let mut mixed = seed;
+        for operand in self.program.operands(list) {
+            mixed = self.mix_operand(mixed, marked, *operand, scope);
+        }
+        mixed
+    }
+
+    // With a node of the program mixed in and all below it, in a scope. The error is refused memory.
+    fn mix_node(
+        &self,
+        seed: u64,
+        marked: &Marked,
+        node: u32,
+        scope: u32,
+    ) -> Result<u64, AllocError> {
+        let mut mixed = seed;
+        let mut todo = Vec::new(self.alloc);
+        todo.push(node as usize)?;
+        for _ in 0..u64::MAX {
+            let Some(node) = todo.pop() else {
+                break;
+            };
+            match self.program.node(node) {
+                TermNode::Stop => mixed = mix(mixed, 12),
+                TermNode::Operand(operand) => {
+                    mixed = self.mix_operand(mixed, marked, operand, scope);
+                }
+                TermNode::Site(site, list) => {
+                    mixed = self.mix_call(mix(mix(mixed, 13), site as u64), marked, list, scope);
+                }
+                TermNode::Call(definition, list) => {
+                    mixed = self.mix_call(
+                        mix(mix(mixed, 14), definition as u64),
+                        marked,
+                        list,
+                        scope,
+                    );
+                }
+                TermNode::Par(left, right) => {
+                    mixed = mix(mixed, 15);
+                    todo.push(right)?;
+                    todo.push(left)?;
+                }
+                TermNode::Seq(left, name, right) => {
+                    mixed = mix(mix(mixed, 16), name as u64);
+                    todo.push(right)?;
+                    todo.push(left)?;
+                }
+                TermNode::Prune(left, name, right) => {
+                    mixed = mix(mix(mixed, 17), name as u64);
+                    todo.push(right)?;
+                    todo.push(left)?;
+                }
+                TermNode::Other(left, right) => {
+                    mixed = mix(mixed, 18);
+                    todo.push(right)?;
+                    todo.push(left)?;
+                }
+            }
+        }
+        Ok(mixed)
+    }
+
+    // The form of what stands at a place without parts.
+    fn tip(&self, place: u64, marked: &Marked, calls: &[u64], tip: Tip) -> Result<u64, AllocError> {
+        match tip {
+            Tip::Gone | Tip::Ended => Ok(0),
+            Tip::Token(_, node, scope) => self.mix_node(place, marked, node, scope),
+            Tip::Bears(_, value) => Ok(mix_value(mix(place, 8), value)),
+            Tip::Waits(call) => {
+                let number = call.saturating_sub(1) as usize;
+                let made = calls.get(number).copied().unwrap_or(0);
+                let seed = mix(mix(place, 19), made);
+                match marked.calls().get(number) {
+                    Some(kept) => {
+                        let called = kept.called();
+                        Ok(mix_found(seed, called.found, called.at, marked.now()))
+                    }
+                    None => Ok(seed),
+                }
+            }
+        }
+    }
+
+    /// The form of a marked term, whose calls have these numbers by what was called. The error is refused memory.
+    pub(crate) fn of(&mut self, marked: &Marked, calls: &[u64]) -> Result<u64, AllocError> {
+        let mut form = 0_u64;
+        let mut todo = Vec::new(self.alloc);
+        todo.push((0_u32, 1_u64))?;
+        for _ in 0..u64::MAX {
+            let Some((at, place)) = todo.pop() else {
+                break;
+            };
+            let Some(slot) = marked.nodes().get(at as usize) else {
+                continue;
+            };
+            match slot.node().kind {
+                Kind::Leaf(tip) => {
+                    form = form.wrapping_add(self.tip(place, marked, calls, tip)?);
+                }
+                Kind::One(Single::Passed, part) => todo.push((part, place))?,
+                Kind::One(Single::Feeds(name, node, scope), part) => {
+                    let seed = mix(mix(place, 20), name as u64);
+                    todo.push((part, self.mix_node(seed, marked, node, scope)?))?;
+                }
+                Kind::One(Single::Entered(_, node, scope), part) => {
+                    todo.push((part, self.mix_node(mix(place, 21), marked, node, scope)?))?;
+                }
+                Kind::Two(Double::Both, left, right) => {
+                    todo.push((left, mix(place, 22)))?;
+                    todo.push((right, mix(place, 23)))?;
+                }
+                Kind::Two(Double::Side(cell), left, right) => {
+                    self.cells.insert(cell, place)?;
+                    todo.push((left, mix(place, 24)))?;
+                    todo.push((right, mix(place, 25)))?;
+                }
+            }
+        }
+        Ok(form)
+    }
+}
