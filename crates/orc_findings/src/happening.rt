@@ -69,14 +69,14 @@ fn write_name(sites: &[SiteName<'_>], site: u32, text: &mut Vec<u8>) -> Result<(
 }
 
 /// Writes what happens, as `Pay(7, 100) answered 2001`, where claims number these sites so. The error is refused memory.
-pub fn write_happening(
+pub fn write_occurrence(
     sites: &[SiteName<'_>],
-    happening: &Happening,
+    what: &Occurrence,
     text: &mut Vec<u8>,
 ) -> Result<(), AllocError>
-    ensures { OnOk result (text.new.items ≡ text.old.items ++ happening_text sites.now happening.now.what) }
+    ensures { OnOk result (text.new.items ≡ text.old.items ++ happening_text sites.now what.now) }
 {
-    match &happening.what {
+    match what {
         Occurrence::Published(value) => {
             text.extend_from_slice(b"published ")?;
             write_value(text, *value)
@@ -87,6 +87,17 @@ pub fn write_happening(
             write_phase(*phase, text)
         }
     }
+}
+
+/// The same of a happening, without its time. The error is refused memory.
+pub fn write_happening(
+    sites: &[SiteName<'_>],
+    happening: &Happening,
+    text: &mut Vec<u8>,
+) -> Result<(), AllocError>
+    ensures { OnOk result (text.new.items ≡ text.old.items ++ happening_text sites.now happening.now.what) }
+{
+    write_occurrence(sites, &happening.what, text)
 }
 
 /// Writes the values that are published, each behind a blank, or that there is none. The error is refused memory.

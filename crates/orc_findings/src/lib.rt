@@ -5,4 +5,4 @@ mod findings;
 mod happening;
 
 pub use findings::{Findings, Seen, find};
-pub use happening::{write_happening, write_published};
+pub use happening::{write_happening, write_occurrence, write_published};

@@ -1,3 +1,4 @@
+mod Appended
 pub mod Counting
 pub mod Noting
 pub mod Steps

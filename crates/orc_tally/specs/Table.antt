@@ -1,13 +1,17 @@
 -- The table that tells of a test's claims.
-use Rattle.std.specs.Prelude.{ℕ, zero, suc, List, [], ◌∷◌, ◌++◌, Option, Some, None, Bool, true, false, cond, ◌||◌, ◌&&◌, ◌-◌, codes, decimal, drop, take, length, nat_eq, nat_lt}
+use Rattle.std.specs.Prelude.{ℕ, zero, suc, List, [], ◌∷◌, ◌++◌, Option, Some, None, Bool, true, false, cond, not, ◌||◌, ◌&&◌, ◌-◌, codes, decimal, drop, take, is_some, length, nat_eq, nat_lt}
 use Rattle.std.specs.Char.{is_ascii_whitespace}
 use Rattle.std.specs.List.{prefix_len, suffix_len, slice_get}
 use Rattle.orc_tally.specs.declared.told.Told.{Told}
 use Rattle.orc_tally.specs.declared.told.Failure.{Failure}
 use Rattle.orc_tally.specs.declared.table.CaseReport.{CaseReport}
+use Rattle.orc_tally.specs.declared.table.Counterexample.{Counterexample}
+use Rattle.orc_tally.specs.declared.table.Counterexample.TheVariants as counterexample
 use Rattle.orc_tally.specs.declared.table.Report.{Report}
 use Rattle.orc_tally.specs.declared.table.Row.{Row}
 use Rattle.orc_tally.specs.declared.table.Row.TheVariants as row
+use Rattle.orc_tally.specs.declared.table.Searched.{Searched}
+use Rattle.orc_tally.specs.declared.table.Searched.TheVariants as searched
 use Rattle.orc_tally.specs.declared.table.Shown.{Shown}
 use Rattle.orc_ways.specs.declared.test.Case.{Case}
 use Rattle.orc_ways.specs.declared.test.ClaimLine.{ClaimLine}
@@ -51,27 +55,51 @@ abbrev pub tested_in : Option ℕ → ℕ → ℕ → List CaseReport → Bool
 tested_in section claim case [] = false
 tested_in section claim case (r ∷ rs) = is_tested (told_here section claim case r) || tested_in section claim (suc case) rs
 
-abbrev pub row_or : ℕ → Bool → Option Shown → Row
-row_or claim tested (Some s) = row.Fails claim s
-row_or claim tested None = row.Holds claim tested
+-- all ways of a case were tried, and no run was cut
+abbrev pub is_full : CaseReport → Bool
+is_full r = nat_eq r.tried r.ways && nat_eq r.cut 0
+
+-- so it is in each case against which a claim is held, of the cases from a place on
+abbrev pub are_full : Option ℕ → ℕ → List CaseReport → Bool
+are_full section case [] = true
+are_full section case (r ∷ rs) = (not (is_held section case) || is_full r) && are_full section (suc case) rs
+
+-- a claim failed in no run, and no run was left out: all schedules may keep it
+abbrev pub is_open : List CaseReport → Option ℕ → ℕ → Bool
+is_open rs section claim = not (is_some (shown_in section claim 0 rs)) && are_full section 0 rs
+
+-- what came of the search for a claim
+abbrev pub found_of : Option Searched → Searched
+found_of (Some s) = s
+found_of None = searched.No
+
+-- the row of a claim that failed in no run, by what came of its search
+abbrev pub unshown : ℕ → Bool → Searched → Row
+unshown claim tested searched.No = row.Holds claim tested false
+unshown claim tested searched.Whole = row.Holds claim tested true
+unshown claim tested (searched.Breaks b) = row.Fails claim (counterexample.Schedule b)
+
+abbrev pub row_or : ℕ → Bool → Searched → Option Shown → Row
+row_or claim tested found (Some s) = row.Fails claim (counterexample.Trial s)
+row_or claim tested found None = unshown claim tested found
 
 -- the row of a claim
-abbrev pub row_of : List CaseReport → Option ℕ → ℕ → Row
-row_of rs section claim = row_or claim (tested_in section claim 0 rs) (shown_in section claim 0 rs)
+abbrev pub row_of : List CaseReport → List Searched → Option ℕ → ℕ → Row
+row_of rs found section claim = row_or claim (tested_in section claim 0 rs) (found_of (slice_get found claim)) (shown_in section claim 0 rs)
 
 -- the rows of the claims of a section, where these are the lines of claims from a place on
-abbrev pub claim_rows : List CaseReport → Option ℕ → ℕ → List ClaimLine → List Row
-claim_rows rs section claim [] = []
-claim_rows rs section claim (l ∷ ls) = cond (is_same l.case section) (row_of rs section claim ∷ claim_rows rs section (suc claim) ls) (claim_rows rs section (suc claim) ls)
+abbrev pub claim_rows : List CaseReport → List Searched → Option ℕ → ℕ → List ClaimLine → List Row
+claim_rows rs found section claim [] = []
+claim_rows rs found section claim (l ∷ ls) = cond (is_same l.case section) (row_of rs found section claim ∷ claim_rows rs found section (suc claim) ls) (claim_rows rs found section (suc claim) ls)
 
 -- the rows of the cases from a place on
-abbrev pub case_rows : List CaseReport → List ClaimLine → ℕ → List CaseReport → List Row
-case_rows rs ls case [] = []
-case_rows rs ls case (r ∷ more) = row.Case case ∷ (claim_rows rs (Some case) 0 ls ++ case_rows rs ls (suc case) more)
+abbrev pub case_rows : List CaseReport → List Searched → List ClaimLine → ℕ → List CaseReport → List Row
+case_rows rs found ls case [] = []
+case_rows rs found ls case (r ∷ more) = row.Case case ∷ (claim_rows rs found (Some case) 0 ls ++ case_rows rs found ls (suc case) more)
 
 -- all rows
 abbrev pub rows : Report → List Row
-rows r = case_rows r.cases.now r.test.now.claim_lines.items 0 r.cases.now ++ (row.Always ∷ claim_rows r.cases.now None 0 r.test.now.claim_lines.items)
+rows r = case_rows r.cases.now r.searched.now r.test.now.claim_lines.items 0 r.cases.now ++ (row.Always ∷ claim_rows r.cases.now r.searched.now None 0 r.test.now.claim_lines.items)
 
 -- how many of them tell of a failure
 abbrev pub failing : List Row → ℕ
@@ -80,7 +108,7 @@ failing (row.Fails c s ∷ rs) = suc (failing rs)
 failing (x ∷ rs) = failing rs
 
 -- what shows the failure with this number, from 1
-abbrev pub failure_at : ℕ → List Row → Option Shown
+abbrev pub failure_at : ℕ → List Row → Option Counterexample
 failure_at n [] = None
 failure_at n (row.Fails c s ∷ rs) = cond (nat_eq n 1) (Some s) (failure_at (n - 1) rs)
 failure_at n (x ∷ rs) = failure_at n rs
@@ -153,27 +181,40 @@ abbrev pub section_of : Option ClaimLine → Option ℕ
 section_of (Some l) = l.case
 section_of None = None
 
+-- the end of the line of a claim that holds: whether it was put to the test, and whether every schedule keeps it
 abbrev pub note : Bool → List ℕ
 note true = codes "\n"
 note false = codes "    (never put to the test)\n"
 
--- the line of a claim that holds, and of one that fails
-abbrev pub holds_text : Report → ℕ → Bool → List ℕ
-holds_text r claim tested = codes "  ok     " ++ (claim_at (slice_get r.test.now.claim_lines.items claim) ++ note tested)
+abbrev pub whole_note : Bool → List ℕ
+whole_note true = codes "    (every schedule)\n"
+whole_note false = codes "    (every schedule; never put to the test)\n"
 
-abbrev pub fails_text : Report → ℕ → List ℕ
-fails_text r claim = codes "  FAILS  " ++ (claim_at (slice_get r.test.now.claim_lines.items claim) ++ (codes "    " ++ (shares r.test.now.cases.items (section_of (slice_get r.test.now.claim_lines.items claim)) claim true 0 r.cases.now ++ codes "\n")))
+-- the line of a claim that holds,
+abbrev pub holds_text : Report → ℕ → Bool → Bool → List ℕ
+holds_text r claim tested whole = codes "  ok     " ++ (claim_at (slice_get r.test.now.claim_lines.items claim) ++ cond whole (whole_note tested) (note tested))
+
+-- of one that fails in a run: in how many ways; and of one that a schedule breaks which no order showed: in which case
+abbrev pub schedule_text : Report → ℕ → List ℕ
+schedule_text r case = codes "a way of " ++ (name_at (slice_get r.test.now.cases.items case) ++ codes ", in a schedule that no order showed")
+
+abbrev pub share_text : Report → ℕ → Counterexample → List ℕ
+share_text r claim (counterexample.Trial s) = shares r.test.now.cases.items (section_of (slice_get r.test.now.claim_lines.items claim)) claim true 0 r.cases.now
+share_text r claim (counterexample.Schedule b) = schedule_text r b.case
+
+abbrev pub fails_text : Report → ℕ → Counterexample → List ℕ
+fails_text r claim x = codes "  FAILS  " ++ (claim_at (slice_get r.test.now.claim_lines.items claim) ++ (codes "    " ++ (share_text r claim x ++ codes "\n")))
 
 abbrev pub row_text : Report → Row → List ℕ
 row_text r (row.Case case) = case_text r case
 row_text r row.Always = codes "always\n"
-row_text r (row.Holds claim tested) = holds_text r claim tested
-row_text r (row.Fails claim s) = fails_text r claim
+row_text r (row.Holds claim tested whole) = holds_text r claim tested whole
+row_text r (row.Fails claim x) = fails_text r claim x
 
 -- the lines of rows, each failure with its details below it
 abbrev pub lines : Report → List (List ℕ) → List Row → List ℕ
 lines r ds [] = []
-lines r (d ∷ ds) (row.Fails claim s ∷ xs) = fails_text r claim ++ (d ++ lines r ds xs)
+lines r (d ∷ ds) (row.Fails claim x ∷ xs) = fails_text r claim x ++ (d ++ lines r ds xs)
 lines r ds (x ∷ xs) = row_text r x ++ lines r ds xs
 
 -- the last line
@@ -181,6 +222,17 @@ abbrev pub sum_text : ℕ → ℕ → List ℕ
 sum_text zero claims = codes "ok: " ++ (decimal claims ++ codes " claims\n")
 sum_text (suc n) claims = codes "fails: " ++ (decimal (suc n) ++ (codes " of " ++ (decimal claims ++ codes " claims\n")))
 
--- the whole table
+-- ---- the place of a counterexample
+
+abbrev pub case_of : Counterexample → ℕ
+case_of (counterexample.Trial s) = s.case
+case_of (counterexample.Schedule b) = b.case
+
+abbrev pub way_of : Counterexample → ℕ
+way_of (counterexample.Trial s) = s.failure.way
+way_of (counterexample.Schedule b) = b.way
+
+-- ---- the whole
+
 abbrev pub table : Report → List (List ℕ) → List ℕ
 table r ds = lines r ds (rows r) ++ sum_text (failing (rows r)) (length r.test.now.claims.items)

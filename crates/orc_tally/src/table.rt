@@ -2,7 +2,7 @@
 
 ghost use Rattle.std.specs.Prelude.{◌≡◌, ◌++◌, IfOk, OnOk, Some, length, map, true};
 ghost use Rattle.std.specs.List.{slice_get};
-ghost use Rattle.orc_tally.specs.Table.{before_comment, case_cut, case_rows, case_text, case_ways, claim_at, claim_rows, comma, failing, failing_in, failure_at, failure_of, fails_text, holds_text, is_held, is_same, is_tested, lines, name_at, note, orders_text, row_of, row_text, rows, section_of, shares, shown_in, shown_or, sum_text, table, tested_in, told_here, trimmed, ways_text};
+ghost use Rattle.orc_tally.specs.Table.{are_full, before_comment, case_cut, case_of, case_rows, case_text, case_ways, claim_at, claim_rows, comma, failing, failing_in, failure_at, failure_of, fails_text, found_of, holds_text, is_full, is_held, is_open, is_same, is_tested, lines, name_at, note, orders_text, row_of, row_text, rows, schedule_text, section_of, share_text, shares, shown_in, shown_or, sum_text, table, tested_in, told_here, trimmed, unshown, way_of, ways_text, whole_note};
 
 use crate::told::{Failure, Told};
 use orc_ways::test::{ClaimLine, Test};
@@ -28,6 +28,55 @@ pub struct Shown {
     pub failure: Failure,
 }
 
+/// What a search found a schedule in that breaks a claim: this way, from 0, of the case at this place.
+#[derive(Clone, Copy, PartialEq, Eq, Debug)]
+pub struct Broken {
+    pub case: usize,
+    pub way: u64,
+}
+
+/// What came of the search through all schedules for a claim.
+#[derive(Clone, Copy, PartialEq, Eq, Debug)]
+pub enum Searched {
+    /// Nothing: it wasn't made, or came to no end.
+    No,
+    /// Every schedule of every way keeps it: it holds in each run that ends by itself.
+    Whole,
+    /// A schedule breaks it.
+    Breaks(Broken),
+}
+
+/// What shows that a claim fails.
+#[derive(Clone, Copy)]
+pub enum Counterexample {
+    /// A run in some order.
+    Trial(Shown),
+    /// A schedule that none of these orders took.
+    Schedule(Broken),
+}
+
+impl Counterexample {
+    /// The place of its case.
+    pub fn case(&self) -> usize
+        ensures { result ≡ case_of self.now }
+    {
+        match self {
+            Counterexample::Trial(shown) => shown.case,
+            Counterexample::Schedule(broken) => broken.case,
+        }
+    }
+
+    /// The number of its way in the case, from 0.
+    pub fn way(&self) -> u64
+        ensures { result ≡ way_of self.now }
+    {
+        match self {
+            Counterexample::Trial(shown) => shown.failure.way,
+            Counterexample::Schedule(broken) => broken.way,
+        }
+    }
+}
+
 /// A line of the table.
 #[derive(Clone, Copy)]
 pub enum Row {
@@ -35,10 +84,16 @@ pub enum Row {
     Case(usize),
     /// The claims that stand below `always` begin.
     Always,
-    /// The claim at this place failed in no run; whether it was put to the test in some.
-    Holds(usize, bool),
+    /// The claim at this place failed in no run.
+    Holds {
+        claim: usize,
+        /// Whether it was put to the test in some run.
+        tested: bool,
+        /// Whether every schedule keeps it.
+        whole: bool,
+    },
     /// The claim at this place failed.
-    Fails(usize, Shown),
+    Fails(usize, Counterexample),
 }
 
 /// What is told of a test, whose ways were run in so many orders each.
@@ -48,10 +103,12 @@ pub struct Report<'r, 'a> {
     /// One for each case.
     pub cases: &'r [CaseReport],
     pub orders: u64,
+    /// One for each claim, in their order. Those that lack here weren't searched for.
+    pub searched: &'r [Searched],
 }
 
-// Whether a claim of this case, or of `always`, is held against the runs of the case at this place.
-fn is_held(section: Option<usize>, case: usize) -> bool
+/// Whether a claim of this case, or of `always`, is held against the runs of the case at this place.
+pub fn is_held(section: Option<usize>, case: usize) -> bool
     ensures { result ≡ is_held section case }
 {
     match section {
@@ -140,23 +197,91 @@ fn tested_in(section: Option<usize>, claim: usize, cases: &[CaseReport]) -> bool
     }
 }
 
-fn row_of(cases: &[CaseReport], section: Option<usize>, claim: usize) -> Row
-    ensures { result ≡ row_of cases.now section claim }
+// Whether all ways of a case were tried, and no run was cut.
+fn is_full(report: &CaseReport) -> bool
+    ensures { result ≡ is_full report.now }
+{
+    report.tried == report.ways && report.cut == 0
+}
+
+// Whether it is so in each case against which a claim is held.
+fn are_full(section: Option<usize>, cases: &[CaseReport]) -> bool
+    ensures { result ≡ are_full section 0 cases.now }
+{
+    let mut case = 0;
+    let mut rest = cases;
+    loop {
+        match rest {
+            [] => return true,
+            [report, more @ ..] => {
+                if is_held(section, case) && !is_full(report) {
+                    return false;
+                }
+                case += 1;
+                rest = more;
+            }
+        }
+    }
+}
+
+/// Whether a claim failed in no run while no run was left out: all ways of the cases against which it is held were tried, and no run was cut.
+pub fn is_open(cases: &[CaseReport], section: Option<usize>, claim: usize) -> bool
+    ensures { result ≡ is_open cases.now section claim }
+{
+    shown_in(section, claim, cases).is_none() && are_full(section, cases)
+}
+
+// What came of the search for a claim.
+fn found_of(searched: &[Searched], claim: usize) -> Searched
+    ensures { result ≡ found_of (slice_get searched.now claim) }
+{
+    match searched.get(claim) {
+        Some(found) => *found,
+        None => Searched::No,
+    }
+}
+
+// The row of a claim that failed in no run.
+fn unshown(claim: usize, tested: bool, searched: Searched) -> Row
+    ensures { result ≡ unshown claim tested searched }
+{
+    match searched {
+        Searched::No => Row::Holds {
+            claim,
+            tested,
+            whole: false,
+        },
+        Searched::Whole => Row::Holds {
+            claim,
+            tested,
+            whole: true,
+        },
+        Searched::Breaks(broken) => Row::Fails(claim, Counterexample::Schedule(broken)),
+    }
+}
+
+fn row_of(cases: &[CaseReport], searched: &[Searched], section: Option<usize>, claim: usize) -> Row
+    ensures { result ≡ row_of cases.now searched.now section claim }
 {
     match shown_in(section, claim, cases) {
-        Some(shown) => Row::Fails(claim, shown),
-        None => Row::Holds(claim, tested_in(section, claim, cases)),
+        Some(shown) => Row::Fails(claim, Counterexample::Trial(shown)),
+        None => unshown(
+            claim,
+            tested_in(section, claim, cases),
+            found_of(searched, claim),
+        ),
     }
 }
 
 // Adds the rows of the claims of a section. The error is refused memory.
 fn add_claims(
     cases: &[CaseReport],
+    searched: &[Searched],
     section: Option<usize>,
     claims: &[ClaimLine<'_>],
     rows: &mut Vec<Row>,
 ) -> Result<(), AllocError>
-    ensures { OnOk result (rows.new.items ≡ rows.old.items ++ claim_rows cases.now section 0 claims.now) }
+    ensures { OnOk result (rows.new.items ≡ rows.old.items ++ claim_rows cases.now searched.now section 0 claims.now) }
 {
     let mut claim = 0;
     let mut rest = claims;
@@ -165,7 +290,7 @@ fn add_claims(
             [] => return Ok(()),
             [line, more @ ..] => {
                 if is_same(line.case, section) {
-                    rows.push(row_of(cases, section, claim))?;
+                    rows.push(row_of(cases, searched, section, claim))?;
                 }
                 claim += 1;
                 rest = more;
@@ -177,7 +302,7 @@ fn add_claims(
 impl Report<'_, '_> {
     // The rows of the cases.
     fn case_rows(&self, alloc: Global) -> Result<Vec<Row>, AllocError>
-        ensures { IfOk result (λ rows. rows.items ≡ case_rows self.now.cases.now self.now.test.now.claim_lines.items 0 self.now.cases.now) }
+        ensures { IfOk result (λ rows. rows.items ≡ case_rows self.now.cases.now self.now.searched.now self.now.test.now.claim_lines.items 0 self.now.cases.now) }
     {
         let mut rows = Vec::new(alloc);
         let claims = self.test.claim_lines.as_slice();
@@ -188,7 +313,7 @@ impl Report<'_, '_> {
                 [] => return Ok(rows),
                 [_, more @ ..] => {
                     rows.push(Row::Case(case))?;
-                    add_claims(self.cases, Some(case), claims, &mut rows)?;
+                    add_claims(self.cases, self.searched, Some(case), claims, &mut rows)?;
                     case += 1;
                     rest = more;
                 }
@@ -204,6 +329,7 @@ impl Report<'_, '_> {
         rows.push(Row::Always)?;
         add_claims(
             self.cases,
+            self.searched,
             None,
             self.test.claim_lines.as_slice(),
             &mut rows,
@@ -232,7 +358,7 @@ pub fn failing(rows: &[Row]) -> usize
 }
 
 /// What shows the failure with this number, from 1, if there are so many.
-pub fn failure_at(rows: &[Row], number: u64) -> Option<Shown>
+pub fn failure_at(rows: &[Row], number: u64) -> Option<Counterexample>
     ensures { result ≡ failure_at number rows.now }
 {
     let mut number = number;
@@ -241,9 +367,9 @@ pub fn failure_at(rows: &[Row], number: u64) -> Option<Shown>
         match rest {
             [] => return None,
             [row, more @ ..] => {
-                if let Row::Fails(_, shown) = row {
+                if let Row::Fails(_, found) = row {
                     if number == 1 {
-                        return Some(*shown);
+                        return Some(*found);
                     }
                     number = number.saturating_sub(1);
                 }
@@ -395,19 +521,48 @@ impl Report<'_, '_> {
         }
     }
 
+    // The case in which a schedule breaks a claim.
+    fn write_schedule(&self, case: usize, text: &mut Vec<u8>) -> Result<(), AllocError>
+        ensures { OnOk result (text.new.items ≡ text.old.items ++ schedule_text self.now case) }
+    {
+        text.extend_from_slice(b"a way of ")?;
+        self.write_name(case, text)?;
+        text.extend_from_slice(b", in a schedule that no order showed")?;
+        Ok(())
+    }
+
+    // Where a claim fails.
+    fn write_share(
+        &self,
+        alloc: Global,
+        claim: usize,
+        found: &Counterexample,
+        text: &mut Vec<u8>,
+    ) -> Result<(), AllocError>
+        ensures { OnOk result (text.new.items ≡ text.old.items ++ share_text self.now claim found.now) }
+    {
+        match found {
+            Counterexample::Trial(_) => {
+                self.write_shares(alloc, self.section(claim), claim, text)
+            }
+            Counterexample::Schedule(broken) => self.write_schedule(broken.case, text),
+        }
+    }
+
     // The line of a claim that fails.
     fn write_failure(
         &self,
         alloc: Global,
         claim: usize,
+        found: &Counterexample,
         text: &mut Vec<u8>,
     ) -> Result<(), AllocError>
-        ensures { OnOk result (text.new.items ≡ text.old.items ++ fails_text self.now claim) }
+        ensures { OnOk result (text.new.items ≡ text.old.items ++ fails_text self.now claim found.now) }
     {
         text.extend_from_slice(b"  FAILS  ")?;
         self.write_claim(claim, text)?;
         text.extend_from_slice(b"    ")?;
-        self.write_shares(alloc, self.section(claim), claim, text)?;
+        self.write_share(alloc, claim, found, text)?;
         text.push(b'\n')?;
         Ok(())
     }
@@ -427,13 +582,19 @@ impl Report<'_, '_> {
         &self,
         claim: usize,
         tested: bool,
+        whole: bool,
         text: &mut Vec<u8>,
     ) -> Result<(), AllocError>
-        ensures { OnOk result (text.new.items ≡ text.old.items ++ holds_text self.now claim tested) }
+        ensures { OnOk result (text.new.items ≡ text.old.items ++ holds_text self.now claim tested whole) }
     {
         text.extend_from_slice(b"  ok     ")?;
         self.write_claim(claim, text)?;
-        text.extend_from_slice(note(tested).as_bytes())
+        let note = if whole {
+            whole_note(tested)
+        } else {
+            note(tested)
+        };
+        text.extend_from_slice(note.as_bytes())
     }
 
     fn write_row(&self, alloc: Global, row: Row, text: &mut Vec<u8>) -> Result<(), AllocError>
@@ -442,8 +603,12 @@ impl Report<'_, '_> {
         match row {
             Row::Case(case) => self.write_case(alloc, case, text),
             Row::Always => text.extend_from_slice(b"always\n"),
-            Row::Holds(claim, tested) => self.write_success(claim, tested, text),
-            Row::Fails(claim, _) => self.write_failure(alloc, claim, text),
+            Row::Holds {
+                claim,
+                tested,
+                whole,
+            } => self.write_success(claim, tested, whole, text),
+            Row::Fails(claim, found) => self.write_failure(alloc, claim, &found, text),
         }
     }
 
@@ -517,6 +682,17 @@ pub fn note(tested: bool) -> &'static str
         "\n"
     } else {
         "    (never put to the test)\n"
+    }
+}
+
+// The same of one that every schedule keeps.
+fn whole_note(tested: bool) -> &'static str
+    ensures { result.now ≡ whole_note tested }
+{
+    if tested {
+        "    (every schedule)\n"
+    } else {
+        "    (every schedule; never put to the test)\n"
     }
 }
 
