@@ -21,6 +21,7 @@ abbrev pub shares : Job → Bool
 shares (job.Run file script options) = names_input file.now && may_name_input (option_map (λ p. p.now) script)
 shares (job.Outcomes file script options) = names_input file.now && may_name_input (option_map (λ p. p.now) script)
 shares (job.Search file script options states) = names_input file.now && may_name_input (option_map (λ p. p.now) script)
+shares (job.Show file script options states number) = names_input file.now && may_name_input (option_map (λ p. p.now) script)
 shares (job.Check file journal script) = two_of (names_input file.now) (names_input journal.now) (may_name_input (option_map (λ p. p.now) script))
 shares (job.Claims file journal script test) = two_of_four (names_input file.now) (names_input journal.now) (may_name_input (option_map (λ p. p.now) script)) (names_input test.now)
 shares (job.Draw file journal script options) = two_of (names_input file.now) (names_input journal.now) (may_name_input (option_map (λ p. p.now) script))

@@ -3,7 +3,7 @@
 ghost use Rattle.std.specs.Prelude.{◌≡◌, IfOk, false};
 ghost use Rattle.orc_cli.specs.Inputs.{shares};
 
-use crate::job::{Asked, Job, Options, Shown, SurveyOptions, TestOptions, Wanted};
+use crate::job::{Asked, Job, Options, Order, Shown, SurveyOptions, TestOptions, Wanted};
 use clap::error::ErrorKind;
 use clap::{Arg, ArgAction, ArgMatches, Command, Error, value_parser};
 use orc_draw::{Form, Theme};
@@ -16,7 +16,7 @@ const MOST_ORDERS: i64 = 10_000;
 
 const DEFAULT_ORDERS: u64 = 100;
 
-/// Through how many states `outcomes --all` searches at most, and where nothing is said.
+/// Through how many states `outcomes --all` and `test` search at most, and where nothing is said.
 const MOST_STATES: i64 = 10_000_000;
 
 const DEFAULT_STATES: u64 = 5_000;
@@ -48,9 +48,10 @@ Status:
   2  the command line was refused       6  a file or the output failed
   3  quiet: it waits for ever           7  the engine is at fault";
 
-// What an option takes: a number from 1 to `most`, or else the default.
+// What an option takes: a number from `least` to `most`, or else the default.
 #[derive(Drop)]
 struct Range {
+    least: i64,
     most: i64,
     default: String,
     help: String,
@@ -59,10 +60,22 @@ struct Range {
 impl Range {
     // The error is refused memory.
     fn new(alloc: Global, what: &str, most: i64, default: u64) -> Result<Range, AllocError> {
+        Range::from(alloc, what, 1, most, default)
+    }
+
+    // The error is refused memory.
+    fn from(
+        alloc: Global,
+        what: &str,
+        least: i64,
+        most: i64,
+        default: u64,
+    ) -> Result<Range, AllocError> {
         Ok(Range {
+            least,
             most,
             default: format!(in alloc; "{default}")?,
-            help: format!(in alloc; "{what}, 1 to {most}")?,
+            help: format!(in alloc; "{what}, {least} to {most}")?,
         })
     }
 }
@@ -74,6 +87,7 @@ pub struct Ranges {
     states: Range,
     ways: Range,
     trials: Range,
+    schedules: Range,
     limit: Range,
 }
 
@@ -86,6 +100,7 @@ impl Drop for Ranges {
             states: _,
             ways: _,
             trials: _,
+            schedules: _,
             limit: _,
         } = self;
     }
@@ -99,6 +114,7 @@ impl Ranges {
         let states = "With --all: the greatest number of states";
         let ways = "How many ways of each case are tried";
         let trials = "In how many orders each way is run";
+        let schedules = "The greatest number of states of a search for \"every schedule\"";
         let limit = "The greatest number of journal entries";
         Ok(Ranges {
             workers: Range::new(alloc, workers, MOST_WORKERS as i64, DEFAULT_WORKERS as u64)?,
@@ -106,6 +122,7 @@ impl Ranges {
             states: Range::new(alloc, states, MOST_STATES, DEFAULT_STATES)?,
             ways: Range::new(alloc, ways, MOST_WAYS, DEFAULT_WAYS)?,
             trials: Range::new(alloc, trials, MOST_ORDERS, DEFAULT_TRIALS)?,
+            schedules: Range::from(alloc, schedules, 0, MOST_STATES, DEFAULT_STATES)?,
             limit: Range::new(alloc, limit, MOST_ENTRIES as i64, DEFAULT_ENTRIES)?,
         })
     }
@@ -129,7 +146,7 @@ fn number_argument<'a>(alloc: Global, name: &'static str, range: &'a Range) -> A
     Arg::new(alloc, name)
         .long(name)
         .value_name("N")
-        .value_parser(value_parser!(u64).range(1..=range.most))
+        .value_parser(value_parser!(u64).range(range.least..=range.most))
         .default_value(range.default.as_str())
         .help(range.help.as_str())
 }
@@ -143,6 +160,14 @@ fn order_argument<'a>(alloc: Global) -> Result<Arg<'a>, AllocError> {
         .conflicts_with("workers")
 }
 
+fn unordered_flag<'a>(alloc: Global) -> Result<Arg<'a>, AllocError> {
+    Arg::new(alloc, "unordered")
+        .long("unordered")
+        .action(ArgAction::SetTrue)
+        .help("Let the workers race where the rules leave the order free; runs may differ")
+        .conflicts_with("order")
+}
+
 fn schedules_flag<'a>(alloc: Global) -> Arg<'a> {
     Arg::new(alloc, "all")
         .long("all")
@@ -152,6 +177,14 @@ fn schedules_flag<'a>(alloc: Global) -> Arg<'a> {
 
 fn states_argument<'a>(alloc: Global, range: &'a Range) -> Result<Arg<'a>, AllocError> {
     number_argument(alloc, "states", range).requires_arg("all")
+}
+
+fn show_argument<'a>(alloc: Global) -> Arg<'a> {
+    Arg::new(alloc, "show")
+        .long("show")
+        .value_name("K")
+        .value_parser(value_parser!(u64).range(1..=MOST_STATES))
+        .help("Write the journal of a run with the outcome on line K instead")
 }
 
 fn times_flag<'a>(alloc: Global) -> Result<Arg<'a>, AllocError> {
@@ -253,6 +286,7 @@ fn run_command<'a>(alloc: Global, ranges: &'a Ranges) -> Result<Command<'a>, All
         .arg(script_argument(alloc))?
         .arg(number_argument(alloc, "workers", &ranges.workers))?
         .arg(order_argument(alloc)?)?
+        .arg(unordered_flag(alloc)?)?
         .arg(number_argument(alloc, "limit", &ranges.limit))?
         .arg(times_flag(alloc)?)?
         .arg(journal_flag(alloc))?
@@ -269,6 +303,7 @@ fn outcomes_command<'a>(alloc: Global, ranges: &'a Ranges) -> Result<Command<'a>
         .arg(number_argument(alloc, "limit", &ranges.limit))?
         .arg(schedules_flag(alloc))?
         .arg(states_argument(alloc, &ranges.states)?)?
+        .arg(show_argument(alloc))?
         .arg(explain_flag(alloc, EXPLAIN))
 }
 
@@ -335,6 +370,7 @@ fn test_command<'a>(alloc: Global, ranges: &'a Ranges) -> Result<Command<'a>, Al
         .arg(script_argument(alloc))?
         .arg(number_argument(alloc, "ways", &ranges.ways))?
         .arg(number_argument(alloc, "orders", &ranges.trials))?
+        .arg(number_argument(alloc, "states", &ranges.schedules))?
         .arg(number_argument(alloc, "workers", &ranges.workers))?
         .arg(number_argument(alloc, "limit", &ranges.limit))?
         .arg(fail_argument(alloc))?
@@ -367,12 +403,24 @@ fn wanted_of(given: &ArgMatches) -> Wanted {
     }
 }
 
-// How a program is run. An order is one worker's.
+// The order of a number, where one is given.
+fn order_of(given: &ArgMatches) -> Order {
+    match given.get_one::<u64>("order") {
+        Some(number) => Order::Numbered(number),
+        None => Order::Fixed,
+    }
+}
+
+// How a program is run. The order of a number is one worker's.
 fn options_of(given: &ArgMatches) -> Option<Options> {
-    let order = given.get_one::<u64>("order");
+    let order = if given.get_flag("unordered") {
+        Order::Unordered
+    } else {
+        order_of(given)
+    };
     let workers = match order {
-        Some(_) => 1,
-        None => given.get_one::<u64>("workers")?,
+        Order::Numbered(_) => 1,
+        Order::Fixed | Order::Unordered => given.get_one::<u64>("workers")?,
     };
     Some(Options {
         workers,
@@ -390,23 +438,41 @@ fn survey_options_of(given: &ArgMatches) -> Option<SurveyOptions> {
     })
 }
 
-// In how many orders a program is run, and whether all schedules are searched then.
+// Through how many states all schedules are searched, where they are.
+fn states_of(given: &ArgMatches) -> Option<u64> {
+    if !given.get_flag("all") {
+        return None;
+    }
+    given.get_one::<u64>("states")
+}
+
+// In how many orders a program is run, whether all schedules are searched then, and whether one outcome is to be shown.
 fn outcomes_of<'a>(file: &'a str, given: &ArgMatches<'a>) -> Option<Job<'a>> {
     let script = given.get_str("script");
     let options = survey_options_of(given)?;
-    if given.get_flag("all") {
-        return Some(Job::Search {
+    let states = states_of(given);
+    if let Some(number) = given.get_one::<u64>("show") {
+        return Some(Job::Show {
             file,
             script,
             options,
-            states: given.get_one::<u64>("states")?,
+            states,
+            number,
         });
     }
-    Some(Job::Outcomes {
-        file,
-        script,
-        options,
-    })
+    match states {
+        Some(states) => Some(Job::Search {
+            file,
+            script,
+            options,
+            states,
+        }),
+        None => Some(Job::Outcomes {
+            file,
+            script,
+            options,
+        }),
+    }
 }
 
 fn shown_of(given: &ArgMatches) -> Shown {
@@ -428,6 +494,7 @@ fn test_options_of(given: &ArgMatches) -> Option<TestOptions> {
         ways: given.get_one::<u64>("ways")?,
         orders: given.get_one::<u64>("orders")?,
         limit: given.get_one::<u64>("limit")?,
+        states: given.get_one::<u64>("states")?,
         shown: shown_of(given),
     })
 }
@@ -468,10 +535,10 @@ fn check_of<'a>(
 
 // How a program is run whose journal is drawn.
 fn drawn_run_of(given: &ArgMatches) -> Option<Options> {
-    let order = given.get_one::<u64>("order");
+    let order = order_of(given);
     let workers = match order {
-        Some(_) => 1,
-        None => DEFAULT_WORKERS as u64,
+        Order::Numbered(_) => 1,
+        Order::Fixed | Order::Unordered => DEFAULT_WORKERS as u64,
     };
     Some(Options {
         workers,

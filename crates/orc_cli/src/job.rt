@@ -34,6 +34,15 @@ pub enum Job<'a> {
         options: SurveyOptions,
         states: u64,
     },
+    /// The journal of a run that has the outcome on the line with this number, from 1: of those that came up in these orders, and where there are states, of
+    /// those that a search through so many of them found.
+    Show {
+        file: &'a str,
+        script: Option<&'a str>,
+        options: SurveyOptions,
+        states: Option<u64>,
+        number: u64,
+    },
     Check {
         file: &'a str,
         journal: &'a str,
@@ -107,6 +116,7 @@ impl Job<'_> {
             Job::Run { file, script, .. }
             | Job::Outcomes { file, script, .. }
             | Job::Search { file, script, .. }
+            | Job::Show { file, script, .. }
             | Job::DrawRun { file, script, .. } => is_input(file) && may_be_input(script),
             Job::Check {
                 file,
@@ -163,6 +173,8 @@ pub struct TestOptions {
     pub orders: u64,
     /// The most entries that a run's journal may have, cancels not counted.
     pub limit: u64,
+    /// A search through all schedules of a way looks at so many states at most; 0 for no search.
+    pub states: u64,
     /// What is written of it.
     pub shown: Shown,
 }
@@ -183,12 +195,23 @@ pub enum Shown {
 pub struct Options {
     /// How many workers run it, 1 to `MOST_WORKERS`.
     pub workers: u64,
-    /// Which order one worker takes where the rules leave it free. Several don't ask for it.
-    pub order: Option<u64>,
+    /// What comes first where the rules leave it free.
+    pub order: Order,
     /// The most entries that the run's journal may have, cancels not counted.
     pub limit: u64,
     /// What is written of it.
     pub wanted: Wanted,
+}
+
+/// What comes first in a run where the rules leave it free.
+#[derive(Clone, Copy, Debug, PartialEq, Eq)]
+pub enum Order {
+    /// The same each time.
+    Fixed,
+    /// What this number draws, on one worker. Several don't ask for it.
+    Numbered(u64),
+    /// What the workers' threads get to first.
+    Unordered,
 }
 
 /// What is written of a run.

@@ -7,4 +7,6 @@ mod arguments;
 mod job;
 
 pub use arguments::{Ranges, read_words};
-pub use job::{Asked, Job, Options, STANDARD_INPUT, Shown, SurveyOptions, TestOptions, Wanted};
+pub use job::{
+    Asked, Job, Options, Order, STANDARD_INPUT, Shown, SurveyOptions, TestOptions, Wanted,
+};

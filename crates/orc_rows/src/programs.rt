@@ -17,6 +17,9 @@ pub const FIELDS: &str =
 /// The numbers of workers on which a program is run, where its row says nothing.
 const WORKERS: &str = "1 2 4 16";
 
+/// On how many workers a program is run that race each other.
+const RACERS: &str = "4";
+
 /// How many entries a journal may have whose end is explained: what is told of a long one takes long.
 const MOST_EXPLAINED: u64 = 10_000;
 
@@ -55,6 +58,11 @@ fn state_of(status: u8) -> &'static str {
         3 => "Quiet",
         _ => "Running",
     }
+}
+
+// Whether a run with this status came to an end, and not to a fault.
+fn is_end(status: u8) -> bool {
+    matches!(status, 0 | 3 | 4)
 }
 
 // How many bytes a text's blanks and, behind a `|`, its `^` have: where it underlines, and how much.
@@ -177,6 +185,24 @@ impl<R: Threads + Wait + Sync> Trial<'_, R> {
         Ok(())
     }
 
+    // Notes what the journal of a run with this status has otherwise than the row or a check of it says.
+    fn look_at_journal<'t>(&mut self, text: &'t str, status: u8) -> io::Result<Told<'t>> {
+        let bytes = Vec::from_slice(self.alloc, text.as_bytes())?;
+        self.folder.put("a.journal", bytes)?;
+        let told = read_journal(self.alloc, text)?;
+        self.look_at_number("entries", told.entries)?;
+        self.look_at_number("counted", told.counted)?;
+        if self.row.field("time").unwrap_or(told.time) != told.time {
+            self.note("it ends at time", told.time)?;
+        }
+        self.look_at_lines(text)?;
+        let (entries, state) = (told.entries, state_of(status));
+        let verdict = format!(in self.alloc; "ok {entries} {state}")?;
+        let wanted = self.row.field("check").unwrap_or(verdict.as_str());
+        self.check(wanted, "a.script")?;
+        Ok(told)
+    }
+
     // Runs the program again with `--journal`, and notes what its journal has otherwise than the row or the run says.
     fn try_run_journal(&mut self, words: &mut Vec<&str>, plain: &Done) -> io::Result<()> {
         words.push("--journal")?;
@@ -185,23 +211,10 @@ impl<R: Threads + Wait + Sync> Trial<'_, R> {
         if done.status != plain.status || !done.err.is_empty() {
             self.note("with --journal it says", done.err.as_str())?;
         }
-        let text = done.out.as_str();
-        let bytes = Vec::from_slice(self.alloc, text.as_bytes())?;
-        self.folder.put("a.journal", bytes)?;
-        let told = read_journal(self.alloc, text)?;
+        let told = self.look_at_journal(done.out.as_str(), plain.status)?;
         if told.published.as_str() != plain.out.as_str() {
             self.note("its journal publishes", told.published.as_str())?;
         }
-        self.look_at_number("entries", told.entries)?;
-        self.look_at_number("counted", told.counted)?;
-        if self.row.field("time").unwrap_or(told.time) != told.time {
-            self.note("it ends at time", told.time)?;
-        }
-        self.look_at_lines(text)?;
-        let (entries, state) = (told.entries, state_of(plain.status));
-        let verdict = format!(in self.alloc; "ok {entries} {state}")?;
-        let wanted = self.row.field("check").unwrap_or(verdict.as_str());
-        self.check(wanted, "a.script")?;
         if let Some(wanted) = self.row.field("refuses") {
             self.check(wanted, "instead.script")?;
         }
@@ -211,15 +224,21 @@ impl<R: Threads + Wait + Sync> Trial<'_, R> {
         self.look_at_end(words, &told, plain)
     }
 
-    // Notes what a run does otherwise than the row says.
-    fn look_at_run(&mut self, words: &mut Vec<&str>, done: &Done) -> io::Result<()> {
+    // Notes a status and a text on standard error that aren't what the row says.
+    fn look_at_status(&mut self, done: &Done) -> io::Result<()> {
         let status = format!(in self.alloc; "{}", done.status)?;
         if !is_one_of(self.row.field("status").unwrap_or("0"), status.as_str()) {
             self.note("the status is", status.as_str())?;
         }
         self.look_at_error(done)?;
+        Ok(())
+    }
+
+    // Notes what a run does otherwise than the row says.
+    fn look_at_run(&mut self, words: &mut Vec<&str>, done: &Done) -> io::Result<()> {
+        self.look_at_status(done)?;
         let out = done.out.as_str();
-        if !matches!(done.status, 0 | 3 | 4) {
+        if !is_end(done.status) {
             if !out.is_empty() {
                 self.note("standard output is", out)?;
             }
@@ -235,9 +254,23 @@ impl<R: Threads + Wait + Sync> Trial<'_, R> {
         self.try_run_journal(words, done)
     }
 
-    /// Tries a row that is a program: with each of its lines of words, on each number of workers.
+    // Runs the program on workers that race each other, and notes what its journal has otherwise than the row says. It is one run, since another may differ.
+    fn try_unordered(&mut self, more: &str) -> io::Result<()> {
+        let mut words = words_of(self.alloc, RACERS, more)?;
+        words.extend_from_slice(["--unordered", "--journal"].as_slice())?;
+        let done = self.run(words.as_slice())?;
+        self.look_at_status(&done)?;
+        let told = self.look_at_journal(done.out.as_str(), done.status)?;
+        self.look_at_values(told.published.as_str())?;
+        let line = joined(self.alloc, words.as_slice())?;
+        self.count(line.as_str())?;
+        Ok(())
+    }
+
+    /// Tries a row that is a program: with each of its lines of words, on each number of workers, and on workers that race each other.
     pub fn try_program(&mut self) -> io::Result<()> {
         let mut last: Option<String> = None;
+        let mut is_run = !self.row.has("text") && !self.row.has("workers");
         for more in self.row.field("words").unwrap_or("").split('\n') {
             for workers in self.row.field("workers").unwrap_or(WORKERS).split(' ') {
                 let mut words = words_of(self.alloc, workers, more)?;
@@ -252,7 +285,11 @@ impl<R: Threads + Wait + Sync> Trial<'_, R> {
                     self.note("not what it publishes on others", done.out.as_str())?;
                 }
                 self.count(line.as_str())?;
+                is_run = is_run && is_end(done.status);
                 last = Some(done.out);
+            }
+            if is_run {
+                self.try_unordered(more)?;
             }
         }
         Ok(())

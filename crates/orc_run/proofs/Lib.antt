@@ -6,9 +6,12 @@ pub mod Listed
 pub mod LoadFaults
 pub mod Outputs
 pub mod Parted
+pub mod Schedules
 pub mod Scripting
+pub mod Showing
 pub mod Searching
 pub mod Statuses
 pub mod Testing
 pub mod Timing
 pub mod Told
+pub mod Untold

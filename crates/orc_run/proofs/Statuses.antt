@@ -36,8 +36,10 @@ use Rattle.orc_run.specs.Claimed.{LeavesUnclaimed}
 use Rattle.orc_run.specs.Drawn.{LeavesUndrawn, LeavesUndrawnRun}
 use Rattle.orc_run.specs.Printed.{LeavesUnprinted}
 use Rattle.orc_run.specs.Searched.{HasSearched, LeavesUnsearched}
+use Rattle.orc_run.specs.Shown.{LeavesUnshown}
 use Rattle.orc_run.specs.Surveyed.{LeavesUnsurveyed}
 use Rattle.orc_run.specs.Tested.{LeavesUntested}
+use Rattle.orc_run.specs.declared.shown.Unshown.TheVariants as unshown
 use Rattle.orc_run.specs.declared.tests.Untested.{Untested}
 use Rattle.orc_run.specs.declared.tests.Untested.TheVariants as untested
 use Rattle.orc_cli.specs.declared.job.Options.{Options}
@@ -61,6 +63,9 @@ unread (failure.Unread path f) out u = Keeps-refl out
 unread (failure.Fault f) out u = absurd u
 unread failure.Rows out u = absurd u
 unread (failure.NoFailure n) out u = absurd u
+unread (failure.NoOutcome n) out u = absurd u
+unread (failure.NoRun n) out u = absurd u
+unread (failure.NoJournal n) out u = absurd u
 
 -- and so do a run, a survey, a check, a print and a drawing at a fault that is not of the output.
 pub unrun : (source script : List ℕ) (o : Options) (old new : Option (List ℕ)) (f : RunFault) → LeavesAtFault source script o old new f → LeavesUndone (failure.Fault f) old new
@@ -92,6 +97,16 @@ unsearched source script orders limit states old new (fault.Journal f) k = k
 unsearched source script orders limit states old new (fault.Check f) k = k
 unsearched source script orders limit states old new (fault.Engine f) k = k
 unsearched source script orders limit states old new (fault.Write w) k = tt
+
+pub not_shown : (source script : List ℕ) (orders limit number : ℕ) (old new : Option (List ℕ)) (f : RunFault) → LeavesUnshown source script orders limit number old new (unshown.Fault f) → LeavesUndone (failure.Fault f) old new
+not_shown source script orders limit number old new (fault.Syntax f) k = k
+not_shown source script orders limit number old new (fault.Scope f) k = k
+not_shown source script orders limit number old new (fault.Script f) k = k
+not_shown source script orders limit number old new (fault.Test f) k = k
+not_shown source script orders limit number old new (fault.Journal f) k = k
+not_shown source script orders limit number old new (fault.Check f) k = k
+not_shown source script orders limit number old new (fault.Engine f) k = k
+not_shown source script orders limit number old new (fault.Write w) k = tt
 
 pub unjudged : (source script journal : List ℕ) (old new : Option (List ℕ)) (f : RunFault) → LeavesUnjudged source script journal old new f → LeavesUndone (failure.Fault f) old new
 unjudged source script journal old new (fault.Syntax f) k = k
@@ -172,6 +187,9 @@ kept (failure.Fault (fault.Engine f)) old new status e d k = k
 kept (failure.Fault (fault.Write w)) old new status e d k = absurd (d (sym e))
 kept failure.Rows old new status e d k = k
 kept (failure.NoFailure n) old new status e d k = k
+kept (failure.NoOutcome n) old new status e d k = k
+kept (failure.NoRun n) old new status e d k = k
+kept (failure.NoJournal n) old new status e d k = k
 
 -- ---- how a run ended
 
@@ -204,6 +222,7 @@ pub faultless : (holds : List ℕ → Option (List ℕ)) (j : Job) (old new : Op
 faultless holds (job.Run file script options) old new status (source, read, s, held, said, ran, is) = subst IsFaultless (sym is) (end_in s.end)
 faultless holds (job.Outcomes file script options) old new status (source, read, held, said, told, is) = subst IsFaultless (sym is) zero_faultless
 faultless holds (job.Search file script options states) old new status (source, read, all, held, said, searched, is) = subst IsFaultless (sym is) (of_all all)
+faultless holds (job.Show file script options states number) old new status (source, read, held, said, shown, is) = subst IsFaultless (sym is) zero_faultless
 faultless holds (job.Check file journal script) old new status (source, text, read, held, told, said, judges, is) = subst IsFaultless (sym is) zero_faultless
 faultless holds (job.Claims file journal script test) old new status (source, lines, text, read, failing, held, told, held_too, said, claimed, is) = subst IsFaultless (sym is) (of_failing (nat_eq failing 0))
 faultless holds (job.Draw file journal script options) old new status (source, text, read, held, told, said, draws, is) = subst IsFaultless (sym is) zero_faultless
@@ -232,6 +251,7 @@ pub failed : (holds : List ℕ → Option (List ℕ)) (j : Job) (old new : Optio
 failed holds (job.Run file script options) old new status (source, read, s, held, said, ran, is) one = absurd (no_fault s.end (sym is ∙ one))
 failed holds (job.Outcomes file script options) old new status (source, read, held, said, told, is) one = absurd (omega (arith, is, one))
 failed holds (job.Search file script options states) old new status (source, read, all, held, said, searched, is) one = absurd (zero_or_four all 1 (λ h. omega (arith, h)) (λ h. omega (arith, h)) (sym is ∙ one))
+failed holds (job.Show file script options states number) old new status (source, read, held, said, shown, is) one = absurd (omega (arith, is, one))
 failed holds (job.Check file journal script) old new status (source, text, read, held, told, said, judges, is) one = absurd (omega (arith, is, one))
 failed holds (job.Claims file journal script test) old new status (source, lines, text, read, failing, held, told, held_too, said, claimed, is) one = inr (source, text, read, lines, failing, claimed, some_failing failing (sym is ∙ one))
 failed holds (job.Draw file journal script options) old new status (source, text, read, held, told, said, draws, is) one = absurd (omega (arith, is, one))
@@ -261,6 +281,7 @@ pub ended_quiet : (holds : List ℕ → Option (List ℕ)) (j : Job) (old new : 
 ended_quiet holds (job.Run file script options) old new status (source, read, s, held, said, ran, is) three = (options, source, read, s, ran, quiet_only s.end (sym is ∙ three))
 ended_quiet holds (job.Outcomes file script options) old new status (source, read, held, said, told, is) three = absurd (omega (arith, is, three))
 ended_quiet holds (job.Search file script options states) old new status (source, read, all, held, said, searched, is) three = absurd (zero_or_four all 3 (λ h. omega (arith, h)) (λ h. omega (arith, h)) (sym is ∙ three))
+ended_quiet holds (job.Show file script options states number) old new status (source, read, held, said, shown, is) three = absurd (omega (arith, is, three))
 ended_quiet holds (job.Check file journal script) old new status (source, text, read, held, told, said, judges, is) three = absurd (omega (arith, is, three))
 ended_quiet holds (job.Claims file journal script test) old new status (source, lines, text, read, failing, held, told, held_too, said, claimed, is) three = absurd (zero_or_one (nat_eq failing 0) 3 (omega arith) (sym is ∙ three))
 ended_quiet holds (job.Draw file journal script options) old new status (source, text, read, held, told, said, draws, is) three = absurd (omega (arith, is, three))
@@ -277,6 +298,7 @@ pub ended_cut : (holds : List ℕ → Option (List ℕ)) (j : Job) (old new : Op
 ended_cut holds (job.Run file script options) old new status (source, read, s, held, said, ran, is) four = inl (⊎_elim (λ e. inl (options, source, read, s, ran, e)) (λ e. inr (options, source, read, s, ran, e)) (cut_only s.end (sym is ∙ four)))
 ended_cut holds (job.Outcomes file script options) old new status (source, read, held, said, told, is) four = absurd (omega (arith, is, four))
 ended_cut holds (job.Search file script options states) old new status (source, read, all, held, said, searched, is) four = inr (not_all source read options.orders options.limit states old new all searched (sym is ∙ four))
+ended_cut holds (job.Show file script options states number) old new status (source, read, held, said, shown, is) four = absurd (omega (arith, is, four))
 ended_cut holds (job.Check file journal script) old new status (source, text, read, held, told, said, judges, is) four = absurd (omega (arith, is, four))
 ended_cut holds (job.Claims file journal script test) old new status (source, lines, text, read, failing, held, told, held_too, said, claimed, is) four = absurd (zero_or_one (nat_eq failing 0) 4 (omega arith) (sym is ∙ four))
 ended_cut holds (job.Draw file journal script options) old new status (source, text, read, held, told, said, draws, is) four = absurd (omega (arith, is, four))
@@ -359,6 +381,9 @@ module _ (n : ℕ) (not_one : n ≢ 1) (not_five : n ≢ 5) (not_six : n ≢ 6) 
   not_failed (failure.Fault (fault.Write w)) h = not_six (sym h)
   not_failed failure.Rows h = not_one (sym h)
   not_failed (failure.NoFailure number) h = not_one (sym h)
+  not_failed (failure.NoOutcome number) h = not_one (sym h)
+  not_failed (failure.NoRun number) h = not_one (sym h)
+  not_failed (failure.NoJournal number) h = not_one (sym h)
 
 pub not_quiet : (f : Failure) → failure_status f ≢ 3
 not_quiet f = not_failed 3 (λ h. omega (arith, h)) (λ h. omega (arith, h)) (λ h. omega (arith, h)) (λ h. omega (arith, h)) f

@@ -25,11 +25,11 @@ use Rattle.orc_orders.specs.declared.ways.CaseTold.{CaseTold}
 use Rattle.orc_tally.specs.Table.{failing, rows}
 use Rattle.orc_tally.specs.declared.table.CaseReport.{CaseReport}
 use Rattle.orc_tally.specs.declared.table.Report.{Report}
-use Rattle.orc_tally.specs.declared.table.Shown.{Shown as Failing}
 use Rattle.orc_outcome.specs.declared.end.Summary.{Summary}
 use Rattle.orc_run.specs.Running.{IsOwnOf, LeavesAtFault, Ran}
 use Rattle.orc_run.specs.declared.output.WriteFault.{WriteFault}
-use Rattle.orc_run.specs.Tested.{AreScripts, AreWays, HasFailing, IsScript, IsTried, LeavesUntested, Writes, of_trial}
+use Rattle.orc_run.specs.Tested.{AreScripts, AreWays, HasFailing, IsReport, IsTried, LeavesUntested, Writes, of_trial}
+use Rattle.orc_run.specs.Whole.{AreSaid, IsScriptAt}
 use Rattle.orc_run.specs.declared.faults.RunFault.{RunFault}
 use Rattle.orc_run.specs.declared.faults.RunFault.TheVariants as fault
 use Rattle.orc_run.specs.declared.tests.CaseScripts.{CaseScripts}
@@ -39,6 +39,7 @@ use Rattle.orc_run.specs.declared.tests.Untested.TheVariants as untested
 -- where nothing was written the output is as it was,
 pub unwritten : (old : Option (List ℕ)) (f : Untested) → LeavesUntested old old f
 unwritten old (untested.NoFailure n) = Keeps-refl old
+unwritten old (untested.NoJournal n) = Keeps-refl old
 unwritten old (untested.Fault (fault.Syntax f)) = Keeps-refl old
 unwritten old (untested.Fault (fault.Scope f)) = Keeps-refl old
 unwritten old (untested.Fault (fault.Script f)) = Keeps-refl old
@@ -91,37 +92,46 @@ pub stands_there : {X : Type 0} (xs : List X) (at : ℕ) (x : X) → at < length
 stands_there xs at x here same = slice_get-get_or xs at x here ∙ ap Some (sym same)
 
 -- the script at these places
-pub script_there : (cases : List CaseScripts) (f : Failing) (s : CaseScripts) (vs : List (Vec ℕ)) (v : Vec ℕ) (text : List ℕ) → slice_get cases f.case ≡ Some s → vs ≡ s.scripts.items → slice_get vs f.failure.way ≡ Some v → text ≡ v.items → IsScript cases f text
-script_there cases f s vs v text here same there is = (s, here, slice_get-map (λ w. w.items) s.scripts.items f.failure.way ∙ ap (option_map (λ w. w.items)) (ap (λ ws. slice_get ws f.failure.way) (sym same) ∙ there) ∙ ap Some (sym is))
+pub script_there : (cases : List CaseScripts) (case way : ℕ) (s : CaseScripts) (vs : List (Vec ℕ)) (v : Vec ℕ) (text : List ℕ) → slice_get cases case ≡ Some s → vs ≡ s.scripts.items → slice_get vs way ≡ Some v → text ≡ v.items → IsScriptAt cases case way text
+script_there cases case way s vs v text here same there is = (s, here, slice_get-map (λ w. w.items) s.scripts.items way ∙ ap (option_map (λ w. w.items)) (ap (λ ws. slice_get ws way) (sym same) ∙ there) ∙ ap Some (sym is))
 
--- what was tried and written of a test that was read
+-- what is reported of a test that was read and tried
+pub is_report : (source script text : List ℕ) (o : TestOptions) (t : Trials) (test : Test) (cases : List CaseScripts) (others : Table) (ways : List CaseWays)
+    → AreWays (test_of test) 0 ways → length ways ≡ length test.cases.items → AllZip (AreScripts o.ways script) ways cases
+    → t.source.now ≡ source → t.sites.now ≡ test.sites.items → t.claims.now ≡ test.claims.items → t.orders ≡ o.orders → t.limit ≡ o.limit → Says script others → SaysTest text others (test_of test)
+    → (r : Report) → r.test.now ≡ test → AllZip (IsTried t) cases r.cases.now → r.orders ≡ o.orders → AreSaid t r.test.now.claim_lines.items cases r.cases.now r.searched.now
+    → IsReport source text script o cases r
+is_report source script text o t test cases others ways are every first of_source sites claims orders limit says reads r is tried each said = record {
+  others = others;
+  says = says;
+  reads = subst (λ x. SaysTest text others (test_of x)) (sym is) reads;
+  ways = ways;
+  cases = subst (λ x. AreWays (test_of x) 0 ways) (sym is) are;
+  every = every ∙ ap (λ x. length x.cases.items) (sym is);
+  first = first;
+  trials = t;
+  of_test = record {
+    of_source = of_source;
+    of_sites = sites ∙ ap (λ x. x.sites.items) (sym is);
+    of_claims = claims ∙ ap (λ x. x.claims.items) (sym is);
+    each = orders;
+    most = limit;
+  };
+  tried = tried;
+  orders = each;
+  schedules = said;
+}
+
+-- what was tried and written of it
 pub report_of : (source script text : List ℕ) (o : TestOptions) (t : Trials) (test : Test) (cases : List CaseScripts) (others : Table) (old new : Option (List ℕ)) (n : ℕ) (ways : List CaseWays)
     → AreWays (test_of test) 0 ways → length ways ≡ length test.cases.items → AllZip (AreScripts o.ways script) ways cases
     → t.source.now ≡ source → t.sites.now ≡ test.sites.items → t.claims.now ≡ test.claims.items → t.orders ≡ o.orders → t.limit ≡ o.limit → Says script others → SaysTest text others (test_of test)
-    → (r : Report) × (r.test.now ≡ test) × AllZip (IsTried t) cases r.cases.now × (r.orders ≡ o.orders) × Writes t.source.now o cases r o.shown old new × (n ≡ failing (rows r))
+    → (r : Report) × (r.test.now ≡ test) × AllZip (IsTried t) cases r.cases.now × (r.orders ≡ o.orders) × AreSaid t r.test.now.claim_lines.items cases r.cases.now r.searched.now × Writes t.source.now o cases r o.shown old new × (n ≡ failing (rows r))
     → HasFailing source text script o old new n
-report_of source script text o t test cases others old new n ways are every first of_source sites claims orders limit says reads (r, is, tried, each, writes, number) = (
+report_of source script text o t test cases others old new n ways are every first of_source sites claims orders limit says reads (r, is, tried, each, said, writes, number) = (
   cases,
   r,
-  record {
-    others = others;
-    says = says;
-    reads = subst (λ x. SaysTest text others (test_of x)) (sym is) reads;
-    ways = ways;
-    cases = subst (λ x. AreWays (test_of x) 0 ways) (sym is) are;
-    every = every ∙ ap (λ x. length x.cases.items) (sym is);
-    first = first;
-    trials = t;
-    of_test = record {
-      of_source = of_source;
-      of_sites = sites ∙ ap (λ x. x.sites.items) (sym is);
-      of_claims = claims ∙ ap (λ x. x.claims.items) (sym is);
-      each = orders;
-      most = limit;
-    };
-    tried = tried;
-    orders = each;
-  },
+  is_report source script text o t test cases others ways are every first of_source sites claims orders limit says reads r is tried each said,
   subst (λ x. Writes x o cases r o.shown old new) of_source writes,
   number,
 )

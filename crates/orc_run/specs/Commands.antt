@@ -13,6 +13,7 @@ use Rattle.orc_run.specs.Inputs.{IsHeld, IsRead}
 use Rattle.orc_run.specs.Printed.{Prints}
 use Rattle.orc_run.specs.Running.{Ran}
 use Rattle.orc_run.specs.Searched.{HasSearched}
+use Rattle.orc_run.specs.Shown.{HasShown}
 use Rattle.orc_run.specs.Surveyed.{HasSurveyed}
 use Rattle.orc_run.specs.Tested.{HasFailing}
 use Rattle.orc_cli.specs.declared.job.Job.{Job}
@@ -34,6 +35,10 @@ HasTold holds file script orders limit old new status = (source read : List ℕ)
 -- the same with what a search through all its schedules found, of so many states at most, and the status is 0 exactly if it says that this is all
 abbrev pub HasToldAll : (List ℕ → Option (List ℕ)) → List ℕ → Option (List ℕ) → ℕ → ℕ → ℕ → Option (List ℕ) → Option (List ℕ) → ℕ → Type 0
 HasToldAll holds file script orders limit states old new status = (source read : List ℕ) × (all : Bool) × IsHeld (holds file) source × IsRead holds script read × HasSearched source read orders limit states old new all × (status ≡ cond all 0 4)
+
+-- what was written is the journal of a run that has the outcome with this number
+abbrev pub HasShownOf : (List ℕ → Option (List ℕ)) → List ℕ → Option (List ℕ) → ℕ → ℕ → ℕ → Option (List ℕ) → Option (List ℕ) → ℕ → Type 0
+HasShownOf holds file script orders limit number old new status = (source read : List ℕ) × IsHeld (holds file) source × IsRead holds script read × HasShown source read orders limit number old new × (status ≡ 0)
 
 -- what was written is the line of the verdict on the journal
 abbrev pub HasJudged : (List ℕ → Option (List ℕ)) → List ℕ → List ℕ → Option (List ℕ) → Option (List ℕ) → Option (List ℕ) → ℕ → Type 0
@@ -64,6 +69,7 @@ abbrev pub IsDone : (List ℕ → Option (List ℕ)) → Job → Option (List �
 IsDone holds (job.Run file script options) old new status = HasRun holds file.now (option_map (λ p. p.now) script) options old new status
 IsDone holds (job.Outcomes file script options) old new status = HasTold holds file.now (option_map (λ p. p.now) script) options.orders options.limit old new status
 IsDone holds (job.Search file script options states) old new status = HasToldAll holds file.now (option_map (λ p. p.now) script) options.orders options.limit states old new status
+IsDone holds (job.Show file script options states number) old new status = HasShownOf holds file.now (option_map (λ p. p.now) script) options.orders options.limit number old new status
 IsDone holds (job.Check file journal script) old new status = HasJudged holds file.now journal.now (option_map (λ p. p.now) script) old new status
 IsDone holds (job.Claims file journal script test) old new status = HasHeld holds file.now journal.now (option_map (λ p. p.now) script) test.now old new status
 IsDone holds (job.Draw file journal script options) old new status = HasDrawn holds file.now journal.now (option_map (λ p. p.now) script) old new status
@@ -94,6 +100,9 @@ IsUnread (failure.Unread path f) = ⊤
 IsUnread (failure.Fault f) = ⊥
 IsUnread failure.Rows = ⊥
 IsUnread (failure.NoFailure n) = ⊥
+IsUnread (failure.NoOutcome n) = ⊥
+IsUnread (failure.NoRun n) = ⊥
+IsUnread (failure.NoJournal n) = ⊥
 
 -- nothing was written, unless the output was at fault
 abbrev pub LeavesUndone : Failure → Option (List ℕ) → Option (List ℕ) → Type 0

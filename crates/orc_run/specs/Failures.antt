@@ -14,6 +14,9 @@ failure_status (failure.Unread path f) = read_status_of f
 failure_status (failure.Fault f) = status f
 failure_status failure.Rows = 1
 failure_status (failure.NoFailure n) = 1
+failure_status (failure.NoOutcome n) = 1
+failure_status (failure.NoRun n) = 1
+failure_status (failure.NoJournal n) = 1
 
 -- the line on standard error, without its LF
 abbrev pub failure_line : Failure → List ℕ
@@ -22,6 +25,9 @@ failure_line (failure.Unread path (read.Failed why)) = codes "orc: read " ++ pat
 failure_line (failure.Fault f) = line f
 failure_line failure.Rows = codes "orc: draw: over " ++ (decimal MOST_ROWS ++ codes " rows")
 failure_line (failure.NoFailure n) = codes "orc: test: no failure " ++ decimal n
+failure_line (failure.NoOutcome n) = codes "orc: outcomes: no outcome " ++ decimal n
+failure_line (failure.NoRun n) = codes "orc: outcomes: no run found with outcome " ++ decimal n
+failure_line (failure.NoJournal n) = codes "orc: test: no run found with failure " ++ decimal n
 
 -- what follows it: nothing unless it is asked for
 abbrev pub told : Explained → List ℕ

@@ -9,7 +9,10 @@ pub mod Output
 pub mod Printed
 pub mod Running
 pub mod Searched
+pub mod Shown
 pub mod Status
 pub mod Surveyed
+pub mod TestFaults
 pub mod Tested
 pub mod Times
+pub mod Whole

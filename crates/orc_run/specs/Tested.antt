@@ -15,17 +15,21 @@ use Rattle.orc_orders.specs.Trials.{Tells, texts}
 use Rattle.orc_orders.specs.declared.trials.TrialFault.{TrialFault}
 use Rattle.orc_orders.specs.declared.trials.TrialFault.TheVariants as trial
 use Rattle.orc_orders.specs.declared.trials.Trials.{Trials}
-use Rattle.orc_tally.specs.Table.{failing, failure_at, rows, table}
+use Rattle.orc_tally.specs.Table.{case_of, failing, failure_at, rows, table, way_of}
 use Rattle.orc_tally.specs.declared.table.CaseReport.{CaseReport}
+use Rattle.orc_tally.specs.declared.table.Counterexample.{Counterexample}
+use Rattle.orc_tally.specs.declared.table.Counterexample.TheVariants as counterexample
 use Rattle.orc_tally.specs.declared.table.Report.{Report}
 use Rattle.orc_tally.specs.declared.table.Shown.{Shown as Failing}
 use Rattle.orc_cli.specs.declared.job.Options.{Options}
+use Rattle.orc_cli.specs.declared.job.Order.TheVariants as order
 use Rattle.orc_cli.specs.declared.job.Shown.{Shown}
 use Rattle.orc_cli.specs.declared.job.Shown.TheVariants as shown
 use Rattle.orc_cli.specs.declared.job.TestOptions.{TestOptions}
 use Rattle.orc_cli.specs.declared.job.Wanted.TheVariants as wanted
 use Rattle.orc_run.specs.Output.{AppendsPrefix}
 use Rattle.orc_run.specs.Running.{IsOwnOf, Ran, of_load}
+use Rattle.orc_run.specs.Whole.{AreSaid, IsScriptAt}
 use Rattle.orc_run.specs.declared.faults.RunFault.{RunFault}
 use Rattle.orc_run.specs.declared.faults.RunFault.TheVariants as fault
 use Rattle.orc_run.specs.declared.tests.CaseScripts.{CaseScripts}
@@ -54,8 +58,8 @@ pub record AreOf (source : List ℕ) (o : TestOptions) (r : Report) (t : Trials)
   pub each : t.orders ≡ o.orders
   pub most : t.limit ≡ o.limit
 
--- What is reported of a test: the text says it, the scripts are those of the first ways of each of its cases, so many as are to be tried, and it is told of
--- the trials of these ways.
+-- What is reported of a test: the text says it, the scripts are those of the first ways of each of its cases, so many as are to be tried, it is told of
+-- the trials of these ways, and what it says of all their schedules is so.
 pub record IsReport (source text script : List ℕ) (o : TestOptions) (scripts : List CaseScripts) (r : Report) : Type 0 where
   pub others : Table
   pub says : Says script others
@@ -68,20 +72,29 @@ pub record IsReport (source text script : List ℕ) (o : TestOptions) (scripts :
   pub of_test : AreOf source o r trials
   pub tried : AllZip (IsTried trials) scripts r.cases.now
   pub orders : r.orders ≡ o.orders
+  pub schedules : AreSaid trials r.test.now.claim_lines.items scripts r.cases.now r.searched.now
 
 -- the script of the way in which a failure is
-abbrev pub IsScript : List CaseScripts → Failing → List ℕ → Type 0
-IsScript scripts f text = (s : CaseScripts) × (slice_get scripts f.case ≡ Some s) × (slice_get (texts s.scripts.items) f.failure.way ≡ Some text)
+abbrev pub IsScript : List CaseScripts → Counterexample → List ℕ → Type 0
+IsScript scripts x text = IsScriptAt scripts (case_of x) (way_of x) text
 
 -- a run with that script, whose journal is wanted, in the order of the failure
 abbrev pub options_of : TestOptions → Failing → Options
-options_of o f = record { workers = 1; order = Some f.failure.order; limit = o.limit; wanted = wanted.Journal }
+options_of o f = record { workers = 1; order = order.Numbered f.failure.order; limit = o.limit; wanted = wanted.Journal }
+
+-- and one that is found for a schedule that no order showed
+abbrev pub witness_options : ℕ → Options
+witness_options limit = record { workers = 1; order = order.Fixed; limit = limit; wanted = wanted.Journal }
+
+abbrev pub options_for : TestOptions → Counterexample → Options
+options_for o (counterexample.Trial f) = options_of o f
+options_for o (counterexample.Schedule b) = witness_options o.limit
 
 -- what is written of it: its table, with some details below each failure; or the script or the journal that shows one failure
 abbrev pub Writes : List ℕ → TestOptions → List CaseScripts → Report → Shown → Option (List ℕ) → Option (List ℕ) → Type 0
 Writes source o scripts r shown.Table old new = (details : List (List ℕ)) × Appends old new (table r details)
-Writes source o scripts r (shown.Script n) old new = (f : Failing) × (text : List ℕ) × (failure_at n (rows r) ≡ Some f) × IsScript scripts f text × Appends old new text
-Writes source o scripts r (shown.Journal n) old new = (f : Failing) × (text : List ℕ) × (s : Summary) × (failure_at n (rows r) ≡ Some f) × IsScript scripts f text × Ran source text (options_of o f) old new s
+Writes source o scripts r (shown.Script n) old new = (x : Counterexample) × (text : List ℕ) × (failure_at n (rows r) ≡ Some x) × IsScript scripts x text × Appends old new text
+Writes source o scripts r (shown.Journal n) old new = (x : Counterexample) × (text : List ℕ) × (s : Summary) × (failure_at n (rows r) ≡ Some x) × IsScript scripts x text × Ran source text (options_for o x) old new s
 
 -- so many claims of the test fail, and that was written
 abbrev pub HasFailing : List ℕ → List ℕ → List ℕ → TestOptions → Option (List ℕ) → Option (List ℕ) → ℕ → Type 0
@@ -101,3 +114,4 @@ of_trial (trial.Engine f) = fault.Engine f
 abbrev pub IsOwnFault : Untested → Type 0
 IsOwnFault (untested.Fault f) = IsOwnOf f
 IsOwnFault (untested.NoFailure n) = ⊥
+IsOwnFault (untested.NoJournal n) = ⊥

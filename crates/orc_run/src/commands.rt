@@ -4,7 +4,7 @@ ghost use Rattle.std.specs.Prelude.{◌≡◌, ◌≢◌, ◌<◌, ◌⊎◌, �
 ghost use Rattle.std.specs.Io.KnownBytes.{Keeps};
 ghost use Rattle.orc_outcome.specs.declared.end.End.TheVariants as ends;
 ghost use Rattle.orc_run.specs.Inputs.{IsHeld, IsRead};
-ghost use Rattle.orc_run.specs.Commands.{HasDrawn, HasDrawnRun, HasEnded, HasHeld, HasJudged, HasPrinted, HasRun, HasTested, HasTold, HasToldAll, IsDone, IsUnread, LeavesUndone, TellsNotAll, TellsOfFailures, WasCut};
+ghost use Rattle.orc_run.specs.Commands.{HasDrawn, HasDrawnRun, HasEnded, HasHeld, HasJudged, HasPrinted, HasRun, HasShownOf, HasTested, HasTold, HasToldAll, IsDone, IsUnread, LeavesUndone, TellsNotAll, TellsOfFailures, WasCut};
 
 use crate::claims::claims_text;
 use crate::explained::{Explained, subject_of, subject_with_journal};
@@ -17,6 +17,7 @@ use crate::output::WriteFault;
 use crate::picture::{Undrawn, draw_run, draw_text};
 use crate::printer::print_text;
 use crate::runner::run_source;
+use crate::shown::{Unshown, show_text};
 use crate::tests::{Untested, test_text};
 use clap::error::ErrorKind;
 use orc_cli::{Asked, Job, Options, Ranges, SurveyOptions, TestOptions, read_words};
@@ -192,6 +193,46 @@ fn search_file<'a, R: Threads + Sync, F: Files, W: Write>(
             explained.fault(alloc, &subject, fault);
             Err(Failure::Fault(fault))
         }
+    }
+}
+
+// Shows an outcome of the program of a file, the one with this number: the journal of a run that has it.
+#[tactic(auto, using(crate::proofs::Statuses::unread, crate::proofs::Statuses::not_shown))]
+fn show_file<'a, R: Threads + Sync, F: Files, W: Write>(
+    rt: &R,
+    alloc: Global,
+    file: &'a str,
+    script: Option<&'a str>,
+    options: &SurveyOptions,
+    states: Option<u64>,
+    number: u64,
+    files: &mut F,
+    out: &mut W,
+    explained: &mut Explained,
+) -> Result<u8, Failure<'a>>
+    ensures done { IfOk result (HasShownOf (F.holds files.old) file.now (option_map (λ p. p.now) script.entry) options.now.orders options.now.limit number (W.contents out.old) (W.contents out.new)) }
+    ensures undone { IfErr result (λ f. LeavesUndone f (W.contents out.old) (W.contents out.new)) }
+{
+    let source = read(file, files)?;
+    let answers = read_script(alloc, script, files)?;
+    match show_text(
+        rt,
+        alloc,
+        source.as_slice(),
+        answers.as_slice(),
+        options,
+        states,
+        number,
+        out,
+    ) {
+        Ok(()) => Ok(0),
+        Err(Unshown::Fault(fault)) => {
+            let subject = subject_of(file, source.as_slice(), script, answers.as_slice());
+            explained.fault(alloc, &subject, fault);
+            Err(Failure::Fault(fault))
+        }
+        Err(Unshown::NoOutcome(number)) => Err(Failure::NoOutcome(number)),
+        Err(Unshown::NoRun(number)) => Err(Failure::NoRun(number)),
     }
 }
 
@@ -467,6 +508,7 @@ fn test_file<'a, R: Threads + Wait + Sync, F: Files, W: Write>(
             Err(Failure::Fault(fault))
         }
         Err(Untested::NoFailure(number)) => Err(Failure::NoFailure(number)),
+        Err(Untested::NoJournal(number)) => Err(Failure::NoJournal(number)),
     }
 }
 
@@ -500,6 +542,15 @@ fn do_job<'a, R: Threads + Wait + Sync, F: Files, W: Write>(
             states,
         } => search_file(
             rt, alloc, file, script, &options, states, files, out, explained,
+        ),
+        Job::Show {
+            file,
+            script,
+            options,
+            states,
+            number,
+        } => show_file(
+            rt, alloc, file, script, &options, states, number, files, out, explained,
         ),
         Job::Check {
             file,

@@ -2,11 +2,12 @@
 
 use orc_claims::Verdict;
 use orc_draw::{DrawFault, Subject, draw_rows};
-use orc_findings::{write_happening, write_published};
+use orc_findings::{write_happening, write_occurrence, write_published};
 use orc_load::load;
 use orc_orders::{Run, state_at};
 use orc_outcome::End;
 use orc_rules::limits::MOST_ROWS;
+use orc_schedules::Seen;
 use orc_syntax::parse;
 use orc_tally::Shown;
 use orc_ways::test::Test;
@@ -110,6 +111,26 @@ pub fn write_failing(
     let order = shown.failure.order;
     let line = format!(in alloc; " (order {order})\n")?;
     text.extend_from_slice(line.as_bytes())
+}
+
+/// Writes what a claim saw of a run that a search found, and how that ended, where it found one. The error is refused memory.
+pub fn write_schedule(
+    test: &Test<'_>,
+    seen: Option<&Seen>,
+    text: &mut Vec<u8>,
+) -> Result<(), AllocError> {
+    let Some(seen) = seen else {
+        return Ok(());
+    };
+    text.extend_from_slice(MARGIN)?;
+    text.extend_from_slice(b"saw: ")?;
+    for what in &seen.occurrences {
+        write_occurrence(test.sites.as_slice(), what, text)?;
+        text.extend_from_slice(b", ")?;
+    }
+    text.extend_from_slice(word_of(seen.end).as_bytes())?;
+    text.push(b'\n')?;
+    Ok(())
 }
 
 /// Writes lines, with its margin and a word before each.

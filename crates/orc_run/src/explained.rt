@@ -168,7 +168,11 @@ impl Explained {
                 self.tell(explain_unread(alloc, title_of(path), why));
             }
             Failure::Rows => self.tell(explain_rows(alloc)),
-            Failure::Fault(_) | Failure::NoFailure(_) => {}
+            Failure::Fault(_)
+            | Failure::NoFailure(_)
+            | Failure::NoJournal(_)
+            | Failure::NoOutcome(_)
+            | Failure::NoRun(_) => {}
         }
     }
 }

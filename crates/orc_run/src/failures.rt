@@ -22,6 +22,12 @@ pub enum Failure<'a> {
     Rows,
     /// A test has no failure with this number.
     NoFailure(u64),
+    /// A program has no outcome with this number.
+    NoOutcome(u64),
+    /// No run was found that has the outcome with this number.
+    NoRun(u64),
+    /// No order showed the failure with this number, and no run of it was found.
+    NoJournal(u64),
 }
 
 impl fmt::Display for Failure<'_> {
@@ -34,6 +40,13 @@ impl fmt::Display for Failure<'_> {
             Failure::Fault(fault) => write!(f, "{fault}"),
             Failure::Rows => write!(f, "orc: draw: over {MOST_ROWS} rows"),
             Failure::NoFailure(number) => write!(f, "orc: test: no failure {number}"),
+            Failure::NoOutcome(number) => write!(f, "orc: outcomes: no outcome {number}"),
+            Failure::NoRun(number) => {
+                write!(f, "orc: outcomes: no run found with outcome {number}")
+            }
+            Failure::NoJournal(number) => {
+                write!(f, "orc: test: no run found with failure {number}")
+            }
         }
     }
 }
@@ -46,7 +59,11 @@ impl Failure<'_> {
         match self {
             Failure::Unread(_, fault) => fault.status(),
             Failure::Fault(fault) => fault.status(),
-            Failure::Rows | Failure::NoFailure(_) => 1,
+            Failure::Rows
+            | Failure::NoFailure(_)
+            | Failure::NoJournal(_)
+            | Failure::NoOutcome(_)
+            | Failure::NoRun(_) => 1,
         }
     }
 }

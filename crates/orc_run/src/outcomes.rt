@@ -23,7 +23,7 @@ use std::io::Write;
 use std::thread::Threads;
 
 // The program that a source spells, with the built-in sites and those of a script, and what came up in its orders.
-fn surveyed<R: Threads + Sync>(
+pub(crate) fn surveyed<R: Threads + Sync>(
     rt: &R,
     alloc: Global,
     source: &[u8],
@@ -84,7 +84,8 @@ pub fn survey_text<R: Threads + Sync, W: Write>(
     }
 }
 
-fn found_of(found: &Schedules) -> &[Ended]
+/// The outcomes that a search found; none where it didn't find all.
+pub(crate) fn found_of(found: &Schedules) -> &[Ended]
     ensures { result.now ≡ found_of found.now }
 {
     match found {

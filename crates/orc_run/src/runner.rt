@@ -20,8 +20,9 @@ use crate::output::WriteFault;
 use crate::pieces::write_journal;
 use crate::publications::write_values;
 use crate::times::write_times;
+use crate::unordered::run_unordered;
 // The engine. Another one with the same contract takes its place here.
-use orc_cli::{Options, Wanted};
+use orc_cli::{Options, Order, Wanted};
 use orc_engine::{EngineFault, run_alone, run_parallel};
 use orc_load::{Loaded, load};
 use orc_outcome::{Played, Summary};
@@ -49,25 +50,19 @@ fn play<R: Threads + Wait + Sync>(
     } else {
         keeps
     };
+    let (program, answers, limit) = (&loaded.program, &loaded.answers, options.limit);
+    let workers = options.workers as usize;
+    let number = match options.order {
+        Order::Unordered => {
+            return run_unordered(rt, alloc, program, answers, workers, keeps, limit);
+        }
+        Order::Numbered(number) => Some(number),
+        Order::Fixed => None,
+    };
     if options.workers == 1 {
-        return run_alone(
-            alloc,
-            &loaded.program,
-            &loaded.answers,
-            options.order,
-            keeps,
-            options.limit,
-        );
+        return run_alone(alloc, program, answers, number, keeps, limit);
     }
-    run_parallel(
-        rt,
-        alloc,
-        &loaded.program,
-        &loaded.answers,
-        options.workers as usize,
-        keeps,
-        options.limit,
-    )
+    run_parallel(rt, alloc, program, answers, workers, keeps, limit)
 }
 
 // The same, with a run's fault.
@@ -87,8 +82,8 @@ fn run_program<R: Threads + Wait + Sync>(
     play(rt, alloc, loaded, options, keeps).map_err(RunFault::Engine)
 }
 
-// Writes what is wanted of a run. Without a journal that is what it published.
-fn write_run<W: Write>(
+/// Writes what is wanted of a run. Without a journal that is what it published.
+pub(crate) fn write_run<W: Write>(
     alloc: Global,
     answers: &Answers,
     played: &Played,

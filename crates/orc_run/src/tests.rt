@@ -6,30 +6,43 @@ ghost use Rattle.std.specs.Io.KnownBytes.{Appends};
 ghost use Rattle.orc_outcome.specs.declared.end.Summary.{Summary};
 ghost use Rattle.orc_tally.specs.Table.{failing, failure_at, rows as rows_of, table};
 ghost use Rattle.orc_tally.specs.declared.table.Report.{Report};
+ghost use Rattle.orc_tally.specs.declared.table.Counterexample.{Counterexample as Example};
+ghost use Rattle.orc_tally.specs.declared.table.Counterexample.TheVariants as example;
 ghost use Rattle.orc_tally.specs.declared.table.Shown.{Shown as Failing};
 ghost use Rattle.orc_rules.specs.Sites.{Table};
 ghost use Rattle.orc_site.specs.Script.{Says};
+ghost use Rattle.orc_syntax.specs.Tree.{Source};
+ghost use Rattle.orc_load.specs.Loading.{SpellsTree};
+ghost use Rattle.orc_orders.specs.Trials.{texts};
 ghost use Rattle.orc_ways.specs.Drafting.{test_of};
 ghost use Rattle.orc_ways.specs.Finishing.{Says as SaysTest};
+ghost use Rattle.orc_cli.specs.declared.job.Shown.TheVariants as what;
 ghost use Rattle.orc_run.specs.Running.{Ran};
-ghost use Rattle.orc_run.specs.Tested.{AreScripts, AreWays, HasFailing, IsOwnFault, IsScript, IsTried, LeavesUntested, Writes, of_trial, options_of};
+ghost use Rattle.orc_run.specs.Whole.{AreSaid};
+ghost use Rattle.orc_run.specs.Tested.{AreScripts, AreWays, HasFailing, IsOwnFault, IsScript, IsTried, LeavesUntested, Writes, of_trial, options_for, options_of, witness_options};
+ghost use Rattle.orc_run.specs.TestFaults.{all_texts, AreUnshown, AreUntold, AreUntried, AreUnwritten, IsAmong, IsNoMemory, IsNoScript, IsNoTest, IsNoText, IsUncounted, IsUnfound, IsUnshown, IsUntestedFor};
 
 use crate::asked::services_never_asked;
-use crate::counterexample::{write_failing, write_lines, write_picture, write_ranges};
+use crate::counterexample::{
+    write_failing, write_lines, write_picture, write_ranges, write_schedule,
+};
 use crate::explained::Explained;
 use crate::failing_ways::failing_ways;
 use crate::faults::RunFault;
 use crate::output::{WriteFault, write_text};
 use crate::runner::run_source;
+use crate::searched::{Searcher, write_witness};
 use orc_cases::Ways;
-use orc_cli::{Options, Shown, TestOptions, Wanted};
+use orc_cli::{Options, Order, Shown, TestOptions, Wanted};
 use orc_engine::EngineFault;
 use orc_orders::{CaseTold, Run, TrialFault, Trials, try_again, try_ways};
 use orc_outcome::End;
 use orc_rules::answers::Answers;
 use orc_site::read_script;
 use orc_syntax::parse;
-use orc_tally::{CaseReport, Report, Row, Shown as Failing, failing, failure_at};
+use orc_tally::{
+    CaseReport, Counterexample, Report, Row, Searched, Shown as Failing, failing, failure_at,
+};
 use orc_ways::fault::TestFault;
 use orc_ways::read_test;
 use orc_ways::test::Test;
@@ -44,13 +57,15 @@ pub enum Untested {
     Fault(RunFault),
     /// The failure with this number was to be shown, and there are fewer.
     NoFailure(u64),
+    /// The journal of the failure with this number was to be shown; no order showed it, and no run of it was found.
+    NoJournal(u64),
 }
 
 /// Memory for what is to be written was refused.
 const NO_TEXT: Untested = Untested::Fault(RunFault::Write(WriteFault));
 
 /// Memory for what is tried was refused.
-const NO_MEMORY: Untested = Untested::Fault(RunFault::Engine(EngineFault::Memory));
+pub(crate) const NO_MEMORY: Untested = Untested::Fault(RunFault::Engine(EngineFault::Memory));
 
 /// The scripts of the ways of a case that are tried.
 #[derive(Drop)]
@@ -67,6 +82,8 @@ struct Tester<'s, 'a, R> {
     alloc: Global,
     trials: &'s Trials<'s, 'a>,
     workers: usize,
+    /// A search through all schedules looks at so many states at most.
+    states: u64,
     /// Whether failures are explained: the numbers of ranges that fail, and a picture of the run that shows it.
     explains: bool,
 }
@@ -79,9 +96,10 @@ fn unread(fault: TestFault) -> Untested
 }
 
 // The ways of each case. The fault is of the first case that has too many, or refused memory.
-#[tactic(auto, using(crate::proofs::Scripting::one_case))]
+#[tactic(auto, using(crate::proofs::Scripting::one_case, crate::proofs::Untold::first_many))]
 fn ways_of(alloc: Global, test: &Test<'_>) -> Result<Vec<Ways>, Untested>
     ensures ways { IfOk result (λ ws. AreWays (test_of test.now) 0 ws.items × (length ws.items ≡ length test.now.cases.items)) }
+    ensures cause { IfErr result (IsUncounted (test_of test.now)) }
     ensures sound { IfErr result (λ f. IsOwnFault f → ⊥) }
 {
     let mut all = Vec::new(alloc);
@@ -90,12 +108,12 @@ fn ways_of(alloc: Global, test: &Test<'_>) -> Result<Vec<Ways>, Untested>
     loop {
         match rest {
             [] => return Ok(all),
-            [case, more @ ..] => {
+            [_case, more @ ..] => {
                 let Ok(found) = Ways::of_case(alloc, test, at) else {
                     return Err(unread(TestFault::Memory));
                 };
                 let Some(ways) = found else {
-                    return Err(unread(TestFault::Ways(case.line)));
+                    return Err(unread(TestFault::Ways(test.cases[at].line)));
                 };
                 if all.push(ways).is_err() {
                     return Err(unread(TestFault::Memory));
@@ -110,6 +128,7 @@ fn ways_of(alloc: Global, test: &Test<'_>) -> Result<Vec<Ways>, Untested>
 // The scripts of a case, so many at most, each with these lines behind it.
 fn scripts_of(alloc: Global, ways: &Ways, most: u64, behind: &[u8]) -> Result<CaseScripts, Untested>
     ensures scripts { IfOk result (AreScripts most behind.now ways.now) }
+    ensures cause { IfErr result IsNoMemory }
     ensures sound { IfErr result (λ f. IsOwnFault f → ⊥) }
 {
     match ways.scripts(alloc, most, behind) {
@@ -130,6 +149,7 @@ fn all_scripts(
     behind: &[u8],
 ) -> Result<Vec<CaseScripts>, Untested>
     ensures scripts { IfOk result (λ ss. AllZip (AreScripts most behind.now) ways.now ss.items) }
+    ensures cause { IfErr result IsNoMemory }
     ensures sound { IfErr result (λ f. IsOwnFault f → ⊥) }
 {
     let mut all = Vec::new(alloc);
@@ -162,6 +182,7 @@ impl<R: Threads + Sync> Tester<'_, '_, R> {
     // Tries the ways of a case.
     fn try_case(&self, scripts: &CaseScripts) -> Result<CaseReport, Untested>
         ensures tried { IfOk result (IsTried self.now.trials.now scripts.now) }
+        ensures cause { IfErr result (AreUntried self.now.trials.now.source.now self.now.workers self.now.trials.now.limit (texts scripts.now.scripts.items)) }
         ensures sound { IfErr result (λ f. IsOwnFault f → ⊥) }
     {
         let Ok(mut told) = CaseTold::new(self.alloc, self.trials.claims) else {
@@ -191,9 +212,10 @@ impl<R: Threads + Sync> Tester<'_, '_, R> {
     }
 
     // Tries the ways of each case.
-    #[tactic(auto, using(crate::proofs::Testing::one_tried))]
+    #[tactic(auto, using(crate::proofs::Testing::one_tried, crate::proofs::Untold::memory_untried, crate::proofs::Untold::untried_case))]
     fn try_cases(&self, cases: &[CaseScripts]) -> Result<Vec<CaseReport>, Untested>
         ensures tried { IfOk result (λ reports. AllZip (IsTried self.now.trials.now) cases.now reports.items) }
+        ensures cause { IfErr result (AreUntried self.now.trials.now.source.now self.now.workers self.now.trials.now.limit (all_texts cases.now)) }
         ensures sound { IfErr result (λ f. IsOwnFault f → ⊥) }
     {
         let mut reports = Vec::new(self.alloc);
@@ -212,8 +234,35 @@ impl<R: Threads + Sync> Tester<'_, '_, R> {
         }
     }
 
+    // Searches all schedules for the claims that failed in no run.
+    fn search_all(
+        &self,
+        test: &Test<'_>,
+        cases: &[CaseScripts],
+        reports: &[CaseReport],
+    ) -> Result<Vec<Searched>, Untested>
+        ensures said { IfOk result (λ said. AreSaid self.now.trials.now test.now.claim_lines.items cases.now reports.now said.items) }
+        ensures cause { IfErr result IsNoMemory }
+        ensures sound { IfErr result (λ f. IsOwnFault f → ⊥) }
+    {
+        let searcher = Searcher {
+            alloc: self.alloc,
+            trials: self.trials,
+            test,
+            cases,
+            reports,
+            most: self.states,
+        };
+        match searcher.search() {
+            Ok(searched) => Ok(searched),
+            Err(_) => Err(NO_MEMORY),
+        }
+    }
+
     // Makes the run again that shows a failure.
+    #[tactic(auto, using(crate::proofs::Untold::unmade_again))]
     fn run_again(&self, script: &[u8], shown: Failing) -> Result<Run, Untested>
+        ensures cause { IfErr result (IsUnshown self.now.trials.now.source.now 1 self.now.trials.now.limit script.now) }
         ensures sound { IfErr result (λ f. IsOwnFault f → ⊥) }
     {
         match try_again(self.alloc, self.trials, script, shown.failure.order) {
@@ -230,6 +279,7 @@ impl<R: Threads + Sync> Tester<'_, '_, R> {
         claim: usize,
         shown: Failing,
     ) -> Result<Vec<u8>, Untested>
+        ensures cause { IfErr result IsNoMemory }
         ensures sound { IfErr result (λ f. IsOwnFault f → ⊥) }
     {
         let (true, Some(case), Some(ways)) = (
@@ -281,6 +331,7 @@ impl<R: Threads + Sync> Tester<'_, '_, R> {
         run: Run,
         text: &mut Vec<u8>,
     ) -> Result<(), Untested>
+        ensures cause { IfErr result IsNoText }
         ensures sound { IfErr result (λ f. IsOwnFault f → ⊥) }
     {
         if write_ranges(ranges, text).is_err() {
@@ -293,6 +344,7 @@ impl<R: Threads + Sync> Tester<'_, '_, R> {
     }
 
     // What stands below a claim that fails: what isn't usual in the way that shows it, where it fails there, and what explains it.
+    #[tactic(auto, using(crate::proofs::Untold::text_unshown))]
     fn details_of(
         &self,
         test: &Test<'_>,
@@ -302,6 +354,7 @@ impl<R: Threads + Sync> Tester<'_, '_, R> {
         number: usize,
         shown: Failing,
     ) -> Result<Vec<u8>, Untested>
+        ensures cause { IfErr result (IsUnshown self.now.trials.now.source.now 1 self.now.trials.now.limit script.now) }
         ensures sound { IfErr result (λ f. IsOwnFault f → ⊥) }
     {
         let run = self.run_again(script, shown)?;
@@ -318,7 +371,41 @@ impl<R: Threads + Sync> Tester<'_, '_, R> {
         Ok(text)
     }
 
+    // What stands below a claim that a schedule breaks which no order showed: what isn't usual in its way, and what the claim saw there.
+    fn schedule_of(
+        &self,
+        test: &Test<'_>,
+        script: &[u8],
+        lines: &[u8],
+        number: usize,
+        claim: usize,
+    ) -> Result<Vec<u8>, Untested>
+        ensures cause { IfErr result (IsUnshown self.now.trials.now.source.now 1 self.now.trials.now.limit script.now) }
+        ensures sound { IfErr result (λ f. IsOwnFault f → ⊥) }
+    {
+        let searcher = Searcher {
+            alloc: self.alloc,
+            trials: self.trials,
+            test,
+            cases: &[],
+            reports: &[],
+            most: self.states,
+        };
+        let Ok(seen) = searcher.see(script, claim) else {
+            return Err(NO_MEMORY);
+        };
+        let mut text = Vec::new(self.alloc);
+        if write_lines(self.alloc, number, lines, &mut text).is_err() {
+            return Err(NO_TEXT);
+        }
+        if write_schedule(test, seen.as_ref(), &mut text).is_err() {
+            return Err(NO_TEXT);
+        }
+        Ok(text)
+    }
+
     // The details of each failure, in the order of the rows.
+    #[tactic(auto, using(crate::proofs::Untold::of_script, crate::proofs::Untold::memory_unshown, crate::proofs::Untold::texts_unshown))]
     fn all_details(
         &self,
         test: &Test<'_>,
@@ -326,23 +413,25 @@ impl<R: Threads + Sync> Tester<'_, '_, R> {
         ways: &[Ways],
         rows: &[Row],
     ) -> Result<Vec<Vec<u8>>, Untested>
+        ensures cause { IfErr result (AreUnshown self.now.trials.now.source.now self.now.trials.now.limit (all_texts cases.now)) }
         ensures sound { IfErr result (λ f. IsOwnFault f → ⊥) }
     {
         let mut all = Vec::new(self.alloc);
         for row in rows {
-            if let Row::Fails(claim, shown) = row {
-                let lines = unusual_lines(self.alloc, ways, *shown)?;
-                let ranges = self.ranges_of(cases, ways, *claim, *shown)?;
-                let script = script_at(cases, *shown)?;
+            if let Row::Fails(claim, found) = row {
+                let unusual = unusual_lines(self.alloc, ways, *found)?;
+                let lines = unusual.as_slice();
+                let script = script_at(cases, *found)?;
                 let number = all.len().saturating_add(1);
-                let details = self.details_of(
-                    test,
-                    script,
-                    lines.as_slice(),
-                    ranges.as_slice(),
-                    number,
-                    *shown,
-                )?;
+                let details = match found {
+                    Counterexample::Trial(shown) => {
+                        let ranges = self.ranges_of(cases, ways, *claim, *shown)?;
+                        self.details_of(test, script, lines, ranges.as_slice(), number, *shown)?
+                    }
+                    Counterexample::Schedule(_) => {
+                        self.schedule_of(test, script, lines, number, *claim)?
+                    }
+                };
                 if all.push(details).is_err() {
                     return Err(NO_TEXT);
                 }
@@ -353,27 +442,30 @@ impl<R: Threads + Sync> Tester<'_, '_, R> {
 }
 
 // The script of the way in which a failure is. No failure is told of a way that wasn't tried.
-fn script_at(cases: &[CaseScripts], shown: Failing) -> Result<&[u8], Untested>
-    ensures script { IfOk result (λ text. IsScript cases.now shown text.now) }
+fn script_at(cases: &[CaseScripts], found: Counterexample) -> Result<&[u8], Untested>
+    ensures script { IfOk result (λ text. IsScript cases.now found text.now) }
+    ensures among { IfOk result (λ text. IsAmong (all_texts cases.now) text.now) }
+    ensures cause { IfErr result IsNoText }
     ensures sound { IfErr result (λ f. IsOwnFault f → ⊥) }
 {
-    let Some(case) = cases.get(shown.case) else {
+    let Some(case) = cases.get(found.case()) else {
         return Err(NO_TEXT);
     };
-    match case.scripts.get(shown.failure.way as usize) {
+    match case.scripts.get(found.way() as usize) {
         Some(script) => Ok(script.as_slice()),
         None => Err(NO_TEXT),
     }
 }
 
 // Those of its lines that tell it from other ways.
-fn unusual_lines(alloc: Global, ways: &[Ways], shown: Failing) -> Result<Vec<u8>, Untested>
+fn unusual_lines(alloc: Global, ways: &[Ways], found: Counterexample) -> Result<Vec<u8>, Untested>
+    ensures cause { IfErr result IsNoText }
     ensures sound { IfErr result (λ f. IsOwnFault f → ⊥) }
 {
-    let Some(ways) = ways.get(shown.case) else {
+    let Some(ways) = ways.get(found.case()) else {
         return Ok(Vec::new(alloc));
     };
-    match ways.unusual(alloc, shown.failure.way) {
+    match ways.unusual(alloc, found.way()) {
         Ok(lines) => Ok(lines),
         Err(_) => Err(NO_TEXT),
     }
@@ -383,6 +475,7 @@ fn unusual_lines(alloc: Global, ways: &[Ways], shown: Failing) -> Result<Vec<u8>
 fn write_whole<W: Write>(out: &mut W, text: &[u8]) -> Result<(), Untested>
     ensures ok { OnOk result (Appends (W.contents out.old) (W.contents out.new) text.now) }
     ensures err { IfErr result (LeavesUntested (W.contents out.old) (W.contents out.new)) }
+    ensures cause { IfErr result IsNoText }
     ensures sound { IfErr result (λ f. IsOwnFault f → ⊥) }
 {
     match write_text(out, text) {
@@ -391,13 +484,27 @@ fn write_whole<W: Write>(out: &mut W, text: &[u8]) -> Result<(), Untested>
     }
 }
 
+// The claim that fails, of the failure with this number.
+fn failing_claim(rows: &[Row], number: u64) -> usize {
+    let mut left = number;
+    for row in rows {
+        if let Row::Fails(claim, _) = row {
+            if left <= 1 {
+                return *claim;
+            }
+            left -= 1;
+        }
+    }
+    0
+}
+
 // How the run is made that shows a failure, to write its journal.
 fn options_of(options: &TestOptions, shown: Failing) -> Options
     ensures { result ≡ options_of options.now shown }
 {
     Options {
         workers: 1,
-        order: Some(shown.failure.order),
+        order: Order::Numbered(shown.failure.order),
         limit: options.limit,
         wanted: Wanted::Journal,
     }
@@ -405,7 +512,7 @@ fn options_of(options: &TestOptions, shown: Failing) -> Options
 
 impl<R: Threads + Wait + Sync> Tester<'_, '_, R> {
     // Writes the table of a test.
-    #[tactic(auto, using(crate::proofs::Testing::unwritten))]
+    #[tactic(auto, using(crate::proofs::Testing::unwritten, crate::proofs::Untold::texts_unshown))]
     fn write_table<W: Write>(
         &self,
         cases: &[CaseScripts],
@@ -416,6 +523,7 @@ impl<R: Threads + Wait + Sync> Tester<'_, '_, R> {
     ) -> Result<(), Untested>
         ensures ok { OnOk result ((details : List (List ℕ)) × Appends (W.contents out.old) (W.contents out.new) (table report.now details)) }
         ensures err { IfErr result (LeavesUntested (W.contents out.old) (W.contents out.new)) }
+        ensures cause { IfErr result (AreUnshown self.now.trials.now.source.now self.now.trials.now.limit (all_texts cases.now)) }
         ensures sound { IfErr result (λ f. IsOwnFault f → ⊥) }
     {
         let details = self.all_details(report.test, cases, ways, rows)?;
@@ -426,7 +534,7 @@ impl<R: Threads + Wait + Sync> Tester<'_, '_, R> {
     }
 
     // Writes the journal of a run that shows a failure.
-    #[tactic(auto, using(crate::proofs::Testing::unrun_again, crate::proofs::Testing::cut_written))]
+    #[tactic(auto, using(crate::proofs::Testing::unrun_again, crate::proofs::Testing::cut_written, crate::proofs::Untold::unrun))]
     fn write_run<W: Write>(
         &self,
         script: &[u8],
@@ -435,6 +543,7 @@ impl<R: Threads + Wait + Sync> Tester<'_, '_, R> {
     ) -> Result<(), Untested>
         ensures ok { OnOk result ((s : Summary) × Ran self.now.trials.now.source.now script.now options.now (W.contents out.old) (W.contents out.new) s) }
         ensures err { IfErr result (LeavesUntested (W.contents out.old) (W.contents out.new)) }
+        ensures cause { IfErr result (IsUnshown self.now.trials.now.source.now options.now.workers options.now.limit script.now) }
         ensures sound { IfErr result (λ f. IsOwnFault f → ⊥) }
     {
         match run_source(
@@ -458,7 +567,7 @@ impl<R: Threads + Wait + Sync> Tester<'_, '_, R> {
     }
 
     // Writes the script that shows the failure with this number.
-    #[tactic(auto, using(crate::proofs::Testing::unwritten))]
+    #[tactic(auto, using(crate::proofs::Testing::unwritten, crate::proofs::Untold::texts_unshown, crate::proofs::Untold::unshown_unwritten))]
     fn write_script<W: Write>(
         &self,
         cases: &[CaseScripts],
@@ -466,20 +575,43 @@ impl<R: Threads + Wait + Sync> Tester<'_, '_, R> {
         number: u64,
         out: &mut W,
     ) -> Result<(), Untested>
-        ensures ok { OnOk result ((f : Failing) × (text : List ℕ) × (failure_at number rows.now ≡ Some f) × IsScript cases.now f text × Appends (W.contents out.old) (W.contents out.new) text) }
+        ensures ok { OnOk result ((x : Example) × (text : List ℕ) × (failure_at number rows.now ≡ Some x) × IsScript cases.now x text × Appends (W.contents out.old) (W.contents out.new) text) }
         ensures err { IfErr result (LeavesUntested (W.contents out.old) (W.contents out.new)) }
+        ensures cause { IfErr result (AreUnwritten self.now.trials.now.source.now self.now.trials.now.limit (all_texts cases.now) (what.Script number) rows.now) }
         ensures sound { IfErr result (λ f. IsOwnFault f → ⊥) }
     {
-        let Some(shown) = failure_at(rows, number) else {
+        let Some(found) = failure_at(rows, number) else {
             return Err(Untested::NoFailure(number));
         };
-        let script = script_at(cases, shown)?;
+        let script = script_at(cases, found)?;
         write_whole(out, script)?;
         Ok(())
     }
 
+    // Writes the journal of a run that breaks a claim, where a search says that a schedule does and no order showed it.
+    fn write_found<W: Write>(
+        &self,
+        script: &[u8],
+        claim: usize,
+        number: u64,
+        limit: u64,
+        out: &mut W,
+    ) -> Result<(), Untested>
+        ensures ok { OnOk result ((s : Summary) × Ran self.now.trials.now.source.now script.now (witness_options limit) (W.contents out.old) (W.contents out.new) s) }
+        ensures err { IfErr result (LeavesUntested (W.contents out.old) (W.contents out.new)) }
+        ensures cause { IfErr result (IsUnfound self.now.trials.now.source.now limit script.now number) }
+        ensures sound { IfErr result (λ f. IsOwnFault f → ⊥) }
+    {
+        let trials = self.trials;
+        if write_witness(self.alloc, trials, self.states, limit, script, claim, out)? {
+            Ok(())
+        } else {
+            Err(Untested::NoJournal(number))
+        }
+    }
+
     // Writes the journal of the run that shows the failure with this number.
-    #[tactic(auto, using(crate::proofs::Testing::unwritten))]
+    #[tactic(auto, using(crate::proofs::Testing::unwritten, crate::proofs::Untold::of_run, crate::proofs::Untold::texts_unshown, crate::proofs::Untold::unshown_unwritten))]
     fn write_journal<W: Write>(
         &self,
         cases: &[CaseScripts],
@@ -488,19 +620,28 @@ impl<R: Threads + Wait + Sync> Tester<'_, '_, R> {
         options: &TestOptions,
         out: &mut W,
     ) -> Result<(), Untested>
-        ensures ok { OnOk result ((f : Failing) × (text : List ℕ) × (s : Summary) × (failure_at number rows.now ≡ Some f) × IsScript cases.now f text × Ran self.now.trials.now.source.now text (options_of options.now f) (W.contents out.old) (W.contents out.new) s) }
+        ensures ok { OnOk result ((x : Example) × (text : List ℕ) × (s : Summary) × (failure_at number rows.now ≡ Some x) × IsScript cases.now x text × Ran self.now.trials.now.source.now text (options_for options.now x) (W.contents out.old) (W.contents out.new) s) }
         ensures err { IfErr result (LeavesUntested (W.contents out.old) (W.contents out.new)) }
+        ensures cause { IfErr result (AreUnwritten self.now.trials.now.source.now options.now.limit (all_texts cases.now) (what.Journal number) rows.now) }
         ensures sound { IfErr result (λ f. IsOwnFault f → ⊥) }
     {
-        let Some(shown) = failure_at(rows, number) else {
+        let Some(found) = failure_at(rows, number) else {
             return Err(Untested::NoFailure(number));
         };
-        let script = script_at(cases, shown)?;
-        self.write_run(script, &options_of(options, shown), out)?;
-        Ok(())
+        let script = script_at(cases, found)?;
+        match found {
+            Counterexample::Trial(shown) => {
+                self.write_run(script, &options_of(options, shown), out)
+            }
+            Counterexample::Schedule(_) => {
+                let claim = failing_claim(rows, number);
+                self.write_found(script, claim, number, options.limit, out)
+            }
+        }
     }
 
     // Writes what is wanted of a test whose ways were tried, of which these are the rows.
+    #[tactic(auto, using(crate::proofs::Untold::unshown_unwritten))]
     fn write_shown<W: Write>(
         &self,
         cases: &[CaseScripts],
@@ -510,9 +651,11 @@ impl<R: Threads + Wait + Sync> Tester<'_, '_, R> {
         options: &TestOptions,
         out: &mut W,
     ) -> Result<(), Untested>
+        requires limit { self.now.trials.now.limit ≡ options.now.limit }
         requires rows { rows.now ≡ rows_of report.now }
         ensures ok { OnOk result (Writes self.now.trials.now.source.now options.now cases.now report.now options.now.shown (W.contents out.old) (W.contents out.new)) }
         ensures err { IfErr result (LeavesUntested (W.contents out.old) (W.contents out.new)) }
+        ensures cause { IfErr result (AreUnwritten self.now.trials.now.source.now self.now.trials.now.limit (all_texts cases.now) options.now.shown rows.now) }
         ensures sound { IfErr result (λ f. IsOwnFault f → ⊥) }
     {
         match options.shown {
@@ -532,9 +675,11 @@ impl<R: Threads + Wait + Sync> Tester<'_, '_, R> {
         options: &TestOptions,
         out: &mut W,
     ) -> Result<usize, Untested>
+        requires limit { self.now.trials.now.limit ≡ options.now.limit }
         ensures ok { IfOk result (λ n. Writes self.now.trials.now.source.now options.now cases.now report.now options.now.shown (W.contents out.old) (W.contents out.new)) }
         ensures number { IfOk result (λ n. n ≡ failing (rows_of report.now)) }
         ensures err { IfErr result (LeavesUntested (W.contents out.old) (W.contents out.new)) }
+        ensures cause { IfErr result (AreUnwritten self.now.trials.now.source.now self.now.trials.now.limit (all_texts cases.now) options.now.shown (rows_of report.now)) }
         ensures sound { IfErr result (λ f. IsOwnFault f → ⊥) }
     {
         let Ok(all) = report.rows(self.alloc) else {
@@ -566,7 +711,7 @@ fn tell_services<'t, 'a, R: Threads + Sync>(
 }
 
 // Tries the ways of a test's cases, and writes what is wanted of it.
-#[tactic(auto, using(crate::proofs::Testing::unwritten))]
+#[tactic(auto, using(crate::proofs::Testing::unwritten, crate::proofs::Untold::untried_untold, crate::proofs::Untold::memory_untold))]
 fn try_and_write<'t, 'a, R: Threads + Wait + Sync, W: Write>(
     rt: &'t R,
     alloc: Global,
@@ -578,8 +723,10 @@ fn try_and_write<'t, 'a, R: Threads + Wait + Sync, W: Write>(
     out: &mut W,
     explained: &mut Explained,
 ) -> Result<usize, Untested>
-    ensures tested { IfOk result (λ n. (r : Report) × (r.test.now ≡ test.now) × AllZip (IsTried trials.now) cases.now r.cases.now × (r.orders ≡ options.now.orders) × Writes trials.now.source.now options.now cases.now r options.now.shown (W.contents out.old) (W.contents out.new) × (n ≡ failing (rows_of r))) }
+    requires limit { trials.now.limit ≡ options.now.limit }
+    ensures tested { IfOk result (λ n. (r : Report) × (r.test.now ≡ test.now) × AllZip (IsTried trials.now) cases.now r.cases.now × (r.orders ≡ options.now.orders) × AreSaid trials.now r.test.now.claim_lines.items cases.now r.cases.now r.searched.now × Writes trials.now.source.now options.now cases.now r options.now.shown (W.contents out.old) (W.contents out.new) × (n ≡ failing (rows_of r))) }
     ensures fault { IfErr result (LeavesUntested (W.contents out.old) (W.contents out.new)) }
+    ensures cause { IfErr result (AreUntold trials.now test.now options.now cases.now) }
     ensures sound { IfErr result (λ f. IsOwnFault f → ⊥) }
 {
     let tester = Tester {
@@ -587,13 +734,18 @@ fn try_and_write<'t, 'a, R: Threads + Wait + Sync, W: Write>(
         alloc,
         trials,
         workers: options.workers as usize,
+        states: options.states,
         explains: explained.is_asked(),
     };
     let reports = tester.try_cases(cases)?;
+    let tried = reports.as_slice();
+    let searched = tester.search_all(test, cases, tried)?;
+    let found = searched.as_slice();
     let report = Report {
         test,
-        cases: reports.as_slice(),
+        cases: tried,
         orders: options.orders,
+        searched: found,
     };
     let number = tester.write_test(cases, ways, &report, options, out)?;
     tell_services(rt, alloc, trials, test, cases, options, explained);
@@ -614,6 +766,7 @@ fn hold<'t, 'a, R: Threads + Wait + Sync, W: Write>(
 ) -> Result<usize, Untested>
     ensures tested { IfOk result (λ n. (text : List ℕ) (others : Table) → Says script.now others → SaysTest text others (test_of test.now) → HasFailing source.now text script.now options.now (W.contents out.old) (W.contents out.new) n) }
     ensures fault { IfErr result (LeavesUntested (W.contents out.old) (W.contents out.new)) }
+    ensures cause { (text : List ℕ) (others : Table) (s : Source) → SpellsTree source.now s → Says script.now others → SaysTest text others (test_of test.now) → IfErr result (IsUntestedFor source.now text script.now options.now) }
     ensures sound { IfErr result (λ f. IsOwnFault f → ⊥) }
 {
     let ways = ways_of(alloc, test)?;
@@ -638,6 +791,7 @@ fn hold<'t, 'a, R: Threads + Wait + Sync, W: Write>(
 // The sites of a script, and the built-in ones.
 fn others_of(alloc: Global, script: &[u8]) -> Result<Answers, Untested>
     ensures says { IfOk result (Says script.now) }
+    ensures cause { IfErr result (IsNoScript script.now) }
     ensures sound { IfErr result (λ f. IsOwnFault f → ⊥) }
 {
     match read_script(alloc, script) {
@@ -649,6 +803,7 @@ fn others_of(alloc: Global, script: &[u8]) -> Result<Answers, Untested>
 // The test that a text says.
 fn known_of<'a>(alloc: Global, text: &'a [u8], others: &Answers) -> Result<Test<'a>, Untested>
     ensures says { IfOk result (λ t. SaysTest text.now others.now (test_of t)) }
+    ensures cause { IfErr result (IsNoTest text.now others.now) }
     ensures sound { IfErr result (λ f. IsOwnFault f → ⊥) }
 {
     match read_test(alloc, text, others) {
@@ -658,14 +813,14 @@ fn known_of<'a>(alloc: Global, text: &'a [u8], others: &Answers) -> Result<Test<
 }
 
 /// Holds the claims of a test against the program that a source spells, with the built-in sites, those of the test and those of a script: each case in its
-/// first ways, as many as the options say, each way in as many orders. Writes a line for each claim, and below one that fails what shows it; or instead the
-/// script or the journal that shows one failure. Answers how many claims fail. Where explanations are asked for, the picture of the run stands below each
+/// first ways, as many as the options say, each way in as many orders; and then, for a claim that failed in none of these runs, all schedules of each way. Writes
+/// a line for each claim, and below one that fails what shows it; or instead the script or the journal that shows one failure. Answers how many claims fail. Where explanations are asked for, the picture of the run stands below each
 /// failure, and `explained` tells which services no run asked.
 ///
 /// The faults are those of the source's text, of the script, of the test and of the source's names, in this order; `Engine` where the number of workers or
 /// the limit is out of range, or memory is refused for what is tried; `Write` where memory for the text is refused or the output isn't taken whole; and
-/// `NoFailure` where one is to be shown that there isn't. Nothing is written then, but at a fault of the output a prefix of the text.
-#[tactic(auto, using(crate::proofs::Testing::unwritten))]
+/// `NoFailure` where one is to be shown that there isn't; and `NoJournal` where it is one that no order showed. Nothing is written then, but at a fault of the output a prefix of the text.
+#[tactic(auto, using(crate::proofs::Testing::unwritten, crate::proofs::Untold::unscripted_for, crate::proofs::Untold::unread_for))]
 pub fn test_text<R: Threads + Wait + Sync, W: Write>(
     rt: &R,
     alloc: Global,
@@ -678,6 +833,7 @@ pub fn test_text<R: Threads + Wait + Sync, W: Write>(
 ) -> Result<usize, Untested>
     ensures tested { IfOk result (HasFailing source.now test.now script.now options.now (W.contents out.old) (W.contents out.new)) }
     ensures fault { IfErr result (LeavesUntested (W.contents out.old) (W.contents out.new)) }
+    ensures cause { IfErr result (IsUntestedFor source.now test.now script.now options.now) }
     ensures sound { IfErr result (λ f. IsOwnFault f → ⊥) }
 {
     if let Err(fault) = parse(alloc, source) {

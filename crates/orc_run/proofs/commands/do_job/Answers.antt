@@ -12,5 +12,8 @@ returns-in-Claims-clause-done g c = rw c.in-Claims.is c.claims_file.ensures.done
 pub returns-in-DrawRun-clause-done : goal.returns-in-DrawRun-clause-done
 returns-in-DrawRun-clause-done g c = rw c.in-DrawRun.is c.draw_run_of.ensures.done
 
+pub returns-in-Show-clause-done : goal.returns-in-Show-clause-done
+returns-in-Show-clause-done g c = rw c.in-Show.is c.show_file.ensures.done
+
 pub returns-in-Search-clause-done : goal.returns-in-Search-clause-done
 returns-in-Search-clause-done g c = rw c.in-Search.is c.search_file.ensures.done

@@ -1,0 +1,22 @@
+-- Of one claim more something is said.
+use Rattle.std.proofs.Common.{◌∙◌, ◌+◌, ap, arith, length, subst, sym}
+use Rattle.std.proofs.lemmas.List.{length_push}
+use Rattle.orc_run.specs.Whole.{AreAfter}
+use Rattle.orc_run.proofs.Schedules.{one_said}
+use Rattle.orc_run.proofs.Testing.{stands_there}
+use Rattle.orc_run.proofs.searched.Searcher.say_of_way.Goals as goal
+
+pub loop-claim-preserved : goal.loop-claim-preserved
+loop-claim-preserved c =
+    let me = c.args.self.now in
+    let script = c.in_ok-way.way.script.now in
+    let before = c.args.before.items in
+    let after = c.loop-claim.after.items in
+    let more = c.in_ok-push.ensures.items in
+    let was = stands_there before c.loop-claim.claim c.index.result.now (omega (arith, c.loop-claim-test.true, c.len-claim-end.ensures)) c.index.ensures in (
+      subst (AreAfter me c.args.place script before) (sym more) (one_said me c.args.place script before after c.loop-claim.claim c.index.result.now c.in_ok-say.field-0 c.loop-claim.invariant.1 was c.loop-claim.invariant.0 c.in_ok-say.ensures),
+      ap (λ n. n + 1) c.loop-claim.invariant.1 ∙ sym (length_push after c.in_ok-say.field-0) ∙ ap length (sym more),
+    )
+
+pub returns : goal.returns
+returns c = subst (λ script. AreAfter c.args.self.now c.args.place script c.args.before.items c.loop-claim.after.items) c.in_ok-way.ensures.script c.loop-claim.invariant.0

@@ -1,0 +1,393 @@
+//! The search through all schedules of the ways in which a test's claims held.
+
+ghost use Rattle.std.specs.Prelude.{◌≡◌, ◌⊎◌, IfErr, IfOk, IfSome, Some, false, suc, true};
+ghost use Rattle.std.specs.Io.KnownBytes.{Keeps};
+ghost use Rattle.std.specs.List.{slice_get};
+ghost use Rattle.orc_claims.specs.declared.claim.Claim.{Claim as AClaim};
+ghost use Rattle.orc_outcome.specs.Outcome.{IsPlayed};
+ghost use Rattle.orc_outcome.specs.declared.end.Summary.{Summary};
+ghost use Rattle.orc_schedules.specs.Claimed.{IsClaimSearched};
+ghost use Rattle.orc_tally.specs.Table.{are_full, section_of};
+ghost use Rattle.orc_run.specs.Running.{Ran};
+ghost use Rattle.orc_run.specs.Tested.{IsOwnFault, LeavesUntested, witness_options};
+ghost use Rattle.orc_run.specs.TestFaults.{IsUnshown};
+ghost use Rattle.orc_run.specs.Whole.{AreAfter, AreSaid, AreSoFar, IsAfter, IsUnwanted, IsWay, said_of};
+
+use crate::faults::RunFault;
+use crate::runner::write_run;
+use crate::shown::PLACES_A_STATE;
+use crate::tests::{CaseScripts, NO_MEMORY, Untested};
+use crate::witness::{Sighting, witness};
+use orc_claims::claim::Claim;
+use orc_cli::Wanted;
+use orc_load::{Loaded, load};
+use orc_orders::{Trials, claim_sites};
+use orc_outcome::Played;
+use orc_schedules::{ClaimSearched, Seen, Watch, search_claim};
+use orc_tally::{Broken, CaseReport, ClaimSite, Searched, is_held, is_open};
+use orc_ways::test::Test;
+use std::alloc::{AllocError, Global};
+use std::io::Write;
+
+/// All searches of a command look at so many times as many states as one of them may.
+const SEARCHES: u64 = 20;
+
+/// A way whose program is loaded.
+struct Way<'w> {
+    script: &'w [u8],
+    loaded: Loaded,
+    sites: Vec<ClaimSite>,
+}
+
+impl Drop for Way<'_> {
+    fn drop(self) {
+        let Way {
+            script: _,
+            loaded: _,
+            sites: _,
+        } = self;
+    }
+}
+
+impl<'w> Way<'w> {
+    // The way of a script. Runs of it were made before, so the error is refused memory.
+    fn load(alloc: Global, trials: &Trials<'_, '_>, script: &'w [u8]) -> Result<Way<'w>, AllocError>
+        ensures way { IfOk result (IsWay trials.now) }
+        ensures script { IfOk result (λ w. w.script.now ≡ script.now) }
+    {
+        let Ok(loaded) = load(alloc, trials.source, script) else {
+            return Err(AllocError);
+        };
+        let sites = claim_sites(alloc, &loaded.answers, trials.sites)?;
+        Ok(Way {
+            script,
+            loaded,
+            sites,
+        })
+    }
+
+    // What a search for a claim comes to, through so many states at most.
+    fn search(
+        &self,
+        alloc: Global,
+        claim: &Claim,
+        most: usize,
+        limit: u64,
+    ) -> Result<ClaimSearched, AllocError>
+        ensures { IfOk result (IsClaimSearched self.now.loaded.program self.now.loaded.answers self.now.sites.items claim.now limit) }
+    {
+        search_claim(
+            alloc,
+            &self.loaded.program,
+            &self.loaded.answers,
+            self.sites.as_slice(),
+            claim,
+            most,
+            limit,
+        )
+    }
+}
+
+// What a search in the way at this place says of a claim that was kept so far.
+fn said_of(place: Broken, found: &ClaimSearched) -> Searched
+    ensures { result ≡ said_of place found.now }
+{
+    match found {
+        ClaimSearched::Holds(_) => Searched::Whole,
+        ClaimSearched::Fails(_) => Searched::Breaks(place),
+        ClaimSearched::TooMany | ClaimSearched::TooLong | ClaimSearched::NotWatched => {
+            Searched::No
+        }
+    }
+}
+
+// At about so many states a search has looked.
+fn cost_of(found: &ClaimSearched, most: usize) -> u64 {
+    match found {
+        ClaimSearched::Holds(states) => *states as u64,
+        ClaimSearched::NotWatched => 0,
+        ClaimSearched::Fails(_) | ClaimSearched::TooMany | ClaimSearched::TooLong => most as u64,
+    }
+}
+
+/// What is searched.
+#[derive(Drop)]
+pub(crate) struct Searcher<'s, 'a> {
+    pub(crate) alloc: Global,
+    pub(crate) trials: &'s Trials<'s, 'a>,
+    pub(crate) test: &'s Test<'a>,
+    pub(crate) cases: &'s [CaseScripts],
+    /// One for each case.
+    pub(crate) reports: &'s [CaseReport],
+    /// One search looks at so many states at most; 0 for no search.
+    pub(crate) most: u64,
+}
+
+impl Searcher<'_, '_> {
+    // The case of a claim.
+    fn section(&self, claim: usize) -> Option<usize>
+        ensures { result ≡ section_of (slice_get self.now.test.now.claim_lines.items claim) }
+    {
+        match self.test.claim_lines.get(claim) {
+            Some(line) => line.case,
+            None => None,
+        }
+    }
+
+    // Whether every schedule may keep a claim.
+    #[tactic(auto, using(crate::proofs::Schedules::open_is_full))]
+    fn begun(&self, claim: usize) -> Searched
+        ensures { (result ≡ Searched.No) ⊎ ((result ≡ Searched.Whole) × (are_full (section_of (slice_get self.now.test.now.claim_lines.items claim)) 0 self.now.reports.now ≡ true)) }
+    {
+        if self.most > 0 && is_open(self.reports, self.section(claim), claim) {
+            return Searched::Whole;
+        }
+        Searched::No
+    }
+
+    // Which claims every schedule may keep, before the first search.
+    #[tactic(auto, using(crate::proofs::Schedules::none_begun))]
+    fn begin(&self) -> Result<Vec<Searched>, AllocError>
+        ensures { IfOk result (λ all. AreSoFar self.now 0 0 all.items) }
+    {
+        let mut all = Vec::new(self.alloc);
+        for claim in 0..self.trials.claims.len() {
+            all.push(self.begun(claim))?;
+        }
+        Ok(all)
+    }
+
+    // Whether a claim that was kept so far is held against the runs of a case.
+    fn wants(&self, case: usize, said: &[Searched]) -> bool
+        ensures { result ≡ false → IsUnwanted self.now case said.now }
+    {
+        for claim in 0..said.len() {
+            if let Searched::Whole = said[claim] {
+                if is_held(self.section(claim), case) {
+                    return true;
+                }
+            }
+        }
+        false
+    }
+
+    // How many ways there are, from this case on, against which a claim of this section is held.
+    fn ways_from(&self, case: usize, section: Option<usize>) -> u64 {
+        let mut number: u64 = 0;
+        for at in case..self.cases.len() {
+            if is_held(section, at) {
+                number = number.saturating_add(self.cases[at].scripts.len() as u64);
+            }
+        }
+        number
+    }
+
+    // Whether so many states in each way that is to come are more than are left. The first way of a case tells.
+    fn is_too_much(&self, place: Broken, section: Option<usize>, states: usize, left: u64) -> bool {
+        place.way == 0
+            && self
+                .ways_from(place.case, section)
+                .saturating_mul(states as u64)
+                > left
+    }
+
+    // Searches the way at this place for a claim of this section, and takes what that costs from what is left.
+    fn find(
+        &self,
+        way: &Way<'_>,
+        place: Broken,
+        section: Option<usize>,
+        claim: &Claim,
+        left: &mut u64,
+    ) -> Result<ClaimSearched, AllocError>
+        ensures { IfOk result (IsClaimSearched way.now.loaded.program way.now.loaded.answers way.now.sites.items claim.now self.now.trials.now.limit) }
+    {
+        let most = self.most.min(*left) as usize;
+        let found = way.search(self.alloc, claim, most, self.trials.limit)?;
+        let before = *left;
+        *left = before.saturating_sub(cost_of(&found, most));
+        if let ClaimSearched::Holds(states) = &found {
+            if self.is_too_much(place, section, *states, before) {
+                return Ok(ClaimSearched::TooMany);
+            }
+        }
+        Ok(found)
+    }
+
+    // What is said of a claim that was kept before the way at this place.
+    #[tactic(auto, using(crate::proofs::Schedules::untouched_word, crate::proofs::Schedules::unknown_word))]
+    fn say_again(
+        &self,
+        way: &Way<'_>,
+        place: Broken,
+        claim: usize,
+        left: &mut u64,
+    ) -> Result<Searched, AllocError>
+        requires { IsWay self.now.trials.now way.now }
+        ensures { IfOk result (λ s. (c : AClaim) → slice_get self.now.trials.now.claims.now claim ≡ Some c → IsAfter self.now.trials.now (section_of (slice_get self.now.test.now.claim_lines.items claim)) c place way.now.script.now Searched.Whole s) }
+    {
+        let section = self.section(claim);
+        if !is_held(section, place.case) {
+            return Ok(Searched::Whole);
+        }
+        match self.trials.claims.get(claim) {
+            Some(claim) => {
+                let found = self.find(way, place, section, claim, left)?;
+                Ok(said_of(place, &found))
+            }
+            None => Ok(Searched::No),
+        }
+    }
+
+    // What is said of a claim after the way at this place.
+    #[tactic(auto, using(crate::proofs::Schedules::untouched_word))]
+    fn say(
+        &self,
+        way: &Way<'_>,
+        place: Broken,
+        claim: usize,
+        before: Searched,
+        left: &mut u64,
+    ) -> Result<Searched, AllocError>
+        requires { IsWay self.now.trials.now way.now }
+        ensures { IfOk result (λ s. (c : AClaim) → slice_get self.now.trials.now.claims.now claim ≡ Some c → IsAfter self.now.trials.now (section_of (slice_get self.now.test.now.claim_lines.items claim)) c place way.now.script.now before s) }
+    {
+        match before {
+            Searched::No | Searched::Breaks(_) => Ok(before),
+            Searched::Whole => self.say_again(way, place, claim, left),
+        }
+    }
+
+    // What is said of each claim after the way of this script, at this place.
+    #[tactic(auto, using(crate::proofs::Schedules::all_untouched, crate::proofs::Schedules::nothing_said))]
+    fn say_of_way(
+        &self,
+        place: Broken,
+        script: &[u8],
+        before: Vec<Searched>,
+        left: &mut u64,
+    ) -> Result<Vec<Searched>, AllocError>
+        ensures { IfOk result (λ after. AreAfter self.now place script.now before.items after.items) }
+    {
+        if !self.wants(place.case, before.as_slice()) {
+            return Ok(before);
+        }
+        let way = Way::load(self.alloc, self.trials, script)?;
+        let mut after = Vec::new(self.alloc);
+        for claim in 0..before.len() {
+            after.push(self.say(&way, place, claim, before[claim], left)?)?;
+        }
+        Ok(after)
+    }
+
+    // What is said of each claim after the ways of the case at this place.
+    fn say_of_case(
+        &self,
+        case: usize,
+        its: &CaseScripts,
+        before: Vec<Searched>,
+        left: &mut u64,
+    ) -> Result<Vec<Searched>, AllocError>
+        requires its { slice_get self.now.cases.now case ≡ Some its.now }
+        requires so_far { AreSoFar self.now case 0 before.items }
+        ensures { IfOk result (λ after. AreSoFar self.now (suc case) 0 after.items) }
+    {
+        let mut said = before;
+        for way in 0..its.scripts.len() {
+            let place = Broken {
+                case,
+                way: way as u64,
+            };
+            said = self.say_of_way(place, its.scripts[way].as_slice(), said, left)?;
+        }
+        Ok(said)
+    }
+
+    /// What is said of each claim. The error is refused memory.
+    pub(crate) fn search(&self) -> Result<Vec<Searched>, AllocError>
+        ensures { IfOk result (λ said. AreSaid self.now.trials.now self.now.test.now.claim_lines.items self.now.cases.now self.now.reports.now said.items) }
+    {
+        let mut left = self.most.saturating_mul(SEARCHES);
+        let mut said = self.begin()?;
+        for case in 0..self.cases.len() {
+            said = self.say_of_case(case, &self.cases[case], said, &mut left)?;
+        }
+        Ok(said)
+    }
+
+    /// What such a search sees of a run that breaks a claim, in the way of this script; None where it finds none. The error is refused memory.
+    pub(crate) fn see(&self, script: &[u8], claim: usize) -> Result<Option<Seen>, AllocError> {
+        let Some(claim) = self.trials.claims.get(claim) else {
+            return Ok(None);
+        };
+        let way = Way::load(self.alloc, self.trials, script)?;
+        match way.search(self.alloc, claim, self.most as usize, self.trials.limit)? {
+            ClaimSearched::Fails(seen) => Ok(Some(seen)),
+            _ => Ok(None),
+        }
+    }
+}
+
+// A run that breaks a claim, in a way: a search says what the claim sees of it, and then it is looked for. None where none is found. The error is refused
+// memory.
+fn witness_in(
+    alloc: Global,
+    way: &Way<'_>,
+    claim: &Claim,
+    most: usize,
+    limit: u64,
+) -> Result<Option<Played>, AllocError>
+    ensures { IfOk result (λ found. IfSome found (λ p. IsPlayed way.now.loaded.program way.now.loaded.answers limit p.summary p.published.items p.journal)) }
+{
+    let ClaimSearched::Fails(seen) = way.search(alloc, claim, most, limit)? else {
+        return Ok(None);
+    };
+    let Some(watch) = Watch::of_claim(alloc, claim)? else {
+        return Ok(None);
+    };
+    let sighting = Sighting {
+        watch: &watch,
+        sites: way.sites.as_slice(),
+        seen: &seen,
+    };
+    let places = most.saturating_mul(PLACES_A_STATE);
+    witness(alloc, &way.loaded, &sighting, places, limit)
+}
+
+/// Writes the journal of a run that breaks a claim, in the way of this script: whether one was found. It searches through so many states at most, and a run has
+/// at most `limit` entries. Where none was found, nothing is written.
+pub(crate) fn write_witness<W: Write>(
+    alloc: Global,
+    trials: &Trials<'_, '_>,
+    most: u64,
+    limit: u64,
+    script: &[u8],
+    claim: usize,
+    out: &mut W,
+) -> Result<bool, Untested>
+    ensures found { IfOk result (λ found. found ≡ true → (s : Summary) × Ran trials.now.source.now script.now (witness_options limit) (W.contents out.old) (W.contents out.new) s) }
+    ensures none { IfOk result (λ found. found ≡ false → Keeps (W.contents out.old) (W.contents out.new)) }
+    ensures err { IfErr result (LeavesUntested (W.contents out.old) (W.contents out.new)) }
+    ensures cause { IfErr result (IsUnshown trials.now.source.now 1 limit script.now) }
+    ensures sound { IfErr result (λ f. IsOwnFault f → ⊥) }
+{
+    let Some(claim) = trials.claims.get(claim) else {
+        return Ok(false);
+    };
+    let Ok(way) = Way::load(alloc, trials, script) else {
+        return Err(NO_MEMORY);
+    };
+    let Ok(found) = witness_in(alloc, &way, claim, most as usize, limit) else {
+        return Err(NO_MEMORY);
+    };
+    let Some(played) = found else {
+        return Ok(false);
+    };
+    if played.journal.is_none() {
+        return Ok(false);
+    }
+    match write_run(alloc, &way.loaded.answers, &played, Wanted::Journal, out) {
+        Ok(()) => Ok(true),
+        Err(fault) => Err(Untested::Fault(RunFault::Write(fault))),
+    }
+}

@@ -1,0 +1,246 @@
+//! From a source text to the journal of a run that has one of the program's outcomes.
+
+ghost use Rattle.std.specs.Prelude.{◌≡◌, IfErr, IfOk, IfSome, OnOk, true};
+ghost use Rattle.orc_engine.specs.Ranges.{IsInRange};
+ghost use Rattle.orc_outcome.specs.Outcome.{IsPlayed};
+ghost use Rattle.orc_rules.specs.Nodes.{definitions, source};
+ghost use Rattle.orc_rules.specs.Program.{IsProgram};
+ghost use Rattle.orc_run.specs.Running.{IsOther, IsOwnOf};
+ghost use Rattle.orc_run.specs.Searched.{IsUnseen};
+ghost use Rattle.orc_run.specs.Shown.{HasShown, HasWritten, IsOwnUnshown, IsUnshownBy, IsUnshownFor, LeavesUnseen, LeavesUnshown, LeavesUnwritten, WritesUnseen};
+
+use crate::faults::RunFault;
+use crate::outcomes::{found_of, surveyed};
+use crate::pieces::write_journal;
+use orc_cli::SurveyOptions;
+use orc_engine::{EngineFault, run_alone};
+use orc_load::Loaded;
+use orc_orders::{Seen, are_same, place_of};
+use orc_outcome::{End, PlayFault, Played};
+use orc_reference::{Happened, Wanted, find};
+use orc_rules::value::Value;
+use orc_schedules::{Ended, search};
+use std::alloc::Global;
+use std::io::Write;
+use std::thread::Threads;
+
+/// How many places a search for a run may look at for each state that a search through all schedules may: places tell apart more than states do.
+pub(crate) const PLACES_A_STATE: usize = 16;
+
+/// Memory for what is looked for was refused.
+const NO_MEMORY: Unshown = Unshown::Fault(RunFault::Engine(EngineFault::Memory));
+
+/// Why no outcome is shown.
+#[derive(Clone, Copy, Debug, PartialEq, Eq)]
+pub enum Unshown {
+    Fault(RunFault),
+    /// There are fewer outcomes than this number.
+    NoOutcome(u64),
+    /// No run was found that has the outcome with this number.
+    NoRun(u64),
+}
+
+// How a run is to end, and what it is to publish.
+#[derive(Clone, Copy)]
+struct Outcome<'o> {
+    end: End,
+    values: &'o [Value],
+}
+
+impl Wanted for Outcome<'_> {
+    fn after(&self, seen: usize, happened: Happened<'_>) -> Option<usize> {
+        let Happened::Published(value) = happened else {
+            return Some(seen);
+        };
+        match self.values.get(seen) {
+            Some(next) if *next == value => Some(seen.saturating_add(1)),
+            _ => None,
+        }
+    }
+
+    fn is_met(&self, seen: usize, end: End) -> bool {
+        seen == self.values.len() && end == self.end
+    }
+}
+
+// Whether a run ended so and published these values.
+fn has(played: &Played, outcome: Outcome<'_>) -> bool
+    ensures end { result ≡ true → played.now.summary.end ≡ outcome.entry.end }
+    ensures values { result ≡ true → played.now.published.items ≡ outcome.entry.values.now }
+{
+    played.summary.end == outcome.end && are_same(played.published.as_slice(), outcome.values)
+}
+
+// The outcome with this place among those that a search found and no order came to.
+fn unseen_at<'f>(seen: &[Seen], found: &'f [Ended], place: usize) -> Option<&'f Ended>
+    ensures { IfSome result (λ e. IsUnseen seen.now e.now) }
+{
+    let mut left = place;
+    for ended in found {
+        if place_of(seen, ended.end, ended.values.as_slice()).is_none() {
+            if left == 0 {
+                return Some(ended);
+            }
+            left -= 1;
+        }
+    }
+    None
+}
+
+// A run that has an outcome, looked for through so many places at most. The error is refused memory.
+fn found_run(
+    alloc: Global,
+    loaded: &Loaded,
+    outcome: &Outcome<'_>,
+    places: usize,
+) -> Result<Option<Played>, EngineFault>
+    ensures played { IfOk result (λ found. IfSome found (λ p. IsPlayed loaded.now.program loaded.now.answers 18446744073709551615 p.summary p.published.items p.journal)) }
+    ensures memory { IfErr result (λ f. f ≡ EngineFault.Memory) }
+{
+    match find(
+        alloc,
+        &loaded.program,
+        &loaded.answers,
+        outcome,
+        places,
+        u64::MAX,
+    ) {
+        Ok(found) => Ok(found),
+        Err(PlayFault::Memory) => Err(EngineFault::Memory),
+        Err(PlayFault::Broken) => Ok(None),
+    }
+}
+
+// Writes the journal of a run, if it has the outcome with this number.
+fn write_shown<W: Write>(
+    alloc: Global,
+    loaded: &Loaded,
+    played: &Played,
+    outcome: Outcome<'_>,
+    number: u64,
+    out: &mut W,
+) -> Result<(), Unshown>
+    ensures ok { OnOk result (HasWritten loaded.now.program loaded.now.answers played.now outcome.entry.end outcome.entry.values.now (W.contents out.old) (W.contents out.new)) }
+    ensures err { IfErr result (LeavesUnwritten loaded.now.program loaded.now.answers played.now outcome.entry.end outcome.entry.values.now (W.contents out.old) (W.contents out.new)) }
+    ensures cause { IfErr result (IsUnshownBy number) }
+{
+    if !has(played, outcome) {
+        return Err(Unshown::NoRun(number));
+    }
+    let Some(journal) = &played.journal else {
+        return Err(Unshown::NoRun(number));
+    };
+    match write_journal(alloc, journal, &loaded.answers, out) {
+        Ok(()) => Ok(()),
+        Err(fault) => Err(Unshown::Fault(RunFault::Write(fault))),
+    }
+}
+
+// A run in one order, with its journal.
+fn run_in_order(alloc: Global, loaded: &Loaded, order: u64, limit: u64) -> Result<Played, RunFault>
+    ensures played { IfOk result (λ p. IsPlayed loaded.now.program loaded.now.answers limit p.summary p.published.items p.journal) }
+    ensures fault { IfErr result IsOther }
+    ensures range { IfErr result (λ f. f ≡ RunFault.Engine EngineFault.Range → IsInRange 1 limit → ⊥) }
+    ensures sound { IfErr result (λ f. IsOwnOf f → IsProgram (definitions loaded.now.program) (source loaded.now.program) → ⊥) }
+{
+    run_alone(
+        alloc,
+        &loaded.program,
+        &loaded.answers,
+        Some(order),
+        true,
+        limit,
+    )
+    .map_err(RunFault::Engine)
+}
+
+// Writes the journal of a run that has an outcome to which no order came: the one at this place among those that a search finds.
+fn show_unseen<W: Write>(
+    alloc: Global,
+    loaded: &Loaded,
+    seen: &[Seen],
+    states: usize,
+    limit: u64,
+    number: u64,
+    out: &mut W,
+) -> Result<(), Unshown>
+    ensures ok { OnOk result (WritesUnseen loaded.now.program loaded.now.answers seen.now (W.contents out.old) (W.contents out.new)) }
+    ensures err { IfErr result (LeavesUnseen loaded.now.program loaded.now.answers seen.now (W.contents out.old) (W.contents out.new)) }
+    ensures cause { IfErr result (IsUnshownBy number) }
+{
+    let place = (number as usize)
+        .saturating_sub(seen.len())
+        .saturating_sub(1);
+    let Ok(found) = search(alloc, &loaded.program, &loaded.answers, states, limit) else {
+        return Err(NO_MEMORY);
+    };
+    let Some(ended) = unseen_at(seen, found_of(&found), place) else {
+        return Err(Unshown::NoOutcome(number));
+    };
+    let outcome = Outcome {
+        end: ended.end,
+        values: ended.values.as_slice(),
+    };
+    let places = states.saturating_mul(PLACES_A_STATE);
+    match found_run(alloc, loaded, &outcome, places) {
+        Ok(Some(played)) => write_shown(alloc, loaded, &played, outcome, number, out),
+        Ok(None) => Err(Unshown::NoRun(number)),
+        Err(fault) => Err(Unshown::Fault(RunFault::Engine(fault))),
+    }
+}
+
+/// Writes the journal of a run of the program that a source spells, with the built-in sites and those of a script, that has the outcome with this number,
+/// from 1: of those that [`survey_text`](crate::survey_text) writes, and where `states` says how many states are searched, of those that
+/// [`search_text`](crate::search_text) writes behind them.
+///
+/// The faults are those of `survey_text`; `Engine` comes also where memory is refused to a search. Without a fault there may be no outcome with this number, or
+/// no run may be found that has it. Nothing is written then, but at a fault of the output a prefix of the journal's text.
+pub fn show_text<R: Threads + Sync, W: Write>(
+    rt: &R,
+    alloc: Global,
+    source: &[u8],
+    script: &[u8],
+    options: &SurveyOptions,
+    states: Option<u64>,
+    number: u64,
+    out: &mut W,
+) -> Result<(), Unshown>
+    ensures shown { OnOk result (HasShown source.now script.now options.now.orders options.now.limit number (W.contents out.old) (W.contents out.new)) }
+    ensures fault { IfErr result (LeavesUnshown source.now script.now options.now.orders options.now.limit number (W.contents out.old) (W.contents out.new)) }
+    ensures cause { IfErr result (IsUnshownFor source.now script.now number) }
+    ensures range { IfErr result (λ u. u ≡ Unshown.Fault (RunFault.Engine EngineFault.Range) → IsInRange options.now.workers options.now.limit → ⊥) }
+    ensures sound { IfErr result (λ u. IsOwnUnshown u → ⊥) }
+{
+    let (loaded, seen) = surveyed(rt, alloc, source, script, options)?;
+    let seen = seen.as_slice();
+    if let Some(one) = seen.get((number as usize).saturating_sub(1)) {
+        let played = run_in_order(alloc, &loaded, one.first, options.limit)?;
+        let outcome = Outcome {
+            end: one.end,
+            values: one.values.as_slice(),
+        };
+        return write_shown(alloc, &loaded, &played, outcome, number, out);
+    }
+    match states {
+        None => Err(Unshown::NoOutcome(number)),
+        Some(states) => show_unseen(
+            alloc,
+            &loaded,
+            seen,
+            states as usize,
+            options.limit,
+            number,
+            out,
+        ),
+    }
+}
+
+impl From<RunFault> for Unshown {
+    ghost use Rattle.orc_run.specs.declared.shown.Unshown.TheVariants.{Fault};
+
+    ghost from_gives = { λ fault u. u ≡ Fault fault };
+
+    fn from(fault: RunFault) -> Unshown {
+        Unshown::Fault(fault)
+    }
+}

@@ -1,0 +1,105 @@
+//! A run that breaks a claim as a search through all schedules says that one does.
+
+ghost use Rattle.std.specs.Prelude.{IfOk, IfSome};
+ghost use Rattle.orc_outcome.specs.Outcome.{IsPlayed};
+
+use orc_claims::happening::{Occurrence, Phase};
+use orc_load::Loaded;
+use orc_outcome::{End, PlayFault, Played};
+use orc_reference::{Happened, Wanted, find};
+use orc_rules::builtin::{are_same, is_same};
+use orc_rules::value::{Answer, Args};
+use orc_schedules::{Seen, Watch};
+use orc_tally::ClaimSite;
+use std::alloc::{AllocError, Global};
+
+/// What a claim is to see of a run, and how that is to end.
+#[derive(Clone, Copy)]
+pub(crate) struct Sighting<'o> {
+    /// What the claim depends on.
+    pub(crate) watch: &'o Watch,
+    /// The sites that claims name, in the order of their numbers there.
+    pub(crate) sites: &'o [ClaimSite],
+    pub(crate) seen: &'o Seen,
+}
+
+// Whether the same happened.
+fn is_alike(one: &Occurrence, other: &Occurrence) -> bool {
+    match (one, other) {
+        (Occurrence::Call(site, args, phase), Occurrence::Call(called, values, became)) => {
+            *site == *called && *phase == *became && are_same(args.as_slice(), values.as_slice())
+        }
+        (Occurrence::Published(value), Occurrence::Published(published)) => {
+            is_same(*value, *published)
+        }
+        _ => false,
+    }
+}
+
+impl Sighting<'_> {
+    fn after_what(&self, seen: usize, what: &Occurrence) -> Option<usize> {
+        if !self.watch.names(what) {
+            return Some(seen);
+        }
+        match self.seen.occurrences.get(seen) {
+            Some(next) if is_alike(next, what) => Some(seen.saturating_add(1)),
+            _ => None,
+        }
+    }
+
+    // After something became of a call of a site. A site that no claim names has the number of none.
+    fn after_call(&self, seen: usize, site: u32, args: &Args, phase: Phase) -> Option<usize> {
+        let mut number = 0_u32;
+        for known in self.sites {
+            if known.site == site && known.arguments == args.as_slice().len() {
+                break;
+            }
+            number = number.saturating_add(1);
+        }
+        self.after_what(seen, &Occurrence::Call(number, args.copied(), phase))
+    }
+}
+
+impl Wanted for Sighting<'_> {
+    fn after(&self, seen: usize, happened: Happened<'_>) -> Option<usize> {
+        match happened {
+            Happened::Called(site, args) => self.after_call(seen, site, args, Phase::Called),
+            Happened::Answered(site, args, Answer::Value(value)) => {
+                self.after_call(seen, site, args, Phase::Answered(value))
+            }
+            Happened::Answered(site, args, Answer::Halt) => {
+                self.after_call(seen, site, args, Phase::Halted)
+            }
+            Happened::Published(value) => self.after_what(seen, &Occurrence::Published(value)),
+        }
+    }
+
+    fn is_met(&self, seen: usize, end: End) -> bool {
+        seen == self.seen.occurrences.len() && end == self.seen.end
+    }
+}
+
+/// A run of which a claim sees just that, looked for through so many places at most. None where it isn't found within the limit of entries. The error is refused
+/// memory.
+pub(crate) fn witness(
+    alloc: Global,
+    loaded: &Loaded,
+    sighting: &Sighting<'_>,
+    places: usize,
+    limit: u64,
+) -> Result<Option<Played>, AllocError>
+    ensures { IfOk result (λ found. IfSome found (λ p. IsPlayed loaded.now.program loaded.now.answers limit p.summary p.published.items p.journal)) }
+{
+    match find(
+        alloc,
+        &loaded.program,
+        &loaded.answers,
+        sighting,
+        places,
+        limit,
+    ) {
+        Ok(found) => Ok(found),
+        Err(PlayFault::Memory) => Err(AllocError),
+        Err(PlayFault::Broken) => Ok(None),
+    }
+}
