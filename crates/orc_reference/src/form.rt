@@ -18,6 +18,13 @@ pub(crate) fn mix(seed: u64, word: u64) -> u64 {
         .rotate_left(29)
 }
 
+// Spreads each bit over all others, so that sums of such numbers are seldom equal.
+fn spread(word: u64) -> u64 {
+    let once = (word ^ (word >> 32)).wrapping_mul(0xD6E8_FEB8_6659_FD93);
+    let twice = (once ^ (once >> 32)).wrapping_mul(0xD6E8_FEB8_6659_FD93);
+    twice ^ (twice >> 32)
+}
+
 /// The same with a value mixed in.
 pub(crate) fn mix_value(seed: u64, value: Value) -> u64 {
     match value {
@@ -184,7 +191,8 @@ impl Forms<'_> {
             };
             match slot.node().kind {
                 Kind::Leaf(tip) => {
-                    form = form.wrapping_add(self.tip(place, marked, calls, tip)?);
+                    let tip = self.tip(place, marked, calls, tip)?;
+                    form = form.wrapping_add(spread(tip));
                 }
                 Kind::One(Single::Passed, part) => todo.push((part, place))?,
                 Kind::One(Single::Feeds(name, node, scope), part) => {
@@ -192,7 +200,9 @@ impl Forms<'_> {
                     todo.push((part, self.mix_node(seed, marked, node, scope)?))?;
                 }
                 Kind::One(Single::Entered(_, node, scope), part) => {
-                    todo.push((part, self.mix_node(mix(place, 21), marked, node, scope)?))?;
+                    let seed = self.mix_node(mix(place, 21), marked, node, scope)?;
+                    form = form.wrapping_add(spread(seed));
+                    todo.push((part, seed))?;
                 }
                 Kind::Two(Double::Both, left, right) => {
                     todo.push((left, mix(place, 22)))?;
@@ -200,6 +210,7 @@ impl Forms<'_> {
                 }
                 Kind::Two(Double::Side(cell), left, right) => {
                     self.cells.insert(cell, place)?;
+                    form = form.wrapping_add(spread(mix(place, 26)));
                     todo.push((left, mix(place, 24)))?;
                     todo.push((right, mix(place, 25)))?;
                 }
