@@ -120,8 +120,7 @@ impl<P: Program + Naming> Book<P> {
             Ok(_bound) => {
                 stands(&self.ledger);
                 clear_missing(&self.ledger, &mut self.posts);
-                let buried = bury_missing(&self.ledger, &mut self.posts, &mut self.stands);
-                self.dying = self.dying.saturating_add(buried);
+                bury_missing(&self.ledger, &mut self.posts, &mut self.words);
                 settle_all(&self.ledger, &mut self.posts, leave);
                 leave.push_reserved(pass);
                 Ok(())

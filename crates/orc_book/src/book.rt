@@ -10,8 +10,7 @@ ghost use Rattle.orc_book.specs.Held.{IsToken};
 use crate::kept_tokens::Keeping;
 use crate::post::{Post, first_posts, set_out};
 use crate::token::{BookFault, Refused, Token};
-use crate::word_state::{Stand, first_stands};
-use crate::words::Words;
+use crate::word_table::WordTable;
 use orc_env::StoredScope;
 use orc_graph::Graph;
 use orc_journal::Journal;
@@ -28,10 +27,7 @@ pub struct Book<P: Program + Naming> {
     pub(crate) alloc: Global,
     // By the ledger's numbers of groups, up to the highest one that was given.
     pub(crate) posts: Vec<Post<P>>,
-    // By words, and which of these are free; and how many stand for killed groups.
-    pub(crate) stands: Vec<Stand<P>>,
-    pub(crate) words: Words<P>,
-    pub(crate) dying: usize,
+    pub(crate) words: WordTable<P>,
     pub(crate) keeping: Keeping,
     // Lent to the ledger's calls.
     pub(crate) scopes: Vec<StoredScope>,
@@ -56,9 +52,7 @@ impl<P: Program + Naming> Drop for Book<P> {
             ledger,
             alloc: _,
             posts,
-            stands,
             words,
-            dying: _,
             keeping,
             scopes,
             cancelled,
@@ -66,7 +60,6 @@ impl<P: Program + Naming> Drop for Book<P> {
         } = self;
         drop(ledger);
         drop(posts);
-        drop(stands);
         drop(words);
         drop(keeping);
         drop(scopes);
@@ -102,13 +95,7 @@ impl<P: Program + Naming> Book<P> {
                 back: pass,
             });
         };
-        let Ok(stands) = first_stands(alloc, words) else {
-            return Err(Refused {
-                why: BookFault::Memory,
-                back: pass,
-            });
-        };
-        let Ok(words) = Words::new(alloc, words) else {
+        let Ok(words) = WordTable::new(alloc, words) else {
             return Err(Refused {
                 why: BookFault::Memory,
                 back: pass,
@@ -125,9 +112,7 @@ impl<P: Program + Naming> Book<P> {
             ledger,
             alloc,
             posts,
-            stands,
             words,
-            dying: 0,
             keeping: Keeping::new(alloc),
             scopes: Vec::new(alloc),
             cancelled: Vec::new(alloc),
@@ -147,16 +132,13 @@ impl<P: Program + Naming> Book<P> {
             ledger,
             alloc: _,
             posts,
-            stands,
             words,
-            dying: _,
             keeping,
             scopes,
             cancelled,
             cells,
         } = self;
         drop(posts);
-        drop(stands);
         drop(words);
         drop(keeping);
         drop(scopes);
@@ -174,16 +156,13 @@ impl<P: Program + Naming> Book<P> {
             ledger,
             alloc: _,
             posts,
-            stands,
             words,
-            dying: _,
             keeping,
             scopes,
             cancelled,
             cells,
         } = self;
         drop(posts);
-        drop(stands);
         drop(words);
         drop(keeping);
         drop(scopes);
@@ -199,6 +178,6 @@ impl<P: Program + Naming> Book<P> {
 
     /// How many killed groups' words are still taken.
     pub fn dying(&self) -> usize {
-        self.dying
+        self.words.dying()
     }
 }

@@ -16,7 +16,7 @@ use crate::book::Book;
 use crate::post::{out_in, send_at, take_at};
 use crate::settle::{clear_missing, settle_all};
 use crate::token::{BookFault, Refused, Token, fault_of};
-use crate::word_state::{Kind, free, kind_of};
+use crate::word_table::Kind;
 use orc_ledger::stands;
 use orc_ledger_spec::{HaltFault, Halted};
 use orc_log::Program;
@@ -48,7 +48,7 @@ impl<P: Program + Naming> Book<P> {
         ensures refused { IfErr result (λ r. (self.new ≡ self.old) × (r.back ≡ last)) }
     {
         let word = last.group();
-        match kind_of(&self.stands, word) {
+        match self.words.kind(word) {
             Kind::Free => Err(Refused {
                 why: BookFault::Gone,
                 back: last,
@@ -60,11 +60,9 @@ impl<P: Program + Naming> Book<P> {
                         back: last,
                     });
                 }
-                if let Some(pass) = free(&mut self.stands, word) {
+                if let Some(pass) = self.words.free(word) {
                     leave.push_reserved(pass);
                 }
-                self.dying = self.dying.saturating_sub(1);
-                self.words.add(word);
                 Ok(Ended::Group)
             }
             Kind::Open(0) => {
@@ -79,8 +77,7 @@ impl<P: Program + Naming> Book<P> {
             }
             Kind::Open(number) => match self.halt_group(number, leave) {
                 Ok(ended) => {
-                    let _none = free(&mut self.stands, word);
-                    self.words.add(word);
+                    let _none = self.words.free(word);
                     Ok(ended)
                 }
                 Err(why) => Err(Refused { why, back: last }),

@@ -20,8 +20,7 @@ mod settle;
 mod steps;
 mod token;
 mod wait;
-mod word_state;
-mod words;
+mod word_table;
 
 pub use book::Book;
 pub use calls::Answered;

@@ -1,5 +1,5 @@
 //! Groups that are opened: the right side of a pruning, and the left side of an otherwise.
-ghost use Rattle.std.specs.Prelude.{◌≡◌, ◌≤◌, ◌+◌, ◌<◌, ℕ, List, length, true, Some, None, IfOk, IfErr};
+ghost use Rattle.std.specs.Prelude.{◌≡◌, ◌≤◌, ◌+◌, ◌<◌, ℕ, List, length, true, Some, None, IfOk, OnOk, IfErr};
 ghost use Rattle.orc_rules.specs.Nodes.{code, definitions};
 ghost use Rattle.orc_tables.specs.declared.records.Token.{Token as Its};
 ghost use Rattle.orc_ledger_spec.specs.Doing.{what_of};
@@ -11,15 +11,14 @@ ghost use Rattle.orc_book.specs.Held.{Hold, IsToken, IsOut, HasStayed, Changes, 
 use crate::book::Book;
 use crate::post::{bring_at, grow_to, put_at, raise_at, reserve_opening};
 use crate::token::{BookFault, Refused, Token, fault_of};
-use crate::word_state::stand_for;
-use crate::words::Words;
+use crate::word_table::WordTable;
 use orc_graph::Graph;
 use orc_ledger::{Action, Moved, stands};
 use orc_log::Program;
 use orc_tables::Token as Record;
 use orc_word::{Groups, Naming, Pass};
 
-/// A word that was free, and the pass that opened it.
+/// A word that is free, and the pass that opened it.
 #[derive(Drop)]
 struct Opened<P: Naming> {
     word: u32,
@@ -28,12 +27,14 @@ struct Opened<P: Naming> {
 
 // An idle pass names a word that is free. The fault is Full where no word is, and Live where somebody names it meanwhile.
 fn open_word<P: Naming>(
-    words: &mut Words<P>,
+    words: &WordTable<P>,
     groups: &Groups<P>,
     idle: Pass<P>,
 ) -> Result<Opened<P>, Refused<Pass<P>>>
     requires idle { group_of idle ≡ None }
     ensures opened { IfOk result (λ o. group_of o.pass ≡ Some o.word) }
+    ensures next { IfOk result (λ o. o.word ≡ words.now.next) }
+    ensures few { OnOk result (words.now.next < P.table.words) }
     ensures refused { IfErr result (λ r. r.back ≡ idle) }
 {
     let Some(word) = words.next() else {
@@ -44,13 +45,10 @@ fn open_word<P: Naming>(
     };
     match groups.open(idle, word) {
         Ok(pass) => Ok(Opened { word, pass }),
-        Err(back) => {
-            words.add(word);
-            Err(Refused {
-                why: BookFault::Live,
-                back,
-            })
-        }
+        Err(back) => Err(Refused {
+            why: BookFault::Live,
+            back,
+        }),
     }
 }
 
@@ -122,7 +120,7 @@ impl<P: Program + Naming> Book<P> {
                 back,
             });
         }
-        let opened = match open_word(&mut self.words, groups, idle) {
+        let opened = match open_word(&self.words, groups, idle) {
             Ok(opened) => opened,
             Err(refused) => {
                 let back = (token, same, refused.back);
@@ -148,7 +146,7 @@ impl<P: Program + Naming> Book<P> {
                 grow_to(self.alloc, &mut self.posts, number);
                 put_at(&mut self.posts, found.group, same);
                 raise_at(&mut self.posts, number, opened.word, found.group);
-                stand_for(&mut self.stands, opened.word, number);
+                self.words.open(number);
                 let one = self.born(token.slot, token.pass);
                 let two = self.born(other, opened.pass);
                 Ok((one, two))
@@ -156,7 +154,6 @@ impl<P: Program + Naming> Book<P> {
             Ok(_) => unreachable!(),
             Err(fault) => {
                 let left = groups.leave(opened.pass);
-                self.words.add(opened.word);
                 Err(Refused {
                     why: fault_of(fault),
                     back: (token, same, left.pass),
@@ -208,7 +205,7 @@ impl<P: Program + Naming> Book<P> {
                 back,
             });
         }
-        let opened = match open_word(&mut self.words, groups, idle) {
+        let opened = match open_word(&self.words, groups, idle) {
             Ok(opened) => opened,
             Err(refused) => {
                 let back = (token, refused.back);
@@ -234,13 +231,12 @@ impl<P: Program + Naming> Book<P> {
                 grow_to(self.alloc, &mut self.posts, number);
                 bring_at(&mut self.posts, found.group, found.out - 1, token.pass);
                 raise_at(&mut self.posts, number, opened.word, found.group);
-                stand_for(&mut self.stands, opened.word, number);
+                self.words.open(number);
                 Ok(self.born(token.slot, opened.pass))
             }
             Ok(_) => unreachable!(),
             Err(fault) => {
                 let left = groups.leave(opened.pass);
-                self.words.add(opened.word);
                 Err(Refused {
                     why: fault_of(fault),
                     back: (token, left.pass),

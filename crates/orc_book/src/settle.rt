@@ -3,9 +3,10 @@ ghost use Rattle.std.specs.Prelude.{◌≡◌, ◌+◌, ◌≤◌, ℕ, true, fa
 ghost use Rattle.orc_rules.specs.declared.limits.TheConstants.{MOST_GROUPS};
 ghost use Rattle.orc_indexes.specs.Same.{weight};
 ghost use Rattle.orc_book.specs.Held.{AreHeld, AreLoose, IsLoose, IsThere, IsMissing, bag};
+ghost use Rattle.orc_book.specs.Words.{Turns, kind_at};
 
 use crate::post::{Post, clear_at, place_in, settle_at, spare_at, word_in};
-use crate::word_state::{Kind, Stand, bury, kind_of};
+use crate::word_table::{Kind, WordTable};
 use orc_ledger::Ledger;
 use orc_log::Program;
 use orc_word::{Naming, Pass};
@@ -45,27 +46,28 @@ pub(crate) fn clear_missing<P: Program, J: Naming>(ledger: &Ledger<P>, posts: &m
 fn bury_one<P: Program, J: Naming>(
     ledger: &Ledger<P>,
     posts: &mut Vec<Post<J>>,
-    stands: &mut Vec<Stand<J>>,
+    words: &mut WordTable<J>,
     word: u32,
     parent: u32,
-) -> bool
+)
     requires loose { (i : ℕ) → IsLoose ledger.now posts.old.items i }
+    requires stood { (number : ℕ) × (kind_at words.old.kinds word ≡ Kind.Open number) }
     ensures loose { (i : ℕ) → IsLoose ledger.now posts.new.items i }
     ensures bags { weight bag posts.new.items ≤ weight bag posts.old.items }
     ensures count { length posts.new.items ≡ length posts.old.items }
+    ensures buried { Turns words.old.kinds word Kind.Dying words.new.kinds }
 {
     let above = word_in(posts, parent);
     let pass = spare_at(posts, parent, ledger.member_count(parent) as usize);
-    bury(stands, word, above, pass);
-    true
+    words.bury(word, above, pass);
 }
 
-// The words whose groups are there no more stand for killed ones. Gives how many.
+// The words whose groups are there no more stand for killed ones.
 pub(crate) fn bury_missing<P: Program, J: Naming>(
     ledger: &Ledger<P>,
     posts: &mut Vec<Post<J>>,
-    stands: &mut Vec<Stand<J>>,
-) -> usize
+    words: &mut WordTable<J>,
+)
     requires few { length posts.old.items ≤ MOST_GROUPS }
     requires loose { (i : ℕ) → IsLoose ledger.now posts.old.items i }
     ensures loose { (i : ℕ) → IsLoose ledger.now posts.new.items i }
@@ -73,25 +75,24 @@ pub(crate) fn bury_missing<P: Program, J: Naming>(
     ensures count { length posts.new.items ≡ length posts.old.items }
 {
     let count = posts.len();
-    let mut buried: usize = 0;
     for number in 0..count {
         let number = number as u32;
         if is_there(ledger, number) {
             continue;
         }
         if let Some((word, parent)) = place_in(posts, number)
-            && is_open(stands, word, number)
-            && bury_one(ledger, posts, stands, word, parent)
+            && is_open(words, word, number)
         {
-            buried = buried.saturating_add(1);
+            bury_one(ledger, posts, words, word, parent);
         }
     }
-    buried
 }
 
 // Whether a word stands for the open group with this number.
-fn is_open<J: Naming>(stands: &Vec<Stand<J>>, word: u32, number: u32) -> bool {
-    match kind_of(stands, word) {
+fn is_open<J: Naming>(words: &WordTable<J>, word: u32, number: u32) -> bool
+    ensures { result ≡ true → kind_at words.now.kinds word ≡ Kind.Open number }
+{
+    match words.kind(word) {
         Kind::Open(open) => open == number,
         _ => false,
     }

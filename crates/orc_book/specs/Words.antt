@@ -1,0 +1,32 @@
+-- What the words of a book stand for.
+use Rattle.std.specs.Prelude.{◌≡◌, ℕ, List, Option, Some, None, slice_index_or}
+use Rattle.orc_word.specs.declared.naming.Naming.{Ghosts}
+use Rattle.orc_book.specs.declared.word_table.Kind.{Kind}
+use Rattle.orc_book.specs.declared.word_table.Kind.TheVariants.{Free}
+use Rattle.orc_book.specs.declared.word_table.Kind.TheVariants as kind
+use Rattle.orc_book.specs.declared.word_table.Stand.{Stand}
+use Rattle.orc_book.specs.declared.word_table.Stand.TheVariants.{Open, Dying}
+
+-- what word w stands for: a word that isn't listed is free
+abbrev pub kind_at : List Kind → ℕ → Kind
+kind_at ws w = slice_index_or ws w Free
+
+-- an entry of the table without its pass
+abbrev pub kind_of : {X : Type 0} {g : Ghosts X} → Option (Stand X g) → Kind
+kind_of None = Free
+kind_of (Some (Open number)) = kind.Open number
+kind_of (Some (Dying owed)) = kind.Dying
+
+-- word w has come to stand for this, and no other word has changed
+pub record Turns (ws : List Kind) (w : ℕ) (to : Kind) (ws' : List Kind) : Type 0 where
+  pub turned : kind_at ws' w ≡ to
+  pub others : (v : ℕ) → (v ≡ w → ⊥) → kind_at ws' v ≡ kind_at ws v
+
+-- word w was free, and stands for the open group with this number
+abbrev pub IsOpened : List Kind → ℕ → ℕ → List Kind → Type 0
+IsOpened ws w number ws' = (kind_at ws w ≡ Free) × Turns ws w (kind.Open number) ws'
+
+-- what the table of words shows: what each word stands for, and the word that is opened next
+pub record Shown : Type 0 where
+  pub kinds : List Kind
+  pub next : ℕ

@@ -1,0 +1,140 @@
+//! What words stand for.
+ghost use Rattle.std.specs.Prelude.{◌≡◌, Some};
+ghost use Rattle.orc_book.specs.Held.{owed_to};
+
+use orc_word::{Naming, Pass};
+use slab::Slab;
+use std::alloc::{AllocError, Global};
+use std::marker::Model;
+
+/// The pass of a killed group to the one that was round it, whose word has this number.
+#[derive(Drop)]
+pub(crate) struct Owed<P: Naming> {
+    parent: u32,
+    pass: Option<Pass<P>>,
+    ghost own: { owed_to parent pass ≡ Some parent },
+}
+
+/// What a word that isn't free stands for.
+#[derive(Drop)]
+pub(crate) enum Stand<P: Naming> {
+    /// The open group with this number.
+    Open(u32),
+    /// A killed group, until its last pass is left.
+    Dying(Owed<P>),
+}
+
+/// What a word stands for, without the pass.
+#[derive(Clone, Copy)]
+pub(crate) enum Kind {
+    Free,
+    Open(u32),
+    Dying,
+}
+
+/// What each word stands for, by its number. A word without an entry is free; there is room for an entry of each.
+#[derive(Drop)]
+pub(crate) struct WordTable<P: Naming> {
+    stands: Slab<Stand<P>>,
+    count: u32,
+    dying: usize,
+}
+
+impl<P: Naming> Model for WordTable<P> {
+    ghost use Rattle.std.specs.Prelude.{◌≡◌, ◌≤◌, map};
+    ghost use Rattle.orc_book.specs.Words.{Shown, kind_of};
+
+    ghost Value = { Shown };
+
+    ghost view = { λ t. record { kinds = map kind_of t.stands.slots; next = t.stands.vacant_key } };
+
+    ghost invariant = { λ t. (t.count ≡ P.table.words) × (t.count ≤ t.stands.capacity) };
+}
+
+impl<P: Naming> WordTable<P> {
+    ghost use Rattle.std.specs.Prelude.{◌<◌, ℕ, IfOk, IfSome, IsSome, []};
+    ghost use Rattle.orc_word.specs.Views.{group_of};
+    ghost use Rattle.orc_book.specs.Words.{IsOpened, Turns, kind_at};
+
+    /// So many words: the first stands for the program's own group, the others are free.
+    pub(crate) fn new(alloc: Global, count: u32) -> Result<WordTable<P>, AllocError>
+        requires { count ≡ P.table.words }
+        ensures { IfOk result (λ t. IsOpened [] 0 0 t.kinds) }
+    {
+        let mut stands = Slab::with_capacity(alloc, count as usize)?;
+        let Ok(_first) = stands.insert(Stand::Open(0)) else {
+            return Err(AllocError);
+        };
+        Ok(WordTable {
+            stands,
+            count,
+            dying: 0,
+        })
+    }
+
+    /// The free word that `open` takes, if there is one.
+    pub(crate) fn next(&self) -> Option<u32>
+        ensures { IfSome result (λ word. (word ≡ self.now.next) × (word < P.table.words) × (kind_at self.now.kinds word ≡ Kind.Free)) }
+    {
+        let key = self.stands.vacant_key();
+        if key < self.count as usize {
+            Some(key as u32)
+        } else {
+            None
+        }
+    }
+
+    /// The word that `next` gives stands for the open group with this number.
+    pub(crate) fn open(&mut self, number: u32)
+        requires { self.old.next < P.table.words }
+        ensures { IsOpened self.old.kinds self.old.next number self.new.kinds }
+    {
+        let _room = self.stands.capacity();
+        let _key = self.stands.vacant_key();
+        let _word = self.stands.insert_reserved(Stand::Open(number));
+    }
+
+    /// What a word stands for.
+    pub(crate) fn kind(&self, word: u32) -> Kind
+        ensures { result ≡ kind_at self.now.kinds word }
+    {
+        match self.stands.get(word as usize) {
+            Some(Stand::Open(number)) => Kind::Open(*number),
+            Some(Stand::Dying(_)) => Kind::Dying,
+            None => Kind::Free,
+        }
+    }
+
+    /// A group is killed: its word stands for it until its last pass is left.
+    pub(crate) fn bury(&mut self, word: u32, parent: u32, pass: Option<Pass<P>>)
+        requires stood { (number : ℕ) × (kind_at self.old.kinds word ≡ Kind.Open number) }
+        requires pass { owed_to parent pass ≡ Some parent }
+        ensures { Turns self.old.kinds word Kind.Dying self.new.kinds }
+    {
+        let Some(stand) = self.stands.get_mut(word as usize) else {
+            unreachable!()
+        };
+        *stand = Stand::Dying(Owed { parent, pass });
+        self.dying = self.dying.saturating_add(1);
+    }
+
+    /// A word is free again. Gives the pass of a killed group to the one that was round it.
+    pub(crate) fn free(&mut self, word: u32) -> Option<Pass<P>>
+        ensures pass { IfSome result (λ pass. IsSome (group_of pass)) }
+        ensures freed { Turns self.old.kinds word Kind.Free self.new.kinds }
+    {
+        match self.stands.try_remove(word as usize) {
+            Some(Stand::Dying(owed)) => {
+                self.dying = self.dying.saturating_sub(1);
+                let Owed { parent: _, pass } = owed;
+                pass
+            }
+            _ => None,
+        }
+    }
+
+    /// How many words stand for killed groups.
+    pub(crate) fn dying(&self) -> usize {
+        self.dying
+    }
+}
