@@ -8,7 +8,7 @@ use Rattle.orc_book.specs.declared.token.Token.{Token as Out}
 use Rattle.orc_book.specs.Held.{Held, IsOut, AreBorn, HaveStayed, word_at}
 
 pub stay-on : (b b' b'' : Held) → HaveStayed b b' → HaveStayed b' b'' → HaveStayed b b''
-stay-on b b' b'' S T = (T.0 ∙ S.0, λ i. T.1 i ∙ S.1 i)
+stay-on b b' b'' S T = (T.0 ∙ S.0, λ i. T.1 i ∙ S.1 i, T.2 ∙ S.2)
 
 pub out-on : {X : Type 0} (b b' : Held) (k : Out X) → HaveStayed b b' → IsOut b k → IsOut b' k
 out-on b b' k S o =

@@ -1,6 +1,11 @@
 -- What the words of a book stand for.
-use Rattle.std.specs.Prelude.{◌≡◌, ℕ, List, Option, Some, None, slice_index_or}
+use Rattle.std.specs.Prelude.{◌≡◌, ◌⊎◌, ℕ, List, Option, Some, None, slice_index_or}
+use Rattle.orc_ledger_spec.specs.Records.{Records}
+use Rattle.orc_tables.specs.Steps.{group_at}
+use Rattle.orc_tables.specs.declared.records.Token.{Token}
 use Rattle.orc_word.specs.declared.naming.Naming.{Ghosts}
+use Rattle.orc_book.specs.Held.{Held, IsMissing, IsToken, word_at}
+use Rattle.orc_book.specs.declared.token.Token.{Token as Out}
 use Rattle.orc_book.specs.declared.word_table.Kind.{Kind}
 use Rattle.orc_book.specs.declared.word_table.Kind.TheVariants.{Free}
 use Rattle.orc_book.specs.declared.word_table.Kind.TheVariants as kind
@@ -25,6 +30,18 @@ pub record Turns (ws : List Kind) (w : ℕ) (to : Kind) (ws' : List Kind) : Type
 -- word w was free, and stands for the open group with this number
 abbrev pub IsOpened : List Kind → ℕ → ℕ → List Kind → Type 0
 IsOpened ws w number ws' = (kind_at ws w ≡ Free) × Turns ws w (kind.Open number) ws'
+
+-- each word stands for what it did, or it was free
+abbrev pub HaveOpened : List Kind → List Kind → Type 0
+HaveOpened ws ws' = (w : ℕ) → (kind_at ws' w ≡ kind_at ws w) ⊎ (kind_at ws w ≡ Free)
+
+-- each word stands for what it did, but those of open groups that the records have no more stand for killed ones
+abbrev pub HaveDied : Records → List Kind → List Kind → Type 0
+HaveDied s ws ws' = (w : ℕ) → (kind_at ws' w ≡ kind_at ws w) ⊎ ((number : ℕ) × (kind_at ws w ≡ kind.Open number) × IsMissing s number × (kind_at ws' w ≡ kind.Dying))
+
+-- the token is out in a new group: the word of that was free and stands for it, and no other word has changed
+abbrev pub OpensWord : {X : Type 0} → Held → Out X → Held → Type 0
+OpensWord b k b' = (t : Token) × IsToken b' k.slot k.serial k.pass t × IsOpened b.stands (word_at b'.posts (group_at b'.ledger.steps t.step)) (group_at b'.ledger.steps t.step) b'.stands
 
 -- what the table of words shows: what each word stands for, and the word that is opened next
 pub record Shown : Type 0 where

@@ -10,6 +10,7 @@ ghost use Rattle.orc_ledger_spec.specs.Moves.{Moves};
 ghost use Rattle.orc_ledger_spec.specs.declared.results.Moved.TheVariants as moved;
 ghost use Rattle.orc_word.specs.Views.{group_of};
 ghost use Rattle.orc_book.specs.Held.{IsToken, HasWinner, bag};
+ghost use Rattle.orc_book.specs.Words.{HaveDied};
 
 use crate::book::Book;
 use crate::post::Post;
@@ -73,6 +74,7 @@ impl<P: Program + Naming> Book<P> {
     ) -> Result<(), Refused<Token<P>>>
         requires graph { graph.now ≡ P.listing }
         ensures done { OnOk result ((t : Its) × (c : ℕ) × (g : ℕ) × (ks : List ℕ) × IsToken self.old token.slot token.serial token.pass t × Moves P.listing self.old.ledger token.slot t (moved.Bound c g) ks self.new.ledger) }
+        ensures stands { OnOk result (HaveDied self.new.ledger self.old.stands self.new.stands) }
         ensures won { OnOk result (HasWinner leave.new.items (group_of token.pass)) }
         ensures refused { IfErr result (λ r. (self.new ≡ self.old) × (r.back.serial ≡ token.serial) × (r.back.slot ≡ token.slot) × (group_of r.back.pass ≡ group_of token.pass)) }
     {

@@ -1,11 +1,12 @@
 //! The records of a run, and the passes of those that are not out with a worker.
-ghost use Rattle.std.specs.Prelude.{◌≡◌, ◌≤◌, true, Some, IfOk, IfErr};
+ghost use Rattle.std.specs.Prelude.{◌≡◌, ◌≤◌, true, [], Some, IfOk, IfErr};
 ghost use Rattle.orc_ledger_spec.specs.Whole.{IsWhole};
 ghost use Rattle.orc_rules.specs.declared.limits.TheConstants.{MOST_ENTRIES};
 ghost use Rattle.orc_ledger_spec.specs.Begun.{begun};
 ghost use Rattle.orc_tables.specs.declared.records.Token.{Token as Its};
 ghost use Rattle.orc_word.specs.Views.{group_of};
 ghost use Rattle.orc_book.specs.Held.{IsToken};
+ghost use Rattle.orc_book.specs.Words.{IsOpened};
 
 use crate::kept_tokens::Keeping;
 use crate::post::{Post, first_posts, set_out};
@@ -40,7 +41,7 @@ impl<P: Program + Naming> Model for Book<P> {
 
     ghost Value = { Held };
 
-    ghost view = { λ b. record { ledger = b.ledger; posts = b.posts.items } };
+    ghost view = { λ b. record { ledger = b.ledger; posts = b.posts.items; stands = b.words.kinds } };
 
     ghost invariant = { λ b. AreHeld b.posts.items b.ledger };
 }
@@ -87,6 +88,7 @@ impl<P: Program + Naming> Book<P> {
         requires pass { group_of pass ≡ Some 0 }
         ensures begun { IfOk result (λ r. r.0.ledger ≡ begun limit P.listing.root) }
         ensures token { IfOk result (λ r. (t : Its) × IsToken r.0 r.1.slot r.1.serial r.1.pass t) }
+        ensures stands { IfOk result (λ r. IsOpened [] 0 0 r.0.stands) }
         ensures refused { IfErr result (λ r. r.back ≡ pass) }
     {
         let Ok(mut posts) = first_posts(alloc) else {

@@ -55,6 +55,7 @@ impl<P: Program + Naming> Book<P> {
         requires graph { graph.now ≡ P.listing }
         requires answers { answers.now.sites ≡ P.sites }
         ensures done { IfOk result (λ k. (t : Its) × (c : ItsCall) × IsToken self.old token.slot token.serial token.pass t × (c.number ≡ k) × IsMade P.listing P.sites self.old.ledger t c self.new.ledger) }
+        ensures stands { self.new.stands ≡ self.old.stands }
         ensures refused { IfErr result (λ r. HasStayed self.old self.new × (r.back ≡ token)) }
     {
         let found = match self.find(&token) {
@@ -95,6 +96,7 @@ impl<P: Program + Naming> Book<P> {
     /// else that is to be left.
     pub fn returned(&mut self, number: u64, answer: Answer) -> Result<Answered<P>, BookFault>
         ensures done { IfOk result (λ a. (c : ItsCall) × (slot : Option ℕ) × Pends self.old.ledger number c × IsReturned self.old.ledger c answer slot self.new.ledger) }
+        ensures stands { self.new.stands ≡ self.old.stands }
         ensures refused { OnErr result (self.new ≡ self.old) }
     {
         let Some(call) = self.ledger.pending(number) else {

@@ -28,6 +28,7 @@ impl<P: Program + Naming> Book<P> {
         requires graph { graph.now ≡ P.listing }
         ensures says { IfOk result (λ n. SaysNext P.listing P.sites self.old.ledger n self.new.ledger) }
         ensures posts { self.new.posts ≡ self.old.posts }
+        ensures stands { self.new.stands ≡ self.old.stands }
         ensures refused { OnErr result (self.new ≡ self.old) }
     {
         let next = self.ledger.next(graph);
@@ -47,6 +48,7 @@ impl<P: Program + Naming> Book<P> {
         requires { MayTick P.listing P.sites self.old.ledger time }
         ensures done { OnOk result (self.new.ledger ≡ record self.old.ledger { journal = self.old.ledger.journal ++ Tick time ∷ []; entries = self.old.ledger.entries + 1; now = time }) }
         ensures posts { self.new.posts ≡ self.old.posts }
+        ensures stands { self.new.stands ≡ self.old.stands }
         ensures refused { OnErr result (self.new ≡ self.old) }
     {
         match self.ledger.tick(time) {

@@ -33,6 +33,7 @@ impl<P: Program + Naming> Book<P> {
     pub fn go_on(&mut self, graph: &Graph, token: Token<P>) -> Result<Token<P>, Refused<Token<P>>>
         requires graph { graph.now ≡ P.listing }
         ensures done { IfOk result (λ _. (t : Its) × (ks : List ℕ) × IsToken self.old token.slot token.serial token.pass t × Moves P.listing self.old.ledger token.slot t moved.On ks self.new.ledger) }
+        ensures stands { self.new.stands ≡ self.old.stands }
         ensures born { IfOk result (λ b. (t : Its) × IsToken self.new b.slot b.serial b.pass t) }
         ensures same { IfOk result (λ b. (b.slot ≡ token.slot) × (b.pass ≡ token.pass)) }
         ensures refused { IfErr result (λ r. (self.new ≡ self.old) × (r.back ≡ token)) }

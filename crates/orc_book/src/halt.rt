@@ -1,5 +1,5 @@
 //! Groups that were left last.
-ghost use Rattle.std.specs.Prelude.{◌≡◌, ◌≤◌, ◌+◌, ◌⊎◌, ℕ, IfOk, IfErr, OnErr, MatchOption, Some};
+ghost use Rattle.std.specs.Prelude.{◌≡◌, ◌≤◌, ◌+◌, ◌⊎◌, ℕ, IfOk, IfErr, OnOk, OnErr, MatchOption, Some};
 ghost use Rattle.orc_rules.specs.Nodes.{code};
 ghost use Rattle.orc_rules.specs.Term.{Halted as HasStopped};
 ghost use Rattle.orc_rules.specs.Marked.{erase};
@@ -9,7 +9,8 @@ ghost use Rattle.orc_ledger_spec.specs.Halting.{HasHalted};
 ghost use Rattle.orc_ledger_spec.specs.declared.results.Halted.{Halted as ItsHalted};
 ghost use Rattle.orc_tables.specs.declared.records.Token.{Token as Its};
 ghost use Rattle.orc_book.specs.Held.{IsToken};
-ghost use Rattle.orc_book.specs.Ends.{HasEnded};
+ghost use Rattle.orc_book.specs.Ends.{FreesWord, HasEnded};
+ghost use Rattle.orc_book.specs.Words.{kind_at};
 
 use crate::bind::reserve_all;
 use crate::book::Book;
@@ -43,6 +44,7 @@ impl<P: Program + Naming> Book<P> {
         leave: &mut Vec<Pass<P>>,
     ) -> Result<Ended<P>, Refused<Last<P>>>
         ensures done { IfOk result (λ e. (self.new.ledger ≡ self.old.ledger) ⊎ ((n : ℕ) × (h : ItsHalted) × HasHalted (code P.listing) self.old.ledger self.new.ledger n h)) }
+        ensures word { OnOk result (FreesWord (code P.listing) self.old last.group (kind_at self.old.stands last.group) self.new) }
         ensures born { IfOk result (HasEnded self.new) }
         ensures run { IfOk result (λ e. e ≡ Ended.Run → (p : Place) → IsAt P.listing P.sites self.new.ledger p → HasStopped (erase p.marked)) }
         ensures refused { IfErr result (λ r. (self.new ≡ self.old) × (r.back ≡ last)) }
@@ -93,6 +95,7 @@ impl<P: Program + Naming> Book<P> {
         leave: &mut Vec<Pass<P>>,
     ) -> Result<Ended<P>, BookFault>
         ensures done { IfOk result (λ _. (h : ItsHalted) × HasHalted (code P.listing) self.old.ledger self.new.ledger number h) }
+        ensures stands { self.new.stands ≡ self.old.stands }
         ensures born { IfOk result (HasEnded self.new) }
         ensures side { IfOk result (λ e. e ≡ Ended.Run → ⊥) }
         ensures refused { OnErr result (self.new ≡ self.old) }

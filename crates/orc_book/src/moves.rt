@@ -67,6 +67,7 @@ impl<P: Program + Naming> Book<P> {
     pub fn end(&mut self, graph: &Graph, token: Token<P>) -> Result<Pass<P>, Refused<Token<P>>>
         requires graph { graph.now ≡ P.listing }
         ensures done { IfOk result (λ pass. (t : Its) × (g : ℕ) × (ks : List ℕ) × IsToken self.old token.slot token.serial token.pass t × Moves P.listing self.old.ledger token.slot t (moved.Gone g) ks self.new.ledger) }
+        ensures stands { self.new.stands ≡ self.old.stands }
         ensures pass { IfOk result (λ pass. pass ≡ token.pass) }
         ensures refused { IfErr result (λ r. (self.new ≡ self.old) × (r.back ≡ token)) }
     {
@@ -138,6 +139,7 @@ impl<P: Program + Naming> Book<P> {
         requires graph { graph.now ≡ P.listing }
         requires same { group_of same ≡ group_of token.pass }
         ensures done { IfOk result (λ two. (t : Its) × (ks : List ℕ) × IsToken self.old token.slot token.serial token.pass t × Moves P.listing self.old.ledger token.slot t (moved.Forked two.1.slot) ks self.new.ledger) }
+        ensures stands { self.new.stands ≡ self.old.stands }
         ensures born { IfOk result (λ two. IsOut self.new two.0 × IsOut self.new two.1) }
         ensures refused { IfErr result (λ r. (self.new ≡ self.old) × (r.back.0 ≡ token) × (r.back.1 ≡ same)) }
     {
@@ -201,6 +203,7 @@ impl<P: Program + Naming> Book<P> {
     pub fn publish(&mut self, graph: &Graph, token: Token<P>) -> Result<Pass<P>, Refused<Token<P>>>
         requires graph { graph.now ≡ P.listing }
         ensures done { IfOk result (λ pass. (t : Its) × (g : ℕ) × (ks : List ℕ) × IsToken self.old token.slot token.serial token.pass t × Moves P.listing self.old.ledger token.slot t (moved.Gone g) ks self.new.ledger) }
+        ensures stands { self.new.stands ≡ self.old.stands }
         ensures pass { IfOk result (λ pass. pass ≡ token.pass) }
         ensures refused { IfErr result (λ r. (self.new ≡ self.old) × (r.back ≡ token)) }
     {

@@ -7,6 +7,7 @@ ghost use Rattle.orc_ledger_spec.specs.Moves.{Moves};
 ghost use Rattle.orc_ledger_spec.specs.declared.results.Moved.TheVariants as moved;
 ghost use Rattle.orc_word.specs.Views.{group_of};
 ghost use Rattle.orc_book.specs.Held.{Hold, IsToken, IsOut, HasStayed, Changes, Same};
+ghost use Rattle.orc_book.specs.Words.{OpensWord};
 
 use crate::book::Book;
 use crate::post::{bring_at, grow_to, put_at, raise_at, reserve_opening};
@@ -90,6 +91,7 @@ impl<P: Program + Naming> Book<P> {
         requires idle { group_of idle ≡ None }
         ensures done { IfOk result (λ two. (t : Its) × (ks : List ℕ) × IsToken self.old token.slot token.serial token.pass t × Moves P.listing self.old.ledger token.slot t (moved.Forked two.1.slot) ks self.new.ledger) }
         ensures born { IfOk result (λ two. IsOut self.new two.0 × IsOut self.new two.1) }
+        ensures word { IfOk result (λ two. OpensWord self.old two.1 self.new) }
         ensures refused { IfErr result (λ r. HasStayed self.old self.new × (r.back.0 ≡ token) × (r.back.1 ≡ same) × (group_of r.back.2 ≡ None)) }
     {
         let found = match self.find(&token) {
@@ -175,6 +177,7 @@ impl<P: Program + Naming> Book<P> {
         requires idle { group_of idle ≡ None }
         ensures done { IfOk result (λ _. (t : Its) × (ks : List ℕ) × IsToken self.old token.slot token.serial token.pass t × Moves P.listing self.old.ledger token.slot t moved.On ks self.new.ledger) }
         ensures born { IfOk result (λ b. IsOut self.new b) }
+        ensures word { IfOk result (λ b. OpensWord self.old b self.new) }
         ensures refused { IfErr result (λ r. HasStayed self.old self.new × (r.back.0 ≡ token) × (group_of r.back.1 ≡ None)) }
     {
         let found = match self.find(&token) {

@@ -65,6 +65,7 @@ impl<P: Program + Naming> Book<P> {
         requires tokens { vec_len out.old.born + 2 ≤ vec_capacity out.old.born }
         requires passes { vec_len out.old.leave + 1 ≤ vec_capacity out.old.leave }
         ensures done { OnOk result (HasStepped P.listing self.old token.slot token.serial token.pass self.new) }
+        ensures stands { self.new.stands ≡ self.old.stands }
         ensures born { OnOk result (AreBorn out.old.born.items out.new.born.items self.new) }
         ensures leave { OnOk result (AreLeft out.old.leave.items out.new.leave.items) }
         ensures cancelled { out.new.cancelled ≡ out.old.cancelled }
@@ -100,6 +101,7 @@ impl<P: Program + Naming> Book<P> {
         requires round { group_at self.old.ledger.steps fed.outer ≡ group_at self.old.ledger.steps found.its.step }
         requires tokens { vec_len out.old.born + 2 ≤ vec_capacity out.old.born }
         ensures done { OnOk result (HasStepped P.listing self.old token.slot token.serial token.pass self.new) }
+        ensures stands { self.new.stands ≡ self.old.stands }
         ensures born { OnOk result (AreBorn out.old.born.items out.new.born.items self.new) }
         ensures leave { out.new.leave ≡ out.old.leave }
         ensures cancelled { out.new.cancelled ≡ out.old.cancelled }
@@ -142,6 +144,7 @@ impl<P: Program + Naming> Book<P> {
         requires tokens { vec_len out.old.born + 2 ≤ vec_capacity out.old.born }
         requires passes { vec_len out.old.leave + 1 ≤ vec_capacity out.old.leave }
         ensures done { OnOk result (HasStepped P.listing self.old token.slot token.serial token.pass self.new) }
+        ensures stands { self.new.stands ≡ self.old.stands }
         ensures born { OnOk result (AreBorn out.old.born.items out.new.born.items self.new) }
         ensures leave { OnOk result (AreLeft out.old.leave.items out.new.leave.items) }
         ensures cancelled { out.new.cancelled ≡ out.old.cancelled }

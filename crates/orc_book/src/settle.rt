@@ -3,7 +3,7 @@ ghost use Rattle.std.specs.Prelude.{◌≡◌, ◌+◌, ◌≤◌, ℕ, true, fa
 ghost use Rattle.orc_rules.specs.declared.limits.TheConstants.{MOST_GROUPS};
 ghost use Rattle.orc_indexes.specs.Same.{weight};
 ghost use Rattle.orc_book.specs.Held.{AreHeld, AreLoose, IsLoose, IsThere, IsMissing, bag};
-ghost use Rattle.orc_book.specs.Words.{Turns, kind_at};
+ghost use Rattle.orc_book.specs.Words.{HaveDied, kind_at};
 
 use crate::post::{Post, clear_at, place_in, settle_at, spare_at, word_in};
 use crate::word_table::{Kind, WordTable};
@@ -42,21 +42,28 @@ pub(crate) fn clear_missing<P: Program, J: Naming>(ledger: &Ledger<P>, posts: &m
     }
 }
 
-// A word whose group is there no more stands for a killed one, with a pass of the group that was round it.
+// Where the group with this number is there no more, its word stands for a killed one, with a pass of the group that was round it.
 fn bury_one<P: Program, J: Naming>(
     ledger: &Ledger<P>,
     posts: &mut Vec<Post<J>>,
     words: &mut WordTable<J>,
-    word: u32,
-    parent: u32,
+    number: u32,
 )
     requires loose { (i : ℕ) → IsLoose ledger.now posts.old.items i }
-    requires stood { (number : ℕ) × (kind_at words.old.kinds word ≡ Kind.Open number) }
     ensures loose { (i : ℕ) → IsLoose ledger.now posts.new.items i }
     ensures bags { weight bag posts.new.items ≤ weight bag posts.old.items }
     ensures count { length posts.new.items ≡ length posts.old.items }
-    ensures buried { Turns words.old.kinds word Kind.Dying words.new.kinds }
+    ensures died { HaveDied ledger.now words.old.kinds words.new.kinds }
 {
+    if is_there(ledger, number) {
+        return;
+    }
+    let Some((word, parent)) = place_in(posts, number) else {
+        return;
+    };
+    if !is_open(words, word, number) {
+        return;
+    }
     let above = word_in(posts, parent);
     let pass = spare_at(posts, parent, ledger.member_count(parent) as usize);
     words.bury(word, above, pass);
@@ -73,18 +80,11 @@ pub(crate) fn bury_missing<P: Program, J: Naming>(
     ensures loose { (i : ℕ) → IsLoose ledger.now posts.new.items i }
     ensures bags { weight bag posts.new.items ≤ weight bag posts.old.items }
     ensures count { length posts.new.items ≡ length posts.old.items }
+    ensures died { HaveDied ledger.now words.old.kinds words.new.kinds }
 {
     let count = posts.len();
     for number in 0..count {
-        let number = number as u32;
-        if is_there(ledger, number) {
-            continue;
-        }
-        if let Some((word, parent)) = place_in(posts, number)
-            && is_open(words, word, number)
-        {
-            bury_one(ledger, posts, words, word, parent);
-        }
+        bury_one(ledger, posts, words, number as u32);
     }
 }
 

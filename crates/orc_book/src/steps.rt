@@ -2,6 +2,7 @@
 ghost use Rattle.std.specs.Prelude.{◌≡◌, ◌≤◌, ◌+◌, vec_len, vec_capacity, IfErr, OnOk};
 ghost use Rattle.orc_book.specs.Held.{HasStayed, AreBorn};
 ghost use Rattle.orc_book.specs.Stepping.{HasStepped, AreLeft};
+ghost use Rattle.orc_book.specs.Words.{HaveOpened};
 
 use crate::book::Book;
 use crate::out::{Births, StepOut};
@@ -29,6 +30,7 @@ impl<P: Program + Naming> Book<P> {
     ) -> Result<(), Refused<Token<P>>>
         requires graph { graph.now ≡ P.listing }
         ensures done { OnOk result (HasStepped P.listing self.old token.slot token.serial token.pass self.new) }
+        ensures stands { HaveOpened self.old.stands self.new.stands }
         ensures born { OnOk result (AreBorn out.old.born.items out.new.born.items self.new) }
         ensures leave { OnOk result (AreLeft out.old.leave.items out.new.leave.items) }
         ensures cancelled { out.new.cancelled ≡ out.old.cancelled }
@@ -65,6 +67,7 @@ impl<P: Program + Naming> Book<P> {
         requires graph { graph.now ≡ P.listing }
         requires passes { vec_len out.old.leave + 1 ≤ vec_capacity out.old.leave }
         ensures done { OnOk result (HasStepped P.listing self.old token.slot token.serial token.pass self.new) }
+        ensures stands { self.new.stands ≡ self.old.stands }
         ensures born { out.new.born ≡ out.old.born }
         ensures leave { OnOk result (AreLeft out.old.leave.items out.new.leave.items) }
         ensures cancelled { out.new.cancelled ≡ out.old.cancelled }
@@ -88,6 +91,7 @@ impl<P: Program + Naming> Book<P> {
         requires graph { graph.now ≡ P.listing }
         requires tokens { vec_len out.old.born + 2 ≤ vec_capacity out.old.born }
         ensures done { OnOk result (HasStepped P.listing self.old token.slot token.serial token.pass self.new) }
+        ensures stands { self.new.stands ≡ self.old.stands }
         ensures born { OnOk result (AreBorn out.old.born.items out.new.born.items self.new) }
         ensures leave { out.new.leave ≡ out.old.leave }
         ensures cancelled { out.new.cancelled ≡ out.old.cancelled }
@@ -112,6 +116,7 @@ impl<P: Program + Naming> Book<P> {
         requires graph { graph.now ≡ P.listing }
         requires tokens { vec_len out.old.born + 2 ≤ vec_capacity out.old.born }
         ensures done { OnOk result (HasStepped P.listing self.old token.slot token.serial token.pass self.new) }
+        ensures stands { self.new.stands ≡ self.old.stands }
         ensures born { OnOk result (AreBorn out.old.born.items out.new.born.items self.new) }
         ensures leave { out.new.leave ≡ out.old.leave }
         ensures cancelled { out.new.cancelled ≡ out.old.cancelled }
@@ -149,6 +154,7 @@ impl<P: Program + Naming> Book<P> {
         requires graph { graph.now ≡ P.listing }
         requires tokens { vec_len out.old.born + 2 ≤ vec_capacity out.old.born }
         ensures done { OnOk result (HasStepped P.listing self.old token.slot token.serial token.pass self.new) }
+        ensures stands { HaveOpened self.old.stands self.new.stands }
         ensures born { OnOk result (AreBorn out.old.born.items out.new.born.items self.new) }
         ensures leave { out.new.leave ≡ out.old.leave }
         ensures cancelled { out.new.cancelled ≡ out.old.cancelled }
@@ -192,6 +198,7 @@ impl<P: Program + Naming> Book<P> {
         requires graph { graph.now ≡ P.listing }
         requires tokens { vec_len out.old.born + 2 ≤ vec_capacity out.old.born }
         ensures done { OnOk result (HasStepped P.listing self.old token.slot token.serial token.pass self.new) }
+        ensures stands { HaveOpened self.old.stands self.new.stands }
         ensures born { OnOk result (AreBorn out.old.born.items out.new.born.items self.new) }
         ensures leave { out.new.leave ≡ out.old.leave }
         ensures cancelled { out.new.cancelled ≡ out.old.cancelled }

@@ -35,6 +35,7 @@ impl<P: Program + Naming> Book<P> {
         requires graph { graph.now ≡ P.listing }
         ensures done { OnOk result ((t : Its) × IsToken self.old token.slot token.serial token.pass t × (is_wait (what_of (code P.listing) (definitions P.listing) self.old.ledger t) ≡ true) × Changes self.old.posts (group_at self.old.ledger.steps t.step) self.new.posts KeepsOne) }
         ensures ledger { self.new.ledger ≡ self.old.ledger }
+        ensures stands { self.new.stands ≡ self.old.stands }
         ensures refused { IfErr result (λ r. HasStayed self.old self.new × (r.back ≡ token)) }
     {
         let found = match self.find(&token) {

@@ -24,3 +24,6 @@ returns-in-Ok-advance-clause-won g c =
       c.mark.ensures.group,
       ap (has Killed) (c.mark.ensures.won ∙ ap (λ b. cond b (with_bit Killed old) old) c.if-not-mark.false),
     )
+
+pub returns-in-Ok-advance-clause-stands : goal.returns-in-Ok-advance-clause-stands
+returns-in-Ok-advance-clause-stands g c = rw (← c.self.view_is) c.bury_missing.ensures.died

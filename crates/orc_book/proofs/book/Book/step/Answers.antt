@@ -1,5 +1,6 @@
 use Rattle.std.proofs.Common.{ap, ◌∙◌}
 use Rattle.orc_book.proofs.Added.{none-born, none-left}
+use Rattle.orc_book.proofs.Standing.{none-opened}
 use Rattle.orc_book.proofs.book.Book.step.Goals as goal
 
 pub returns-in-Halt-clause-born : goal.returns-in-Halt-clause-born
@@ -16,3 +17,15 @@ returns-in-Prune-clause-leave g c = none-left c.step_prune.result _ _ (ap (λ z.
 
 pub returns-in-Other-clause-leave : goal.returns-in-Other-clause-leave
 returns-in-Other-clause-leave g c = none-left c.step_other.result _ _ (ap (λ z. z.items) c.step_other.ensures.leave ∙ c.reserve.ensures.leave)
+
+pub returns-in-Halt-clause-stands : goal.returns-in-Halt-clause-stands
+returns-in-Halt-clause-stands g c = none-opened _ _ c.step_end.ensures.stands
+
+pub returns-in-Seq-clause-stands : goal.returns-in-Seq-clause-stands
+returns-in-Seq-clause-stands g c = none-opened _ _ c.step_on.ensures.stands
+
+pub returns-in-Fork-clause-stands : goal.returns-in-Fork-clause-stands
+returns-in-Fork-clause-stands g c = none-opened _ _ c.step_fork.ensures.stands
+
+pub returns-in-Send-clause-stands : goal.returns-in-Send-clause-stands
+returns-in-Send-clause-stands g c = none-opened _ _ c.send.ensures.stands

@@ -17,8 +17,8 @@ pub returns-in_default-reserve_at-clause-refused : goal.returns-in_default-reser
 returns-in_default-reserve_at-clause-refused g c =
     let b = c.self.inside in
     let ps1 = c.reserve_at.new.posts.items in
-    let k : HasStayed (record { ledger = b.ledger; posts = b.posts.items }) (record { ledger = b.ledger; posts = ps1 }) = stayed b.ledger b.posts.items ps1 _ c.reserve_at.ensures.same in
-    (rw (← c.self.view_is) (subst (λ z. HasStayed (record { ledger = b.ledger; posts = b.posts.items }) (record { ledger = z; posts = ps1 })) (sym c.park.ensures.same) k), refl)
+    let k : HasStayed (record { ledger = b.ledger; posts = b.posts.items; stands = b.words.kinds }) (record { ledger = b.ledger; posts = ps1; stands = b.words.kinds }) = stayed b.ledger b.posts.items ps1 _ c.reserve_at.ensures.same b.words.kinds in
+    (rw (← c.self.view_is) (subst (λ z. HasStayed (record { ledger = b.ledger; posts = b.posts.items; stands = b.words.kinds }) (record { ledger = z; posts = ps1; stands = b.words.kinds })) (sym c.park.ensures.same) k), refl)
 
 pub keep_at-requires-clause-names : goal.keep_at-requires-clause-names
 keep_at-requires-clause-names g c =
@@ -28,7 +28,7 @@ keep_at-requires-clause-names g c =
     let n : ℕ = c.in-Ok.found.group in
     let at : n ≡ group_at b.ledger.steps t.step = rw (← c.self.view_is) at c.in-Ok.ensures.group in
     let named : group_of c.args.token.pass ≡ Some (word_at ps (group_at b.ledger.steps t.step)) = rw (← c.self.view_is) at c.in-Ok.ensures.token.2 in
-    let k = stayed b.ledger ps c.reserve_at.new.posts.items _ c.reserve_at.ensures.same in
+    let k = stayed b.ledger ps c.reserve_at.new.posts.items _ c.reserve_at.ensures.same b.words.kinds in
     named ∙ ap (λ z. Some (word_at ps z)) (sym at) ∙ ap Some (sym (k.words n))
 
 pub invariant_of-self-2 : goal.invariant_of-self-2

@@ -23,4 +23,4 @@ pub returns-in_default-clause-born : goal.returns-in_default-clause-born
 returns-in_default-clause-born g c =
     let I = rw (← c.self-in-loop-link.view_is) at c.loop-link.invariant in
     let b = c.self-in-loop-link.inside in
-    subst (λ z. AreBorn c.args.born.now.items z (record { ledger = b.ledger; posts = b.posts.items })) (sym c.try_reserve.ensures.items) I.1
+    subst (λ z. AreBorn c.args.born.now.items z (record { ledger = b.ledger; posts = b.posts.items; stands = b.words.kinds })) (sym c.try_reserve.ensures.items) I.1

@@ -28,4 +28,4 @@ pub returns-clause-same : goal.returns-clause-same
 returns-clause-same g c =
     let ps = c.self.inside.posts.items in
     let D = c.in_ok-pass.ensures.1 in
-    rw (← c.self.view_is) (refl, λ i. word-kept ps c.wake_at.new.posts.items _ D.0 D.1 D.2 D.3 i)
+    rw (← c.self.view_is) (refl, λ i. word-kept ps c.wake_at.new.posts.items _ D.0 D.1 D.2 D.3 i, refl)
