@@ -1,0 +1,77 @@
+//! Sub-runs that were made apart come into a book.
+ghost use Rattle.std.specs.Prelude.{◌≡◌, IfOk, OnOk, IfErr};
+ghost use Rattle.orc_tables.specs.declared.records.Token.{Token as Its};
+ghost use Rattle.orc_ledger_spec.specs.Parts.{StandsFor, TakesIn};
+ghost use Rattle.orc_book.specs.Held.{IsToken};
+ghost use Rattle.orc_book.specs.SubRuns.{HasComer, IsKeptOut};
+
+use crate::book::Book;
+use crate::post::set_out;
+use crate::token::{BookFault, Refused, Token};
+use orc_graph::Graph;
+use orc_ledger::SubRun;
+use orc_ledger_spec::LedgerFault;
+use orc_log::Program;
+use orc_word::{Naming, Pass};
+
+/// What a sub-run has left where its token stood.
+#[derive(Drop)]
+pub enum Comer<P: Naming> {
+    /// A token on the value to which its call has come.
+    Token(Token<P>),
+    /// Nothing: the pass is to be left.
+    Nobody(Pass<P>),
+}
+
+impl<P: Program + Naming> Book<P> {
+    /// A token at a call of a definition with values is replaced by what a run of that call has come to. The run was made apart; its entries stand behind the
+    /// journal at once. If the call has come to a value, a token on that is out in the token's place, with its pass; else the pass is to be left.
+    ///
+    /// Refused as Gone where the token isn't out, as Wrong where it doesn't stand at the call of the sub-run, or the sub-run may have published something and
+    /// the token isn't the program's outermost, as Limit where the limit has no room for all of the entries, and as Memory. Then nothing has changed.
+    pub fn append_sub_run(
+        &mut self,
+        graph: &Graph,
+        token: Token<P>,
+        part: &SubRun<P>,
+    ) -> Result<Comer<P>, Refused<Token<P>>>
+        requires graph { graph.now ≡ P.listing }
+        ensures done { OnOk result ((t : Its) × IsToken self.old token.slot token.serial token.pass t × StandsFor P.listing self.old.ledger t part.now.definition part.now.args × TakesIn self.old.ledger self.new.ledger t part.now) }
+        ensures stands { self.new.stands ≡ self.old.stands }
+        ensures born { IfOk result (HasComer self.new token.slot token.pass part.now.left) }
+        ensures refused { IfErr result (λ r. (self.new ≡ self.old) × (r.back ≡ token)) }
+        ensures why { IfErr result (λ r. IsKeptOut self.old token.slot token.serial token.pass part.now r.why) }
+    {
+        let found = match self.find(&token) {
+            Ok(found) => found,
+            Err(why) => return Err(Refused { why, back: token }),
+        };
+        let Some(task) = self.ledger.task(graph, &found.its) else {
+            let why = BookFault::Wrong;
+            return Err(Refused { why, back: token });
+        };
+        if !part.is_of(&task) {
+            let why = BookFault::Wrong;
+            return Err(Refused { why, back: token });
+        }
+        match self.ledger.append_sub_run(token.slot, found.its, part) {
+            Ok(()) => {}
+            Err(LedgerFault::Limit) => {
+                let why = BookFault::Limit;
+                return Err(Refused { why, back: token });
+            }
+            Err(LedgerFault::Memory) => {
+                let why = BookFault::Memory;
+                return Err(Refused { why, back: token });
+            }
+            Err(LedgerFault::Full) => unreachable!(),
+            Err(LedgerFault::Unclaimed) => unreachable!(),
+        }
+        if part.has_value() {
+            let born = self.born(token.slot, token.pass);
+            return Ok(Comer::Token(born));
+        }
+        set_out(&mut self.posts, found.group, found.out - 1);
+        Ok(Comer::Nobody(token.pass))
+    }
+}
