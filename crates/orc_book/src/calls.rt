@@ -10,6 +10,7 @@ ghost use Rattle.orc_ledger_spec.specs.Doing.{what_of};
 ghost use Rattle.orc_ledger_spec.specs.Requests.{IsMade};
 ghost use Rattle.orc_word.specs.Views.{group_of};
 ghost use Rattle.orc_book.specs.Held.{IsToken, word_at, HasStayed};
+ghost use Rattle.orc_book.specs.Refusals.{is_call, IsRefusedCall, IsRefusedAnswer};
 
 use crate::book::Book;
 use crate::post::{bring_at, out_in, reserve_at, send_at, take_at};
@@ -36,7 +37,8 @@ impl<P: Program + Naming> Book<P> {
     // Whether a token calls a site next.
     fn calls_next(&self, graph: &Graph, its: &Record) -> bool
         requires graph { graph.now ≡ P.listing }
-        ensures { result ≡ true → what_of (code P.listing) (definitions P.listing) self.now.ledger its.now ≡ Action.Call }
+        ensures says { result ≡ is_call (what_of (code P.listing) (definitions P.listing) self.now.ledger its.now) }
+        ensures next { result ≡ true → what_of (code P.listing) (definitions P.listing) self.now.ledger its.now ≡ Action.Call }
     {
         match self.ledger.what(graph, its) {
             Action::Call => true,
@@ -45,6 +47,7 @@ impl<P: Program + Naming> Book<P> {
     }
 
     /// A call of a site with values: it pends where the token was, and the book holds its pass. Gives its number. `args` is lent for the arguments.
+    /// Refused as Gone where the token isn't out, as Wrong where it does something else next, as Full or Limit where the entry is over one, else as Memory.
     pub fn call(
         &mut self,
         graph: &Graph,
@@ -57,6 +60,7 @@ impl<P: Program + Naming> Book<P> {
         ensures done { IfOk result (λ k. (t : Its) × (c : ItsCall) × IsToken self.old token.slot token.serial token.pass t × (c.number ≡ k) × IsMade P.listing P.sites self.old.ledger t c self.new.ledger) }
         ensures stands { self.new.stands ≡ self.old.stands }
         ensures refused { IfErr result (λ r. HasStayed self.old self.new × (r.back ≡ token)) }
+        ensures why { IfErr result (λ r. IsRefusedCall P.listing self.old token r.why) }
     {
         let found = match self.find(&token) {
             Ok(found) => found,
@@ -65,6 +69,12 @@ impl<P: Program + Naming> Book<P> {
         if !self.calls_next(graph, &found.its) {
             return Err(Refused {
                 why: BookFault::Wrong,
+                back: token,
+            });
+        }
+        if let Err(fault) = self.ledger.within(0, 0, 0) {
+            return Err(Refused {
+                why: fault_of(fault),
                 back: token,
             });
         }
@@ -93,11 +103,13 @@ impl<P: Program + Naming> Book<P> {
 
 impl<P: Program + Naming> Book<P> {
     /// A call that pends is answered, where the table of sites gives this answer and it is due now. With a value a token on it is out, with the call's pass;
-    /// else that is to be left.
+    /// else that is to be left. Refused as Gone where no call pends with the number, as Wrong where the answer isn't due now, as Limit where the journal has as
+    /// many entries as the limit, else as Memory.
     pub fn returned(&mut self, number: u64, answer: Answer) -> Result<Answered<P>, BookFault>
         ensures done { IfOk result (λ a. (c : ItsCall) × (slot : Option ℕ) × Pends self.old.ledger number c × IsReturned self.old.ledger c answer slot self.new.ledger) }
         ensures stands { self.new.stands ≡ self.old.stands }
         ensures refused { OnErr result (self.new ≡ self.old) }
+        ensures why { IfErr result (λ why. IsRefusedAnswer P.listing P.sites self.old.ledger number answer why) }
     {
         let Some(call) = self.ledger.pending(number) else {
             return Err(BookFault::Gone);

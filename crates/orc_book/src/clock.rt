@@ -1,8 +1,9 @@
 //! What comes next where no token is out that moves.
-ghost use Rattle.std.specs.Prelude.{◌≡◌, ◌+◌, ◌++◌, ◌∷◌, [], IfOk, OnOk, OnErr};
+ghost use Rattle.std.specs.Prelude.{◌≡◌, ◌+◌, ◌++◌, ◌∷◌, [], IfOk, IfErr, OnOk, OnErr};
 ghost use Rattle.orc_rules.specs.declared.entry.Entry.TheVariants.{Tick};
 ghost use Rattle.orc_ledger_spec.specs.Answers.{MayTick};
 ghost use Rattle.orc_book.specs.Coming.{SaysNext};
+ghost use Rattle.orc_book.specs.Refusals.{IsRefusedNext, IsRefusedTick};
 
 use crate::book::Book;
 use crate::token::{BookFault, fault_of};
@@ -23,13 +24,15 @@ pub enum Next {
 }
 
 impl<P: Program + Naming> Book<P> {
-    /// What comes next, tokens that are out and kept alike. Where that is a tick it is made. The faults are Limit and Memory, of a tick's entry.
+    /// What comes next, tokens that are out and kept alike. Where that is a tick it is made. The faults are Limit, where the
+    /// journal has as many entries as the limit, and Memory, both of a tick alone.
     pub fn next(&mut self, graph: &Graph) -> Result<Next, BookFault>
         requires graph { graph.now ≡ P.listing }
         ensures says { IfOk result (λ n. SaysNext P.listing P.sites self.old.ledger n self.new.ledger) }
         ensures posts { self.new.posts ≡ self.old.posts }
         ensures stands { self.new.stands ≡ self.old.stands }
         ensures refused { OnErr result (self.new ≡ self.old) }
+        ensures why { IfErr result (λ why. IsRefusedNext P.listing self.old.ledger why) }
     {
         let next = self.ledger.next(graph);
         self.ledger.is_whole();
@@ -50,6 +53,7 @@ impl<P: Program + Naming> Book<P> {
         ensures posts { self.new.posts ≡ self.old.posts }
         ensures stands { self.new.stands ≡ self.old.stands }
         ensures refused { OnErr result (self.new ≡ self.old) }
+        ensures why { IfErr result (λ why. IsRefusedTick self.old.ledger why) }
     {
         match self.ledger.tick(time) {
             Ok(()) => Ok(()),

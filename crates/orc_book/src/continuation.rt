@@ -6,6 +6,7 @@ ghost use Rattle.orc_ledger_spec.specs.Doing.{what_of};
 ghost use Rattle.orc_ledger_spec.specs.Moves.{Moves};
 ghost use Rattle.orc_ledger_spec.specs.declared.results.Moved.TheVariants as moved;
 ghost use Rattle.orc_book.specs.Held.{IsToken};
+ghost use Rattle.orc_book.specs.Refusals.{is_onward, IsRefusedOn};
 
 use crate::book::Book;
 use crate::token::{BookFault, Refused, Token, fault_of};
@@ -19,7 +20,8 @@ impl<P: Program + Naming> Book<P> {
     // Whether a token enters the left side of a `>x>` next, or the body of a definition.
     fn goes_on_next(&self, graph: &Graph, its: &Record) -> bool
         requires graph { graph.now ≡ P.listing }
-        ensures { result ≡ true → (what_of (code P.listing) (definitions P.listing) self.now.ledger its.now ≡ Action.Seq) ⊎ (what_of (code P.listing) (definitions P.listing) self.now.ledger its.now ≡ Action.Def) }
+        ensures says { result ≡ is_onward (what_of (code P.listing) (definitions P.listing) self.now.ledger its.now) }
+        ensures next { result ≡ true → (what_of (code P.listing) (definitions P.listing) self.now.ledger its.now ≡ Action.Seq) ⊎ (what_of (code P.listing) (definitions P.listing) self.now.ledger its.now ≡ Action.Def) }
     {
         match self.ledger.what(graph, its) {
             Action::Seq => true,
@@ -28,8 +30,9 @@ impl<P: Program + Naming> Book<P> {
         }
     }
 
-    /// A token at `f >x> g` or at a call of a definition: one on the left side, or on the body, is out in its place with its pass. Refused as Wrong where
-    /// the token does something else next, or the call's operands don't fit, which no checked program has.
+    /// A token at `f >x> g` or at a call of a definition: one on the left side, or on the body, is out in its place with its pass. Refused as Gone where
+    /// the token isn't out, as Wrong where it does something else next, or the call's operands don't fit, which no checked program has, and as Full, Limit or
+    /// Memory where the ledger refuses the entry for that.
     pub fn go_on(&mut self, graph: &Graph, token: Token<P>) -> Result<Token<P>, Refused<Token<P>>>
         requires graph { graph.now ≡ P.listing }
         ensures done { IfOk result (λ _. (t : Its) × (ks : List ℕ) × IsToken self.old token.slot token.serial token.pass t × Moves P.listing self.old.ledger token.slot t moved.On ks self.new.ledger) }
@@ -37,6 +40,7 @@ impl<P: Program + Naming> Book<P> {
         ensures born { IfOk result (λ b. (t : Its) × IsToken self.new b.slot b.serial b.pass t) }
         ensures same { IfOk result (λ b. (b.slot ≡ token.slot) × (b.pass ≡ token.pass)) }
         ensures refused { IfErr result (λ r. (self.new ≡ self.old) × (r.back ≡ token)) }
+        ensures why { IfErr result (λ r. IsRefusedOn P.listing self.old token r.why) }
     {
         let found = match self.find(&token) {
             Ok(found) => found,

@@ -3,6 +3,7 @@ ghost use Rattle.std.specs.Prelude.{◌≡◌, ◌≤◌, ◌<◌, length, IfOk,
 ghost use Rattle.orc_rules.specs.Timed.{IsIn};
 ghost use Rattle.orc_tables.specs.Steps.{group_at};
 ghost use Rattle.orc_book.specs.Held.{IsToken, IsGone, out_at};
+ghost use Rattle.orc_book.specs.Refusals.{IsFound};
 
 use crate::book::Book;
 use crate::token::{BookFault, Token};
@@ -25,6 +26,7 @@ impl<P: Program + Naming> Book<P> {
         ensures there { IfOk result (λ f. IsIn f.its self.now.ledger.tokens) }
         ensures group { IfOk result (λ f. f.group ≡ group_at self.now.ledger.steps f.its.step) }
         ensures out { IfOk result (λ f. (f.out ≡ out_at self.now.posts f.group) × (1 ≤ f.out) × (f.group < length self.now.posts)) }
+        ensures found { IfOk result (λ f. IsFound P.listing self.now token.now f.its) }
         ensures why { IfErr result (λ why. (why ≡ BookFault.Gone) × IsGone self.now token.now.slot token.now.serial token.now.pass) }
     {
         let Some(its) = self.record_of(token) else {

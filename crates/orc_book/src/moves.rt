@@ -5,12 +5,13 @@ ghost use Rattle.orc_rules.specs.declared.value.Value.{Value as ValueOf};
 ghost use Rattle.orc_tables.specs.declared.records.Token.{Token as Its};
 ghost use Rattle.orc_rules.specs.Nodes.{code, definitions};
 ghost use Rattle.orc_ledger_spec.specs.Doing.{what_of};
-ghost use Rattle.orc_ledger_spec.specs.Moves.{Moves};
+ghost use Rattle.orc_ledger_spec.specs.Moves.{Moves, IsHindered};
 ghost use Rattle.orc_ledger_spec.specs.declared.results.Moved.TheVariants as moved;
 ghost use Rattle.orc_book.specs.Held.{IsToken, IsOut, IsGone, out_at, word_at};
 ghost use Rattle.orc_tables.specs.Tokens.{IsHeld};
 ghost use Rattle.orc_tables.specs.Steps.{group_at};
 ghost use Rattle.orc_word.specs.Views.{group_of};
+ghost use Rattle.orc_book.specs.Refusals.{is_end, is_fork, is_publication, IsRefusedMove};
 
 use crate::book::Book;
 use crate::post::{out_in, set_out};
@@ -44,7 +45,8 @@ impl<P: Program + Naming> Book<P> {
     // Whether a token goes next, and no value of it is published.
     fn ends_next(&self, graph: &Graph, its: &Record) -> bool
         requires graph { graph.now ≡ P.listing }
-        ensures { result ≡ true → (what_of (code P.listing) (definitions P.listing) self.now.ledger its.now ≡ Action.Halt) ⊎ (what_of (code P.listing) (definitions P.listing) self.now.ledger its.now ≡ Action.Void) }
+        ensures says { result ≡ is_end (what_of (code P.listing) (definitions P.listing) self.now.ledger its.now) }
+        ensures next { result ≡ true → (what_of (code P.listing) (definitions P.listing) self.now.ledger its.now ≡ Action.Halt) ⊎ (what_of (code P.listing) (definitions P.listing) self.now.ledger its.now ≡ Action.Void) }
     {
         match self.ledger.what(graph, its) {
             Action::Halt => true,
@@ -63,13 +65,15 @@ impl<P: Program + Naming> Book<P> {
 }
 
 impl<P: Program + Naming> Book<P> {
-    /// A token that ends, at `stop` or where it is void. Its pass is to be left.
+    /// A token that ends, at `stop` or where it is void. Its pass is to be left. Refused as Gone where the token isn't out, as Wrong where it does something
+    /// else next, as Full, Limit or Memory where the ledger refuses the entry for that.
     pub fn end(&mut self, graph: &Graph, token: Token<P>) -> Result<Pass<P>, Refused<Token<P>>>
         requires graph { graph.now ≡ P.listing }
         ensures done { IfOk result (λ pass. (t : Its) × (g : ℕ) × (ks : List ℕ) × IsToken self.old token.slot token.serial token.pass t × Moves P.listing self.old.ledger token.slot t (moved.Gone g) ks self.new.ledger) }
         ensures stands { self.new.stands ≡ self.old.stands }
         ensures pass { IfOk result (λ pass. pass ≡ token.pass) }
         ensures refused { IfErr result (λ r. (self.new ≡ self.old) × (r.back ≡ token)) }
+        ensures why { IfErr result (λ r. IsRefusedMove P.listing self.old token is_end (IsHindered P.listing self.old.ledger) r.why) }
     {
         let found = match self.find(&token) {
             Ok(found) => found,
@@ -121,7 +125,8 @@ impl<P: Program + Naming> Book<P> {
     // Whether a token is on two sides next.
     fn forks_next(&self, graph: &Graph, its: &Record) -> bool
         requires graph { graph.now ≡ P.listing }
-        ensures { result ≡ true → what_of (code P.listing) (definitions P.listing) self.now.ledger its.now ≡ Action.Fork }
+        ensures says { result ≡ is_fork (what_of (code P.listing) (definitions P.listing) self.now.ledger its.now) }
+        ensures next { result ≡ true → what_of (code P.listing) (definitions P.listing) self.now.ledger its.now ≡ Action.Fork }
     {
         match self.ledger.what(graph, its) {
             Action::Fork => true,
@@ -129,7 +134,9 @@ impl<P: Program + Naming> Book<P> {
         }
     }
 
-    /// A token at `f | g`: one on each side is out in its place, the left one with its pass, the right one with `same`, which names its group too.
+    /// A token at `f | g`: one on each side is out in its place, the left one with its pass, the right one with `same`, which names its group too. Refused as
+    /// Gone where the token isn't out, as Wrong where it does something else next, as Full where the tokens and calls are as many as there may be, as Limit or
+    /// Memory where the ledger refuses the entry for that.
     pub fn fork(
         &mut self,
         graph: &Graph,
@@ -142,6 +149,7 @@ impl<P: Program + Naming> Book<P> {
         ensures stands { self.new.stands ≡ self.old.stands }
         ensures born { IfOk result (λ two. IsOut self.new two.0 × IsOut self.new two.1) }
         ensures refused { IfErr result (λ r. (self.new ≡ self.old) × (r.back.0 ≡ token) × (r.back.1 ≡ same)) }
+        ensures why { IfErr result (λ r. IsRefusedMove P.listing self.old token is_fork (IsHindered P.listing self.old.ledger) r.why) }
     {
         let found = match self.find(&token) {
             Ok(found) => found,
@@ -191,7 +199,8 @@ impl<P: Program + Naming> Book<P> {
     // Whether a token publishes a value of the program next.
     fn publishes_next(&self, graph: &Graph, its: &Record) -> bool
         requires graph { graph.now ≡ P.listing }
-        ensures { result ≡ true → (v : ValueOf) × (what_of (code P.listing) (definitions P.listing) self.now.ledger its.now ≡ Action.Publish v) }
+        ensures says { result ≡ is_publication (what_of (code P.listing) (definitions P.listing) self.now.ledger its.now) }
+        ensures next { result ≡ true → (v : ValueOf) × (what_of (code P.listing) (definitions P.listing) self.now.ledger its.now ≡ Action.Publish v) }
     {
         match self.ledger.what(graph, its) {
             Action::Publish(_) => true,
@@ -199,13 +208,15 @@ impl<P: Program + Naming> Book<P> {
         }
     }
 
-    /// A publication of the program. The token's pass is to be left.
+    /// A publication of the program. The token's pass is to be left. Refused as Gone where the token isn't out, as Wrong where it does something else next, as
+    /// Full, Limit or Memory where the ledger refuses the entry for that.
     pub fn publish(&mut self, graph: &Graph, token: Token<P>) -> Result<Pass<P>, Refused<Token<P>>>
         requires graph { graph.now ≡ P.listing }
         ensures done { IfOk result (λ pass. (t : Its) × (g : ℕ) × (ks : List ℕ) × IsToken self.old token.slot token.serial token.pass t × Moves P.listing self.old.ledger token.slot t (moved.Gone g) ks self.new.ledger) }
         ensures stands { self.new.stands ≡ self.old.stands }
         ensures pass { IfOk result (λ pass. pass ≡ token.pass) }
         ensures refused { IfErr result (λ r. (self.new ≡ self.old) × (r.back ≡ token)) }
+        ensures why { IfErr result (λ r. IsRefusedMove P.listing self.old token is_publication (IsHindered P.listing self.old.ledger) r.why) }
     {
         let found = match self.find(&token) {
             Ok(found) => found,

@@ -1,6 +1,7 @@
 //! What a worker lends to a book's calls: passes for new records, and room for what comes out.
-ghost use Rattle.std.specs.Prelude.{◌≡◌, ◌+◌, ◌≤◌, ◌++◌, ◌∷◌, [], None, vec_len, vec_capacity, OnOk, MatchOption};
+ghost use Rattle.std.specs.Prelude.{◌≡◌, ◌+◌, ◌≤◌, ◌++◌, ◌∷◌, [], None, vec_len, vec_capacity, IfNone, OnOk, MatchOption};
 ghost use Rattle.orc_word.specs.Views.{group_of};
+ghost use Rattle.orc_book.specs.Refusals.{HasNone};
 
 use crate::token::Token;
 use orc_word::{Naming, Pass};
@@ -54,6 +55,7 @@ impl<P: Naming> Births<P> {
     pub(crate) fn take_same(&mut self, group: Option<u32>) -> Option<Pass<P>>
         ensures pass { MatchOption result (self.new ≡ self.old) (λ pass. (group_of pass ≡ group) × (self.old.same.items ≡ self.new.same.items ++ pass ∷ [])) }
         ensures room { MatchOption result (self.new ≡ self.old) (λ _. vec_len self.new.same + 1 ≤ vec_capacity self.new.same) }
+        ensures none { IfNone result (HasNone self.old.same.items group) }
         ensures idle { self.new.idle ≡ self.old.idle }
     {
         match self.same.last() {
@@ -66,6 +68,7 @@ impl<P: Naming> Births<P> {
     pub(crate) fn take_idle(&mut self) -> Option<Pass<P>>
         ensures pass { MatchOption result (self.new ≡ self.old) (λ pass. (group_of pass ≡ None) × (self.old.idle.items ≡ self.new.idle.items ++ pass ∷ [])) }
         ensures room { MatchOption result (self.new ≡ self.old) (λ _. vec_len self.new.idle + 1 ≤ vec_capacity self.new.idle) }
+        ensures none { IfNone result (HasNone self.old.idle.items None) }
         ensures same { self.new.same ≡ self.old.same }
     {
         match self.idle.last() {

@@ -1,8 +1,13 @@
 //! Publications that a `>x>` takes.
-ghost use Rattle.std.specs.Prelude.{◌≡◌, ◌≤◌, ◌<◌, ◌+◌, ℕ, List, length, Some, None, vec_len, vec_capacity, IfErr, IfSome, OnOk};
+ghost use Rattle.std.specs.Prelude.{◌≡◌, ◌≤◌, ◌<◌, ◌+◌, ℕ, List, length, Some, None, false, vec_len, vec_capacity, IfErr, IfSome, IfNone, OnOk};
+ghost use Rattle.orc_rules.specs.Nodes.{code, definitions};
+ghost use Rattle.orc_ledger_spec.specs.Doing.{what_of};
+ghost use Rattle.orc_tables.specs.declared.records.Token.{Token as Its};
+ghost use Rattle.orc_book.specs.Refusals.{is_send, IsFound, IsTaken, IsRefusedStep};
 ghost use Rattle.orc_rules.specs.Timed.{IsIn};
 ghost use Rattle.orc_tables.specs.Steps.{group_at};
 ghost use Rattle.orc_tables.specs.Tokens.{IsHeld};
+ghost use Rattle.orc_word.specs.declared.view.View.{View};
 ghost use Rattle.orc_word.specs.Views.{group_of};
 ghost use Rattle.orc_book.specs.Held.{IsToken, HasStayed, AreBorn, out_at};
 ghost use Rattle.orc_book.specs.Stepping.{HasStepped, AreLeft, IsFedBy};
@@ -34,7 +39,8 @@ impl<P: Program + Naming> Book<P> {
     fn feeds_next(&self, graph: &Graph, its: &Record) -> Option<Fed>
         requires graph { graph.now ≡ P.listing }
         requires held { (slot : ℕ) × IsHeld self.now.ledger.slots slot its.now }
-        ensures { IfSome result (IsFedBy P.listing self.now.ledger its.now) }
+        ensures fed { IfSome result (IsFedBy P.listing self.now.ledger its.now) }
+        ensures none { IfNone result (is_send (what_of (code P.listing) (definitions P.listing) self.now.ledger its.now) ≡ false) }
     {
         let Action::Send(value) = self.ledger.what(graph, its) else {
             return None;
@@ -47,7 +53,8 @@ impl<P: Program + Naming> Book<P> {
                 scope,
                 outer,
             }),
-            _ => None,
+            Taker::Whole => None,
+            Taker::PruneRight(_, _) => None,
         }
     }
 
@@ -62,6 +69,7 @@ impl<P: Program + Naming> Book<P> {
         out: &mut StepOut<P>,
     ) -> Result<(), Refused<Token<P>>>
         requires graph { graph.now ≡ P.listing }
+        requires taken { (t : Its) × IsTaken P.listing self.old token is_send t }
         requires tokens { vec_len out.old.born + 2 ≤ vec_capacity out.old.born }
         requires passes { vec_len out.old.leave + 1 ≤ vec_capacity out.old.leave }
         ensures done { OnOk result (HasStepped P.listing self.old token.slot token.serial token.pass self.new) }
@@ -70,6 +78,7 @@ impl<P: Program + Naming> Book<P> {
         ensures leave { OnOk result (AreLeft out.old.leave.items out.new.leave.items) }
         ensures cancelled { out.new.cancelled ≡ out.old.cancelled }
         ensures refused { IfErr result (λ r. HasStayed self.old self.new × (r.back ≡ token) × (out.new.born.items ≡ out.old.born.items) × (out.new.leave.items ≡ out.old.leave.items)) }
+        ensures why { IfErr result (λ r. IsRefusedStep P.listing self.old token births.old.same.items births.old.idle.items r.why) }
     {
         let found = match self.find(&token) {
             Ok(found) => found,
@@ -96,6 +105,7 @@ impl<P: Program + Naming> Book<P> {
         out: &mut StepOut<P>,
     ) -> Result<(), Refused<Token<P>>>
         requires token { IsToken self.old token.slot token.serial token.pass found.its }
+        requires found { IsFound P.listing self.old token found.its }
         requires there { IsIn found.its self.old.ledger.tokens }
         requires fed { IsFedBy P.listing self.old.ledger found.its fed }
         requires round { group_at self.old.ledger.steps fed.outer ≡ group_at self.old.ledger.steps found.its.step }
@@ -106,6 +116,7 @@ impl<P: Program + Naming> Book<P> {
         ensures leave { out.new.leave ≡ out.old.leave }
         ensures cancelled { out.new.cancelled ≡ out.old.cancelled }
         ensures refused { IfErr result (λ r. (self.new ≡ self.old) × (r.back ≡ token) × (out.new.born ≡ out.old.born)) }
+        ensures why { (same : List View) → (idle : List View) → IfErr result (λ r. IsRefusedStep P.listing self.old token same idle r.why) }
     {
         stands(&self.ledger);
         match self.ledger.send(
@@ -135,6 +146,7 @@ impl<P: Program + Naming> Book<P> {
         out: &mut StepOut<P>,
     ) -> Result<(), Refused<Token<P>>>
         requires token { IsToken self.old token.slot token.serial token.pass found.its }
+        requires found { IsFound P.listing self.old token found.its }
         requires there { IsIn found.its self.old.ledger.tokens }
         requires group { found.group ≡ group_at self.old.ledger.steps found.its.step }
         requires out { (found.out ≡ out_at self.old.posts found.group) × (1 ≤ found.out) × (found.group < length self.old.posts) }
@@ -149,6 +161,7 @@ impl<P: Program + Naming> Book<P> {
         ensures leave { OnOk result (AreLeft out.old.leave.items out.new.leave.items) }
         ensures cancelled { out.new.cancelled ≡ out.old.cancelled }
         ensures refused { IfErr result (λ r. (self.new ≡ self.old) × (r.back ≡ token) × (out.new.born ≡ out.old.born) × (out.new.leave ≡ out.old.leave)) }
+        ensures why { IfErr result (λ r. IsRefusedStep P.listing self.old token births.old.same.items births.old.idle.items r.why) }
     {
         let Some(there) = out_in(&self.posts, round).checked_add(1) else {
             let why = BookFault::Full;

@@ -1,6 +1,10 @@
 //! A token's next move, whichever of those it is that have no call of their own.
-ghost use Rattle.std.specs.Prelude.{◌≡◌, ◌≤◌, ◌+◌, vec_len, vec_capacity, IfErr, OnOk};
+ghost use Rattle.std.specs.Prelude.{◌≡◌, ◌≤◌, ◌+◌, ◌⊎◌, List, vec_len, vec_capacity, IfErr, OnOk};
+ghost use Rattle.orc_tables.specs.declared.records.Token.{Token as Its};
 ghost use Rattle.orc_book.specs.Held.{HasStayed, AreBorn};
+ghost use Rattle.orc_book.specs.Refusals.{is_end, is_fork, is_onward, is_opening, IsTaken, IsRefusedMove, IsRefusedStep};
+ghost use Rattle.orc_word.specs.declared.view.View.{View};
+ghost use Rattle.orc_ledger_spec.specs.Moves.{IsHindered};
 ghost use Rattle.orc_book.specs.Stepping.{HasStepped, AreLeft};
 ghost use Rattle.orc_book.specs.Words.{HaveOpened};
 
@@ -18,8 +22,8 @@ impl<P: Program + Naming> Book<P> {
     /// and passes to leave are added to `out`.
     ///
     /// Refused as Gone where the token isn't out, as Wrong where it does something else next, as Short where `births` has not the passes that the move needs,
-    /// as Full, Limit or Memory where the move is over a limit or memory is refused, and as Live where a free word is still named. Then the records are as
-    /// they were, and `back` is the token.
+    /// as Full or Limit where the move is over a limit, as Memory where memory is refused, and as Live where a free word is still named. Then the records are as
+    /// they were, and `back` is the token. No clause says yet why one is refused that opens a group, at a pruning or an otherwise.
     pub fn step(
         &mut self,
         groups: &Groups<P>,
@@ -35,16 +39,17 @@ impl<P: Program + Naming> Book<P> {
         ensures leave { OnOk result (AreLeft out.old.leave.items out.new.leave.items) }
         ensures cancelled { out.new.cancelled ≡ out.old.cancelled }
         ensures refused { IfErr result (λ r. HasStayed self.old self.new × (r.back ≡ token) × (out.new.born.items ≡ out.old.born.items) × (out.new.leave.items ≡ out.old.leave.items)) }
+        ensures why { IfErr result (λ r. ((t : Its) × IsTaken P.listing self.old token is_opening t) ⊎ IsRefusedStep P.listing self.old token births.old.same.items births.old.idle.items r.why) }
     {
-        let Some(its) = self.record_of(&token) else {
-            let why = BookFault::Gone;
-            return Err(Refused { why, back: token });
+        let found = match self.find(&token) {
+            Ok(found) => found,
+            Err(why) => return Err(Refused { why, back: token }),
         };
         let Ok(()) = out.reserve() else {
             let why = BookFault::Memory;
             return Err(Refused { why, back: token });
         };
-        match self.ledger.what(graph, &its) {
+        match self.ledger.what(graph, &found.its) {
             Action::Halt | Action::Void => self.step_end(graph, token, out),
             Action::Seq | Action::Def => self.step_on(graph, token, out),
             Action::Fork => self.step_fork(graph, token, births, out),
@@ -72,6 +77,7 @@ impl<P: Program + Naming> Book<P> {
         ensures leave { OnOk result (AreLeft out.old.leave.items out.new.leave.items) }
         ensures cancelled { out.new.cancelled ≡ out.old.cancelled }
         ensures refused { IfErr result (λ r. (self.new ≡ self.old) × (r.back ≡ token) × (out.new.leave ≡ out.old.leave)) }
+        ensures why { IfErr result (λ r. IsRefusedMove P.listing self.old token is_end (IsHindered P.listing self.old.ledger) r.why) }
     {
         match self.end(graph, token) {
             Ok(pass) => {
@@ -89,6 +95,7 @@ impl<P: Program + Naming> Book<P> {
         out: &mut StepOut<P>,
     ) -> Result<(), Refused<Token<P>>>
         requires graph { graph.now ≡ P.listing }
+        requires taken { (t : Its) × IsTaken P.listing self.old token is_onward t }
         requires tokens { vec_len out.old.born + 2 ≤ vec_capacity out.old.born }
         ensures done { OnOk result (HasStepped P.listing self.old token.slot token.serial token.pass self.new) }
         ensures stands { self.new.stands ≡ self.old.stands }
@@ -96,6 +103,7 @@ impl<P: Program + Naming> Book<P> {
         ensures leave { out.new.leave ≡ out.old.leave }
         ensures cancelled { out.new.cancelled ≡ out.old.cancelled }
         ensures refused { IfErr result (λ r. (self.new ≡ self.old) × (r.back ≡ token) × (out.new.born ≡ out.old.born)) }
+        ensures why { (same : List View) → (idle : List View) → IfErr result (λ r. IsRefusedStep P.listing self.old token same idle r.why) }
     {
         match self.go_on(graph, token) {
             Ok(born) => {
@@ -114,6 +122,7 @@ impl<P: Program + Naming> Book<P> {
         out: &mut StepOut<P>,
     ) -> Result<(), Refused<Token<P>>>
         requires graph { graph.now ≡ P.listing }
+        requires taken { (t : Its) × IsTaken P.listing self.old token is_fork t }
         requires tokens { vec_len out.old.born + 2 ≤ vec_capacity out.old.born }
         ensures done { OnOk result (HasStepped P.listing self.old token.slot token.serial token.pass self.new) }
         ensures stands { self.new.stands ≡ self.old.stands }
@@ -121,6 +130,7 @@ impl<P: Program + Naming> Book<P> {
         ensures leave { out.new.leave ≡ out.old.leave }
         ensures cancelled { out.new.cancelled ≡ out.old.cancelled }
         ensures refused { IfErr result (λ r. (self.new ≡ self.old) × (r.back ≡ token) × (out.new.born ≡ out.old.born)) }
+        ensures why { IfErr result (λ r. IsRefusedStep P.listing self.old token births.old.same.items births.old.idle.items r.why) }
     {
         let Some(same) = births.take_same(token.pass.group()) else {
             let why = BookFault::Short;

@@ -5,6 +5,7 @@ ghost use Rattle.orc_frames.specs.Doing.{is_wait};
 ghost use Rattle.orc_ledger_spec.specs.Doing.{what_of};
 ghost use Rattle.orc_tables.specs.Steps.{group_at};
 ghost use Rattle.orc_tables.specs.declared.records.Token.{Token as Its};
+ghost use Rattle.orc_book.specs.Refusals.{IsRefusedWait};
 ghost use Rattle.orc_book.specs.Held.{Changes, IsToken, IsOut, HasStayed, HaveStayed, AreBorn, KeepsOne};
 
 use crate::book::Book;
@@ -22,7 +23,8 @@ impl<P: Program + Naming> Book<P> {
     // Whether a token waits.
     fn waits(&self, graph: &Graph, its: &Record) -> bool
         requires graph { graph.now ≡ P.listing }
-        ensures { result ≡ true → is_wait (what_of (code P.listing) (definitions P.listing) self.now.ledger its.now) ≡ true }
+        ensures says { result ≡ is_wait (what_of (code P.listing) (definitions P.listing) self.now.ledger its.now) }
+        ensures next { result ≡ true → is_wait (what_of (code P.listing) (definitions P.listing) self.now.ledger its.now) ≡ true }
     {
         match self.ledger.what(graph, its) {
             Action::Wait(_) => true,
@@ -30,13 +32,15 @@ impl<P: Program + Naming> Book<P> {
         }
     }
 
-    /// A token that waits comes into the book with its pass, until `wake` is told of a cell for which it waits.
+    /// A token that waits comes into the book with its pass, until `wake` is told of a cell for which it waits. Refused as Gone where
+    /// the token isn't out, as Wrong where it does something else next, else as Memory.
     pub fn wait(&mut self, graph: &Graph, token: Token<P>) -> Result<(), Refused<Token<P>>>
         requires graph { graph.now ≡ P.listing }
         ensures done { OnOk result ((t : Its) × IsToken self.old token.slot token.serial token.pass t × (is_wait (what_of (code P.listing) (definitions P.listing) self.old.ledger t) ≡ true) × Changes self.old.posts (group_at self.old.ledger.steps t.step) self.new.posts KeepsOne) }
         ensures ledger { self.new.ledger ≡ self.old.ledger }
         ensures stands { self.new.stands ≡ self.old.stands }
         ensures refused { IfErr result (λ r. HasStayed self.old self.new × (r.back ≡ token)) }
+        ensures why { IfErr result (λ r. IsRefusedWait P.listing self.old token r.why) }
     {
         let found = match self.find(&token) {
             Ok(found) => found,
@@ -46,10 +50,8 @@ impl<P: Program + Naming> Book<P> {
             let why = BookFault::Wrong;
             return Err(Refused { why, back: token });
         }
-        let Some(kept) = kept_in(&self.posts, found.group).checked_add(1) else {
-            let why = BookFault::Full;
-            return Err(Refused { why, back: token });
-        };
+        let kept = kept_in(&self.posts, found.group);
+        let _tokens = self.ledger.token_count();
         let handle = Handle {
             slot: token.slot,
             serial: token.serial,
@@ -73,7 +75,7 @@ impl<P: Program + Naming> Book<P> {
             &mut self.posts,
             found.group,
             found.out - 1,
-            kept,
+            kept + 1,
             token.pass,
         );
         Ok(())

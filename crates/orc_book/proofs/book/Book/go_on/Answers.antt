@@ -16,7 +16,7 @@ invariant_of-self g c =
     let t = c.in-Ok.found.its in
     let i : IsIn t b.ledger.tokens = rw (← c.self.view_is) at c.in-Ok.ensures.there in
     let m = subst (λ m. Moves l b.ledger c.args.token.slot t m c.advance.new.cancelled.items c.advance.new.self) c.in-Ok-On.field-0-is c.in-Ok-On.ensures.done in
-    let W = went l b.ledger c.args.token.slot t c.advance.new.self _ (rw (← c.self.view_is) at (c.goes_on_next.ensures c.if-not-goes_on_next.false)) m in
+    let W = went l b.ledger c.args.token.slot t c.advance.new.self _ (rw (← c.self.view_is) at (c.goes_on_next.ensures.next c.if-not-goes_on_next.false)) m in
     went-held b.ledger c.advance.new.self c.stands.ensures.lawful.sound t i W.token W.scopes W.steps W.cells W.entry W.turns W.same b.posts.items c.self.invariant
 
 pub unreachable-requires : goal.unreachable-requires
@@ -25,7 +25,7 @@ unreachable-requires g c =
     let l = g.P.Program.listing in
     let t = c.in-Ok.found.its in
     let m = subst (λ m. Moves l b.ledger c.args.token.slot t m c.advance.new.cancelled.items c.advance.new.self) c.in-Ok-On.field-0-is c.in-Ok-On.ensures.done in
-    let W = went l b.ledger c.args.token.slot t c.advance.new.self _ (rw (← c.self.view_is) at (c.goes_on_next.ensures c.if-not-goes_on_next.false)) m in
+    let W = went l b.ledger c.args.token.slot t c.advance.new.self _ (rw (← c.self.view_is) at (c.goes_on_next.ensures.next c.if-not-goes_on_next.false)) m in
     c.in_default.ensures.none (W.held).0 ((W.held).1)
 
 pub born-requires : goal.born-requires
@@ -36,7 +36,7 @@ born-requires g c =
     let l = g.P.Program.listing in
     let t = c.in-Ok.found.its in
     let m = subst (λ m. Moves l b.ledger c.args.token.slot t m c.advance.new.cancelled.items s') c.in-Ok-On.field-0-is c.in-Ok-On.ensures.done in
-    let W = went l b.ledger c.args.token.slot t s' _ (rw (← c.self.view_is) at (c.goes_on_next.ensures c.if-not-goes_on_next.false)) m in
+    let W = went l b.ledger c.args.token.slot t s' _ (rw (← c.self.view_is) at (c.goes_on_next.ensures.next c.if-not-goes_on_next.false)) m in
     let its : Token = c.in-Some._its in
     let h = c.in-Some.ensures.held in
     let group : group_at s'.steps its.step ≡ group_at b.ledger.steps t.step = went-group l g.P.Program.sites b.ledger s' c.stands.ensures.lawful c.args.token.slot t W its h.0 h.1 in

@@ -1,12 +1,17 @@
-use Rattle.std.proofs.Common.{◌≡◌, ◌≤◌, ◌+◌, ◌-◌, ℕ, [], arith, refl, ap, sym, ◌∙◌, subst, Some}
+use Rattle.std.proofs.Common.{◌≡◌, ◌≤◌, ◌<◌, ◌+◌, ◌-◌, ℕ, [], length, inl, arith, refl, ap, sym, ◌∙◌, subst, Some}
 use Rattle.orc_rules.specs.Timed.{IsIn}
+use Rattle.orc_rules.specs.declared.limits.TheConstants.{MOST_TOKENS}
+use Rattle.orc_ledger_spec.specs.Moves.{Hinders}
+use Rattle.orc_ledger_spec.specs.declared.faults.LedgerFault.TheVariants as ledger
 use Rattle.orc_ledger_spec.specs.declared.results.Moved.TheVariants as moved
 use Rattle.orc_ledger_spec.proofs.Nests.{alike-group}
 use Rattle.orc_tables.specs.Steps.{group_at}
 use Rattle.orc_word.specs.Views.{group_of}
 use Rattle.orc_book.specs.Held.{Hold, Becomes, held_at, out_at, word_at, out_of, passes_of}
 use Rattle.orc_book.specs.Stepping.{IsFedBy}
+use Rattle.orc_book.specs.Refusals.{is_step}
 use Rattle.orc_book.proofs.Around.{round-pass}
+use Rattle.orc_book.proofs.Causes.{too-many}
 use Rattle.orc_book.proofs.Feeding.{fed-form, fed-moves}
 use Rattle.orc_book.proofs.Moving.{sent-held}
 use Rattle.orc_book.proofs.Posts.{other-at, same-at, word-kept}
@@ -76,3 +81,11 @@ returns-in-Ok-enter_at-clause-done g c =
     let t = c.args.found.its in
     let F : IsFedBy l b.ledger t c.args.fed = rw (← c.self.view_is) at c.requires.fed in
     (t, moved.Sent (group_at b.ledger.steps t.step), [], c.requires.token, rw (← c.self.view_is) (fed-moves l b.ledger t c.args.fed F c.args.token.slot c.send.new.self [] c.in-Ok.ensures.done c.in-Ok.ensures.right))
+
+pub returns-in_default-clause-why : goal.returns-in_default-clause-why
+returns-in_default-clause-why g c =
+    let b = c.self.inside in
+    let t = c.args.found.its in
+    let sends = c.requires.fed.0 in
+    let full : MOST_TOKENS < length c.args.self.now.ledger.tokens + length c.args.self.now.ledger.calls + 0 = rw (← c.self.view_is) (too-many b.ledger b.posts.items c.self.invariant c.args.round c.out_in.result c.out_in.ensures.out c.in_default.ensures (length b.ledger.calls) 0) in
+    (t, (c.requires.found, ap is_step sends), subst (λ a. Hinders c.args.self.now.ledger t a ledger.Full) (sym sends) (inl full))

@@ -1,6 +1,7 @@
-use Rattle.std.proofs.Common.{ap, ◌∙◌}
+use Rattle.std.proofs.Common.{ap, ◌∙◌, inr}
 use Rattle.orc_book.proofs.Added.{none-born, none-left}
 use Rattle.orc_book.proofs.Standing.{none-opened}
+use Rattle.orc_book.proofs.Causes.{weaker-err}
 use Rattle.orc_book.proofs.book.Book.step.Goals as goal
 
 pub returns-in-Halt-clause-born : goal.returns-in-Halt-clause-born
@@ -29,3 +30,6 @@ returns-in-Fork-clause-stands g c = none-opened _ _ c.step_fork.ensures.stands
 
 pub returns-in-Send-clause-stands : goal.returns-in-Send-clause-stands
 returns-in-Send-clause-stands g c = none-opened _ _ c.send.ensures.stands
+
+pub returns-in-Seq-clause-why : goal.returns-in-Seq-clause-why
+returns-in-Seq-clause-why g c = weaker-err c.step_on.result _ _ (λ r h. inr h) (c.step_on.ensures.why c.args.births.now.same.items c.args.births.now.idle.items)

@@ -2,7 +2,7 @@ use Rattle.std.proofs.Common.{◌≡◌, ℕ, arith, refl, ap, sym, ◌∙◌, s
 use Rattle.orc_tables.specs.Steps.{group_at}
 use Rattle.orc_word.specs.Views.{group_of}
 use Rattle.orc_book.specs.Held.{AreHeld, Changes, HasStayed, KeepsOne, kept_at, out_at, word_at}
-use Rattle.orc_book.proofs.Ones.{roomy-held}
+use Rattle.orc_book.proofs.Ones.{roomy-held, tokens-few}
 use Rattle.orc_book.proofs.Moving.{kept-held}
 use Rattle.orc_book.proofs.Posts.{stayed, keeps-one}
 use Rattle.orc_book.proofs.book.Book.wait.Goals as goal
@@ -37,9 +37,9 @@ invariant_of-self-2 g c =
     let ps = b.posts.items in
     let ps2 = c.keep_at.new.posts.items in
     let n : ℕ = c.in-Ok.found.group in
-    let kept : c.kept_in.result ≡ kept_at ps n = c.kept_in.ensures in
+    let kept : c.kept_in-kept.result ≡ kept_at ps n = c.kept_in-kept.ensures in
     let out : c.in-Ok.found.out ≡ out_at ps n = rw (← c.self.view_is) at c.in-Ok.ensures.out.0 in
-    let C : Changes ps n ps2 KeepsOne = keeps-one ps c.reserve_at.new.posts.items ps2 n c.reserve_at.ensures.same _ _ c.keep_at.ensures.more (omega (arith, c.in-Some.ensures, kept)) (omega (arith, out, c.in-Ok.ensures.out.1)) in
+    let C : Changes ps n ps2 KeepsOne = keeps-one ps c.reserve_at.new.posts.items ps2 n c.reserve_at.ensures.same _ _ c.keep_at.ensures.more (omega (arith, kept)) (omega (arith, out, c.in-Ok.ensures.out.1)) in
     subst (AreHeld ps2) (sym c.park.ensures.same) (kept-held b.ledger ps ps2 n C c.self.invariant)
 
 pub returns-clause-done : goal.returns-clause-done
@@ -50,7 +50,15 @@ returns-clause-done g c =
     let t = c.in-Ok.found.its in
     let n : ℕ = c.in-Ok.found.group in
     let at : n ≡ group_at b.ledger.steps t.step = rw (← c.self.view_is) at c.in-Ok.ensures.group in
-    let kept : c.kept_in.result ≡ kept_at ps n = c.kept_in.ensures in
+    let kept : c.kept_in-kept.result ≡ kept_at ps n = c.kept_in-kept.ensures in
     let out : c.in-Ok.found.out ≡ out_at ps n = rw (← c.self.view_is) at c.in-Ok.ensures.out.0 in
-    let C : Changes ps n ps2 KeepsOne = keeps-one ps c.reserve_at.new.posts.items ps2 n c.reserve_at.ensures.same _ _ c.keep_at.ensures.more (omega (arith, c.in-Some.ensures, kept)) (omega (arith, out, c.in-Ok.ensures.out.1)) in
-    (t, c.in-Ok.ensures.token, c.waits.ensures c.if-not-waits.false, rw (← c.self.view_is) (subst (λ z. Changes ps z ps2 KeepsOne) at C))
+    let C : Changes ps n ps2 KeepsOne = keeps-one ps c.reserve_at.new.posts.items ps2 n c.reserve_at.ensures.same _ _ c.keep_at.ensures.more (omega (arith, kept)) (omega (arith, out, c.in-Ok.ensures.out.1)) in
+    (t, c.in-Ok.ensures.token, c.waits.ensures.next c.if-not-waits.false, rw (← c.self.view_is) (subst (λ z. Changes ps z ps2 KeepsOne) at C))
+
+pub overflow_add-kept : goal.overflow_add-kept
+overflow_add-kept g c =
+    let b = c.self.inside in
+    let ps = b.posts.items in
+    let n : ℕ = c.in-Ok.found.group in
+    let out : c.in-Ok.found.out ≡ out_at ps n = rw (← c.self.view_is) at c.in-Ok.ensures.out.0 in
+    omega (arith, c.kept_in-kept.ensures, out, c.in-Ok.ensures.out.1, (c.self.invariant).tokens n, tokens-few b.ledger n b.ledger.tokens, c.token_count-tokens.ensures, c.token_count-tokens.type_inv)

@@ -1,0 +1,159 @@
+-- Why a book's calls are refused. A fault comes only for the cause that is said here: the first that there is.
+use Rattle.std.specs.Prelude.{◌≡◌, ◌≤◌, ◌⊎◌, ◌-◌, ℕ, List, length, Bool, true, false, Option, None, Some, slice_get}
+use Rattle.orc_rules.specs.Nodes.{Listing, code, definitions}
+use Rattle.orc_rules.specs.Sites.{Site}
+use Rattle.orc_rules.specs.declared.value.Answer.{Answer}
+use Rattle.orc_frames.specs.Doing.{is_wait}
+use Rattle.orc_frames.specs.declared.action.Action.{Action}
+use Rattle.orc_frames.specs.declared.action.Action.TheVariants as does
+use Rattle.orc_tables.specs.Steps.{group_at}
+use Rattle.orc_tables.specs.declared.records.Token.{Token}
+use Rattle.orc_ledger_spec.specs.Records.{Records}
+use Rattle.orc_ledger_spec.specs.Answers.{IsUnanswered, IsStopped}
+use Rattle.orc_ledger_spec.specs.Calls.{IsRefused}
+use Rattle.orc_ledger_spec.specs.Doing.{what_of}
+use Rattle.orc_ledger_spec.specs.Moves.{IsHindered, Misfits}
+use Rattle.orc_ledger_spec.specs.Next.{next_of, numbers_of, ticks}
+use Rattle.orc_ledger_spec.specs.declared.faults.LedgerFault.{LedgerFault}
+use Rattle.orc_ledger_spec.specs.declared.faults.LedgerFault.TheVariants as ledger
+use Rattle.orc_ledger_spec.specs.declared.faults.ReturnFault.TheVariants as answer
+use Rattle.orc_word.specs.declared.view.View.{View}
+use Rattle.orc_word.specs.Views.{group_of}
+use Rattle.orc_book.specs.Held.{Held, IsToken, IsGone, out_at}
+use Rattle.orc_book.specs.declared.token.Token.{Token as Out}
+use Rattle.orc_book.specs.declared.token.BookFault.{BookFault}
+use Rattle.orc_book.specs.declared.token.BookFault.TheVariants.{Gone, Wrong, Short, Live, Full, Limit, Memory}
+
+-- a fault of the ledger as one of the book; no call of the book asks a claim of the ledger
+abbrev pub fault_of : LedgerFault → BookFault
+fault_of ledger.Full = Full
+fault_of ledger.Limit = Limit
+fault_of ledger.Memory = Memory
+fault_of ledger.Unclaimed = Gone
+
+-- ---- what each call takes
+
+abbrev pub is_end : Action → Bool
+is_end does.Halt = true
+is_end does.Void = true
+is_end _ = false
+
+abbrev pub is_fork : Action → Bool
+is_fork does.Fork = true
+is_fork _ = false
+
+-- the left side of a `>x>`, or the body of a definition
+abbrev pub is_onward : Action → Bool
+is_onward does.Seq = true
+is_onward does.Def = true
+is_onward _ = false
+
+abbrev pub is_publication : Action → Bool
+is_publication (does.Publish v) = true
+is_publication _ = false
+
+abbrev pub is_send : Action → Bool
+is_send (does.Send v) = true
+is_send _ = false
+
+abbrev pub is_call : Action → Bool
+is_call does.Call = true
+is_call _ = false
+
+-- a pruning, or the left side of an otherwise
+abbrev pub is_opening : Action → Bool
+is_opening does.Prune = true
+is_opening does.Other = true
+is_opening _ = false
+
+-- what `step` takes
+abbrev pub is_step : Action → Bool
+is_step (does.Publish v) = false
+is_step (does.Bind c v) = false
+is_step does.Call = false
+is_step (does.Wait c) = false
+is_step _ = true
+
+-- ---- tokens
+
+-- the last of these passes, which is used first, doesn't name this group; or there is none
+abbrev pub HasNone : List View → Option ℕ → Type 0
+HasNone passes group = (v : View) → slice_get passes (length passes - 1) ≡ Some v → group_of v ≡ group → ⊥
+
+module _ {X : Type 0} (l : Listing) (b : Held) (k : Out X) where
+  -- t is the record of a token that is out: its pass names its group's word, and some token of its group is out
+  abbrev pub IsFound : Token → Type 0
+  IsFound t = IsToken b k.slot k.serial k.pass t × (1 ≤ out_at b.posts (group_at b.ledger.steps t.step))
+
+  abbrev pub does_next : Token → Action
+  does_next t = what_of (code l) (definitions l) b.ledger t
+
+  -- and what it does next is what the call takes
+  abbrev pub IsTaken : (Action → Bool) → Token → Type 0
+  IsTaken takes t = IsFound t × (takes (does_next t) ≡ true)
+
+  -- it is found, but does something else next
+  abbrev pub IsOther : (Action → Bool) → Token → Type 0
+  IsOther takes t = IsFound t × (takes (does_next t) ≡ false)
+
+  -- it calls a definition whose parameters its operands don't fit, which no program has that the scope check took
+  abbrev pub IsMisfit : Token → Type 0
+  IsMisfit t = IsFound t × (does_next t ≡ does.Def) × Misfits l b.ledger k.slot t b.ledger
+
+  -- why a call that takes such tokens is refused, where the ledger refuses them for these reasons
+  abbrev pub IsRefusedMove : (Action → Bool) → (Token → LedgerFault → Type 0) → BookFault → Type 0
+  IsRefusedMove takes reason Gone = IsGone b k.slot k.serial k.pass
+  IsRefusedMove takes reason Wrong = (t : Token) × IsOther takes t
+  IsRefusedMove takes reason Full = (t : Token) × IsTaken takes t × reason t ledger.Full
+  IsRefusedMove takes reason Limit = (t : Token) × IsTaken takes t × reason t ledger.Limit
+  IsRefusedMove takes reason Memory = (t : Token) × IsTaken takes t × reason t ledger.Memory
+  IsRefusedMove takes reason Short = ⊥
+  IsRefusedMove takes reason Live = ⊥
+
+  -- why a call of a site isn't made, and why a token isn't kept
+  abbrev pub IsRefusedCall : BookFault → Type 0
+  IsRefusedCall = IsRefusedMove is_call (λ t fault. IsRefused b.ledger 0 0 0 fault)
+
+  abbrev pub IsRefusedWait : BookFault → Type 0
+  IsRefusedWait = IsRefusedMove is_wait (λ t fault. fault ≡ ledger.Memory)
+
+  -- why a token doesn't go on
+  abbrev pub IsRefusedOn : BookFault → Type 0
+  IsRefusedOn Wrong = (t : Token) × (IsOther is_onward t ⊎ IsMisfit t)
+  IsRefusedOn why = IsRefusedMove is_onward (IsHindered l b.ledger) why
+
+  -- passes that were lent don't do for the move
+  abbrev pub IsShort : List View → List View → Action → Type 0
+  IsShort same idle does.Fork = HasNone same (group_of k.pass)
+  IsShort same idle (does.Send v) = HasNone idle None
+  IsShort same idle _ = ⊥
+
+  -- why a step that opens no group is refused
+  abbrev pub IsRefusedStep : List View → List View → BookFault → Type 0
+  IsRefusedStep same idle Gone = IsGone b k.slot k.serial k.pass
+  IsRefusedStep same idle Wrong = (t : Token) × (IsOther is_step t ⊎ IsMisfit t)
+  IsRefusedStep same idle Short = (t : Token) × IsFound t × IsShort same idle (does_next t)
+  IsRefusedStep same idle Full = (t : Token) × IsTaken is_step t × IsHindered l b.ledger t ledger.Full
+  IsRefusedStep same idle Limit = (t : Token) × IsTaken is_step t × IsHindered l b.ledger t ledger.Limit
+  IsRefusedStep same idle Memory = (t : Token) × IsFound t
+  IsRefusedStep same idle Live = ⊥
+
+-- ---- calls and time
+
+-- why an answer is refused
+abbrev pub IsRefusedAnswer : Listing → List Site → Records → ℕ → Answer → BookFault → Type 0
+IsRefusedAnswer l sites s k a Gone = IsUnanswered l sites s k a answer.Gone
+IsRefusedAnswer l sites s k a Wrong = IsUnanswered l sites s k a answer.Wrong
+IsRefusedAnswer l sites s k a Limit = IsUnanswered l sites s k a answer.Limit
+IsRefusedAnswer l sites s k a Memory = IsUnanswered l sites s k a answer.Memory
+IsRefusedAnswer l sites s k a _ = ⊥
+
+-- why a tick is refused
+abbrev pub IsRefusedTick : Records → BookFault → Type 0
+IsRefusedTick s Limit = IsStopped s ledger.Limit
+IsRefusedTick s Memory = IsStopped s ledger.Memory
+IsRefusedTick s _ = ⊥
+
+-- why a book doesn't say what comes next: it would be a tick
+abbrev pub IsRefusedNext : Listing → Records → BookFault → Type 0
+IsRefusedNext l s why = ((t : ℕ) × (next_of (code l) (definitions l) (numbers_of s) s ≡ ticks t)) × IsRefusedTick s why
