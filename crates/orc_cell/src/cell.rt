@@ -1,50 +1,36 @@
 //! Cells, which are bound once.
 
-ghost use Rattle.std.specs.Prelude.{◌≡◌, Some, None, IfOk, MatchResult, ⊤};
-ghost use Rattle.orc_cell.specs.Words.{identity, subject, known, Reads, HasRead};
+ghost use Rattle.std.specs.Prelude.{◌≡◌, None, Some, IfOk, MatchResult, MatchOption, ⊤};
+ghost use Rattle.orc_cell.specs.Words.{identity, subject, known, Knows, HasRead};
 
-use crate::bound::Bound;
 use crate::note::Note;
 use once_cell::race::OnceBox;
 use std::alloc::{AllocError, Global};
 use std::sync::Arc;
 
-/// A cell that many threads may name. It is bound at most once.
+/// A cell that many threads may name. It is bound to a value at most once.
 #[derive(Drop)]
-pub struct Cell {
-    number: u64,
-    shared: Arc<OnceBox<Bound>, Global>,
+pub struct Cell<T: Drop> {
+    shared: Arc<OnceBox<T>, Global>,
 }
 
-impl Cell {
-    /// A new cell of that number, which is not bound. Its error is refused memory.
-    pub fn new(alloc: Global, number: u64) -> Result<Cell, AllocError>
-        ensures { IfOk result (λ cell. cell.number ≡ number) }
-    {
+impl<T: Drop> Cell<T> {
+    /// A new cell, which is not bound. Its error is refused memory.
+    pub fn new(alloc: Global) -> Result<Cell<T>, AllocError> {
         let shared = Arc::new(alloc, OnceBox::new(alloc))?;
-        Ok(Cell { number, shared })
-    }
-
-    /// Its number.
-    pub fn number(&self) -> u64
-        ensures { result ≡ self.now.number }
-    {
-        self.number
+        Ok(Cell { shared })
     }
 
     /// Another name of the same cell. Its error is that the cell has as many names as an `Arc` can count.
-    pub fn share(&self) -> Result<Cell, AllocError>
-        ensures { IfOk result (λ cell. (cell.number ≡ self.now.number) × (identity cell ≡ identity self.now)) }
+    pub fn share(&self) -> Result<Cell<T>, AllocError>
+        ensures { IfOk result (λ cell. identity cell ≡ identity self.now) }
     {
         let shared = Arc::try_clone(&self.shared)?;
-        Ok(Cell {
-            number: self.number,
-            shared,
-        })
+        Ok(Cell { shared })
     }
 
     /// A note of this cell that has read nothing.
-    pub fn note(&self) -> Note
+    pub fn note(&self) -> Note<T>
         ensures { (subject result ≡ identity self.now) × (known result ≡ None) }
     {
         let sight = self.shared.note();
@@ -52,34 +38,29 @@ impl Cell {
     }
 
     /// Binds the cell, where no other call has bound it; else hands the box back. It takes no memory.
-    pub fn bind(&self, bound: Box<Bound>) -> Result<(), Box<Bound>>
-        ensures { MatchResult result (λ _. ⊤) (λ back. back.value ≡ bound.value) }
+    pub fn bind(&self, value: Box<T>) -> Result<(), Box<T>>
+        ensures { MatchResult result (λ _. ⊤) (λ back. back.value ≡ value.value) }
     {
-        self.shared.set(bound)
+        self.shared.set(value)
     }
 
     /// Binds the cell, where no other call has bound it; else hands the box back. Either way the note has then read what the cell is bound to, so
     /// that a note that had read before is answered with its box. It takes no memory.
-    pub fn bind_and_note(&self, bound: Box<Bound>, note: &mut Note) -> Result<(), Box<Bound>>
+    pub fn bind_and_note(&self, value: Box<T>, note: &mut Note<T>) -> Result<(), Box<T>>
         requires { subject note.old ≡ identity self.now }
         ensures subject { subject note.new ≡ subject note.old }
         ensures read { HasRead (known note.old) (known note.new) }
-        ensures value { MatchResult result (λ _. (known note.old ≡ None) × (known note.new ≡ Some bound.value)) (λ back. back.value ≡ bound.value) }
+        ensures value { MatchResult result (λ _. (known note.old ≡ None) × (known note.new ≡ Some value.value)) (λ back. back.value ≡ value.value) }
     {
-        self.shared.set_as(bound, &mut note.sight)
+        self.shared.set_as(value, &mut note.sight)
     }
 
-    /// What the cell is bound to. None where it is not bound yet, or is bound to what names another cell.
-    pub fn read(&self, note: &mut Note) -> Option<Bound>
+    /// What the cell is bound to; None where it is not bound yet.
+    pub fn read<'a>(&'a self, note: &mut Note<T>) -> Option<&'a T>
         requires { subject note.old ≡ identity self.now }
         ensures subject { subject note.new ≡ subject note.old }
-        ensures value { Reads self.now.number (known note.old) (known note.new) result }
+        ensures value { MatchOption result ((known note.old ≡ None) × (known note.new ≡ None)) (λ value. Knows (known note.old) (known note.new) value.now) }
     {
-        let bound = *self.shared.get_as(&mut note.sight)?;
-        if bound.cell == self.number {
-            Some(bound)
-        } else {
-            None
-        }
+        self.shared.get_as(&mut note.sight)
     }
 }

@@ -5,7 +5,7 @@ ghost use Rattle.orc_word.specs.Views.{group_of};
 
 use futures::Future;
 use futures::task::{Doorbell, Poll, Solo};
-use orc_cell::{Bound, Cell, Content};
+use orc_cell::{Cell, Reader};
 use orc_pool::{Own, Queues, Theft, WorkerQueue, worker_queues};
 use orc_rules::answers::Answers;
 use orc_rules::value::{Answer, Args, Value};
@@ -349,15 +349,9 @@ fn each_task_is_done_once_by_four_hands(rt: HostRuntime) -> Result<(), Fail> {
 #[test]
 fn a_cell_is_bound_once(rt: HostRuntime) -> Result<(), Fail> {
     let alloc = rt.alloc();
-    let one = Bound {
-        cell: 7,
-        what: Content::Value(Value::Number(1)),
-    };
-    let two = Bound {
-        cell: 7,
-        what: Content::Void,
-    };
-    let cell = Cell::new(alloc, 7)?;
+    let one = Value::Number(1);
+    let two = Value::Number(2);
+    let cell = Cell::new(alloc)?;
     let shared = cell.share()?;
     let mut note = cell.note();
     assert_eq!(rt; cell.read(&mut note), None);
@@ -366,23 +360,33 @@ fn a_cell_is_bound_once(rt: HostRuntime) -> Result<(), Fail> {
         Ok(()) => assert!(rt; false, "bound twice"),
         Err(back) => assert_eq!(rt; *back, two),
     }
-    assert_eq!(rt; cell.read(&mut note), Some(one));
+    assert_eq!(rt; cell.read(&mut note), Some(&one));
     let mut other = shared.note();
-    assert_eq!(rt; shared.read(&mut other), Some(one));
+    assert_eq!(rt; shared.read(&mut other), Some(&one));
+    note.agree(other);
     Ok(())
 }
 
+// Who binds it has read it, and so has who comes too late.
 #[test]
-fn what_is_for_another_cell_is_not_read(rt: HostRuntime) -> Result<(), Fail> {
+fn a_bind_reads(rt: HostRuntime) -> Result<(), Fail> {
     let alloc = rt.alloc();
-    let odd = Bound {
-        cell: 8,
-        what: Content::Void,
-    };
-    let cell = Cell::new(alloc, 7)?;
+    let cell = Cell::new(alloc)?;
+    let mut reader = Reader::new(&cell);
+    assert_eq!(rt; reader.read(), None);
     let mut note = cell.note();
-    assert!(rt; cell.bind_and_note(Box::new(alloc, odd)?, &mut note).is_ok());
-    assert_eq!(rt; cell.read(&mut note), None);
+    assert!(rt;
+        cell.bind_and_note(Box::new(alloc, 1u64)?, &mut note)
+            .is_ok()
+    );
+    assert_eq!(rt; cell.read(&mut note), Some(&1));
+    let mut late = cell.note();
+    assert!(rt;
+        cell.bind_and_note(Box::new(alloc, 2u64)?, &mut late)
+            .is_err()
+    );
+    assert_eq!(rt; cell.read(&mut late), Some(&1));
+    assert_eq!(rt; reader.read(), Some(&1));
     Ok(())
 }
 
