@@ -2,6 +2,7 @@
 
 use crate::inputs::Inputs;
 use crate::shared::{OutsideWork, Shared};
+use orc_cell::Cell;
 use orc_log::Program;
 use orc_scheduler::Stop;
 use orc_site::{Gate, Sites};
@@ -16,6 +17,8 @@ pub(crate) struct Context<'h, P: Program + Naming, S: Sites, G: Gate> {
     pub alloc: Global,
     pub inputs: Inputs<'h, P>,
     pub shared: &'h Mutex<Shared<P, S::Call>>,
+    // Why the run stops. It is bound under the lock, and read without it.
+    pub why: &'h Cell<Stop>,
     pub wakeups: &'h Condvar,
     // How many workers have found nothing, and look round a last time or rest.
     pub idle: &'h AtomicU64,
@@ -56,9 +59,9 @@ impl<P: Program + Naming, S: Sites, G: Gate> Context<'_, P, S, G> {
         }
     }
 
-    /// Before a worker goes outside, where it may wait for others: somebody else has to take a call that is due, if there is one.
-    pub(crate) fn leave_due(&self, shared: &mut Shared<P, S::Call>) {
-        if self.may_wait && shared.has_due() {
+    // Before a worker goes outside, where it may wait for others: somebody else has to take a call that is due, if there is one.
+    fn leave_due(&self, shared: &mut Shared<P, S::Call>) {
+        if self.may_wait && shared.find_due().is_some() {
             self.wake(shared, 1);
         }
     }
@@ -71,11 +74,19 @@ impl<P: Program + Naming, S: Sites, G: Gate> Context<'_, P, S, G> {
         (work, shared.offers)
     }
 
-    // Those that rest have to know of the end, and of what a worker leaves that goes outside.
-    fn tell(&self, shared: &mut Shared<P, S::Call>, work: &OutsideWork<S::Call>) {
+    /// Before a worker leaves the lock under which the run may have stopped: those that rest have to know. Others that read of the end without the lock wake
+    /// nobody.
+    pub(crate) fn tell_end(&self, shared: &Shared<P, S::Call>) {
+        if shared.is_over() {
+            self.wakeups.notify_all();
+        }
+    }
+
+    /// Before a worker leaves the lock with this work: those that rest have to know of the end, and of what a worker leaves that goes outside.
+    pub(crate) fn tell(&self, shared: &mut Shared<P, S::Call>, work: &OutsideWork<S::Call>) {
+        self.tell_end(shared);
         match work {
-            OutsideWork::Over => self.wakeups.notify_all(),
-            OutsideWork::Ask(_, _, _) => self.leave_due(shared),
+            OutsideWork::Make(_) | OutsideWork::Ask(_, _, _) => self.leave_due(shared),
             _ => {}
         }
     }

@@ -1,7 +1,7 @@
 //! Workers that hold the tokens of a run, over one book under a lock.
 //!
-//! Each worker has tokens, passes to their groups and a queue of its own; the words of the groups are outside the lock. What moves and when is chosen here; that
-//! each entry is one of the rules is the book's own invariant, whatever is chosen.
+//! Each worker has tokens, passes to their groups and a queue of its own; the words of the groups are outside the lock, and so is the cell that says why the
+//! run stops. What moves and when is chosen here; that each entry is one of the rules is the book's own invariant, whatever is chosen.
 #![tactic(auto)]
 
 mod context;
@@ -13,6 +13,7 @@ mod pool;
 mod rest;
 mod shared;
 mod shift;
+mod stopper;
 mod worker;
 
 pub use orc_scheduler::EngineFault;

@@ -12,8 +12,10 @@ use crate::context::Context;
 use crate::inputs::Inputs;
 use crate::local::Local;
 use crate::shared::Shared;
+use crate::stopper::Stopper;
 use crate::worker::Worker;
 use orc_book::{Book, Token};
+use orc_cell::Cell;
 use orc_engine::run_parallel;
 use orc_graph::Graph;
 use orc_log::Program as Run;
@@ -22,7 +24,7 @@ use orc_pool::{WorkerQueue, worker_queues};
 use orc_rules::answers::Answers;
 use orc_rules::limits::{MOST_ENTRIES, MOST_GROUPS, MOST_WORKERS};
 use orc_rules::program::Program;
-use orc_scheduler::{EngineFault, Scheduler};
+use orc_scheduler::{EngineFault, Scheduler, Stop};
 use orc_site::{Gate, Sites};
 use orc_word::{Groups, Naming, Supply, Unnamed};
 use std::alloc::Global;
@@ -41,8 +43,8 @@ const PASSES: u32 = 4 * MOST_ENTRIES as u32;
 /// Runs a program on the calling thread and `workers - 1` more, which hold its tokens; one that can't be started is left out. What is run and what it
 /// answers is as of [`run_alone`](orc_engine::run_alone), whatever the workers do when.
 ///
-/// Each call goes through `gate`, is made by `sites` and polled outside every lock, and `sites` is told which ones are cancelled; the journal is kept
-/// then. Where the sites go by the table and the gate is open, nobody is asked, and it is a run of [`run_parallel`](orc_engine::run_parallel).
+/// Each call goes through `gate`, is made by `sites` and polled outside every lock; and `sites` is told which ones are cancelled. The journal is kept then.
+/// Where the sites go by the table and the gate is open, nobody is asked, and it is a run of [`run_parallel`](orc_engine::run_parallel).
 ///
 /// The fault is Range where there are no workers or over `MOST_WORKERS`, or the limit is 0 or over `MOST_ENTRIES`, and then alone; Site where the
 /// sites answered a call otherwise than the table says, or not when it was due; Broken where something is left that no worker has; Memory as of
@@ -160,9 +162,15 @@ where
         answers,
         groups: &groups,
     };
-    let shared = Mutex::new(Shared::new(alloc, book));
+    let Ok(why) = Cell::new(alloc) else {
+        return Err(EngineFault::Memory);
+    };
+    let Ok(stopper) = Stopper::new(alloc, &why) else {
+        return Err(EngineFault::Memory);
+    };
+    let shared = Mutex::new(Shared::new(alloc, book, stopper));
     play(
-        rt, alloc, inputs, supply, token, &shared, sites, gate, workers,
+        rt, alloc, inputs, supply, token, &shared, &why, sites, gate, workers,
     )?;
     let (book, stop) = shared.into_inner().into_book();
     let scheduler = Scheduler::new(alloc, book.into_ledger(), true);
@@ -181,6 +189,7 @@ fn play<'x, P, R, S, G>(
     supply: Supply<P>,
     token: Token<P>,
     shared: &'x Mutex<Shared<P, S::Call>>,
+    why: &'x Cell<Stop>,
     sites: &'x S,
     gate: &'x G,
     workers: usize,
@@ -209,6 +218,7 @@ where
         alloc,
         inputs,
         shared,
+        why,
         wakeups: &wakeups,
         idle: &idle,
         sites,

@@ -51,18 +51,13 @@ impl<P: Program + Naming, C: Drop> Shared<P, C> {
 
     /// A pending call that is due, to be asked again. None where there is none, or where other workers have them all.
     pub(crate) fn take_due(&mut self) -> Option<OutsideWork<C>> {
-        let number = self.parked_due()?;
+        let number = self.find_due()?;
         let call = self.pending.remove(&number)?;
         Some(OutsideWork::Ask(number, self.book.now(), call))
     }
 
-    /// Whether a call is due that no worker has.
-    pub(crate) fn has_due(&mut self) -> bool {
-        self.parked_due().is_some()
-    }
-
-    // The least number of a call that is due and that no worker has.
-    fn parked_due(&mut self) -> Option<u64> {
+    /// The least number of a call that is due and that no worker has. The book forgets on the way what it has noted of calls that pend no more.
+    pub(crate) fn find_due(&mut self) -> Option<u64> {
         let mut number = 0;
         for _ in 0..u64::MAX {
             number = self.book.due_beyond(number)?;

@@ -3,6 +3,7 @@
 use crate::inputs::Inputs;
 use crate::local::Local;
 use crate::moves::Step;
+use crate::stopper::Stopper;
 use orc_book::{Book, BookFault, Ended};
 use orc_ledger_spec::LedgerFault;
 use orc_log::Program;
@@ -49,13 +50,13 @@ pub(crate) enum OutsideWork<C: Drop> {
     Over,
 }
 
-/// The book of a run, the calls that wait until they are due, why the run stops, and where the workers are.
+/// The book of a run, the calls that wait until they are due, what ends the run, and where the workers are.
 pub(crate) struct Shared<P: Program + Naming, C: Drop> {
     pub(crate) book: Book<P>,
     pub(crate) pending: BTreeMap<u64, Box<C>>,
     // Lent to the book for the arguments of a call.
     pub(crate) args: Args,
-    stop: Option<Stop>,
+    stopper: Stopper,
     // How often those that rest had to look again.
     pub(crate) offers: u64,
     pub(crate) working: u32,
@@ -70,7 +71,7 @@ impl<P: Program + Naming, C: Drop> Drop for Shared<P, C> {
             book,
             pending,
             args,
-            stop: _,
+            stopper,
             offers: _,
             working: _,
             resting: _,
@@ -78,17 +79,18 @@ impl<P: Program + Naming, C: Drop> Drop for Shared<P, C> {
         drop(book);
         drop(pending);
         drop(args);
+        drop(stopper);
     }
 }
 
 impl<P: Program + Naming, C: Drop> Shared<P, C> {
     /// A run at its beginning. The first worker, with the first token, is at work.
-    pub(crate) fn new(alloc: Global, book: Book<P>) -> Shared<P, C> {
+    pub(crate) fn new(alloc: Global, book: Book<P>, stopper: Stopper) -> Shared<P, C> {
         Shared {
             book,
             pending: BTreeMap::new(alloc),
             args: Args::new(),
-            stop: None,
+            stopper,
             offers: 0,
             working: 1,
             resting: 0,
@@ -101,25 +103,23 @@ impl<P: Program + Naming, C: Drop> Shared<P, C> {
             book,
             pending,
             args,
-            stop,
+            stopper,
             offers: _,
             working: _,
             resting: _,
         } = self;
         drop(pending);
         drop(args);
-        (book, stop.unwrap_or(Stop::Broken))
+        (book, stopper.reason().unwrap_or(Stop::Broken))
     }
 
     pub(crate) fn is_over(&self) -> bool {
-        self.stop.is_some()
+        self.stopper.reason().is_some()
     }
 
-    /// The run stops, if it hasn't yet.
-    pub(crate) fn stop(&mut self, stop: Stop) {
-        if self.stop.is_none() {
-            self.stop = Some(stop);
-        }
+    /// The run stops for this reason, if it hasn't yet. Whoever has the lock then has to wake those at rest before it leaves it.
+    pub(crate) fn stop(&mut self, reason: Stop) {
+        self.stopper.stop(reason);
     }
 
     /// The run stops for want of memory.

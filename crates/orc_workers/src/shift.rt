@@ -1,10 +1,14 @@
 //! Workers at work.
 
+ghost use Rattle.std.specs.Prelude.{◌≡◌, false, None};
+ghost use Rattle.orc_cell.specs.Readers.{has_read};
+
 use crate::context::Context;
 use crate::local::Local;
 use crate::poller::{Polled, Poller};
 use crate::shared::{CallEvent, OutsideWork};
 use orc_book::Token;
+use orc_cell::Reader;
 use orc_ledger_spec::LedgerFault;
 use orc_log::Program;
 use orc_pool::WorkerQueue;
@@ -29,6 +33,8 @@ const SPARE: usize = 4;
 pub(crate) struct Shift<'h, P: Program + Naming, R: Wait, S: Sites, G: Gate> {
     rt: &'h R,
     context: &'h Context<'h, P, S, G>,
+    // What it has read of why the run stops.
+    why: Reader<'h, Stop>,
     queue: WorkerQueue<Token<P>>,
     // No fewer tokens than there are in its queue.
     queued: usize,
@@ -47,6 +53,7 @@ impl<P: Program + Naming, R: Wait, S: Sites, G: Gate> Drop for Shift<'_, P, R, S
         let Shift {
             rt: _,
             context: _,
+            why,
             queue,
             queued: _,
             local,
@@ -55,6 +62,7 @@ impl<P: Program + Naming, R: Wait, S: Sites, G: Gate> Drop for Shift<'_, P, R, S
             turns: _,
             rich: _,
         } = self;
+        drop(why);
         drop(queue);
         drop(local);
         drop(poller);
@@ -73,6 +81,7 @@ impl<'h, P: Program + Naming, R: Wait, S: Sites, G: Gate> Shift<'h, P, R, S, G> 
         Shift {
             rt,
             context,
+            why: Reader::new(context.why),
             queue,
             queued: 0,
             local,
@@ -86,11 +95,20 @@ impl<'h, P: Program + Naming, R: Wait, S: Sites, G: Gate> Shift<'h, P, R, S, G> 
     /// What it has to do outside the lock next. It waits here while others have all that is left.
     pub(crate) fn next_work(&mut self) -> OutsideWork<S::Call> {
         self.tell_lost();
-        if self.has_turn() {
+        if self.finds_end() {
+            OutsideWork::Over
+        } else if self.has_turn() {
             self.turn()
         } else {
             self.rest()
         }
+    }
+
+    // Reads, without the lock, whether the run has stopped. Where it has, the worker finds so for good, and polls no call that waited.
+    fn finds_end(&mut self) -> bool
+        ensures { result ≡ false → has_read self.new.why ≡ None }
+    {
+        self.why.read().is_some()
     }
 
     // Whether it has something to tell, or a token, by now one of its queue or of another's.
@@ -123,13 +141,7 @@ impl<'h, P: Program + Naming, R: Wait, S: Sites, G: Gate> Shift<'h, P, R, S, G> 
         let context = self.context;
         let mut shared = context.shared.lock(self.rt);
         let work = shared.work(&context.inputs, &mut self.local, event, begins_round);
-        match &work {
-            OutsideWork::Over => context.wakeups.notify_all(),
-            OutsideWork::Make(_) | OutsideWork::Ask(_, _, _) => {
-                context.leave_due(&mut shared);
-            }
-            _ => {}
-        }
+        context.tell(&mut shared, &work);
         work
     }
 
@@ -155,7 +167,9 @@ impl<'h, P: Program + Naming, R: Wait, S: Sites, G: Gate> Shift<'h, P, R, S, G> 
             }
             OutsideWork::Ask(number, now, call) => {
                 self.go_outside();
-                self.event = self.ask(number, now, call);
+                if !self.finds_end() {
+                    self.event = self.ask(number, now, call);
+                }
             }
             OutsideWork::Over => return true,
         }
@@ -246,16 +260,13 @@ impl<'h, P: Program + Naming, R: Wait, S: Sites, G: Gate> Shift<'h, P, R, S, G> 
         self.local.go_to(None);
         for _ in 0..u64::MAX {
             self.settle();
-            if self.local.is_settled() {
+            if self.local.is_settled() || self.finds_end() {
                 return;
             }
             let context = self.context;
             let mut shared = context.shared.lock(self.rt);
             shared.close_groups(&mut self.local);
-            if shared.is_over() {
-                context.wakeups.notify_all();
-                return;
-            }
+            context.tell_end(&shared);
         }
     }
 
@@ -280,7 +291,7 @@ impl<'h, P: Program + Naming, R: Wait, S: Sites, G: Gate> Shift<'h, P, R, S, G> 
         shared.drop_gone(context.alloc, &context.inputs, &mut self.local);
     }
 
-    // Makes a call, and asks for its answer.
+    // Makes a call, and asks for its answer. A call that was recorded is made even if the run has stopped meanwhile: the journal has it.
     fn make(&self, request: Request) -> CallEvent<S::Call> {
         self.context.gate.pass(request.number);
         let Ok(mut call) = self.context.sites.call(&request) else {
@@ -297,7 +308,9 @@ impl<'h, P: Program + Naming, R: Wait, S: Sites, G: Gate> Shift<'h, P, R, S, G> 
     }
 
     // Asks a call again, which is due.
-    fn ask(&self, number: u64, now: u64, mut call: Box<S::Call>) -> CallEvent<S::Call> {
+    fn ask(&self, number: u64, now: u64, mut call: Box<S::Call>) -> CallEvent<S::Call>
+        requires { has_read self.now.why ≡ None }
+    {
         match self.poller.ask(&mut *call, now) {
             Polled::Answered(answer) => CallEvent::Answered(number, answer),
             Polled::Late | Polled::Waits(_) => CallEvent::Late(number),
