@@ -5,9 +5,11 @@ use Rattle.std.proofs.lemmas.List.Sums.{sum_by-cons}
 use Rattle.slab.specs.Slab.{Slab, Updates, get, slab_len, with_value}
 use Rattle.slab.proofs.SlabLemmas.{Updates-with_value}
 use Rattle.orc_word.specs.declared.naming.Naming.{Ghosts}
+use Rattle.orc_book.specs.declared.word_table.Kind.{Kind}
 use Rattle.orc_book.specs.declared.word_table.Kind.TheVariants.{Free, Open}
 use Rattle.orc_book.specs.declared.word_table.Stand.{Stand}
-use Rattle.orc_book.specs.Words.{Turns, kind_at, kind_of}
+use Rattle.orc_book.specs.declared.word_table.Stand.TheVariants as stand
+use Rattle.orc_book.specs.Words.{Turns, is_taken, kind_at, kind_of}
 
 module _ {X : Type 0} {g : Ghosts X} where
   pub kind-got : (xs : List (Option (Stand X g))) (w : ℕ) → kind_at (map kind_of xs) w ≡ kind_of (slice_index_or xs w None)
@@ -39,6 +41,17 @@ module _ {X : Type 0} {g : Ghosts X} where
   -- an entry is written over
   pub turned-over : (s : Slab (Stand X g)) (w n : ℕ) (x : Stand X g) → kind_at (map kind_of s.slots) w ≡ Open n → Turns (map kind_of s.slots) w (kind_of (Some x)) (map kind_of (slice_set s.slots w (Some x)))
   turned-over s w n x e = turned s (with_value s w x) w (Some x) (Updates-with_value s w x (entry_there (get s w) n (sym (kind-got s.slots w) ∙ e)))
+
+-- as many words are taken as there are entries
+module _ {X : Type 0} {g : Ghosts X} where
+  some_taken : (o : Option (Stand X g)) → ◌≡◌ {A = ℕ} (cond (is_taken (kind_of o)) 1 0) (cond (is_some o) 1 0)
+  some_taken None = refl
+  some_taken (Some (stand.Open n)) = refl
+  some_taken (Some (stand.Dying o)) = refl
+
+  pub taken_some : (xs : List (Option (Stand X g))) → count_by is_taken (map kind_of xs) ≡ count_by is_some xs
+  taken_some [] = refl
+  taken_some (x ∷ xs) = omega (arith, taken_some xs, some_taken x, sum_by-cons (λ (o : Option (Stand X g)). cond (is_some o) 1 0) x xs, sum_by-cons (λ (k : Kind). cond (is_taken k) 1 0) (kind_of x) (map kind_of xs))
 
 -- ---- a key without an entry leaves room for one
 

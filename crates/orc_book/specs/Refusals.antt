@@ -11,16 +11,22 @@ use Rattle.orc_tables.specs.declared.records.Token.{Token}
 use Rattle.orc_ledger_spec.specs.Records.{Records}
 use Rattle.orc_ledger_spec.specs.Answers.{IsUnanswered, IsStopped}
 use Rattle.orc_ledger_spec.specs.Calls.{IsRefused}
+use Rattle.orc_ledger_spec.specs.Halting.{IsHinderedAt}
 use Rattle.orc_ledger_spec.specs.Doing.{what_of}
 use Rattle.orc_ledger_spec.specs.Moves.{IsHindered, Misfits}
-use Rattle.orc_ledger_spec.specs.Next.{next_of, numbers_of, ticks}
+use Rattle.orc_ledger_spec.specs.Next.{members, next_of, numbers_of, ticks}
 use Rattle.orc_ledger_spec.specs.declared.faults.LedgerFault.{LedgerFault}
 use Rattle.orc_ledger_spec.specs.declared.faults.LedgerFault.TheVariants as ledger
 use Rattle.orc_ledger_spec.specs.declared.faults.ReturnFault.TheVariants as answer
+use Rattle.orc_ledger_spec.specs.declared.faults.HaltFault.TheVariants as halting
 use Rattle.orc_word.specs.declared.view.View.{View}
-use Rattle.orc_word.specs.Views.{group_of}
+use Rattle.orc_word.specs.Views.{group_of, deeds_of, Marks}
+use Rattle.orc_word.specs.declared.bits.Bit.TheVariants.{Killed}
 use Rattle.orc_book.specs.Held.{Held, IsToken, IsGone, out_at}
+use Rattle.orc_book.specs.Words.{HasNoWord}
 use Rattle.orc_book.specs.declared.token.Token.{Token as Out}
+use Rattle.orc_book.specs.declared.word_table.Kind.{Kind}
+use Rattle.orc_book.specs.declared.word_table.Kind.TheVariants as kind
 use Rattle.orc_book.specs.declared.token.BookFault.{BookFault}
 use Rattle.orc_book.specs.declared.token.BookFault.TheVariants.{Gone, Wrong, Short, Live, Full, Limit, Memory}
 
@@ -59,6 +65,18 @@ is_send _ = false
 abbrev pub is_call : Action → Bool
 is_call does.Call = true
 is_call _ = false
+
+abbrev pub is_prune : Action → Bool
+is_prune does.Prune = true
+is_prune _ = false
+
+abbrev pub is_other : Action → Bool
+is_other does.Other = true
+is_other _ = false
+
+abbrev pub is_bind : Action → Bool
+is_bind (does.Bind c v) = true
+is_bind _ = false
 
 -- a pruning, or the left side of an otherwise
 abbrev pub is_opening : Action → Bool
@@ -122,13 +140,30 @@ module _ {X : Type 0} (l : Listing) (b : Held) (k : Out X) where
   IsRefusedOn Wrong = (t : Token) × (IsOther is_onward t ⊎ IsMisfit t)
   IsRefusedOn why = IsRefusedMove is_onward (IsHindered l b.ledger) why
 
+  -- no cause of the ledger's stands against the move, but none of so many words is opened for the new group
+  abbrev pub IsUnopened : ℕ → (Action → Bool) → BookFault → Type 0
+  IsUnopened words takes Full = (t : Token) × IsTaken takes t × IsHindered l b.ledger t ledger.Memory × HasNoWord b.stands words Full
+  IsUnopened words takes Live = (t : Token) × IsTaken takes t × IsHindered l b.ledger t ledger.Memory × HasNoWord b.stands words Live
+  IsUnopened words takes _ = ⊥
+
+  -- why no group is opened
+  abbrev pub IsRefusedOpening : ℕ → (Action → Bool) → BookFault → Type 0
+  IsRefusedOpening words takes why = IsUnopened words takes why ⊎ IsRefusedMove takes (IsHindered l b.ledger) why
+
+  -- why no cell is bound, where this pass comes back: if the group's mark was set, the pass hasn't won it
+  abbrev pub IsRefusedBind : View → BookFault → Type 0
+  IsRefusedBind back Gone = IsGone b k.slot k.serial k.pass ⊎ ((t : Token) × IsTaken is_bind t × Marks (group_of k.pass) Killed false (deeds_of k.pass) (deeds_of back))
+  IsRefusedBind back why = IsRefusedMove is_bind (IsHindered l b.ledger) why
+
   -- passes that were lent don't do for the move
   abbrev pub IsShort : List View → List View → Action → Type 0
   IsShort same idle does.Fork = HasNone same (group_of k.pass)
   IsShort same idle (does.Send v) = HasNone idle None
+  IsShort same idle does.Prune = HasNone same (group_of k.pass) ⊎ HasNone idle None
+  IsShort same idle does.Other = HasNone idle None
   IsShort same idle _ = ⊥
 
-  -- why a step that opens no group is refused
+  -- why a step is refused, but for want of a word
   abbrev pub IsRefusedStep : List View → List View → BookFault → Type 0
   IsRefusedStep same idle Gone = IsGone b k.slot k.serial k.pass
   IsRefusedStep same idle Wrong = (t : Token) × (IsOther is_step t ⊎ IsMisfit t)
@@ -157,3 +192,20 @@ IsRefusedTick s _ = ⊥
 -- why a book doesn't say what comes next: it would be a tick
 abbrev pub IsRefusedNext : Listing → Records → BookFault → Type 0
 IsRefusedNext l s why = ((t : ℕ) × (next_of (code l) (definitions l) (numbers_of s) s ≡ ticks t)) × IsRefusedTick s why
+
+-- ---- groups that were left last
+
+-- why the group with this number isn't closed
+abbrev pub IsRefusedGroup : Records → ℕ → BookFault → Type 0
+IsRefusedGroup s number Gone = IsHinderedAt s number halting.Gone
+IsRefusedGroup s number Live = IsHinderedAt s number halting.Live
+IsRefusedGroup s number Full = IsHinderedAt s number (halting.Refused ledger.Full)
+IsRefusedGroup s number Limit = IsHinderedAt s number (halting.Refused ledger.Limit)
+IsRefusedGroup s number Memory = Unit {0}
+IsRefusedGroup s number _ = ⊥
+
+-- why a halt is refused, of a word that stands for this
+abbrev pub IsRefusedHalt : Records → Kind → BookFault → Type 0
+IsRefusedHalt s kind.Free why = why ≡ Gone
+IsRefusedHalt s kind.Dying why = why ≡ Memory
+IsRefusedHalt s (kind.Open number) why = ((number ≡ 0) × (why ≡ Live) × (1 ≤ members (numbers_of s) s 0)) ⊎ ((number ≡ 0 → ⊥) × IsRefusedGroup s number why)

@@ -1,11 +1,13 @@
 -- What the words of a book stand for.
-use Rattle.std.specs.Prelude.{◌≡◌, ◌⊎◌, ℕ, List, Option, Some, None, slice_index_or}
+use Rattle.std.specs.Prelude.{◌≡◌, ◌≤◌, ◌<◌, ◌⊎◌, ℕ, List, Bool, true, false, Option, Some, None, count_by, slice_index_or}
 use Rattle.orc_ledger_spec.specs.Records.{Records}
 use Rattle.orc_tables.specs.Steps.{group_at}
 use Rattle.orc_tables.specs.declared.records.Token.{Token}
 use Rattle.orc_word.specs.declared.naming.Naming.{Ghosts}
 use Rattle.orc_book.specs.Held.{Held, IsMissing, IsToken, word_at}
 use Rattle.orc_book.specs.declared.token.Token.{Token as Out}
+use Rattle.orc_book.specs.declared.token.BookFault.{BookFault}
+use Rattle.orc_book.specs.declared.token.BookFault.TheVariants as fault
 use Rattle.orc_book.specs.declared.word_table.Kind.{Kind}
 use Rattle.orc_book.specs.declared.word_table.Kind.TheVariants.{Free}
 use Rattle.orc_book.specs.declared.word_table.Kind.TheVariants as kind
@@ -15,6 +17,18 @@ use Rattle.orc_book.specs.declared.word_table.Stand.TheVariants.{Open, Dying}
 -- what word w stands for: a word that isn't listed is free
 abbrev pub kind_at : List Kind → ℕ → Kind
 kind_at ws w = slice_index_or ws w Free
+
+abbrev pub is_taken : Kind → Bool
+is_taken Free = false
+is_taken (kind.Open number) = true
+is_taken kind.Dying = true
+
+-- why none of so many words is opened: as many are taken, or one is free and the shared words refuse it; memory tells nothing of the words
+abbrev pub HasNoWord : List Kind → ℕ → BookFault → Type 0
+HasNoWord ws words fault.Full = words ≤ count_by is_taken ws
+HasNoWord ws words fault.Live = (w : ℕ) × (w < words) × (kind_at ws w ≡ Free)
+HasNoWord ws words fault.Memory = Unit {0}
+HasNoWord ws words _ = ⊥
 
 -- an entry of the table without its pass
 abbrev pub kind_of : {X : Type 0} {g : Ghosts X} → Option (Stand X g) → Kind

@@ -1,5 +1,5 @@
 //! A cell is bound: what stood inside its right side goes.
-ghost use Rattle.std.specs.Prelude.{◌≡◌, ◌≤◌, ◌+◌, ◌⊎◌, ℕ, List, true, IfOk, IfErr, IfSome, OnOk, vec_len, vec_capacity};
+ghost use Rattle.std.specs.Prelude.{◌≡◌, ◌≤◌, ◌+◌, ◌⊎◌, ℕ, List, true, false, IfOk, IfErr, IfSome, MatchOption, OnOk, vec_len, vec_capacity};
 ghost use Rattle.orc_rules.specs.Nodes.{code, definitions};
 ghost use Rattle.orc_rules.specs.Timed.{IsIn};
 ghost use Rattle.orc_rules.specs.declared.value.Value.{Value as ValueOf};
@@ -10,6 +10,7 @@ ghost use Rattle.orc_ledger_spec.specs.Moves.{Moves};
 ghost use Rattle.orc_ledger_spec.specs.declared.results.Moved.TheVariants as moved;
 ghost use Rattle.orc_word.specs.Views.{group_of};
 ghost use Rattle.orc_book.specs.Held.{IsToken, HasWinner, bag};
+ghost use Rattle.orc_book.specs.Refusals.{is_bind, IsRefusedBind};
 ghost use Rattle.orc_book.specs.Words.{HaveDied};
 
 use crate::book::Book;
@@ -55,7 +56,8 @@ impl<P: Program + Naming> Book<P> {
     // The cell that a token binds next, if it does.
     fn binds_next(&self, graph: &Graph, its: &Record) -> Option<u64>
         requires graph { graph.now ≡ P.listing }
-        ensures { IfSome result (λ c. (v : ValueOf) × (what_of (code P.listing) (definitions P.listing) self.now.ledger its.now ≡ Action.Bind c v)) }
+        ensures says { MatchOption result (is_bind (what_of (code P.listing) (definitions P.listing) self.now.ledger its.now) ≡ false) (λ _. is_bind (what_of (code P.listing) (definitions P.listing) self.now.ledger its.now) ≡ true) }
+        ensures cell { IfSome result (λ c. (v : ValueOf) × (what_of (code P.listing) (definitions P.listing) self.now.ledger its.now ≡ Action.Bind c v)) }
     {
         match self.ledger.what(graph, its) {
             Action::Bind(cell, _) => Some(cell),
@@ -64,7 +66,8 @@ impl<P: Program + Naming> Book<P> {
     }
 
     /// A cell takes what the token publishes: all that stands inside its right side goes. The token's pass has won the mark that its group is killed, and
-    /// is to be left with those of all records that went.
+    /// is to be left with those of all records that went. Refused as Gone where the token isn't out or the mark was set already, as Wrong where it does something
+    /// else next, as Full, Limit or Memory where the ledger refuses the entry for that or memory is refused.
     pub fn bind(
         &mut self,
         groups: &Groups<P>,
@@ -77,6 +80,7 @@ impl<P: Program + Naming> Book<P> {
         ensures stands { OnOk result (HaveDied self.new.ledger self.old.stands self.new.stands) }
         ensures won { OnOk result (HasWinner leave.new.items (group_of token.pass)) }
         ensures refused { IfErr result (λ r. (self.new ≡ self.old) × (r.back.serial ≡ token.serial) × (r.back.slot ≡ token.slot) × (group_of r.back.pass ≡ group_of token.pass)) }
+        ensures why { IfErr result (λ r. IsRefusedBind P.listing self.old token r.back.pass r.why) }
     {
         let found = match self.find(&token) {
             Ok(found) => found,
@@ -88,9 +92,9 @@ impl<P: Program + Naming> Book<P> {
                 back: token,
             });
         };
-        if self.ledger.entries() >= self.ledger.limit() {
+        if let Err(fault) = self.ledger.within(0, 0, 0) {
             return Err(Refused {
-                why: BookFault::Limit,
+                why: fault_of(fault),
                 back: token,
             });
         }

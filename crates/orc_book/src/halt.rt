@@ -10,6 +10,7 @@ ghost use Rattle.orc_ledger_spec.specs.declared.results.Halted.{Halted as ItsHal
 ghost use Rattle.orc_tables.specs.declared.records.Token.{Token as Its};
 ghost use Rattle.orc_book.specs.Held.{IsToken};
 ghost use Rattle.orc_book.specs.Ends.{FreesWord, HasEnded};
+ghost use Rattle.orc_book.specs.Refusals.{IsRefusedGroup, IsRefusedHalt};
 ghost use Rattle.orc_book.specs.Words.{kind_at};
 
 use crate::bind::reserve_all;
@@ -37,7 +38,9 @@ pub enum Ended<P: Naming> {
 }
 
 impl<P: Program + Naming> Book<P> {
-    /// A group that was left last is closed. Its word is free again, and its pass to the group round it is to be left, if it had one.
+    /// A group that was left last is closed. Its word is free again, and its pass to the group round it is to be left, if it had one. Refused as Gone where the
+    /// word stands for no group that is there, as Live where somebody is in that still, as Full or Limit where the ledger refuses the entry for that, else as
+    /// Memory.
     pub fn halt(
         &mut self,
         last: Last<P>,
@@ -48,6 +51,7 @@ impl<P: Program + Naming> Book<P> {
         ensures born { IfOk result (HasEnded self.new) }
         ensures run { IfOk result (λ e. e ≡ Ended.Run → (p : Place) → IsAt P.listing P.sites self.new.ledger p → HasStopped (erase p.marked)) }
         ensures refused { IfErr result (λ r. (self.new ≡ self.old) × (r.back ≡ last)) }
+        ensures why { IfErr result (λ r. IsRefusedHalt self.old.ledger (kind_at self.old.stands last.group) r.why) }
     {
         let word = last.group();
         match self.words.kind(word) {
@@ -99,6 +103,7 @@ impl<P: Program + Naming> Book<P> {
         ensures born { IfOk result (HasEnded self.new) }
         ensures side { IfOk result (λ e. e ≡ Ended.Run → ⊥) }
         ensures refused { OnErr result (self.new ≡ self.old) }
+        ensures why { IfErr result (λ why. IsRefusedGroup self.old.ledger number why) }
     {
         if reserve_all(&self.posts, leave).is_err() {
             return Err(BookFault::Memory);

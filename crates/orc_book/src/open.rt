@@ -7,7 +7,8 @@ ghost use Rattle.orc_ledger_spec.specs.Moves.{Moves};
 ghost use Rattle.orc_ledger_spec.specs.declared.results.Moved.TheVariants as moved;
 ghost use Rattle.orc_word.specs.Views.{group_of};
 ghost use Rattle.orc_book.specs.Held.{Hold, IsToken, IsOut, HasStayed, Changes, Same};
-ghost use Rattle.orc_book.specs.Words.{OpensWord};
+ghost use Rattle.orc_book.specs.Refusals.{is_prune, is_other, IsRefusedOpening};
+ghost use Rattle.orc_book.specs.Words.{OpensWord, HasNoWord};
 
 use crate::book::Book;
 use crate::post::{bring_at, grow_to, put_at, raise_at, reserve_opening};
@@ -26,7 +27,7 @@ struct Opened<P: Naming> {
     pass: Pass<P>,
 }
 
-// An idle pass names a word that is free. The fault is Full where no word is, and Live where somebody names it meanwhile.
+// An idle pass names a word that is free. The fault is that of `next` where no word is, and Live where somebody names it meanwhile.
 fn open_word<P: Naming>(
     words: &WordTable<P>,
     groups: &Groups<P>,
@@ -37,12 +38,11 @@ fn open_word<P: Naming>(
     ensures next { IfOk result (λ o. o.word ≡ words.now.next) }
     ensures few { OnOk result (words.now.next < P.table.words) }
     ensures refused { IfErr result (λ r. r.back ≡ idle) }
+    ensures why { IfErr result (λ r. HasNoWord words.now.kinds P.table.words r.why) }
 {
-    let Some(word) = words.next() else {
-        return Err(Refused {
-            why: BookFault::Full,
-            back: idle,
-        });
+    let word = match words.next() {
+        Ok(word) => word,
+        Err(why) => return Err(Refused { why, back: idle }),
     };
     match groups.open(idle, word) {
         Ok(pass) => Ok(Opened { word, pass }),
@@ -57,7 +57,8 @@ impl<P: Program + Naming> Book<P> {
     // Whether a token opens a pruning next.
     fn prunes_next(&self, graph: &Graph, its: &Record) -> bool
         requires graph { graph.now ≡ P.listing }
-        ensures { result ≡ true → what_of (code P.listing) (definitions P.listing) self.now.ledger its.now ≡ Action.Prune }
+        ensures says { result ≡ is_prune (what_of (code P.listing) (definitions P.listing) self.now.ledger its.now) }
+        ensures next { result ≡ true → what_of (code P.listing) (definitions P.listing) self.now.ledger its.now ≡ Action.Prune }
     {
         match self.ledger.what(graph, its) {
             Action::Prune => true,
@@ -68,7 +69,8 @@ impl<P: Program + Naming> Book<P> {
     // Whether a token enters the left side of an otherwise next.
     fn tries_next(&self, graph: &Graph, its: &Record) -> bool
         requires graph { graph.now ≡ P.listing }
-        ensures { result ≡ true → what_of (code P.listing) (definitions P.listing) self.now.ledger its.now ≡ Action.Other }
+        ensures says { result ≡ is_other (what_of (code P.listing) (definitions P.listing) self.now.ledger its.now) }
+        ensures next { result ≡ true → what_of (code P.listing) (definitions P.listing) self.now.ledger its.now ≡ Action.Other }
     {
         match self.ledger.what(graph, its) {
             Action::Other => true,
@@ -77,7 +79,8 @@ impl<P: Program + Naming> Book<P> {
     }
 
     /// A token at `f <x< g`: one on each side is out in its place, the left one with its pass, the right one with `idle`, which opens the new group's word.
-    /// The book holds `same` for that group, which names the token's.
+    /// The book holds `same` for that group, which names the token's. Refused as Gone where the token isn't out, as Wrong where it does something else next, as
+    /// Full or Limit where the ledger is at one, as Full too where no word is free, as Live where the free word is still named, else as Memory.
     pub fn prune(
         &mut self,
         groups: &Groups<P>,
@@ -93,6 +96,7 @@ impl<P: Program + Naming> Book<P> {
         ensures born { IfOk result (λ two. IsOut self.new two.0 × IsOut self.new two.1) }
         ensures word { IfOk result (λ two. OpensWord self.old two.1 self.new) }
         ensures refused { IfErr result (λ r. HasStayed self.old self.new × (r.back.0 ≡ token) × (r.back.1 ≡ same) × (group_of r.back.2 ≡ None)) }
+        ensures why { IfErr result (λ r. IsRefusedOpening P.listing self.old token P.table.words is_prune r.why) }
     {
         let found = match self.find(&token) {
             Ok(found) => found,
@@ -108,10 +112,10 @@ impl<P: Program + Naming> Book<P> {
                 back,
             });
         }
-        if self.ledger.entries() >= self.ledger.limit() {
+        if let Err(fault) = self.ledger.within(1, 1, 0) {
             let back = (token, same, idle);
             return Err(Refused {
-                why: BookFault::Limit,
+                why: fault_of(fault),
                 back,
             });
         }
@@ -165,7 +169,7 @@ impl<P: Program + Naming> Book<P> {
     }
 
     /// A token at `f ; g`: one on the left side is out in its place, with `idle`, which opens the new group's word. The book holds the token's pass for that
-    /// group.
+    /// group. Refused for the causes for which `prune` is.
     pub fn other(
         &mut self,
         groups: &Groups<P>,
@@ -179,6 +183,7 @@ impl<P: Program + Naming> Book<P> {
         ensures born { IfOk result (λ b. IsOut self.new b) }
         ensures word { IfOk result (λ b. OpensWord self.old b self.new) }
         ensures refused { IfErr result (λ r. HasStayed self.old self.new × (r.back.0 ≡ token) × (group_of r.back.1 ≡ None)) }
+        ensures why { IfErr result (λ r. IsRefusedOpening P.listing self.old token P.table.words is_other r.why) }
     {
         let found = match self.find(&token) {
             Ok(found) => found,
@@ -194,10 +199,10 @@ impl<P: Program + Naming> Book<P> {
                 back,
             });
         }
-        if self.ledger.entries() >= self.ledger.limit() {
+        if let Err(fault) = self.ledger.within(0, 1, 0) {
             let back = (token, idle);
             return Err(Refused {
-                why: BookFault::Limit,
+                why: fault_of(fault),
                 back,
             });
         }

@@ -2,7 +2,7 @@
 ghost use Rattle.std.specs.Prelude.{◌≡◌, ◌≤◌, ◌+◌, ◌⊎◌, List, vec_len, vec_capacity, IfErr, OnOk};
 ghost use Rattle.orc_tables.specs.declared.records.Token.{Token as Its};
 ghost use Rattle.orc_book.specs.Held.{HasStayed, AreBorn};
-ghost use Rattle.orc_book.specs.Refusals.{is_end, is_fork, is_onward, is_opening, IsTaken, IsRefusedMove, IsRefusedStep};
+ghost use Rattle.orc_book.specs.Refusals.{is_end, is_fork, is_onward, is_opening, is_other, is_prune, IsTaken, IsRefusedMove, IsRefusedStep, IsUnopened};
 ghost use Rattle.orc_word.specs.declared.view.View.{View};
 ghost use Rattle.orc_ledger_spec.specs.Moves.{IsHindered};
 ghost use Rattle.orc_book.specs.Stepping.{HasStepped, AreLeft};
@@ -22,8 +22,8 @@ impl<P: Program + Naming> Book<P> {
     /// and passes to leave are added to `out`.
     ///
     /// Refused as Gone where the token isn't out, as Wrong where it does something else next, as Short where `births` has not the passes that the move needs,
-    /// as Full or Limit where the move is over a limit, as Memory where memory is refused, and as Live where a free word is still named. Then the records are as
-    /// they were, and `back` is the token. No clause says yet why one is refused that opens a group, at a pruning or an otherwise.
+    /// as Full or Limit where the move is over a limit, as Full too where a group is opened and no word is free, as Live where the free word is still named, and as
+    /// Memory where memory is refused. Then the records are as they were, and `back` is the token.
     pub fn step(
         &mut self,
         groups: &Groups<P>,
@@ -39,7 +39,7 @@ impl<P: Program + Naming> Book<P> {
         ensures leave { OnOk result (AreLeft out.old.leave.items out.new.leave.items) }
         ensures cancelled { out.new.cancelled ≡ out.old.cancelled }
         ensures refused { IfErr result (λ r. HasStayed self.old self.new × (r.back ≡ token) × (out.new.born.items ≡ out.old.born.items) × (out.new.leave.items ≡ out.old.leave.items)) }
-        ensures why { IfErr result (λ r. ((t : Its) × IsTaken P.listing self.old token is_opening t) ⊎ IsRefusedStep P.listing self.old token births.old.same.items births.old.idle.items r.why) }
+        ensures why { IfErr result (λ r. IsUnopened P.listing self.old token P.table.words is_opening r.why ⊎ IsRefusedStep P.listing self.old token births.old.same.items births.old.idle.items r.why) }
     {
         let found = match self.find(&token) {
             Ok(found) => found,
@@ -162,6 +162,7 @@ impl<P: Program + Naming> Book<P> {
         out: &mut StepOut<P>,
     ) -> Result<(), Refused<Token<P>>>
         requires graph { graph.now ≡ P.listing }
+        requires taken { (t : Its) × IsTaken P.listing self.old token is_prune t }
         requires tokens { vec_len out.old.born + 2 ≤ vec_capacity out.old.born }
         ensures done { OnOk result (HasStepped P.listing self.old token.slot token.serial token.pass self.new) }
         ensures stands { HaveOpened self.old.stands self.new.stands }
@@ -169,6 +170,7 @@ impl<P: Program + Naming> Book<P> {
         ensures leave { out.new.leave ≡ out.old.leave }
         ensures cancelled { out.new.cancelled ≡ out.old.cancelled }
         ensures refused { IfErr result (λ r. HasStayed self.old self.new × (r.back ≡ token) × (out.new.born ≡ out.old.born)) }
+        ensures why { IfErr result (λ r. IsUnopened P.listing self.old token P.table.words is_opening r.why ⊎ IsRefusedStep P.listing self.old token births.old.same.items births.old.idle.items r.why) }
     {
         let Some(same) = births.take_same(token.pass.group()) else {
             let why = BookFault::Short;
@@ -206,6 +208,7 @@ impl<P: Program + Naming> Book<P> {
         out: &mut StepOut<P>,
     ) -> Result<(), Refused<Token<P>>>
         requires graph { graph.now ≡ P.listing }
+        requires taken { (t : Its) × IsTaken P.listing self.old token is_other t }
         requires tokens { vec_len out.old.born + 2 ≤ vec_capacity out.old.born }
         ensures done { OnOk result (HasStepped P.listing self.old token.slot token.serial token.pass self.new) }
         ensures stands { HaveOpened self.old.stands self.new.stands }
@@ -213,6 +216,7 @@ impl<P: Program + Naming> Book<P> {
         ensures leave { out.new.leave ≡ out.old.leave }
         ensures cancelled { out.new.cancelled ≡ out.old.cancelled }
         ensures refused { IfErr result (λ r. HasStayed self.old self.new × (r.back ≡ token) × (out.new.born ≡ out.old.born)) }
+        ensures why { IfErr result (λ r. IsUnopened P.listing self.old token P.table.words is_opening r.why ⊎ IsRefusedStep P.listing self.old token births.old.same.items births.old.idle.items r.why) }
     {
         let Some(idle) = births.take_idle() else {
             let why = BookFault::Short;

@@ -2,6 +2,7 @@
 ghost use Rattle.std.specs.Prelude.{◌≡◌, Some};
 ghost use Rattle.orc_book.specs.Held.{owed_to};
 
+use crate::token::BookFault;
 use orc_word::{Naming, Pass};
 use slab::Slab;
 use std::alloc::{AllocError, Global};
@@ -52,9 +53,9 @@ impl<P: Naming> Model for WordTable<P> {
 }
 
 impl<P: Naming> WordTable<P> {
-    ghost use Rattle.std.specs.Prelude.{◌<◌, ℕ, IfOk, IfSome, IsSome, []};
+    ghost use Rattle.std.specs.Prelude.{◌<◌, ℕ, IfOk, IfErr, IfSome, IsSome, []};
     ghost use Rattle.orc_word.specs.Views.{group_of};
-    ghost use Rattle.orc_book.specs.Words.{IsOpened, Turns, kind_at};
+    ghost use Rattle.orc_book.specs.Words.{IsOpened, Turns, HasNoWord, kind_at};
 
     /// So many words: the first stands for the program's own group, the others are free.
     pub(crate) fn new(alloc: Global, count: u32) -> Result<WordTable<P>, AllocError>
@@ -72,15 +73,21 @@ impl<P: Naming> WordTable<P> {
         })
     }
 
-    /// The free word that `open` takes, if there is one.
-    pub(crate) fn next(&self) -> Option<u32>
-        ensures { IfSome result (λ word. (word ≡ self.now.next) × (word < P.table.words) × (kind_at self.now.kinds word ≡ Kind.Free)) }
+    /// The free word that `open` takes. The fault is Full where as many words are taken as there are. Memory is that of a slab whose next key lies past the
+    /// words though one is free: no clause of the slab's rules it out.
+    #[tactic(auto, using(crate::proofs::Entries::taken_some))]
+    pub(crate) fn next(&self) -> Result<u32, BookFault>
+        ensures word { IfOk result (λ word. (word ≡ self.now.next) × (word < P.table.words) × (kind_at self.now.kinds word ≡ Kind.Free)) }
+        ensures why { IfErr result (HasNoWord self.now.kinds P.table.words) }
     {
+        if self.stands.len() >= self.count as usize {
+            return Err(BookFault::Full);
+        }
         let key = self.stands.vacant_key();
         if key < self.count as usize {
-            Some(key as u32)
+            Ok(key as u32)
         } else {
-            None
+            Err(BookFault::Memory)
         }
     }
 

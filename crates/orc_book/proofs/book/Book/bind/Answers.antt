@@ -12,7 +12,7 @@ clear_missing-requires-clause-loose g c =
     let b = c.self.inside in
     let l = g.P.Program.listing in
     let t = c.in-Ok.found.its in
-    let w = c.in-Some.ensures in
+    let w = c.in-Some.ensures.cell in
     let D = drops l b.ledger c.args.token.slot t c.advance.new.self _ c.in-Some._cell w.0 c.in-Ok-advance._bound (rw (← c.self.view_is) at w.1) c.in-Ok-advance.ensures.done in
     dropped-loose l g.P.Program.sites b.ledger c.stands.ensures.lawful c.stands.ensures.grouped c.in-Some._cell (bound.Is w.0) c.advance.new.self D c.stands-in-Ok-advance.ensures.lawful c.stands-in-Ok-advance.ensures.grouped b.posts.items c.self.invariant
 

@@ -1,12 +1,15 @@
 use Rattle.std.proofs.Common.{◌≡◌, ◌+◌, ◌<◌, ℕ, arith, refl, ap, sym, ◌∙◌, subst, Some, length}
 use Rattle.orc_rules.specs.Timed.{IsIn}
 use Rattle.orc_ledger_spec.specs.Calls.{IsFree}
-use Rattle.orc_ledger_spec.specs.Moves.{Moves}
+use Rattle.orc_ledger_spec.specs.Moves.{Moves, Hinders, IsHindered}
+use Rattle.orc_ledger_spec.specs.declared.faults.LedgerFault.TheVariants as ledger
 use Rattle.orc_tables.specs.Steps.{group_at}
 use Rattle.orc_tables.specs.declared.records.Token.{Token}
 use Rattle.orc_ledger_spec.proofs.Nests.{group-end}
 use Rattle.orc_word.specs.Views.{group_of}
 use Rattle.orc_book.specs.Held.{AreHeld, Becomes, HasStayed, held_at, out_at, word_at, passes_of, out_of, word_of}
+use Rattle.orc_book.specs.Refusals.{is_other}
+use Rattle.orc_book.proofs.Causes.{not-opened}
 use Rattle.orc_book.proofs.Ones.{roomy-held, one-slot}
 use Rattle.orc_book.proofs.Moving.{tried-held}
 use Rattle.orc_book.proofs.Grown.{grown-held, stayed-grown}
@@ -89,7 +92,7 @@ grow_to-requires-clause-number g c =
     let s' = c.advance.new.self in
     let t = c.in-Ok.found.its in
     let m = subst (λ m. Moves l s c.args.token.slot t m c.advance.new.cancelled.items s') c.in-Ok-On.field-0-is c.in-Ok-On.ensures.done in
-    let O = tried l s c.args.token.slot t s' _ (rw (← c.self.view_is) at (c.tries_next.ensures c.if-not-tries_next.false)) m in
+    let O = tried l s c.args.token.slot t s' _ (rw (← c.self.view_is) at (c.tries_next.ensures.next c.if-not-tries_next.false)) m in
     let number : ℕ = O.number in
     let F : IsFree s number = O.free in
     let T = O.done in
@@ -132,7 +135,7 @@ raise_at-requires-clause-empty g c =
     let n : ℕ = c.in-Ok.found.group in
     let at : n ≡ group_at s.steps t.step = rw (← c.self.view_is) at c.in-Ok.ensures.group in
     let m = subst (λ m. Moves l s c.args.token.slot t m c.advance.new.cancelled.items s') c.in-Ok-On.field-0-is c.in-Ok-On.ensures.done in
-    let O = tried l s c.args.token.slot t s' _ (rw (← c.self.view_is) at (c.tries_next.ensures c.if-not-tries_next.false)) m in
+    let O = tried l s c.args.token.slot t s' _ (rw (← c.self.view_is) at (c.tries_next.ensures.next c.if-not-tries_next.false)) m in
     let number : ℕ = O.number in
     let F : IsFree s number = O.free in
     let T = O.done in
@@ -163,7 +166,7 @@ invariant_of-self-in-Ok-On g c =
     let n : ℕ = c.in-Ok.found.group in
     let at : n ≡ group_at s.steps t.step = rw (← c.self.view_is) at c.in-Ok.ensures.group in
     let m = subst (λ m. Moves l s c.args.token.slot t m c.advance.new.cancelled.items s') c.in-Ok-On.field-0-is c.in-Ok-On.ensures.done in
-    let O = tried l s c.args.token.slot t s' _ (rw (← c.self.view_is) at (c.tries_next.ensures c.if-not-tries_next.false)) m in
+    let O = tried l s c.args.token.slot t s' _ (rw (← c.self.view_is) at (c.tries_next.ensures.next c.if-not-tries_next.false)) m in
     let number : ℕ = O.number in
     let F : IsFree s number = O.free in
     let T = O.done in
@@ -201,7 +204,7 @@ born-requires g c =
     let n : ℕ = c.in-Ok.found.group in
     let at : n ≡ group_at s.steps t.step = rw (← c.self.view_is) at c.in-Ok.ensures.group in
     let m = subst (λ m. Moves l s c.args.token.slot t m c.advance.new.cancelled.items s') c.in-Ok-On.field-0-is c.in-Ok-On.ensures.done in
-    let O = tried l s c.args.token.slot t s' _ (rw (← c.self.view_is) at (c.tries_next.ensures c.if-not-tries_next.false)) m in
+    let O = tried l s c.args.token.slot t s' _ (rw (← c.self.view_is) at (c.tries_next.ensures.next c.if-not-tries_next.false)) m in
     let number : ℕ = O.number in
     let F : IsFree s number = O.free in
     let T = O.done in
@@ -234,8 +237,8 @@ unreachable-requires g c =
     let n : ℕ = c.in-Ok.found.group in
     let at : n ≡ group_at s.steps t.step = rw (← c.self.view_is) at c.in-Ok.ensures.group in
     let m = subst (λ m. Moves l s c.args.token.slot t m c.advance.new.cancelled.items s') c.in-Ok-On.field-0-is c.in-Ok-On.ensures.done in
-    let O = tried l s c.args.token.slot t s' _ (rw (← c.self.view_is) at (c.tries_next.ensures c.if-not-tries_next.false)) m in
-    c.in_default.ensures.none _ O.held
+    let O = tried l s c.args.token.slot t s' _ (rw (← c.self.view_is) at (c.tries_next.ensures.next c.if-not-tries_next.false)) m in
+    c.in_default-held.ensures.none _ O.held
 
 pub reserve_opening-requires-clause-few : goal.reserve_opening-requires-clause-few
 reserve_opening-requires-clause-few g c = c.self.invariant.few
@@ -253,3 +256,11 @@ returns-in-Some-clause-word g c =
     let D = c.raise_at.ensures in
     let named : word_at ps3 c.group_of_token-number.result ≡ c.in-Ok-open_word.opened.word = mine-at word_of _ ps3 _ D.0 D.1 D.2 ∙ D.3 in
     rw (← c.self.view_is) (opens-word (record { ledger = b.ledger; posts = b.posts.items; stands = b.words.kinds }) (record { ledger = s'; posts = ps3; stands = c.open.new.self.kinds }) c.born.result c.in-Some.inner c.args.token.slot c.group_of_token-number.result c.in-Ok-open_word.opened.word b.words.next c.born.ensures.token c.born.ensures.same.0 c.in-Some.ensures.held.0 c.group_of_token-number.ensures named c.in-Ok-open_word.ensures.next c.open.ensures)
+
+pub returns-in-Err-open_word-clause-why : goal.returns-in-Err-open_word-clause-why
+returns-in-Err-open_word-clause-why g c =
+    let l = g.P.Program.listing in
+    let b = c.args.self.now in
+    let t = c.in-Ok.found.its in
+    let free : IsHindered l b.ledger t ledger.Memory = subst (λ a. Hinders b.ledger t a ledger.Memory) (sym (c.tries_next.ensures.next c.if-not-tries_next.false)) (rw (← c.self.view_is) (c.in_default.ensures.places, c.in_default.ensures.room)) in
+    not-opened l b c.args.token g.P.Naming.table.words is_other t (c.in-Ok.ensures.found, sym c.tries_next.ensures.says ∙ c.if-not-tries_next.false) free _ (rw (← c.self.view_is) c.in-Err-open_word.ensures.why)
