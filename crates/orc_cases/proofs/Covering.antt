@@ -1,23 +1,23 @@
 -- Which numbers intervals have.
-use Rattle.std.proofs.Common.{◌≡◌, ◌≤◌, ◌<◌, ℕ, suc, ◌+◌, List, [], ◌∷◌, Bool, true, false, cond, refl, sym, ap, ◌∙◌, arith, nat_cmp}
+use Rattle.std.proofs.Common.{◌≡◌, ◌≤◌, ◌<◌, ℕ, suc, ◌+◌, List, [], ◌∷◌, Bool, true, false, cond, refl, ap, ◌∙◌, arith}
 use Rattle.std.specs.Prelude.{◌||◌, ◌&&◌, ◌-◌, leb, nat_eq, nat_lt}
 use Rattle.std.specs.List.{list_any}
-use Rattle.std.specs.List.Sorted.{IsNonDecreasing, IsPermutation, IsSorted}
+use Rattle.std.specs.List.Sorted.{IsNonDecreasing}
 use Rattle.std.proofs.lemmas.Bool.Decides.{nat_tests}
-use Rattle.std.proofs.lemmas.List.Sorted.{IsNonDecreasingBy-drop, IsNonDecreasingBy-from_sort, list_any-IsPermutation}
-use Rattle.orc_cases.specs.Intervals.{AreOf, alone, intervals, is_within, runs}
+use Rattle.std.proofs.lemmas.List.Sorted.{IsNonDecreasingBy-drop}
+use Rattle.orc_cases.specs.Intervals.{alone, is_within, runs}
 use Rattle.orc_cases.specs.declared.intervals.Interval.{Interval}
 
 -- each is at least the one before it
-abbrev Rises : ℕ → List ℕ → Type 0
+abbrev pub Rises : ℕ → List ℕ → Type 0
 Rises m [] = Unit {0}
 Rises m (n ∷ ns) = (m ≤ n) × Rises n ns
 
-rises : (m : ℕ) (ns : List ℕ) → IsNonDecreasing (m ∷ ns) → Rises m ns
+pub rises : (m : ℕ) (ns : List ℕ) → IsNonDecreasing (m ∷ ns) → Rises m ns
 rises m [] h = tt
 rises m (n ∷ ns) h = (h 0 1 0 (omega arith) (omega arith), rises n ns (IsNonDecreasingBy-drop (λ x. x) 1 (m ∷ n ∷ ns) h))
 
-rises_from : (a m : ℕ) (ns : List ℕ) → a ≤ m → Rises m ns → Rises a ns
+pub rises_from : (a m : ℕ) (ns : List ℕ) → a ≤ m → Rises m ns → Rises a ns
 rises_from a m [] le up = tt
 rises_from a m (n ∷ ns) le up = let first = up.0 in (omega arith, up.1)
 
@@ -37,13 +37,13 @@ in_it n m i le one other e = grind (arith, nat_tests)
 one_longer : (n m : ℕ) (i : Interval) → i.first ≤ i.last → i.last < m → m ≤ i.last + 1 → is_within n (record { first = i.first; last = m }) ≡ (is_within n i || nat_eq n m)
 one_longer n m i le one other = grind (arith, nat_tests)
 
-alone_is : (n m : ℕ) → is_within n (alone m) ≡ nat_eq n m
+pub alone_is : (n m : ℕ) → is_within n (alone m) ≡ nat_eq n m
 alone_is n m = grind (arith, nat_tests)
 
-not_over : (a b : ℕ) → nat_lt a b ≡ false → b ≤ a
+pub not_over : (a b : ℕ) → nat_lt a b ≡ false → b ≤ a
 not_over a b e = grind (arith, nat_tests)
 
-is_over : (a b : ℕ) → nat_lt a b ≡ true → a < b
+pub is_over : (a b : ℕ) → nat_lt a b ≡ true → a < b
 is_over a b e = grind (arith, nat_tests)
 
 is_next : (a b : ℕ) → nat_eq (b - 1) a ≡ true → b ≤ a + 1
@@ -65,7 +65,8 @@ turn n m i more longer others same le up of_longer of_others of_same = by_over (
     by_over true e = by_next (nat_eq (m - 1) i.last) refl (is_over i.last m e)
     by_over false e = of_same ∙ absorb (is_within n i) (nat_eq n m) more (in_it n m i le up (not_over i.last m e))
 
-runs_have : (n : ℕ) (i : Interval) (ns : List ℕ) → i.first ≤ i.last → Rises i.last ns → list_any (is_within n) (runs i ns) ≡ (is_within n i || list_any (nat_eq n) ns)
+-- intervals have the numbers of the first one, and those behind it
+pub runs_have : (n : ℕ) (i : Interval) (ns : List ℕ) → i.first ≤ i.last → Rises i.last ns → list_any (is_within n) (runs i ns) ≡ (is_within n i || list_any (nat_eq n) ns)
 runs_have n i [] le up = refl
 runs_have n i (m ∷ ns) le up =
     let first = up.0 in
@@ -73,16 +74,3 @@ runs_have n i (m ∷ ns) le up =
     let one : m ≤ m = omega arith in
     turn n m i (list_any (nat_eq n) ns) (runs (record { first = i.first; last = m }) ns) (runs (alone m) ns) (runs i ns) le first
     (runs_have n (record { first = i.first; last = m }) ns long up.1) (runs_have n (alone m) ns one up.1) (runs_have n i ns le (rises_from i.last m ns first up.1))
-
-intervals_are : (ns : List ℕ) → IsNonDecreasing ns → AreOf ns (intervals ns)
-intervals_are [] up n = refl
-intervals_are (m ∷ ns) up n =
-    let one : m ≤ m = omega arith in
-    runs_have n (alone m) ns one (rises m ns up) ∙ ap (λ (b : Bool). b || list_any (nat_eq n) ns) (alone_is n m)
-
--- the intervals of numbers that were put in order have these numbers
-pub sorted_are : (ns ms : List ℕ) (is : List Interval) → IsPermutation ns ms → IsSorted nat_cmp ms → is ≡ intervals ms → AreOf ns is
-sorted_are ns ms is moved sorted same n =
-    ap (λ (js : List Interval). list_any (is_within n) js) same
-    ∙ intervals_are ms (IsNonDecreasingBy-from_sort (λ x. x) ms sorted) n
-    ∙ sym (list_any-IsPermutation (nat_eq n) ns ms moved)

@@ -1,5 +1,6 @@
 pub mod Lists
 pub mod Covering
+pub mod Ascending
 pub mod Capped
 pub mod Sizing
 pub mod Lengths
@@ -9,5 +10,6 @@ pub mod Numbers
 pub mod Places
 pub mod Steps
 pub mod Limit
+pub mod Ranged
 pub mod Once
 pub mod Cases

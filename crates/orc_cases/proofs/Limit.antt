@@ -83,14 +83,21 @@ module _ (f : Frame) (numbers : List ℕ) (o : IsOrdered f numbers) where
   pub number_within : (k n : ℕ) → k < length numbers → n ≡ get_or numbers k n → n < f.count
   number_within k n lt e = below_at f.count numbers k n o.below (there k n lt e)
 
-  pub some_unusual : (k n : ℕ) → k < length numbers → n ≡ get_or numbers k n → lines_text true (lines_from f.lines.items) (way_at (all_choices_of f.lines.items) n) ≡ unusual (ways_from f) k
-  some_unusual k n lt e =
+  pub way_there : (k n : ℕ) → k < length numbers → n ≡ get_or numbers k n → slice_get (ways (ways_from f)) k ≡ Some (way_at (all_choices_of f.lines.items) n)
+  way_there k n lt e =
       let less = number_within k n lt e in
       let c = o.counted in
       let le : n < length (combinations (all_choices_of f.lines.items)) = omega arith in
-      let at : slice_get (ways (ways_from f)) k ≡ Some (way_at (all_choices_of f.lines.items) n) =
-      ap (λ (ws : List Way). slice_get ws k) (sym o.placed) ∙ get_picked (combinations (all_choices_of f.lines.items)) numbers k n below (there k n lt e) ∙ number_is (all_choices_of f.lines.items) n le in
-      ap (λ (w : Option Way). shown_or_none (ways_from f) w) (sym at)
+      ap (λ (ws : List Way). slice_get ws k) (sym o.placed) ∙ get_picked (combinations (all_choices_of f.lines.items)) numbers k n below (there k n lt e) ∙ number_is (all_choices_of f.lines.items) n le
+
+  pub none_there : (k : ℕ) → length numbers ≤ k → slice_get (ways (ways_from f)) k ≡ None
+  none_there k le = slice_get_past (ways (ways_from f)) k (let e = count_is in omega arith)
+
+  pub all_there : map (way_at (all_choices_of f.lines.items)) numbers ≡ ways (ways_from f)
+  all_there = sym (picked_is (all_choices_of f.lines.items) numbers below) ∙ o.placed
+
+  pub some_unusual : (k n : ℕ) → k < length numbers → n ≡ get_or numbers k n → lines_text true (lines_from f.lines.items) (way_at (all_choices_of f.lines.items) n) ≡ unusual (ways_from f) k
+  some_unusual k n lt e = ap (λ (w : Option Way). shown_or_none (ways_from f) w) (sym (way_there k n lt e))
 
   pub none_unusual : (k : ℕ) → length numbers ≤ k → [] ≡ unusual (ways_from f) k
-  none_unusual k le = ap (λ (w : Option Way). shown_or_none (ways_from f) w) (sym (slice_get_past (ways (ways_from f)) k (let e = count_is in omega arith)))
+  none_unusual k le = ap (λ (w : Option Way). shown_or_none (ways_from f) w) (sym (none_there k le))

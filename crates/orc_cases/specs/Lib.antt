@@ -5,6 +5,7 @@ pub mod Texts
 pub mod Ways
 pub mod Places
 pub mod Ranges
+pub mod Failing
 pub mod Weights
 pub mod Sizes
 pub mod Digits

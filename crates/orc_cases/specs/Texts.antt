@@ -50,6 +50,11 @@ answer_text (After (Value v) d) = value_text v ++ after_text d
 answer_text (After Halt d) = codes "halt" ++ after_text d
 answer_text Never = codes "never"
 
+-- what stands before the answer to the call at a place
+abbrev pub mark : ℕ → List ℕ
+mark zero = codes " = "
+mark (suc n) = codes " then "
+
 -- answers after the first one
 abbrev pub more_answers : List Found → List ℕ
 more_answers [] = codes "\n"

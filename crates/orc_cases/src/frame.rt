@@ -4,6 +4,7 @@ ghost use Rattle.std.specs.Prelude.{◌≡◌, ◌++◌, ◌<◌, IfOk, OnOk, le
 ghost use Rattle.orc_ways.specs.Values.{service_of};
 ghost use Rattle.orc_ways.specs.Drafting.{service_lines_of};
 ghost use Rattle.orc_cases.specs.Digits.{way_at};
+ghost use Rattle.orc_cases.specs.Failing.{has_ranged, is_ranged};
 ghost use Rattle.orc_cases.specs.Places.{AreBelow};
 ghost use Rattle.orc_cases.specs.Services.{names, new_names};
 ghost use Rattle.orc_cases.specs.Texts.{answers_text, halts_text};
@@ -147,6 +148,15 @@ fn choice_at(lines: &[Line], count: usize, number: usize, place: usize) -> Optio
     None
 }
 
+fn is_ranged(choice: Option<&Choice>) -> bool
+    ensures { result ≡ is_ranged (option_map (λ c. choice_of c.now) choice.entry) }
+{
+    match choice {
+        Some(choice) => choice.is_ranged,
+        None => false,
+    }
+}
+
 impl Frame {
     /// What the line at a place does in the way of this number; None where there is no such line.
     pub(crate) fn choice(&self, number: usize, place: usize) -> Option<&Choice>
@@ -161,15 +171,22 @@ impl Frame {
     pub(crate) fn has_range(&self, number: usize) -> bool
         requires counted { IsCounted self.now }
         requires within { number < self.now.count }
+        ensures { result ≡ has_ranged 0 (lines_from self.now.lines.items) (way_at (all_choices_of self.now.lines.items) number) }
     {
-        for place in 0..self.lines.len() {
-            if let Some(choice) = self.choice(number, place) {
-                if choice.is_ranged {
-                    return true;
+        let mut place = 0;
+        let mut rest = self.lines.as_slice();
+        loop {
+            match rest {
+                [] => return false,
+                [_line, more @ ..] => {
+                    if is_ranged(self.choice(number, place)) {
+                        return true;
+                    }
+                    place += 1;
+                    rest = more;
                 }
             }
         }
-        false
     }
 
     /// The lines of the way of this number, or those alone that tell it from other ways. The error is refused memory.

@@ -1,16 +1,17 @@
 //! The numbers of ranges with which ways fail.
 
-ghost use Rattle.std.specs.Prelude.{◌≡◌, ◌<◌, IfOk, map, option_map};
+ghost use Rattle.std.specs.Prelude.{◌≡◌, ◌<◌, ◌++◌, IfOk, OnOk, map, option_map};
 ghost use Rattle.orc_cases.specs.Digits.{way_at};
-ghost use Rattle.orc_cases.specs.Intervals.{AreOf};
+ghost use Rattle.orc_cases.specs.Failing.{failing_answer, failing_answers, failing_line, failing_lines};
+ghost use Rattle.orc_cases.specs.Intervals.{ascending, intervals};
 ghost use Rattle.orc_cases.specs.Places.{AreBelow};
 ghost use Rattle.orc_cases.specs.Ranges.{answer_eq, delay_among, delay_in, delays};
-ghost use Rattle.orc_cases.specs.Values.{IsCounted, all_choices_of, choice_of};
+ghost use Rattle.orc_cases.specs.Values.{IsCounted, all_choices_of, choice_of, line_from, lines_from};
 
 use crate::choices::Choice;
-use crate::frame::Frame;
+use crate::frame::{Frame, Line};
 use crate::intervals::{Interval, intervals};
-use crate::text::{push_intervals, push_reply};
+use crate::text::{push_intervals, push_mark, push_reply};
 use orc_rules::value::{Answer, Found};
 use std::alloc::{AllocError, Global};
 
@@ -70,7 +71,7 @@ impl Failing<'_> {
     ) -> Result<Vec<Interval>, AllocError>
         requires counted { IsCounted self.now.frame.now }
         requires below { AreBelow self.now.frame.now.count self.now.numbers.now }
-        ensures { IfOk result (λ is. AreOf (delays line place answer (map (way_at (all_choices_of self.now.frame.now.lines.items)) self.now.numbers.now) self.now.fails.now) is.items) }
+        ensures { IfOk result (λ is. is.items ≡ intervals (ascending (delays line place answer (map (way_at (all_choices_of self.now.frame.now.lines.items)) self.now.numbers.now) self.now.fails.now))) }
     {
         let mut delays = self.delays(alloc, line, place, answer)?;
         delays.sort_unstable();
@@ -89,6 +90,7 @@ impl Failing<'_> {
     ) -> Result<(), AllocError>
         requires counted { IsCounted self.now.frame.now }
         requires below { AreBelow self.now.frame.now.count self.now.numbers.now }
+        ensures { OnOk result (text.new.items ≡ text.old.items ++ failing_answer line place found (map (way_at (all_choices_of self.now.frame.now.lines.items)) self.now.numbers.now) self.now.fails.now) }
     {
         match found {
             Found::Never => text.extend_from_slice(b"never"),
@@ -101,25 +103,56 @@ impl Failing<'_> {
         }
     }
 
-    /// Writes the line of the service at a place, which takes this choice in a way that fails: in place of each number of units stand all those with which
-    /// a way fails. The error is refused memory.
-    fn write_line(
+    // Writes what a line's service answers, to the end of the line.
+    fn write_answers(
         &self,
         alloc: Global,
         line: usize,
-        choice: &Choice,
+        answers: &[Found],
         text: &mut Vec<u8>,
     ) -> Result<(), AllocError>
         requires counted { IsCounted self.now.frame.now }
         requires below { AreBelow self.now.frame.now.count self.now.numbers.now }
+        ensures { OnOk result (text.new.items ≡ text.old.items ++ failing_answers line 0 answers.now (map (way_at (all_choices_of self.now.frame.now.lines.items)) self.now.numbers.now) self.now.fails.now) }
     {
-        for (place, found) in choice.answers.iter().enumerate() {
-            let before: &[u8] = if place == 0 { b" = " } else { b" then " };
-            text.extend_from_slice(before)?;
-            self.write_answer(alloc, line, place, *found, text)?;
+        let mut place = 0;
+        let mut rest = answers;
+        loop {
+            match rest {
+                [] => return text.extend_from_slice(b"\n"),
+                [found, more @ ..] => {
+                    push_mark(text, place)?;
+                    self.write_answer(alloc, line, place, *found, text)?;
+                    place += 1;
+                    rest = more;
+                }
+            }
         }
-        text.push(b'\n')?;
-        Ok(())
+    }
+
+    // Writes the line of the service at a place, where what it does has a range: in place of each number of units stand all those with which a way fails.
+    fn write_line(
+        &self,
+        alloc: Global,
+        place: usize,
+        line: &Line,
+        choice: Option<&Choice>,
+        text: &mut Vec<u8>,
+    ) -> Result<(), AllocError>
+        requires counted { IsCounted self.now.frame.now }
+        requires below { AreBelow self.now.frame.now.count self.now.numbers.now }
+        ensures { OnOk result (text.new.items ≡ text.old.items ++ failing_line place (line_from line.now) (option_map (λ c. choice_of c.now) choice.entry) (map (way_at (all_choices_of self.now.frame.now.lines.items)) self.now.numbers.now) self.now.fails.now) }
+    {
+        match choice {
+            Some(choice) => {
+                if !choice.is_ranged {
+                    return Ok(());
+                }
+                text.extend_from_slice(line.call.as_slice())?;
+                self.write_answers(alloc, place, choice.answers.as_slice(), text)
+            }
+            None => Ok(()),
+        }
     }
 
     /// The lines that take a choice with a range in the way with this number, each with the numbers with which ways fail. The error is refused memory.
@@ -127,17 +160,22 @@ impl Failing<'_> {
         requires counted { IsCounted self.now.frame.now }
         requires below { AreBelow self.now.frame.now.count self.now.numbers.now }
         requires within { number < self.now.frame.now.count }
+        ensures { IfOk result (λ t. t.items ≡ failing_lines 0 (lines_from self.now.frame.now.lines.items) (way_at (all_choices_of self.now.frame.now.lines.items) number) (map (way_at (all_choices_of self.now.frame.now.lines.items)) self.now.numbers.now) self.now.fails.now) }
     {
         let mut text = Vec::new(alloc);
-        for (place, line) in self.frame.lines.iter().enumerate() {
-            if let Some(choice) = self.frame.choice(number, place) {
-                if choice.is_ranged {
-                    text.extend_from_slice(line.call.as_slice())?;
-                    self.write_line(alloc, place, choice, &mut text)?;
+        let mut place = 0;
+        let mut rest = self.frame.lines.as_slice();
+        loop {
+            match rest {
+                [] => return Ok(text),
+                [line, more @ ..] => {
+                    let choice = self.frame.choice(number, place);
+                    self.write_line(alloc, place, line, choice, &mut text)?;
+                    place += 1;
+                    rest = more;
                 }
             }
         }
-        Ok(text)
     }
 }
 

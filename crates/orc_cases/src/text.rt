@@ -2,7 +2,7 @@
 
 ghost use Rattle.std.specs.Prelude.{◌≡◌, ◌++◌, OnOk, map, codes, decimal, true};
 ghost use Rattle.orc_rules.specs.Text.{value_text};
-ghost use Rattle.orc_cases.specs.Texts.{after_text, answer_text, answers_text, closing, halts_text, interval_text, intervals_text, more_answers, pattern_text, patterns_text, reply_text};
+ghost use Rattle.orc_cases.specs.Texts.{after_text, answer_text, answers_text, closing, halts_text, interval_text, intervals_text, mark, more_answers, pattern_text, patterns_text, reply_text};
 
 use crate::intervals::Interval;
 use orc_claims::claim::Slot;
@@ -119,6 +119,16 @@ pub(crate) fn push_intervals(out: &mut Vec<u8>, intervals: &[Interval]) -> Resul
                 rest = more;
             }
         }
+    }
+}
+
+/// Writes what stands before the answer to the call at a place. The error is refused memory.
+pub(crate) fn push_mark(out: &mut Vec<u8>, place: usize) -> Result<(), AllocError>
+    ensures { OnOk result (out.new.items ≡ out.old.items ++ mark place) }
+{
+    match place {
+        0 => out.extend_from_slice(b" = "),
+        _ => out.extend_from_slice(b" then "),
     }
 }
 

@@ -1,8 +1,9 @@
 //! The ways of a case.
 
-ghost use Rattle.std.specs.Prelude.{◌≡◌, IfOk, length, map};
+ghost use Rattle.std.specs.Prelude.{◌≡◌, Bool, IfOk, List, [], false, length, map};
 ghost use Rattle.orc_ways.specs.Drafting.{test_of};
 ghost use Rattle.orc_cases.specs.Cases.{case_at};
+ghost use Rattle.orc_cases.specs.Failing.{failing_ranges, has_range};
 ghost use Rattle.orc_cases.specs.Values.{IsCounted, IsOrdered, ways_from};
 ghost use Rattle.orc_cases.specs.Ways.{CaseWays, choices_of, combinations, scripts, unusual, ways, ways_of};
 
@@ -119,7 +120,10 @@ impl Ways {
     }
 
     /// Whether the way with this number, from 0, takes an alternative with a range.
-    pub fn has_range(&self, number: u64) -> bool {
+    pub fn has_range(&self, number: u64) -> bool
+        ensures exact { result ≡ has_range self.now number }
+        ensures none { result ≡ false → (fails : List Bool) → failing_ranges self.now number fails ≡ [] }
+    {
         let numbers = self.numbers.as_slice();
         let place = number as usize;
         if place >= numbers.len() {
@@ -136,7 +140,9 @@ impl Ways {
         alloc: Global,
         number: u64,
         fails: &[bool],
-    ) -> Result<Vec<u8>, AllocError> {
+    ) -> Result<Vec<u8>, AllocError>
+        ensures { IfOk result (λ t. t.items ≡ failing_ranges self.now number fails.now) }
+    {
         let numbers = self.numbers.as_slice();
         let place = number as usize;
         if place >= numbers.len() {
@@ -147,6 +153,7 @@ impl Ways {
             numbers,
             fails,
         };
-        failing.lines(alloc, numbers[place])
+        let lines = failing.lines(alloc, numbers[place])?;
+        Ok(lines)
     }
 }
