@@ -15,7 +15,7 @@ use Rattle.orc_search.specs.Ticks.{is_over}
 use Rattle.orc_search.specs.Successors as list
 use Rattle.orc_search.specs.Successors.{Successor, in_left, in_right, in_feeds, in_main, in_side, in_first, silently, moves, ListedAreMoves}
 
-split : {X : Type 0} (x : X) (xs ys : List X) → IsIn x (xs ++ ys) → IsIn x xs ⊎ IsIn x ys
+pub split : {X : Type 0} (x : X) (xs ys : List X) → IsIn x (xs ++ ys) → IsIn x xs ⊎ IsIn x ys
 split x [] ys is = inr is
 split x (y ∷ xs) ys (inl same) = inl (inl same)
 split x (y ∷ xs) ys (inr later) = go (split x xs ys later) where
@@ -37,7 +37,7 @@ both_are : (a b : Bool) → (a && b) ≡ true → (a ≡ true) × (b ≡ true)
 both_are true b e = (refl, e)
 both_are false b e = cc e
 
-true_over : (f : Small) → is_over f ≡ true → IsOver f
+pub true_over : (f : Small) → is_over f ≡ true → IsOver f
 true_over nothing e = tt
 true_over (both f g) e = let p = both_are (is_over f) (is_over g) e in (true_over f p.0, true_over g p.1)
 true_over (needs f g) e = let p = both_are (is_over f) (is_over g) e in (true_over f p.0, true_over g p.1)
@@ -49,7 +49,7 @@ true_over (prunes f x g) e = cc e
 true_over (instead f g) e = cc e
 true_over (awaits o) e = cc e
 
-true_void : (ps : List Param) → has_void ps ≡ true → HasVoid ps
+pub true_void : (ps : List Param) → has_void ps ≡ true → HasVoid ps
 true_void [] e = cc e
 true_void (Void ∷ ps) e = inl refl
 true_void (Name y ∷ ps) e = inr (true_void ps e)

@@ -35,19 +35,19 @@ module _ {X : Type 0} where
 to : (s t : Successor) (ss : List Successor) → s ≡ t → IsIn s ss → IsIn t ss
 to s t ss e is = subst (λ (u : Successor). IsIn u ss) e is
 
-feeds_on : (x : ℕ) (g f : Small) (h : Happening) → IsPassed h → in_feeds x g (h, f) ≡ (h, feeds f x g)
+pub feeds_on : (x : ℕ) (g f : Small) (h : Happening) → IsPassed h → in_feeds x g (h, f) ≡ (h, feeds f x g)
 feeds_on x g f (called m args) p = refl
 feeds_on x g f (answered m args a) p = refl
 feeds_on x g f (published v) p = elim p [ ]
 feeds_on x g f unseen p = refl
 
-side_on : (n : ℕ) (f g : Small) (h : Happening) → IsPassed h → in_side n f (h, g) ≡ (h, needs f g)
+pub side_on : (n : ℕ) (f g : Small) (h : Happening) → IsPassed h → in_side n f (h, g) ≡ (h, needs f g)
 side_on n f g (called m args) p = refl
 side_on n f g (answered m args a) p = refl
 side_on n f g (published v) p = elim p [ ]
 side_on n f g unseen p = refl
 
-first_on : (g f : Small) (h : Happening) → IsPassed h → in_first g (h, f) ≡ (h, instead f g)
+pub first_on : (g f : Small) (h : Happening) → IsPassed h → in_first g (h, f) ≡ (h, instead f g)
 first_on g f (called m args) p = refl
 first_on g f (answered m args a) p = refl
 first_on g f (published v) p = elim p [ ]
@@ -70,7 +70,7 @@ over_true (prunes f x g) o = elim o [ ]
 over_true (instead f g) o = elim o [ ]
 over_true (awaits o') o = elim o [ ]
 
-void_true : (ps : List Param) → HasVoid ps → has_void ps ≡ true
+pub void_true : (ps : List Param) → HasVoid ps → has_void ps ≡ true
 void_true [] h = elim h [ ]
 void_true (Void ∷ ps) h = refl
 void_true (Name y ∷ ps) (inl same) = cc same

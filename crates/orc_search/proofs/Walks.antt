@@ -125,7 +125,7 @@ outer_around n [] are = are
 outer_around n (f ∷ path) are = are.1
 
 module _ (ts us : List Small) (e : Extends ts us) where
-  frame_kept : (f : Frame) (m : Successor) → IsAround (length ts) f → in_frame us f m ≡ in_frame ts f m
+  pub frame_kept : (f : Frame) (m : Successor) → IsAround (length ts) f → in_frame us f m ≡ in_frame ts f m
   frame_kept (Left g) m is = λ i. in_left (kept_at ts us g e is i) m
   frame_kept (Right f) m is = λ i. in_right (kept_at ts us f e is i) m
   frame_kept (Feeds x g) m is = λ i. in_feeds x (kept_at ts us g e is i) m

@@ -335,6 +335,39 @@ fn turned(
     }
 }
 
+/// What a part does by itself. The error is refused memory, or a call with more than `MOST_ARGUMENTS` parameters.
+pub(crate) fn own_step(
+    terms: &mut Terms,
+    alloc: Global,
+    source: &Source,
+    made: &[Made],
+    spot: Spot,
+) -> Result<Option<Successor>, AllocError>
+    requires ready { IsReady (smalls terms.old) source.now }
+    requires there { spot.at < length terms.old }
+    ensures own { IfOk result (λ o. AllZip (IsSuccessor (smalls terms.new)) (list_of o) (own (small_definitions source.now.program.now) (next_call (coming_of_made source.now.answers.now.sites made.now)) spot.depth (small_at (smalls terms.old) spot.at))) }
+    ensures kept { Extends (smalls terms.old) (smalls terms.new) }
+{
+    match own_of(terms, alloc, source, made, spot.at)? {
+        Own::Becomes(None) => Ok(None),
+        Own::Becomes(Some(becoming)) => {
+            let to = terms.number_of(Node::Tip(becoming.tip))?;
+            Ok(Some(Successor {
+                happening: becoming.happening,
+                to,
+            }))
+        }
+        Own::Enters(definition, params) => {
+            let body = entered(terms, alloc, source, definition, &params)?;
+            Ok(body)
+        }
+        Own::Joins(joint, f, g) => {
+            let turned = turned(terms, alloc, joint, f, g, spot.depth)?;
+            Ok(silent(turned))
+        }
+    }
+}
+
 // What a part does by itself, and its parts are to be entered next. The error is refused memory, or a call with more than `MOST_ARGUMENTS`
 // parameters.
 fn step(

@@ -1,0 +1,267 @@
+//! Steps of a numbered term that may go first, since they leave all its other steps as they are.
+
+ghost use Rattle.std.specs.Prelude.{◌≡◌, ◌<◌, ◌++◌, ◌∷◌, [], ℕ, List, length, Some, slice_get, true, IfOk, IfSome, OnOk};
+ghost use Rattle.std.specs.List.{AllZip};
+ghost use Rattle.orc_rules.specs.declared.value.Value.{Value as Datum};
+ghost use Rattle.orc_search.specs.declared.node.Node.TheVariants.{Pair};
+ghost use Rattle.orc_search.specs.Small.{Out};
+ghost use Rattle.orc_search.specs.Moves.{SmallDefinition};
+ghost use Rattle.orc_search.specs.Asked.{coming_of_made};
+ghost use Rattle.orc_search.specs.Moving.{happening_of, IsSuccessor};
+ghost use Rattle.orc_search.specs.Nodes.{small_at, smalls, Extends};
+ghost use Rattle.orc_search.specs.Own.{list_of, own};
+ghost use Rattle.orc_search.specs.Parts.{is_passed, parts_of, takes_values, whole_term, AreParts, IsEarly, IsPart, Lifts};
+ghost use Rattle.orc_search.specs.Programs.{small_definitions};
+ghost use Rattle.orc_search.specs.Ready.{IsReady};
+ghost use Rattle.orc_search.specs.States.{next_call};
+ghost use Rattle.orc_search.specs.Walks.{tasks_of};
+
+use crate::made::Made;
+use crate::moves::{Source, own_step};
+use crate::node::{Joint, Node};
+use crate::successor::{Frame, Happening, Successor, lifted};
+use crate::terms::Terms;
+use crate::walk::Spot;
+use std::alloc::{AllocError, Global};
+
+/// Where a part stands: in this frame, within the part that has that place in the list.
+#[derive(Clone, Copy)]
+pub struct Inside {
+    frame: Frame,
+    outer: usize,
+}
+
+/// A part of a term that can move. The term itself stands inside nothing.
+#[derive(Clone, Copy)]
+pub struct Part {
+    spot: Spot,
+    inside: Option<Inside>,
+}
+
+/// The parts of a term that can move, each behind the one that it is a part of; those before `next` have been looked at.
+#[derive(Drop)]
+pub struct Parts {
+    root: usize,
+    list: Vec<Part>,
+    next: usize,
+}
+
+fn part_at(list: &Vec<Part>, at: usize) -> Option<Part>
+    ensures { result ≡ slice_get list.now.items at }
+{
+    match list.get(at) {
+        Some(part) => Some(*part),
+        None => None,
+    }
+}
+
+fn takes_values(frame: Frame) -> bool
+    ensures { result ≡ takes_values frame }
+{
+    match frame {
+        Frame::Feeds(_, _) | Frame::Side(_, _) => true,
+        _ => false,
+    }
+}
+
+fn is_passed(happening: &Happening) -> bool
+    ensures { result ≡ is_passed (happening_of happening.now) }
+{
+    match happening {
+        Happening::Published(_) => false,
+        _ => true,
+    }
+}
+
+impl Parts {
+    /// The term of that number, of which nothing has been looked at. The error is refused memory.
+    pub fn of_term(alloc: Global, root: usize) -> Result<Parts, AllocError>
+        ensures parts { IfOk result (λ p. p.list.items ≡ whole_term root ∷ []) }
+        ensures root { IfOk result (λ p. p.root ≡ root) }
+    {
+        let mut list = Vec::new(alloc);
+        list.push(Part {
+            spot: Spot { at: root, depth: 0 },
+            inside: None,
+        })?;
+        Ok(Parts {
+            root,
+            list,
+            next: 0,
+        })
+    }
+
+    fn add(&mut self, outer: usize, frame: Frame, at: usize, depth: u64) -> Result<(), AllocError>
+        ensures added { OnOk result (self.new.list.items ≡ self.old.list.items ++ record { spot = record { at = at; depth = depth }; inside = Some (record { frame = frame; outer = outer }) } ∷ []) }
+        ensures root { self.new.root ≡ self.old.root }
+    {
+        self.list.push(Part {
+            spot: Spot { at, depth },
+            inside: Some(Inside { frame, outer }),
+        })?;
+        Ok(())
+    }
+
+    // Adds the parts of two joined terms, which stand so deep.
+    fn add_parts(
+        &mut self,
+        outer: usize,
+        joint: Joint,
+        f: usize,
+        g: usize,
+        depth: u64,
+    ) -> Result<(), AllocError>
+        ensures added { OnOk result (self.new.list.items ≡ self.old.list.items ++ parts_of outer (tasks_of depth (Pair joint f g))) }
+        ensures root { self.new.root ≡ self.old.root }
+    {
+        match joint {
+            Joint::Both => {
+                self.add(outer, Frame::Left(g), f, depth)?;
+                self.add(outer, Frame::Right(f), g, depth)
+            }
+            Joint::Feeds(x) => self.add(outer, Frame::Feeds(x, g), f, depth),
+            Joint::Prunes(_) => Ok(()),
+            Joint::Instead => self.add(outer, Frame::First(g), f, depth),
+            Joint::Needs => {
+                let Some(deeper) = depth.checked_add(1) else {
+                    return Err(AllocError);
+                };
+                self.add(outer, Frame::Main(g), f, deeper)?;
+                self.add(outer, Frame::Side(depth, f), g, depth)
+            }
+        }
+    }
+
+    // The next part counts as looked at, and its parts stand behind the others. The error is refused memory.
+    fn enter(&mut self, terms: &Terms, part: Part) -> Result<(), AllocError>
+        requires parts { AreParts (smalls terms.now) self.old.root self.old.list.items }
+        requires next { slice_get self.old.list.items self.old.next ≡ Some part }
+        ensures parts { OnOk result (AreParts (smalls terms.now) self.old.root self.new.list.items) }
+        ensures part { OnOk result (IsPart (smalls terms.now) self.old.root self.new.list.items part) }
+        ensures root { self.new.root ≡ self.old.root }
+    {
+        let outer = self.next;
+        let Some(next) = outer.checked_add(1) else {
+            return Err(AllocError);
+        };
+        self.next = next;
+        if let Some(Node::Pair(joint, f, g)) = terms.node(part.spot.at) {
+            self.add_parts(outer, *joint, *f, *g, part.spot.depth)?;
+        }
+        Ok(())
+    }
+
+    // What the term does by a step of a part that is passed on through all that stands around it. The error is refused memory.
+    fn lift(
+        &self,
+        terms: &mut Terms,
+        alloc: Global,
+        part: Part,
+        step: Successor,
+    ) -> Result<Successor, AllocError>
+        requires parts { AreParts (smalls terms.old) self.now.root self.now.list.items }
+        requires part { IsPart (smalls terms.old) self.now.root self.now.list.items part }
+        requires there { step.to < length (smalls terms.old) }
+        requires passed { is_passed (happening_of step.happening) ≡ true }
+        ensures lifts { IfOk result (λ s. Lifts (smalls terms.old) (smalls terms.new) part.spot (record { at = self.now.root; depth = 0 }) step s) }
+        ensures kept { Extends (smalls terms.old) (smalls terms.new) }
+    {
+        let mut part = part;
+        let mut step = step;
+        for _frame in 0..u64::MAX {
+            let Some(inside) = part.inside else {
+                return Ok(step);
+            };
+            let Some(outer) = part_at(&self.list, inside.outer) else {
+                return Err(AllocError);
+            };
+            step = lifted(terms, alloc, inside.frame, step)?;
+            part = outer;
+        }
+        Err(AllocError)
+    }
+
+    // The early step that the term has by what a part does by itself, if it is one. The error is refused memory.
+    fn early_by(
+        &self,
+        terms: &mut Terms,
+        alloc: Global,
+        part: Part,
+        step: Successor,
+    ) -> Result<Option<Successor>, AllocError>
+        requires root { self.now.root < length (smalls terms.old) }
+        requires parts { AreParts (smalls terms.old) self.now.root self.now.list.items }
+        requires part { IsPart (smalls terms.old) self.now.root self.now.list.items part }
+        requires there { step.to < length (smalls terms.old) }
+        ensures early { IfOk result (λ o. IfSome o (λ s. (defs : List SmallDefinition) (ask : ℕ → List Datum → Out) → AllZip (IsSuccessor (smalls terms.old)) (step ∷ []) (own defs ask part.spot.depth (small_at (smalls terms.old) part.spot.at)) → IsEarly defs ask (smalls terms.new) self.now.root s)) }
+        ensures kept { Extends (smalls terms.old) (smalls terms.new) }
+    {
+        if is_passed(&step.happening) {
+            let lifted = self.lift(terms, alloc, part, step)?;
+            return Ok(Some(lifted));
+        }
+        let Some(inside) = part.inside else {
+            return Ok(None);
+        };
+        if !takes_values(inside.frame) {
+            return Ok(None);
+        }
+        let Some(outer) = part_at(&self.list, inside.outer) else {
+            return Err(AllocError);
+        };
+        let taken = lifted(terms, alloc, inside.frame, step)?;
+        let lifted = self.lift(terms, alloc, outer, taken)?;
+        Ok(Some(lifted))
+    }
+
+    // The same, where a part may do nothing by itself.
+    fn early_of(
+        &self,
+        terms: &mut Terms,
+        alloc: Global,
+        part: Part,
+        step: Option<Successor>,
+    ) -> Result<Option<Successor>, AllocError>
+        requires root { self.now.root < length (smalls terms.old) }
+        requires parts { AreParts (smalls terms.old) self.now.root self.now.list.items }
+        requires part { IsPart (smalls terms.old) self.now.root self.now.list.items part }
+        requires there { IfSome step (λ s. s.to < length (smalls terms.old)) }
+        ensures early { IfOk result (λ o. IfSome o (λ s. (defs : List SmallDefinition) (ask : ℕ → List Datum → Out) → AllZip (IsSuccessor (smalls terms.old)) (list_of step) (own defs ask part.spot.depth (small_at (smalls terms.old) part.spot.at)) → IsEarly defs ask (smalls terms.new) self.now.root s)) }
+        ensures kept { Extends (smalls terms.old) (smalls terms.new) }
+    {
+        match step {
+            Some(step) => self.early_by(terms, alloc, part, step),
+            None => Ok(None),
+        }
+    }
+
+    /// The next step of the term that may go first, if there is one more: it is early if its happening is hidden. The error is refused memory, or one
+    /// of those that `successors` has. The terms that were there stay, in both cases.
+    pub fn next_early(
+        &mut self,
+        terms: &mut Terms,
+        alloc: Global,
+        source: &Source,
+        made: &[Made],
+    ) -> Result<Option<Successor>, AllocError>
+        requires ready { IsReady (smalls terms.old) source.now }
+        requires root { self.old.root < length (smalls terms.old) }
+        requires parts { AreParts (smalls terms.old) self.old.root self.old.list.items }
+        ensures early { IfOk result (λ o. IfSome o (λ s. IsEarly (small_definitions source.now.program.now) (next_call (coming_of_made source.now.answers.now.sites made.now)) (smalls terms.new) self.old.root s)) }
+        ensures parts { OnOk result (AreParts (smalls terms.new) self.new.root self.new.list.items) }
+        ensures root { self.new.root ≡ self.old.root }
+        ensures kept { Extends (smalls terms.old) (smalls terms.new) }
+    {
+        for _part in 0..u64::MAX {
+            let Some(part) = part_at(&self.list, self.next) else {
+                return Ok(None);
+            };
+            self.enter(terms, part)?;
+            let own = own_step(terms, alloc, source, made, part.spot)?;
+            if let Some(early) = self.early_of(terms, alloc, part, own)? {
+                return Ok(Some(early));
+            }
+        }
+        Err(AllocError)
+    }
+}
