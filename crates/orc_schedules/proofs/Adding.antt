@@ -10,12 +10,13 @@ use Rattle.orc_rules.specs.Timed.{IsIn}
 use Rattle.orc_search.specs.declared.node.Node.{Node}
 use Rattle.orc_search.specs.declared.node.Summary.{Summary}
 use Rattle.orc_search.specs.declared.successor.Successor.{Successor}
+use Rattle.orc_search.specs.Early.{Leads}
 use Rattle.orc_search.specs.Graphs.{Ending, halted, quiet, quiet_if, ending}
 use Rattle.orc_search.specs.Moves.{Happening, SmallDefinition, Moves}
 use Rattle.orc_search.specs.Moving.{happening_of, IsSuccessor}
 use Rattle.orc_search.specs.Nodes.{small_at, smalls, summary_of}
 use Rattle.orc_search.specs.Small.{Out, Small, nothing}
-use Rattle.orc_search.specs.States.{State, happens, waits, next_call}
+use Rattle.orc_search.specs.States.{State, happens, waits, Coming, next_call}
 use Rattle.orc_search.specs.Successors.{least_left, some_time, moves}
 use Rattle.orc_search.specs.Ticks.{is_over, moves_now, pass, Passes, IsOut}
 use Rattle.orc_search.proofs.Listed.{listed_are_moves}
@@ -28,10 +29,10 @@ use Rattle.orc_schedules.specs.Adding.{AddsOnly, IsAfterOne, IsWaited, AddsEnd, 
 use Rattle.orc_schedules.specs.Ends.{ComesFrom, AreFoundFrom, IsSaid}
 use Rattle.orc_schedules.specs.Growing.{Grows}
 use Rattle.orc_schedules.specs.Reached.{Reached, EndSeen, end_of}
-use Rattle.orc_schedules.specs.Seen.{Kept}
-use Rattle.orc_schedules.specs.Tables.{IsKnown, AreKnown, Keeps, outcomes, outcome_at, reached, reached_at, coming_at, seen_at, after, waited, ending_if}
+use Rattle.orc_schedules.specs.Seen.{Kept, is_unkept}
+use Rattle.orc_schedules.specs.Tables.{IsKnown, AreKnown, Keeps, LeadsTo, outcomes, outcome_at, reached, reached_at, coming_at, seen_at, after, waited, ending_if}
 use Rattle.orc_schedules.proofs.Growing.{or_else, grows_get, get_back, get_or_is, in_get, in_grows, in_map, of_map}
-use Rattle.orc_schedules.proofs.Keeping.{keeps_both, reached_kept, reached_grow, after_kept, term_kept, seen_kept}
+use Rattle.orc_schedules.proofs.Keeping.{coming_kept, keeps_both, reached_kept, reached_grow, after_kept, term_kept, seen_kept}
 use Rattle.orc_schedules.proofs.Waits.{none_moves, still_ends}
 
 -- what an element of a mapped list was made of
@@ -81,7 +82,7 @@ is_left (Some zero) by e = cc e
 is_left (Some (suc n)) by e = let same : suc n ≡ by = cc e in (e, omega (arith, same))
 
 -- time passes as `wait` says
-wait_passes : (defs : List SmallDefinition) (f : Small) (by : ℕ) → moves_now defs f ≡ false → some_time (least_left f) ≡ Some by → Passes defs f by (pass by f)
+pub wait_passes : (defs : List SmallDefinition) (f : Small) (by : ℕ) → moves_now defs f ≡ false → some_time (least_left f) ≡ Some by → Passes defs f by (pass by f)
 wait_passes defs f by still h =
     let left = is_left (least_left f) by h in
     let w = time.waits f by left.0 in
@@ -166,11 +167,18 @@ module _ (defs : List SmallDefinition) (keep : Kept) (sites : List Site) where
 
   found_kept : (a b : ℕ) → a ≤ b → (begin : State) (rs us : List Reached) (i : ℕ) (r : Reached) → Grows rs us → IsFound a begin rs i r → IsFound b begin us i r
   found_kept a b le begin rs us i r g (inl e) = inl e
-  found_kept a b le begin rs us i r g (inr c) = inr (record { at = c.at; before = c.before; from = c.from; there = grows_get rs us c.at c.from g c.there; sight = c.sight; goes = c.goes; shows = c.shows; short = let short = c.short in omega (arith, short, le) })
+  found_kept a b le begin rs us i r g (inr c) = inr (record { at = c.at; before = c.before; from = c.from; there = grows_get rs us c.at c.from g c.there; ahead = c.ahead; is = c.is; sight = c.sight; goes = c.goes; shows = c.shows; short = let short = c.short in omega (arith, short, le) })
 
   -- what is said of ends stays so with more states
-  said_kept : (rs us : List Reached) (o : EndSeen) → Grows rs us → IsSaid defs rs o → IsSaid defs us o
-  said_kept rs us o g s = record { state = s.state; ending = s.ending; is = in_grows (s.state, o.1) rs us g s.is; says = s.says; end = s.end }
+  said_kept : (rs us : List Reached) (o : EndSeen) → Grows rs us → IsSaid defs keep rs o → IsSaid defs keep us o
+  said_kept rs us o g s = record { state = s.state; ending = s.ending; is = in_grows (s.state, o.1) rs us g s.is; ahead = s.ahead; leads = s.leads; says = s.says; end = s.end }
+
+  -- the same early steps, with more terms
+  pub leads_kept : (t u : Tables) (k : Key) (term : ℕ) → Keeps t u → IsKnown t k → term < length (smalls t.terms) → LeadsTo defs keep sites t k term → LeadsTo defs keep sites u k term
+  leads_kept t u k term keeps known lt l =
+      subst (λ (c : Coming). Leads defs (is_unkept keep) c (small_at (smalls u.terms) k.term) (small_at (smalls u.terms) term)) (sym (coming_kept keep sites t u k.made keeps known.1))
+      (subst (λ (f : Small). Leads defs (is_unkept keep) (coming_at sites t k.made) f (small_at (smalls u.terms) term)) (sym (term_kept t u k.term keeps known.0))
+      (subst (λ (f : Small). Leads defs (is_unkept keep) (coming_at sites t k.made) (small_at (smalls t.terms) k.term) f) (sym (term_kept t u term keeps lt)) l))
 
   module _ (begin : State) (t u : Tables) (known : AreKnown t) (keeps : Keeps t u) where
     old_found : AreFoundFrom defs keep t.longest begin (reached sites t) → (i : ℕ) (k : Key) → slice_get t.states i ≡ Some k → IsFound u.longest begin (reached sites u) i (reached_at sites u k)
@@ -191,6 +199,8 @@ module _ (defs : List SmallDefinition) (keep : Kept) (sites : List Site) where
           before = lt;
           from = reached_at sites t from;
           there = grows_get (reached sites t) (reached sites u) at (reached_at sites t from) (reached_grow keep sites t u keeps known) (map_get (reached_at sites t) t.states at from here);
+          ahead = c.ahead;
+          is = c.is;
           sight = c.sight;
           goes = c.goes;
           shows = c.shows;
@@ -212,9 +222,9 @@ module _ (defs : List SmallDefinition) (keep : Kept) (sites : List Site) where
         }
 
     -- with an end more, which one of the states says
-    ends_found : (from : Key) (end : Option Ending) → IsIn from t.states → u.states ≡ t.states → AddsEnd (outcomes t) end (seen_at t from.seen) (outcomes u)
-        → ((e : Ending) → end ≡ Some e → ending defs (small_at (smalls t.terms) from.term) ≡ Some e) → AreFound defs keep begin sites t → AreFound defs keep begin sites u
-    ends_found from end is same adds says found =
+    ends_found : (from : Key) (term : ℕ) (end : Option Ending) → IsIn from t.states → LeadsTo defs keep sites t from term → u.states ≡ t.states → AddsEnd (outcomes t) end (seen_at t from.seen) (outcomes u)
+        → ((e : Ending) → end ≡ Some e → ending defs (small_at (smalls t.terms) term) ≡ Some e) → AreFound defs keep begin sites t → AreFound defs keep begin sites u
+    ends_found from term end is leads same adds says found =
         let at = in_get from t.states is in
         record {
           states = found_more from at.0 at.1 (λ i k h. inl (ap (λ (l : List Key). slice_get l i) (sym same) ∙ h)) found.states;
@@ -227,18 +237,21 @@ module _ (defs : List SmallDefinition) (keep : Kept) (sites : List Site) where
         here : IsIn (reached_at sites t from) (reached sites u)
         here = in_grows (reached_at sites t from) (reached sites t) (reached sites u) grown (in_map (reached_at sites t) from t.states is)
 
-        go : (o : EndSeen) → IsIn o (outcomes t) ⊎ ((e : Ending) × (end ≡ Some e) × (o ≡ (end_of e, seen_at t from.seen))) → IsSaid defs (reached sites u) o
+        go : (o : EndSeen) → IsIn o (outcomes t) ⊎ ((e : Ending) × (end ≡ Some e) × (o ≡ (end_of e, seen_at t from.seen))) → IsSaid defs keep (reached sites u) o
         go o (inl old) = said_kept (reached sites t) (reached sites u) o grown (found.ends o old)
         go o (inr new) =
-            let one : IsSaid defs (reached sites u) (end_of new.0, seen_at t from.seen) = record { state = (reached_at sites t from).0; ending = new.0; is = here; says = says new.0 new.1; end = refl } in
-            subst (λ (x : EndSeen). IsSaid defs (reached sites u) x) (sym new.2) one
+            let one : IsSaid defs keep (reached sites u) (end_of new.0, seen_at t from.seen) = record { state = (reached_at sites t from).0; ending = new.0; is = here; ahead = record { term = small_at (smalls t.terms) term; coming = coming_at sites t from.made }; leads = (leads, refl); says = says new.0 new.1; end = refl } in
+            subst (λ (x : EndSeen). IsSaid defs keep (reached sites u) x) (sym new.2) one
 
   -- what comes of a state by the successors of its term
-  pub after_comes : (t : Tables) (terms : List Node) (k : Key) (next : List Successor) (u : Tables)
+  pub after_comes : (t : Tables) (terms : List Node) (behind : ℕ) (k : Key) (next : List Successor) (u : Tables) → LeadsTo defs keep sites t (record k { term = behind }) k.term
       → AllZip (IsSuccessor (smalls terms)) next (moves defs (next_call (coming_at sites t k.made)) 0 (small_at (smalls t.terms) k.term))
-      → AddsOnly sites (IsAfterOne keep sites (record t { terms = terms }) k next) (record t { terms = terms }) u → AddsOnly sites (ComesBy defs keep u.longest (reached_at sites t k)) t u
-  after_comes t terms k next u all adds i x h = go (adds i x h) where
-    one : (j : ℕ) (s : Successor) → slice_get next j ≡ Some s → ComesBy defs keep u.longest (reached_at sites t k) (after keep sites (record t { terms = terms }) k s)
+      → AddsOnly sites (IsAfterOne keep sites (record t { terms = terms }) k next) (record t { terms = terms }) u → AddsOnly sites (ComesBy defs keep u.longest (reached_at sites t (record k { term = behind }))) t u
+  after_comes t terms behind k next u leads all adds i x h = go (adds i x h) where
+    from : Reached
+    from = reached_at sites t (record k { term = behind })
+
+    one : (j : ℕ) (s : Successor) → slice_get next j ≡ Some s → ComesBy defs keep u.longest from (after keep sites (record t { terms = terms }) k s)
     one j s is =
         let ask = next_call (coming_at sites t k.made) in
         let f = small_at (smalls t.terms) k.term in
@@ -247,57 +260,73 @@ module _ (defs : List SmallDefinition) (keep : Kept) (sites : List Site) where
         let what : happening_of s.happening ≡ z.to.0 = z.is.0 in
         let move : Moves defs ask 0 f z.to.0 z.to.1 = listed_are_moves defs ask 0 f z.to.1 z.to.0 z.listed in
         record {
+          ahead = (reached_at sites t k).0;
+          is = (leads, refl);
           sight = happens (happening_of s.happening);
           goes = (subst (λ (g : Small). Moves defs ask 0 f (happening_of s.happening) g) (sym to) (subst (λ (w : Happening). Moves defs ask 0 f w z.to.1) (sym what) move), refl);
           shows = refl;
           short = omega arith;
         }
 
-    go : (slice_get t.states i ≡ Some x) ⊎ IsAfterOne keep sites (record t { terms = terms }) k next (reached_at sites u x) → (slice_get t.states i ≡ Some x) ⊎ ComesBy defs keep u.longest (reached_at sites t k) (reached_at sites u x)
+    go : (slice_get t.states i ≡ Some x) ⊎ IsAfterOne keep sites (record t { terms = terms }) k next (reached_at sites u x) → (slice_get t.states i ≡ Some x) ⊎ ComesBy defs keep u.longest from (reached_at sites u x)
     go (inl old) = inl old
-    go (inr m) = inr (subst (λ (r : Reached). ComesBy defs keep u.longest (reached_at sites t k) r) (sym m.3) (one m.0 m.1 m.2))
+    go (inr m) = inr (subst (λ (r : Reached). ComesBy defs keep u.longest from r) (sym m.3) (one m.0 m.1 m.2))
 
   -- and what comes of it where it waits
-  pub waited_comes : (t u : Tables) (k : Key) → moves_now defs (small_at (smalls t.terms) k.term) ≡ false → AddsOnly sites (IsWaited sites t k u.longest) t u → AddsOnly sites (ComesBy defs keep u.longest (reached_at sites t k)) t u
-  waited_comes t u k still adds i x h = go (adds i x h) where
-    one : (by : ℕ) → by ≤ u.longest → some_time (least_left (small_at (smalls t.terms) k.term)) ≡ Some by → ComesBy defs keep u.longest (reached_at sites t k) (waited sites t k by)
-    one by le left = record { sight = waits by; goes = (wait_passes defs (small_at (smalls t.terms) k.term) by still left, refl); shows = refl; short = le }
+  pub waited_comes : (t u : Tables) (behind : ℕ) (k : Key) → LeadsTo defs keep sites t (record k { term = behind }) k.term → moves_now defs (small_at (smalls t.terms) k.term) ≡ false → AddsOnly sites (IsWaited sites t k u.longest) t u → AddsOnly sites (ComesBy defs keep u.longest (reached_at sites t (record k { term = behind }))) t u
+  waited_comes t u behind k leads still adds i x h = go (adds i x h) where
+    from : Reached
+    from = reached_at sites t (record k { term = behind })
 
-    go : (slice_get t.states i ≡ Some x) ⊎ IsWaited sites t k u.longest (reached_at sites u x) → (slice_get t.states i ≡ Some x) ⊎ ComesBy defs keep u.longest (reached_at sites t k) (reached_at sites u x)
+    one : (by : ℕ) → by ≤ u.longest → some_time (least_left (small_at (smalls t.terms) k.term)) ≡ Some by → ComesBy defs keep u.longest from (waited sites t k by)
+    one by le left = record { ahead = (reached_at sites t k).0; is = (leads, refl); sight = waits by; goes = (wait_passes defs (small_at (smalls t.terms) k.term) by still left, refl); shows = refl; short = le }
+
+    go : (slice_get t.states i ≡ Some x) ⊎ IsWaited sites t k u.longest (reached_at sites u x) → (slice_get t.states i ≡ Some x) ⊎ ComesBy defs keep u.longest from (reached_at sites u x)
     go (inl old) = inl old
-    go (inr m) = inr (subst (λ (r : Reached). ComesBy defs keep u.longest (reached_at sites t k) r) (sym m.2) (one m.0 m.3 m.1))
+    go (inr m) = inr (subst (λ (r : Reached). ComesBy defs keep u.longest from r) (sym m.2) (one m.0 m.3 m.1))
 
   -- a state at which something can move is looked at
-  pub moving_found : (begin : State) (t u v : Tables) (k : Key) (terms : List Node) (next : List Successor)
+  pub moving_found : (begin : State) (t u v : Tables) (behind : ℕ) (k : Key) (terms : List Node) (next : List Successor)
       → AllZip (IsSuccessor (smalls terms)) next (moves defs (next_call (coming_at sites t k.made)) 0 (small_at (smalls t.terms) k.term))
-      → AreKnown t → Keeps t u → AreKnown u → Keeps u v → IsKnown t k → IsIn k t.states
+      → AreKnown t → Keeps t u → AreKnown u → Keeps u v → IsKnown t k → IsIn (record k { term = behind }) t.states → LeadsTo defs keep sites t (record k { term = behind }) k.term
       → AddsOnly sites (IsAfterOne keep sites (record t { terms = terms }) k next) (record t { terms = terms }) u → u.ends ≡ t.ends
       → v.states ≡ u.states → AddsEnd (outcomes u) (ending_if false (small_at (smalls u.terms) k.term)) (seen_at u k.seen) (outcomes v)
       → AreFound defs keep begin sites t → AreFound defs keep begin sites v
-  moving_found begin t u v k terms next all known keeps known' keeps' is there adds ends states end found =
-      let there' : IsIn k u.states = in_grows k t.states u.states keeps.states there in
+  moving_found begin t u v behind k terms next all known keeps known' keeps' is there leads adds ends states end found =
+      let from : Key = record k { term = behind } in
+      let at = in_get from t.states there in
+      let there' : IsIn from u.states = in_grows from t.states u.states keeps.states there in
+      let leads' : LeadsTo defs keep sites u from k.term = leads_kept t u from k.term keeps (known.0 at.0 from at.1) is.0 leads in
       let f = small_at (smalls u.terms) k.term in
-      ends_found begin u v known' keeps' k (ending_if false f) there' states end (λ e h. moving_said defs f e h)
-      (states_found begin t u known keeps k there (after_comes t terms k next u all adds) ends found)
+      ends_found begin u v known' keeps' from k.term (ending_if false f) there' leads' states end (λ e h. moving_said defs f e h)
+      (states_found begin t u known keeps from there (after_comes t terms behind k next u leads all adds) ends found)
 
   -- and one at which nothing can
-  pub still_found : (begin : State) (t u w v : Tables) (k : Key) (terms : List Node) (next : List Successor)
+  pub still_found : (begin : State) (t u w v : Tables) (behind : ℕ) (k : Key) (terms : List Node) (next : List Successor)
       → AllZip (IsSuccessor (smalls terms)) next (moves defs (next_call (coming_at sites t k.made)) 0 (small_at (smalls t.terms) k.term)) → next ≡ []
-      → AreKnown t → Keeps t u → AreKnown u → Keeps u w → AreKnown w → Keeps w v → IsKnown t k → IsIn k t.states
+      → AreKnown t → Keeps t u → AreKnown u → Keeps u w → AreKnown w → Keeps w v → IsKnown t k → IsIn (record k { term = behind }) t.states → LeadsTo defs keep sites t (record k { term = behind }) k.term
       → AddsOnly sites (IsAfterOne keep sites (record t { terms = terms }) k next) (record t { terms = terms }) u → u.ends ≡ t.ends
       → AddsOnly sites (IsWaited sites u k w.longest) u w → w.ends ≡ u.ends
       → v.states ≡ w.states → AddsEnd (outcomes w) (ending_if true (small_at (smalls w.terms) k.term)) (seen_at w k.seen) (outcomes v)
       → AreFound defs keep begin sites t → AreFound defs keep begin sites v
-  still_found begin t u w v k terms next all none known keeps known_u keeps_w known_w keeps_v is there adds ends waited ends_w states end found =
+  still_found begin t u w v behind k terms next all none known keeps known_u keeps_w known_w keeps_v is there leads adds ends waited ends_w states end found =
+      let from : Key = record k { term = behind } in
+      let at = in_get from t.states there in
       let ask = next_call (coming_at sites t k.made) in
       let f = small_at (smalls t.terms) k.term in
       let no_moves : moves defs ask 0 f ≡ [] = zip_empty (IsSuccessor (smalls terms)) next (moves defs ask 0 f) all none in
       let same_u : small_at (smalls u.terms) k.term ≡ f = term_kept t u k.term keeps is.0 in
       let same_w : small_at (smalls w.terms) k.term ≡ f = term_kept t w k.term (keeps_both t u w keeps keeps_w) is.0 in
       let still : moves_now defs (small_at (smalls u.terms) k.term) ≡ false = ap (moves_now defs) same_u ∙ none_moves defs ask 0 f no_moves in
-      let there_u : IsIn k u.states = in_grows k t.states u.states keeps.states there in
-      let there_w : IsIn k w.states = in_grows k u.states w.states keeps_w.states there_u in
-      ends_found begin w v known_w keeps_v k (ending_if true (small_at (smalls w.terms) k.term)) there_w states end
+      let there_u : IsIn from u.states = in_grows from t.states u.states keeps.states there in
+      let there_w : IsIn from w.states = in_grows from u.states w.states keeps_w.states there_u in
+      let leads_u : LeadsTo defs keep sites u from k.term = leads_kept t u from k.term keeps (known.0 at.0 from at.1) is.0 leads in
+      let leads_w : LeadsTo defs keep sites w from k.term = leads_kept t w from k.term (keeps_both t u w keeps keeps_w) (known.0 at.0 from at.1) is.0 leads in
+      ends_found begin w v known_w keeps_v from k.term (ending_if true (small_at (smalls w.terms) k.term)) there_w leads_w states end
       (λ e h. ap (λ (g : Small). ending defs g) same_w ∙ still_ends defs ask 0 f no_moves ∙ ap (λ (g : Small). ending_if true g) (sym same_w) ∙ h)
-      (states_found begin u w known_u keeps_w k there_u (waited_comes u w k still waited) ends_w
-      (states_found begin t u known keeps k there (after_comes t terms k next u all adds) ends found))
+      (states_found begin u w known_u keeps_w from there_u (waited_comes u w behind k leads_u still waited) ends_w
+      (states_found begin t u known keeps from there (after_comes t terms behind k next u leads all adds) ends found))
+
+  -- with more terms, and no state and no end more
+  pub found_kept_all : (begin : State) (t u : Tables) → AreKnown t → Keeps t u → u.states ≡ t.states → u.ends ≡ t.ends → (from : Key) → IsIn from t.states → AreFound defs keep begin sites t → AreFound defs keep begin sites u
+  found_kept_all begin t u known keeps states ends from is found = states_found begin t u known keeps from is (λ i k h. inl (ap (λ (l : List Key). slice_get l i) (sym states) ∙ h)) ends found

@@ -17,20 +17,22 @@ use Rattle.orc_claims.specs.declared.happening.Occurrence.{Occurrence}
 use Rattle.orc_tally.specs.declared.sight.ClaimSite.{ClaimSite}
 use Rattle.orc_journal.specs.Written.{count}
 use Rattle.orc_outcome.specs.Outcome.{context, EndsAt}
-use Rattle.orc_search.specs.Moves.{SmallDefinition}
+use Rattle.orc_search.specs.Early.{IsAhead, AreHidden}
+use Rattle.orc_search.specs.Moves.{unseen, SmallDefinition}
 use Rattle.orc_search.specs.Moments.{small_of}
 use Rattle.orc_search.specs.Graphs.{Ending, halted, quiet, ending}
 use Rattle.orc_search.specs.Programs.{small_definitions}
 use Rattle.orc_search.specs.Paths.{time_in, plain, IsOrderly, IsRunOf}
 use Rattle.orc_search.specs.Runs.{IsWell}
 use Rattle.orc_search.specs.States.{State, Sight, happens, waits, Goes, Path, state_of}
+use Rattle.orc_search.proofs.Ahead.{ahead_is_reached}
 use Rattle.orc_search.proofs.Begun.{source_holds}
 use Rattle.orc_search.proofs.Paths.{path_is_run, ending_is_halted, ending_is_quiet}
 use Rattle.orc_search.proofs.Programs.{program_is_ready}
 use Rattle.orc_schedules.specs.Reached.{Reached, EndSeen, first, end_of}
 use Rattle.orc_schedules.specs.Ends.{IsSeenOfRun, ComesFrom, AreFoundFrom, FoundAreOfRuns, time_of}
-use Rattle.orc_schedules.specs.Seen.{Kept, kept, seen_after, seen_in, seen_of}
-use Rattle.orc_schedules.proofs.Found.{begins_there}
+use Rattle.orc_schedules.specs.Seen.{Kept, is_unkept, kept, seen_after, seen_in, seen_of}
+use Rattle.orc_schedules.proofs.Found.{begins_there, nothing_is}
 use Rattle.orc_schedules.proofs.Journals.{journal_seen, run_counted}
 
 module _ {X : Type 0} where
@@ -63,13 +65,50 @@ goes_on : (defs : List SmallDefinition) (s : State) (vs : List Sight) (t : State
 goes_on defs s [] t v u p g = (u, subst (λ (w : State). Goes defs w v u) (sym p) g, refl)
 goes_on defs s (w ∷ vs) t v u p g = (p.0, p.1, goes_on defs p.0 vs t v u p.2 g)
 
-module _ (defs : List SmallDefinition) (keep : Kept) (begin : State) (longest : ℕ) (rs : List Reached) (found : AreFoundFrom defs keep longest begin rs) where
+-- a path, and another one from its end
+path_both : (defs : List SmallDefinition) (s : State) (vs : List Sight) (t : State) (ws : List Sight) (u : State) → Path defs s vs t → Path defs t ws u → Path defs s (vs ++ ws) u
+path_both defs s [] t ws u p q = subst (λ (r : State). Path defs r ws u) (sym p) q
+path_both defs s (v ∷ vs) t ws u p q = (p.0, p.1, path_both defs p.0 vs t ws u p.2 q)
+
+seen_both : (keep : Kept) (vs ws : List Sight) → seen_in keep (vs ++ ws) ≡ seen_in keep vs ++ seen_in keep ws
+seen_both keep [] ws = refl
+seen_both keep (happens h ∷ vs) ws = ap (λ (l : List Occurrence). keep h ++ l) (seen_both keep vs ws) ∙ sym (append_assoc (keep h) (seen_in keep vs) (seen_in keep ws))
+seen_both keep (waits by ∷ vs) ws = seen_both keep vs ws
+
+takes_both : (vs ws : List Sight) → time_in (vs ++ ws) ≡ time_in vs + time_in ws
+takes_both [] ws = omega arith
+takes_both (happens h ∷ vs) ws = takes_both vs ws
+takes_both (waits by ∷ vs) ws = omega (arith, takes_both vs ws)
+
+-- on which nothing is kept
+unkept_seen : (keep : Kept) (vs : List Sight) → AreHidden (is_unkept keep) vs → seen_in keep vs ≡ []
+unkept_seen keep [] h = refl
+unkept_seen keep (v ∷ vs) h =
+    let u = h.0 in
+    ap (λ (w : Sight). seen_in keep (w ∷ vs)) u.1 ∙ ap (λ (l : List Occurrence). l ++ seen_in keep vs) (nothing_is (keep u.0) u.2) ∙ unkept_seen keep vs h.1
+
+unkept_takes : (keep : Kept) (vs : List Sight) → AreHidden (is_unkept keep) vs → time_in vs ≡ 0
+unkept_takes keep [] h = refl
+unkept_takes keep (v ∷ vs) h = let u = h.0 in ap (λ (w : Sight). time_in (w ∷ vs)) u.1 ∙ unkept_takes keep vs h.1
+
+module _ (defs : List SmallDefinition) (keep : Kept) (silent : is_unkept keep unseen ≡ true) (begin : State) (longest : ℕ) (rs : List Reached) (found : AreFoundFrom defs keep longest begin rs) where
   -- a path to a state, on which this is seen
   record IsWay (s : State) (ws : List Occurrence) (time : ℕ) : Type 0 where
     seen : List Sight
     path : Path defs begin seen s
     shows : seen_in keep seen ≡ ws
     early : time_in seen ≤ time
+
+  -- and on to a state that is ahead
+  way_on : (s ahead : State) (ws : List Occurrence) (time : ℕ) → IsAhead defs (is_unkept keep) s ahead → IsWay s ws time → IsWay ahead ws time
+  way_on s ahead ws time is w =
+      let a = ahead_is_reached defs (is_unkept keep) s ahead silent is in
+      record {
+        seen = w.seen ++ a.0;
+        path = path_both defs begin w.seen s a.0 ahead w.path a.1;
+        shows = seen_both keep w.seen a.0 ∙ ap (λ (l : List Occurrence). seen_in keep w.seen ++ l) (unkept_seen keep a.0 a.2) ∙ append-nil (seen_in keep w.seen) ∙ w.shows;
+        early = omega (arith, takes_both w.seen a.0, unkept_takes keep a.0 a.2, w.early);
+      }
 
   way : (n i : ℕ) → i < n → (s : State) (ws : List Occurrence) → slice_get rs i ≡ Some (s, ws) → IsWay s ws (i * longest)
   way zero i lt s ws at = absurd (omega (arith, lt))
@@ -78,10 +117,10 @@ module _ (defs : List SmallDefinition) (keep : Kept) (begin : State) (longest : 
     go (inl e) before = record { seen = []; path = sym e.0; shows = sym e.1; early = omega arith }
     go (inr f) before =
         let r : Reached = f.from in
-        let w = before f.at (omega (arith, lt, f.before)) r.0 r.1 f.there in
+        let w = way_on r.0 f.ahead r.1 (f.at * longest) f.is (before f.at (omega (arith, lt, f.before)) r.0 r.1 f.there) in
         record {
           seen = w.seen ++ f.sight ∷ [];
-          path = goes_on defs begin w.seen r.0 f.sight s w.path f.goes;
+          path = goes_on defs begin w.seen f.ahead f.sight s w.path f.goes;
           shows = sees_more keep w.seen f.sight ∙ ap (λ (us : List Occurrence). seen_after keep us f.sight) w.shows ∙ f.shows;
           early = omega (arith, takes_more w.seen f.sight, w.early, f.short, mul-le-mul_right longest f.before);
         }
@@ -157,8 +196,8 @@ found_are_of_runs l t names sites longest rs o found fits k =
     let defs : List SmallDefinition = small_definitions l in
     let keep : Kept = kept names sites in
     let p = place_of {X = Reached} (k.state, o.1) rs k.is in
-    let w = way defs keep (first l t) longest rs found (suc p.at) p.at (omega arith) k.state o.1 p.is in
+    let w = way_on defs keep refl (first l t) longest rs found k.state k.ahead o.1 (p.at * longest) k.leads (way defs keep refl (first l t) longest rs found (suc p.at) p.at (omega arith) k.state o.1 p.is) in
     let early : time_in w.seen < 2 ^ 64 = omega (arith, w.early, fits, mul-le-mul_right longest p.within) in
-    let path : Path defs (state_of (context l t) (start (source l))) w.seen k.state = subst (λ (b : State). Path defs b w.seen k.state) (begins_there l t) w.path in
-    let j = path_is_seen names sites l t w.seen k.state early path in
-    end_of_run names sites l t k.state w.seen j o k.ending k.says k.end w.shows
+    let path : Path defs (state_of (context l t) (start (source l))) w.seen k.ahead = subst (λ (b : State). Path defs b w.seen k.ahead) (begins_there l t) w.path in
+    let j = path_is_seen names sites l t w.seen k.ahead early path in
+    end_of_run names sites l t k.ahead w.seen j o k.ending k.says k.end w.shows

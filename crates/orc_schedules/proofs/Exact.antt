@@ -48,7 +48,7 @@ first_found defs keep l a t old term counts values ends none added is = record {
       let same : (s, vs) ≡ (first l a, []) = sym m.is ∙ ap (reached_at a.sites t) only ∙ begins in
       inl (ap (λ (r : Reached). r.0) same, ap (λ (r : Reached). r.1) same)
 
-  no_end : (o : EndSeen) → (x : Told) × IsIn x t.ends × (o ≡ outcome_at t x) → IsSaid defs (reached a.sites t) o
+  no_end : (o : EndSeen) → (x : Told) × IsIn x t.ends × (o ≡ outcome_at t x) → IsSaid defs keep (reached a.sites t) o
   no_end o m = let none_in : IsIn m.0 [] = subst (λ (es : List Told). IsIn m.0 es) ends m.1 in elim none_in [ ]
 
 -- each end that a search tells is that of a run, where all that it found comes from the first state

@@ -1,6 +1,6 @@
--- Each run of a program stands among closed states, and ends as one of them says.
-use Rattle.std.proofs.Common.{◌≡◌, ◌<◌, ◌≤◌, ℕ, zero, suc, ◌+◌, ◌-◌, ◌*◌, ◌^◌, List, [], ◌∷◌, ◌++◌, true, false, Some, None, ◌⊎◌, refl, sym, ap, ◌∙◌, subst, inl, inr, arith}
-use Rattle.std.specs.Prelude.{cond, if◌then◌else◌}
+-- Each run of a program stands where a state that was looked at is ahead, and ends as that one says.
+use Rattle.std.proofs.Common.{◌≡◌, ◌<◌, ◌≤◌, ℕ, zero, suc, ◌+◌, ◌-◌, ◌*◌, ◌^◌, List, [], ◌∷◌, ◌++◌, true, false, Some, ◌⊎◌, refl, sym, ap, ◌∙◌, subst, inl, inr, arith}
+use Rattle.std.specs.Prelude.{if◌then◌else◌}
 use Rattle.std.specs.Option.{option_to_list}
 use Rattle.std.proofs.Math.Nat.{mul-le-mul_right}
 use Rattle.std.proofs.lemmas.List.{append-nil, append_assoc}
@@ -21,24 +21,28 @@ use Rattle.orc_journal.specs.Written.{counts, count}
 use Rattle.orc_outcome.specs.Outcome.{context, EndsAt}
 use Rattle.orc_outcome.specs.declared.end.End.{End as HowEnded}
 use Rattle.orc_outcome.specs.declared.end.End.TheVariants as ends
-use Rattle.orc_search.specs.Moves.{SmallDefinition}
+use Rattle.orc_search.specs.Early.{IsAhead, Follows, stands, goes}
+use Rattle.orc_search.specs.Moves.{unseen, SmallDefinition}
 use Rattle.orc_search.specs.Seen.{happening}
 use Rattle.orc_search.specs.Moments.{out_of, small_of}
-use Rattle.orc_search.specs.Ticks.{moves_now}
-use Rattle.orc_search.specs.Graphs.{halted, quiet, ending, IsBeyond}
+use Rattle.orc_search.specs.Ticks.{moves_now, pass, Passes}
+use Rattle.orc_search.specs.Graphs.{Ending, halted, quiet, ending, IsBeyond}
 use Rattle.orc_search.specs.Programs.{small_definitions}
 use Rattle.orc_search.specs.Runs.{IsWell}
-use Rattle.orc_search.specs.States.{State, Sight, happens, waits, sights, state_of, AreOf}
-use Rattle.orc_search.specs.Successors.{some_time, wait}
+use Rattle.orc_search.specs.States.{State, Sight, happens, waits, Goes, sights, state_of, AreOf}
+use Rattle.orc_search.specs.Successors.{some_time}
+use Rattle.orc_search.proofs.Ahead.{ahead_both, ahead_ends, ahead_follows}
 use Rattle.orc_search.proofs.Graphs.{halted_is_ending, quiet_is_ending}
 use Rattle.orc_search.proofs.Programs.{program_is_ready}
 use Rattle.orc_search.proofs.Runs.{run_is_well}
 use Rattle.orc_search.proofs.States.{run_is_path}
 use Rattle.orc_search.proofs.Successors.{passes_by_wait}
 use Rattle.orc_search.proofs.Ticks.{moves_same}
-use Rattle.orc_schedules.specs.Reached.{Reached, EndSeen, IsClosedUnder, first, WaitsWithin, HasEnded}
+use Rattle.orc_schedules.specs.Reached.{Reached, EndSeen, end_of, first, HasEnded}
 use Rattle.orc_schedules.specs.Found.{AllAreFound}
-use Rattle.orc_schedules.specs.Seen.{Kept, kept, seen_after, seen_in, seen_of}
+use Rattle.orc_schedules.specs.Seen.{Kept, is_nothing, is_unkept, kept, seen_after, seen_in, seen_of}
+use Rattle.orc_schedules.specs.Tables.{IsDone, IsLookedAt}
+use Rattle.orc_schedules.proofs.Adding.{wait_passes}
 use Rattle.orc_schedules.proofs.Journals.{journal_counted, journal_seen}
 
 -- how many ticks there are in a run
@@ -72,59 +76,95 @@ ticks_count : (es : List Entry) (events : List Event) → AreEventsOf es events 
 ticks_count [] events h = subst (λ (w : List Event). ticks_in w ≤ 0) (sym h) (omega arith)
 ticks_count (e ∷ es) events (cs, rest, h, more) = subst (λ (w : List Event). ticks_in w ≤ count (e ∷ es)) (sym h) (one_counts e cs rest (count es) (ticks_count es rest more))
 
-module _ (x : Context) (smalls : List SmallDefinition) (of : AreOf smalls x) (keep : Kept) (longest : ℕ) (rs : List Reached) (closed : IsClosedUnder smalls keep rs) (within : WaitsWithin smalls longest rs) where
-  -- a moment stands among the states with this seen, at this time or before
-  record Stands (s : Moment) (vs : List Occurrence) (time : ℕ) : Type 0 where
-    is : IsIn {X = Reached} (state_of x s, vs) rs
+pub nothing_is : (ws : List Occurrence) → is_nothing ws ≡ true → ws ≡ []
+nothing_is [] e = refl
+nothing_is (w ∷ ws) e = cc e
+
+module _ (x : Context) (smalls : List SmallDefinition) (of : AreOf smalls x) (keep : Kept) (silent : is_unkept keep unseen ≡ true) (longest : ℕ) (rs : List Reached) (os : List EndSeen) (looked : (r : Reached) → IsIn r rs → IsLookedAt smalls keep rs longest os r) where
+  -- a state that was looked at, with this seen, is ahead of another one
+  record Stands (s : State) (vs : List Occurrence) : Type 0 where
+    ahead : State
+    is : IsAhead smalls (is_unkept keep) s ahead
+    done : IsDone smalls keep rs longest os (ahead, vs)
+
+  stands_there : (s : State) (vs : List Occurrence) → IsIn {X = Reached} (s, vs) rs → Stands s vs
+  stands_there s vs is = let k = looked (s, vs) is in record { ahead = k.ahead; is = k.is; done = k.done }
+
+  -- wherever a state goes, one is ahead of the next state again
+  stands_on : (s t : State) (v : Sight) (vs : List Occurrence) → Stands s vs → Goes smalls s v t → Stands t (seen_after keep vs v)
+  stands_on s t v vs st g = go (ahead_follows x smalls (is_unkept keep) s st.ahead t v of silent st.is g) where
+    go : Follows smalls (is_unkept keep) st.ahead v t → Stands t (seen_after keep vs v)
+    go (stands h e unkept is) =
+        let same : seen_after keep vs v ≡ vs = ap (seen_after keep vs) e ∙ ap (λ (ws : List Occurrence). vs ++ ws) (nothing_is (keep h) unkept) ∙ append-nil vs in
+        record { ahead = st.ahead; is = is; done = subst (λ (ws : List Occurrence). IsDone smalls keep rs longest os (st.ahead, ws)) (sym same) st.done }
+    go (goes u to is) =
+        let k = looked (u, seen_after keep vs v) (st.done.followed v u to) in
+        record { ahead = k.ahead; is = ahead_both smalls (is_unkept keep) t u k.ahead is k.is; done = k.done }
+
+  -- no wait is longer than the longest
+  short : (s t : State) (by : ℕ) (vs : List Occurrence) → Stands s vs → Goes smalls s (waits by) t → by ≤ longest
+  short s t by vs st g = go (ahead_follows x smalls (is_unkept keep) s st.ahead t (waits by) of silent st.is g) where
+    go : Follows smalls (is_unkept keep) st.ahead (waits by) t → by ≤ longest
+    go (stands h e unkept is) = cc e
+    go (goes u to is) = st.done.waits by (passes_by_wait smalls (State.term st.ahead) (State.term u) by to.0).0
+
+  -- where a run has come to, with this seen, at this time or before
+  record Comes (s : Moment) (vs : List Occurrence) (time : ℕ) : Type 0 where
+    stood : Stands (state_of x s) vs
     now : s.now ≤ time
 
-  stands : (s : Moment) (es : List Event) (s' : Moment) (vs : List Occurrence) → IsWell s → IsIn {X = Reached} (state_of x s, vs) rs → (r : Run x s es s') → Stands s' (vs ++ seen_in keep (sights x s es s' r)) (s.now + ticks_in es * longest)
-  stands s [] s' vs w is r = record {
-    is = subst (λ (ws : List Occurrence). IsIn {X = Reached} (state_of x s', ws) rs) (sym (append-nil vs)) (subst (λ (m : Moment). IsIn {X = Reached} (state_of x m, vs) rs) r is);
+  comes : (s : Moment) (es : List Event) (s' : Moment) (vs : List Occurrence) → IsWell s → Stands (state_of x s) vs → (r : Run x s es s') → Comes s' (vs ++ seen_in keep (sights x s es s' r)) (s.now + ticks_in es * longest)
+  comes s [] s' vs w st r = record {
+    stood = subst (λ (ws : List Occurrence). Stands (state_of x s') ws) (sym (append-nil vs)) (subst (λ (m : Moment). Stands (state_of x m) vs) r st);
     now = omega (arith, ap Moment.now r);
   }
-  stands s (does a ∷ es) s' vs w is r =
+  comes s (does a ∷ es) s' vs w st r =
       let v : Sight = happens (happening (out_of x.sites s.now s.calls) a) in
       let run : Run x s (does a ∷ []) r.0 = (r.0, r.1, refl) in
       let p = run_is_path x smalls s r.0 (does a ∷ []) of w run in
-      let there : IsIn {X = Reached} (state_of x r.0, seen_after keep vs v) rs = subst (λ (t : State). IsIn {X = Reached} (t, seen_after keep vs v) rs) p.2 (closed (state_of x s) vs v p.0 is p.1) in
-      let rest = stands r.0 es s' (seen_after keep vs v) (run_is_well x s r.0 (does a ∷ []) of.bodies of.closed w run) there r.2 in
+      let there : Stands (state_of x r.0) (seen_after keep vs v) = subst (λ (t : State). Stands t (seen_after keep vs v)) p.2 (stands_on (state_of x s) p.0 v vs st p.1) in
+      let rest = comes r.0 es s' (seen_after keep vs v) (run_is_well x s r.0 (does a ∷ []) of.bodies of.closed w run) there r.2 in
       let d : Does x s a r.0 = r.1 in
       record {
-        is = subst (λ (ws : List Occurrence). IsIn {X = Reached} (state_of x s', ws) rs) (append_assoc vs (keep (happening (out_of x.sites s.now s.calls) a)) (seen_in keep (sights x r.0 es s' r.2))) rest.is;
+        stood = subst (λ (ws : List Occurrence). Stands (state_of x s') ws) (append_assoc vs (keep (happening (out_of x.sites s.now s.calls) a)) (seen_in keep (sights x r.0 es s' r.2))) rest.stood;
         now = omega (arith, rest.now, d.now);
       }
-  stands s (ticks t ∷ es) s' vs w is r =
+  comes s (ticks t ∷ es) s' vs w st r =
       let run : Run x s (ticks t ∷ []) r.0 = (r.0, r.1, refl) in
       let p = run_is_path x smalls s r.0 (ticks t ∷ []) of w run in
-      let there : IsIn {X = Reached} (state_of x r.0, vs) rs = subst (λ (u : State). IsIn {X = Reached} (u, vs) rs) p.2 (closed (state_of x s) vs (waits (t - s.now)) p.0 is p.1) in
-      let rest = stands r.0 es s' vs (run_is_well x s r.0 (ticks t ∷ []) of.bodies of.closed w run) there r.2 in
-      let short : t - s.now ≤ longest = within (state_of x s) vs (t - s.now) is (passes_by_wait smalls (small_of x s) (State.term p.0) (t - s.now) p.1.0).0 in
+      let there : Stands (state_of x r.0) vs = subst (λ (u : State). Stands u vs) p.2 (stands_on (state_of x s) p.0 (waits (t - s.now)) vs st p.1) in
+      let rest = comes r.0 es s' vs (run_is_well x s r.0 (ticks t ∷ []) of.bodies of.closed w run) there r.2 in
+      let le : t - s.now ≤ longest = short (state_of x s) p.0 (t - s.now) vs st p.1 in
       let h = r.1 in
       let now : Moment.now r.0 ≡ t = ap Moment.now h.2 in
       record {
-        is = rest.is;
-        now = omega (arith, rest.now, short, now);
+        stood = rest.stood;
+        now = omega (arith, rest.now, le, now);
       }
-  stands s (cancels k ∷ es) s' vs w is r =
+  comes s (cancels k ∷ es) s' vs w st r =
       let run : Run x s (cancels k ∷ []) r.0 = (r.0, r.1, refl) in
       let h = r.1 in
       let same : state_of x r.0 ≡ state_of x s = ap (state_of x) h.1 in
-      let there : IsIn {X = Reached} (state_of x r.0, vs) rs = subst (λ (u : State). IsIn {X = Reached} (u, vs) rs) (sym same) is in
-      let rest = stands r.0 es s' vs (run_is_well x s r.0 (cancels k ∷ []) of.bodies of.closed w run) there r.2 in
+      let there : Stands (state_of x r.0) vs = subst (λ (u : State). Stands u vs) (sym same) st in
+      let rest = comes r.0 es s' vs (run_is_well x s r.0 (cancels k ∷ []) of.bodies of.closed w run) there r.2 in
       let now : Moment.now r.0 ≡ s.now = ap Moment.now h.1 in
       record {
-        is = rest.is;
+        stood = rest.stood;
         now = omega (arith, rest.now, now);
       }
 
   -- within the limit a quiet run waits for nothing
-  not_beyond : (limit : ℕ) (s : Moment) (vs : List Occurrence) → IsWell s → IsIn {X = Reached} (state_of x s, vs) rs → IsQuiet x s → s.now ≤ limit * longest → suc limit * longest < 2 ^ 64 → IsBeyond x s → ⊥
-  not_beyond limit s vs w is q early fits (zero, left, late) = omega (arith, early, fits, late)
-  not_beyond limit s vs w is q early fits (suc by, left, late) =
+  not_beyond : (limit : ℕ) (s : Moment) (vs : List Occurrence) → IsWell s → Stands (state_of x s) vs → IsQuiet x s → s.now ≤ limit * longest → suc limit * longest < 2 ^ 64 → IsBeyond x s → ⊥
+  not_beyond limit s vs w st q early fits (zero, left, late) = omega (arith, early, fits, late)
+  not_beyond limit s vs w st q early fits (suc by, left, late) =
       let still : moves_now smalls (small_of x s) ≡ false = moves_same x.definitions smalls of.there (out_of x.sites s.now s.calls) [] s.term w.1 ∙ ((idle_by x s).0 q.idle).0 in
-      let waits_so : wait smalls (small_of x s) ≡ Some (suc by) = λ i. cond (still i) None (some_time (left i)) in
-      omega (arith, early, fits, late, within (state_of x s) vs (suc by) is waits_so)
+      let p : Passes smalls (small_of x s) (suc by) (pass (suc by) (small_of x s)) = wait_passes smalls (small_of x s) (suc by) still (ap some_time left) in
+      let after : State = record { term = pass (suc by) (small_of x s); coming = State.coming (state_of x s) } in
+      omega (arith, early, fits, late, short (state_of x s) after (suc by) vs st (p, refl))
+
+  -- the end of a run is told
+  tells : (s : Moment) (vs : List Occurrence) (e : Ending) → Stands (state_of x s) vs → ending smalls (small_of x s) ≡ Some e → IsIn {X = EndSeen} (end_of e, vs) os
+  tells s vs e st h = st.done.told e (ahead_ends smalls (is_unkept keep) (state_of x s) st.ahead e st.is h)
 
 pub begins_there : (l : Listing) (t : Table) → first l t ≡ state_of (context l t) (start (source l))
 begins_there l t = λ i. record { term = small_of (context l t) (start (source l)); coming = λ m args n. find t.sites m args (one n i) }
@@ -133,7 +173,7 @@ begins_there l t = λ i. record { term = small_of (context l t) (start (source l
     one n = omega arith
 
 pub all_are_found : AllAreFound
-all_are_found l t names sites limit longest rs os closed begins within fits tells o run = go o.end run.ends
+all_are_found l t names sites limit longest rs os looked begins fits o run = go o.end run.ends
   where
     x : Context
     x = context l t
@@ -159,31 +199,31 @@ all_are_found l t names sites limit longest rs os closed begins within fits tell
     well : IsWell last
     well = run_is_well x (start (source l)) last explained.events ready.0.bodies ready.0.closed ready.1 explained.run
 
-    begun : IsIn {X = Reached} (state_of x (start (source l)), []) rs
-    begun = subst (λ (s : State). IsIn {X = Reached} (s, []) rs) (begins_there l t) begins
+    begun : Stands x smalls ready.0 keep refl longest rs os looked (state_of x (start (source l))) []
+    begun = stands_there x smalls ready.0 keep refl longest rs os looked (state_of x (start (source l))) [] (subst (λ (s : State). IsIn {X = Reached} (s, []) rs) (begins_there l t) begins)
 
     seen : List Occurrence
     seen = seen_in keep (sights x (start (source l)) explained.events last explained.run)
 
-    at : Stands x smalls ready.0 keep longest rs closed within last seen (0 + ticks_in explained.events * longest)
-    at = stands x smalls ready.0 keep longest rs closed within (start (source l)) explained.events last [] ready.1 begun explained.run
+    at : Comes x smalls ready.0 keep refl longest rs os looked last seen (0 + ticks_in explained.events * longest)
+    at = comes x smalls ready.0 keep refl longest rs os looked (start (source l)) explained.events last [] ready.1 begun explained.run
 
     named : seen_of names sites o.journal ≡ seen
     named = journal_seen names sites x last (source l) o.journal explained.events explained.named (journal_counted x (begin (source l)) o.journal explained.events run.place run.leads explained.named) explained.run
 
-    is : IsIn {X = Reached} (state_of x last, seen_of names sites o.journal) rs
-    is = subst (λ (ws : List Occurrence). IsIn {X = Reached} (state_of x last, ws) rs) (sym named) at.is
+    stood : Stands x smalls ready.0 keep refl longest rs os looked (state_of x last) (seen_of names sites o.journal)
+    stood = subst (λ (ws : List Occurrence). Stands x smalls ready.0 keep refl longest rs os looked (state_of x last) ws) (sym named) at.stood
 
     early : last.now ≤ limit * longest
     early = omega (arith, at.now, mul-le-mul_right longest (ticks_count o.journal explained.events explained.named), mul-le-mul_right longest run.within)
 
     go : (e : HowEnded) → EndsAt x limit o.journal run.place e → HasEnded e → IsIn {X = EndSeen} (e, seen_of names sites o.journal) os
-    go ends.Halted h ended = tells (state_of x last) (seen_of names sites o.journal) halted is (halted_is_ending x smalls last h)
+    go ends.Halted h ended = tells x smalls ready.0 keep refl longest rs os looked last (seen_of names sites o.journal) halted stood (halted_is_ending x smalls last h)
     go ends.Quiet q ended = either (quiet_is_ending x smalls last ready.0 well q)
       where
         either : (ending smalls (small_of x last) ≡ Some quiet) ⊎ IsBeyond x last → IsIn {X = EndSeen} (ends.Quiet, seen_of names sites o.journal) os
-        either (inl e) = tells (state_of x last) (seen_of names sites o.journal) quiet is e
-        either (inr b) = absurd (not_beyond x smalls ready.0 keep longest rs closed within limit last (seen_of names sites o.journal) well is q early fits b)
+        either (inl e) = tells x smalls ready.0 keep refl longest rs os looked last (seen_of names sites o.journal) quiet stood e
+        either (inr b) = absurd (not_beyond x smalls ready.0 keep refl longest rs os looked limit last (seen_of names sites o.journal) well stood q early fits b)
     go ends.Limit h ended = elim ended [ ]
     go ends.Full h ended = elim ended [ ]
     go ends.Memory h ended = elim ended [ ]

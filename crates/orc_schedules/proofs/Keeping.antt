@@ -27,7 +27,7 @@ use Rattle.orc_schedules.specs.Growing.{Grows}
 use Rattle.orc_schedules.specs.Lists.{lists}
 use Rattle.orc_schedules.specs.Reached.{Reached, EndSeen, end_of}
 use Rattle.orc_schedules.specs.Seen.{Kept, seen_after}
-use Rattle.orc_schedules.specs.Tables.{IsKnown, AreKnown, seen_at, coming_at, reached_at, reached, outcome_at, outcomes, Keeps, after, IsDone, waited, ending_if}
+use Rattle.orc_schedules.specs.Tables.{IsKnown, AreKnown, seen_at, coming_at, reached_at, reached, outcome_at, outcomes, Keeps, after, IsDone, IsLookedAt, waited, ending_if}
 use Rattle.orc_schedules.proofs.Growing.{or_else, grows_self, grows_both, grows_len, grows_or, get_or_is, in_grows, in_map, each_added}
 use Rattle.orc_schedules.proofs.Waits.{moving_waits, moving_ends, still_waits, still_ends}
 
@@ -97,12 +97,19 @@ module _ (keep : Kept) (sites : List Site) where
   pub after_kept : (t u : Tables) (k : Key) (s : Successor) → Keeps t u → IsKnown t k → s.to < length (smalls t.terms) → after keep sites u k s ≡ after keep sites t k s
   after_kept t u k s keeps known lt = λ i. (record { term = term_kept t u s.to keeps lt i; coming = coming_after (happening_of s.happening) (coming_kept t u k.made keeps known.1 i) }, seen_after keep (seen_kept t u k.seen keeps known.2 i) (happens (happening_of s.happening)))
 
-  pub done_kept : (defs : List SmallDefinition) (t u : Tables) (k : Key) → Keeps t u → AreKnown t → IsKnown t k
-      → IsDone defs keep (reached sites t) t.longest (outcomes t) (reached_at sites t k) → IsDone defs keep (reached sites u) u.longest (outcomes u) (reached_at sites u k)
-  done_kept defs t u k keeps known is done = subst (λ (r : Reached). IsDone defs keep (reached sites u) u.longest (outcomes u) r) (sym (reached_kept t u k keeps is)) (record {
-    followed = λ v s g. in_grows (s, seen_after keep (seen_at t k.seen) v) (reached sites t) (reached sites u) (reached_grow t u keeps known) (done.followed v s g);
+  done_more : (defs : List SmallDefinition) (t u : Tables) (r : Reached) → Keeps t u → AreKnown t → IsDone defs keep (reached sites t) t.longest (outcomes t) r → IsDone defs keep (reached sites u) u.longest (outcomes u) r
+  done_more defs t u r keeps known done = record {
+    followed = λ v s g. in_grows (s, seen_after keep r.1 v) (reached sites t) (reached sites u) (reached_grow t u keeps known) (done.followed v s g);
     waits = λ by h. let le = done.waits by h in let more = keeps.longest in omega (arith, le, more);
-    told = λ e h. in_grows (end_of e, seen_at t k.seen) (outcomes t) (outcomes u) (outcomes_grow t u keeps known) (done.told e h);
+    told = λ e h. in_grows (end_of e, r.1) (outcomes t) (outcomes u) (outcomes_grow t u keeps known) (done.told e h);
+  }
+
+  pub looked_kept : (defs : List SmallDefinition) (t u : Tables) (k : Key) → Keeps t u → AreKnown t → IsKnown t k
+      → IsLookedAt defs keep (reached sites t) t.longest (outcomes t) (reached_at sites t k) → IsLookedAt defs keep (reached sites u) u.longest (outcomes u) (reached_at sites u k)
+  looked_kept defs t u k keeps known is looked = subst (λ (r : Reached). IsLookedAt defs keep (reached sites u) u.longest (outcomes u) r) (sym (reached_kept t u k keeps is)) (record {
+    ahead = looked.ahead;
+    is = looked.is;
+    done = done_more defs t u (looked.ahead, seen_at t k.seen) keeps known looked.done;
   })
 
   -- what is followed further, over one more successor

@@ -14,3 +14,4 @@ pub mod Failing
 pub mod Claims
 pub mod Watching
 pub mod WatchingNames
+pub mod Leading

@@ -25,11 +25,11 @@ use Rattle.orc_schedules.specs.Counts.{made_at}
 use Rattle.orc_schedules.specs.Adding.{Outcome, outcome_of, shown_of}
 use Rattle.orc_schedules.specs.Reached.{Reached, IsAmong, first, AreAll, AreAllSeen}
 use Rattle.orc_schedules.specs.Seen.{Kept, kept, seen_of, values_of}
-use Rattle.orc_schedules.specs.Tables.{AreKnown, IsKnown, AreDone, IsDone, Keeps, reached, reached_at, outcome_at, outcomes}
+use Rattle.orc_schedules.specs.Tables.{AreKnown, IsKnown, AreDone, IsLookedAt, Keeps, reached, reached_at, outcome_at, outcomes}
 use Rattle.orc_schedules.specs.Watch.{publications}
 use Rattle.orc_schedules.proofs.Journals.{published_seen}
 use Rattle.orc_schedules.proofs.Growing.{in_get, in_map, of_map, grows_get, get_back, get_or_is, in_grows, each_added, none_get}
-use Rattle.orc_schedules.proofs.Keeping.{done_kept, reached_grow}
+use Rattle.orc_schedules.proofs.Keeping.{looked_kept, reached_grow}
 use Rattle.orc_schedules.proofs.Longer.{lists_len}
 use Rattle.orc_schedules.proofs.Found.{all_are_found}
 
@@ -57,33 +57,32 @@ among (e ∷ es) end vs (inr later) = let a = among es end vs later in (suc a.0,
 module _ (defs : List SmallDefinition) (keep : Kept) (sites : List Site) where
   -- one state more is looked at
   pub done_next : (t u : Tables) (at : ℕ) (k : Key) → Keeps t u → AreKnown t → slice_get t.states at ≡ Some k → AreDone defs keep sites t at
-      → IsDone defs keep (reached sites u) u.longest (outcomes u) (reached_at sites u k) → AreDone defs keep sites u (at + 1)
-  done_next t u at k keeps known h before here i j lt g = below_more (λ (n : ℕ). (j : Key) → slice_get u.states n ≡ Some j → IsDone defs keep (reached sites u) u.longest (outcomes u) (reached_at sites u j)) at
+      → IsLookedAt defs keep (reached sites u) u.longest (outcomes u) (reached_at sites u k) → AreDone defs keep sites u (at + 1)
+  done_next t u at k keeps known h before here i j lt g = below_more (λ (n : ℕ). (j : Key) → slice_get u.states n ≡ Some j → IsLookedAt defs keep (reached sites u) u.longest (outcomes u) (reached_at sites u j)) at
       (λ n l j q. old n l j q)
-      (λ j q. let same : k ≡ j = some_key k j (sym (grows_get t.states u.states at k keeps.states h) ∙ q) in subst (λ (y : Key). IsDone defs keep (reached sites u) u.longest (outcomes u) (reached_at sites u y)) same here)
+      (λ j q. let same : k ≡ j = some_key k j (sym (grows_get t.states u.states at k keeps.states h) ∙ q) in subst (λ (y : Key). IsLookedAt defs keep (reached sites u) u.longest (outcomes u) (reached_at sites u y)) same here)
       i lt j g
     where
       some_key : (a b : Key) → Some a ≡ Some b → a ≡ b
       some_key a b q = cc q
 
-      old : (n : ℕ) → n < at → (j : Key) → slice_get u.states n ≡ Some j → IsDone defs keep (reached sites u) u.longest (outcomes u) (reached_at sites u j)
+      old : (n : ℕ) → n < at → (j : Key) → slice_get u.states n ≡ Some j → IsLookedAt defs keep (reached sites u) u.longest (outcomes u) (reached_at sites u j)
       old n l j q =
           let is : slice_get t.states n ≡ Some j = get_back t.states u.states n j keeps.states (omega (arith, l, within t.states at k h)) q in
-          done_kept keep sites defs t u j keeps known (known.0 n j is) (before n j l is)
+          looked_kept keep sites defs t u j keeps known (known.0 n j is) (before n j l is)
 
-  pub all_done : (t : Tables) → AreDone defs keep sites t (length t.states) → (r : Reached) → IsIn r (reached sites t) → IsDone defs keep (reached sites t) t.longest (outcomes t) r
+  pub all_done : (t : Tables) → AreDone defs keep sites t (length t.states) → (r : Reached) → IsIn r (reached sites t) → IsLookedAt defs keep (reached sites t) t.longest (outcomes t) r
   all_done t done r is =
       let o = of_map (reached_at sites t) r t.states is in
       let g = in_get o.0 t.states o.1 in
-      subst (λ (x : Reached). IsDone defs keep (reached sites t) t.longest (outcomes t) x) (sym o.2) (done g.0 o.0 (within t.states g.0 o.0 g.1) g.1)
+      subst (λ (x : Reached). IsLookedAt defs keep (reached sites t) t.longest (outcomes t) x) (sym o.2) (done g.0 o.0 (within t.states g.0 o.0 g.1) g.1)
 
 -- so the ends are all that there are
 pub whole : (l : Listing) (a : Table) (names : List Simple) (sites : List ClaimSite) (limit : ℕ) (t : Tables) → AreDone (small_definitions l) (kept names sites) a.sites t (length t.states) → IsIn {X = Reached} (first l a, []) (reached a.sites t)
     → suc limit * t.longest < 2 ^ 64 → AreAllSeen l a names sites limit (outcomes t)
 whole l a names sites limit t done there time =
     let each = all_done (small_definitions l) (kept names sites) a.sites t done in
-    all_are_found l a names sites limit t.longest (reached a.sites t) (outcomes t) (λ s ws v u is g. IsDone.followed (each (s, ws) is) v u g) there (λ s ws by is h. IsDone.waits (each (s, ws) is) by h) time
-    (λ s ws e is h. IsDone.told (each (s, ws) is) e h)
+    all_are_found l a names sites limit t.longest (reached a.sites t) (outcomes t) each there time
 
 -- and what they published all that there is
 pub whole_shown : (l : Listing) (a : Table) (limit : ℕ) (t : Tables) (es : List Ended) → AreAllSeen l a publications [] limit (outcomes t) → map outcome_of es ≡ map shown_of (outcomes t) → AreAll l a limit es

@@ -8,6 +8,7 @@ use Rattle.orc_claims.specs.declared.claim.Claim.{Claim}
 use Rattle.orc_claims.specs.declared.happening.Occurrence.{Occurrence}
 use Rattle.orc_outcome.specs.declared.end.End.{End}
 use Rattle.orc_search.specs.declared.successor.Successor.{Successor}
+use Rattle.orc_search.specs.Early.{IsAhead}
 use Rattle.orc_search.specs.Graphs.{Ending}
 use Rattle.orc_search.specs.Moves.{SmallDefinition}
 use Rattle.orc_search.specs.Nodes.{small_at, smalls}
@@ -19,7 +20,7 @@ use Rattle.orc_schedules.specs.declared.states.Key.{Key}
 use Rattle.orc_schedules.specs.declared.tables.Tables.{Tables}
 use Rattle.orc_schedules.specs.Ends.{AreFoundFrom, IsSaid, time_of}
 use Rattle.orc_schedules.specs.Reached.{Reached, EndSeen, end_of}
-use Rattle.orc_schedules.specs.Seen.{Kept, seen_after, values_of}
+use Rattle.orc_schedules.specs.Seen.{Kept, is_unkept, seen_after, values_of}
 use Rattle.orc_schedules.specs.Tables.{outcomes, reached, reached_at, after, waited}
 use Rattle.orc_schedules.specs.Watch.{state_of_end, untimed}
 
@@ -59,14 +60,16 @@ IsWaited sites t k longest r = (by : ℕ) × (some_time (least_left (small_at (s
 abbrev pub AddsEnd : List EndSeen → Option Ending → List Occurrence → List EndSeen → Type 0
 AddsEnd os end ws us = (o : EndSeen) → IsIn o us → IsIn o os ⊎ ((e : Ending) × (end ≡ Some e) × (o ≡ (end_of e, ws)))
 
--- the first state goes to the second, in no more time than this
+-- a state to which early steps lead from the first one goes to the second, in no more time than this
 pub record ComesBy (defs : List SmallDefinition) (keep : Kept) (longest : ℕ) (r s : Reached) : Type 0 where
+  pub ahead : State
+  pub is : IsAhead defs (is_unkept keep) r.0 ahead
   pub sight : Sight
-  pub goes : Goes defs r.0 sight s.0
+  pub goes : Goes defs ahead sight s.0
   pub shows : seen_after keep r.1 sight ≡ s.1
   pub short : time_of sight ≤ longest
 
 -- the states in the tables come one from another, and states say the ends
 pub record AreFound (defs : List SmallDefinition) (keep : Kept) (begin : State) (sites : List Site) (t : Tables) : Type 0 where
   pub states : AreFoundFrom defs keep t.longest begin (reached sites t)
-  pub ends : (o : EndSeen) → IsIn o (outcomes t) → IsSaid defs (reached sites t) o
+  pub ends : (o : EndSeen) → IsIn o (outcomes t) → IsSaid defs keep (reached sites t) o

@@ -8,13 +8,14 @@ use Rattle.orc_claims.specs.declared.claim.Simple.{Simple}
 use Rattle.orc_claims.specs.declared.happening.Occurrence.{Occurrence}
 use Rattle.orc_tally.specs.declared.sight.ClaimSite.{ClaimSite}
 use Rattle.orc_outcome.specs.Outcome.{Outcome, IsRun}
+use Rattle.orc_search.specs.Early.{IsAhead}
 use Rattle.orc_search.specs.Moves.{SmallDefinition}
 use Rattle.orc_search.specs.Graphs.{Ending}
 use Rattle.orc_search.specs.Graphs as graph
 use Rattle.orc_search.specs.Programs.{small_definitions}
 use Rattle.orc_search.specs.States.{State, Sight, happens, waits, Goes}
 use Rattle.orc_schedules.specs.Reached.{Reached, EndSeen, first, end_of}
-use Rattle.orc_schedules.specs.Seen.{Kept, kept, seen_after, seen_of}
+use Rattle.orc_schedules.specs.Seen.{Kept, is_unkept, kept, seen_after, seen_of}
 use Rattle.orc_schedules.specs.declared.ended.Ended.{Ended}
 
 -- a run of the program with these sites ended so, within a limit that is high enough
@@ -42,14 +43,16 @@ abbrev pub time_of : Sight → ℕ
 time_of (happens h) = 0
 time_of (waits by) = by
 
--- a state before this place in the list goes to s, in no more time than this, and with what is seen on the way it makes ws
+-- a state to which early steps lead from one before this place in the list goes to s, in no more time than this, and with what is seen on the way it makes ws
 pub record ComesFrom (defs : List SmallDefinition) (keep : Kept) (longest : ℕ) (rs : List Reached) (place : ℕ) (s : State) (ws : List Occurrence) : Type 0 where
   pub at : ℕ
   pub before : at < place
   pub from : Reached
   pub there : slice_get rs at ≡ Some from
+  pub ahead : State
+  pub is : IsAhead defs (is_unkept keep) from.0 ahead
   pub sight : Sight
-  pub goes : Goes defs from.0 sight s
+  pub goes : Goes defs ahead sight s
   pub shows : seen_after keep from.1 sight ≡ ws
   pub short : time_of sight ≤ longest
 
@@ -57,16 +60,18 @@ pub record ComesFrom (defs : List SmallDefinition) (keep : Kept) (longest : ℕ)
 abbrev pub AreFoundFrom : List SmallDefinition → Kept → ℕ → State → List Reached → Type 0
 AreFoundFrom defs keep longest begin rs = (i : ℕ) (s : State) (ws : List Occurrence) → slice_get rs i ≡ Some (s, ws) → ((s ≡ begin) × (ws ≡ [])) ⊎ ComesFrom defs keep longest rs i s ws
 
--- one of the states says this end
-pub record IsSaid (defs : List SmallDefinition) (rs : List Reached) (o : EndSeen) : Type 0 where
+-- a state to which early steps lead from one of the states says this end
+pub record IsSaid (defs : List SmallDefinition) (keep : Kept) (rs : List Reached) (o : EndSeen) : Type 0 where
   pub state : State
   pub ending : Ending
   pub is : IsIn {X = Reached} (state, o.1) rs
-  pub says : graph.ending defs state.term ≡ Some ending
+  pub ahead : State
+  pub leads : IsAhead defs (is_unkept keep) state ahead
+  pub says : graph.ending defs ahead.term ≡ Some ending
   pub end : o.0 ≡ end_of ending
 
 -- states that are found one from another, where the way to none of them comes to the last time, say only ends of runs
 abbrev pub FoundAreOfRuns : Type 0
 FoundAreOfRuns = (l : Listing) (t : Table) (names : List Simple) (sites : List ClaimSite) (longest : ℕ) (rs : List Reached) (o : EndSeen)
-    → AreFoundFrom (small_definitions l) (kept names sites) longest (first l t) rs → length rs * longest < 2 ^ 64 → IsSaid (small_definitions l) rs o
+    → AreFoundFrom (small_definitions l) (kept names sites) longest (first l t) rs → length rs * longest < 2 ^ 64 → IsSaid (small_definitions l) (kept names sites) rs o
     → IsSeenOfRun l t names sites o

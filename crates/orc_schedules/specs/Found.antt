@@ -1,4 +1,4 @@
--- A closed set of states has every end.
+-- States that were looked at have every end.
 use Rattle.std.specs.Prelude.{◌<◌, ℕ, suc, ◌*◌, ◌^◌, List, []}
 use Rattle.orc_rules.specs.Nodes.{Listing}
 use Rattle.orc_rules.specs.Sites.{Table}
@@ -6,11 +6,12 @@ use Rattle.orc_rules.specs.Timed.{IsIn}
 use Rattle.orc_claims.specs.declared.claim.Simple.{Simple}
 use Rattle.orc_tally.specs.declared.sight.ClaimSite.{ClaimSite}
 use Rattle.orc_search.specs.Programs.{small_definitions}
-use Rattle.orc_schedules.specs.Reached.{Reached, EndSeen, IsClosedUnder, first, WaitsWithin, TellsEnds, AreAllSeen}
+use Rattle.orc_schedules.specs.Reached.{Reached, EndSeen, first, AreAllSeen}
 use Rattle.orc_schedules.specs.Seen.{kept}
+use Rattle.orc_schedules.specs.Tables.{IsLookedAt}
 
--- where the first state is among states that are closed, no wait is so long that a run within the limit comes to the last time, and the ends among them are told, each run of the program that ends has one of these ends, with what of it is named
+-- where the first state is among states that were all looked at, and no wait is so long that a run within the limit comes to the last time, each run of the program that ends has one of the ends that were told, with what of it is named
 abbrev pub AllAreFound : Type 0
 AllAreFound = (l : Listing) (t : Table) (names : List Simple) (sites : List ClaimSite) (limit longest : ℕ) (rs : List Reached) (os : List EndSeen)
-    → IsClosedUnder (small_definitions l) (kept names sites) rs → IsIn {X = Reached} (first l t, []) rs → WaitsWithin (small_definitions l) longest rs → suc limit * longest < 2 ^ 64 → TellsEnds (small_definitions l) rs os
+    → ((r : Reached) → IsIn r rs → IsLookedAt (small_definitions l) (kept names sites) rs longest os r) → IsIn {X = Reached} (first l t, []) rs → suc limit * longest < 2 ^ 64
     → AreAllSeen l t names sites limit os

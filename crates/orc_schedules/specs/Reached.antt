@@ -1,5 +1,5 @@
 -- The states that a program can reach, with what was seen on the way, and the ends of its runs.
-use Rattle.std.specs.Prelude.{◌≡◌, ◌≤◌, ℕ, List, [], Some, slice_get}
+use Rattle.std.specs.Prelude.{◌≡◌, ℕ, List, [], Some, slice_get}
 use Rattle.orc_rules.specs.declared.value.Value.{Value}
 use Rattle.orc_rules.specs.Nodes.{Listing, source}
 use Rattle.orc_rules.specs.Sites.{Table}
@@ -11,30 +11,20 @@ use Rattle.orc_tally.specs.declared.sight.ClaimSite.{ClaimSite}
 use Rattle.orc_outcome.specs.Outcome.{Outcome, IsRun}
 use Rattle.orc_outcome.specs.declared.end.End.{End}
 use Rattle.orc_outcome.specs.declared.end.End.TheVariants.{Halted, Quiet, Limit, Full, Memory}
-use Rattle.orc_search.specs.Moves.{SmallDefinition}
-use Rattle.orc_search.specs.Graphs.{Ending, halted, quiet, ending}
+use Rattle.orc_search.specs.Graphs.{Ending, halted, quiet}
 use Rattle.orc_search.specs.Programs.{small}
-use Rattle.orc_search.specs.States.{State, Sight, Goes}
-use Rattle.orc_search.specs.Successors.{wait}
+use Rattle.orc_search.specs.States.{State}
 use Rattle.orc_search.specs.Asked.{coming_of_made}
 use Rattle.orc_schedules.specs.declared.ended.Ended.{Ended}
-use Rattle.orc_schedules.specs.Seen.{Kept, seen_after, seen_of}
+use Rattle.orc_schedules.specs.Seen.{seen_of}
 
 -- a state, and what was seen on the way to it
 abbrev pub Reached : Type 0
 Reached = State × List Occurrence
 
--- with a state all to which it may go is among them
-abbrev pub IsClosedUnder : List SmallDefinition → Kept → List Reached → Type 0
-IsClosedUnder defs keep rs = (s : State) (ws : List Occurrence) (v : Sight) (t : State) → IsIn {X = Reached} (s, ws) rs → Goes defs s v t → IsIn {X = Reached} (t, seen_after keep ws v) rs
-
 -- a program's state before anything has happened
 abbrev pub first : Listing → Table → State
 first l t = record { term = small (source l); coming = coming_of_made t.sites [] }
-
--- each wait of a state among them is at most so long
-abbrev pub WaitsWithin : List SmallDefinition → ℕ → List Reached → Type 0
-WaitsWithin defs longest rs = (s : State) (ws : List Occurrence) (by : ℕ) → IsIn {X = Reached} (s, ws) rs → wait defs s.term ≡ Some by → by ≤ longest
 
 -- nothing can happen any more
 abbrev pub HasEnded : End → Type 0
@@ -63,7 +53,3 @@ AreAll l t limit es = (o : Outcome) → IsRun l t limit o → HasEnded o.end →
 abbrev pub end_of : Ending → End
 end_of halted = Halted
 end_of quiet = Quiet
-
--- each state among them that says an end has it among the ends
-abbrev pub TellsEnds : List SmallDefinition → List Reached → List EndSeen → Type 0
-TellsEnds defs rs os = (s : State) (ws : List Occurrence) (e : Ending) → IsIn {X = Reached} (s, ws) rs → ending defs s.term ≡ Some e → IsIn {X = EndSeen} (end_of e, ws) os

@@ -1,5 +1,5 @@
 -- What a search keeps of what happens.
-use Rattle.std.specs.Prelude.{ℕ, List, [], ◌∷◌, ◌++◌, length, map}
+use Rattle.std.specs.Prelude.{ℕ, List, [], ◌∷◌, ◌++◌, length, map, Bool, true, false}
 use Rattle.orc_rules.specs.declared.entry.Entry.{Entry}
 use Rattle.orc_rules.specs.declared.value.Answer.{Answer}
 use Rattle.orc_rules.specs.declared.value.Answer.TheVariants as answer
@@ -41,6 +41,14 @@ occurs sites unseen = []
 -- that of it which is named
 abbrev pub kept : List Simple → List ClaimSite → Kept
 kept names sites h = named names (occurs sites h)
+
+-- whether that is nothing
+abbrev pub is_nothing : List Occurrence → Bool
+is_nothing [] = true
+is_nothing (w ∷ ws) = false
+
+abbrev pub is_unkept : Kept → Happening → Bool
+is_unkept keep h = is_nothing (keep h)
 
 -- what was seen, after what is seen now
 abbrev pub seen_after : Kept → List Occurrence → Sight → List Occurrence

@@ -5,6 +5,7 @@ use Rattle.orc_rules.specs.Timed.{IsIn}
 use Rattle.orc_claims.specs.declared.happening.Occurrence.{Occurrence}
 use Rattle.orc_search.specs.declared.successor.Successor.{Successor}
 use Rattle.orc_search.specs.Asked.{coming_of_made}
+use Rattle.orc_search.specs.Early.{IsAhead, Leads}
 use Rattle.orc_search.specs.Graphs.{Ending, halted, quiet_if, ending}
 use Rattle.orc_search.specs.Moves.{SmallDefinition}
 use Rattle.orc_search.specs.Moving.{happening_of}
@@ -20,7 +21,7 @@ use Rattle.orc_schedules.specs.Counts.{made_at}
 use Rattle.orc_schedules.specs.Growing.{Grows}
 use Rattle.orc_schedules.specs.Lists.{list_at, lists}
 use Rattle.orc_schedules.specs.Reached.{Reached, EndSeen, end_of}
-use Rattle.orc_schedules.specs.Seen.{Kept, seen_after}
+use Rattle.orc_schedules.specs.Seen.{Kept, is_unkept, seen_after}
 
 -- its numbers are those of a term, of a list of calls and of a list of what was seen
 abbrev pub IsKnown : Tables → Key → Type 0
@@ -70,9 +71,15 @@ pub record IsDone (defs : List SmallDefinition) (keep : Kept) (rs : List Reached
   pub waits : (by : ℕ) → wait defs r.0.term ≡ Some by → by ≤ longest
   pub told : (e : Ending) → ending defs r.0.term ≡ Some e → IsIn {X = EndSeen} (end_of e, r.1) os
 
--- so are the first states, so many
+-- it was looked at: all this holds of a state to which early steps lead from it, none of which is kept
+pub record IsLookedAt (defs : List SmallDefinition) (keep : Kept) (rs : List Reached) (longest : ℕ) (os : List EndSeen) (r : Reached) : Type 0 where
+  pub ahead : State
+  pub is : IsAhead defs (is_unkept keep) r.0 ahead
+  pub done : IsDone defs keep rs longest os (ahead, r.1)
+
+-- so were the first states, so many
 abbrev pub AreDone : List SmallDefinition → Kept → List Site → Tables → ℕ → Type 0
-AreDone defs keep sites t n = (i : ℕ) (k : Key) → i < n → slice_get t.states i ≡ Some k → IsDone defs keep (reached sites t) t.longest (outcomes t) (reached_at sites t k)
+AreDone defs keep sites t n = (i : ℕ) (k : Key) → i < n → slice_get t.states i ≡ Some k → IsLookedAt defs keep (reached sites t) t.longest (outcomes t) (reached_at sites t k)
 
 -- what a state becomes once so much time has passed
 abbrev pub waited : List Site → Tables → Key → ℕ → Reached
@@ -81,3 +88,7 @@ waited sites t k by = (record { term = pass by (small_at (smalls t.terms) k.term
 -- how a run can end at a term, where it is known whether nothing can move there
 abbrev pub ending_if : Bool → Small → Option Ending
 ending_if still f = cond (is_over f) (Some halted) (quiet_if (not still) (least_left f))
+
+-- early steps, none of which is kept, lead from a state's term to another one
+abbrev pub LeadsTo : List SmallDefinition → Kept → List Site → Tables → Key → ℕ → Type 0
+LeadsTo defs keep sites t k term = Leads defs (is_unkept keep) (coming_at sites t k.made) (small_at (smalls t.terms) k.term) (small_at (smalls t.terms) term)

@@ -2,9 +2,10 @@
 //!
 //! A state is three numbers: of its term, of the list of the calls that were made, and of the list of what was seen, as far as `sieve` keeps it. `lists`,
 //! `calls` and `counts` give a list its number, `states` has the states in the order in which they were found, and `told` the ends. `tables` looks at each
-//! state once. `watch` says what a claim depends on, and `judging` holds it against an end.
+//! state once, after `ahead` has taken the steps of it that nobody sees. `watch` says what a claim depends on, and `judging` holds it against an end.
 #![tactic(auto)]
 
+mod ahead;
 mod calls;
 mod claimed;
 mod counts;

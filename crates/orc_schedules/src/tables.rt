@@ -13,7 +13,7 @@ ghost use Rattle.orc_search.specs.Successors.{least_left, some_time};
 ghost use Rattle.orc_schedules.specs.Adding.{end_seen, holds_by, outcome_of, shown_of, AddsOnly, AddsEnd, IsAfterOne, IsWaited, AreFound};
 ghost use Rattle.orc_schedules.specs.Reached.{EndSeen, end_of};
 ghost use Rattle.orc_schedules.specs.Seen.{kept_by};
-ghost use Rattle.orc_schedules.specs.Tables.{AreKnown, IsKnown, Keeps, IsDone, AreDone, after, waited, ending_if, reached, reached_at, outcome_at, outcomes, seen_at};
+ghost use Rattle.orc_schedules.specs.Tables.{AreKnown, IsKnown, Keeps, IsDone, IsLookedAt, AreDone, LeadsTo, after, waited, ending_if, reached, reached_at, outcome_at, outcomes, seen_at};
 
 use crate::claimed::Seen;
 use crate::counts::Counts;
@@ -168,8 +168,8 @@ impl Tables {
         Ok(())
     }
 
-    // Adds all that may come of a state, and its end, if it is one. The error is refused memory.
-    fn look_at(
+    // Adds all that may come of a state that is ahead of one of the states, and its end, if it is one. The error is refused memory.
+    fn expand(
         &mut self,
         alloc: Global,
         source: &Source,
@@ -182,7 +182,7 @@ impl Tables {
         ensures all { OnOk result (AreKnown self.new) }
         ensures kept { OnOk result (Keeps self.old self.new) }
         ensures done { OnOk result (IsDone (small_definitions source.now.program.now) (kept_by sieve.now) (reached source.now.answers.now.sites self.new) self.new.longest (outcomes self.new) (reached_at source.now.answers.now.sites self.old from)) }
-        ensures found { OnOk result ((begin : State) → IsIn from self.old.states → AreFound (small_definitions source.now.program.now) (kept_by sieve.now) begin source.now.answers.now.sites self.old → AreFound (small_definitions source.now.program.now) (kept_by sieve.now) begin source.now.answers.now.sites self.new) }
+        ensures found { OnOk result ((begin : State) (behind : ℕ) → IsIn (record { term = behind; made = from.made; seen = from.seen }) self.old.states → LeadsTo (small_definitions source.now.program.now) (kept_by sieve.now) source.now.answers.now.sites self.old (record { term = behind; made = from.made; seen = from.seen }) from.term → AreFound (small_definitions source.now.program.now) (kept_by sieve.now) begin source.now.answers.now.sites self.old → AreFound (small_definitions source.now.program.now) (kept_by sieve.now) begin source.now.answers.now.sites self.new) }
     {
         let next = successors(
             &mut self.terms,
@@ -198,6 +198,33 @@ impl Tables {
             return Ok(());
         }
         self.tell(from, false)?;
+        Ok(())
+    }
+
+    // Takes the early steps of a state that nobody sees, and adds all that may come of the state to which they lead, and its end, if it is one. The
+    // error is refused memory.
+    fn look_at(
+        &mut self,
+        alloc: Global,
+        source: &Source,
+        sieve: &Sieve,
+        from: Key,
+    ) -> Result<(), AllocError>
+        requires all { AreKnown self.old }
+        requires from { IsKnown self.old from }
+        requires ready { IsReady (smalls self.old.terms) source.now }
+        ensures all { OnOk result (AreKnown self.new) }
+        ensures kept { OnOk result (Keeps self.old self.new) }
+        ensures done { OnOk result (IsLookedAt (small_definitions source.now.program.now) (kept_by sieve.now) (reached source.now.answers.now.sites self.new) self.new.longest (outcomes self.new) (reached_at source.now.answers.now.sites self.old from)) }
+        ensures found { OnOk result ((begin : State) → IsIn from self.old.states → AreFound (small_definitions source.now.program.now) (kept_by sieve.now) begin source.now.answers.now.sites self.old → AreFound (small_definitions source.now.program.now) (kept_by sieve.now) begin source.now.answers.now.sites self.new) }
+    {
+        let term = self.ahead_of(alloc, source, sieve, from)?;
+        let ahead = Key {
+            term,
+            made: from.made,
+            seen: from.seen,
+        };
+        self.expand(alloc, source, sieve, ahead)?;
         Ok(())
     }
 

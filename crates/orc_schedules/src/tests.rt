@@ -147,9 +147,10 @@ fn waits_of_a_run_come_to_the_last_time(rt: HostRuntime) -> Result<(), Fail> {
     let main = delay(&mut nodes, 1 << 60)?;
     let program = plain(alloc, nodes, main);
     let sites = Answers::builtin(alloc)?;
-    // It has five states. Fifteen waits of 2^60 come to less than 2^64, and sixteen to 2^64.
+    // It has three states: before the wait, after it, and after its signal was published. Fifteen waits of 2^60 come to less than 2^64, and sixteen to
+    // 2^64.
     let found = search(alloc, &program, &sites, 1000, 14)?;
-    assert!(rt; matches!(&found, Schedules::All(_, 5)));
+    assert!(rt; matches!(&found, Schedules::All(_, 3)));
     let found = search(alloc, &program, &sites, 1000, 15)?;
     assert!(rt; matches!(&found, Schedules::TooLong));
     Ok(())

@@ -1,9 +1,8 @@
 -- Early steps leave all other steps as they are, and so a state that is ahead follows.
-use Rattle.std.proofs.Common.{◌≡◌, ◌<◌, ◌≤◌, ℕ, zero, suc, List, [], ◌∷◌, map, Bool, true, false, Option, Some, None, ◌⊎◌, refl, sym, ap, ◌∙◌, subst, inl, inr, arith, eq-eqb}
+use Rattle.std.proofs.Common.{◌≡◌, ◌≤◌, ℕ, suc, List, [], ◌∷◌, Bool, true, false, Option, Some, None, refl, sym, ap, ◌∙◌, subst, inl, inr, arith, eq-eqb}
 use Rattle.std.specs.Prelude.{cond, nat_eq, ◌&&◌, ◌||◌, is_some, slice_get}
 use Rattle.orc_rules.specs.declared.value.Value.{Value}
 use Rattle.orc_rules.specs.declared.value.Answer.{Answer}
-use Rattle.orc_rules.specs.declared.value.Found.{Found}
 use Rattle.orc_rules.specs.declared.value.Found.TheVariants.{After, Never}
 use Rattle.orc_rules.specs.declared.param.Param.{Param}
 use Rattle.orc_rules.specs.declared.param.Param.TheVariants.{Name, Is, Cell, Void}
@@ -12,12 +11,12 @@ use Rattle.orc_rules.specs.Sites.{values_eq}
 use Rattle.orc_rules.specs.Term.{values_of, HasVoid, Definition}
 use Rattle.orc_rules.specs.Timed.{Context}
 use Rattle.orc_rules.proofs.Values.{values_decide}
-use Rattle.orc_search.specs.Small.{Out, Small, nothing, gives, asks, enters, both, feeds, prunes, instead, awaits, needs, set, set_all, settle, IsOver, left_by}
+use Rattle.orc_search.specs.Small.{Out, Small, nothing, asks, both, feeds, instead, awaits, needs, set, set_all, settle, IsOver, left_by}
 use Rattle.orc_search.specs.Moves.{Happening, called, answered, published, unseen, IsPassed, SmallDefinition, Moves, value, on_left, on_right, feeding, on_main, on_side, first, passes}
 use Rattle.orc_search.specs.Moves as move
 use Rattle.orc_search.specs.Early.{Early, void_value, asked, void_call, returned, entered, fed, opens, binds, loses, falls, IsHidden, Leads, stays, early, IsAhead, Follows, stands, goes, AheadFollows, AheadEnds, AreHidden, AheadIsReached}
 use Rattle.orc_search.specs.Early as by
-use Rattle.orc_search.specs.Graphs.{Ending, halted, quiet, quiet_if, ending}
+use Rattle.orc_search.specs.Graphs.{Ending, halted, quiet_if, ending}
 use Rattle.orc_search.specs.Seen.{seen}
 use Rattle.orc_search.specs.States.{State, Sight, happens, waits, Coming, next_call, without_next, coming_after, Goes, Path, AreOf}
 use Rattle.orc_search.specs.Successors.{least_left}

@@ -1,11 +1,10 @@
 -- Parts of a term, and the early steps that it has by them.
-use Rattle.std.proofs.Common.{◌≡◌, ◌<◌, ◌≤◌, ℕ, zero, suc, List, [], ◌∷◌, ◌++◌, length, map, Bool, true, false, Option, Some, None, ◌⊎◌, refl, sym, ap, ◌∙◌, subst, inl, inr, arith}
+use Rattle.std.proofs.Common.{◌≡◌, ◌<◌, ℕ, zero, suc, List, [], ◌∷◌, ◌++◌, length, Bool, true, false, Option, Some, None, ◌⊎◌, refl, sym, ap, ◌∙◌, subst, inl, inr, arith}
 use Rattle.std.specs.Prelude.{slice_get}
 use Rattle.std.specs.List.{AllZip}
 use Rattle.orc_rules.specs.declared.value.Value.{Value}
 use Rattle.orc_rules.specs.declared.value.Found.{Found}
 use Rattle.orc_rules.specs.declared.value.Found.TheVariants.{After, Never}
-use Rattle.orc_rules.specs.declared.param.Param.{Param}
 use Rattle.orc_rules.specs.declared.param.Param.TheVariants.{Name, Is, Cell, Void}
 use Rattle.orc_rules.specs.Idle.{has_void}
 use Rattle.orc_rules.specs.Term.{values_of}
@@ -31,9 +30,9 @@ use Rattle.orc_search.specs.Nodes.{small_at, small_of_node, joined, HasParts, Ex
 use Rattle.orc_search.specs.Own.{own}
 use Rattle.orc_search.specs.Ticks.{is_over}
 use Rattle.orc_search.specs.Walks.{tasks_of}
-use Rattle.orc_search.specs.Early.{Early, void_value, asked, void_call, returned, entered, fed, opens, binds, loses, falls, on_left, on_right, feeding, on_main, on_side, first}
+use Rattle.orc_search.specs.Early.{void_value, asked, void_call, returned, entered, fed, opens, binds, loses, falls, on_left, on_right, feeding, on_main, on_side, first}
 use Rattle.orc_search.specs.Parts.{parts_of, Fits, IsInside, IsPart, AreParts, EarlyBy, IsEarly, Lifts, is_passed, takes_values}
-use Rattle.orc_search.proofs.Changes.{kept_at, kept_len, extends_both}
+use Rattle.orc_search.proofs.Changes.{kept_at, kept_len}
 use Rattle.orc_search.proofs.Listed.{split, true_over, true_void}
 use Rattle.orc_search.proofs.Successors.{feeds_on, side_on, first_on}
 use Rattle.orc_search.proofs.Walks.{frame_kept}

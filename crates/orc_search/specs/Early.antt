@@ -8,7 +8,7 @@ use Rattle.orc_rules.specs.declared.param.Param.TheVariants.{Is, Cell, Void}
 use Rattle.orc_rules.specs.Term.{values_of, HasVoid}
 use Rattle.orc_rules.specs.Timed.{Context}
 use Rattle.orc_search.specs.Small.{Out, Small, nothing, gives, asks, enters, both, feeds, prunes, instead, awaits, needs, set, set_all, settle, IsOver, left_by}
-use Rattle.orc_search.specs.Moves.{Happening, called, answered, unseen, SmallDefinition, Moves}
+use Rattle.orc_search.specs.Moves.{Happening, called, answered, unseen, SmallDefinition}
 use Rattle.orc_search.specs.Graphs.{Ending, ending}
 use Rattle.orc_search.specs.States.{State, Sight, happens, Coming, next_call, coming_after, Goes, Path, AreOf}
 

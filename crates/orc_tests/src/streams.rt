@@ -34,10 +34,10 @@ fn fails_at_each_call_of_a_writer(rt: HostRuntime) -> Result<(), Fail> {
     let rows: [(&[&str], &str); 7] = [
         (RUN, "6\n5\n"),
         (OUTCOMES, "order 0 (3 of 3) Halted: 6 5\n"),
-        // The left call is to be made or out in five states of the right side each, and due, answered or published in its last one.
+        // There is a state before 6 is published, one behind it, one behind the wait for the left call, and one once 5 is published.
         (
             SEARCH,
-            "order 0 (1 of 1) Halted: 6 5\nall: every run that ends by itself has one of these outcomes (13 states)\n",
+            "order 0 (1 of 1) Halted: 6 5\nall: every run that ends by itself has one of these outcomes (4 states)\n",
         ),
         (CHECK, "ok 1 Running\n"),
         (PRINT, "Pair(1, 9) | (Pair(2, 9) ; 6)\n"),

@@ -3,7 +3,7 @@ use Rattle.orc_search.specs.Nodes.{smalls}
 use Rattle.orc_search.specs.Programs.{small_definitions}
 use Rattle.orc_schedules.specs.Reached.{Reached}
 use Rattle.orc_schedules.specs.Seen.{kept_by}
-use Rattle.orc_schedules.specs.Tables.{IsDone, reached, reached_at, outcomes}
+use Rattle.orc_schedules.specs.Tables.{IsLookedAt, reached, reached_at, outcomes}
 use Rattle.orc_schedules.proofs.Growing.{get_in}
 use Rattle.orc_schedules.proofs.Keeping.{keeps_both, reached_kept}
 use Rattle.orc_schedules.proofs.Starting.{ready_kept}
@@ -27,8 +27,8 @@ loop-at-preserved c =
     let kept = c.in_ok-look_at.ensures.kept in
     let known = c.loop-at.invariant.0 in
     let there = sym c.in-Some.ensures in
-    let here : IsDone defs keep (reached sites u) u.longest (outcomes u) (reached_at sites u k) =
-    subst (λ (r : Reached). IsDone defs keep (reached sites u) u.longest (outcomes u) r) (sym (reached_kept keep sites t u k kept (known.0 at k there))) c.in_ok-look_at.ensures.done in
+    let here : IsLookedAt defs keep (reached sites u) u.longest (outcomes u) (reached_at sites u k) =
+    subst (λ (r : Reached). IsLookedAt defs keep (reached sites u) u.longest (outcomes u) r) (sym (reached_kept keep sites t u k kept (known.0 at k there))) c.in_ok-look_at.ensures.done in
     (c.in_ok-look_at.ensures.all, keeps_both c.args.self.now t u c.loop-at.invariant.1 kept, done_next defs keep sites t u at k kept known there c.loop-at.invariant.2 here, λ begin found. c.in_ok-look_at.ensures.found begin (get_in t.states at k there) (c.loop-at.invariant.3 begin found))
 
 pub returns-then-len-most-clause-found : goal.returns-then-len-most-clause-found

@@ -1,8 +1,7 @@
-use Rattle.std.proofs.Common.{◌≡◌, ◌<◌, ℕ, List, Option, Some, length, arith, sym, ap, subst, ◌∙◌}
+use Rattle.std.proofs.Common.{◌≡◌, ℕ, List, Option, arith, sym, subst, ◌∙◌}
 use Rattle.std.specs.List.{AllZip}
 use Rattle.std.specs.Prelude.{IfSome}
 use Rattle.orc_rules.specs.declared.value.Value.{Value}
-use Rattle.orc_search.specs.declared.early.Part.{Part}
 use Rattle.orc_search.specs.declared.successor.Successor.{Successor as Numbered}
 use Rattle.orc_search.specs.Asked.{coming_of_made}
 use Rattle.orc_search.specs.Moves.{SmallDefinition}

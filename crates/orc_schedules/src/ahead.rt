@@ -1,0 +1,116 @@
+//! Early steps that nobody sees: a search takes them alone, before it looks at all that may come of a state.
+
+ghost use Rattle.std.specs.Prelude.{◌≡◌, ◌<◌, length, true, IfOk, IfSome, OnOk};
+ghost use Rattle.orc_search.specs.Early.{IsHidden};
+ghost use Rattle.orc_search.specs.Moving.{happening_of};
+ghost use Rattle.orc_search.specs.Nodes.{smalls};
+ghost use Rattle.orc_search.specs.Programs.{small_definitions};
+ghost use Rattle.orc_search.specs.Ready.{IsReady};
+ghost use Rattle.orc_schedules.specs.Seen.{is_unkept, kept_by};
+ghost use Rattle.orc_schedules.specs.Tables.{AreKnown, IsKnown, Keeps, LeadsTo, coming_at};
+
+use crate::sieve::Sieve;
+use crate::states::Key;
+use crate::tables::Tables;
+use orc_rules::answers::Answers;
+use orc_search::early::Parts;
+use orc_search::moves::Source;
+use orc_search::successor::Happening;
+use std::alloc::{AllocError, Global};
+
+// So many early steps are taken one after another at most: a definition may call itself for ever.
+const MOST_EARLY: u64 = 1000;
+
+impl Tables {
+    // Whether what happens is kept by nobody, and leaves the calls to come as they are. The error is refused memory, or one of the sieve's.
+    fn is_unseen(
+        &mut self,
+        alloc: Global,
+        answers: &Answers,
+        sieve: &Sieve,
+        from: Key,
+        happening: &Happening,
+    ) -> Result<bool, AllocError>
+        requires all { AreKnown self.old }
+        requires from { IsKnown self.old from }
+        ensures all { OnOk result (AreKnown self.new) }
+        ensures kept { OnOk result (Keeps self.old self.new) }
+        ensures hidden { IfOk result (λ is. is ≡ true → IsHidden (is_unkept (kept_by sieve.now)) (coming_at answers.now.sites self.old from.made) (happening_of happening.now)) }
+        ensures terms { self.new.terms ≡ self.old.terms }
+        ensures states { self.new.states ≡ self.old.states }
+        ensures ends { self.new.ends ≡ self.old.ends }
+    {
+        let made = self.counts.after(alloc, answers, from.made, happening)?;
+        let seen = self.lists.after(from.seen, sieve, happening)?;
+        if made != from.made {
+            return Ok(false);
+        }
+        Ok(seen == from.seen)
+    }
+
+    // The term to which an early step leads that nobody sees, if there is one. The error is refused memory, or one of the sieve's.
+    fn early_term(
+        &mut self,
+        alloc: Global,
+        source: &Source,
+        sieve: &Sieve,
+        from: Key,
+    ) -> Result<Option<usize>, AllocError>
+        requires all { AreKnown self.old }
+        requires from { IsKnown self.old from }
+        requires ready { IsReady (smalls self.old.terms) source.now }
+        ensures all { OnOk result (AreKnown self.new) }
+        ensures kept { OnOk result (Keeps self.old self.new) }
+        ensures there { IfOk result (λ o. IfSome o (λ term. term < length (smalls self.new.terms))) }
+        ensures leads { IfOk result (λ o. IfSome o (λ term. LeadsTo (small_definitions source.now.program.now) (kept_by sieve.now) source.now.answers.now.sites self.new from term)) }
+        ensures states { OnOk result (self.new.states ≡ self.old.states) }
+        ensures ends { OnOk result (self.new.ends ≡ self.old.ends) }
+    {
+        let mut parts = Parts::of_term(alloc, from.term)?;
+        for _early in 0..u64::MAX {
+            let made = self.counts.made(from.made);
+            let Some(step) = parts.next_early(&mut self.terms, alloc, source, made)? else {
+                return Ok(None);
+            };
+            let unseen = self.is_unseen(alloc, source.answers, sieve, from, &step.happening)?;
+            if unseen {
+                return Ok(Some(step.to));
+            }
+        }
+        Err(AllocError)
+    }
+
+    // The term to which early steps lead that nobody sees: one that has no such step, unless there are more of them than a search takes. The error is
+    // refused memory, or one of the sieve's.
+    pub(crate) fn ahead_of(
+        &mut self,
+        alloc: Global,
+        source: &Source,
+        sieve: &Sieve,
+        from: Key,
+    ) -> Result<usize, AllocError>
+        requires all { AreKnown self.old }
+        requires from { IsKnown self.old from }
+        requires ready { IsReady (smalls self.old.terms) source.now }
+        ensures all { OnOk result (AreKnown self.new) }
+        ensures kept { OnOk result (Keeps self.old self.new) }
+        ensures there { IfOk result (λ term. term < length (smalls self.new.terms)) }
+        ensures leads { IfOk result (λ term. LeadsTo (small_definitions source.now.program.now) (kept_by sieve.now) source.now.answers.now.sites self.new from term) }
+        ensures states { OnOk result (self.new.states ≡ self.old.states) }
+        ensures ends { OnOk result (self.new.ends ≡ self.old.ends) }
+    {
+        let mut ahead = from.term;
+        for _early in 0..MOST_EARLY {
+            let at = Key {
+                term: ahead,
+                made: from.made,
+                seen: from.seen,
+            };
+            match self.early_term(alloc, source, sieve, at)? {
+                Some(term) => ahead = term,
+                None => return Ok(ahead),
+            }
+        }
+        Ok(ahead)
+    }
+}
