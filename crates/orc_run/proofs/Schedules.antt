@@ -19,7 +19,7 @@ use Rattle.orc_schedules.specs.declared.claimed.ClaimSearched.TheVariants as fou
 use Rattle.orc_run.specs.Whole.{AreAfter, AreSaid, AreSoFar, FailsThere, HoldsThere, IsAfter, IsBefore, IsBroken, IsSaid, IsScriptAt, IsSoFar, IsUnwanted, IsWay, IsWhole, IsWholeSoFar, said_of}
 use Rattle.orc_run.specs.declared.searched.Searcher.{Searcher}
 use Rattle.orc_run.specs.declared.searched.Way.{Way}
-use Rattle.orc_run.specs.declared.tests.CaseScripts.{CaseScripts}
+use Rattle.orc_run.specs.declared.scripts.CaseScripts.{CaseScripts}
 
 -- ---- places of lists
 

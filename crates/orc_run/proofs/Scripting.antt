@@ -5,7 +5,7 @@ use Rattle.std.proofs.lemmas.List.{append-nil, append_assoc}
 use Rattle.orc_ways.specs.Drafts.{Test}
 use Rattle.orc_cases.specs.Ways.{CaseWays, ways_of}
 use Rattle.orc_run.specs.Tested.{AreScripts, AreWays}
-use Rattle.orc_run.specs.declared.tests.CaseScripts.{CaseScripts}
+use Rattle.orc_run.specs.declared.scripts.CaseScripts.{CaseScripts}
 
 -- those of the next case behind those of some
 next_ways : (t : Test) (case : ℕ) (cs : List CaseWays) (c : CaseWays) → AreWays t case cs → ways_of t (case + length cs) ≡ Some c → AreWays t case (cs ++ c ∷ [])

@@ -48,7 +48,7 @@ use Rattle.orc_run.specs.Whole.{IsScriptAt}
 use Rattle.orc_run.specs.TestFaults.{all_scripts, all_texts, AreReported, AreUnshown, AreUntold, AreUntried, AreUnwritten, HasReport, HasUnloaded, IsAmong, IsCounted, IsEngineCause, IsFirstMany, IsKnown, IsNoMemory, IsNoScript, IsNoTest, IsNoText, IsToShow, IsUncounted, IsUnfound, IsUnshown, IsUntestedFor}
 use Rattle.orc_run.specs.declared.faults.RunFault.{RunFault}
 use Rattle.orc_run.specs.declared.faults.RunFault.TheVariants as fault
-use Rattle.orc_run.specs.declared.tests.CaseScripts.{CaseScripts}
+use Rattle.orc_run.specs.declared.scripts.CaseScripts.{CaseScripts}
 use Rattle.orc_run.specs.declared.tests.Untested.{Untested}
 use Rattle.orc_run.specs.declared.tests.Untested.TheVariants as untested
 use Rattle.orc_run.proofs.Testing.{is_report, one_tried, stands_there}

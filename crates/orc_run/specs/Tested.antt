@@ -32,7 +32,7 @@ use Rattle.orc_run.specs.Running.{IsOwnOf, Ran, of_load}
 use Rattle.orc_run.specs.Whole.{AreSaid, IsScriptAt}
 use Rattle.orc_run.specs.declared.faults.RunFault.{RunFault}
 use Rattle.orc_run.specs.declared.faults.RunFault.TheVariants as fault
-use Rattle.orc_run.specs.declared.tests.CaseScripts.{CaseScripts}
+use Rattle.orc_run.specs.declared.scripts.CaseScripts.{CaseScripts}
 use Rattle.orc_run.specs.declared.tests.Untested.{Untested}
 use Rattle.orc_run.specs.declared.tests.Untested.TheVariants as untested
 

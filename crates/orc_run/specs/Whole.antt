@@ -15,12 +15,14 @@ use Rattle.orc_tally.specs.declared.table.Searched.TheVariants as searched
 use Rattle.orc_orders.specs.Trials.{claim_sites, texts}
 use Rattle.orc_orders.specs.declared.trials.Trials.{Trials}
 use Rattle.orc_schedules.specs.Claimed.{FailsInOne, HoldsInAll}
+use Rattle.orc_schedules.specs.Explored.{answers_of, program_of, IsExplorer}
 use Rattle.orc_schedules.specs.declared.claimed.ClaimSearched.{ClaimSearched}
 use Rattle.orc_schedules.specs.declared.claimed.ClaimSearched.TheVariants as found
 use Rattle.orc_schedules.specs.declared.claimed.Seen.{Seen}
+use Rattle.orc_schedules.specs.declared.exploration.Explorer.{Explorer}
 use Rattle.orc_run.specs.declared.searched.Searcher.{Searcher}
 use Rattle.orc_run.specs.declared.searched.Way.{Way}
-use Rattle.orc_run.specs.declared.tests.CaseScripts.{CaseScripts}
+use Rattle.orc_run.specs.declared.scripts.CaseScripts.{CaseScripts}
 
 -- the script of this way of this case
 abbrev pub IsScriptAt : List CaseScripts → ℕ → ℕ → List ℕ → Type 0
@@ -84,6 +86,12 @@ pub record IsWay (t : Trials) (w : Way) : Type 0 where
   pub says : Says w.script.now w.loaded.answers
   pub spells : IsProgramOf t.source.now w.loaded.answers w.loaded.program
   pub sites : w.sites.items ≡ claim_sites w.loaded.answers (sites_of t.sites.now)
+
+-- it explores that way's program with its sites
+pub record Explores (w : Way) (e : Explorer) : Type 0 where
+  pub ready : IsExplorer e
+  pub program : program_of e ≡ w.loaded.program
+  pub answers : answers_of e ≡ w.loaded.answers
 
 -- what is said of a claim before and after the way at this place: each word that is new is so
 pub record IsAfter (t : Trials) (section : Option ℕ) (c : Claim) (place : Broken) (script : List ℕ) (before after : Searched) : Type 0 where

@@ -1,6 +1,6 @@
 //! Which services of a test no run has asked: a line that nobody calls may be mistyped.
 
-use crate::tests::CaseScripts;
+use crate::scripts::CaseScripts;
 use orc_claims::claim::{Claim, Event, Plain, Simple, Slot, Wanted};
 use orc_orders::{CaseTold, Trials, try_ways};
 use orc_report::Page;

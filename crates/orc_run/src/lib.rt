@@ -19,6 +19,7 @@ mod printer;
 mod publications;
 mod run_end;
 mod runner;
+mod scripts;
 mod searched;
 mod shown;
 mod tests;

@@ -1,6 +1,6 @@
 //! The search through all schedules of the ways in which a test's claims held.
 
-ghost use Rattle.std.specs.Prelude.{◌≡◌, ◌⊎◌, IfErr, IfOk, IfSome, Some, false, suc, true};
+ghost use Rattle.std.specs.Prelude.{◌≡◌, ◌⊎◌, IfErr, IfOk, IfSome, OnOk, Some, false, suc, true};
 ghost use Rattle.std.specs.Io.KnownBytes.{Keeps};
 ghost use Rattle.std.specs.List.{slice_get};
 ghost use Rattle.orc_claims.specs.declared.claim.Claim.{Claim as AClaim};
@@ -11,19 +11,20 @@ ghost use Rattle.orc_tally.specs.Table.{are_full, section_of};
 ghost use Rattle.orc_run.specs.Running.{Ran};
 ghost use Rattle.orc_run.specs.Tested.{IsOwnFault, LeavesUntested, witness_options};
 ghost use Rattle.orc_run.specs.TestFaults.{IsUnshown};
-ghost use Rattle.orc_run.specs.Whole.{AreAfter, AreSaid, AreSoFar, IsAfter, IsUnwanted, IsWay, said_of};
+ghost use Rattle.orc_run.specs.Whole.{AreAfter, AreSaid, AreSoFar, Explores, IsAfter, IsUnwanted, IsWay, said_of};
 
 use crate::faults::RunFault;
 use crate::runner::write_run;
+use crate::scripts::CaseScripts;
 use crate::shown::PLACES_A_STATE;
-use crate::tests::{CaseScripts, NO_MEMORY, Untested};
+use crate::tests::{NO_MEMORY, Untested};
 use crate::witness::{Sighting, witness};
 use orc_claims::claim::Claim;
 use orc_cli::Wanted;
 use orc_load::{Loaded, load};
 use orc_orders::{Trials, claim_sites};
 use orc_outcome::Played;
-use orc_schedules::{ClaimSearched, Seen, Watch, search_claim};
+use orc_schedules::{ClaimSearched, Explorer, Seen, Watch, search_claim};
 use orc_tally::{Broken, CaseReport, ClaimSite, Searched, is_held, is_open};
 use orc_ways::test::Test;
 use std::alloc::{AllocError, Global};
@@ -66,7 +67,24 @@ impl<'w> Way<'w> {
         })
     }
 
-    // What a search for a claim comes to, through so many states at most.
+    // What a search for a claim comes to, through so many states at most, by what searches of the way share.
+    fn search_on(
+        &self,
+        alloc: Global,
+        explorer: &mut Explorer<'_>,
+        claim: &Claim,
+        most: usize,
+        limit: u64,
+    ) -> Result<ClaimSearched, AllocError>
+        requires { Explores self.now explorer.old }
+        ensures searched { IfOk result (IsClaimSearched self.now.loaded.program self.now.loaded.answers self.now.sites.items claim.now limit) }
+        ensures ready { OnOk result (Explores self.now explorer.new) }
+    {
+        let found = explorer.search_claim(alloc, self.sites.as_slice(), claim, most, limit)?;
+        Ok(found)
+    }
+
+    // The same by a search alone.
     fn search(
         &self,
         alloc: Global,
@@ -195,15 +213,19 @@ impl Searcher<'_, '_> {
     fn find(
         &self,
         way: &Way<'_>,
+        explorer: &mut Explorer<'_>,
         place: Broken,
         section: Option<usize>,
         claim: &Claim,
         left: &mut u64,
     ) -> Result<ClaimSearched, AllocError>
-        ensures { IfOk result (IsClaimSearched way.now.loaded.program way.now.loaded.answers way.now.sites.items claim.now self.now.trials.now.limit) }
+        requires { Explores way.now explorer.old }
+        ensures searched { IfOk result (IsClaimSearched way.now.loaded.program way.now.loaded.answers way.now.sites.items claim.now self.now.trials.now.limit) }
+        ensures ready { OnOk result (Explores way.now explorer.new) }
     {
         let most = self.most.min(*left) as usize;
-        let found = way.search(self.alloc, claim, most, self.trials.limit)?;
+        let limit = self.trials.limit;
+        let found = way.search_on(self.alloc, explorer, claim, most, limit)?;
         let before = *left;
         *left = before.saturating_sub(cost_of(&found, most));
         if let ClaimSearched::Holds(states) = &found {
@@ -219,12 +241,15 @@ impl Searcher<'_, '_> {
     fn say_again(
         &self,
         way: &Way<'_>,
+        explorer: &mut Explorer<'_>,
         place: Broken,
         claim: usize,
         left: &mut u64,
     ) -> Result<Searched, AllocError>
-        requires { IsWay self.now.trials.now way.now }
-        ensures { IfOk result (λ s. (c : AClaim) → slice_get self.now.trials.now.claims.now claim ≡ Some c → IsAfter self.now.trials.now (section_of (slice_get self.now.test.now.claim_lines.items claim)) c place way.now.script.now Searched.Whole s) }
+        requires way { IsWay self.now.trials.now way.now }
+        requires ready { Explores way.now explorer.old }
+        ensures ready { OnOk result (Explores way.now explorer.new) }
+        ensures said { IfOk result (λ s. (c : AClaim) → slice_get self.now.trials.now.claims.now claim ≡ Some c → IsAfter self.now.trials.now (section_of (slice_get self.now.test.now.claim_lines.items claim)) c place way.now.script.now Searched.Whole s) }
     {
         let section = self.section(claim);
         if !is_held(section, place.case) {
@@ -232,7 +257,7 @@ impl Searcher<'_, '_> {
         }
         match self.trials.claims.get(claim) {
             Some(claim) => {
-                let found = self.find(way, place, section, claim, left)?;
+                let found = self.find(way, explorer, place, section, claim, left)?;
                 Ok(said_of(place, &found))
             }
             None => Ok(Searched::No),
@@ -244,17 +269,20 @@ impl Searcher<'_, '_> {
     fn say(
         &self,
         way: &Way<'_>,
+        explorer: &mut Explorer<'_>,
         place: Broken,
         claim: usize,
         before: Searched,
         left: &mut u64,
     ) -> Result<Searched, AllocError>
-        requires { IsWay self.now.trials.now way.now }
-        ensures { IfOk result (λ s. (c : AClaim) → slice_get self.now.trials.now.claims.now claim ≡ Some c → IsAfter self.now.trials.now (section_of (slice_get self.now.test.now.claim_lines.items claim)) c place way.now.script.now before s) }
+        requires way { IsWay self.now.trials.now way.now }
+        requires ready { Explores way.now explorer.old }
+        ensures ready { OnOk result (Explores way.now explorer.new) }
+        ensures said { IfOk result (λ s. (c : AClaim) → slice_get self.now.trials.now.claims.now claim ≡ Some c → IsAfter self.now.trials.now (section_of (slice_get self.now.test.now.claim_lines.items claim)) c place way.now.script.now before s) }
     {
         match before {
             Searched::No | Searched::Breaks(_) => Ok(before),
-            Searched::Whole => self.say_again(way, place, claim, left),
+            Searched::Whole => self.say_again(way, explorer, place, claim, left),
         }
     }
 
@@ -273,9 +301,11 @@ impl Searcher<'_, '_> {
             return Ok(before);
         }
         let way = Way::load(self.alloc, self.trials, script)?;
+        let mut explorer = Explorer::new(self.alloc, &way.loaded.program, &way.loaded.answers)?;
         let mut after = Vec::new(self.alloc);
         for claim in 0..before.len() {
-            after.push(self.say(&way, place, claim, before[claim], left)?)?;
+            let said = self.say(&way, &mut explorer, place, claim, before[claim], left)?;
+            after.push(said)?;
         }
         Ok(after)
     }

@@ -1,6 +1,6 @@
 //! From a test's text to what is told of its claims.
 
-ghost use Rattle.std.specs.Prelude.{◌≡◌, List, ℕ, Some, IfOk, IfErr, OnOk, length};
+ghost use Rattle.std.specs.Prelude.{◌≡◌, List, ℕ, Some, IfOk, IfErr, OnOk};
 ghost use Rattle.std.specs.List.{AllZip};
 ghost use Rattle.std.specs.Io.KnownBytes.{Appends};
 ghost use Rattle.orc_outcome.specs.declared.end.Summary.{Summary};
@@ -19,8 +19,8 @@ ghost use Rattle.orc_ways.specs.Finishing.{Says as SaysTest};
 ghost use Rattle.orc_cli.specs.declared.job.Shown.TheVariants as what;
 ghost use Rattle.orc_run.specs.Running.{Ran};
 ghost use Rattle.orc_run.specs.Whole.{AreSaid};
-ghost use Rattle.orc_run.specs.Tested.{AreScripts, AreWays, HasFailing, IsOwnFault, IsScript, IsTried, LeavesUntested, Writes, of_trial, options_for, options_of, witness_options};
-ghost use Rattle.orc_run.specs.TestFaults.{all_texts, AreUnshown, AreUntold, AreUntried, AreUnwritten, IsAmong, IsNoMemory, IsNoScript, IsNoTest, IsNoText, IsUncounted, IsUnfound, IsUnshown, IsUntestedFor};
+ghost use Rattle.orc_run.specs.Tested.{HasFailing, IsOwnFault, IsScript, IsTried, LeavesUntested, Writes, of_trial, options_for, options_of, witness_options};
+ghost use Rattle.orc_run.specs.TestFaults.{all_texts, AreUnshown, AreUntold, AreUntried, AreUnwritten, IsNoMemory, IsNoScript, IsNoTest, IsNoText, IsUnfound, IsUnshown, IsUntestedFor};
 
 use crate::asked::services_never_asked;
 use crate::counterexample::{
@@ -31,6 +31,7 @@ use crate::failing_ways::failing_ways;
 use crate::faults::RunFault;
 use crate::output::{WriteFault, write_text};
 use crate::runner::run_source;
+use crate::scripts::{CaseScripts, all_scripts, script_at, unusual_lines, ways_of};
 use crate::searched::{Searcher, write_witness};
 use orc_cases::Ways;
 use orc_cli::{Options, Order, Shown, TestOptions, Wanted};
@@ -62,18 +63,10 @@ pub enum Untested {
 }
 
 /// Memory for what is to be written was refused.
-const NO_TEXT: Untested = Untested::Fault(RunFault::Write(WriteFault));
+pub(crate) const NO_TEXT: Untested = Untested::Fault(RunFault::Write(WriteFault));
 
 /// Memory for what is tried was refused.
 pub(crate) const NO_MEMORY: Untested = Untested::Fault(RunFault::Engine(EngineFault::Memory));
-
-/// The scripts of the ways of a case that are tried.
-#[derive(Drop)]
-pub struct CaseScripts {
-    /// How many ways the case has.
-    pub count: u64,
-    pub scripts: Vec<Vec<u8>>,
-}
 
 /// What is tried, and how.
 #[derive(Drop)]
@@ -89,83 +82,10 @@ struct Tester<'s, 'a, R> {
 }
 
 // A fault of the test's text.
-fn unread(fault: TestFault) -> Untested
+pub(crate) fn unread(fault: TestFault) -> Untested
     ensures { result ≡ Untested.Fault (RunFault.Test fault) }
 {
     Untested::Fault(RunFault::Test(fault))
-}
-
-// The ways of each case. The fault is of the first case that has too many, or refused memory.
-#[tactic(auto, using(crate::proofs::Scripting::one_case, crate::proofs::Untold::first_many))]
-fn ways_of(alloc: Global, test: &Test<'_>) -> Result<Vec<Ways>, Untested>
-    ensures ways { IfOk result (λ ws. AreWays (test_of test.now) 0 ws.items × (length ws.items ≡ length test.now.cases.items)) }
-    ensures cause { IfErr result (IsUncounted (test_of test.now)) }
-    ensures sound { IfErr result (λ f. IsOwnFault f → ⊥) }
-{
-    let mut all = Vec::new(alloc);
-    let mut at = 0;
-    let mut rest = test.cases.as_slice();
-    loop {
-        match rest {
-            [] => return Ok(all),
-            [_case, more @ ..] => {
-                let Ok(found) = Ways::of_case(alloc, test, at) else {
-                    return Err(unread(TestFault::Memory));
-                };
-                let Some(ways) = found else {
-                    return Err(unread(TestFault::Ways(test.cases[at].line)));
-                };
-                if all.push(ways).is_err() {
-                    return Err(unread(TestFault::Memory));
-                }
-                at += 1;
-                rest = more;
-            }
-        }
-    }
-}
-
-// The scripts of a case, so many at most, each with these lines behind it.
-fn scripts_of(alloc: Global, ways: &Ways, most: u64, behind: &[u8]) -> Result<CaseScripts, Untested>
-    ensures scripts { IfOk result (AreScripts most behind.now ways.now) }
-    ensures cause { IfErr result IsNoMemory }
-    ensures sound { IfErr result (λ f. IsOwnFault f → ⊥) }
-{
-    match ways.scripts(alloc, most, behind) {
-        Ok(scripts) => Ok(CaseScripts {
-            count: ways.count(),
-            scripts,
-        }),
-        Err(_) => Err(NO_MEMORY),
-    }
-}
-
-// The scripts of each case.
-#[tactic(auto, using(crate::proofs::Scripting::one_written))]
-fn all_scripts(
-    alloc: Global,
-    ways: &[Ways],
-    most: u64,
-    behind: &[u8],
-) -> Result<Vec<CaseScripts>, Untested>
-    ensures scripts { IfOk result (λ ss. AllZip (AreScripts most behind.now) ways.now ss.items) }
-    ensures cause { IfErr result IsNoMemory }
-    ensures sound { IfErr result (λ f. IsOwnFault f → ⊥) }
-{
-    let mut all = Vec::new(alloc);
-    let mut rest = ways;
-    loop {
-        match rest {
-            [] => return Ok(all),
-            [ways, more @ ..] => {
-                let scripts = scripts_of(alloc, ways, most, behind)?;
-                if all.push(scripts).is_err() {
-                    return Err(NO_MEMORY);
-                }
-                rest = more;
-            }
-        }
-    }
 }
 
 // A trial's fault, as a run's.
@@ -438,36 +358,6 @@ impl<R: Threads + Sync> Tester<'_, '_, R> {
             }
         }
         Ok(all)
-    }
-}
-
-// The script of the way in which a failure is. No failure is told of a way that wasn't tried.
-fn script_at(cases: &[CaseScripts], found: Counterexample) -> Result<&[u8], Untested>
-    ensures script { IfOk result (λ text. IsScript cases.now found text.now) }
-    ensures among { IfOk result (λ text. IsAmong (all_texts cases.now) text.now) }
-    ensures cause { IfErr result IsNoText }
-    ensures sound { IfErr result (λ f. IsOwnFault f → ⊥) }
-{
-    let Some(case) = cases.get(found.case()) else {
-        return Err(NO_TEXT);
-    };
-    match case.scripts.get(found.way() as usize) {
-        Some(script) => Ok(script.as_slice()),
-        None => Err(NO_TEXT),
-    }
-}
-
-// Those of its lines that tell it from other ways.
-fn unusual_lines(alloc: Global, ways: &[Ways], found: Counterexample) -> Result<Vec<u8>, Untested>
-    ensures cause { IfErr result IsNoText }
-    ensures sound { IfErr result (λ f. IsOwnFault f → ⊥) }
-{
-    let Some(ways) = ways.get(found.case()) else {
-        return Ok(Vec::new(alloc));
-    };
-    match ways.unusual(alloc, found.way()) {
-        Ok(lines) => Ok(lines),
-        Err(_) => Err(NO_TEXT),
     }
 }
 

@@ -1,5 +1,5 @@
 -- What a search says of a claim.
-use Rattle.std.proofs.Common.{◌≡◌, ◌<◌, ◌*◌, ◌^◌, ℕ, suc, List, [], ◌∷◌, length, map, true, false, refl, sym, ap, ◌∙◌}
+use Rattle.std.proofs.Common.{◌≡◌, ◌<◌, ◌*◌, ◌^◌, ℕ, suc, List, [], ◌∷◌, length, map, Bool, true, false, refl, sym, ap, ◌∙◌}
 use Rattle.orc_rules.specs.Nodes.{Listing}
 use Rattle.orc_rules.specs.Sites.{Table}
 use Rattle.orc_rules.specs.Timed.{IsIn}
@@ -14,7 +14,7 @@ use Rattle.orc_outcome.specs.Outcome.{Outcome}
 use Rattle.orc_schedules.specs.declared.claimed.ClaimSearched.{ClaimSearched}
 use Rattle.orc_schedules.specs.declared.claimed.ClaimSearched.TheVariants.{Holds, Fails, TooMany, TooLong, NotWatched}
 use Rattle.orc_schedules.specs.declared.claimed.Seen.{Seen}
-use Rattle.orc_schedules.specs.declared.exploration.Explored.{Explored}
+use Rattle.orc_schedules.specs.declared.tables.Tables.{Tables}
 use Rattle.orc_schedules.specs.Adding.{end_seen, holds_by}
 use Rattle.orc_schedules.specs.Claimed.{HoldsInAll, FailsInOne, IsClaimSearched}
 use Rattle.orc_schedules.specs.Explored.{IsExplored, IfFails, IfHolds}
@@ -38,13 +38,13 @@ module _ (l : Listing) (t : Table) (ss : List Simple) (sites : List ClaimSite) (
       holds_by_watched c hs (state_of_end o.end) o.now watchable
       ∙ ap (λ (ws : List Occurrence). holds c (untimed ws) (state_of_end o.end) 0) (sym (same_named ss (watched c) same (occurred hs)))
 
-  holds_in_all : (e : Explored) → IsExplored l t (kept ss sites) e → e.all ≡ true → ((o : EndSeen) → IsIn o (outcomes e.tables) → holds_by c o ≡ true) → suc limit * e.tables.longest < 2 ^ 64 → HoldsInAll l t sites c limit
-  holds_in_all e is all each fits o run ended =
-      by_seen o ∙ each (o.end, seen_of ss sites o.journal) (whole l t ss sites limit e.tables (is.done all) is.there fits o run ended)
+  holds_in_all : (u : Tables) (all : Bool) → IsExplored l t (kept ss sites) u all → all ≡ true → ((o : EndSeen) → IsIn o (outcomes u) → holds_by c o ≡ true) → suc limit * u.longest < 2 ^ 64 → HoldsInAll l t sites c limit
+  holds_in_all u all is every each fits o run ended =
+      by_seen o ∙ each (o.end, seen_of ss sites o.journal) (whole l t ss sites limit u (is.done every) is.there fits o run ended)
 
-  fails_in_one : (e : Explored) → IsExplored l t (kept ss sites) e → (s : Seen) → IsIn {X = EndSeen} (end_seen s) (outcomes e.tables) → holds_by c (end_seen s) ≡ false → length e.tables.states * e.tables.longest < 2 ^ 64 → FailsInOne l t sites c s
-  fails_in_one e is s there fails fits =
-      let r = end_of_run l t ss sites e.tables is.found fits (end_seen s) there in
+  fails_in_one : (u : Tables) (all : Bool) → IsExplored l t (kept ss sites) u all → (s : Seen) → IsIn {X = EndSeen} (end_seen s) (outcomes u) → holds_by c (end_seen s) ≡ false → length u.states * u.longest < 2 ^ 64 → FailsInOne l t sites c s
+  fails_in_one u all is s there fails fits =
+      let r = end_of_run l t ss sites u is.found fits (end_seen s) there in
       let o : Outcome = r.outcome in
       record {
         limit = r.limit;
@@ -55,9 +55,9 @@ module _ (l : Listing) (t : Table) (ss : List Simple) (sites : List ClaimSite) (
         seen = sym (same_named ss (watched c) same (occurred (happenings (map (renumbered sites) o.journal)))) ∙ r.shows;
       }
 
-  pub searched : (e : Explored) → IsExplored l t (kept ss sites) e → (s : ClaimSearched) → IfFails e.tables c s → IfHolds e c limit s → IsClaimSearched l t sites c limit s
-  searched e is (Holds states) fails holds_so = holds_in_all e is holds_so.0 holds_so.1 holds_so.2
-  searched e is (Fails s) fails holds_so = fails_in_one e is s fails.0 fails.1 fails.2
-  searched e is TooMany fails holds_so = tt
-  searched e is TooLong fails holds_so = tt
-  searched e is NotWatched fails holds_so = tt
+  pub searched : (u : Tables) (all : Bool) → IsExplored l t (kept ss sites) u all → (s : ClaimSearched) → IfFails u c s → IfHolds u all c limit s → IsClaimSearched l t sites c limit s
+  searched u all is (Holds states) fails holds_so = holds_in_all u all is holds_so.0 holds_so.1 holds_so.2
+  searched u all is (Fails s) fails holds_so = fails_in_one u all is s fails.0 fails.1 fails.2
+  searched u all is TooMany fails holds_so = tt
+  searched u all is TooLong fails holds_so = tt
+  searched u all is NotWatched fails holds_so = tt

@@ -1,5 +1,5 @@
 -- The ends that a search lists are those of runs.
-use Rattle.std.proofs.Common.{◌≡◌, ◌<◌, ◌*◌, ◌^◌, ℕ, List, [], ◌∷◌, ◌++◌, length, map, Some, ◌⊎◌, refl, sym, ap, ◌∙◌, subst, inl}
+use Rattle.std.proofs.Common.{◌≡◌, ◌<◌, ◌*◌, ◌^◌, ℕ, List, [], ◌∷◌, ◌++◌, length, map, Some, ◌⊎◌, refl, sym, ap, ◌∙◌, subst, inl, arith}
 use Rattle.std.specs.Prelude.{slice_get}
 use Rattle.std.proofs.lemmas.List.{length-map}
 use Rattle.orc_claims.specs.declared.claim.Simple.{Simple}
@@ -21,6 +21,7 @@ use Rattle.orc_schedules.specs.declared.tables.Tables.{Tables}
 use Rattle.orc_schedules.specs.Adding.{Outcome, outcome_of, shown_of, AreFound}
 use Rattle.orc_schedules.specs.Counts.{made_at}
 use Rattle.orc_schedules.specs.Ends.{AreOfRuns, ComesFrom, IsSaid, IsSeenOfRun}
+use Rattle.orc_schedules.specs.Growing.{Grows}
 use Rattle.orc_schedules.specs.Lists.{list_at, lists}
 use Rattle.orc_schedules.specs.Reached.{Reached, EndSeen, first}
 use Rattle.orc_schedules.specs.Seen.{Kept, kept, values_of}
@@ -28,18 +29,21 @@ use Rattle.orc_schedules.specs.Tables.{reached, reached_at, outcome_at, outcomes
 use Rattle.orc_schedules.specs.Watch.{publications}
 use Rattle.orc_schedules.proofs.Adding.{get_map}
 use Rattle.orc_schedules.proofs.Ends.{found_are_of_runs}
-use Rattle.orc_schedules.proofs.Growing.{get_or_is, in_map, of_map, each_added, none_get}
+use Rattle.orc_schedules.proofs.Growing.{get_or_is, grows_or, in_map, of_map, each_added, none_get}
 use Rattle.orc_schedules.proofs.Journals.{published_seen}
 
 -- with the first state alone
-pub first_found : (defs : List SmallDefinition) (keep : Kept) (l : Listing) (a : Table) (t : Tables) (old : List Key) (term : ℕ) → t.counts ≡ [] ∷ [] → t.lists ≡ record { calls = []; longer = [] } → t.ends ≡ [] → old ≡ [] → (t.states ≡ old) ⊎ (t.states ≡ old ++ record { term = term; made = 0; seen = 0 } ∷ [])
+pub first_found : (defs : List SmallDefinition) (keep : Kept) (l : Listing) (a : Table) (t : Tables) (old : List Key) (term : ℕ) → Grows ([] ∷ []) t.counts → t.lists ≡ record { calls = []; longer = [] } → t.ends ≡ [] → old ≡ [] → (t.states ≡ old) ⊎ (t.states ≡ old ++ record { term = term; made = 0; seen = 0 } ∷ [])
     → slice_get (smalls t.terms) term ≡ Some (small (source l)) → AreFound defs keep (first l a) a.sites t
 first_found defs keep l a t old term counts values ends none added is = record { states = each; ends = λ o there. no_end o (of_map (outcome_at t) o t.ends there) } where
   key : Key
   key = record { term = term; made = 0; seen = 0 }
 
+  no_calls : made_at t.counts 0 ≡ []
+  no_calls = grows_or ([] ∷ []) t.counts 0 [] counts (omega arith)
+
   begins : reached_at a.sites t key ≡ (first l a, [])
-  begins = λ i. (record { term = get_or_is (smalls t.terms) term (small (source l)) nothing is i; coming = coming_of_made a.sites (made_at (counts i) 0) }, list_at (lists (values i)) 0)
+  begins = λ i. (record { term = get_or_is (smalls t.terms) term (small (source l)) nothing is i; coming = coming_of_made a.sites (no_calls i) }, list_at (lists (values i)) 0)
 
   each : (i : ℕ) (s : State) (vs : List Occurrence) → slice_get (reached a.sites t) i ≡ Some (s, vs) → ((s ≡ first l a) × (vs ≡ [])) ⊎ ComesFrom defs keep t.longest (reached a.sites t) i s vs
   each i s vs h =

@@ -6,6 +6,7 @@ pub mod Longer
 pub mod Raised
 pub mod Waits
 pub mod Keeping
+pub mod Listing
 pub mod Starting
 pub mod Whole
 pub mod Adding

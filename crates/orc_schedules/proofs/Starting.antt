@@ -1,15 +1,17 @@
 -- The term with which a program begins, and its numbers.
-use Rattle.std.proofs.Common.{◌≡◌, ◌≤◌, ◌+◌, ℕ, zero, suc, List, [], ◌∷◌, ◌++◌, length, None, get_or, refl, sym, ap, arith, length-append}
+use Rattle.std.proofs.Common.{◌≡◌, ◌≤◌, ◌+◌, ℕ, zero, suc, List, [], ◌∷◌, ◌++◌, length, None, get_or, refl, sym, ap, ◌∙◌, ◌⊎◌, inl, inr, subst, arith, length-append}
 use Rattle.std.specs.Prelude.{slice_get}
 use Rattle.orc_rules.specs.declared.param.Operand.{Operand}
 use Rattle.orc_rules.specs.declared.program.TermNode.{TermNode}
 use Rattle.orc_rules.specs.Term.{Term, stop}
 use Rattle.orc_rules.specs.Nodes.{Listing, unfold_node, terms_from, source}
+use Rattle.orc_rules.specs.Timed.{IsIn}
 use Rattle.orc_search.specs.declared.moves.Source.{Source}
 use Rattle.orc_search.specs.Small.{Small, nothing}
 use Rattle.orc_search.specs.Programs.{small}
 use Rattle.orc_search.specs.Ready.{IsReady}
 use Rattle.orc_search.proofs.Nodes.{none_term}
+use Rattle.orc_schedules.specs.declared.states.Key.{Key}
 use Rattle.orc_schedules.specs.Growing.{Grows}
 use Rattle.orc_schedules.proofs.Growing.{grows_get}
 
@@ -35,3 +37,8 @@ past_source l numbers n is len none =
 -- numbers of nodes stay those of their terms
 pub ready_kept : (ts us : List Small) (s : Source) → Grows ts us → IsReady ts s → IsReady us s
 ready_kept ts us s g ready = (λ i n h. grows_get ts us n _ g (ready.0 i n h), ready.1)
+
+-- the one that was added stands alone
+pub only_there : (old new : List Key) (k : Key) → old ≡ [] → IsIn k new → (new ≡ old) ⊎ (new ≡ old ++ k ∷ []) → new ≡ k ∷ []
+only_there old new k none is (inl same) = let e : IsIn k [] = subst (λ (ks : List Key). IsIn k ks) (same ∙ none) is in elim e [ ]
+only_there old new k none is (inr more) = more ∙ ap (λ (ks : List Key). ks ++ k ∷ []) none

@@ -20,6 +20,7 @@ use Rattle.orc_schedules.specs.declared.ended.Ended.{Ended}
 use Rattle.orc_schedules.specs.declared.told.Told.{Told}
 use Rattle.orc_schedules.specs.declared.states.Key.{Key}
 use Rattle.orc_schedules.specs.declared.tables.Tables.{Tables}
+use Rattle.orc_schedules.specs.Growing.{Grows}
 use Rattle.orc_schedules.specs.Lists.{list_at, lists}
 use Rattle.orc_schedules.specs.Counts.{made_at}
 use Rattle.orc_schedules.specs.Adding.{Outcome, outcome_of, shown_of}
@@ -28,7 +29,7 @@ use Rattle.orc_schedules.specs.Seen.{Kept, kept, seen_of, values_of}
 use Rattle.orc_schedules.specs.Tables.{AreKnown, IsKnown, AreDone, IsLookedAt, Keeps, reached, reached_at, outcome_at, outcomes}
 use Rattle.orc_schedules.specs.Watch.{publications}
 use Rattle.orc_schedules.proofs.Journals.{published_seen}
-use Rattle.orc_schedules.proofs.Growing.{in_get, in_map, of_map, grows_get, get_back, get_or_is, in_grows, each_added, none_get}
+use Rattle.orc_schedules.proofs.Growing.{in_get, in_map, of_map, grows_get, get_back, get_or_is, grows_len, grows_or, in_grows, each_added, none_get}
 use Rattle.orc_schedules.proofs.Keeping.{looked_kept, reached_grow}
 use Rattle.orc_schedules.proofs.Longer.{lists_len}
 use Rattle.orc_schedules.proofs.Found.{all_are_found}
@@ -92,18 +93,19 @@ whole_shown l a limit t es all told o run ended =
     (subst (λ (os : List Outcome). IsIn {X = Outcome} (o.end, values_of (seen_of publications [] o.journal)) os) (sym told) there))
 
 -- the first state is there
-pub first_there : (keep : Kept) (l : Listing) (a : Table) (t u : Tables) (term : ℕ) → t.counts ≡ [] ∷ [] → t.lists ≡ record { calls = []; longer = [] } → slice_get (smalls t.terms) term ≡ Some (small (source l)) → IsIn (record { term = term; made = 0; seen = 0 }) t.states → Keeps t u → AreKnown t
+pub first_there : (keep : Kept) (l : Listing) (a : Table) (t u : Tables) (term : ℕ) → Grows ([] ∷ []) t.counts → t.lists ≡ record { calls = []; longer = [] } → slice_get (smalls t.terms) term ≡ Some (small (source l)) → IsIn (record { term = term; made = 0; seen = 0 }) t.states → Keeps t u → AreKnown t
     → IsIn {X = Reached} (first l a, []) (reached a.sites u)
 first_there keep l a t u term counts values is there keeps known =
     let key : Key = record { term = term; made = 0; seen = 0 } in
+    let none : made_at t.counts 0 ≡ [] = grows_or ([] ∷ []) t.counts 0 [] counts (omega arith) in
     in_grows (first l a, []) (reached a.sites t) (reached a.sites u) (reached_grow keep a.sites t u keeps known)
-    (subst (λ (r : Reached). IsIn {X = Reached} r (reached a.sites t)) (λ i. (record { term = get_or_is (smalls t.terms) term (small (source l)) nothing is i; coming = coming_of_made a.sites (made_at (counts i) 0) }, list_at (lists (values i)) 0))
+    (subst (λ (r : Reached). IsIn {X = Reached} r (reached a.sites t)) (λ i. (record { term = get_or_is (smalls t.terms) term (small (source l)) nothing is i; coming = coming_of_made a.sites (none i) }, list_at (lists (values i)) 0))
     (in_map (reached_at a.sites t) key t.states there))
 
 -- and its numbers are known
-pub first_known : (t : Tables) (old : List Key) (term : ℕ) (f : Small) → t.counts ≡ [] ∷ [] → t.ends ≡ [] → old ≡ [] → (t.states ≡ old) ⊎ (t.states ≡ old ++ record { term = term; made = 0; seen = 0 } ∷ []) → slice_get (smalls t.terms) term ≡ Some f → AreKnown t
+pub first_known : (t : Tables) (old : List Key) (term : ℕ) (f : Small) → Grows ([] ∷ []) t.counts → t.ends ≡ [] → old ≡ [] → (t.states ≡ old) ⊎ (t.states ≡ old ++ record { term = term; made = 0; seen = 0 } ∷ []) → slice_get (smalls t.terms) term ≡ Some f → AreKnown t
 first_known t old term f counts ends none added is =
     let key : Key = record { term = term; made = 0; seen = 0 } in
-    let many = ap length counts in
+    let many = grows_len ([] ∷ []) t.counts counts in
     let lists_there = lists_len t.lists.calls t.lists.longer in
     (each_added (IsKnown t) old t.states key added (λ i k h. absurd (none_get old i k none h)) (within (smalls t.terms) term f is, omega (arith, many), omega (arith, lists_there)), λ i e h. absurd (none_get t.ends i e ends h))

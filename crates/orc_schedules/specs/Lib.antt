@@ -8,6 +8,7 @@ pub mod Claimed
 pub mod Growing
 pub mod Lists
 pub mod Counts
+pub mod Listed
 pub mod Tables
 pub mod Adding
 pub mod Explored

@@ -1,5 +1,5 @@
 -- What stands in the tables of a search.
-use Rattle.std.specs.Prelude.{◌≡◌, ◌<◌, ◌≤◌, ℕ, List, map, length, Bool, not, cond, Option, Some, slice_get}
+use Rattle.std.specs.Prelude.{◌≡◌, ◌<◌, ◌≤◌, ℕ, List, [], ◌∷◌, map, length, Bool, not, cond, Option, Some, slice_get}
 use Rattle.orc_rules.specs.Sites.{Site}
 use Rattle.orc_rules.specs.Timed.{IsIn}
 use Rattle.orc_claims.specs.declared.happening.Occurrence.{Occurrence}
@@ -60,6 +60,14 @@ pub record Keeps (t u : Tables) : Type 0 where
   pub states : Grows t.states u.states
   pub ends : Grows t.ends u.ends
   pub longest : t.longest ≤ u.longest
+
+-- the state of this term is found and no other, beside terms and lists of calls that stay
+pub record IsBegun (term : ℕ) (t u : Tables) : Type 0 where
+  pub terms : u.terms ≡ t.terms
+  pub counts : u.counts ≡ t.counts
+  pub lists : u.lists ≡ record { calls = []; longer = [] }
+  pub ends : u.ends ≡ []
+  pub states : u.states ≡ record { term = term; made = 0; seen = 0 } ∷ []
 
 -- what a state becomes by a successor of its term
 abbrev pub after : Kept → List Site → Tables → Key → Successor → Reached

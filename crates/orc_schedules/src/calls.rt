@@ -9,15 +9,15 @@ use orc_claims::happening::{Occurrence, Phase};
 use orc_rules::builtin::are_same;
 use orc_rules::value::Value;
 use orc_search::node::{mix, mix_value};
+use orc_search::places::Places;
 use std::alloc::{AllocError, Global};
-use std::collections::HashMap;
 use std::marker::Model;
 
 /// What became of calls, by numbers. What is asked for again has the same number again, unless something with an equal hash came between.
 pub struct Calls {
     occurrences: Vec<Occurrence>,
     // The number of what was last added with a hash. Nothing is promised of it: what is found there is compared.
-    places: HashMap<u64, usize>,
+    places: Places,
 }
 
 impl Drop for Calls {
@@ -99,7 +99,7 @@ impl Calls {
     {
         Calls {
             occurrences: Vec::new(alloc),
-            places: HashMap::new(alloc),
+            places: Places::new(alloc),
         }
     }
 
@@ -135,15 +135,14 @@ impl Calls {
     }
 
     fn place_of(&self, hash: u64) -> Option<usize> {
-        self.places.get(&hash).copied()
+        self.places.get(hash)
     }
 
     // Something with this hash has that number. The error is refused memory.
     fn remember(&mut self, hash: u64, at: usize) -> Result<(), AllocError>
         ensures { self.new ≡ self.old }
     {
-        self.places.insert(hash, at)?;
-        Ok(())
+        self.places.insert(hash, at)
     }
 
     /// The number of this: that of the same that is found, or else a new one. The error is refused memory. What was there stays, in both cases.

@@ -15,9 +15,9 @@ use orc_rules::limits::MOST_ARGUMENTS;
 use orc_rules::value::{Args, Value};
 use orc_search::made::{Made, times_of};
 use orc_search::node::{mix, mix_value};
+use orc_search::places::Places;
 use orc_search::successor::Happening;
 use std::alloc::{AllocError, Global};
-use std::collections::HashMap;
 use std::marker::Model;
 
 /// Lists of calls that were made by their numbers; the empty list has the number 0. A list that is asked for again has the same number again, unless
@@ -25,7 +25,7 @@ use std::marker::Model;
 pub struct Counts {
     lists: Vec<Vec<Made>>,
     // Where the list last made with a hash stands. Nothing is promised of it: what is found there is compared.
-    places: HashMap<u64, usize>,
+    places: Places,
 }
 
 impl Drop for Counts {
@@ -190,7 +190,7 @@ impl Counts {
         lists.push(Vec::new(alloc))?;
         Ok(Counts {
             lists,
-            places: HashMap::new(alloc),
+            places: Places::new(alloc),
         })
     }
 
@@ -216,15 +216,14 @@ impl Counts {
     }
 
     fn place_of(&self, hash: u64) -> Option<usize> {
-        self.places.get(&hash).copied()
+        self.places.get(hash)
     }
 
     // A list with this hash stands there. The error is refused memory.
     fn remember(&mut self, hash: u64, at: usize) -> Result<(), AllocError>
         ensures { self.new ≡ self.old }
     {
-        self.places.insert(hash, at)?;
-        Ok(())
+        self.places.insert(hash, at)
     }
 
     // Whether a list with the same counts stands there.

@@ -1,23 +1,20 @@
 //! The search through all schedules of a program.
 
-ghost use Rattle.std.specs.Prelude.{◌≡◌, ◌<◌, ◌*◌, ◌^◌, suc, length, true, Some, slice_get, IfOk};
+ghost use Rattle.std.specs.Prelude.{◌≡◌, ◌<◌, ◌*◌, ◌^◌, suc, length, true, Some, slice_get, IfOk, OnOk};
 ghost use Rattle.orc_rules.specs.Nodes.{source};
 ghost use Rattle.orc_search.specs.Nodes.{smalls, Extends};
 ghost use Rattle.orc_search.specs.Programs.{small};
 ghost use Rattle.orc_search.specs.Sources.{AreNumbered};
 ghost use Rattle.orc_schedules.specs.Claimed.{IsClaimSearched};
-ghost use Rattle.orc_schedules.specs.Explored.{IsExplored, IfFails, IfHolds};
+ghost use Rattle.orc_schedules.specs.Explored.{answers_of, program_of, IsExplored, IsExplorer, IfFails, IfHolds};
 ghost use Rattle.orc_schedules.specs.Searched.{IsSearched};
 ghost use Rattle.orc_schedules.specs.Seen.{kept_by};
 
 use crate::claimed::ClaimSearched;
-use crate::counts::Counts;
 use crate::ended::Ended;
-use crate::lists::Lists;
+use crate::listed::Moves;
 use crate::sieve::Sieve;
-use crate::states::{Key, States};
 use crate::tables::Tables;
-use crate::told::Ends;
 use crate::watch::Watch;
 use orc_claims::claim::Claim;
 use orc_rules::answers::Answers;
@@ -46,18 +43,6 @@ fn number_at(numbers: &[usize], at: usize) -> Option<usize>
     match numbers.get(at) {
         Some(number) => Some(*number),
         None => None,
-    }
-}
-
-// What a search explored, and whether these were all states that there are.
-pub(crate) struct Explored {
-    pub(crate) tables: Tables,
-    pub(crate) all: bool,
-}
-
-impl Drop for Explored {
-    fn drop(self) {
-        let Explored { tables: _, all: _ } = self;
     }
 }
 
@@ -94,40 +79,99 @@ fn is_in_time(longest: u64, steps: u64) -> bool
     }
 }
 
-// All that a search of a program looks at, through `most` states at most, and whether these were all. The error is refused memory, or one of the
-// sieve's.
-fn explore(
-    alloc: Global,
-    program: &Program,
-    answers: &Answers,
-    sieve: &Sieve,
-    most: usize,
-) -> Result<Explored, AllocError>
-    ensures { IfOk result (λ e. IsExplored program.now answers.now (kept_by sieve.now) e) }
-{
-    let mut terms = Terms::new(alloc);
-    let numbers = numbered(&mut terms, alloc, program)?;
-    let term = number_of_source(&mut terms, program, &numbers)?;
-    let source = Source {
-        program,
-        answers,
-        numbers,
-    };
-    let mut tables = Tables {
-        terms,
-        counts: Counts::new(alloc)?,
-        lists: Lists::new(alloc),
-        states: States::new(alloc),
-        ends: Ends::new(alloc),
-        longest: 0,
-    };
-    tables.states.add(Key {
-        term,
-        made: 0,
-        seen: 0,
-    })?;
-    let all = tables.look_at_all(alloc, &source, sieve, most)?;
-    Ok(Explored { tables, all })
+/// A program whose calls these sites answer, and what its searches share: its terms and the lists of calls that were made, by their numbers, and what the
+/// terms may do.
+pub struct Explorer<'p> {
+    source: Source<'p>,
+    // The number of the program's term.
+    term: usize,
+    moves: Moves,
+    // With what the last search found.
+    tables: Tables,
+}
+
+// Written out, so that a caller's proof sees one call and not the drop of each field.
+impl Drop for Explorer<'_> {
+    fn drop(self) {
+        let Explorer {
+            source: _,
+            term: _,
+            moves: _,
+            tables: _,
+        } = self;
+    }
+}
+
+impl<'p> Explorer<'p> {
+    /// Before the first search. The error is refused memory.
+    pub fn new(
+        alloc: Global,
+        program: &'p Program,
+        answers: &'p Answers,
+    ) -> Result<Explorer<'p>, AllocError>
+        ensures ready { IfOk result IsExplorer }
+        ensures program { IfOk result (λ e. program_of e ≡ program.now) }
+        ensures answers { IfOk result (λ e. answers_of e ≡ answers.now) }
+    {
+        let mut terms = Terms::new(alloc);
+        let numbers = numbered(&mut terms, alloc, program)?;
+        let term = number_of_source(&mut terms, program, &numbers)?;
+        let source = Source {
+            program,
+            answers,
+            numbers,
+        };
+        let tables = Tables::new(alloc, terms)?;
+        Ok(Explorer {
+            source,
+            term,
+            moves: Moves::new(alloc),
+            tables,
+        })
+    }
+
+    // Looks at all states, through so many at most: whether these were all. The error is refused memory, or one of the sieve's.
+    fn explore(&mut self, alloc: Global, sieve: &Sieve, most: usize) -> Result<bool, AllocError>
+        requires { IsExplorer self.old }
+        ensures ready { OnOk result (IsExplorer self.new) }
+        ensures source { OnOk result (self.new.source ≡ self.old.source) }
+        ensures explored { IfOk result (IsExplored (program_of self.old) (answers_of self.old) (kept_by sieve.now) self.new.tables) }
+    {
+        self.tables.begin(alloc, self.term)?;
+        let all = self
+            .tables
+            .look_at_all(alloc, &self.source, sieve, &mut self.moves, most)?;
+        Ok(all)
+    }
+
+    /// Searches all schedules of the program for a run in which a claim fails, through `most` states at most. The answer is that the claim holds in every
+    /// run of at most `limit` entries, cancels not counted, that ends by itself; or how one run ends in which it fails, of however many entries, with what
+    /// of it the claim names; or that there are more states and it fails at none of the ends that were found; or that waits may add up to a time past
+    /// 2^64; or that a search can't watch for such a claim. The error is refused memory, also where there are 2^32 sites. After an answer it can search
+    /// again.
+    pub fn search_claim(
+        &mut self,
+        alloc: Global,
+        sites: &[ClaimSite],
+        claim: &Claim,
+        most: usize,
+        limit: u64,
+    ) -> Result<ClaimSearched, AllocError>
+        requires { IsExplorer self.old }
+        ensures searched { IfOk result (IsClaimSearched (program_of self.old) (answers_of self.old) sites.now claim.now limit) }
+        ensures ready { OnOk result (IsExplorer self.new) }
+        ensures program { OnOk result (program_of self.new ≡ program_of self.old) }
+        ensures answers { OnOk result (answers_of self.new ≡ answers_of self.old) }
+    {
+        let watched = Watch::of_claim(alloc, claim)?;
+        let Some(watch) = watched else {
+            return Ok(ClaimSearched::NotWatched);
+        };
+        let sieve = Sieve::Named(&watch, sites);
+        let all = self.explore(alloc, &sieve, most)?;
+        let searched = claimed(alloc, &self.tables, all, claim, limit)?;
+        Ok(searched)
+    }
 }
 
 /// Searches all schedules of a program whose calls these sites answer, through `most` states at most. The answer is every outcome that a run of at
@@ -143,11 +187,12 @@ pub fn search(
 ) -> Result<Schedules, AllocError>
     ensures all { IfOk result (λ s. IsSearched program.now answers.now limit s) }
 {
-    let explored = explore(alloc, program, answers, &Sieve::Publications, most)?;
-    if !explored.all {
+    let mut explorer = Explorer::new(alloc, program, answers)?;
+    let all = explorer.explore(alloc, &Sieve::Publications, most)?;
+    if !all {
         return Ok(Schedules::TooMany);
     }
-    let tables = &explored.tables;
+    let tables = &explorer.tables;
     let states = tables.states.len();
     let steps = limit.max(states as u64);
     if !is_in_time(tables.longest, steps) {
@@ -157,17 +202,17 @@ pub fn search(
     Ok(Schedules::All(ended, states))
 }
 
-// What a search for a claim came to, once it has explored.
+// What a search for a claim came to, once it has explored all states or not.
 fn claimed(
     alloc: Global,
-    explored: &Explored,
+    tables: &Tables,
+    all: bool,
     claim: &Claim,
     limit: u64,
 ) -> Result<ClaimSearched, AllocError>
-    ensures fails { IfOk result (λ s. IfFails explored.now.tables claim.now s) }
-    ensures holds { IfOk result (λ s. IfHolds explored.now claim.now limit s) }
+    ensures fails { IfOk result (λ s. IfFails tables.now claim.now s) }
+    ensures holds { IfOk result (λ s. IfHolds tables.now all claim.now limit s) }
 {
-    let tables = &explored.tables;
     let states = tables.states.len();
     if !is_in_time(tables.longest, states as u64) {
         return Ok(ClaimSearched::TooLong);
@@ -175,7 +220,7 @@ fn claimed(
     if let Some(seen) = tables.first_failing(alloc, claim)? {
         return Ok(ClaimSearched::Fails(seen));
     }
-    if !explored.all {
+    if !all {
         return Ok(ClaimSearched::TooMany);
     }
     if !is_in_time(tables.longest, limit) {
@@ -184,10 +229,7 @@ fn claimed(
     Ok(ClaimSearched::Holds(states))
 }
 
-/// Searches all schedules of a program whose calls these sites answer for a run in which a claim fails, through `most` states at most. The answer is
-/// that the claim holds in every run of at most `limit` entries, cancels not counted, that ends by itself; or how one run ends in which it fails, of
-/// however many entries, with what of it the claim names; or that there are more states and it fails at none of the ends that were found; or that waits
-/// may add up to a time past 2^64; or that a search can't watch for such a claim. The error is refused memory, also where there are 2^32 sites.
+/// One search for a claim, as `Explorer` makes many of a program.
 pub fn search_claim(
     alloc: Global,
     program: &Program,
@@ -199,12 +241,7 @@ pub fn search_claim(
 ) -> Result<ClaimSearched, AllocError>
     ensures { IfOk result (λ s. IsClaimSearched program.now answers.now sites.now claim.now limit s) }
 {
-    let watched = Watch::of_claim(alloc, claim)?;
-    let Some(watch) = watched else {
-        return Ok(ClaimSearched::NotWatched);
-    };
-    let sieve = Sieve::Named(&watch, sites);
-    let explored = explore(alloc, program, answers, &sieve, most)?;
-    let searched = claimed(alloc, &explored, claim, limit)?;
+    let mut explorer = Explorer::new(alloc, program, answers)?;
+    let searched = explorer.search_claim(alloc, sites, claim, most, limit)?;
     Ok(searched)
 }

@@ -13,6 +13,7 @@ mod ended;
 mod exploration;
 mod judging;
 mod laws;
+mod listed;
 mod lists;
 mod sieve;
 mod states;
@@ -24,7 +25,7 @@ mod watch;
 
 pub use claimed::{ClaimSearched, Seen};
 pub use ended::Ended;
-pub use exploration::{Schedules, search, search_claim};
+pub use exploration::{Explorer, Schedules, search, search_claim};
 pub use judging::fails_by;
 pub use laws::{all_are_found, found_are_of_runs, holds_by_watched};
 pub use watch::Watch;

@@ -15,9 +15,9 @@ use crate::sieve::Sieve;
 use orc_claims::happening::{Occurrence, Phase};
 use orc_rules::value::{Answer, Value};
 use orc_search::node::{mix, mix_value};
+use orc_search::places::Places;
 use orc_search::successor::Happening;
 use std::alloc::{AllocError, Global};
-use std::collections::HashMap;
 use std::marker::Model;
 
 /// What was seen: a publication, or something of a call, by its number.
@@ -40,7 +40,7 @@ pub struct Lists {
     calls: Calls,
     longer: Vec<Longer>,
     // The number of the list last made with a hash. Nothing is promised of it: what is found there is compared.
-    places: HashMap<u64, usize>,
+    places: Places,
 }
 
 impl Drop for Lists {
@@ -96,7 +96,7 @@ impl Lists {
         Lists {
             calls: Calls::new(alloc),
             longer: Vec::new(alloc),
-            places: HashMap::new(alloc),
+            places: Places::new(alloc),
         }
     }
 
@@ -193,15 +193,14 @@ impl Lists {
 
     // The number that a list with this hash may have.
     fn place_of(&self, hash: u64) -> Option<usize> {
-        self.places.get(&hash).copied()
+        self.places.get(hash)
     }
 
     // The list of that number has this hash. The error is refused memory.
     fn remember(&mut self, hash: u64, at: usize) -> Result<(), AllocError>
         ensures { self.new ≡ self.old }
     {
-        self.places.insert(hash, at)?;
-        Ok(())
+        self.places.insert(hash, at)
     }
 
     // The number of what became of a call. The error is refused memory. The lists stay, in both cases.

@@ -4,8 +4,8 @@ ghost use Rattle.std.specs.Prelude.{◌≡◌, ◌⊎◌, ◌++◌, ◌∷◌, [
 ghost use Rattle.orc_rules.specs.Timed.{IsIn};
 
 use orc_search::node::mix;
+use orc_search::places::Places;
 use std::alloc::{AllocError, Global};
-use std::collections::HashMap;
 use std::marker::Model;
 
 /// A state, with what was seen on the way to it: the numbers of its term, of the list of calls that were made and of the list of what was seen.
@@ -20,7 +20,7 @@ pub struct Key {
 pub struct States {
     keys: Vec<Key>,
     // Where the state last found with a hash stands. Nothing is promised of it: what is found there is compared.
-    places: HashMap<u64, usize>,
+    places: Places,
 }
 
 impl Drop for States {
@@ -45,7 +45,7 @@ impl States {
     {
         States {
             keys: Vec::new(alloc),
-            places: HashMap::new(alloc),
+            places: Places::new(alloc),
         }
     }
 
@@ -67,15 +67,14 @@ impl States {
     }
 
     fn place_of(&self, hash: u64) -> Option<usize> {
-        self.places.get(&hash).copied()
+        self.places.get(hash)
     }
 
     // A state with this hash stands there. The error is refused memory.
     fn remember(&mut self, hash: u64, place: usize) -> Result<(), AllocError>
         ensures { self.new ≡ self.old }
     {
-        self.places.insert(hash, place)?;
-        Ok(())
+        self.places.insert(hash, place)
     }
 
     fn stands_at(&self, place: usize, key: Key) -> bool

@@ -1,6 +1,6 @@
 //! What a search has found, and its steps.
 
-ghost use Rattle.std.specs.Prelude.{◌≡◌, ◌<◌, ◌≤◌, ℕ, List, length, map, true, false, Some, slice_get, IfSome, IfNone, IfOk, OnOk};
+ghost use Rattle.std.specs.Prelude.{◌≡◌, ◌<◌, ◌≤◌, ◌∷◌, [], ℕ, List, length, map, true, false, Some, slice_get, IfSome, IfNone, IfOk, OnOk};
 ghost use Rattle.orc_rules.specs.Sites.{Site};
 ghost use Rattle.orc_rules.specs.Timed.{IsIn};
 ghost use Rattle.orc_search.specs.declared.successor.Successor.{Successor as Next};
@@ -11,14 +11,16 @@ ghost use Rattle.orc_search.specs.Ready.{IsReady};
 ghost use Rattle.orc_search.specs.States.{State};
 ghost use Rattle.orc_search.specs.Successors.{least_left, some_time};
 ghost use Rattle.orc_schedules.specs.Adding.{end_seen, holds_by, outcome_of, shown_of, AddsOnly, AddsEnd, IsAfterOne, IsWaited, AreFound};
+ghost use Rattle.orc_schedules.specs.Listed.{AreListed};
 ghost use Rattle.orc_schedules.specs.Reached.{EndSeen, end_of};
 ghost use Rattle.orc_schedules.specs.Seen.{kept_by};
-ghost use Rattle.orc_schedules.specs.Tables.{AreKnown, IsKnown, Keeps, IsDone, IsLookedAt, AreDone, LeadsTo, after, waited, ending_if, reached, reached_at, outcome_at, outcomes, seen_at};
+ghost use Rattle.orc_schedules.specs.Tables.{AreKnown, IsBegun, IsKnown, Keeps, IsDone, IsLookedAt, AreDone, LeadsTo, after, waited, ending_if, reached, reached_at, outcome_at, outcomes, seen_at};
 
 use crate::claimed::Seen;
 use crate::counts::Counts;
 use crate::ended::Ended;
 use crate::judging::fails_by;
+use crate::listed::Moves;
 use crate::lists::Lists;
 use crate::sieve::Sieve;
 use crate::states::{Key, States};
@@ -27,7 +29,7 @@ use orc_claims::claim::Claim;
 use orc_outcome::End;
 use orc_rules::answers::Answers;
 use orc_search::change::{Change, changed};
-use orc_search::moves::{Source, successors};
+use orc_search::moves::Source;
 use orc_search::successor::Successor;
 use orc_search::terms::Terms;
 use std::alloc::{AllocError, Global};
@@ -57,6 +59,37 @@ impl Drop for Tables {
 }
 
 impl Tables {
+    // Nothing is found yet, of a program whose terms these are. The error is refused memory.
+    pub(crate) fn new(alloc: Global, terms: Terms) -> Result<Tables, AllocError>
+        ensures terms { IfOk result (λ t. t.terms ≡ terms) }
+        ensures counts { IfOk result (λ t. t.counts ≡ [] ∷ []) }
+    {
+        Ok(Tables {
+            terms,
+            counts: Counts::new(alloc)?,
+            lists: Lists::new(alloc),
+            states: States::new(alloc),
+            ends: Ends::new(alloc),
+            longest: 0,
+        })
+    }
+
+    // A search begins: the state of this term is found, and no other. The error is refused memory.
+    pub(crate) fn begin(&mut self, alloc: Global, term: usize) -> Result<(), AllocError>
+        ensures { OnOk result (IsBegun term self.old self.new) }
+    {
+        self.lists = Lists::new(alloc);
+        self.states = States::new(alloc);
+        self.ends = Ends::new(alloc);
+        self.longest = 0;
+        self.states.add(Key {
+            term,
+            made: 0,
+            seen: 0,
+        })?;
+        Ok(())
+    }
+
     // Adds what a state becomes by a successor of its term. The error is refused memory.
     fn follow(
         &mut self,
@@ -174,24 +207,22 @@ impl Tables {
         alloc: Global,
         source: &Source,
         sieve: &Sieve,
+        moves: &mut Moves,
         from: Key,
     ) -> Result<(), AllocError>
         requires all { AreKnown self.old }
         requires from { IsKnown self.old from }
         requires ready { IsReady (smalls self.old.terms) source.now }
+        requires listed { AreListed (small_definitions source.now.program.now) source.now.answers.now.sites (smalls self.old.terms) self.old.counts moves.old }
+        ensures listed { OnOk result (AreListed (small_definitions source.now.program.now) source.now.answers.now.sites (smalls self.new.terms) self.new.counts moves.new) }
         ensures all { OnOk result (AreKnown self.new) }
         ensures kept { OnOk result (Keeps self.old self.new) }
         ensures done { OnOk result (IsDone (small_definitions source.now.program.now) (kept_by sieve.now) (reached source.now.answers.now.sites self.new) self.new.longest (outcomes self.new) (reached_at source.now.answers.now.sites self.old from)) }
         ensures found { OnOk result ((begin : State) (behind : ℕ) → IsIn (record { term = behind; made = from.made; seen = from.seen }) self.old.states → LeadsTo (small_definitions source.now.program.now) (kept_by sieve.now) source.now.answers.now.sites self.old (record { term = behind; made = from.made; seen = from.seen }) from.term → AreFound (small_definitions source.now.program.now) (kept_by sieve.now) begin source.now.answers.now.sites self.old → AreFound (small_definitions source.now.program.now) (kept_by sieve.now) begin source.now.answers.now.sites self.new) }
     {
-        let next = successors(
-            &mut self.terms,
-            alloc,
-            source,
-            self.counts.made(from.made),
-            from.term,
-        )?;
-        self.follow_all(alloc, source.answers, sieve, from, &next)?;
+        let at = moves.find(&mut self.terms, alloc, source, &self.counts, from)?;
+        let next = moves.next(at);
+        self.follow_all(alloc, source.answers, sieve, from, next)?;
         if next.is_empty() {
             self.wait(alloc, from)?;
             self.tell(from, true)?;
@@ -208,11 +239,14 @@ impl Tables {
         alloc: Global,
         source: &Source,
         sieve: &Sieve,
+        moves: &mut Moves,
         from: Key,
     ) -> Result<(), AllocError>
         requires all { AreKnown self.old }
         requires from { IsKnown self.old from }
         requires ready { IsReady (smalls self.old.terms) source.now }
+        requires listed { AreListed (small_definitions source.now.program.now) source.now.answers.now.sites (smalls self.old.terms) self.old.counts moves.old }
+        ensures listed { OnOk result (AreListed (small_definitions source.now.program.now) source.now.answers.now.sites (smalls self.new.terms) self.new.counts moves.new) }
         ensures all { OnOk result (AreKnown self.new) }
         ensures kept { OnOk result (Keeps self.old self.new) }
         ensures done { OnOk result (IsLookedAt (small_definitions source.now.program.now) (kept_by sieve.now) (reached source.now.answers.now.sites self.new) self.new.longest (outcomes self.new) (reached_at source.now.answers.now.sites self.old from)) }
@@ -224,7 +258,7 @@ impl Tables {
             made: from.made,
             seen: from.seen,
         };
-        self.expand(alloc, source, sieve, ahead)?;
+        self.expand(alloc, source, sieve, moves, ahead)?;
         Ok(())
     }
 
@@ -235,10 +269,13 @@ impl Tables {
         alloc: Global,
         source: &Source,
         sieve: &Sieve,
+        moves: &mut Moves,
         most: usize,
     ) -> Result<bool, AllocError>
         requires all { AreKnown self.old }
         requires ready { IsReady (smalls self.old.terms) source.now }
+        requires listed { AreListed (small_definitions source.now.program.now) source.now.answers.now.sites (smalls self.old.terms) self.old.counts moves.old }
+        ensures listed { OnOk result (AreListed (small_definitions source.now.program.now) source.now.answers.now.sites (smalls self.new.terms) self.new.counts moves.new) }
         ensures kept { OnOk result (Keeps self.old self.new) }
         ensures done { IfOk result (λ all. all ≡ true → AreDone (small_definitions source.now.program.now) (kept_by sieve.now) source.now.answers.now.sites self.new (length self.new.states)) }
         ensures found { OnOk result ((begin : State) → AreFound (small_definitions source.now.program.now) (kept_by sieve.now) begin source.now.answers.now.sites self.old → AreFound (small_definitions source.now.program.now) (kept_by sieve.now) begin source.now.answers.now.sites self.new) }
@@ -247,7 +284,7 @@ impl Tables {
             let Some(key) = self.states.get(at) else {
                 return Ok(true);
             };
-            self.look_at(alloc, source, sieve, key)?;
+            self.look_at(alloc, source, sieve, moves, key)?;
             if self.states.len() > most {
                 return Ok(false);
             }

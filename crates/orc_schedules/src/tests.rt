@@ -1,7 +1,7 @@
 //! Programs whose outcomes follow from the rules.
 
 use crate::claimed::ClaimSearched;
-use crate::exploration::{Schedules, search, search_claim};
+use crate::exploration::{Explorer, Schedules, search, search_claim};
 use orc_claims::claim::{Claim, Event, Plain, Simple, Slot, Wanted};
 use orc_claims::happening::{Occurrence, Phase};
 use orc_outcome::End;
@@ -258,5 +258,25 @@ fn either_of_a_race_may_be_published_first(rt: HostRuntime) -> Result<(), Fail> 
     assert!(rt; fails_by_numbers(&found, 1, 2));
     let found = searched(alloc, &program, &claim, 3)?;
     assert!(rt; matches!(&found, ClaimSearched::TooMany));
+    Ok(())
+}
+
+#[test]
+fn one_explorer_searches_for_many_claims(rt: HostRuntime) -> Result<(), Fail> {
+    let alloc = rt.alloc();
+    let program = race(alloc)?;
+    let answers = Answers::builtin(alloc)?;
+    let sites = WAITS;
+    let mut explorer = Explorer::new(alloc, &program, &answers)?;
+    let once = at_most(alloc, 1, None)?;
+    let found = explorer.search_claim(alloc, &sites, &once, 1000, 1000)?;
+    assert!(rt; fails_by_answers(&found));
+    let mut ordered = at_most(alloc, 0, None)?;
+    ordered.plain = Plain::OnlyAfter(publishes(alloc, 2)?, publishes(alloc, 1)?);
+    let found = explorer.search_claim(alloc, &sites, &ordered, 1000, 1000)?;
+    assert!(rt; fails_by_numbers(&found, 2, 1));
+    let twice = at_most(alloc, 2, None)?;
+    let found = explorer.search_claim(alloc, &sites, &twice, 1000, 1000)?;
+    assert!(rt; matches!(&found, ClaimSearched::Holds(_)));
     Ok(())
 }

@@ -5,8 +5,8 @@ ghost use Rattle.orc_rules.specs.Timed.{IsIn};
 
 use orc_outcome::End;
 use orc_search::node::mix;
+use orc_search::places::Places;
 use std::alloc::{AllocError, Global};
-use std::collections::HashMap;
 use std::marker::Model;
 
 /// An end: how a run ended, and the number of the list of what was seen of it.
@@ -20,7 +20,7 @@ pub struct Told {
 pub struct Ends {
     told: Vec<Told>,
     // Where the end last found with a hash stands. Nothing is promised of it: what is found there is compared.
-    places: HashMap<u64, usize>,
+    places: Places,
 }
 
 impl Drop for Ends {
@@ -45,7 +45,7 @@ impl Ends {
     {
         Ends {
             told: Vec::new(alloc),
-            places: HashMap::new(alloc),
+            places: Places::new(alloc),
         }
     }
 
@@ -66,15 +66,14 @@ impl Ends {
     }
 
     fn place_of(&self, hash: u64) -> Option<usize> {
-        self.places.get(&hash).copied()
+        self.places.get(hash)
     }
 
     // An end with this hash stands there. The error is refused memory.
     fn remember(&mut self, hash: u64, place: usize) -> Result<(), AllocError>
         ensures { self.new ≡ self.old }
     {
-        self.places.insert(hash, place)?;
-        Ok(())
+        self.places.insert(hash, place)
     }
 
     fn stands_at(&self, place: usize, told: Told) -> bool

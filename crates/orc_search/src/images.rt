@@ -3,9 +3,13 @@
 ghost use Rattle.std.specs.Prelude.{◌≡◌, ◌++◌, ◌∷◌, [], false, slice_get, IfSome, OnOk};
 ghost use Rattle.orc_search.specs.Changes.{IsPart};
 
+use crate::node::mix;
+use crate::places::Places;
 use std::alloc::{AllocError, Global};
-use std::collections::HashMap;
 use std::marker::Model;
+
+/// So many images are looked through one after another.
+const FEW: usize = 16;
 
 /// A term and what it becomes, by their numbers.
 #[derive(Clone, Copy)]
@@ -17,8 +21,8 @@ pub struct Image {
 /// Images in the order in which they were found.
 pub struct Images {
     list: Vec<Image>,
-    // Where the image of a term stands. Nothing is promised of it: what is found there is compared.
-    places: HashMap<usize, usize>,
+    // Where the images of terms stand, once there are more than a few. Nothing is promised of it: what is found there is compared.
+    places: Places,
 }
 
 // Written out, so that a caller's proof sees one call and not the drop of each field.
@@ -37,6 +41,18 @@ impl Model for Images {
     ghost view = { λ i. i.list.items };
 }
 
+fn hash_of(from: usize) -> u64 {
+    mix(1, from as u64)
+}
+
+// The image of each term stands where it stands. The error is refused memory.
+fn remember_all(places: &mut Places, list: &[Image]) -> Result<(), AllocError> {
+    for (at, image) in list.iter().enumerate() {
+        places.insert(hash_of(image.from), at)?;
+    }
+    Ok(())
+}
+
 impl Images {
     /// No images.
     pub fn new(alloc: Global) -> Images
@@ -44,7 +60,7 @@ impl Images {
     {
         Images {
             list: Vec::new(alloc),
-            places: HashMap::new(alloc),
+            places: Places::new(alloc),
         }
     }
 
@@ -58,15 +74,28 @@ impl Images {
     }
 
     fn place_of(&self, from: usize) -> Option<usize> {
-        self.places.get(&from).copied()
+        if self.list.len() > FEW {
+            return self.places.get(hash_of(from));
+        }
+        for (at, image) in self.list.iter().enumerate() {
+            if image.from == from {
+                return Some(at);
+            }
+        }
+        None
     }
 
-    // The image of this term stands there. The error is refused memory.
+    // The image of this term stands there, behind all others. The error is refused memory.
     fn remember(&mut self, from: usize, place: usize) -> Result<(), AllocError>
         ensures { self.new ≡ self.old }
     {
-        self.places.insert(from, place)?;
-        Ok(())
+        if place < FEW {
+            return Ok(());
+        }
+        if place == FEW {
+            return remember_all(&mut self.places, &self.list);
+        }
+        self.places.insert(hash_of(from), place)
     }
 
     /// The number of what a term becomes, if it is there.

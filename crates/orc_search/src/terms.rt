@@ -6,9 +6,9 @@ ghost use Rattle.orc_search.specs.Small.{nothing};
 ghost use Rattle.orc_search.specs.Successors.{sooner, time_left};
 
 use crate::node::{Joint, Node, Summary, Tip, hash_of, is_same_node};
+use crate::places::Places;
 use orc_rules::value::Found;
 use std::alloc::{AllocError, Global};
-use std::collections::HashMap;
 use std::marker::Model;
 
 /// Small terms by their numbers. A node that is asked for again has the same number again, unless one with an equal hash came between.
@@ -16,7 +16,7 @@ pub struct Terms {
     nodes: Vec<Node>,
     summaries: Vec<Summary>,
     // Where the node last made with a hash stands. Nothing is promised of it: what is found there is compared.
-    places: HashMap<u64, usize>,
+    places: Places,
     alloc: Global,
 }
 
@@ -134,7 +134,7 @@ impl Terms {
         Terms {
             nodes: Vec::new(alloc),
             summaries: Vec::new(alloc),
-            places: HashMap::new(alloc),
+            places: Places::new(alloc),
             alloc,
         }
     }
@@ -205,15 +205,14 @@ impl Terms {
 
     // A place where a node with this hash may stand.
     fn place_of(&self, hash: u64) -> Option<usize> {
-        self.places.get(&hash).copied()
+        self.places.get(hash)
     }
 
     // A node with this hash stands there. The error is refused memory.
     fn remember(&mut self, hash: u64, at: usize) -> Result<(), AllocError>
         ensures { self.new ≡ self.old }
     {
-        self.places.insert(hash, at)?;
-        Ok(())
+        self.places.insert(hash, at)
     }
 
     /// The number of a node's term, whose parts are there: that of an equal node, or else of a new one. The error is refused memory. The terms

@@ -1,10 +1,12 @@
 use Rattle.std.proofs.Common.{subst}
-use Rattle.orc_schedules.specs.Watch.{IsWatchOf}
-use Rattle.orc_schedules.proofs.Claims.{searched}
+use Rattle.orc_rules.specs.Nodes.{Listing}
+use Rattle.orc_rules.specs.Sites.{Table}
+use Rattle.orc_schedules.specs.Claimed.{IsClaimSearched}
+use Rattle.orc_schedules.specs.Explored.{answers_of}
 use Rattle.orc_schedules.proofs.exploration.search_claim.Goals as goal
 
 pub returns : goal.returns
 returns c =
-    let known = subst (IsWatchOf c.args.claim.now) c.in-Some.is c.in_ok-watched.ensures in
-    searched c.args.program.now c.args.answers.now c.in-Some.watch c.args.sites.now c.args.claim.now c.args.limit known.1 known.0
-    c.in_ok-explored.explored c.in_ok-explored.ensures c.in_ok-searched.searched c.in_ok-searched.ensures.fails c.in_ok-searched.ensures.holds
+    let e = c.in_ok-explorer.explorer in
+    subst (λ (a : Table). IsClaimSearched c.args.program.now a c.args.sites.now c.args.claim.now c.args.limit c.in_ok-searched.searched) c.in_ok-explorer.ensures.answers
+    (subst (λ (l : Listing). IsClaimSearched l (answers_of e) c.args.sites.now c.args.claim.now c.args.limit c.in_ok-searched.searched) c.in_ok-explorer.ensures.program c.in_ok-searched.ensures.searched)

@@ -14,8 +14,9 @@ loop-claim-preserved c =
     let after = c.loop-claim.after.items in
     let more = c.in_ok-push.ensures.items in
     let was = stands_there before c.loop-claim.claim c.index.result.now (omega (arith, c.loop-claim-test.true, c.len-claim-end.ensures)) c.index.ensures in (
-      subst (AreAfter me c.args.place script before) (sym more) (one_said me c.args.place script before after c.loop-claim.claim c.index.result.now c.in_ok-say.field-0 c.loop-claim.invariant.1 was c.loop-claim.invariant.0 c.in_ok-say.ensures),
-      ap (λ n. n + 1) c.loop-claim.invariant.1 ∙ sym (length_push after c.in_ok-say.field-0) ∙ ap length (sym more),
+      subst (AreAfter me c.args.place script before) (sym more) (one_said me c.args.place script before after c.loop-claim.claim c.index.result.now c.in_ok-said.said c.loop-claim.invariant.1 was c.loop-claim.invariant.0 c.in_ok-said.ensures.said),
+      ap (λ n. n + 1) c.loop-claim.invariant.1 ∙ sym (length_push after c.in_ok-said.said) ∙ ap length (sym more),
+      c.in_ok-said.ensures.ready,
     )
 
 pub returns : goal.returns

@@ -6,6 +6,7 @@ use Rattle.orc_schedules.specs.Seen.{kept_by}
 use Rattle.orc_schedules.proofs.Adding.{found_kept_all}
 use Rattle.orc_schedules.proofs.Keeping.{keeps_both, known_kept}
 use Rattle.orc_schedules.proofs.Leading.{looked_at}
+use Rattle.orc_schedules.proofs.Listing.{all_kept}
 use Rattle.orc_schedules.proofs.Starting.{ready_kept}
 use Rattle.orc_schedules.proofs.tables.Tables.look_at.Goals as goal
 
@@ -14,6 +15,13 @@ expand-requires-clause-from c = let known = known_kept c.args.self.now c.ahead_o
 
 pub expand-requires-clause-ready : goal.expand-requires-clause-ready
 expand-requires-clause-ready c = ready_kept (smalls c.args.self.now.terms) (smalls c.ahead_of.new.self.terms) c.args.source.now c.in_ok-term.ensures.kept.terms c.requires.ready
+
+pub expand-requires-clause-listed : goal.expand-requires-clause-listed
+expand-requires-clause-listed c =
+    let t = c.args.self.now in
+    let u = c.ahead_of.new.self in
+    let kept = c.in_ok-term.ensures.kept in
+    all_kept (small_definitions c.args.source.now.program.now) c.args.source.now.answers.now.sites (smalls t.terms) (smalls u.terms) t.counts u.counts c.args.moves.now kept.terms kept.counts c.requires.listed
 
 pub returns-clause-kept : goal.returns-clause-kept
 returns-clause-kept c = keeps_both c.args.self.now c.ahead_of.new.self c.expand.new.self c.in_ok-term.ensures.kept c.in_ok-expand.ensures.kept

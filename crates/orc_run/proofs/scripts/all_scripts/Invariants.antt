@@ -2,8 +2,8 @@
 use Rattle.std.proofs.Common.{◌++◌, List, length}
 use Rattle.std.specs.List.{AllZip}
 use Rattle.orc_run.specs.Tested.{AreScripts}
-use Rattle.orc_run.specs.declared.tests.CaseScripts.{CaseScripts}
-use Rattle.orc_run.proofs.tests.all_scripts.Given as goal
+use Rattle.orc_run.specs.declared.scripts.CaseScripts.{CaseScripts}
+use Rattle.orc_run.proofs.scripts.all_scripts.Given as goal
 
 abbrev pub decreases-loop-rest : goal.decreases-loop-rest
 decreases-loop-rest l = length l.rest

@@ -2,7 +2,7 @@
 use Rattle.std.proofs.Common.{◌≡◌, ◌+◌, length}
 use Rattle.orc_ways.specs.Drafting.{test_of}
 use Rattle.orc_run.specs.Tested.{AreWays}
-use Rattle.orc_run.proofs.tests.ways_of.Given as goal
+use Rattle.orc_run.proofs.scripts.ways_of.Given as goal
 
 abbrev pub decreases-loop-rest : goal.decreases-loop-rest
 decreases-loop-rest l = length l.rest

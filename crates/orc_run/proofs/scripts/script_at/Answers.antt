@@ -4,7 +4,7 @@ use Rattle.orc_tally.specs.Table.{way_of}
 use Rattle.orc_run.specs.Whole.{IsScriptAt}
 use Rattle.orc_run.proofs.Testing.{script_there, stands_there}
 use Rattle.orc_run.proofs.Untold.{among}
-use Rattle.orc_run.proofs.tests.script_at.Goals as goal
+use Rattle.orc_run.proofs.scripts.script_at.Goals as goal
 
 pub returns-in-Some-get-clause-script : goal.returns-in-Some-get-clause-script
 returns-in-Some-get-clause-script c =

@@ -1,0 +1,129 @@
+//! The ways of a test's cases, and their scripts.
+
+ghost use Rattle.std.specs.Prelude.{◌≡◌, IfOk, IfErr, length};
+ghost use Rattle.std.specs.List.{AllZip};
+ghost use Rattle.orc_ways.specs.Drafting.{test_of};
+ghost use Rattle.orc_run.specs.Tested.{AreScripts, AreWays, IsOwnFault, IsScript};
+ghost use Rattle.orc_run.specs.TestFaults.{all_texts, IsAmong, IsNoMemory, IsNoText, IsUncounted};
+
+use crate::tests::{NO_MEMORY, NO_TEXT, Untested, unread};
+use orc_cases::Ways;
+use orc_tally::Counterexample;
+use orc_ways::fault::TestFault;
+use orc_ways::test::Test;
+use std::alloc::Global;
+
+/// The scripts of the ways of a case that are tried.
+#[derive(Drop)]
+pub struct CaseScripts {
+    /// How many ways the case has.
+    pub count: u64,
+    pub scripts: Vec<Vec<u8>>,
+}
+
+/// The ways of each case. The fault is of the first case that has too many, or refused memory.
+#[tactic(auto, using(crate::proofs::Scripting::one_case, crate::proofs::Untold::first_many))]
+pub(crate) fn ways_of(alloc: Global, test: &Test<'_>) -> Result<Vec<Ways>, Untested>
+    ensures ways { IfOk result (λ ws. AreWays (test_of test.now) 0 ws.items × (length ws.items ≡ length test.now.cases.items)) }
+    ensures cause { IfErr result (IsUncounted (test_of test.now)) }
+    ensures sound { IfErr result (λ f. IsOwnFault f → ⊥) }
+{
+    let mut all = Vec::new(alloc);
+    let mut at = 0;
+    let mut rest = test.cases.as_slice();
+    loop {
+        match rest {
+            [] => return Ok(all),
+            [_case, more @ ..] => {
+                let Ok(found) = Ways::of_case(alloc, test, at) else {
+                    return Err(unread(TestFault::Memory));
+                };
+                let Some(ways) = found else {
+                    return Err(unread(TestFault::Ways(test.cases[at].line)));
+                };
+                if all.push(ways).is_err() {
+                    return Err(unread(TestFault::Memory));
+                }
+                at += 1;
+                rest = more;
+            }
+        }
+    }
+}
+
+// The scripts of a case, so many at most, each with these lines behind it.
+fn scripts_of(alloc: Global, ways: &Ways, most: u64, behind: &[u8]) -> Result<CaseScripts, Untested>
+    ensures scripts { IfOk result (AreScripts most behind.now ways.now) }
+    ensures cause { IfErr result IsNoMemory }
+    ensures sound { IfErr result (λ f. IsOwnFault f → ⊥) }
+{
+    match ways.scripts(alloc, most, behind) {
+        Ok(scripts) => Ok(CaseScripts {
+            count: ways.count(),
+            scripts,
+        }),
+        Err(_) => Err(NO_MEMORY),
+    }
+}
+
+/// The scripts of each case, so many at most, each with these lines behind it. The fault is refused memory.
+#[tactic(auto, using(crate::proofs::Scripting::one_written))]
+pub(crate) fn all_scripts(
+    alloc: Global,
+    ways: &[Ways],
+    most: u64,
+    behind: &[u8],
+) -> Result<Vec<CaseScripts>, Untested>
+    ensures scripts { IfOk result (λ ss. AllZip (AreScripts most behind.now) ways.now ss.items) }
+    ensures cause { IfErr result IsNoMemory }
+    ensures sound { IfErr result (λ f. IsOwnFault f → ⊥) }
+{
+    let mut all = Vec::new(alloc);
+    let mut rest = ways;
+    loop {
+        match rest {
+            [] => return Ok(all),
+            [ways, more @ ..] => {
+                let scripts = scripts_of(alloc, ways, most, behind)?;
+                if all.push(scripts).is_err() {
+                    return Err(NO_MEMORY);
+                }
+                rest = more;
+            }
+        }
+    }
+}
+
+/// The script of the way in which a failure is. No failure is told of a way that wasn't tried.
+pub(crate) fn script_at(cases: &[CaseScripts], found: Counterexample) -> Result<&[u8], Untested>
+    ensures script { IfOk result (λ text. IsScript cases.now found text.now) }
+    ensures among { IfOk result (λ text. IsAmong (all_texts cases.now) text.now) }
+    ensures cause { IfErr result IsNoText }
+    ensures sound { IfErr result (λ f. IsOwnFault f → ⊥) }
+{
+    let Some(case) = cases.get(found.case()) else {
+        return Err(NO_TEXT);
+    };
+    match case.scripts.get(found.way() as usize) {
+        Some(script) => Ok(script.as_slice()),
+        None => Err(NO_TEXT),
+    }
+}
+
+/// Those of its lines that tell it from other ways.
+pub(crate) fn unusual_lines(
+    alloc: Global,
+    ways: &[Ways],
+    found: Counterexample,
+) -> Result<Vec<u8>, Untested>
+    ensures cause { IfErr result IsNoText }
+    ensures sound { IfErr result (λ f. IsOwnFault f → ⊥) }
+{
+    let Some(ways) = ways.get(found.case()) else {
+        return Ok(Vec::new(alloc));
+    };
+    match ways.unusual(alloc, found.way()) {
+        Ok(lines) => Ok(lines),
+        Err(_) => Err(NO_TEXT),
+    }
+}

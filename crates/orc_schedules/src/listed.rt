@@ -1,0 +1,152 @@
+//! What terms may do after lists of calls, each worked out once.
+
+ghost use Rattle.std.specs.Prelude.{◌≡◌, ◌⊎◌, ◌<◌, ◌++◌, ◌∷◌, [], length, slice_get, IfOk, OnOk};
+ghost use Rattle.orc_search.specs.Nodes.{small_at, smalls, Extends};
+ghost use Rattle.orc_search.specs.Programs.{small_definitions};
+ghost use Rattle.orc_search.specs.Ready.{IsReady};
+ghost use Rattle.orc_schedules.specs.Listed.{next_at, AreListed, AreNext, IsOf};
+
+use crate::counts::Counts;
+use crate::states::Key;
+use orc_search::moves::{Source, successors};
+use orc_search::node::mix;
+use orc_search::places::Places;
+use orc_search::successor::Successor;
+use orc_search::terms::Terms;
+use std::alloc::{AllocError, Global};
+use std::marker::Model;
+
+/// So many are kept. Those of more begin anew, so that a search through many states keeps little beside them.
+const MOST: usize = 4096;
+
+/// All that a term may do after a list of calls, by their numbers.
+#[derive(Drop)]
+pub struct Listed {
+    pub term: usize,
+    pub made: usize,
+    pub next: Vec<Successor>,
+}
+
+/// What terms may do after lists of calls. What is asked for again is there, unless so many came between, or something with an equal hash did.
+pub struct Moves {
+    listed: Vec<Listed>,
+    // Where what was last listed with a hash stands. Nothing is promised of it: what is found there is compared.
+    places: Places,
+}
+
+impl Drop for Moves {
+    fn drop(self) {
+        let Moves {
+            listed: _,
+            places: _,
+        } = self;
+    }
+}
+
+impl Model for Moves {
+    ghost use Rattle.std.specs.Prelude.{List};
+    ghost use Rattle.orc_schedules.specs.declared.listed.Listed.{Listed};
+
+    ghost Value = { List Listed };
+
+    ghost view = { λ m. m.listed.items };
+}
+
+impl Moves {
+    /// None.
+    pub fn new(alloc: Global) -> Moves
+        ensures { result ≡ [] }
+    {
+        Moves {
+            listed: Vec::new(alloc),
+            places: Places::new(alloc),
+        }
+    }
+
+    /// What stands at that place.
+    pub fn next(&self, at: usize) -> &[Successor]
+        ensures { result.now ≡ next_at self.now at }
+    {
+        match self.listed.get(at) {
+            Some(listed) => &listed.next,
+            None => &[],
+        }
+    }
+
+    // Where this may stand.
+    fn place_of(&self, hash: u64) -> Option<usize> {
+        self.places.get(hash)
+    }
+
+    // Whether it stands there.
+    fn stands_at(&self, at: usize, from: Key) -> bool
+        ensures { result ≡ true → IsOf self.now from at }
+    {
+        match self.listed.get(at) {
+            Some(listed) => listed.term == from.term && listed.made == from.made,
+            None => false,
+        }
+    }
+
+    // None are there any more, where there are as many as are kept.
+    fn make_room(&mut self, alloc: Global)
+        ensures { (self.new ≡ self.old) ⊎ (self.new ≡ []) }
+    {
+        if self.listed.len() >= MOST {
+            self.listed = Vec::new(alloc);
+            self.places = Places::new(alloc);
+        }
+    }
+
+    // One more behind the others: its place. The error is refused memory.
+    fn push(&mut self, listed: Listed) -> Result<usize, AllocError>
+        ensures number { IfOk result (λ at. at ≡ length self.old) }
+        ensures added { OnOk result (self.new ≡ self.old ++ listed ∷ []) }
+    {
+        let at = self.listed.len();
+        self.listed.push(listed)?;
+        Ok(at)
+    }
+
+    // What was listed with this hash stands there. The error is refused memory.
+    fn remember(&mut self, hash: u64, at: usize) -> Result<(), AllocError>
+        ensures { self.new ≡ self.old }
+    {
+        self.places.insert(hash, at)
+    }
+
+    /// Where all stands that the term of that number may do after the calls of that number. The error is refused memory, or one of `successors`. The terms
+    /// that were there stay, in both cases.
+    pub fn find(
+        &mut self,
+        terms: &mut Terms,
+        alloc: Global,
+        source: &Source,
+        counts: &Counts,
+        from: Key,
+    ) -> Result<usize, AllocError>
+        requires ready { IsReady (smalls terms.old) source.now }
+        requires term { from.term < length (smalls terms.old) }
+        requires made { from.made < length counts.now }
+        requires listed { AreListed (small_definitions source.now.program.now) source.now.answers.now.sites (smalls terms.old) counts.now self.old }
+        ensures listed { OnOk result (AreListed (small_definitions source.now.program.now) source.now.answers.now.sites (smalls terms.new) counts.now self.new) }
+        ensures all { IfOk result (λ at. AreNext (small_definitions source.now.program.now) source.now.answers.now.sites (smalls terms.new) counts.now from.made (small_at (smalls terms.old) from.term) (next_at self.new at)) }
+        ensures kept { Extends (smalls terms.old) (smalls terms.new) }
+    {
+        let hash = mix(mix(1, from.term as u64), from.made as u64);
+        if let Some(at) = self.place_of(hash) {
+            if self.stands_at(at, from) {
+                return Ok(at);
+            }
+        }
+        let next = successors(terms, alloc, source, counts.made(from.made), from.term)?;
+        self.make_room(alloc);
+        let at = self.push(Listed {
+            term: from.term,
+            made: from.made,
+            next,
+        })?;
+        self.remember(hash, at)?;
+        Ok(at)
+    }
+}
