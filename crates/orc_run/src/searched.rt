@@ -286,8 +286,30 @@ impl Searcher<'_, '_> {
         }
     }
 
+    // What is said of each claim after this way, at this place.
+    #[tactic(auto, using(crate::proofs::Schedules::nothing_said))]
+    fn say_of_claims(
+        &self,
+        way: &Way<'_>,
+        explorer: &mut Explorer<'_>,
+        place: Broken,
+        before: Vec<Searched>,
+        left: &mut u64,
+    ) -> Result<Vec<Searched>, AllocError>
+        requires way { IsWay self.now.trials.now way.now }
+        requires ready { Explores way.now explorer.old }
+        ensures { IfOk result (λ after. AreAfter self.now place way.now.script.now before.items after.items) }
+    {
+        let mut after = Vec::new(self.alloc);
+        for claim in 0..before.len() {
+            let said = self.say(way, explorer, place, claim, before[claim], left)?;
+            after.push(said)?;
+        }
+        Ok(after)
+    }
+
     // What is said of each claim after the way of this script, at this place.
-    #[tactic(auto, using(crate::proofs::Schedules::all_untouched, crate::proofs::Schedules::nothing_said))]
+    #[tactic(auto, using(crate::proofs::Schedules::all_untouched))]
     fn say_of_way(
         &self,
         place: Broken,
@@ -302,11 +324,7 @@ impl Searcher<'_, '_> {
         }
         let way = Way::load(self.alloc, self.trials, script)?;
         let mut explorer = Explorer::new(self.alloc, &way.loaded.program, &way.loaded.answers)?;
-        let mut after = Vec::new(self.alloc);
-        for claim in 0..before.len() {
-            let said = self.say(&way, &mut explorer, place, claim, before[claim], left)?;
-            after.push(said)?;
-        }
+        let after = self.say_of_claims(&way, &mut explorer, place, before, left)?;
         Ok(after)
     }
 

@@ -5,7 +5,7 @@ use Rattle.std.specs.List.{AllZip}
 use Rattle.orc_rules.specs.Sites.{Site}
 use Rattle.orc_search.specs.declared.made.Made.{Made}
 use Rattle.orc_search.specs.declared.successor.Successor.{Successor}
-use Rattle.orc_search.specs.Moves.{Happening, SmallDefinition}
+use Rattle.orc_search.specs.Moves.{SmallDefinition}
 use Rattle.orc_search.specs.Moving.{IsSuccessor}
 use Rattle.orc_search.specs.Nodes.{small_at}
 use Rattle.orc_search.specs.Small.{Small, nothing}

@@ -1,6 +1,6 @@
 //! What terms may do after lists of calls, each worked out once.
 
-ghost use Rattle.std.specs.Prelude.{◌≡◌, ◌⊎◌, ◌<◌, ◌++◌, ◌∷◌, [], length, slice_get, IfOk, OnOk};
+ghost use Rattle.std.specs.Prelude.{◌≡◌, ◌⊎◌, ◌<◌, ◌++◌, ◌∷◌, [], true, Some, length, slice_get, IfSome, IfOk, OnOk};
 ghost use Rattle.orc_search.specs.Nodes.{small_at, smalls, Extends};
 ghost use Rattle.orc_search.specs.Programs.{small_definitions};
 ghost use Rattle.orc_search.specs.Ready.{IsReady};
@@ -78,11 +78,20 @@ impl Moves {
         self.places.get(hash)
     }
 
+    fn get(&self, at: usize) -> Option<&Listed>
+        ensures { IfSome result (λ l. slice_get self.now at ≡ Some l.now) }
+    {
+        match self.listed.get(at) {
+            Some(listed) => Some(listed),
+            None => None,
+        }
+    }
+
     // Whether it stands there.
     fn stands_at(&self, at: usize, from: Key) -> bool
         ensures { result ≡ true → IsOf self.now from at }
     {
-        match self.listed.get(at) {
+        match self.get(at) {
             Some(listed) => listed.term == from.term && listed.made == from.made,
             None => false,
         }

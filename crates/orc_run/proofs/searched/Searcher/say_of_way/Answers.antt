@@ -1,23 +1,10 @@
--- Of one claim more something is said.
-use Rattle.std.proofs.Common.{◌∙◌, ◌+◌, ap, arith, length, subst, sym}
-use Rattle.std.proofs.lemmas.List.{length_push}
+-- What is said after the way, is said of its script.
+use Rattle.std.proofs.Common.{subst}
 use Rattle.orc_run.specs.Whole.{AreAfter}
-use Rattle.orc_run.proofs.Schedules.{one_said}
-use Rattle.orc_run.proofs.Testing.{stands_there}
 use Rattle.orc_run.proofs.searched.Searcher.say_of_way.Goals as goal
 
-pub loop-claim-preserved : goal.loop-claim-preserved
-loop-claim-preserved c =
-    let me = c.args.self.now in
-    let script = c.in_ok-way.way.script.now in
-    let before = c.args.before.items in
-    let after = c.loop-claim.after.items in
-    let more = c.in_ok-push.ensures.items in
-    let was = stands_there before c.loop-claim.claim c.index.result.now (omega (arith, c.loop-claim-test.true, c.len-claim-end.ensures)) c.index.ensures in (
-      subst (AreAfter me c.args.place script before) (sym more) (one_said me c.args.place script before after c.loop-claim.claim c.index.result.now c.in_ok-said.said c.loop-claim.invariant.1 was c.loop-claim.invariant.0 c.in_ok-said.ensures.said),
-      ap (λ n. n + 1) c.loop-claim.invariant.1 ∙ sym (length_push after c.in_ok-said.said) ∙ ap length (sym more),
-      c.in_ok-said.ensures.ready,
-    )
+pub say_of_claims-requires-clause-ready : goal.say_of_claims-requires-clause-ready
+say_of_claims-requires-clause-ready c = record { ready = c.in_ok-explorer.ensures.ready; program = c.in_ok-explorer.ensures.program; answers = c.in_ok-explorer.ensures.answers }
 
 pub returns : goal.returns
-returns c = subst (λ script. AreAfter c.args.self.now c.args.place script c.args.before.items c.loop-claim.after.items) c.in_ok-way.ensures.script c.loop-claim.invariant.0
+returns c = subst (λ script. AreAfter c.args.self.now c.args.place script c.args.before.items c.in_ok-after.after.items) c.in_ok-way.ensures.script c.in_ok-after.ensures
