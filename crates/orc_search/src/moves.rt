@@ -368,6 +368,17 @@ pub(crate) fn own_step(
     }
 }
 
+// The parts of a part are to be entered next. The error is refused memory.
+fn plan(terms: &Terms, walk: &mut Walk, spot: Spot) -> Result<(), AllocError>
+    ensures { OnOk result (IsPlanned (smalls terms.now) spot walk.old walk.new) }
+{
+    match terms.node(spot.at) {
+        None => Err(AllocError),
+        Some(Node::Tip(_)) => Ok(()),
+        Some(Node::Pair(joint, f, g)) => walk.plan_parts(*joint, *f, *g, spot.depth),
+    }
+}
+
 // What a part does by itself, and its parts are to be entered next. The error is refused memory, or a call with more than `MOST_ARGUMENTS`
 // parameters.
 fn step(
@@ -384,25 +395,8 @@ fn step(
     ensures planned { IfOk result (λ _. IsPlanned (smalls terms.old) spot walk.old walk.new) }
     ensures kept { Extends (smalls terms.old) (smalls terms.new) }
 {
-    match own_of(terms, alloc, source, made, spot.at)? {
-        Own::Becomes(None) => Ok(None),
-        Own::Becomes(Some(becoming)) => {
-            let to = terms.number_of(Node::Tip(becoming.tip))?;
-            Ok(Some(Successor {
-                happening: becoming.happening,
-                to,
-            }))
-        }
-        Own::Enters(definition, params) => {
-            let body = entered(terms, alloc, source, definition, &params)?;
-            Ok(body)
-        }
-        Own::Joins(joint, f, g) => {
-            walk.plan_parts(joint, f, g, spot.depth)?;
-            let turned = turned(terms, alloc, joint, f, g, spot.depth)?;
-            Ok(silent(turned))
-        }
-    }
+    plan(terms, walk, spot)?;
+    own_step(terms, alloc, source, made, spot)
 }
 
 fn silent(turned: Option<usize>) -> Option<Successor>
