@@ -1,0 +1,39 @@
+//! Runs that begin.
+
+ghost use Rattle.std.specs.Prelude.{◌≡◌, ◌≤◌, true};
+ghost use Rattle.orc_rules.specs.declared.limits.TheConstants.{MOST_ENTRIES};
+
+use crate::inputs::Inputs;
+use crate::passes::Passes;
+use crate::replay::Replay;
+use orc_book::Book;
+use orc_log::Program;
+use orc_rules::limits::{MOST_ENTRIES, MOST_GROUPS};
+use orc_word::{Naming, Supply};
+use std::alloc::Global;
+
+/// The words of groups that a run has where nothing else is said: as many may be taken by killed ones as there may be open ones.
+pub(crate) const WORDS: u32 = 2 * MOST_GROUPS as u32;
+
+/// The passes then: more than the entries of a run take.
+pub(crate) const PASSES: u32 = 4 * MOST_ENTRIES as u32;
+
+/// A run whose first token is out, with these words, and passes out of this supply. None where memory is refused, or the supply is empty.
+pub(crate) fn begin<P: Program + Naming>(
+    alloc: Global,
+    inputs: &Inputs<'_, P>,
+    mut supply: Supply<P>,
+    words: u32,
+    limit: usize,
+) -> Option<Replay<P>>
+    requires limit { (1 ≤ limit) × (limit ≤ MOST_ENTRIES) }
+    requires named { limit ≡ P.limit }
+    requires keeps { P.keeps ≡ true }
+    requires words { words ≡ P.table.words }
+{
+    let idle = supply.take(inputs.groups)?;
+    let pass = inputs.groups.open(idle, 0).ok()?;
+    let (book, token) = Book::<P>::new(alloc, inputs.graph, true, limit, words, pass).ok()?;
+    let passes = Passes::new(alloc, supply);
+    Replay::begin(alloc, inputs, book, token, passes, words).ok()
+}

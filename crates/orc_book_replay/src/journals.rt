@@ -1,0 +1,180 @@
+//! Journals replayed from their beginning to their end.
+
+ghost use Rattle.std.specs.Prelude.{◌≡◌, ◌*◌, true};
+ghost use Rattle.orc_rules.specs.declared.limits.TheConstants.{MOST_ENTRIES, MOST_GROUPS};
+
+use crate::begin::{PASSES, WORDS, begin};
+use crate::inputs::Inputs;
+use crate::replay::{Odd, Replay};
+use orc_graph::Graph;
+use orc_journal::{Journal, Version};
+use orc_journal_text::{read_journal, write_journal};
+use orc_ledger::{Ledger, Next};
+use orc_load::load;
+use orc_log::Program;
+use orc_rules::answers::Answers;
+use orc_rules::entry::State;
+use orc_rules::limits::MOST_ENTRIES;
+use orc_word::{Naming, Unnamed};
+use std::alloc::Global;
+use std::marker::Brand;
+
+/// The entry that isn't replayed, from 1, and why.
+#[derive(Clone, Copy, Debug, PartialEq, Eq)]
+pub(crate) struct Stop {
+    pub at: usize,
+    pub why: Odd,
+}
+
+/// A journal that was replayed: how many entries it has, and what the book says of the place to which they have led.
+#[derive(Clone, Copy)]
+pub(crate) struct Replayed {
+    pub entries: usize,
+    pub state: State,
+}
+
+const UNREAD: Stop = Stop {
+    at: 0,
+    why: Odd::Other,
+};
+
+/// Replays the text of a journal of the second version, entry by entry, by calls of a book that begins with the program: each entry is done by the
+/// call for its kind, and each pass is left as soon as no record has it. Ok where that writes this journal.
+pub(crate) fn replay_text(
+    alloc: Global,
+    source: &[u8],
+    script: &[u8],
+    text: &[u8],
+) -> Result<Replayed, Stop> {
+    let Ok(loaded) = load(alloc, source, script) else {
+        return Err(UNREAD);
+    };
+    let Ok(journal) = read_journal(alloc, text, &loaded.answers) else {
+        return Err(UNREAD);
+    };
+    let Ok(graph) = Graph::build(alloc, &loaded.program) else {
+        return Err(UNREAD);
+    };
+    if journal.version() != Version::Two {
+        return Err(UNREAD);
+    }
+    replay_graph(alloc, &graph, &loaded.answers, &journal)
+}
+
+fn replay_graph(
+    alloc: Global,
+    graph: &Graph,
+    answers: &Answers,
+    journal: &Journal,
+) -> Result<Replayed, Stop> {
+    let Ok(words) = Unnamed::new(alloc, WORDS, PASSES) else {
+        return Err(UNREAD);
+    };
+    replay_named::<Brand>(alloc, words, graph, answers, journal)
+}
+
+fn replay_named<P: Program + Naming>(
+    alloc: Global,
+    words: Unnamed,
+    graph: &Graph,
+    answers: &Answers,
+    journal: &Journal,
+) -> Result<Replayed, Stop>
+    requires graph { graph.now ≡ P.listing }
+    requires answers { answers.now.sites ≡ P.sites }
+    requires limit { P.limit ≡ MOST_ENTRIES }
+    requires keeps { P.keeps ≡ true }
+    requires table { words.table.shared.table_id ≡ P.table }
+    requires words { words.table.shared.table_id.words ≡ 2 * MOST_GROUPS }
+{
+    let (groups, supply) = words.named::<P>();
+    let inputs = Inputs {
+        graph,
+        answers,
+        groups: &groups,
+    };
+    let Some(mut replay) = begin(alloc, &inputs, supply, WORDS, MOST_ENTRIES as usize) else {
+        return Err(UNREAD);
+    };
+    follow(&inputs, &mut replay, journal)?;
+    let entries = journal.len();
+    match state_of(alloc, &inputs, replay, journal) {
+        Ok(state) => Ok(Replayed { entries, state }),
+        Err(why) => Err(Stop { at: entries, why }),
+    }
+}
+
+// Has the book do what the entries say.
+fn follow<P: Program + Naming>(
+    inputs: &Inputs<'_, P>,
+    replay: &mut Replay<P>,
+    journal: &Journal,
+) -> Result<(), Stop> {
+    for at in 0..journal.len() {
+        let Some(entry) = journal.get(at) else {
+            return Ok(());
+        };
+        if let Err(why) = replay.enter(inputs, &entry) {
+            return Err(Stop {
+                at: at.saturating_add(1),
+                why,
+            });
+        }
+    }
+    Ok(())
+}
+
+// Where the entries have led, if the book has written this journal. It closes the program's own group exactly where the term has halted.
+fn state_of<P: Program + Naming>(
+    alloc: Global,
+    inputs: &Inputs<'_, P>,
+    mut replay: Replay<P>,
+    journal: &Journal,
+) -> Result<State, Odd>
+    requires keeps { P.keeps ≡ true }
+{
+    let has_ended = replay.has_ended(inputs)?;
+    let mut ledger = replay.into_ledger();
+    match are_same(alloc, inputs.answers, ledger.journal(), journal) {
+        Some(true) => state_after(inputs, &mut ledger, has_ended),
+        Some(false) => Err(Odd::Other),
+        None => Err(Odd::Memory),
+    }
+}
+
+fn state_after<P: Program + Naming>(
+    inputs: &Inputs<'_, P>,
+    ledger: &mut Ledger<P>,
+    has_ended: bool,
+) -> Result<State, Odd> {
+    if ledger.has_halted() != has_ended {
+        return Err(Odd::Other);
+    }
+    if has_ended {
+        return Ok(State::Halted);
+    }
+    match ledger.next(inputs.graph) {
+        Next::Quiet => Ok(State::Quiet),
+        Next::Work | Next::Ticks(_) => Ok(State::Running),
+    }
+}
+
+// Whether two journals have one text.
+fn are_same(alloc: Global, answers: &Answers, one: &Journal, other: &Journal) -> Option<bool> {
+    let mut text = Vec::new(alloc);
+    let mut other_text = Vec::new(alloc);
+    let whole = write_journal(one, answers, &mut text).ok()?;
+    let other_whole = write_journal(other, answers, &mut other_text).ok()?;
+    Some(whole && other_whole && text.as_slice() == other_text.as_slice())
+}
+
+/// Reads a journal's text as `replay_text` does, and compares it with itself: how many entries it has. None where it isn't read.
+pub(crate) fn read_text(alloc: Global, source: &[u8], script: &[u8], text: &[u8]) -> Option<usize> {
+    let loaded = load(alloc, source, script).ok()?;
+    let journal = read_journal(alloc, text, &loaded.answers).ok()?;
+    if are_same(alloc, &loaded.answers, &journal, &journal)? {
+        Some(journal.len())
+    } else {
+        None
+    }
+}

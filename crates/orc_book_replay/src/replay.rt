@@ -1,0 +1,665 @@
+//! Journals replayed by calls of the book, entry by entry.
+
+ghost use Rattle.std.specs.Prelude.{◌≡◌, ◌<◌, IfSome, vec_len};
+
+use crate::inputs::Inputs;
+use crate::passes::Passes;
+use crate::sides::{Side, Sides};
+use orc_book::{Answered, Births, Book, BookFault, Ended, Next, StepOut, Token};
+use orc_ledger::{Action, Ledger};
+use orc_log::Program;
+use orc_rules::entry::Entry;
+use orc_rules::value::{Answer, Args};
+use orc_word::{Last, Naming, Pass};
+use std::alloc::Global;
+use std::mem;
+
+/// With so many killed groups whose words are taken still, the passes of tokens that are gone are looked for.
+const MOST_DYING: usize = 64;
+
+/// Why an entry isn't replayed.
+#[derive(Clone, Copy, Debug, PartialEq, Eq)]
+pub(crate) enum Odd {
+    /// No such token is out, or no such call pends.
+    Gone,
+    /// The token does something else next.
+    Word,
+    /// The side that the entry leaves was not left by its last pass: by the rules those inside may do nothing but make moves of marks.
+    Live,
+    /// The call has another answer, or is due at another time.
+    Wrong,
+    /// Something else comes next than this tick.
+    Time,
+    /// The book has done something else than the entry says.
+    Other,
+    /// A limit is reached.
+    Limit,
+    Memory,
+}
+
+impl From<BookFault> for Odd {
+    fn from(fault: BookFault) -> Odd {
+        match fault {
+            BookFault::Gone => Odd::Gone,
+            BookFault::Wrong => Odd::Wrong,
+            BookFault::Live => Odd::Live,
+            BookFault::Full | BookFault::Limit => Odd::Limit,
+            BookFault::Memory | BookFault::Short => Odd::Memory,
+        }
+    }
+}
+
+/// A token that is out, and what it does next: as long as it is out that stays the same.
+#[derive(Drop)]
+struct Out<P: Naming> {
+    token: Token<P>,
+    what: Action,
+}
+
+/// A run whose entries are told one after another.
+pub(crate) struct Replay<P: Program + Naming> {
+    pub book: Book<P>,
+    pub passes: Passes<P>,
+    sides: Sides,
+    // The tokens that are out by their slots, and the slot of each token by its mark; there is no mark 0.
+    out: Vec<Option<Out<P>>>,
+    slots: Vec<usize>,
+    // How many of the cancels of the last bind are still to be told.
+    owed: usize,
+    // Lent to the book's calls.
+    leave: Vec<Pass<P>>,
+    births: Births<P>,
+    step: StepOut<P>,
+    args: Args,
+}
+
+// Written out, so that each exit of a function that has a run drops it by one call.
+impl<P: Program + Naming> Drop for Replay<P> {
+    fn drop(self) {
+        let Replay {
+            book,
+            passes,
+            sides,
+            out,
+            slots,
+            owed: _,
+            leave,
+            births,
+            step,
+            args,
+        } = self;
+        drop(book);
+        drop(passes);
+        drop(sides);
+        drop(out);
+        drop(slots);
+        drop(leave);
+        drop(births);
+        drop(step);
+        drop(args);
+    }
+}
+
+// Whether what a token does next is the entry.
+fn says(what: Action, entry: &Entry) -> bool {
+    match (what, entry) {
+        (Action::Halt, Entry::End(_)) => true,
+        (Action::Fork, Entry::Fork(_, _, _)) => true,
+        (Action::Seq, Entry::Seq(_, _)) => true,
+        (Action::Other, Entry::Other(_, _)) => true,
+        (Action::Prune, Entry::Open(_, _, _, _)) => true,
+        (Action::Def, Entry::Def(_, _)) => true,
+        (Action::Void, Entry::Void(_)) => true,
+        (Action::Call, Entry::Call(_, _, _, _)) => true,
+        (Action::Publish(value), Entry::Publish(_, v)) => value == *v,
+        (Action::Send(value), Entry::Send(_, _, v)) => value == *v,
+        (Action::Bind(cell, value), Entry::Bind(_, c, v)) => cell == *c && value == *v,
+        _ => false,
+    }
+}
+
+impl<P: Program + Naming> Replay<P> {
+    /// A run that has begun, whose first token is out. Its words are as many as are said.
+    pub(crate) fn begin(
+        alloc: Global,
+        inputs: &Inputs<'_, P>,
+        book: Book<P>,
+        token: Token<P>,
+        passes: Passes<P>,
+        words: u32,
+    ) -> Result<Replay<P>, Odd> {
+        let Ok(sides) = Sides::new(alloc, words) else {
+            return Err(Odd::Memory);
+        };
+        let mut slots = Vec::new(alloc);
+        if slots.push(0).is_err() {
+            return Err(Odd::Memory);
+        }
+        let mut replay = Replay {
+            book,
+            passes,
+            sides,
+            out: Vec::new(alloc),
+            slots,
+            owed: 0,
+            leave: Vec::new(alloc),
+            births: Births::new(alloc),
+            step: StepOut::new(alloc),
+            args: Args::new(),
+        };
+        replay.stand(inputs, token)?;
+        Ok(replay)
+    }
+
+    /// Has the book do what an entry says, by the call for its kind. A `cancel` has come with its bind, and is compared.
+    pub(crate) fn enter(&mut self, inputs: &Inputs<'_, P>, entry: &Entry) -> Result<(), Odd> {
+        if let Entry::Cancel(number) = entry {
+            return self.cancel(*number);
+        }
+        if self.owed > 0 {
+            return Err(Odd::Other);
+        }
+        match entry {
+            Entry::Return(number, _, value) => self.answer(inputs, *number, Answer::Value(*value))?,
+            Entry::ReturnHalt(number) => self.answer(inputs, *number, Answer::Halt)?,
+            Entry::Lost(cell) => self.halt(inputs, Side::Right(*cell))?,
+            Entry::Right(mark, _) => self.halt(inputs, Side::Left(*mark))?,
+            Entry::Tick(time) => self.tick(inputs, *time)?,
+            _ => self.advance(inputs, entry)?,
+        }
+        self.settle(inputs)
+    }
+
+    // A token does what the entry says.
+    fn advance(&mut self, inputs: &Inputs<'_, P>, entry: &Entry) -> Result<(), Odd> {
+        match entry {
+            Entry::End(mark) | Entry::Void(mark) => {
+                let token = self.take(*mark, entry)?;
+                self.end(inputs, token)
+            }
+            Entry::Fork(mark, _, _) => {
+                let token = self.take(*mark, entry)?;
+                self.fork(inputs, token)
+            }
+            Entry::Seq(mark, _) | Entry::Def(mark, _) => {
+                let token = self.take(*mark, entry)?;
+                self.go_on(inputs, token)
+            }
+            Entry::Open(mark, cell, _, _) => {
+                let token = self.take(*mark, entry)?;
+                self.prune(inputs, token, *cell)
+            }
+            Entry::Other(mark, _) => {
+                let token = self.take(*mark, entry)?;
+                self.other(inputs, token, *mark)
+            }
+            Entry::Send(mark, _, _) => {
+                let token = self.take(*mark, entry)?;
+                self.send(inputs, token)
+            }
+            Entry::Call(mark, number, _, _) => {
+                let token = self.take(*mark, entry)?;
+                self.call(inputs, token, *number)
+            }
+            Entry::Bind(mark, cell, _) => {
+                let token = self.take(*mark, entry)?;
+                self.bind(inputs, token, *cell)
+            }
+            Entry::Publish(mark, _) => {
+                let token = self.take(*mark, entry)?;
+                self.publish(inputs, token)
+            }
+            _ => Err(Odd::Other),
+        }
+    }
+
+    /// The token with this mark, if it is out and does next what the entry says.
+    fn take(&mut self, mark: u64, entry: &Entry) -> Result<Token<P>, Odd> {
+        let Some(out) = self.take_out(mark) else {
+            return Err(Odd::Gone);
+        };
+        if !says(out.what, entry) {
+            return Err(Odd::Word);
+        }
+        Ok(out.token)
+    }
+
+    fn take_out(&mut self, mark: u64) -> Option<Out<P>> {
+        let slot = self.slots.get(mark as usize).copied()?;
+        let place = self.out.get_mut(slot)?;
+        let out = place.take()?;
+        if out.token.serial == mark {
+            return Some(out);
+        }
+        *place = Some(out);
+        None
+    }
+
+    /// The token with this mark, if it is out. The replay doesn't have it any more then.
+    pub(crate) fn take_token(&mut self, mark: u64) -> Option<Token<P>> {
+        match self.take_out(mark) {
+            Some(out) => Some(out.token),
+            None => None,
+        }
+    }
+
+    /// A token that has the next mark.
+    pub(crate) fn stand(&mut self, inputs: &Inputs<'_, P>, token: Token<P>) -> Result<(), Odd> {
+        if token.serial != self.slots.len() as u64 {
+            return Err(Odd::Other);
+        }
+        if self.slots.push(token.slot).is_err() {
+            return Err(Odd::Memory);
+        }
+        self.hold(inputs, token)
+    }
+
+    /// A token that is out; the book keeps it where it waits.
+    pub(crate) fn hold(&mut self, inputs: &Inputs<'_, P>, token: Token<P>) -> Result<(), Odd> {
+        let Some(view) = self.book.view(inputs.graph, token.slot, token.serial) else {
+            return Err(Odd::Gone);
+        };
+        if let Action::Wait(_) = view.what {
+            return match self.book.wait(inputs.graph, token) {
+                Ok(()) => Ok(()),
+                Err(refused) => Err(Odd::from(refused.why)),
+            };
+        }
+        let what = view.what;
+        self.put(Out { token, what })
+    }
+
+    // A token is out in its slot. One that was there is gone, and its pass is to be left.
+    fn put(&mut self, out: Out<P>) -> Result<(), Odd> {
+        let slot = out.token.slot;
+        for _ in 0..u64::MAX {
+            if slot < self.out.len() {
+                break;
+            }
+            if self.out.push(None).is_err() {
+                return Err(Odd::Memory);
+            }
+        }
+        let Some(place) = self.out.get_mut(slot) else {
+            return Err(Odd::Memory);
+        };
+        match mem::replace(place, Some(out)) {
+            Some(gone) => self.drop_pass(gone.token.pass),
+            None => Ok(()),
+        }
+    }
+
+    // A pass is to be left.
+    fn drop_pass(&mut self, pass: Pass<P>) -> Result<(), Odd> {
+        match self.leave.push(pass) {
+            Ok(()) => Ok(()),
+            Err(_) => Err(Odd::Memory),
+        }
+    }
+
+    fn end(&mut self, inputs: &Inputs<'_, P>, token: Token<P>) -> Result<(), Odd> {
+        match self.book.end(inputs.graph, token) {
+            Ok(pass) => self.drop_pass(pass),
+            Err(refused) => Err(Odd::from(refused.why)),
+        }
+    }
+
+    fn go_on(&mut self, inputs: &Inputs<'_, P>, token: Token<P>) -> Result<(), Odd> {
+        match self.book.go_on(inputs.graph, token) {
+            Ok(token) => self.stand(inputs, token),
+            Err(refused) => Err(Odd::from(refused.why)),
+        }
+    }
+
+    fn fork(&mut self, inputs: &Inputs<'_, P>, token: Token<P>) -> Result<(), Odd> {
+        let Some(same) = self.passes.same(inputs.groups, &token.pass) else {
+            return Err(Odd::Memory);
+        };
+        match self.book.fork(inputs.graph, token, same) {
+            Ok((left, right)) => {
+                self.stand(inputs, left)?;
+                self.stand(inputs, right)
+            }
+            Err(refused) => Err(Odd::from(refused.why)),
+        }
+    }
+
+    fn prune(&mut self, inputs: &Inputs<'_, P>, token: Token<P>, cell: u64) -> Result<(), Odd> {
+        let around = token.pass.group();
+        let Some(same) = self.passes.same(inputs.groups, &token.pass) else {
+            return Err(Odd::Memory);
+        };
+        let Some(idle) = self.passes.idle(inputs.groups) else {
+            return Err(Odd::Memory);
+        };
+        match self
+            .book
+            .prune(inputs.groups, inputs.graph, token, same, idle)
+        {
+            Ok((left, right)) => {
+                self.enter_side(right.pass.group(), Side::Right(cell), around)?;
+                self.stand(inputs, left)?;
+                self.stand(inputs, right)
+            }
+            Err(refused) => Err(Odd::from(refused.why)),
+        }
+    }
+
+    fn other(&mut self, inputs: &Inputs<'_, P>, token: Token<P>, mark: u64) -> Result<(), Odd> {
+        let around = token.pass.group();
+        let Some(idle) = self.passes.idle(inputs.groups) else {
+            return Err(Odd::Memory);
+        };
+        match self.book.other(inputs.groups, inputs.graph, token, idle) {
+            Ok(token) => {
+                self.enter_side(token.pass.group(), Side::Left(mark), around)?;
+                self.stand(inputs, token)
+            }
+            Err(refused) => Err(Odd::from(refused.why)),
+        }
+    }
+
+    fn enter_side(
+        &mut self,
+        word: Option<u32>,
+        side: Side,
+        around: Option<u32>,
+    ) -> Result<(), Odd> {
+        match (word, around) {
+            (Some(word), Some(around)) => {
+                self.sides.enter(word, side, around);
+                Ok(())
+            }
+            _ => Err(Odd::Other),
+        }
+    }
+
+    // A publication leaves the left sides from one group out to another.
+    fn leave_sides(&mut self, from: Option<u32>, to: Option<u32>) -> Result<(), Odd> {
+        match (from, to) {
+            (Some(from), Some(to)) if self.sides.leave(from, to) => Ok(()),
+            _ => Err(Odd::Other),
+        }
+    }
+
+    fn send(&mut self, inputs: &Inputs<'_, P>, token: Token<P>) -> Result<(), Odd> {
+        let inside = token.pass.group();
+        if self.births.idle.is_empty()
+            && let Some(idle) = self.passes.idle(inputs.groups)
+            && self.births.idle.push(idle).is_err()
+        {
+            return Err(Odd::Memory);
+        }
+        match self.book.step(
+            inputs.groups,
+            inputs.graph,
+            token,
+            &mut self.births,
+            &mut self.step,
+        ) {
+            Ok(()) => self.sent(inputs, inside),
+            Err(refused) => Err(Odd::from(refused.why)),
+        }
+    }
+
+    // What has come out of a step that was a publication into a `>x>`, by a token of the group with this word.
+    fn sent(&mut self, inputs: &Inputs<'_, P>, inside: Option<u32>) -> Result<(), Odd> {
+        let Some(token) = self.step.born.pop() else {
+            return Err(Odd::Other);
+        };
+        if let Some(pass) = self.step.leave.pop() {
+            self.leave_sides(inside, token.pass.group())?;
+            self.drop_pass(pass)?;
+        }
+        self.stand(inputs, token)
+    }
+
+    fn publish(&mut self, inputs: &Inputs<'_, P>, token: Token<P>) -> Result<(), Odd> {
+        self.leave_sides(token.pass.group(), Some(0))?;
+        match self.book.publish(inputs.graph, token) {
+            Ok(pass) => self.drop_pass(pass),
+            Err(refused) => Err(Odd::from(refused.why)),
+        }
+    }
+
+    fn call(&mut self, inputs: &Inputs<'_, P>, token: Token<P>, wanted: u64) -> Result<(), Odd> {
+        match self
+            .book
+            .call(inputs.graph, inputs.answers, token, &mut self.args)
+        {
+            Ok(number) if number == wanted => Ok(()),
+            Ok(_) => Err(Odd::Other),
+            Err(refused) => Err(Odd::from(refused.why)),
+        }
+    }
+
+    fn answer(&mut self, inputs: &Inputs<'_, P>, number: u64, answer: Answer) -> Result<(), Odd> {
+        match self.book.returned(number, answer) {
+            Ok(Answered::Token(token)) => self.stand(inputs, token),
+            Ok(Answered::Halted(pass)) => self.drop_pass(pass),
+            Err(fault) => Err(Odd::from(fault)),
+        }
+    }
+
+    // What stood inside the cell's right side is gone; those that wait for the cell go on.
+    fn bind(&mut self, inputs: &Inputs<'_, P>, token: Token<P>, cell: u64) -> Result<(), Odd> {
+        let Some(inside) = token.pass.group() else {
+            return Err(Odd::Other);
+        };
+        let Some(word) = self.sides.right_side(inside, cell) else {
+            return Err(Odd::Other);
+        };
+        if let Err(refused) = self
+            .book
+            .bind(inputs.groups, inputs.graph, token, &mut self.leave)
+        {
+            return Err(Odd::from(refused.why));
+        }
+        self.owed = self.book.cancelled().len();
+        self.sides.kill(word);
+        self.wake(inputs, cell)?;
+        if self.book.dying() < MOST_DYING {
+            return Ok(());
+        }
+        self.sweep(inputs)
+    }
+
+    // The calls that a bind has cancelled, in their order.
+    fn cancel(&mut self, number: u64) -> Result<(), Odd> {
+        let cancelled = self.book.cancelled();
+        let Some(at) = cancelled.len().checked_sub(self.owed) else {
+            return Err(Odd::Other);
+        };
+        if self.owed < 1 || cancelled.get(at) != Some(&number) {
+            return Err(Odd::Other);
+        }
+        self.owed -= 1;
+        Ok(())
+    }
+
+    /// The tokens that wait for a cell go on.
+    pub(crate) fn wake(&mut self, inputs: &Inputs<'_, P>, cell: u64) -> Result<(), Odd> {
+        if self.book.wake(cell, &mut self.step.born).is_err() {
+            return Err(Odd::Memory);
+        }
+        for _ in 0..u64::MAX {
+            let Some(token) = self.step.born.pop() else {
+                break;
+            };
+            self.hold(inputs, token)?;
+        }
+        Ok(())
+    }
+
+    // The passes of tokens that went with a killed group are left.
+    fn sweep(&mut self, inputs: &Inputs<'_, P>) -> Result<(), Odd> {
+        for slot in 0..self.out.len() {
+            self.sweep_slot(inputs, slot)?;
+        }
+        self.settle(inputs)
+    }
+
+    fn sweep_slot(&mut self, inputs: &Inputs<'_, P>, slot: usize) -> Result<(), Odd> {
+        let Some(place) = self.out.get_mut(slot) else {
+            return Ok(());
+        };
+        let Some(out) = place.take() else {
+            return Ok(());
+        };
+        let view = self
+            .book
+            .view(inputs.graph, out.token.slot, out.token.serial);
+        if view.is_none() {
+            return self.drop_pass(out.token.pass);
+        }
+        *place = Some(out);
+        Ok(())
+    }
+
+    // The passes that are to be left are left, and groups that go without an entry are closed once nobody is in them.
+    fn settle(&mut self, inputs: &Inputs<'_, P>) -> Result<(), Odd> {
+        for _ in 0..u64::MAX {
+            if self
+                .passes
+                .leave_all(inputs.groups, &mut self.leave)
+                .is_err()
+            {
+                return Err(Odd::Memory);
+            }
+            let Some(last) = self.silent_last() else {
+                break;
+            };
+            match self.book.halt(last, &mut self.leave) {
+                Ok(Ended::Group) => {}
+                Ok(_) => return Err(Odd::Other),
+                Err(refused) => return Err(Odd::from(refused.why)),
+            }
+        }
+        Ok(())
+    }
+
+    // A group that was left last and goes without an entry.
+    fn silent_last(&mut self) -> Option<Last<P>> {
+        let sides = &self.sides;
+        let place = self
+            .passes
+            .lasts
+            .iter()
+            .position(|last| sides.goes_silently(last.group()))?;
+        Some(self.passes.lasts.swap_remove(place))
+    }
+
+    // The side of which this is the group, if it was left last.
+    fn last_of(&mut self, side: Side) -> Option<Last<P>> {
+        let sides = &self.sides;
+        let place = self
+            .passes
+            .lasts
+            .iter()
+            .position(|last| sides.side(last.group()) == side)?;
+        Some(self.passes.lasts.swap_remove(place))
+    }
+
+    // A side halts: a cell is lost, or a right side starts.
+    fn halt(&mut self, inputs: &Inputs<'_, P>, side: Side) -> Result<(), Odd> {
+        if let Some(last) = self.last_of(side) {
+            return self.close(inputs, last);
+        }
+        self.sweep(inputs)?;
+        match self.last_of(side) {
+            Some(last) => self.close(inputs, last),
+            None => Err(Odd::Live),
+        }
+    }
+
+    fn close(&mut self, inputs: &Inputs<'_, P>, last: Last<P>) -> Result<(), Odd> {
+        match self.book.halt(last, &mut self.leave) {
+            Ok(Ended::Lost(cell)) => self.wake(inputs, cell),
+            Ok(Ended::Token(token)) => self.stand(inputs, token),
+            Ok(_) => Err(Odd::Other),
+            Err(refused) => Err(Odd::from(refused.why)),
+        }
+    }
+
+    // Time goes on. Where something else comes next, that may be a group which goes without an entry, once passes of tokens that are gone are left.
+    fn tick(&mut self, inputs: &Inputs<'_, P>, time: u64) -> Result<(), Odd> {
+        if self.ticks(inputs, time)? {
+            return Ok(());
+        }
+        self.sweep(inputs)?;
+        if self.ticks(inputs, time)? {
+            return Ok(());
+        }
+        Err(Odd::Time)
+    }
+
+    // Whether what comes next is a tick, which is to this time then.
+    fn ticks(&mut self, inputs: &Inputs<'_, P>, time: u64) -> Result<bool, Odd> {
+        match self.book.next(inputs.graph) {
+            Ok(Next::Ticked) if self.book.now() == time => Ok(true),
+            Ok(Next::Ticked) => Err(Odd::Time),
+            Ok(_) => Ok(false),
+            Err(fault) => Err(Odd::from(fault)),
+        }
+    }
+
+    /// Whether the run has halted: all passes to the program's own group have been left, and the book closes it.
+    pub(crate) fn has_ended(&mut self, inputs: &Inputs<'_, P>) -> Result<bool, Odd> {
+        self.sweep(inputs)?;
+        let Some(last) = self.last_of(Side::Whole) else {
+            return Ok(false);
+        };
+        match self.book.halt(last, &mut self.leave) {
+            Ok(Ended::Run) => Ok(true),
+            Ok(_) => Err(Odd::Other),
+            Err(refused) => Err(Odd::from(refused.why)),
+        }
+    }
+
+    /// Whether the book keeps the token with this mark, which waits.
+    pub(crate) fn keeps(&self, inputs: &Inputs<'_, P>, mark: u64) -> bool {
+        let Some(slot) = self.slots.get(mark as usize) else {
+            return false;
+        };
+        match self.book.view(inputs.graph, *slot, mark) {
+            Some(view) => matches!(view.what, Action::Wait(_)) && !self.is_out(mark),
+            None => false,
+        }
+    }
+
+    /// Whether the token with this mark is out.
+    pub(crate) fn is_out(&self, mark: u64) -> bool {
+        let Some(slot) = self.slots.get(mark as usize) else {
+            return false;
+        };
+        match self.out.get(*slot) {
+            Some(Some(out)) => out.token.serial == mark,
+            _ => false,
+        }
+    }
+
+    /// The records of the run, and nothing else of it.
+    pub(crate) fn into_ledger(self) -> Ledger<P> {
+        let Replay {
+            book,
+            passes,
+            sides,
+            out,
+            slots,
+            owed: _,
+            leave,
+            births,
+            step,
+            args,
+        } = self;
+        drop(passes);
+        drop(sides);
+        drop(out);
+        drop(slots);
+        drop(leave);
+        drop(births);
+        drop(step);
+        drop(args);
+        book.into_ledger()
+    }
+}

@@ -1,0 +1,241 @@
+//! Rows by calls of the book: what is done with it, and what it has to answer.
+
+ghost use Rattle.std.specs.Prelude.{◌≡◌, ◌≤◌, true};
+ghost use Rattle.orc_rules.specs.declared.limits.TheConstants.{MOST_ENTRIES};
+
+use crate::begin::begin;
+use crate::inputs::Inputs;
+use crate::kills::{
+    ends_after_a_kill, gives_a_lost_mark_back, keeps_words_of_the_killed, tells_killed_tokens,
+};
+use crate::passes_alone::{gives_passes_again, is_killed_once};
+use crate::refusals::{is_live, refuses_other_moves, refuses_words_that_are_named};
+use crate::replay::Replay;
+use crate::steps::{goes_on_until_full, makes_moves};
+use orc_book::{BookFault, Next};
+use orc_graph::Graph;
+use orc_journal_text::{read_entry, write_journal};
+use orc_load::load;
+use orc_log::Program;
+use orc_rules::answers::Answers;
+use orc_rules::entry::Entry;
+use orc_rules::limits::MOST_ENTRIES;
+use orc_rules::value::Answer;
+use orc_word::{Naming, Unnamed};
+use std::alloc::Global;
+use std::marker::Brand;
+
+/// What is done with a book, or asked of it.
+#[derive(Clone, Copy)]
+pub(crate) enum Step {
+    /// These entries are done, a line each, and the book writes just these.
+    Does(&'static str),
+    /// The book keeps the token with this mark, which waits.
+    Keeps(u64),
+    /// The token with this mark is out.
+    IsOut(u64),
+    /// This comes next.
+    Next(Next),
+    /// The time is this.
+    Now(u64),
+    /// The call with the least number that is due now.
+    Due(Option<u64>),
+    /// This answer of a call is refused.
+    Refuses(u64, Answer, BookFault),
+    /// The journal has so many entries, the cancels left out.
+    Entries(usize),
+    /// All passes to the program's own group have been left, and the book closes it, or not yet.
+    HasEnded(bool),
+}
+
+/// What a row shows of a book.
+#[derive(Clone, Copy)]
+pub(crate) enum Shows {
+    Steps(&'static [Step]),
+    GivesPassesAgain,
+    IsKilledOnce,
+    EndsAfterAKill,
+    GivesALostMarkBack,
+    KeepsWordsOfTheKilled,
+    TellsKilledTokens,
+    IsLive,
+    RefusesOtherMoves,
+    RefusesWordsThatAreNamed,
+    /// By moves of the token that has stood longest: so many entries, before one is refused for this, when so many passes to the program's group are left.
+    MakesMoves(usize, BookFault, usize),
+    /// A single token moves until one of the engine's numbers is reached: so many entries.
+    IsFullAfter(usize),
+}
+
+/// A program, the limit of its journal, the words and the passes of its book, and what that shows.
+#[derive(Clone, Copy)]
+pub(crate) struct Row {
+    pub name: &'static str,
+    pub source: &'static str,
+    pub script: &'static str,
+    pub limit: usize,
+    pub words: u32,
+    pub passes: u32,
+    pub shows: Shows,
+}
+
+/// Whether something is as it has to be.
+pub(crate) fn so(holds: bool) -> Option<()> {
+    if holds { Some(()) } else { None }
+}
+
+/// The book does these entries, a line each.
+pub(crate) fn enter_all<P: Program + Naming>(
+    inputs: &Inputs<'_, P>,
+    replay: &mut Replay<P>,
+    lines: &str,
+) -> Option<()> {
+    let mut entry = Entry::Tick(0);
+    let mut rest = lines.as_bytes();
+    for _line in 0..lines.len() {
+        if rest.is_empty() {
+            break;
+        }
+        rest = read_entry(rest, inputs.answers, &mut entry)?;
+        replay.enter(inputs, &entry).ok()?;
+    }
+    so(rest.is_empty())
+}
+
+/// The book has written these entries, a line each, and no other.
+pub(crate) fn has_written<P: Program + Naming>(
+    alloc: Global,
+    inputs: &Inputs<'_, P>,
+    replay: Replay<P>,
+    lines: &str,
+) -> Option<()>
+    requires { P.keeps ≡ true }
+{
+    let mut wanted = Vec::from_slice(alloc, b"orc-journal 2\n").ok()?;
+    wanted.extend_from_slice(lines.as_bytes()).ok()?;
+    let journal = replay.into_ledger().into_journal();
+    let mut text = Vec::new(alloc);
+    let is_whole = write_journal(&journal, inputs.answers, &mut text).ok()?;
+    so(is_whole && text.as_slice() == wanted.as_slice())
+}
+
+// Whether the answer of a book is this one.
+fn is_next(one: Next, other: Next) -> bool {
+    match (one, other) {
+        (Next::Work, Next::Work) => true,
+        (Next::Ticked, Next::Ticked) => true,
+        (Next::Quiet, Next::Quiet) => true,
+        _ => false,
+    }
+}
+
+fn is_so<P: Program + Naming>(
+    inputs: &Inputs<'_, P>,
+    replay: &mut Replay<P>,
+    step: &Step,
+) -> Option<()> {
+    match *step {
+        Step::Does(lines) => enter_all(inputs, replay, lines),
+        Step::Keeps(mark) => so(replay.keeps(inputs, mark)),
+        Step::IsOut(mark) => so(replay.is_out(mark)),
+        Step::Next(next) => so(is_next(replay.book.next(inputs.graph).ok()?, next)),
+        Step::Now(time) => so(replay.book.now() == time),
+        Step::Due(wanted) => so(replay.book.due_beyond(0) == wanted),
+        Step::Refuses(call, answer, fault) => match replay.book.returned(call, answer) {
+            Ok(_) => None,
+            Err(why) => so(why == fault),
+        },
+        Step::Entries(entries) => so(replay.book.entries() == entries),
+        Step::HasEnded(ended) => so(replay.has_ended(inputs).ok()? == ended),
+    }
+}
+
+fn are_so<P: Program + Naming>(
+    alloc: Global,
+    inputs: &Inputs<'_, P>,
+    mut replay: Replay<P>,
+    steps: &[Step],
+) -> Option<()>
+    requires { P.keeps ≡ true }
+{
+    let mut lines = String::new(alloc);
+    for step in steps {
+        is_so(inputs, &mut replay, step)?;
+        if let Step::Does(entries) = step {
+            lines.push_str(entries).ok()?;
+        }
+    }
+    has_written(alloc, inputs, replay, lines.as_str())
+}
+
+fn show_with<P: Program + Naming>(
+    alloc: Global,
+    inputs: &Inputs<'_, P>,
+    replay: Replay<P>,
+    shows: Shows,
+) -> Option<()>
+    requires keeps { P.keeps ≡ true }
+    requires words { 2 ≤ P.table.words }
+{
+    match shows {
+        Shows::Steps(steps) => are_so(alloc, inputs, replay, steps),
+        Shows::GivesPassesAgain => gives_passes_again(inputs, replay),
+        Shows::IsKilledOnce => is_killed_once(inputs, replay),
+        Shows::EndsAfterAKill => ends_after_a_kill(alloc, inputs, replay),
+        Shows::GivesALostMarkBack => gives_a_lost_mark_back(alloc, inputs, replay),
+        Shows::KeepsWordsOfTheKilled => keeps_words_of_the_killed(alloc, inputs, replay),
+        Shows::TellsKilledTokens => tells_killed_tokens(alloc, inputs, replay),
+        Shows::IsLive => is_live(alloc, inputs, replay),
+        Shows::RefusesOtherMoves => refuses_other_moves(alloc, inputs, replay),
+        Shows::RefusesWordsThatAreNamed => refuses_words_that_are_named(alloc, inputs, replay),
+        Shows::MakesMoves(entries, why, left) => {
+            makes_moves(alloc, inputs, replay, entries, why, left)
+        }
+        Shows::IsFullAfter(entries) => goes_on_until_full(alloc, inputs, replay, entries),
+    }
+}
+
+fn show_named<P: Program + Naming>(
+    alloc: Global,
+    words: Unnamed,
+    graph: &Graph,
+    answers: &Answers,
+    row: &Row,
+    limit: usize,
+    count: u32,
+) -> Option<()>
+    requires graph { graph.now ≡ P.listing }
+    requires answers { answers.now.sites ≡ P.sites }
+    requires limit { (1 ≤ limit) × (limit ≤ MOST_ENTRIES) }
+    requires named { limit ≡ P.limit }
+    requires keeps { P.keeps ≡ true }
+    requires table { words.table.shared.table_id ≡ P.table }
+    requires words { words.table.shared.table_id.words ≡ count }
+    requires count { 2 ≤ count }
+{
+    let (groups, supply) = words.named::<P>();
+    let inputs = Inputs {
+        graph,
+        answers,
+        groups: &groups,
+    };
+    let replay = begin(alloc, &inputs, supply, count, limit)?;
+    show_with(alloc, &inputs, replay, row.shows)
+}
+
+/// Whether a book does what a row shows.
+pub(crate) fn show(alloc: Global, row: &Row) -> Option<()> {
+    let loaded = load(alloc, row.source.as_bytes(), row.script.as_bytes()).ok()?;
+    let graph = Graph::build(alloc, &loaded.program).ok()?;
+    let limit = row.limit;
+    let count = row.words;
+    let passes = row.passes;
+    if limit < 1 || limit > MOST_ENTRIES as usize || count < 2 || count > 65_536 {
+        return None;
+    }
+    if passes >= 2_147_483_648 {
+        return None;
+    }
+    let words = Unnamed::new(alloc, count, passes).ok()?;
+    show_named::<Brand>(alloc, words, &graph, &loaded.answers, row, limit, count)
+}

@@ -1,0 +1,128 @@
+//! The sides that groups stand for, by their words.
+
+use orc_rules::limits::MOST_GROUPS;
+use std::alloc::{AllocError, Global};
+
+/// What a group is.
+#[derive(Clone, Copy, PartialEq, Eq)]
+pub(crate) enum Side {
+    /// The program's own.
+    Whole,
+    /// The right side of this cell.
+    Right(u64),
+    /// The left side of the otherwise with this mark.
+    Left(u64),
+}
+
+/// A group, the word of the one round it, whether a publication has left it, and whether it was killed.
+#[derive(Clone, Copy)]
+struct Group {
+    side: Side,
+    parent: u32,
+    is_left: bool,
+    is_killed: bool,
+}
+
+const WHOLE: Group = Group {
+    side: Side::Whole,
+    parent: 0,
+    is_left: false,
+    is_killed: false,
+};
+
+/// The groups by their words. The program's own has word 0.
+#[derive(Drop)]
+pub(crate) struct Sides {
+    groups: Vec<Group>,
+}
+
+impl Sides {
+    pub(crate) fn new(alloc: Global, words: u32) -> Result<Sides, AllocError> {
+        let mut groups = Vec::new(alloc);
+        for _word in 0..words {
+            groups.push(WHOLE)?;
+        }
+        Ok(Sides { groups })
+    }
+
+    fn group(&self, word: u32) -> Group {
+        match self.groups.get(word as usize) {
+            Some(group) => *group,
+            None => WHOLE,
+        }
+    }
+
+    pub(crate) fn side(&self, word: u32) -> Side {
+        self.group(word).side
+    }
+
+    /// A side is entered, whose group has this word, inside the group with that one.
+    pub(crate) fn enter(&mut self, word: u32, side: Side, parent: u32) {
+        if let Some(group) = self.groups.get_mut(word as usize) {
+            *group = Group {
+                side,
+                parent,
+                is_left: false,
+                is_killed: false,
+            };
+        }
+    }
+
+    /// A publication leaves the left sides from one group out to another. Tells whether no right side is between.
+    pub(crate) fn leave(&mut self, from: u32, to: u32) -> bool {
+        let mut word = from;
+        for _outwards in 0..MOST_GROUPS {
+            if word == to {
+                return true;
+            }
+            let Some(group) = self.groups.get_mut(word as usize) else {
+                return false;
+            };
+            if !matches!(group.side, Side::Left(_)) {
+                return false;
+            }
+            group.is_left = true;
+            word = group.parent;
+        }
+        false
+    }
+
+    /// The word of a cell's right side, where that is round this group or is this group.
+    pub(crate) fn right_side(&self, from: u32, cell: u64) -> Option<u32> {
+        let mut word = from;
+        for _outwards in 0..MOST_GROUPS {
+            let group = self.group(word);
+            match group.side {
+                Side::Right(c) if c == cell => return Some(word),
+                Side::Left(_) => word = group.parent,
+                _ => return None,
+            }
+        }
+        None
+    }
+
+    pub(crate) fn kill(&mut self, word: u32) {
+        if let Some(group) = self.groups.get_mut(word as usize) {
+            group.is_killed = true;
+        }
+    }
+
+    /// Whether a group goes without an entry once it is left: a publication has left it, or it was killed, or one that is round it.
+    pub(crate) fn goes_silently(&self, word: u32) -> bool {
+        if self.group(word).is_left {
+            return true;
+        }
+        let mut word = word;
+        for _outwards in 0..2 * MOST_GROUPS {
+            let group = self.group(word);
+            if group.is_killed {
+                return true;
+            }
+            if word == 0 {
+                return false;
+            }
+            word = group.parent;
+        }
+        false
+    }
+}

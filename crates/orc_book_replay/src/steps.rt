@@ -1,0 +1,159 @@
+//! Tokens that move by `step`, in the order in which they came.
+
+ghost use Rattle.std.specs.Prelude.{◌≡◌, true};
+
+use crate::inputs::Inputs;
+use crate::replay::Replay;
+use crate::rows::{has_written, so};
+use orc_book::{Births, BookFault, StepOut, Token};
+use orc_ledger::Action;
+use orc_log::Program;
+use orc_word::Naming;
+use std::alloc::Global;
+
+// What no move, one, two, three and four of these moves write.
+const MOVES: [&str; 5] = [
+    "",
+    "seq 1 2\n",
+    "seq 1 2\nfork 2 3 4\n",
+    "seq 1 2\nfork 2 3 4\nsend 3 5 1\n",
+    "seq 1 2\nfork 2 3 4\nsend 3 5 1\nsend 4 6 2\n",
+];
+
+// The token that has stood longest moves by `step`, as often as the book takes it. Tells why it takes no more.
+fn move_in_line<P: Program + Naming>(
+    inputs: &Inputs<'_, P>,
+    replay: &mut Replay<P>,
+    births: &mut Births<P>,
+    out: &mut StepOut<P>,
+) -> Option<BookFault> {
+    for _move in 0..100 {
+        if out.born.is_empty() {
+            return None;
+        }
+        let token = out.born.remove(0);
+        if let Err(refused) = replay
+            .book
+            .step(inputs.groups, inputs.graph, token, births, out)
+        {
+            return Some(refused.why);
+        }
+    }
+    None
+}
+
+// The first token needs no pass to enter a `>x>`, and is gone after that. Gives the token that came in its place.
+fn moves_once<P: Program + Naming>(
+    inputs: &Inputs<'_, P>,
+    replay: &mut Replay<P>,
+    births: &mut Births<P>,
+    out: &mut StepOut<P>,
+) -> Option<()> {
+    let token = replay.take_token(1)?;
+    let view = replay.book.view(inputs.graph, token.slot, token.serial)?;
+    so(matches!(view.what, Action::Seq) && view.needs.same == 0 && view.needs.idle == 0)?;
+    let slot = token.slot;
+    let double = replay.passes.same(inputs.groups, &token.pass)?;
+    replay
+        .book
+        .step(inputs.groups, inputs.graph, token, births, out)
+        .ok()?;
+    let again = Token {
+        serial: 1,
+        slot,
+        pass: double,
+    };
+    match replay
+        .book
+        .step(inputs.groups, inputs.graph, again, births, out)
+    {
+        Ok(()) => None,
+        Err(refused) => {
+            so(refused.why == BookFault::Gone && out.born.len() == 1)?;
+            so(!replay.passes.leave(inputs.groups, refused.back.pass).ok()?)
+        }
+    }
+}
+
+// The second token needs one pass to its own group.
+fn needs_one<P: Program + Naming>(
+    inputs: &Inputs<'_, P>,
+    replay: &Replay<P>,
+    out: &StepOut<P>,
+) -> Option<()> {
+    let token = out.born.first()?;
+    let view = replay.book.view(inputs.graph, token.slot, token.serial)?;
+    so(matches!(view.what, Action::Fork) && view.needs.same == 1 && view.needs.idle == 0)
+}
+
+/// The tokens of `(1 | 2) >x> Add(x, 10)` move in the order in which they came, with one pass lent for the fork and an idle one, which no publication needs
+/// here. The book takes so many moves and refuses the next for this reason; so many of the passes to the tokens' group are left then.
+pub(crate) fn makes_moves<P: Program + Naming>(
+    alloc: Global,
+    inputs: &Inputs<'_, P>,
+    mut replay: Replay<P>,
+    entries: usize,
+    why: BookFault,
+    left: usize,
+) -> Option<()>
+    requires { P.keeps ≡ true }
+{
+    let mut births = Births::new(alloc);
+    let mut out = StepOut::new(alloc);
+    moves_once(inputs, &mut replay, &mut births, &mut out)?;
+    needs_one(inputs, &replay, &out)?;
+    let same = replay.passes.same(inputs.groups, &out.born.first()?.pass)?;
+    births.same.push(same).ok()?;
+    let idle = replay.passes.idle(inputs.groups)?;
+    births.idle.push(idle).ok()?;
+    so(move_in_line(inputs, &mut replay, &mut births, &mut out)? == why)?;
+    so(replay.book.entries() == entries)?;
+    so(births.same.len() == left && births.idle.len() == 1 && out.leave.is_empty())?;
+    has_written(alloc, inputs, replay, MOVES.get(entries)?)
+}
+
+/// A single token moves by `step` until the book is full. There are so many entries then.
+pub(crate) fn goes_on_until_full<P: Program + Naming>(
+    alloc: Global,
+    inputs: &Inputs<'_, P>,
+    mut replay: Replay<P>,
+    entries: usize,
+) -> Option<()> {
+    let mut births = Births::new(alloc);
+    let mut out = StepOut::new(alloc);
+    let first = replay.take_token(1)?;
+    out.born.push(first).ok()?;
+    for _move in 0..entries {
+        move_one(inputs, &mut replay, &mut births, &mut out).ok()?;
+    }
+    so(replay.book.entries() == entries)?;
+    match move_one(inputs, &mut replay, &mut births, &mut out) {
+        Ok(()) => None,
+        Err(why) => so(why == BookFault::Full && replay.book.entries() == entries),
+    }
+}
+
+// The token that came last moves, with an idle pass where it needs one.
+fn move_one<P: Program + Naming>(
+    inputs: &Inputs<'_, P>,
+    replay: &mut Replay<P>,
+    births: &mut Births<P>,
+    out: &mut StepOut<P>,
+) -> Result<(), BookFault> {
+    if births.idle.is_empty()
+        && let Some(idle) = replay.passes.idle(inputs.groups)
+        && births.idle.push(idle).is_err()
+    {
+        return Err(BookFault::Memory);
+    }
+    let Some(token) = out.born.pop() else {
+        return Err(BookFault::Gone);
+    };
+    match replay
+        .book
+        .step(inputs.groups, inputs.graph, token, births, out)
+    {
+        Ok(()) => Ok(()),
+        Err(refused) => Err(refused.why),
+    }
+}
