@@ -1,4 +1,5 @@
 pub mod Accepting
+pub mod Causing
 pub mod Claiming
 pub mod Drawing
 pub mod KnownFiles

@@ -1,6 +1,7 @@
 pub mod Checked
 pub mod Claimed
 pub mod Commands
+pub mod Causes
 pub mod Drawn
 pub mod Failures
 pub mod Faults

@@ -4,6 +4,7 @@ ghost use Rattle.std.specs.Prelude.{◌≡◌, ◌≢◌, ◌<◌, ◌⊎◌, �
 ghost use Rattle.std.specs.Io.KnownBytes.{Keeps};
 ghost use Rattle.orc_outcome.specs.declared.end.End.TheVariants as ends;
 ghost use Rattle.orc_run.specs.Inputs.{IsHeld, IsRead};
+ghost use Rattle.orc_run.specs.Causes.{HasCause, IsCheckUndone, IsClaimUndone, IsDrawRunUndone, IsDrawUndone, IsPrintUndone, IsRunUndone, IsShowUndone, IsTestUndone, IsUndone};
 ghost use Rattle.orc_run.specs.Commands.{HasDrawn, HasDrawnRun, HasEnded, HasHeld, HasJudged, HasPrinted, HasRun, HasShownOf, HasTested, HasTold, HasToldAll, IsDone, IsUnread, LeavesUndone, TellsNotAll, TellsOfFailures, WasCut};
 
 use crate::claims::claims_text;
@@ -81,7 +82,7 @@ fn read_script<'a, F: Files>(
 }
 
 // Runs the program of a file: the status says how the run ended.
-#[tactic(auto, using(crate::proofs::Statuses::unread, crate::proofs::Statuses::unrun))]
+#[tactic(auto, using(crate::proofs::Statuses::unread, crate::proofs::Causing::unread_run, crate::proofs::Statuses::unrun))]
 fn run_file<'a, R: Threads + Wait + Sync, F: Files, W: Write>(
     rt: &R,
     alloc: Global,
@@ -94,6 +95,7 @@ fn run_file<'a, R: Threads + Wait + Sync, F: Files, W: Write>(
 ) -> Result<u8, Failure<'a>>
     ensures done { IfOk result (HasRun (F.holds files.old) file.now (option_map (λ p. p.now) script.entry) options.now (W.contents out.old) (W.contents out.new)) }
     ensures undone { IfErr result (λ f. LeavesUndone f (W.contents out.old) (W.contents out.new)) }
+    ensures cause { IfErr result (IsRunUndone (F.holds files.old) file.now (option_map (λ p. p.now) script.entry)) }
 {
     let source = read(file, files)?;
     let answers = read_script(alloc, script, files)?;
@@ -120,7 +122,7 @@ fn run_file<'a, R: Threads + Wait + Sync, F: Files, W: Write>(
 }
 
 // Runs the program of a file in many orders.
-#[tactic(auto, using(crate::proofs::Statuses::unread, crate::proofs::Statuses::unsurveyed))]
+#[tactic(auto, using(crate::proofs::Statuses::unread, crate::proofs::Causing::unread_run, crate::proofs::Statuses::unsurveyed))]
 fn survey_file<'a, R: Threads + Sync, F: Files, W: Write>(
     rt: &R,
     alloc: Global,
@@ -133,6 +135,7 @@ fn survey_file<'a, R: Threads + Sync, F: Files, W: Write>(
 ) -> Result<u8, Failure<'a>>
     ensures done { IfOk result (HasTold (F.holds files.old) file.now (option_map (λ p. p.now) script.entry) options.now.orders options.now.limit (W.contents out.old) (W.contents out.new)) }
     ensures undone { IfErr result (λ f. LeavesUndone f (W.contents out.old) (W.contents out.new)) }
+    ensures cause { IfErr result (IsRunUndone (F.holds files.old) file.now (option_map (λ p. p.now) script.entry)) }
 {
     let source = read(file, files)?;
     let answers = read_script(alloc, script, files)?;
@@ -161,7 +164,7 @@ fn search_status(all: bool) -> u8
 }
 
 // Runs the program of a file in many orders, and searches all its schedules, through so many states at most: the status says whether all is told.
-#[tactic(auto, using(crate::proofs::Statuses::unread, crate::proofs::Statuses::unsearched))]
+#[tactic(auto, using(crate::proofs::Statuses::unread, crate::proofs::Causing::unread_run, crate::proofs::Statuses::unsearched))]
 fn search_file<'a, R: Threads + Sync, F: Files, W: Write>(
     rt: &R,
     alloc: Global,
@@ -175,6 +178,7 @@ fn search_file<'a, R: Threads + Sync, F: Files, W: Write>(
 ) -> Result<u8, Failure<'a>>
     ensures done { IfOk result (HasToldAll (F.holds files.old) file.now (option_map (λ p. p.now) script.entry) options.now.orders options.now.limit states (W.contents out.old) (W.contents out.new)) }
     ensures undone { IfErr result (λ f. LeavesUndone f (W.contents out.old) (W.contents out.new)) }
+    ensures cause { IfErr result (IsRunUndone (F.holds files.old) file.now (option_map (λ p. p.now) script.entry)) }
 {
     let source = read(file, files)?;
     let answers = read_script(alloc, script, files)?;
@@ -197,7 +201,7 @@ fn search_file<'a, R: Threads + Sync, F: Files, W: Write>(
 }
 
 // Shows an outcome of the program of a file, the one with this number: the journal of a run that has it.
-#[tactic(auto, using(crate::proofs::Statuses::unread, crate::proofs::Statuses::not_shown))]
+#[tactic(auto, using(crate::proofs::Statuses::unread, crate::proofs::Causing::unread_show, crate::proofs::Statuses::not_shown))]
 fn show_file<'a, R: Threads + Sync, F: Files, W: Write>(
     rt: &R,
     alloc: Global,
@@ -212,6 +216,7 @@ fn show_file<'a, R: Threads + Sync, F: Files, W: Write>(
 ) -> Result<u8, Failure<'a>>
     ensures done { IfOk result (HasShownOf (F.holds files.old) file.now (option_map (λ p. p.now) script.entry) options.now.orders options.now.limit number (W.contents out.old) (W.contents out.new)) }
     ensures undone { IfErr result (λ f. LeavesUndone f (W.contents out.old) (W.contents out.new)) }
+    ensures cause { IfErr result (IsShowUndone (F.holds files.old) file.now (option_map (λ p. p.now) script.entry) number) }
 {
     let source = read(file, files)?;
     let answers = read_script(alloc, script, files)?;
@@ -238,7 +243,7 @@ fn show_file<'a, R: Threads + Sync, F: Files, W: Write>(
 
 // Checks the journal of a file. It is read piece by piece, but where an explanation is asked for: then its text is kept, so that a fault can be
 // shown in it.
-#[tactic(auto, using(crate::proofs::Statuses::unread, crate::proofs::Statuses::unjudged, crate::proofs::Statuses::unchecked))]
+#[tactic(auto, using(crate::proofs::Statuses::unread, crate::proofs::Causing::unread_check, crate::proofs::Statuses::unjudged, crate::proofs::Statuses::unchecked))]
 fn check_file<'a, F: Files, W: Write>(
     alloc: Global,
     file: &'a str,
@@ -250,6 +255,7 @@ fn check_file<'a, F: Files, W: Write>(
 ) -> Result<u8, Failure<'a>>
     ensures done { IfOk result (HasJudged (F.holds files.old) file.now journal.entry.now (option_map (λ p. p.now) script.entry) (W.contents out.old) (W.contents out.new)) }
     ensures undone { IfErr result (λ f. LeavesUndone f (W.contents out.old) (W.contents out.new)) }
+    ensures cause { IfErr result (IsCheckUndone (F.holds files.old) file.now journal.entry.now (option_map (λ p. p.now) script.entry)) }
 {
     let source = read(file, files)?;
     if !explained.is_asked() {
@@ -301,7 +307,7 @@ fn claims_status(failing: usize) -> u8
 }
 
 // Checks the journal of a file and holds the claims of a test against it: the status says whether all hold.
-#[tactic(auto, using(crate::proofs::Statuses::unread, crate::proofs::Statuses::unclaimed))]
+#[tactic(auto, using(crate::proofs::Statuses::unread, crate::proofs::Causing::unread_claim, crate::proofs::Statuses::unclaimed))]
 fn claims_file<'a, F: Files, W: Write>(
     alloc: Global,
     file: &'a str,
@@ -314,6 +320,7 @@ fn claims_file<'a, F: Files, W: Write>(
 ) -> Result<u8, Failure<'a>>
     ensures done { IfOk result (HasHeld (F.holds files.old) file.now journal.now (option_map (λ p. p.now) script.entry) test.now (W.contents out.old) (W.contents out.new)) }
     ensures undone { IfErr result (λ f. LeavesUndone f (W.contents out.old) (W.contents out.new)) }
+    ensures cause { IfErr result (IsClaimUndone (F.holds files.old) file.now journal.now (option_map (λ p. p.now) script.entry) test.now) }
 {
     let source = read(file, files)?;
     let lines = read(journal, files)?;
@@ -359,7 +366,7 @@ fn name_of(path: &str) -> &str {
 }
 
 // Draws the journal of a file.
-#[tactic(auto, using(crate::proofs::Statuses::unread, crate::proofs::Statuses::undrawn_fault, crate::proofs::Statuses::undrawn_rows))]
+#[tactic(auto, using(crate::proofs::Statuses::unread, crate::proofs::Causing::unread_draw, crate::proofs::Statuses::undrawn_fault, crate::proofs::Statuses::undrawn_rows))]
 fn draw_file<'a, F: Files, W: Write>(
     alloc: Global,
     file: &'a str,
@@ -372,6 +379,7 @@ fn draw_file<'a, F: Files, W: Write>(
 ) -> Result<u8, Failure<'a>>
     ensures done { IfOk result (HasDrawn (F.holds files.old) file.now journal.now (option_map (λ p. p.now) script.entry) (W.contents out.old) (W.contents out.new)) }
     ensures undone { IfErr result (λ f. LeavesUndone f (W.contents out.old) (W.contents out.new)) }
+    ensures cause { IfErr result (IsDrawUndone (F.holds files.old) file.now journal.now (option_map (λ p. p.now) script.entry)) }
 {
     let source = read(file, files)?;
     let text = read(journal, files)?;
@@ -404,7 +412,7 @@ fn draw_file<'a, F: Files, W: Write>(
 }
 
 // Draws the journal of a run of a file's program.
-#[tactic(auto, using(crate::proofs::Statuses::unread, crate::proofs::Statuses::undrawn_run))]
+#[tactic(auto, using(crate::proofs::Statuses::unread, crate::proofs::Causing::unread_draw_run, crate::proofs::Statuses::undrawn_run))]
 fn draw_run_of<'a, R: Threads + Wait + Sync, F: Files, W: Write>(
     rt: &R,
     alloc: Global,
@@ -418,6 +426,7 @@ fn draw_run_of<'a, R: Threads + Wait + Sync, F: Files, W: Write>(
 ) -> Result<u8, Failure<'a>>
     ensures done { IfOk result (HasDrawnRun (F.holds files.old) file.now (option_map (λ p. p.now) script.entry) run.now (W.contents out.old) (W.contents out.new)) }
     ensures undone { IfErr result (λ f. LeavesUndone f (W.contents out.old) (W.contents out.new)) }
+    ensures cause { IfErr result (IsDrawRunUndone (F.holds files.old) file.now (option_map (λ p. p.now) script.entry) run.now) }
 {
     let source = read(file, files)?;
     let answers = read_script(alloc, script, files)?;
@@ -442,7 +451,7 @@ fn draw_run_of<'a, R: Threads + Wait + Sync, F: Files, W: Write>(
 }
 
 // Prints the program of a file.
-#[tactic(auto, using(crate::proofs::Statuses::unread, crate::proofs::Statuses::unprinted))]
+#[tactic(auto, using(crate::proofs::Statuses::unread, crate::proofs::Causing::unread_print, crate::proofs::Statuses::unprinted))]
 fn print_file<'a, F: Files, W: Write>(
     alloc: Global,
     file: &'a str,
@@ -452,6 +461,7 @@ fn print_file<'a, F: Files, W: Write>(
 ) -> Result<u8, Failure<'a>>
     ensures done { IfOk result (HasPrinted (F.holds files.old) file.now (W.contents out.old) (W.contents out.new)) }
     ensures undone { IfErr result (λ f. LeavesUndone f (W.contents out.old) (W.contents out.new)) }
+    ensures cause { IfErr result (IsPrintUndone (F.holds files.old) file.now) }
 {
     let source = read(file, files)?;
     match print_text(alloc, source.as_slice(), out) {
@@ -465,7 +475,7 @@ fn print_file<'a, F: Files, W: Write>(
 }
 
 // Holds the claims of a test against the program of a file: the status says whether all hold.
-#[tactic(auto, using(crate::proofs::Statuses::unread, crate::proofs::Statuses::untested_fault))]
+#[tactic(auto, using(crate::proofs::Statuses::unread, crate::proofs::Causing::unread_test, crate::proofs::Statuses::untested_fault))]
 fn test_file<'a, R: Threads + Wait + Sync, F: Files, W: Write>(
     rt: &R,
     alloc: Global,
@@ -479,6 +489,7 @@ fn test_file<'a, R: Threads + Wait + Sync, F: Files, W: Write>(
 ) -> Result<u8, Failure<'a>>
     ensures done { IfOk result (HasTested (F.holds files.old) file.now test.now (option_map (λ p. p.now) script.entry) options.now (W.contents out.old) (W.contents out.new)) }
     ensures undone { IfErr result (λ f. LeavesUndone f (W.contents out.old) (W.contents out.new)) }
+    ensures cause { IfErr result (IsTestUndone (F.holds files.old) file.now test.now (option_map (λ p. p.now) script.entry) options.now) }
 {
     let source = read(file, files)?;
     let claims = read(test, files)?;
@@ -523,6 +534,7 @@ fn do_job<'a, R: Threads + Wait + Sync, F: Files, W: Write>(
 ) -> Result<u8, Failure<'a>>
     ensures done { IfOk result (IsDone (F.holds files.old) job.entry (W.contents out.old) (W.contents out.new)) }
     ensures undone { IfErr result (λ f. LeavesUndone f (W.contents out.old) (W.contents out.new)) }
+    ensures cause { IfErr result (IsUndone (F.holds files.old) job.entry) }
 {
     match job {
         Job::Run {
@@ -613,7 +625,7 @@ where
     W: Write,
     V: Write,
     ensures status { result < 8 }
-    ensures fault { result ≡ 1 → Keeps (W.contents out.old) (W.contents out.new) ⊎ TellsOfFailures (W.contents out.old) (W.contents out.new) }
+    ensures fault { result ≡ 1 → (Keeps (W.contents out.old) (W.contents out.new) × HasCause (F.holds files.old) 1) ⊎ TellsOfFailures (W.contents out.old) (W.contents out.new) }
     ensures refused { result ≡ 2 → Keeps (W.contents out.old) (W.contents out.new) }
     ensures broken { result ≡ 7 → Keeps (W.contents out.old) (W.contents out.new) }
     ensures quiet { result ≡ 3 → HasEnded ends.Quiet (W.contents out.old) (W.contents out.new) }

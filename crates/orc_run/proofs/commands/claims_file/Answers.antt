@@ -1,3 +1,5 @@
+use Rattle.std.proofs.Common.{subst}
+use Rattle.orc_run.specs.Claimed.{IsUnclaimedFor}
 use Rattle.orc_run.proofs.KnownFiles.{four_before}
 use Rattle.orc_run.proofs.commands.claims_file.Goals as goal
 
@@ -8,3 +10,17 @@ returns-in-Ok-clause-done g c =
     c.as_slice.ensures.value c.as_slice-4.ensures.value c.as_slice-2.ensures.value c.as_slice-3.ensures.value
     c.in_ok-source.ensures.held c.in_ok-lines.ensures.held c.in_ok-claims.ensures.held c.in_ok-answers.ensures.held in
     (c.as_slice.result.now, c.as_slice-4.result.now, c.as_slice-2.result.now, c.as_slice-3.result.now, c.in-Ok.failing, before.0, before.1, before.2, before.3, c.in-Ok.ensures.claimed, c.claims_status.ensures)
+
+pub returns-in-Err-Test-clause-cause : goal.returns-in-Err-Test-clause-cause
+returns-in-Err-Test-clause-cause g c =
+    let before = four_before _ _ _ _ _ _ _ _ _ _ _ _ _ _ _ _ c.in_ok-source.ensures.same c.in_ok-lines.ensures.same c.in_ok-claims.ensures.same
+    c.as_slice.ensures.value c.as_slice-4.ensures.value c.as_slice-2.ensures.value c.as_slice-3.ensures.value
+    c.in_ok-source.ensures.held c.in_ok-lines.ensures.held c.in_ok-claims.ensures.held c.in_ok-answers.ensures.held in
+    (c.as_slice.result.now, c.as_slice-4.result.now, c.as_slice-2.result.now, c.as_slice-3.result.now, before.0, before.1, before.2, before.3, subst (IsUnclaimedFor c.as_slice.result.now c.as_slice-2.result.now c.as_slice-3.result.now c.as_slice-4.result.now) c.in-Err-Test.field-0-is c.in-Err-Test.ensures.cause)
+
+pub returns-clause-cause : goal.returns-clause-cause
+returns-clause-cause g c =
+    let before = four_before _ _ _ _ _ _ _ _ _ _ _ _ _ _ _ _ c.in_ok-source.ensures.same c.in_ok-lines.ensures.same c.in_ok-claims.ensures.same
+    c.as_slice.ensures.value c.as_slice-4.ensures.value c.as_slice-2.ensures.value c.as_slice-3.ensures.value
+    c.in_ok-source.ensures.held c.in_ok-lines.ensures.held c.in_ok-claims.ensures.held c.in_ok-answers.ensures.held in
+    (c.as_slice.result.now, c.as_slice-4.result.now, c.as_slice-2.result.now, c.as_slice-3.result.now, before.0, before.1, before.2, before.3, c.in-Err.ensures.cause)

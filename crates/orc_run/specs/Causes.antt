@@ -1,0 +1,124 @@
+-- Why a command line isn't done.
+use Rattle.std.specs.Prelude.{◌≡◌, ℕ, List, Option, option_map}
+use Rattle.orc_cli.specs.declared.job.Job.{Job}
+use Rattle.orc_cli.specs.declared.job.Job.TheVariants as job
+use Rattle.orc_cli.specs.declared.job.Options.{Options}
+use Rattle.orc_cli.specs.declared.job.TestOptions.{TestOptions}
+use Rattle.orc_run.specs.Checked.{IsCheckFault}
+use Rattle.orc_run.specs.Claimed.{IsUnclaimedFor}
+use Rattle.orc_run.specs.Drawn.{IsRunUndrawnFor, IsUndrawnFor}
+use Rattle.orc_run.specs.Failures.{failure_status}
+use Rattle.orc_run.specs.Inputs.{IsHeld, IsRead}
+use Rattle.orc_run.specs.Printed.{IsPrintFault}
+use Rattle.orc_run.specs.Running.{IsFaultOf}
+use Rattle.orc_run.specs.Shown.{IsUnshownFor}
+use Rattle.orc_run.specs.TestFaults.{IsUntestedFor}
+use Rattle.orc_run.specs.declared.failures.Failure.{Failure}
+use Rattle.orc_run.specs.declared.failures.Failure.TheVariants as failure
+use Rattle.orc_run.specs.declared.picture.Undrawn.{Undrawn}
+use Rattle.orc_run.specs.declared.picture.Undrawn.TheVariants as undrawn
+use Rattle.orc_run.specs.declared.shown.Unshown.{Unshown}
+use Rattle.orc_run.specs.declared.shown.Unshown.TheVariants as unshown
+use Rattle.orc_run.specs.declared.tests.Untested.{Untested}
+use Rattle.orc_run.specs.declared.tests.Untested.TheVariants as untested
+
+-- ---- with what the files hold
+
+-- this is so of the file's bytes and of the script's,
+abbrev pub OfTwo : (List ℕ → Option (List ℕ)) → List ℕ → Option (List ℕ) → (List ℕ → List ℕ → Type 0) → Type 0
+OfTwo holds file script P = (source read : List ℕ) × IsHeld (holds file) source × IsRead holds script read × P source read
+
+-- of those of a further file between them,
+abbrev pub OfThree : (List ℕ → Option (List ℕ)) → List ℕ → List ℕ → Option (List ℕ) → (List ℕ → List ℕ → List ℕ → Type 0) → Type 0
+OfThree holds file other script P = (source text read : List ℕ) × IsHeld (holds file) source × IsHeld (holds other) text × IsRead holds script read × P source text read
+
+-- and of those of a journal and a test
+abbrev pub OfFour : (List ℕ → Option (List ℕ)) → List ℕ → List ℕ → List ℕ → Option (List ℕ) → (List ℕ → List ℕ → List ℕ → List ℕ → Type 0) → Type 0
+OfFour holds file journal test script P = (source lines text read : List ℕ) × IsHeld (holds file) source × IsHeld (holds journal) lines × IsHeld (holds test) text × IsRead holds script read × P source lines text read
+
+-- ---- a job each: a file couldn't be read, or a fault has its cause
+
+-- a run, or many
+abbrev pub IsRunUndone : (List ℕ → Option (List ℕ)) → List ℕ → Option (List ℕ) → Failure → Type 0
+IsRunUndone holds file script (failure.Unread path f) = Unit {0}
+IsRunUndone holds file script (failure.Fault f) = OfTwo holds file script (λ source read. IsFaultOf source read f)
+IsRunUndone holds file script _ = ⊥
+
+-- the journal of an outcome
+abbrev pub HasShowCause : (List ℕ → Option (List ℕ)) → List ℕ → Option (List ℕ) → ℕ → Unshown → Type 0
+HasShowCause holds file script number u = OfTwo holds file script (λ source read. IsUnshownFor source read number u)
+
+abbrev pub IsShowUndone : (List ℕ → Option (List ℕ)) → List ℕ → Option (List ℕ) → ℕ → Failure → Type 0
+IsShowUndone holds file script number (failure.Unread path f) = Unit {0}
+IsShowUndone holds file script number (failure.Fault f) = HasShowCause holds file script number (unshown.Fault f)
+IsShowUndone holds file script number (failure.NoOutcome n) = HasShowCause holds file script number (unshown.NoOutcome n)
+IsShowUndone holds file script number (failure.NoRun n) = HasShowCause holds file script number (unshown.NoRun n)
+IsShowUndone holds file script number _ = ⊥
+
+-- a check
+abbrev pub IsCheckUndone : (List ℕ → Option (List ℕ)) → List ℕ → List ℕ → Option (List ℕ) → Failure → Type 0
+IsCheckUndone holds file journal script (failure.Unread path f) = Unit {0}
+IsCheckUndone holds file journal script (failure.Fault f) = OfThree holds file journal script (λ source lines read. IsCheckFault source read lines f)
+IsCheckUndone holds file journal script _ = ⊥
+
+-- claims of a journal
+abbrev pub IsClaimUndone : (List ℕ → Option (List ℕ)) → List ℕ → List ℕ → Option (List ℕ) → List ℕ → Failure → Type 0
+IsClaimUndone holds file journal script test (failure.Unread path f) = Unit {0}
+IsClaimUndone holds file journal script test (failure.Fault f) = OfFour holds file journal test script (λ source lines text read. IsUnclaimedFor source text read lines f)
+IsClaimUndone holds file journal script test _ = ⊥
+
+-- a picture of a journal,
+abbrev pub HasDrawCause : (List ℕ → Option (List ℕ)) → List ℕ → List ℕ → Option (List ℕ) → Undrawn → Type 0
+HasDrawCause holds file journal script u = OfThree holds file journal script (λ source lines read. IsUndrawnFor source read lines u)
+
+abbrev pub IsDrawUndone : (List ℕ → Option (List ℕ)) → List ℕ → List ℕ → Option (List ℕ) → Failure → Type 0
+IsDrawUndone holds file journal script (failure.Unread path f) = Unit {0}
+IsDrawUndone holds file journal script (failure.Fault f) = HasDrawCause holds file journal script (undrawn.Fault f)
+IsDrawUndone holds file journal script failure.Rows = HasDrawCause holds file journal script undrawn.Rows
+IsDrawUndone holds file journal script _ = ⊥
+
+-- and of a run
+abbrev pub HasDrawRunCause : (List ℕ → Option (List ℕ)) → List ℕ → Option (List ℕ) → Options → Undrawn → Type 0
+HasDrawRunCause holds file script run u = OfTwo holds file script (λ source read. IsRunUndrawnFor source read run u)
+
+abbrev pub IsDrawRunUndone : (List ℕ → Option (List ℕ)) → List ℕ → Option (List ℕ) → Options → Failure → Type 0
+IsDrawRunUndone holds file script run (failure.Unread path f) = Unit {0}
+IsDrawRunUndone holds file script run (failure.Fault f) = HasDrawRunCause holds file script run (undrawn.Fault f)
+IsDrawRunUndone holds file script run failure.Rows = HasDrawRunCause holds file script run undrawn.Rows
+IsDrawRunUndone holds file script run _ = ⊥
+
+-- a printed program
+abbrev pub IsPrintUndone : (List ℕ → Option (List ℕ)) → List ℕ → Failure → Type 0
+IsPrintUndone holds file (failure.Unread path f) = Unit {0}
+IsPrintUndone holds file (failure.Fault f) = (source : List ℕ) × IsHeld (holds file) source × IsPrintFault source f
+IsPrintUndone holds file _ = ⊥
+
+-- a test
+abbrev pub HasTestCause : (List ℕ → Option (List ℕ)) → List ℕ → List ℕ → Option (List ℕ) → TestOptions → Untested → Type 0
+HasTestCause holds file test script o u = OfThree holds file test script (λ source text read. IsUntestedFor source text read o u)
+
+abbrev pub IsTestUndone : (List ℕ → Option (List ℕ)) → List ℕ → List ℕ → Option (List ℕ) → TestOptions → Failure → Type 0
+IsTestUndone holds file test script o (failure.Unread path f) = Unit {0}
+IsTestUndone holds file test script o (failure.Fault f) = HasTestCause holds file test script o (untested.Fault f)
+IsTestUndone holds file test script o (failure.NoFailure n) = HasTestCause holds file test script o (untested.NoFailure n)
+IsTestUndone holds file test script o (failure.NoJournal n) = HasTestCause holds file test script o (untested.NoJournal n)
+IsTestUndone holds file test script o _ = ⊥
+
+-- ---- any job
+
+-- a job isn't done for this; `holds` says what is known of the files
+abbrev pub IsUndone : (List ℕ → Option (List ℕ)) → Job → Failure → Type 0
+IsUndone holds (job.Run file script options) f = IsRunUndone holds file.now (option_map (λ p. p.now) script) f
+IsUndone holds (job.Outcomes file script options) f = IsRunUndone holds file.now (option_map (λ p. p.now) script) f
+IsUndone holds (job.Search file script options states) f = IsRunUndone holds file.now (option_map (λ p. p.now) script) f
+IsUndone holds (job.Show file script options states number) f = IsShowUndone holds file.now (option_map (λ p. p.now) script) number f
+IsUndone holds (job.Check file journal script) f = IsCheckUndone holds file.now journal.now (option_map (λ p. p.now) script) f
+IsUndone holds (job.Claims file journal script test) f = IsClaimUndone holds file.now journal.now (option_map (λ p. p.now) script) test.now f
+IsUndone holds (job.Draw file journal script options) f = IsDrawUndone holds file.now journal.now (option_map (λ p. p.now) script) f
+IsUndone holds (job.DrawRun file script run options) f = IsDrawRunUndone holds file.now (option_map (λ p. p.now) script) run f
+IsUndone holds (job.Print file) f = IsPrintUndone holds file.now f
+IsUndone holds (job.Test file test script options) f = IsTestUndone holds file.now test.now (option_map (λ p. p.now) script) options f
+
+-- some job isn't done, for a cause that has this status
+abbrev pub HasCause : (List ℕ → Option (List ℕ)) → ℕ → Type 0
+HasCause holds status = (j : Job) × (f : Failure) × IsUndone holds j f × (status ≡ failure_status f)
