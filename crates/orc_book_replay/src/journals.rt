@@ -133,7 +133,7 @@ fn state_of<P: Program + Naming>(
 ) -> Result<State, Odd>
     requires keeps { P.keeps ≡ true }
 {
-    let has_ended = replay.has_ended(inputs)?;
+    let has_ended = replay.close_run(inputs)?;
     let mut ledger = replay.into_ledger();
     match are_same(alloc, inputs.answers, ledger.journal(), journal) {
         Some(true) => state_after(inputs, &mut ledger, has_ended),

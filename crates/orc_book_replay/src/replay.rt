@@ -603,8 +603,9 @@ impl<P: Program + Naming> Replay<P> {
         }
     }
 
-    /// Whether the run has halted: all passes to the program's own group have been left, and the book closes it.
-    pub(crate) fn has_ended(&mut self, inputs: &Inputs<'_, P>) -> Result<bool, Odd> {
+    /// Leaves what can be left, and closes the program's own group if the last pass to it is among that. Answers whether the run has halted
+    /// so.
+    pub(crate) fn close_run(&mut self, inputs: &Inputs<'_, P>) -> Result<bool, Odd> {
         self.sweep(inputs)?;
         let Some(last) = self.last_of(Side::Whole) else {
             return Ok(false);

@@ -146,7 +146,7 @@ fn is_so<P: Program + Naming>(
             Err(why) => so(why == fault),
         },
         Step::Entries(entries) => so(replay.book.entries() == entries),
-        Step::HasEnded(ended) => so(replay.has_ended(inputs).ok()? == ended),
+        Step::HasEnded(ended) => so(replay.close_run(inputs).ok()? == ended),
     }
 }
 
