@@ -267,9 +267,24 @@ apart() {
     tell "$crate"
 }
 
-# lane JOBS CRATE..: proves one of these crates after another, each as soon as what it stands on is proved, and those that no other lane has begun.
+# share PROCESSORS CRATE..: how many jobs the next of these crates gets: what there is by the crates that may be at work beside it. So the last
+# ones, which nothing can go beside, get all processors. Over three of them memory allows some jobs more than there are processors.
+share() {
+    local processors=$1 crate many=0
+    shift
+    for crate; do
+        [ ! -e "$room/$crate.proved" ] || continue
+        if [ -e "$room/$crate.begun" ] || is_ready "$crate"; then many=$((many + 1)); fi
+    done
+    if [ "$many" -gt "$lane_count" ]; then many=$lane_count; fi
+    if [ "$many" -lt 1 ]; then many=1; fi
+    echo $(((processors < 4 ? processors : processors + many - 1) / many))
+}
+
+# lane PROCESSORS CRATE..: proves one of these crates after another, each as soon as what it stands on is proved, and those that no other lane has
+# begun.
 lane() {
-    local jobs=$1 crate waits
+    local processors=$1 crate waits
     shift
     # One that was left alone ends with its crate: the next start waits for the lock, which it holds.
     while ! has_failed && kill -0 "$$" 2>/dev/null; do
@@ -285,7 +300,7 @@ lane() {
                 fail "$crate" 1
                 return 1
             fi
-            apart "$crate" "$jobs" || return 1
+            apart "$crate" "$(share "$processors" "$@")" || return 1
             continue 2
         done
         [ -n "$waits" ] || return 0
@@ -468,7 +483,7 @@ first_start() {
     lanes=()
     for ((each = 0; each < lane_count; each++)); do
         # shellcheck disable=SC2086
-        beside lane $((jobs < 4 ? 1 : 2)) $crates
+        beside lane "$jobs" $crates
         lanes+=($!)
     done
 }
