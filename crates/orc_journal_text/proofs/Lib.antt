@@ -7,5 +7,6 @@ pub mod Digits
 pub mod Entries
 pub mod Loops
 pub mod Names
+pub mod Outputs
 pub mod Stripping
 pub mod Whole

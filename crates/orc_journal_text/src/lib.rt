@@ -12,4 +12,4 @@ pub use fit::has_line;
 pub use lines::{Lines, LinesFault};
 pub use reader::read_entry;
 pub use text::{JournalFault, read_journal, write_header, write_journal};
-pub use writer::{write_entry, write_publication, write_value};
+pub use writer::{write_entry, write_publications, write_value};

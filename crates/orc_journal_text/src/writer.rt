@@ -39,12 +39,22 @@ pub fn write_value(out: &mut Vec<u8>, v: Value) -> Result<(), AllocError>
     }
 }
 
-/// Writes the line of a publication: the text of the value, and LF.
-pub fn write_publication(out: &mut Vec<u8>, v: Value) -> Result<(), AllocError>
+// Writes the line of a publication: the text of the value, and LF.
+fn write_publication(out: &mut Vec<u8>, v: Value) -> Result<(), AllocError>
     ensures { OnOk result (out.new.items ≡ out.old.items ++ output (v ∷ [])) }
 {
     write_value(out, v)?;
     out.push(b'\n')?;
+    Ok(())
+}
+
+/// Writes a line for each value, in their order: what a run published. The error is refused memory; lines may be written by then.
+pub fn write_publications(out: &mut Vec<u8>, values: &[Value]) -> Result<(), AllocError>
+    ensures { OnOk result (out.new.items ≡ out.old.items ++ output values.now) }
+{
+    for value in values {
+        write_publication(out, *value)?;
+    }
     Ok(())
 }
 

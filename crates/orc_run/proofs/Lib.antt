@@ -5,7 +5,6 @@ pub mod Drawing
 pub mod KnownFiles
 pub mod Listed
 pub mod LoadFaults
-pub mod Outputs
 pub mod Parted
 pub mod Schedules
 pub mod Scripting

@@ -1,26 +1,15 @@
 //! The text of what a run published.
 
-ghost use Rattle.std.specs.Prelude.{◌≡◌, IfOk, OnOk, OnErr};
+ghost use Rattle.std.specs.Prelude.{OnOk, OnErr};
 ghost use Rattle.std.specs.Io.KnownBytes.{Appends};
 ghost use Rattle.orc_rules.specs.Text.{output};
 ghost use Rattle.orc_run.specs.Output.{AppendsPrefix};
 
 use crate::output::{WriteFault, write_text};
-use orc_journal_text::write_publication;
+use orc_journal_text::write_publications;
 use orc_rules::value::Value;
-use std::alloc::{AllocError, Global};
+use std::alloc::Global;
 use std::io::Write;
-
-// A line for each value, in their order. The error is refused memory.
-fn text_of(alloc: Global, values: &[Value]) -> Result<Vec<u8>, AllocError>
-    ensures { IfOk result (λ t. t.items ≡ output values.now) }
-{
-    let mut text = Vec::new(alloc);
-    for value in values {
-        write_publication(&mut text, *value)?;
-    }
-    Ok(text)
-}
 
 /// Writes a line for each value, in their order. At a fault a prefix of that was written: nothing, where memory for the text was refused.
 pub fn write_values<W: Write>(
@@ -31,8 +20,9 @@ pub fn write_values<W: Write>(
     ensures ok { OnOk result (Appends (W.contents out.old) (W.contents out.new) (output values.now)) }
     ensures err { OnErr result (AppendsPrefix (W.contents out.old) (W.contents out.new) (output values.now)) }
 {
-    let Ok(text) = text_of(alloc, values) else {
+    let mut text = Vec::new(alloc);
+    if write_publications(&mut text, values).is_err() {
         return Err(WriteFault);
-    };
+    }
     write_text(out, text.as_slice())
 }

@@ -3,7 +3,7 @@
 
 use crate::gates::Slow;
 use crate::pools::{play, text_of};
-use orc_journal_text::write_publication;
+use orc_journal_text::write_publications;
 use orc_load::load;
 use orc_outcome::{End, Played};
 use orc_run::check_text;
@@ -61,9 +61,7 @@ fn ends<'a>(source: &'a str, limit: u64, end: End, entries: u64) -> Worked<'a> {
 // A line for each value that a run has published.
 fn published(alloc: Global, played: &Played) -> Result<Vec<u8>, AllocError> {
     let mut text = Vec::new(alloc);
-    for value in &played.published {
-        write_publication(&mut text, *value)?;
-    }
+    write_publications(&mut text, &played.published)?;
     Ok(text)
 }
 

@@ -12,7 +12,7 @@ output-append (v ∷ vs) ws =
     ∙ (ap (λ t. value_text v ++ t) (sym (append_assoc (codes "\n") (output vs) (output ws))) ∙ sym (append_assoc (value_text v) (codes "\n" ++ output vs) (output ws)))
 
 -- one line more
-pub output-more : (text new : List ℕ) (vs : List Value) (i : ℕ) (d : Value) → i < length vs → text ≡ output (take i vs) → new ≡ text ++ output (slice_index_or vs i d ∷ []) → new ≡ output (take (i + 1) vs)
-output-more text new vs i d within so_far grown =
+pub output-more : (front text new : List ℕ) (vs : List Value) (i : ℕ) (d : Value) → i < length vs → text ≡ front ++ output (take i vs) → new ≡ text ++ output (slice_index_or vs i d ∷ []) → new ≡ front ++ output (take (i + 1) vs)
+output-more front text new vs i d within so_far grown =
     let line = slice_index_or vs i d ∷ [] in
-    grown ∙ (ap (λ t. t ++ output line) so_far ∙ (sym (output-append (take i vs) line) ∙ ap output (sym (take_more vs i d within))))
+    grown ∙ (ap (λ t. t ++ output line) so_far ∙ (append_assoc front (output (take i vs)) (output line) ∙ ap (λ t. front ++ t) (sym (output-append (take i vs) line) ∙ ap output (sym (take_more vs i d within)))))
