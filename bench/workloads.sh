@@ -1,4 +1,4 @@
-# The workloads of the measurements. Whoever sources this sets `words`, defines `run NAME SIZE SOURCE [SCRIPT]` and calls `workloads`.
+# The workloads of the measurements. Whoever sources this sets `words`, defines `run NAME SIZE SOURCE [SCRIPT [LIMIT]]` and calls `workloads`.
 # shellcheck shell=bash disable=SC2154
 
 # Whether a workload's name has one of the words, if there are any.
@@ -46,6 +46,15 @@ def pipe() = values(100) >x> Add(x, 1) >y> Add(y, y) >z> Sub(z, 1)
 def pipes(n) = Lt(0, n) >b> (Iff(b) >> pipe() | Ift(b) >> Sub(n, 1) >m> (pipes(m) | pipes(m)))
 pipes(COUNT)'
 
+metronome='def metronome(t) = signal | Rwait(t) >> metronome(t) (metronome(10))'
+
+# COUNT rounds, each with 32 services that halt one after another, and then with something behind the last `;`.
+fallback="def loop(n) = Lt(n, COUNT) >b> (Iff(b) >> n | Ift(b) >> ($(yes 'Down() ;' | head -n 32 | tr '\n' ' ') Add(n, 1)) >m> loop(m)) (loop(0))"
+
+# COUNT rounds, each with a thousand leaves whose values are dropped, and with the next round behind them.
+wide="def leaves(n) = Add(n, 1)$(seq -f ' | Add(n, %.0f)' 2 1000 | tr -d '\n')
+def loop(n) = Lt(n, COUNT) >b> (Iff(b) >> n | Ift(b) >> (leaves(n) >> stop ; Add(n, 1)) >m> loop(m)) (loop(0))"
+
 # A script of so many sites, and of `Last` behind them.
 many_sites() {
     seq -f 'S%.0f() = 1' "$1"
@@ -57,6 +66,17 @@ doubled() {
     echo 'def d0() = Add(1, 1)'
     for ((i = 1; i <= $1; i++)); do echo "def d$i() = d$((i - 1))() | d$((i - 1))()"; done
 }
+
+# STAGES stages, through which the values of 2^LEVELS leaves go.
+staged() {
+    doubled "$1" | sed '1s/.*/def d0() = 1/'
+    printf 'd%d()' "$1"
+    for ((i = 1; i <= $2; i++)); do printf ' >x%d> Add(x%d, 1)' "$i" "$i"; done
+}
+
+# 2^LEVELS calls of `Rwait` at once, and two more calls behind each.
+timeouts() { doubled "$1" | sed '1s/.*/def d0() = Rwait(5) >> Add(1, 1) >x> Add(x, 1)/'; }
+
 # Each workload at two sizes or more.
 workloads() {
     local levels rounds leaves count
@@ -67,8 +87,8 @@ workloads() {
     for levels in 10 12 13; do run queue $levels "$(doubled $levels) (d$levels() >x> Rwait(1) >> Add(x, 1) >y> Add(y, 1))"; done
     for levels in 5 7 9; do run pipelines $levels "${pipes/COUNT/$levels}"; done
     for leaves in 1000 4000; do run fan-out $leaves "$(repeated $leaves ' | 1')"; done
-    for rounds in 500 2000 10000 40000; do run counting $rounds "${loop/COUNT/$rounds}"; done
-    for rounds in 250 1000 5000 20000; do run races $rounds "${races/COUNT/$rounds}" 'Never() = never'; done
+    for rounds in 500 2000 10000 40000 200000; do run counting $rounds "${loop/COUNT/$rounds}"; done
+    for rounds in 250 1000 5000 20000 40000; do run races $rounds "${races/COUNT/$rounds}" 'Never() = never'; done
     for rounds in 5000 20000; do run timed-races $rounds "${timed/COUNT/$rounds}" 'Slow(_) = 1 after 9'; done
     for count in 1000 40000; do run races-beside-calls $count "${beside/COUNT/$count}" 'Never() = never'; done
     for count in 1000 40000; do run waiting-tokens $count "${waiting/COUNT/$count}"; done
@@ -78,5 +98,10 @@ workloads() {
     for count in 16 22; do run recursion $count "${recursion/COUNT/$count}"; done
     for levels in 13 16; do run raced-leaves $levels "${raced/COUNT/$levels}"; done
     for levels in 14 16; do run many-sites $levels "${calls/COUNT/$levels}" "$(many_sites $((1 << levels)))"; done
+    for limit in 500000 2000000; do run metronome $limit "$metronome" '' $limit; done
+    for levels in 12 14; do run pipeline-of-16 $levels "$(staged $levels 16)"; done
+    for rounds in 1500 6000; do run fallback $rounds "${fallback/COUNT/$rounds}" 'Down() = halt'; done
+    for levels in 13 15; do run timeouts $levels "$(timeouts $levels) (d$levels())"; done
+    for rounds in 50 200; do run wide-rounds $rounds "${wide/COUNT/$rounds}"; done
     for levels in 12 14; do run timers $levels "${timers/COUNT/$levels}"; done
 }
