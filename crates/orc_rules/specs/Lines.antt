@@ -1,10 +1,15 @@
--- The lines of a site: those without a `_` by their values, the others by their places.
-use Rattle.std.specs.Prelude.{ℕ, suc, List, [], ◌∷◌, ◌≡◌, map, Bool, false, Option, Some, None, is_some, option_map, if◌then◌else◌}
+-- The lines of a site by their patterns, and the shapes that they have.
+use Rattle.std.specs.Prelude.{ℕ, suc, List, [], ◌∷◌, ◌≡◌, ◌≤◌, ◌==◌, map, length, Bool, true, false, Option, Some, None, is_some, option_map, if◌then◌else◌}
+use Rattle.std.specs.Bool.{beq}
 use Rattle.std.specs.Global.{Vec}
+use Rattle.std.specs.List.{AllByRecursion, list_any}
 use Rattle.std.specs.Map.{lookup}
+use Rattle.std.specs.Option.{option_eq}
+use Rattle.std.specs.Cmp.Lexicographic.{pointwise}
 use Rattle.orc_rules.specs.declared.value.Value.{Value}
 use Rattle.orc_rules.specs.declared.lines.Line.{Line as CodeLine}
-use Rattle.orc_rules.specs.Sites.{Line, values_eq}
+use Rattle.orc_rules.specs.declared.lines.TheConstants.{MOST_SHAPES}
+use Rattle.orc_rules.specs.Sites.{Line, value_eq, matches}
 
 abbrev pub line_of : CodeLine → Line
 line_of l = record { patterns = l.patterns.items; answers = l.answers.items }
@@ -12,44 +17,54 @@ line_of l = record { patterns = l.patterns.items; answers = l.answers.items }
 abbrev pub lines_of : List CodeLine → List Line
 lines_of ls = map line_of ls
 
--- the values that a line's patterns are, where none is a `_`
-abbrev pub exact_values : List (Option Value) → Option (List Value)
-exact_values [] = Some []
-exact_values (Some v ∷ ps) = option_map (λ vs. v ∷ vs) (exact_values ps)
-exact_values (None ∷ ps) = None
+-- whether patterns are the same
+abbrev pub patterns_eq : List (Option Value) → List (Option Value) → Bool
+patterns_eq ps qs = pointwise (option_eq value_eq) ps qs
 
--- whether they are these
-abbrev pub are_values : Option (List Value) → List Value → Bool
-are_values (Some vs) args = values_eq vs args
-are_values None args = false
+-- the place of the first line with these patterns
+abbrev pub first_place : List Line → List (Option Value) → Option ℕ
+first_place [] ps = None
+first_place (l ∷ ls) ps = if patterns_eq l.patterns ps then Some 0 else option_map suc (first_place ls ps)
 
--- the place of the first line whose patterns are these values
-abbrev pub exact_place : List Line → List Value → Option ℕ
-exact_place [] args = None
-exact_place (l ∷ ls) args = if are_values (exact_values l.patterns) args then Some 0 else option_map suc (exact_place ls args)
+-- the place of the first line that matches these arguments; without such a line, how many there are
+abbrev pub match_place : List Line → List Value → ℕ
+match_place [] args = 0
+match_place (l ∷ ls) args = if matches l.patterns args then 0 else suc (match_place ls args)
 
--- the places of the lines with a `_`
-abbrev pub wildcard_places : List Line → List ℕ
-wildcard_places [] = []
-wildcard_places (l ∷ ls) = if is_some (exact_values l.patterns) then map suc (wildcard_places ls) else 0 ∷ map suc (wildcard_places ls)
+-- at which places patterns are values
+abbrev pub shape_of : List (Option Value) → List Bool
+shape_of ps = map is_some ps
 
--- the place of a line whose patterns are these values, where one is a `_`
-abbrev pub wildcard_at : Option (List Value) → ℕ → List ℕ
-wildcard_at (Some vs) place = []
-wildcard_at None place = place ∷ []
+-- the patterns of this shape that have these arguments' values
+abbrev pub filled : List Bool → List Value → List (Option Value)
+filled (true ∷ bs) (v ∷ vs) = Some v ∷ filled bs vs
+filled (false ∷ bs) (v ∷ vs) = None ∷ filled bs vs
+filled _ _ = []
 
--- the place that a map's entries give these values
-abbrev pub found : List Value → List (Vec Value × ℕ) → Option ℕ
-found args places = lookup (λ k. values_eq args k.items) places
+abbrev pub is_among : List Bool → List (Vec Bool) → Bool
+is_among shape shapes = list_any (λ s. pointwise beq s.items shape) shapes
 
--- an index of lines: the values of each line without a `_` have the place of the first such line, and the others their places
-abbrev pub Indexes : List Line → List (Vec Value × ℕ) → List ℕ → Type 0
-Indexes ls exact wildcards = ((args : List Value) → found args exact ≡ exact_place ls args) × (wildcards ≡ wildcard_places ls)
+-- the place that a map's entries give these patterns
+abbrev pub found : List (Option Value) → List (Vec (Option Value) × ℕ) → Option ℕ
+found ps places = lookup (λ k. patterns_eq ps k.items) places
+
+-- the place that they give the patterns of this shape that match these arguments
+abbrev pub place_in : List (Vec (Option Value) × ℕ) → List Bool → List Value → Option ℕ
+place_in places shape args = if length shape == length args then found (filled shape args) places else None
+
+-- an index of lines, unless they have too many shapes: their patterns have the place of the first line that has them, and each line's shape is among the shapes
+abbrev pub Indexes : List Line → List (Vec (Option Value) × ℕ) → List (Vec Bool) → Type 0
+Indexes ls places shapes = length shapes ≤ MOST_SHAPES → ((ps : List (Option Value)) → found ps places ≡ first_place ls ps) × AllByRecursion (λ l. is_among (shape_of l.patterns) shapes ≡ true) ls
 
 abbrev pub or_place : Option ℕ → Bool → ℕ → Option ℕ
 or_place (Some k) b place = Some k
 or_place None b place = if b then Some place else None
 
--- a place was entered for these values, if there are some and they had none
-abbrev pub Enters : Option (List Value) → ℕ → List (Vec Value × ℕ) → List (Vec Value × ℕ) → Type 0
-Enters values place before after = (args : List Value) → found args after ≡ or_place (found args before) (are_values values args) place
+-- no shape is gone
+abbrev pub Keeps : List (Vec Bool) → List (Vec Bool) → Type 0
+Keeps before after = (length before ≤ length after) × ((shape : List Bool) → is_among shape before ≡ true → is_among shape after ≡ true)
+
+-- a place was entered for these patterns, if they had none, and their shape
+abbrev pub Enters : List (Option Value) → ℕ → List (Vec (Option Value) × ℕ) → List (Vec Bool) → List (Vec (Option Value) × ℕ) → List (Vec Bool) → Type 0
+Enters ps place before was after now = length now ≤ MOST_SHAPES
+    → ((qs : List (Option Value)) → found qs after ≡ or_place (found qs before) (patterns_eq ps qs) place) × (is_among (shape_of ps) now ≡ true) × Keeps was now

@@ -1,10 +1,14 @@
 //! The lines of a site that a script answers.
 
-ghost use Rattle.std.specs.Prelude.{◌≡◌, ◌++◌, ◌∷◌, [], Some, None, option_map, IfOk, OnOk, OnErr};
+ghost use Rattle.std.specs.Prelude.{◌≡◌, ◌≤◌, ◌<◌, ◌+◌, ◌++◌, ◌∷◌, [], List, Option, length, take, true, IfOk, OnOk, OnErr};
+ghost use Rattle.orc_rules.specs.declared.limits.TheConstants.{MOST_ARGUMENTS};
+ghost use Rattle.orc_rules.specs.declared.lines.TheConstants.{MOST_SHAPES};
+ghost use Rattle.orc_rules.specs.declared.value.Value.{Value as Datum};
 ghost use Rattle.orc_rules.specs.Sites.{matches, nth_answer, line_answer, last_of_line};
-ghost use Rattle.orc_rules.specs.Lines.{line_of, lines_of, exact_values, exact_place, wildcard_places, wildcard_at, Enters, Indexes};
+ghost use Rattle.orc_rules.specs.Lines.{line_of, lines_of, shape_of, filled, is_among, place_in, match_place, Keeps, Enters, Indexes};
 
 use crate::builtin::{is_same, no_answer};
+use crate::limits::MOST_ARGUMENTS;
 use crate::value::{Found, Value};
 use std::alloc::{AllocError, Global};
 use std::collections::HashMap;
@@ -18,20 +22,28 @@ pub struct Line {
     pub answers: Vec<Found>,
 }
 
-/// The lines of a site in their order. Which one answers a call is found in a time that doesn't grow with the lines without a `_`.
+/// The lines of a site in their order. The shape of a line is at which places it has a value and at which a `_`. Which line answers a call is found
+/// in a time that grows with their shapes and not with their number; where they have more than `MOST_SHAPES`, one by one.
 pub struct Lines {
     lines: Vec<Line>,
     // Of lines up to `FEW_LINES` it says nothing, and nobody asks it.
     index: Index,
 }
 
-// Where lines stand.
+// Where lines stand. Of lines that have more than `MOST_SHAPES` shapes it says nothing.
 #[derive(Drop)]
 struct Index {
-    // The place of the first line without a `_` that has these values.
-    exact: HashMap<Vec<Value>, usize, BuildHasherDefault<FoldHasher>>,
-    // The places of the lines with a `_`, in their order.
-    wildcards: Vec<usize>,
+    // The place of the first line that has these patterns.
+    places: HashMap<Vec<Option<Value>>, usize, BuildHasherDefault<FoldHasher>>,
+    // The lines' shapes, each once: true is a value.
+    shapes: Vec<Vec<bool>>,
+}
+
+// Patterns in place.
+#[derive(Drop)]
+struct Patterns {
+    patterns: [Option<Value>; MOST_ARGUMENTS],
+    len: usize,
 }
 
 // Written out, so that a caller's proof sees one call and not the drop of each field.
@@ -51,11 +63,26 @@ impl Model for Lines {
 
     ghost view = { λ l. lines_of l.lines.items };
 
-    ghost invariant = { λ l. FEW_LINES < length l.lines.items → Indexes (lines_of l.lines.items) l.index.exact.entries l.index.wildcards.items };
+    ghost invariant = { λ l. FEW_LINES < length l.lines.items → Indexes (lines_of l.lines.items) l.index.places.entries l.index.shapes.items };
+}
+
+impl Model for Patterns {
+    ghost use Rattle.std.specs.Prelude.{◌≤◌, List, Option, take};
+    ghost use Rattle.orc_rules.specs.declared.limits.TheConstants.{MOST_ARGUMENTS};
+    ghost use Rattle.orc_rules.specs.declared.value.Value.{Value as Datum};
+
+    ghost Value = { List (Option Datum) };
+
+    ghost view = { λ p. take p.len p.patterns };
+
+    ghost invariant = { λ p. p.len ≤ MOST_ARGUMENTS };
 }
 
 // So few lines are looked at one by one, in less time than the values of a call are hashed. Most sites have one or two.
 const FEW_LINES: usize = 8;
+
+// A call is looked up once for each shape, so of more shapes the lines are looked at one by one.
+const MOST_SHAPES: usize = 16;
 
 // Whether a line's patterns match these arguments.
 fn is_match(patterns: &[Option<Value>], args: &[Value]) -> bool
@@ -87,110 +114,149 @@ fn nth(answers: &[Found], n: u64) -> Found
     }
 }
 
-// The answer of the first line that matches, where each is looked at.
-fn answer_of(lines: &[Line], args: &[Value], n: u64) -> Found
-    ensures { result ≡ line_answer (lines_of lines.now) args.now n }
+// The place of the first line that matches, where each is looked at. Without such a line, how many there are.
+fn first_match(lines: &[Line], args: &[Value]) -> usize
+    ensures { result ≡ match_place (lines_of lines.now) args.now }
 {
-    for line in lines {
-        if is_match(&line.patterns, args) {
-            return nth(&line.answers, n);
+    for place in 0..lines.len() {
+        if is_match(&lines[place].patterns, args) {
+            return place;
         }
     }
-    no_answer()
+    lines.len()
 }
 
-// The number of the last answer of the first line that matches.
-fn last_of(lines: &[Line], args: &[Value]) -> u64
-    ensures { result ≡ last_of_line (lines_of lines.now) args.now }
+// At which places these patterns are values. The error is refused memory.
+fn shape(alloc: Global, patterns: &[Option<Value>]) -> Result<Vec<bool>, AllocError>
+    ensures { IfOk result (λ shape. shape.items ≡ shape_of patterns.now) }
 {
-    for line in lines {
-        if is_match(&line.patterns, args) {
-            return (line.answers.len() as u64).saturating_sub(1);
-        }
-    }
-    0
-}
-
-// The answer of the first line that matches: one with a `_` that stands before the place `exact`, or the one there.
-fn answer_among(
-    lines: &[Line],
-    wildcards: &[usize],
-    exact: Option<usize>,
-    args: &[Value],
-    n: u64,
-) -> Found
-    requires wildcards { wildcards.now ≡ wildcard_places (lines_of lines.now) }
-    requires exact { exact ≡ exact_place (lines_of lines.now) args.now }
-    ensures { result ≡ line_answer (lines_of lines.now) args.now n }
-{
-    let end = exact.unwrap_or(lines.len());
-    for place in wildcards {
-        if end <= *place {
-            break;
-        }
-        let candidate = &lines[*place];
-        if is_match(&candidate.patterns, args) {
-            return nth(&candidate.answers, n);
-        }
-    }
-    match lines.get(end) {
-        Some(line) => nth(&line.answers, n),
-        None => no_answer(),
-    }
-}
-
-// The values that a line's patterns are, None where one is a `_`. The error is refused memory.
-fn exact_values(alloc: Global, patterns: &[Option<Value>]) -> Result<Option<Vec<Value>>, AllocError>
-    ensures { IfOk result (λ values. option_map (λ v. v.items) values ≡ exact_values patterns.now) }
-{
-    let mut values = Vec::new(alloc);
+    let mut shape = Vec::new(alloc);
     for pattern in patterns {
-        match pattern {
-            Some(value) => values.push(*value)?,
-            None => return Ok(None),
+        shape.push(pattern.is_some())?;
+    }
+    Ok(shape)
+}
+
+// Adds a shape to these, unless it is among them. The error is refused memory, and then nothing changes.
+fn know(shapes: &mut Vec<Vec<bool>>, shape: Vec<bool>) -> Result<(), AllocError>
+    ensures known { OnOk result (is_among shape.items shapes.new.items ≡ true) }
+    ensures kept { Keeps shapes.old.items shapes.new.items }
+{
+    if !shapes.contains(&shape) {
+        shapes.push(shape)?;
+    }
+    Ok(())
+}
+
+impl Patterns {
+    fn new() -> Patterns
+        ensures { result ≡ [] }
+    {
+        Patterns {
+            patterns: [None; MOST_ARGUMENTS],
+            len: 0,
         }
     }
-    Ok(Some(values))
+
+    fn push(&mut self, pattern: Option<Value>)
+        requires { length self.old < MOST_ARGUMENTS }
+        ensures { self.new ≡ self.old ++ pattern ∷ [] }
+    {
+        self.patterns[self.len] = pattern;
+        self.len += 1;
+    }
+
+    fn as_slice(&self) -> &[Option<Value>]
+        ensures { result.now ≡ self.now }
+    {
+        &self.patterns[..self.len]
+    }
+
+    // Adds the patterns of this shape that have these arguments' values.
+    #[tactic(auto, using(crate::proofs::Places::none_filled))]
+    fn fill(&mut self, shape: &[bool], args: &[Value])
+        requires { length self.old + length args.now ≤ MOST_ARGUMENTS }
+        ensures { self.new ≡ self.old ++ filled shape.now args.now }
+    {
+        if let ([is_value, shape @ ..], [arg, args @ ..]) = (shape, args) {
+            self.push(if *is_value { Some(*arg) } else { None });
+            self.fill(shape, args);
+        }
+    }
 }
 
 impl Index {
     // Nothing stands anywhere.
     fn new(alloc: Global) -> Index
-        ensures { Indexes [] result.exact.entries result.wildcards.items }
+        ensures { Indexes [] result.places.entries result.shapes.items }
     {
         Index {
-            exact: HashMap::new(alloc),
-            wildcards: Vec::new(alloc),
+            places: HashMap::new(alloc),
+            shapes: Vec::new(alloc),
         }
     }
 
     // Where these lines stand. The error is refused memory.
     fn of(alloc: Global, lines: &[Line]) -> Result<Index, AllocError>
-        ensures { IfOk result (λ index. Indexes (lines_of lines.now) index.exact.entries index.wildcards.items) }
+        ensures { IfOk result (λ index. Indexes (lines_of lines.now) index.places.entries index.shapes.items) }
     {
         let mut index = Index::new(alloc);
         for place in 0..lines.len() {
-            index.enter(exact_values(alloc, &lines[place].patterns)?, place)?;
+            index.enter(alloc, &lines[place].patterns, place)?;
         }
         Ok(index)
     }
 
-    // Enters the line behind the others, whose patterns are these values; None where one is a `_`. Where an earlier line has them it never answers, and its
-    // place isn't kept. The error is refused memory, and then nothing changes.
-    fn enter(&mut self, values: Option<Vec<Value>>, place: usize) -> Result<(), AllocError>
-        ensures exact { OnOk result (Enters (option_map (λ v. v.items) values) place self.old.exact.entries self.new.exact.entries) }
-        ensures wildcards { OnOk result (self.new.wildcards.items ≡ self.old.wildcards.items ++ wildcard_at (option_map (λ v. v.items) values) place) }
-        ensures refused { OnErr result ((self.new.exact.entries ≡ self.old.exact.entries) × (self.new.wildcards.items ≡ self.old.wildcards.items)) }
+    // Enters the line behind the others, which has these patterns. Where an earlier line has them it never answers, and its place isn't kept. The error
+    // is refused memory, and then the others are where they were.
+    fn enter(
+        &mut self,
+        alloc: Global,
+        patterns: &[Option<Value>],
+        place: usize,
+    ) -> Result<(), AllocError>
+        ensures entered { OnOk result (Enters patterns.now place self.old.places.entries self.old.shapes.items self.new.places.entries self.new.shapes.items) }
+        ensures refused { OnErr result ((self.new.places.entries ≡ self.old.places.entries) × Keeps self.old.shapes.items self.new.shapes.items) }
     {
-        match values {
-            Some(values) => {
-                if !self.exact.contains_key(values.as_slice()) {
-                    self.exact.insert(values, place)?;
-                }
-            }
-            None => self.wildcards.push(place)?,
+        if MOST_SHAPES < self.shapes.len() {
+            return Ok(());
+        }
+        let shape = shape(alloc, patterns)?;
+        know(&mut self.shapes, shape)?;
+        if !self.places.contains_key(patterns) {
+            self.places
+                .insert(Vec::from_slice(alloc, patterns)?, place)?;
         }
         Ok(())
+    }
+
+    // The place of the first line of this shape that matches.
+    fn place(&self, shape: &[bool], args: &[Value]) -> Option<usize>
+        requires { length args.now ≤ MOST_ARGUMENTS }
+        ensures { result ≡ place_in self.now.places.entries shape.now args.now }
+    {
+        if shape.len() != args.len() {
+            return None;
+        }
+        let mut patterns = Patterns::new();
+        patterns.fill(shape, args);
+        self.places.get(patterns.as_slice()).copied()
+    }
+
+    // The place of the first of these lines that matches. Without such a line, how many there are.
+    fn first(&self, lines: &[Line], args: &[Value]) -> usize
+        requires args { length args.now ≤ MOST_ARGUMENTS }
+        requires shapes { length self.now.shapes.items ≤ MOST_SHAPES }
+        requires lines { Indexes (lines_of lines.now) self.now.places.entries self.now.shapes.items }
+        ensures { result ≡ match_place (lines_of lines.now) args.now }
+    {
+        let mut first = lines.len();
+        for shape in &self.shapes {
+            if let Some(place) = self.place(shape, args) {
+                first = first.min(place);
+            }
+        }
+        first
     }
 }
 
@@ -217,30 +283,42 @@ impl Lines {
         if self.lines.len() == FEW_LINES {
             self.index = Index::of(alloc, &self.lines)?;
         }
-        let values = exact_values(alloc, &line.patterns)?;
         self.lines.try_reserve(1)?;
-        self.index.enter(values, self.lines.len())?;
+        self.index.enter(alloc, &line.patterns, self.lines.len())?;
         let pushed = self.lines.push(line);
         prove!(pushed.is_ok());
         Ok(())
+    }
+
+    // The place of the first line that matches these arguments. Without such a line, how many there are.
+    fn first(&self, args: &[Value]) -> usize
+        ensures { result ≡ match_place self.now args.now }
+    {
+        let few = self.lines.len() <= FEW_LINES;
+        if few || MOST_SHAPES < self.index.shapes.len() || MOST_ARGUMENTS < args.len() {
+            first_match(&self.lines, args)
+        } else {
+            self.index.first(&self.lines, args)
+        }
     }
 
     /// The nth answer, from 0, of the first line that matches these arguments, and after the last one the last again; halt where none matches.
     pub fn answer(&self, args: &[Value], n: u64) -> Found
         ensures { result ≡ line_answer self.now args.now n }
     {
-        if self.lines.len() <= FEW_LINES {
-            answer_of(&self.lines, args, n)
-        } else {
-            let exact = self.index.exact.get(args).copied();
-            answer_among(&self.lines, &self.index.wildcards, exact, args, n)
+        match self.lines.get(self.first(args)) {
+            Some(line) => nth(&line.answers, n),
+            None => no_answer(),
         }
     }
 
-    /// The number, from 0, of the last answer of the first line that matches these arguments, 0 where none matches. It looks at the lines one by one.
+    /// The number, from 0, of the last answer of the first line that matches these arguments, 0 where none matches.
     pub fn last_answer(&self, args: &[Value]) -> u64
         ensures { result ≡ last_of_line self.now args.now }
     {
-        last_of(&self.lines, args)
+        match self.lines.get(self.first(args)) {
+            Some(line) => (line.answers.len() as u64).saturating_sub(1),
+            None => 0,
+        }
     }
 }

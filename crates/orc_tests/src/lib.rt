@@ -23,6 +23,8 @@ mod runs;
 #[cfg(test)]
 mod scope_rows;
 #[cfg(test)]
+mod scripts;
+#[cfg(test)]
 mod streams;
 #[cfg(test)]
 mod syntax_rows;
