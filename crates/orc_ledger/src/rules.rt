@@ -1,33 +1,31 @@
 //! What the rules say of a run's end: whether a token can use one, and whether the term has halted.
 
-ghost use Rattle.std.specs.Prelude.{◌≡◌, ◌≤◌, ◌↔◌, true};
+ghost use Rattle.std.specs.Prelude.{◌≡◌, ◌≤◌, ◌↔◌, true, IfSome};
 ghost use Rattle.orc_rules.specs.Nodes.{code, definitions};
+ghost use Rattle.orc_rules.specs.Idle.{can_move};
 ghost use Rattle.orc_rules.specs.Term.{Halted};
 ghost use Rattle.orc_rules.specs.Marked.{erase};
 ghost use Rattle.orc_rules.specs.Timed.{IsQuiet};
 ghost use Rattle.orc_rules.specs.Journal.{Place, moment};
 ghost use Rattle.orc_ledger_spec.specs.Records.{context};
 ghost use Rattle.orc_ledger_spec.specs.Answers.{IsAt};
-ghost use Rattle.orc_ledger_spec.specs.Doing.{what_of};
+ghost use Rattle.orc_ledger_spec.specs.Doing.{term_of, what_of};
 ghost use Rattle.orc_ledger_spec.specs.Next.{members, numbers_of};
 ghost use Rattle.orc_ledger_spec.specs.Whole.{is_rule};
 
 use crate::ledger::Ledger;
 use orc_frames::Action;
-use orc_graph::Graph;
+use orc_graph::{Graph, Node};
 use orc_log::Program;
-use orc_tables::Token;
+use orc_rules::limits::MOST_FRAMES;
+use orc_tables::{Standing, Token};
 
 impl<P: Program> Ledger<P> {
-    // Whether a token, if the slot holds one, can use a rule now: it neither waits nor makes a move of marks alone.
-    fn uses_rule(&self, graph: &Graph, token: &Token) -> bool
+    // Whether a token uses a rule next: it neither waits nor makes a move of marks alone.
+    fn is_at_rule(&self, graph: &Graph, token: &Token) -> bool
         requires { graph.now ≡ P.listing }
-        ensures there { result ≡ true → 1 ≤ token.now.serial }
-        ensures rule { result ≡ true → is_rule (what_of (code P.listing) (definitions P.listing) self.now token.now) ≡ true }
+        ensures { result ≡ true → is_rule (what_of (code P.listing) (definitions P.listing) self.now token.now) ≡ true }
     {
-        if token.serial == 0 {
-            return false;
-        }
         match self.what(graph, token) {
             Action::Halt | Action::Fork | Action::Seq | Action::Other | Action::Wait(_) => false,
             Action::Prune
@@ -40,7 +38,46 @@ impl<P: Program> Ledger<P> {
         }
     }
 
-    /// Whether a token can use a rule now, and not only make moves of marks. Where one can the run isn't quiet. It looks at each token.
+    // A token on the first part of a term that can use a rule where that part can; none where the term has no such part.
+    fn first_part(&self, graph: &Graph, token: Token) -> Option<Token>
+        requires { graph.now ≡ P.listing }
+        ensures { IfSome result (λ part. can_move (definitions P.listing) (term_of (code P.listing) self.now part) ≡ true → can_move (definitions P.listing) (term_of (code P.listing) self.now token) ≡ true) }
+    {
+        let Standing::At(node, scope) = token.standing else {
+            return None;
+        };
+        match graph.node(node as usize) {
+            Node::Par(first, _) | Node::Seq(first, _, _) | Node::Other(first, _) => Some(Token {
+                serial: token.serial,
+                standing: Standing::At(first, scope),
+                step: token.step,
+            }),
+            _ => None,
+        }
+    }
+
+    // Whether a token, if the slot holds one, can use a rule now, or could after moves of marks into the first parts of its term.
+    fn uses_rule(&self, graph: &Graph, token: &Token) -> bool
+        requires { graph.now ≡ P.listing }
+        ensures there { result ≡ true → 1 ≤ token.now.serial }
+        ensures rule { result ≡ true → can_move (definitions P.listing) (term_of (code P.listing) self.now token.now) ≡ true }
+    {
+        if token.serial == 0 {
+            return false;
+        }
+        let mut inner = *token;
+        // Where parts are nested deeper it isn't known.
+        for _inwards in 0..MOST_FRAMES {
+            match self.first_part(graph, inner) {
+                Some(part) => inner = part,
+                None => break,
+            }
+        }
+        self.is_at_rule(graph, &inner)
+    }
+
+    /// Whether a token can use a rule now, if need be after moves of marks alone. Where one can the run isn't quiet. It looks at each token, and of the term
+    /// on which it stands at the first parts.
     pub fn can_use_rule(&self, graph: &Graph) -> bool
         requires { graph.now ≡ P.listing }
         ensures { result ≡ true → (p : Place) → IsAt P.listing P.sites self.now p → IsQuiet (context P.listing P.sites) (moment p) → ⊥ }
