@@ -33,6 +33,9 @@ pub(crate) struct Replayed {
     pub state: State,
 }
 
+/// So many passes to the program's own group are kept for its next records, as a worker keeps some.
+const MOST_WARM: usize = 64;
+
 const UNREAD: Stop = Stop {
     at: 0,
     why: Odd::Other,
@@ -96,6 +99,7 @@ fn replay_named<P: Program + Naming>(
     let Some(mut replay) = begin(alloc, &inputs, supply, WORDS, MOST_ENTRIES as usize) else {
         return Err(UNREAD);
     };
+    replay.passes.keep_warm(MOST_WARM);
     follow(&inputs, &mut replay, journal)?;
     let entries = journal.len();
     match state_of(alloc, &inputs, replay, journal) {

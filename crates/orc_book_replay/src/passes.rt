@@ -7,18 +7,43 @@ use orc_word::{Groups, Last, Naming, Pass, Supply};
 use std::alloc::{AllocError, Global};
 
 /// Passes that no record has, and the groups that were left last and are still to be closed.
-#[derive(Drop)]
 pub(crate) struct Passes<P: Naming> {
     supply: Supply<P>,
     pub lasts: Vec<Last<P>>,
+    // Passes to the program's own group, for the next records there: they are entered and left no more. At most so many are kept.
+    warm: Vec<Pass<P>>,
+    most_warm: usize,
+}
+
+// Written out, so that each exit of a function that has passes drops them by one call.
+impl<P: Naming> Drop for Passes<P> {
+    fn drop(self) {
+        let Passes {
+            supply,
+            lasts,
+            warm,
+            most_warm: _,
+        } = self;
+        drop(supply);
+        drop(lasts);
+        drop(warm);
+    }
 }
 
 impl<P: Naming> Passes<P> {
+    /// Each pass that comes back is left at once.
     pub(crate) fn new(alloc: Global, supply: Supply<P>) -> Passes<P> {
         Passes {
             supply,
             lasts: Vec::new(alloc),
+            warm: Vec::new(alloc),
+            most_warm: 0,
         }
+    }
+
+    /// From now on so many passes to the program's own group are kept at most, until `leave_warm`.
+    pub(crate) fn keep_warm(&mut self, most: usize) {
+        self.most_warm = most;
     }
 
     /// A pass that names no group.
@@ -35,8 +60,21 @@ impl<P: Naming> Passes<P> {
         if with.group().is_none() {
             return None;
         }
+        if let Some(pass) = self.warm_as(with) {
+            return Some(pass);
+        }
         let idle = self.supply.take(groups)?;
         Some(groups.enter(with, idle))
+    }
+
+    // A pass that was kept, if it is to the group that this one names.
+    fn warm_as(&mut self, with: &Pass<P>) -> Option<Pass<P>>
+        ensures { IfSome result (λ pass. group_of pass ≡ group_of with.now) }
+    {
+        match self.warm.last() {
+            Some(pass) if pass.group() == with.group() => self.warm.pop(),
+            _ => None,
+        }
     }
 
     /// A pass is left, and goes back into the supply. Tells whether it was the last one that named its group, which is then to be closed.
@@ -56,7 +94,19 @@ impl<P: Naming> Passes<P> {
         }
     }
 
-    /// All these passes are left.
+    // A pass to the program's own group is kept where there is room for it, any other one is left.
+    fn put_away(&mut self, groups: &Groups<P>, pass: Pass<P>) -> Result<(), AllocError> {
+        if pass.group() == Some(0) && self.warm.len() < self.most_warm {
+            return match self.warm.push(pass) {
+                Ok(()) => Ok(()),
+                Err(_) => Err(AllocError),
+            };
+        }
+        self.leave(groups, pass)?;
+        Ok(())
+    }
+
+    /// All these passes are left, but those that are kept.
     pub(crate) fn leave_all(
         &mut self,
         groups: &Groups<P>,
@@ -64,6 +114,16 @@ impl<P: Naming> Passes<P> {
     ) -> Result<(), AllocError> {
         for _ in 0..u64::MAX {
             let Some(pass) = passes.pop() else { break };
+            self.put_away(groups, pass)?;
+        }
+        Ok(())
+    }
+
+    /// The passes that were kept are left, and no more are kept.
+    pub(crate) fn leave_warm(&mut self, groups: &Groups<P>) -> Result<(), AllocError> {
+        self.most_warm = 0;
+        for _ in 0..u64::MAX {
+            let Some(pass) = self.warm.pop() else { break };
             self.leave(groups, pass)?;
         }
         Ok(())

@@ -14,8 +14,11 @@ use orc_word::{Last, Naming, Pass};
 use std::alloc::Global;
 use std::mem;
 
-/// With so many killed groups whose words are taken still, the passes of tokens that are gone are looked for.
-const MOST_DYING: usize = 64;
+/// With so many killed groups whose words are taken still, the passes of tokens that are gone are looked for: with more where more tokens are looked at,
+/// so that a bind pays for a few of them.
+const FEW_DYING: usize = 64;
+
+const MOST_DYING: usize = 512;
 
 /// Why an entry isn't replayed.
 #[derive(Clone, Copy, Debug, PartialEq, Eq)]
@@ -458,10 +461,21 @@ impl<P: Program + Naming> Replay<P> {
         self.owed = self.book.cancelled().len();
         self.sides.kill(word);
         self.wake(inputs, cell)?;
-        if self.book.dying() < MOST_DYING {
+        if self.book.dying() < self.most_dying() {
             return Ok(());
         }
         self.sweep(inputs)
+    }
+
+    fn most_dying(&self) -> usize {
+        let most = self.out.len() / 16;
+        if most < FEW_DYING {
+            FEW_DYING
+        } else if most > MOST_DYING {
+            MOST_DYING
+        } else {
+            most
+        }
     }
 
     // The calls that a bind has cancelled, in their order.
@@ -607,6 +621,9 @@ impl<P: Program + Naming> Replay<P> {
     /// so.
     pub(crate) fn close_run(&mut self, inputs: &Inputs<'_, P>) -> Result<bool, Odd> {
         self.sweep(inputs)?;
+        if self.passes.leave_warm(inputs.groups).is_err() {
+            return Err(Odd::Memory);
+        }
         let Some(last) = self.last_of(Side::Whole) else {
             return Ok(false);
         };
