@@ -12,7 +12,7 @@ use Rattle.orc_ledger_spec.specs.Records.{Records}
 use Rattle.orc_ledger_spec.specs.Next.{members, numbers_of}
 use Rattle.orc_tables.specs.OpenGroups.{tokens_in, is_named}
 use Rattle.orc_tables.specs.declared.records.Group.{Group}
-use Rattle.orc_book.specs.Held.{Hold, word_at, Becomes, Changes, OneFewer, AreHeld, IsLoose, IsThere, IsMissing, bag, held_at, out_at, passes_of, kept_of, out_of}
+use Rattle.orc_book.specs.Held.{Hold, word_at, Becomes, Changes, OneFewer, AreHeld, IsLoose, IsThere, IsMissing, bag, held_at, kept_at, out_at, passes_of, kept_of, out_of}
 use Rattle.orc_book.proofs.Posts.{length-becomes}
 
 -- a number is a group's, or it isn't
@@ -53,15 +53,31 @@ pub record AreClearing (s : Records) (first ps : List Hold) (k : ℕ) : Type 0 w
   pub count : length ps ≡ length first
 
 module _ (s : Records) (first ps : List Hold) (k : ℕ) (C : AreClearing s first ps k) where
-  pub clearing-there : IsThere s k → AreClearing s first ps (k + 1)
-  clearing-there h = record { done = λ i lt. by i (nat_eq i k) refl lt; there = C.there; bags = C.bags; count = C.count }
+  clearing-loose : IsLoose s ps k → AreClearing s first ps (k + 1)
+  clearing-loose here = record { done = λ i lt. by i (nat_eq i k) refl lt; there = C.there; bags = C.bags; count = C.count }
     where
       by : (i : ℕ) (b : Bool) → nat_eq i k ≡ b → i < k + 1 → IsLoose s ps i
-      by i true e lt = subst (IsLoose s ps) (sym (eqb-true i k e)) (C.there k h)
+      by i true e lt = subst (IsLoose s ps) (sym (eqb-true i k e)) here
       by i false e lt = C.done i (less i k lt (λ same. cc (eq-eqb i k same, e)))
         where
           less : (i k : ℕ) → i < k + 1 → (i ≡ k → ⊥) → i < k
           less i k lt off = omega (arith, lt, off)
+
+  -- no more are kept and out than there are members
+  pub clearing-within : kept_at ps k + out_at ps k ≤ members (numbers_of s) s k → (IsMissing s k → members (numbers_of s) s k ≡ 0) → AreClearing s first ps (k + 1)
+  clearing-within few missing = clearing-loose (by (there-or s k))
+    where
+      by : IsThere s k ⊎ IsMissing s k → IsLoose s ps k
+      by (inl h) = C.there k h
+      by (inr m) = let none = missing m in (omega (arith, few, none, tokens-fewer s k), omega (arith, none))
+
+  -- more are, so the group is there no more
+  pub over-missing : members (numbers_of s) s k < kept_at ps k + out_at ps k → IsMissing s k
+  over-missing over = by (there-or s k)
+    where
+      by : IsThere s k ⊎ IsMissing s k → IsMissing s k
+      by (inl h) = absurd (omega (arith, over, (C.there k h).0, tokens-fewer s k))
+      by (inr m) = m
 
   pub clearing-missing : (ps' : List Hold) (p : Hold) → Becomes ps k p (record p { kept = 0; out = 0 }) ps' → IsMissing s k → members (numbers_of s) s k ≡ 0 → AreClearing s first ps' (k + 1)
   clearing-missing ps' p B m none =

@@ -23,6 +23,11 @@ is_taken Free = false
 is_taken (kind.Open number) = true
 is_taken kind.Dying = true
 
+abbrev pub is_dying : Kind → Bool
+is_dying Free = false
+is_dying (kind.Open number) = false
+is_dying kind.Dying = true
+
 -- why none of so many words is opened: as many are taken, or one is free and the shared words refuse it; memory tells nothing of the words
 abbrev pub HasNoWord : List Kind → ℕ → BookFault → Type 0
 HasNoWord ws words fault.Full = words ≤ count_by is_taken ws

@@ -1,12 +1,12 @@
 //! The records of a run, and the passes of those that are not out with a worker.
-ghost use Rattle.std.specs.Prelude.{◌≡◌, ◌≤◌, true, [], Some, IfOk, IfErr};
+ghost use Rattle.std.specs.Prelude.{◌≡◌, ◌≤◌, true, [], Some, IfOk, IfErr, count_by};
 ghost use Rattle.orc_ledger_spec.specs.Whole.{IsWhole};
 ghost use Rattle.orc_rules.specs.declared.limits.TheConstants.{MOST_ENTRIES};
 ghost use Rattle.orc_ledger_spec.specs.Begun.{begun};
 ghost use Rattle.orc_tables.specs.declared.records.Token.{Token as Its};
 ghost use Rattle.orc_word.specs.Views.{group_of};
 ghost use Rattle.orc_book.specs.Held.{IsToken};
-ghost use Rattle.orc_book.specs.Words.{IsOpened};
+ghost use Rattle.orc_book.specs.Words.{IsOpened, is_dying};
 
 use crate::kept_tokens::Keeping;
 use crate::post::{Post, first_posts, set_out};
@@ -179,7 +179,9 @@ impl<P: Program + Naming> Book<P> {
     }
 
     /// How many killed groups' words are still taken.
-    pub fn dying(&self) -> usize {
+    pub fn dying(&self) -> usize
+        ensures { result ≡ count_by is_dying self.now.stands }
+    {
         self.words.dying()
     }
 }

@@ -29,12 +29,18 @@ impl<P: Program + Naming> Book<P> {
         ensures found { IfOk result (λ f. IsFound P.listing self.now token.now f.its) }
         ensures why { IfErr result (λ why. (why ≡ BookFault.Gone) × IsGone self.now token.now.slot token.now.serial token.now.pass) }
     {
-        let Some(its) = self.record_of(token) else {
+        if token.serial < 1 {
+            return Err(BookFault::Gone);
+        }
+        let Some(its) = self.ledger.token(token.slot, token.serial) else {
             return Err(BookFault::Gone);
         };
         let group = self.ledger.group_of_token(&its);
-        let out = self.out_of(group);
-        if out < 1 {
+        let Some(post) = self.posts.get(group as usize) else {
+            return Err(BookFault::Gone);
+        };
+        let out = post.out();
+        if out < 1 || token.pass.group() != Some(post.word()) {
             return Err(BookFault::Gone);
         }
         Ok(Found { its, group, out })

@@ -1,20 +1,19 @@
 //! Moves of tokens that are out.
-ghost use Rattle.std.specs.Prelude.{◌≡◌, ◌≤◌, ◌<◌, ◌⊎◌, ℕ, List, length, true, Some, IfOk, IfErr, IfSome, IfNone};
-ghost use Rattle.orc_rules.specs.Timed.{IsIn};
+ghost use Rattle.std.specs.Prelude.{◌≡◌, ◌⊎◌, ℕ, List, true, Some, IfOk, IfErr};
 ghost use Rattle.orc_rules.specs.declared.value.Value.{Value as ValueOf};
 ghost use Rattle.orc_tables.specs.declared.records.Token.{Token as Its};
 ghost use Rattle.orc_rules.specs.Nodes.{code, definitions};
 ghost use Rattle.orc_ledger_spec.specs.Doing.{what_of};
 ghost use Rattle.orc_ledger_spec.specs.Moves.{Moves, IsHindered};
 ghost use Rattle.orc_ledger_spec.specs.declared.results.Moved.TheVariants as moved;
-ghost use Rattle.orc_book.specs.Held.{IsToken, IsOut, IsGone, out_at, word_at};
+ghost use Rattle.orc_book.specs.Held.{IsToken, IsOut, word_at};
 ghost use Rattle.orc_tables.specs.Tokens.{IsHeld};
 ghost use Rattle.orc_tables.specs.Steps.{group_at};
 ghost use Rattle.orc_word.specs.Views.{group_of};
 ghost use Rattle.orc_book.specs.Refusals.{is_end, is_fork, is_publication, IsRefusedMove};
 
 use crate::book::Book;
-use crate::post::{out_in, set_out};
+use crate::post::set_out;
 use crate::token::{BookFault, Refused, Token, fault_of};
 use orc_graph::Graph;
 use orc_ledger::{Action, Moved, stands};
@@ -23,25 +22,6 @@ use orc_tables::Token as Record;
 use orc_word::{Naming, Pass};
 
 impl<P: Program + Naming> Book<P> {
-    // The record of a token that is out, if it is there: its pass names its group's word, and some token of the group is out.
-    pub(crate) fn record_of(&self, token: &Token<P>) -> Option<Record>
-        ensures token { IfSome result (λ t. IsToken self.now token.now.slot token.now.serial token.now.pass t) }
-        ensures there { IfSome result (λ t. IsIn t self.now.ledger.tokens) }
-        ensures gone { IfNone result (IsGone self.now token.now.slot token.now.serial token.now.pass) }
-    {
-        if token.serial < 1 {
-            return None;
-        }
-        let record = self.ledger.token(token.slot, token.serial)?;
-        let group = self.ledger.group_of_token(&record);
-        let post = self.posts.get(group as usize)?;
-        if token.pass.group() == Some(post.word()) {
-            Some(record)
-        } else {
-            None
-        }
-    }
-
     // Whether a token goes next, and no value of it is published.
     fn ends_next(&self, graph: &Graph, its: &Record) -> bool
         requires graph { graph.now ≡ P.listing }
@@ -53,14 +33,6 @@ impl<P: Program + Naming> Book<P> {
             Action::Void => true,
             _ => false,
         }
-    }
-
-    // How many tokens of a group are out.
-    pub(crate) fn out_of(&self, group: u32) -> usize
-        ensures out { result ≡ out_at self.now.posts group }
-        ensures there { 1 ≤ result → group < length self.now.posts }
-    {
-        out_in(&self.posts, group)
     }
 }
 

@@ -1,5 +1,5 @@
 //! What a book has of a group.
-ghost use Rattle.std.specs.Prelude.{◌≡◌, ◌+◌, ◌-◌, ◌<◌, ◌≤◌, ◌^◌, ◌∷◌, ◌++◌, [], Some, None, length, vec_len, vec_capacity, IfOk, OnOk, MatchOption, MatchResult};
+ghost use Rattle.std.specs.Prelude.{◌≡◌, ◌+◌, ◌-◌, ◌<◌, ◌≤◌, ◌^◌, ◌∷◌, ◌++◌, [], Some, None, true, false, length, vec_len, vec_capacity, IfOk, OnOk, MatchOption, MatchResult};
 ghost use Rattle.orc_word.specs.Views.{group_of};
 ghost use Rattle.orc_rules.specs.declared.limits.TheConstants.{MOST_GROUPS};
 ghost use Rattle.orc_book.specs.Held.{Hold, AreFirst, HaveGrown, Becomes, Changes, Same, OneMore, OneFewer, held_at, kept_at, out_at, word_at, room_at};
@@ -375,6 +375,17 @@ pub(crate) fn held_in<J: Naming>(posts: &Vec<Post<J>>, number: u32) -> usize
     match posts.get(number as usize) {
         Some(post) => post.held(),
         None => 0,
+    }
+}
+
+/// Whether more tokens of a group are kept and out than so many.
+pub(crate) fn is_over<J: Naming>(posts: &Vec<Post<J>>, number: u32, members: usize) -> bool
+    ensures over { result ≡ true → members < kept_at posts.now.items number + out_at posts.now.items number }
+    ensures within { result ≡ false → kept_at posts.now.items number + out_at posts.now.items number ≤ members }
+{
+    match posts.get(number as usize) {
+        Some(post) => post.out() > members || members - post.out() < post.kept(),
+        None => false,
     }
 }
 

@@ -5,7 +5,7 @@ ghost use Rattle.orc_indexes.specs.Same.{weight};
 ghost use Rattle.orc_book.specs.Held.{AreHeld, AreLoose, IsLoose, IsThere, IsMissing, bag};
 ghost use Rattle.orc_book.specs.Words.{HaveDied, kind_at};
 
-use crate::post::{Post, clear_at, place_in, settle_at, spare_at, word_in};
+use crate::post::{Post, clear_at, is_over, place_in, settle_at, spare_at, word_in};
 use crate::word_table::{Kind, WordTable};
 use orc_ledger::Ledger;
 use orc_log::Program;
@@ -36,7 +36,9 @@ pub(crate) fn clear_missing<P: Program, J: Naming>(ledger: &Ledger<P>, posts: &m
     let count = posts.len();
     for number in 0..count {
         let number = number as u32;
-        if !is_there(ledger, number) {
+        // Of a group that is there are no more tokens kept and out than it has members.
+        let members = ledger.member_count(number) as usize;
+        if is_over(posts, number, members) {
             clear_at(posts, number);
         }
     }
@@ -55,6 +57,11 @@ fn bury_one<P: Program, J: Naming>(
     ensures count { length posts.new.items ≡ length posts.old.items }
     ensures died { HaveDied ledger.now words.old.kinds words.new.kinds }
 {
+    // A group that has members is there; to ask that first is faster.
+    let members = ledger.member_count(number);
+    if members > 0 {
+        return;
+    }
     if is_there(ledger, number) {
         return;
     }

@@ -42,20 +42,20 @@ pub(crate) struct WordTable<P: Naming> {
 }
 
 impl<P: Naming> Model for WordTable<P> {
-    ghost use Rattle.std.specs.Prelude.{◌≡◌, ◌≤◌, map};
-    ghost use Rattle.orc_book.specs.Words.{Shown, kind_of};
+    ghost use Rattle.std.specs.Prelude.{◌≡◌, ◌≤◌, count_by, map};
+    ghost use Rattle.orc_book.specs.Words.{Shown, is_dying, kind_of};
 
     ghost Value = { Shown };
 
     ghost view = { λ t. record { kinds = map kind_of t.stands.slots; next = t.stands.vacant_key } };
 
-    ghost invariant = { λ t. (t.count ≡ P.table.words) × (t.count ≤ t.stands.capacity) };
+    ghost invariant = { λ t. (t.count ≡ P.table.words) × (t.count ≤ t.stands.capacity) × (t.dying ≡ count_by is_dying (map kind_of t.stands.slots)) };
 }
 
 impl<P: Naming> WordTable<P> {
-    ghost use Rattle.std.specs.Prelude.{◌<◌, ℕ, IfOk, IfErr, IfSome, IsSome, []};
+    ghost use Rattle.std.specs.Prelude.{◌<◌, ℕ, IfOk, IfErr, IfSome, IsSome, [], count_by};
     ghost use Rattle.orc_word.specs.Views.{group_of};
-    ghost use Rattle.orc_book.specs.Words.{IsOpened, Turns, HasNoWord, kind_at};
+    ghost use Rattle.orc_book.specs.Words.{IsOpened, Turns, HasNoWord, is_dying, kind_at};
 
     /// So many words: the first stands for the program's own group, the others are free.
     pub(crate) fn new(alloc: Global, count: u32) -> Result<WordTable<P>, AllocError>
@@ -118,11 +118,12 @@ impl<P: Naming> WordTable<P> {
         requires pass { owed_to parent pass ≡ Some parent }
         ensures { Turns self.old.kinds word Kind.Dying self.new.kinds }
     {
+        let _room = self.stands.capacity();
         let Some(stand) = self.stands.get_mut(word as usize) else {
             unreachable!()
         };
         *stand = Stand::Dying(Owed { parent, pass });
-        self.dying = self.dying.saturating_add(1);
+        self.dying += 1;
     }
 
     /// A word is free again. Gives the pass of a killed group to the one that was round it.
@@ -132,16 +133,19 @@ impl<P: Naming> WordTable<P> {
     {
         match self.stands.try_remove(word as usize) {
             Some(Stand::Dying(owed)) => {
-                self.dying = self.dying.saturating_sub(1);
+                self.dying -= 1;
                 let Owed { parent: _, pass } = owed;
                 pass
             }
-            _ => None,
+            Some(Stand::Open(_number)) => None,
+            None => None,
         }
     }
 
     /// How many words stand for killed groups.
-    pub(crate) fn dying(&self) -> usize {
+    pub(crate) fn dying(&self) -> usize
+        ensures { result ≡ count_by is_dying self.now.kinds }
+    {
         self.dying
     }
 }
