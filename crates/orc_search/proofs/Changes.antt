@@ -10,7 +10,7 @@ use Rattle.orc_search.specs.declared.node.Joint.{Joint}
 use Rattle.orc_search.specs.declared.node.Joint.TheVariants.{Both, Feeds, Prunes, Instead, Needs}
 use Rattle.orc_search.specs.Small.{Out, Small, nothing, gives, asks, enters, awaits}
 use Rattle.orc_search.specs.Nodes.{joined, small_at, Extends}
-use Rattle.orc_search.specs.Changes.{changed, changed_param, changed_rest, left_stays, right_stays, IsImage, AreImages, IsPart}
+use Rattle.orc_search.specs.Changes.{changed, changed_param, changed_rest, left_stays, right_stays, IsImage, AreImages, IsIn, IsPart}
 use Rattle.orc_search.proofs.Nodes.{at_end, there, within}
 
 same_list : {X : Type 0} (xs : List X) → map (λ x. x) xs ≡ xs
@@ -81,37 +81,51 @@ extends_both ts us vs a b = (a.0 ++ b.0, b.1 ∙ ap (λ (ws : List Small). ws ++
     assoc [] ys zs = refl
     assoc (x ∷ xs) ys zs = λ i. x ∷ assoc xs ys zs i
 
-kept_image : (ts us : List Small) (c : Change) (p : Image) → Extends ts us → IsImage ts c p → IsImage us c p
-kept_image ts us c p e is = (let l = kept_len ts us e in let m = is.0 in omega (arith, l, m), kept_get ts us p.to (changed c (small_at ts p.from)) e is.1 ∙ ap (λ (f : Small). Some (changed c f)) (sym (kept_at ts us p.from e is.0)))
+kept_image : (ts us : List Small) (p : Image) → Extends ts us → IsImage ts p → IsImage us p
+kept_image ts us p e is = (let l = kept_len ts us e in let m = is.0 in omega (arith, l, m), kept_get ts us p.to (changed p.change (small_at ts p.from)) e is.1 ∙ ap (λ (f : Small). Some (changed p.change f)) (sym (kept_at ts us p.from e is.0)))
 
-pub kept_images : (ts us : List Small) (c : Change) (ps : List Image) → Extends ts us → AreImages ts c ps → AreImages us c ps
-kept_images ts us c ps e are k p is = kept_image ts us c p e (are k p is)
+pub kept_images : (ts us : List Small) (ps : List Image) → Extends ts us → AreImages ts ps → AreImages us ps
+kept_images ts us ps e are k p is = kept_image ts us p e (are k p is)
 
-pub more_images : (ts : List Small) (c : Change) (ps : List Image) (p : Image) → AreImages ts c ps → IsImage ts c p → AreImages ts c (ps ++ p ∷ [])
-more_images ts c ps p are is k q there = go (at_end ps p q k there) where
-  go : (slice_get ps k ≡ Some q) ⊎ ((k ≡ length ps) × (p ≡ q)) → IsImage ts c q
-  go (inl e) = are k q e
-  go (inr e) = subst (λ (r : Image). IsImage ts c r) e.1 is
+pub no_images : (ts : List Small) (ps : List Image) → ps ≡ [] → AreImages ts ps
+no_images ts ps none = subst (λ (qs : List Image). AreImages ts qs) (sym none) (λ (k : ℕ) (p : Image) is. cc is)
 
-pub no_images : (ts : List Small) (c : Change) → AreImages ts c []
-no_images ts c k p is = cc is
+pub more_images : (ts : List Small) (ps qs : List Image) (p : Image) → AreImages ts ps → IsImage ts p → (qs ≡ ps) ⊎ (qs ≡ ps ++ p ∷ []) → AreImages ts qs
+more_images ts ps qs p are is (inl same) = subst (λ (rs : List Image). AreImages ts rs) (sym same) are
+more_images ts ps qs p are is (inr more) = subst (λ (rs : List Image). AreImages ts rs) (sym more) each
+  where
+    each : AreImages ts (ps ++ p ∷ [])
+    each k q there = go (at_end ps p q k there)
+      where
+        go : (slice_get ps k ≡ Some q) ⊎ ((k ≡ length ps) × (p ≡ q)) → IsImage ts q
+        go (inl e) = are k q e
+        go (inr e) = subst (λ (r : Image). IsImage ts r) e.1 is
+
+-- where there are as many or none
+pub room_images : (ts : List Small) (ps qs : List Image) → AreImages ts ps → (qs ≡ ps) ⊎ (qs ≡ []) → AreImages ts qs
+room_images ts ps qs are (inl same) = subst (λ (rs : List Image). AreImages ts rs) (sym same) are
+room_images ts ps qs are (inr none) = no_images ts qs none
+
+-- an image that is there
+pub image_there : (ts : List Small) (ps : List Image) (c : Change) (at to : ℕ) → AreImages ts ps → IsIn ps c at to → IsPart ts c false at to
+image_there ts ps c at to are is = are is.0 (record { change = c; from = at; to = to }) is.1
 
 -- a part, with its image
-module _ (ts : List Small) (c : Change) (images : List Image) (are : AreImages ts c images) where
-  pub part_there : (stays : Bool) (at to : ℕ) → at < length ts → IsPart images stays at to → to < length ts
+module _ (ts : List Small) (c : Change) where
+  pub part_there : (stays : Bool) (at to : ℕ) → at < length ts → IsPart ts c stays at to → to < length ts
   part_there true at to lt is = let e = is in omega (arith, lt, e)
-  part_there false at to lt is = within ts to (changed c (small_at ts at)) (are is.0 (record { from = at; to = to }) is.1).1
+  part_there false at to lt is = within ts to (changed c (small_at ts at)) is.1
 
-  part_term : (stays : Bool) (at to : ℕ) → IsPart images stays at to → small_at ts to ≡ cond stays (small_at ts at) (changed c (small_at ts at))
+  part_term : (stays : Bool) (at to : ℕ) → IsPart ts c stays at to → small_at ts to ≡ cond stays (small_at ts at) (changed c (small_at ts at))
   part_term true at to is = ap (small_at ts) is
-  part_term false at to is = get ts to (changed c (small_at ts at)) (are is.0 (record { from = at; to = to }) is.1).1
+  part_term false at to is = get ts to (changed c (small_at ts at)) is.1
     where
       get : (xs : List Small) (i : ℕ) (t : Small) → slice_get xs i ≡ Some t → small_at xs i ≡ t
       get [] i t h = cc h
       get (x ∷ xs) zero t h = cc h
       get (x ∷ xs) (suc i) t h = get xs i t h
 
-  pub pair_image : (us : List Small) (j : Joint) (at f g left right to : ℕ) → small_at ts at ≡ joined j (small_at ts f) (small_at ts g) → IsPart images (left_stays c j) f left → IsPart images (right_stays c j) g right
+  pub pair_image : (us : List Small) (j : Joint) (at f g left right to : ℕ) → small_at ts at ≡ joined j (small_at ts f) (small_at ts g) → IsPart ts c (left_stays c j) f left → IsPart ts c (right_stays c j) g right
       → slice_get us to ≡ Some (joined j (small_at ts left) (small_at ts right)) → slice_get us to ≡ Some (changed c (small_at ts at))
   pair_image us j at f g left right to is l r e =
       e ∙ ap Some ((λ i. joined j (part_term (left_stays c j) f left l i) (part_term (right_stays c j) g right r i)) ∙ changed_joined c j (small_at ts f) (small_at ts g) ∙ ap (changed c) (sym is))

@@ -41,11 +41,15 @@ right_stays (Put q x) (Feeds y) = nat_eq x y
 right_stays _ _ = false
 
 -- the second number's term is what the first one's becomes
-abbrev pub IsImage : List Small → Change → Image → Type 0
-IsImage terms c p = (p.from < length terms) × (slice_get terms p.to ≡ Some (changed c (small_at terms p.from)))
+abbrev pub IsImage : List Small → Image → Type 0
+IsImage terms p = (p.from < length terms) × (slice_get terms p.to ≡ Some (changed p.change (small_at terms p.from)))
 
-abbrev pub AreImages : List Small → Change → List Image → Type 0
-AreImages terms c images = (k : ℕ) (p : Image) → slice_get images k ≡ Some p → IsImage terms c p
+abbrev pub AreImages : List Small → List Image → Type 0
+AreImages terms images = (k : ℕ) (p : Image) → slice_get images k ≡ Some p → IsImage terms p
+
+-- it is there that a term becomes so by a change
+abbrev pub IsIn : List Image → Change → ℕ → ℕ → Type 0
+IsIn images c at to = (k : ℕ) × (slice_get images k ≡ Some (record { change = c; from = at; to = to }))
 
 -- what a term is changed from: a changed term without parts, or the parts that are to be changed
 abbrev pub IsPlan : List Small → Change → ℕ → Node → Type 0
@@ -53,9 +57,9 @@ IsPlan terms c at (node.Tip t) = (at < length terms) × (tip_of t ≡ changed c 
 IsPlan terms c at (node.Pair j f g) = (at < length terms) × (f < at) × (g < at) × (small_at terms at ≡ joined j (small_at terms f) (small_at terms g))
 
 -- the number of a part after the change: its own, or that of its image
-abbrev pub IsPart : List Image → Bool → ℕ → ℕ → Type 0
-IsPart images true at to = to ≡ at
-IsPart images false at to = (k : ℕ) × (slice_get images k ≡ Some (record { from = at; to = to }))
+abbrev pub IsPart : List Small → Change → Bool → ℕ → ℕ → Type 0
+IsPart terms c true at to = to ≡ at
+IsPart terms c false at to = (at < length terms) × (slice_get terms to ≡ Some (changed c (small_at terms at)))
 
 -- the image of a term, or a part whose image is wanted before
 abbrev pub ProgressIs : List Small → List Small → Change → ℕ → Progress → Type 0

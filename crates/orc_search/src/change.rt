@@ -1,15 +1,15 @@
 //! Changes of all of a small term: something is put for a name, a cell is settled, or time passes.
 
-ghost use Rattle.std.specs.Prelude.{◌≡◌, ◌<◌, List, length, map, Some, slice_get, IfOk, OnOk, IfSome};
+ghost use Rattle.std.specs.Prelude.{◌≡◌, ◌<◌, List, length, map, Some, true, slice_get, IfOk, IfSome};
 ghost use Rattle.orc_rules.specs.Term.{put_param};
 ghost use Rattle.orc_search.specs.Small.{settle_param};
 ghost use Rattle.orc_search.specs.Ticks.{less};
 ghost use Rattle.orc_search.specs.Nodes.{tip_of, small_at, smalls, Extends};
 ghost use Rattle.orc_search.specs.declared.change.Progress.TheVariants.{Is};
-ghost use Rattle.orc_search.specs.Changes.{changed, changed_param, changed_rest, left_stays, right_stays, AreImages, IsPlan, IsPart, ProgressIs};
+ghost use Rattle.orc_search.specs.Changes.{changed, changed_param, changed_rest, left_stays, right_stays, IsPlan, IsPart, ProgressIs};
 
-use crate::images::{Image, Images};
-use crate::node::{Joint, Node, Tip, Waiting};
+use crate::images::Image;
+use crate::node::{Joint, Node, Tip, Waiting, mix, mix_param};
 use crate::terms::Terms;
 use orc_rules::param::Param;
 use orc_rules::value::{Found, Value};
@@ -29,6 +29,27 @@ pub enum Change {
 pub enum Progress {
     Is(usize),
     Wants(usize),
+}
+
+/// Whether two changes are the same.
+pub(crate) fn is_same_change(a: Change, b: Change) -> bool
+    ensures { result ≡ true → a ≡ b }
+{
+    match (a, b) {
+        (Change::Put(p, x), Change::Put(q, y)) => x == y && p == q,
+        (Change::Settle(v, m), Change::Settle(w, n)) => m == n && v == w,
+        (Change::Pass(by), Change::Pass(so)) => by == so,
+        _ => false,
+    }
+}
+
+/// A number by which a change is looked for. Nothing is promised of it.
+pub(crate) fn mix_change(change: Change) -> u64 {
+    match change {
+        Change::Put(q, x) => mix(mix_param(20, q), x as u64),
+        Change::Settle(w, n) => mix(mix_param(21, w), n),
+        Change::Pass(by) => mix(22, by),
+    }
 }
 
 fn put_param(q: Param, x: u32, param: Param) -> Param
@@ -155,21 +176,18 @@ fn plan(terms: &Terms, alloc: Global, change: Change, at: usize) -> Result<Node,
 }
 
 // The number of a part after the change, if it is known.
-fn part(images: &Images, stays: bool, at: usize) -> Option<usize>
-    ensures { IfSome result (λ to. IsPart images.now stays at to) }
+fn part(terms: &Terms, change: Change, stays: bool, at: usize) -> Option<usize>
+    ensures { IfSome result (λ to. IsPart (smalls terms.now) change stays at to) }
 {
-    if stays { Some(at) } else { images.of(at) }
+    if stays {
+        Some(at)
+    } else {
+        terms.image(change, at)
+    }
 }
 
 // What a term becomes, where its parts have their images.
-fn step(
-    terms: &mut Terms,
-    alloc: Global,
-    images: &Images,
-    change: Change,
-    at: usize,
-) -> Result<Progress, AllocError>
-    requires { AreImages (smalls terms.old) change images.now }
+fn step(terms: &mut Terms, alloc: Global, change: Change, at: usize) -> Result<Progress, AllocError>
     ensures progress { IfOk result (λ s. ProgressIs (smalls terms.old) (smalls terms.new) change at s) }
     ensures kept { Extends (smalls terms.old) (smalls terms.new) }
 {
@@ -179,10 +197,10 @@ fn step(
             Ok(Progress::Is(to))
         }
         Node::Pair(joint, f, g) => {
-            let Some(left) = part(images, left_stays(change, joint), f) else {
+            let Some(left) = part(terms, change, left_stays(change, joint), f) else {
                 return Ok(Progress::Wants(f));
             };
-            let Some(right) = part(images, right_stays(change, joint), g) else {
+            let Some(right) = part(terms, change, right_stays(change, joint), g) else {
                 return Ok(Progress::Wants(g));
             };
             let to = terms.number_of(Node::Pair(joint, left, right))?;
@@ -195,19 +213,20 @@ fn step(
 fn advance(
     terms: &mut Terms,
     alloc: Global,
-    images: &mut Images,
     todo: &mut Vec<usize>,
     change: Change,
     at: usize,
 ) -> Result<Option<usize>, AllocError>
-    requires { AreImages (smalls terms.old) change images.old }
     ensures is { IfOk result (λ o. IfSome o (λ to. ProgressIs (smalls terms.old) (smalls terms.new) change at (Is to))) }
-    ensures images { OnOk result (AreImages (smalls terms.new) change images.new) }
     ensures kept { Extends (smalls terms.old) (smalls terms.new) }
 {
-    match step(terms, alloc, images, change, at)? {
+    match step(terms, alloc, change, at)? {
         Progress::Is(to) => {
-            images.push(Image { from: at, to })?;
+            terms.keep(Image {
+                change,
+                from: at,
+                to,
+            })?;
             Ok(Some(to))
         }
         Progress::Wants(part) => {
@@ -229,14 +248,17 @@ pub fn changed(
     ensures image { IfOk result (λ to. slice_get (smalls terms.new) to ≡ Some (changed change (small_at (smalls terms.old) root))) }
     ensures kept { Extends (smalls terms.old) (smalls terms.new) }
 {
-    let mut images = Images::new(alloc);
+    terms.begin_change();
+    if let Some(to) = terms.image(change, root) {
+        return Ok(to);
+    }
     let mut todo: Vec<usize> = Vec::new(alloc);
     todo.push(root)?;
     for _step in 0..u64::MAX {
         let Some(at) = todo.pop() else {
             return Err(AllocError);
         };
-        let known = advance(terms, alloc, &mut images, &mut todo, change, at)?;
+        let known = advance(terms, alloc, &mut todo, change, at)?;
         if at == root {
             if let Some(to) = known {
                 return Ok(to);

@@ -24,6 +24,9 @@ use crate::terms::Terms;
 use crate::walk::Spot;
 use std::alloc::{AllocError, Global};
 
+/// Room for so many parts is made at once.
+const FEW_PARTS: usize = 32;
+
 /// Where a part stands: in this frame, within the part that has that place in the list.
 #[derive(Clone, Copy)]
 pub struct Inside {
@@ -80,6 +83,7 @@ impl Parts {
         ensures root { IfOk result (λ p. p.root ≡ root) }
     {
         let mut list = Vec::new(alloc);
+        list.try_reserve(FEW_PARTS)?;
         list.push(Part {
             spot: Spot { at: root, depth: 0 },
             inside: None,

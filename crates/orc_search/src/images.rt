@@ -1,19 +1,21 @@
-//! What terms become by a change, found by their numbers.
+//! What terms become by changes, found by their numbers.
 
-ghost use Rattle.std.specs.Prelude.{◌≡◌, ◌++◌, ◌∷◌, [], false, slice_get, IfSome, OnOk};
-ghost use Rattle.orc_search.specs.Changes.{IsPart};
+ghost use Rattle.std.specs.Prelude.{◌≡◌, ◌⊎◌, ◌++◌, ◌∷◌, [], slice_get, IfSome};
+ghost use Rattle.orc_search.specs.Changes.{IsIn};
 
+use crate::change::{Change, is_same_change, mix_change};
 use crate::node::mix;
 use crate::places::Places;
 use std::alloc::{AllocError, Global};
 use std::marker::Model;
 
-/// So many images are looked through one after another.
-const FEW: usize = 16;
+/// So many are kept. Those of more begin anew, so that little is kept beside the terms.
+const MOST: usize = 65_536;
 
-/// A term and what it becomes, by their numbers.
+/// A change, and a term with what it becomes by it, by their numbers.
 #[derive(Clone, Copy)]
 pub struct Image {
+    pub change: Change,
     pub from: usize,
     pub to: usize,
 }
@@ -21,14 +23,19 @@ pub struct Image {
 /// Images in the order in which they were found.
 pub struct Images {
     list: Vec<Image>,
-    // Where the images of terms stand, once there are more than a few. Nothing is promised of it: what is found there is compared.
+    // Where the image last found of a term by a change stands. Nothing is promised of it: what is found there is compared.
     places: Places,
+    alloc: Global,
 }
 
 // Written out, so that a caller's proof sees one call and not the drop of each field.
 impl Drop for Images {
     fn drop(self) {
-        let Images { list: _, places: _ } = self;
+        let Images {
+            list: _,
+            places: _,
+            alloc: _,
+        } = self;
     }
 }
 
@@ -41,16 +48,9 @@ impl Model for Images {
     ghost view = { λ i. i.list.items };
 }
 
-fn hash_of(from: usize) -> u64 {
-    mix(1, from as u64)
-}
-
-// The image of each term stands where it stands. The error is refused memory.
-fn remember_all(places: &mut Places, list: &[Image]) -> Result<(), AllocError> {
-    for (at, image) in list.iter().enumerate() {
-        places.insert(hash_of(image.from), at)?;
-    }
-    Ok(())
+// Two terms have different ones, by one change: so none of them takes another one's place while a change is worked out.
+fn hash_of(change: Change, from: usize) -> u64 {
+    mix(mix_change(change), from as u64)
 }
 
 impl Images {
@@ -61,6 +61,7 @@ impl Images {
         Images {
             list: Vec::new(alloc),
             places: Places::new(alloc),
+            alloc,
         }
     }
 
@@ -73,51 +74,47 @@ impl Images {
         }
     }
 
-    fn place_of(&self, from: usize) -> Option<usize> {
-        if self.list.len() > FEW {
-            return self.places.get(hash_of(from));
-        }
-        for (at, image) in self.list.iter().enumerate() {
-            if image.from == from {
-                return Some(at);
-            }
-        }
-        None
+    fn place_of(&self, change: Change, from: usize) -> Option<usize> {
+        self.places.get(hash_of(change, from))
     }
 
-    // The image of this term stands there, behind all others. The error is refused memory.
-    fn remember(&mut self, from: usize, place: usize) -> Result<(), AllocError>
+    // The image of this term by this change stands there. The error is refused memory.
+    fn remember(&mut self, change: Change, from: usize, place: usize) -> Result<(), AllocError>
         ensures { self.new ≡ self.old }
     {
-        if place < FEW {
-            return Ok(());
-        }
-        if place == FEW {
-            return remember_all(&mut self.places, &self.list);
-        }
-        self.places.insert(hash_of(from), place)
+        self.places.insert(hash_of(change, from), place)
     }
 
-    /// The number of what a term becomes, if it is there.
-    pub fn of(&self, from: usize) -> Option<usize>
-        ensures { IfSome result (λ to. IsPart self.now false from to) }
+    /// The number of what a term becomes by a change, if it is there.
+    pub fn of(&self, change: Change, from: usize) -> Option<usize>
+        ensures { IfSome result (λ to. IsIn self.now change from to) }
     {
-        let place = self.place_of(from)?;
+        let place = self.place_of(change, from)?;
         let image = self.get(place)?;
-        if image.from == from {
+        if image.from == from && is_same_change(image.change, change) {
             Some(image.to)
         } else {
             None
         }
     }
 
+    /// None are there any more, where there are as many as are kept.
+    pub fn make_room(&mut self)
+        ensures { (self.new ≡ self.old) ⊎ (self.new ≡ []) }
+    {
+        if self.list.len() >= MOST {
+            self.list = Vec::new(self.alloc);
+            self.places = Places::new(self.alloc);
+        }
+    }
+
     /// Adds an image behind the others. The error is refused memory.
     pub fn push(&mut self, image: Image) -> Result<(), AllocError>
-        ensures { OnOk result (self.new ≡ self.old ++ image ∷ []) }
+        ensures { (self.new ≡ self.old) ⊎ (self.new ≡ self.old ++ image ∷ []) }
     {
         let place = self.list.len();
         self.list.push(image)?;
-        self.remember(image.from, place)?;
+        self.remember(image.change, image.from, place)?;
         Ok(())
     }
 }

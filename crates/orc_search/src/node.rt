@@ -123,7 +123,8 @@ pub fn mix_value(seed: u64, value: Value) -> u64 {
     }
 }
 
-fn mix_param(seed: u64, param: Param) -> u64 {
+/// The same with a parameter mixed in.
+pub fn mix_param(seed: u64, param: Param) -> u64 {
     match param {
         Param::Name(x) => mix(mix(seed, 5), x as u64),
         Param::Is(v) => mix_value(seed, v),

@@ -1,10 +1,13 @@
 //! Small terms by their numbers.
 
-ghost use Rattle.std.specs.Prelude.{◌≡◌, ◌<◌, ◌≤◌, ◌++◌, ◌∷◌, [], List, length, Some, true, slice_get, IfOk, OnOk, OnErr, IfSome, IfNone, slice_index_or};
+ghost use Rattle.std.specs.Prelude.{◌≡◌, ◌<◌, ◌≤◌, ◌++◌, ◌∷◌, [], List, length, Some, true, false, slice_get, IfOk, OnOk, OnErr, IfSome, IfNone, slice_index_or};
+ghost use Rattle.orc_search.specs.Changes.{IsImage, IsPart};
 ghost use Rattle.orc_search.specs.Nodes.{small_at, small_of_node, smalls, summary_of, tip_of, JoinsSummaries, HasParts, Extends};
 ghost use Rattle.orc_search.specs.Small.{nothing};
 ghost use Rattle.orc_search.specs.Successors.{sooner, time_left};
 
+use crate::change::Change;
+use crate::images::{Image, Images};
 use crate::node::{Joint, Node, Summary, Tip, hash_of, is_same_node};
 use crate::places::Places;
 use orc_rules::value::Found;
@@ -17,6 +20,8 @@ pub struct Terms {
     summaries: Vec<Summary>,
     // Where the node last made with a hash stands. Nothing is promised of it: what is found there is compared.
     places: Places,
+    // What terms became by changes.
+    images: Images,
     alloc: Global,
 }
 
@@ -27,6 +32,7 @@ impl Drop for Terms {
             nodes: _,
             summaries: _,
             places: _,
+            images: _,
             alloc: _,
         } = self;
     }
@@ -36,12 +42,13 @@ impl Model for Terms {
     ghost use Rattle.std.specs.Prelude.{◌≡◌, List, map};
     ghost use Rattle.orc_search.specs.declared.node.Node.{Node};
     ghost use Rattle.orc_search.specs.Nodes.{smalls, summary_of, ArePartsFirst};
+    ghost use Rattle.orc_search.specs.Changes.{AreImages};
 
     ghost Value = { List Node };
 
     ghost view = { λ t. t.nodes.items };
 
-    ghost invariant = { λ t. ArePartsFirst t.nodes.items × (t.summaries.items ≡ map summary_of (smalls t.nodes.items)) };
+    ghost invariant = { λ t. ArePartsFirst t.nodes.items × (t.summaries.items ≡ map summary_of (smalls t.nodes.items)) × AreImages (smalls t.nodes.items) t.images };
 }
 
 fn node_at(nodes: &Vec<Node>, at: usize) -> Option<&Node>
@@ -135,6 +142,7 @@ impl Terms {
             nodes: Vec::new(alloc),
             summaries: Vec::new(alloc),
             places: Places::new(alloc),
+            images: Images::new(alloc),
             alloc,
         }
     }
@@ -231,5 +239,31 @@ impl Terms {
         let at = self.push(node)?;
         self.remember(hash, at)?;
         Ok(at)
+    }
+
+    /// The number of what a term becomes by a change, where that is known.
+    pub(crate) fn image(&self, change: Change, at: usize) -> Option<usize>
+        ensures { IfSome result (λ to. IsPart (smalls self.now) change false at to) }
+    {
+        match self.images.of(change, at) {
+            Some(to) => Some(to),
+            None => None,
+        }
+    }
+
+    /// Before a change: what is kept of those before stays only where it isn't much.
+    pub(crate) fn begin_change(&mut self)
+        ensures { self.new ≡ self.old }
+    {
+        self.images.make_room();
+    }
+
+    /// Keeps what a term becomes by a change. The error is refused memory.
+    pub(crate) fn keep(&mut self, image: Image) -> Result<(), AllocError>
+        requires { IsImage (smalls self.old) image }
+        ensures { self.new ≡ self.old }
+    {
+        self.images.push(image)?;
+        Ok(())
     }
 }
