@@ -19,18 +19,18 @@ const DEFAULT_ORDERS: u64 = 100;
 /// Through how many states `outcomes --all` and `test` search at most, and where nothing is said.
 const MOST_STATES: i64 = 10_000_000;
 
-const DEFAULT_STATES: u64 = 5_000;
+pub const DEFAULT_STATES: u64 = 5_000;
 
 /// How many ways of a case `test` tries, and in how many orders each, where nothing is said.
-const DEFAULT_WAYS: u64 = 10_000;
+pub const DEFAULT_WAYS: u64 = 10_000;
 
-const DEFAULT_TRIALS: u64 = 20;
+pub const DEFAULT_TRIALS: u64 = 20;
 
 /// How many ways of a case `test` tries at most.
 const MOST_WAYS: i64 = 1_000_000;
 
-/// The most failures that a test may tell of.
-const MOST_FAILURES: i64 = 1_024;
+/// The most failures that a test may tell of: of 1,024 claims, and one of each of 256 cases.
+const MOST_FAILURES: i64 = 1_280;
 
 const VERSION: &str = "0.1.0 (proved with logic dac8208d650f15bf)";
 

@@ -6,7 +6,7 @@
 mod arguments;
 mod job;
 
-pub use arguments::{Ranges, read_words};
+pub use arguments::{DEFAULT_STATES, DEFAULT_TRIALS, DEFAULT_WAYS, Ranges, read_words};
 pub use job::{
     Asked, Job, Options, Order, STANDARD_INPUT, Shown, SurveyOptions, TestOptions, Wanted,
 };

@@ -1,5 +1,6 @@
 -- What the status of a command line tells of standard output.
 use Rattle.std.proofs.Common.{◌≡◌, ◌≢◌, ◌<◌, ℕ, zero, suc, Bool, true, false, cond, nat_eq, List, Option, sym, refl, subst, ◌∙◌, arith, ◌⊎◌, ⊎_elim, inl, inr}
+use Rattle.std.specs.Prelude.{option_map}
 use Rattle.std.specs.Io.KnownBytes.{Keeps}
 use Rattle.std.proofs.KnownBytes.{Keeps-refl}
 use Rattle.orc_syntax.specs.declared.fault.SyntaxFault.{SyntaxFault}
@@ -257,7 +258,7 @@ failed holds (job.Claims file journal script test) old new status (source, lines
 failed holds (job.Draw file journal script options) old new status (source, text, read, held, told, said, draws, is) one = absurd (omega (arith, is, one))
 failed holds (job.DrawRun file script run options) old new status (source, read, held, said, draws, is) one = absurd (omega (arith, is, one))
 failed holds (job.Print file) old new status (source, held, prints, is) one = absurd (omega (arith, is, one))
-failed holds (job.Test file test script options) old new status (source, text, read, failing, held, held_too, said, tested, is) one = inl (options, source, text, read, failing, tested, some_failing failing (sym is ∙ one))
+failed holds (job.Test file test script options) old new status (source, text, read, failing, held, held_too, said, tested, is) one = inl (options, source, text, read, record { source = file.now; test = test.now; script = option_map (λ p. p.now) script }, failing, tested, some_failing failing (sym is ∙ one))
 
 quiet_only : (e : End) → end_status_of e ≡ 3 → e ≡ ends.Quiet
 quiet_only ends.Halted h = absurd (omega (arith, h))

@@ -28,7 +28,8 @@ use Rattle.orc_tally.specs.declared.table.Report.{Report}
 use Rattle.orc_outcome.specs.declared.end.Summary.{Summary}
 use Rattle.orc_run.specs.Running.{IsOwnOf, LeavesAtFault, Ran}
 use Rattle.orc_run.specs.declared.output.WriteFault.{WriteFault}
-use Rattle.orc_run.specs.Tested.{AreScripts, AreWays, HasFailing, IsReport, IsTried, LeavesUntested, Writes, of_trial}
+use Rattle.orc_run.specs.Called.{Named}
+use Rattle.orc_run.specs.Tested.{AreScripts, AreWays, HasFailing, IsJudged, IsReport, IsTried, LeavesUntested, Writes, of_trial}
 use Rattle.orc_run.specs.Whole.{AreSaid, IsScriptAt}
 use Rattle.orc_run.specs.declared.faults.RunFault.{RunFault}
 use Rattle.orc_run.specs.declared.faults.RunFault.TheVariants as fault
@@ -96,18 +97,20 @@ pub script_there : (cases : List CaseScripts) (case way : ℕ) (s : CaseScripts)
 script_there cases case way s vs v text here same there is = (s, here, slice_get-map (λ w. w.items) s.scripts.items way ∙ ap (option_map (λ w. w.items)) (ap (λ ws. slice_get ws way) (sym same) ∙ there) ∙ ap Some (sym is))
 
 -- what is reported of a test that was read and tried
-pub is_report : (source script text : List ℕ) (o : TestOptions) (t : Trials) (test : Test) (cases : List CaseScripts) (others : Table) (ways : List CaseWays)
-    → AreWays (test_of test) 0 ways → length ways ≡ length test.cases.items → AllZip (AreScripts o.ways script) ways cases
-    → t.source.now ≡ source → t.sites.now ≡ test.sites.items → t.claims.now ≡ test.claims.items → t.orders ≡ o.orders → t.limit ≡ o.limit → Says script others → SaysTest text others (test_of test)
+pub is_report : (source script text : List ℕ) (o : TestOptions) (t : Trials) (read test : Test) (cases : List CaseScripts) (others : Table) (ways : List CaseWays)
+    → AreWays (test_of read) 0 ways → length ways ≡ length read.cases.items → AllZip (AreScripts o.ways script) ways cases → IsJudged read test
+    → t.source.now ≡ source → t.sites.now ≡ test.sites.items → t.claims.now ≡ test.claims.items → t.orders ≡ o.orders → t.limit ≡ o.limit → Says script others → SaysTest text others (test_of read)
     → (r : Report) → r.test.now ≡ test → AllZip (IsTried t) cases r.cases.now → r.orders ≡ o.orders → AreSaid t r.test.now.claim_lines.items cases r.cases.now r.searched.now
     → IsReport source text script o cases r
-is_report source script text o t test cases others ways are every first of_source sites claims orders limit says reads r is tried each said = record {
+is_report source script text o t read test cases others ways are every first judged of_source sites claims orders limit says reads r is tried each said = record {
   others = others;
   says = says;
-  reads = subst (λ x. SaysTest text others (test_of x)) (sym is) reads;
+  read = read;
+  reads = reads;
+  judged = subst (IsJudged read) (sym is) judged;
   ways = ways;
-  cases = subst (λ x. AreWays (test_of x) 0 ways) (sym is) are;
-  every = every ∙ ap (λ x. length x.cases.items) (sym is);
+  cases = are;
+  every = every;
   first = first;
   trials = t;
   of_test = record {
@@ -123,15 +126,15 @@ is_report source script text o t test cases others ways are every first of_sourc
 }
 
 -- what was tried and written of it
-pub report_of : (source script text : List ℕ) (o : TestOptions) (t : Trials) (test : Test) (cases : List CaseScripts) (others : Table) (old new : Option (List ℕ)) (n : ℕ) (ways : List CaseWays)
-    → AreWays (test_of test) 0 ways → length ways ≡ length test.cases.items → AllZip (AreScripts o.ways script) ways cases
-    → t.source.now ≡ source → t.sites.now ≡ test.sites.items → t.claims.now ≡ test.claims.items → t.orders ≡ o.orders → t.limit ≡ o.limit → Says script others → SaysTest text others (test_of test)
-    → (r : Report) × (r.test.now ≡ test) × AllZip (IsTried t) cases r.cases.now × (r.orders ≡ o.orders) × AreSaid t r.test.now.claim_lines.items cases r.cases.now r.searched.now × Writes t.source.now o cases r o.shown old new × (n ≡ failing (rows r))
-    → HasFailing source text script o old new n
-report_of source script text o t test cases others old new n ways are every first of_source sites claims orders limit says reads (r, is, tried, each, said, writes, number) = (
+pub report_of : (source script text : List ℕ) (names : Named) (o : TestOptions) (t : Trials) (read test : Test) (cases : List CaseScripts) (others : Table) (old new : Option (List ℕ)) (n : ℕ) (ways : List CaseWays)
+    → AreWays (test_of read) 0 ways → length ways ≡ length read.cases.items → AllZip (AreScripts o.ways script) ways cases → IsJudged read test
+    → t.source.now ≡ source → t.sites.now ≡ test.sites.items → t.claims.now ≡ test.claims.items → t.orders ≡ o.orders → t.limit ≡ o.limit → Says script others → SaysTest text others (test_of read)
+    → (r : Report) × (r.test.now ≡ test) × AllZip (IsTried t) cases r.cases.now × (r.orders ≡ o.orders) × AreSaid t r.test.now.claim_lines.items cases r.cases.now r.searched.now × Writes t.source.now names o cases r o.shown old new × (n ≡ failing (rows r))
+    → HasFailing source text script names o old new n
+report_of source script text names o t read test cases others old new n ways are every first judged of_source sites claims orders limit says reads (r, is, tried, each, said, writes, number) = (
   cases,
   r,
-  is_report source script text o t test cases others ways are every first of_source sites claims orders limit says reads r is tried each said,
-  subst (λ x. Writes x o cases r o.shown old new) of_source writes,
+  is_report source script text o t read test cases others ways are every first judged of_source sites claims orders limit says reads r is tried each said,
+  subst (λ x. Writes x names o cases r o.shown old new) of_source writes,
   number,
 )

@@ -43,7 +43,7 @@ use Rattle.orc_tally.specs.declared.table.Broken.{Broken}
 use Rattle.orc_tally.specs.declared.table.Counterexample.TheVariants.{Schedule}
 use Rattle.orc_tally.specs.declared.table.Shown.{Shown as Failing}
 use Rattle.orc_run.specs.Running.{IsFaultOf, IsOwnOf}
-use Rattle.orc_run.specs.Tested.{AreScripts, AreWays, IsTried, of_trial, options_of}
+use Rattle.orc_run.specs.Tested.{AreScripts, AreWays, IsJudged, IsTried, of_trial, options_of}
 use Rattle.orc_run.specs.Whole.{IsScriptAt}
 use Rattle.orc_run.specs.TestFaults.{all_scripts, all_texts, AreReported, AreUnshown, AreUntold, AreUntried, AreUnwritten, HasReport, HasUnloaded, IsAmong, IsCounted, IsEngineCause, IsFirstMany, IsKnown, IsNoMemory, IsNoScript, IsNoTest, IsNoText, IsToShow, IsUncounted, IsUnfound, IsUnshown, IsUntestedFor}
 use Rattle.orc_run.specs.declared.faults.RunFault.{RunFault}
@@ -403,16 +403,16 @@ module _ (source text script : List ℕ) (o : TestOptions) (test : Test) (known 
     unscripted (untested.NoFailure n) is = absurd is
     unscripted (untested.NoJournal n) is = absurd is
 
-    module _ (t : Trials) (cases : List CaseScripts) (first : AllZip (AreScripts o.ways script) ways cases)
-        (of_source : t.source.now ≡ source) (of_sites : t.sites.now ≡ test.sites.items) (of_claims : t.claims.now ≡ test.claims.items) (each : t.orders ≡ o.orders) (most : t.limit ≡ o.limit) where
+    module _ (held : Test) (judged : IsJudged test held) (t : Trials) (cases : List CaseScripts) (first : AllZip (AreScripts o.ways script) ways cases)
+        (of_source : t.source.now ≡ source) (of_sites : t.sites.now ≡ held.sites.items) (of_claims : t.claims.now ≡ held.claims.items) (each : t.orders ≡ o.orders) (most : t.limit ≡ o.limit) where
       unloaded : (f : LoadFault) → IsFirstUnloaded t.source.now (all_texts cases) f → IsFirstUnloaded source (all_scripts o.ways script ways) f
       unloaded f is = subst (λ ss. IsFirstUnloaded source ss f) (same_scripts o.ways script ways cases first) (subst (λ s. IsFirstUnloaded s (all_texts cases) f) of_source is)
 
-      reported : (r : Report) → AreReported t test o.orders cases r → HasReport source text script o r
-      reported r is = (cases, is_report source script text o t test cases known.others ways are every first of_source of_sites of_claims each most known.says known.reads r is.of_test is.tried is.each is.schedules)
+      reported : (r : Report) → AreReported t held o.orders cases r → HasReport source text script o r
+      reported r is = (cases, is_report source script text o t test held cases known.others ways are every first judged of_source of_sites of_claims each most known.says known.reads r is.of_test is.tried is.each is.schedules)
 
       -- or of which nothing is told
-      pub untold : (f : Untested) → AreUntold t test o cases f → IsUntestedFor source text script o f
+      pub untold : (f : Untested) → AreUntold t held o cases f → IsUntestedFor source text script o f
       untold (untested.Fault (fault.Syntax f)) is = (unloaded (load.Syntax f) is).fault
       untold (untested.Fault (fault.Script f)) is = inr (ways, counted, unloaded (load.Script f) is)
       untold (untested.Fault (fault.Scope f)) is = (ways, counted, unloaded (load.Scope f) is)

@@ -1,3 +1,4 @@
+pub mod Called
 pub mod Checked
 pub mod Claimed
 pub mod Commands

@@ -1,5 +1,5 @@
 -- What holding a test against a source's program does.
-use Rattle.std.specs.Prelude.{◌≡◌, ℕ, suc, List, [], ◌∷◌, Some, length, map, slice_get}
+use Rattle.std.specs.Prelude.{◌≡◌, ◌++◌, ℕ, suc, List, [], ◌∷◌, None, Some, length, map, slice_get, true}
 use Rattle.std.specs.List.{AllZip}
 use Rattle.std.specs.declared.option.Option.{Option}
 use Rattle.std.specs.declared.vec.Vec.{Vec}
@@ -10,6 +10,9 @@ use Rattle.orc_site.specs.Script.{Says}
 use Rattle.orc_ways.specs.Drafting.{test_of}
 use Rattle.orc_ways.specs.Drafts.{Test as DraftedTest}
 use Rattle.orc_ways.specs.Finishing.{Says as SaysTest}
+use Rattle.orc_ways.specs.declared.test.Test.{Test}
+use Rattle.orc_claims.specs.declared.claim.Claim.{Claim}
+use Rattle.orc_claims.specs.declared.claim.Plain.TheVariants.{Ends}
 use Rattle.orc_cases.specs.Ways.{CaseWays, scripts, ways, ways_of}
 use Rattle.orc_orders.specs.Trials.{Tells, texts}
 use Rattle.orc_orders.specs.declared.trials.TrialFault.{TrialFault}
@@ -27,6 +30,7 @@ use Rattle.orc_cli.specs.declared.job.Shown.{Shown}
 use Rattle.orc_cli.specs.declared.job.Shown.TheVariants as shown
 use Rattle.orc_cli.specs.declared.job.TestOptions.{TestOptions}
 use Rattle.orc_cli.specs.declared.job.Wanted.TheVariants as wanted
+use Rattle.orc_run.specs.Called.{Named, options_text}
 use Rattle.orc_run.specs.Output.{AppendsPrefix}
 use Rattle.orc_run.specs.Running.{IsOwnOf, Ran, of_load}
 use Rattle.orc_run.specs.Whole.{AreSaid, IsScriptAt}
@@ -50,6 +54,21 @@ pub record AreScripts (most : ℕ) (behind : List ℕ) (c : CaseWays) (s : CaseS
 abbrev pub IsTried : Trials → CaseScripts → CaseReport → Type 0
 IsTried t s r = Tells t (texts s.scripts.items) (record { ways = r.tried; told = r.told; cut = r.cut }) × (r.ways ≡ s.count)
 
+-- a claim that a run ends by itself, whatever happens in it
+pub record IsOfEnd (c : Claim) : Type 0 where
+  pub always : c.conditions.items ≡ []
+  pub plain : c.plain ≡ Ends true true None
+
+-- the test that is held: the one that was read, and the claim that a run ends by itself
+pub record IsJudged (read held : Test) : Type 0 where
+  pub sites : held.sites ≡ read.sites
+  pub services : held.services ≡ read.services
+  pub lines : held.claim_lines ≡ read.claim_lines
+  pub cases : held.cases ≡ read.cases
+  pub end : Claim
+  pub of_end : IsOfEnd end
+  pub claims : held.claims.items ≡ read.claims.items ++ end ∷ []
+
 -- the trials are those of the test
 pub record AreOf (source : List ℕ) (o : TestOptions) (r : Report) (t : Trials) : Type 0 where
   pub of_source : t.source.now ≡ source
@@ -58,15 +77,17 @@ pub record AreOf (source : List ℕ) (o : TestOptions) (r : Report) (t : Trials)
   pub each : t.orders ≡ o.orders
   pub most : t.limit ≡ o.limit
 
--- What is reported of a test: the text says it, the scripts are those of the first ways of each of its cases, so many as are to be tried, it is told of
--- the trials of these ways, and what it says of all their schedules is so.
+-- What is reported of a test: the text says it, but for the claim that runs end by themselves, which is held too; the scripts are those of the first ways of each
+-- of its cases, so many as are to be tried, it is told of the trials of these ways, and what it says of all their schedules is so.
 pub record IsReport (source text script : List ℕ) (o : TestOptions) (scripts : List CaseScripts) (r : Report) : Type 0 where
   pub others : Table
   pub says : Says script others
-  pub reads : SaysTest text others (test_of r.test.now)
+  pub read : Test
+  pub reads : SaysTest text others (test_of read)
+  pub judged : IsJudged read r.test.now
   pub ways : List CaseWays
-  pub cases : AreWays (test_of r.test.now) 0 ways
-  pub every : length ways ≡ length r.test.now.cases.items
+  pub cases : AreWays (test_of read) 0 ways
+  pub every : length ways ≡ length read.cases.items
   pub first : AllZip (AreScripts o.ways script) ways scripts
   pub trials : Trials
   pub of_test : AreOf source o r trials
@@ -90,15 +111,19 @@ abbrev pub options_for : TestOptions → Counterexample → Options
 options_for o (counterexample.Trial f) = options_of o f
 options_for o (counterexample.Schedule b) = witness_options o.limit
 
+-- its table, where a command line names the files so
+abbrev pub table_of : Named → TestOptions → Report → List (List ℕ) → List ℕ
+table_of names o r ds = table names.source names.test (options_text names.script o) r ds
+
 -- what is written of it: its table, with some details below each failure; or the script or the journal that shows one failure
-abbrev pub Writes : List ℕ → TestOptions → List CaseScripts → Report → Shown → Option (List ℕ) → Option (List ℕ) → Type 0
-Writes source o scripts r shown.Table old new = (details : List (List ℕ)) × Appends old new (table r details)
-Writes source o scripts r (shown.Script n) old new = (x : Counterexample) × (text : List ℕ) × (failure_at n (rows r) ≡ Some x) × IsScript scripts x text × Appends old new text
-Writes source o scripts r (shown.Journal n) old new = (x : Counterexample) × (text : List ℕ) × (s : Summary) × (failure_at n (rows r) ≡ Some x) × IsScript scripts x text × Ran source text (options_for o x) old new s
+abbrev pub Writes : List ℕ → Named → TestOptions → List CaseScripts → Report → Shown → Option (List ℕ) → Option (List ℕ) → Type 0
+Writes source names o scripts r shown.Table old new = (details : List (List ℕ)) × Appends old new (table_of names o r details)
+Writes source names o scripts r (shown.Script n) old new = (x : Counterexample) × (text : List ℕ) × (failure_at n (rows r) ≡ Some x) × IsScript scripts x text × Appends old new text
+Writes source names o scripts r (shown.Journal n) old new = (x : Counterexample) × (text : List ℕ) × (s : Summary) × (failure_at n (rows r) ≡ Some x) × IsScript scripts x text × Ran source text (options_for o x) old new s
 
 -- so many claims of the test fail, and that was written
-abbrev pub HasFailing : List ℕ → List ℕ → List ℕ → TestOptions → Option (List ℕ) → Option (List ℕ) → ℕ → Type 0
-HasFailing source text script o old new number = (scripts : List CaseScripts) × (r : Report) × IsReport source text script o scripts r × Writes source o scripts r o.shown old new × (number ≡ failing (rows r))
+abbrev pub HasFailing : List ℕ → List ℕ → List ℕ → Named → TestOptions → Option (List ℕ) → Option (List ℕ) → ℕ → Type 0
+HasFailing source text script names o old new number = (scripts : List CaseScripts) × (r : Report) × IsReport source text script o scripts r × Writes source names o scripts r o.shown old new × (number ≡ failing (rows r))
 
 -- at a fault nothing was written, or at a write fault a prefix of some text
 abbrev pub LeavesUntested : Option (List ℕ) → Option (List ℕ) → Untested → Type 0

@@ -7,6 +7,7 @@ ghost use Rattle.orc_run.specs.Inputs.{IsHeld, IsRead};
 ghost use Rattle.orc_run.specs.Causes.{HasCause, IsCheckUndone, IsClaimUndone, IsDrawRunUndone, IsDrawUndone, IsPrintUndone, IsRunUndone, IsShowUndone, IsTestUndone, IsUndone};
 ghost use Rattle.orc_run.specs.Commands.{HasDrawn, HasDrawnRun, HasEnded, HasHeld, HasJudged, HasPrinted, HasRun, HasShownOf, HasTested, HasTold, HasToldAll, IsDone, IsUnread, LeavesUndone, TellsNotAll, TellsOfFailures, WasCut};
 
+use crate::call::Names;
 use crate::claims::claims_text;
 use crate::explained::{Explained, subject_of, subject_with_journal};
 use crate::failures::{Failure, report};
@@ -494,9 +495,15 @@ fn test_file<'a, R: Threads + Wait + Sync, F: Files, W: Write>(
     let source = read(file, files)?;
     let claims = read(test, files)?;
     let answers = read_script(alloc, script, files)?;
+    let names = Names {
+        source: file,
+        test,
+        script,
+    };
     match test_text(
         rt,
         alloc,
+        &names,
         source.as_slice(),
         claims.as_slice(),
         answers.as_slice(),

@@ -2,6 +2,7 @@
 #![tactic(auto)]
 
 mod asked;
+mod call;
 mod claims;
 mod commands;
 mod counterexample;
@@ -27,6 +28,7 @@ mod times;
 mod unordered;
 mod witness;
 
+pub use call::Names;
 pub use claims::claims_text;
 pub use commands::command;
 pub use explained::Explained;

@@ -163,13 +163,13 @@ impl Searcher<'_, '_> {
         Searched::No
     }
 
-    // Which claims every schedule may keep, before the first search.
+    // Which claims every schedule may keep, before the first search. That runs end by themselves has no line and no search.
     #[tactic(auto, using(crate::proofs::Schedules::none_begun))]
     fn begin(&self) -> Result<Vec<Searched>, AllocError>
         ensures { IfOk result (λ all. AreSoFar self.now 0 0 all.items) }
     {
         let mut all = Vec::new(self.alloc);
-        for claim in 0..self.trials.claims.len() {
+        for claim in 0..self.test.claim_lines.len() {
             all.push(self.begun(claim))?;
         }
         Ok(all)

@@ -1,10 +1,10 @@
 //! From a test's text to what is told of its claims.
 
-ghost use Rattle.std.specs.Prelude.{◌≡◌, List, ℕ, Some, IfOk, IfErr, OnOk};
+ghost use Rattle.std.specs.Prelude.{◌≡◌, List, ℕ, Some, IfOk, IfErr, OnOk, length};
 ghost use Rattle.std.specs.List.{AllZip};
 ghost use Rattle.std.specs.Io.KnownBytes.{Appends};
 ghost use Rattle.orc_outcome.specs.declared.end.Summary.{Summary};
-ghost use Rattle.orc_tally.specs.Table.{failing, failure_at, rows as rows_of, table};
+ghost use Rattle.orc_tally.specs.Table.{failing, failure_at, rows as rows_of};
 ghost use Rattle.orc_tally.specs.declared.table.Report.{Report};
 ghost use Rattle.orc_tally.specs.declared.table.Counterexample.{Counterexample as Example};
 ghost use Rattle.orc_tally.specs.declared.table.Counterexample.TheVariants as example;
@@ -15,14 +15,17 @@ ghost use Rattle.orc_syntax.specs.Tree.{Source};
 ghost use Rattle.orc_load.specs.Loading.{SpellsTree};
 ghost use Rattle.orc_orders.specs.Trials.{texts};
 ghost use Rattle.orc_ways.specs.Drafting.{test_of};
+ghost use Rattle.orc_ways.specs.declared.test.Test.{Test as ATest};
 ghost use Rattle.orc_ways.specs.Finishing.{Says as SaysTest};
 ghost use Rattle.orc_cli.specs.declared.job.Shown.TheVariants as what;
 ghost use Rattle.orc_run.specs.Running.{Ran};
 ghost use Rattle.orc_run.specs.Whole.{AreSaid};
-ghost use Rattle.orc_run.specs.Tested.{HasFailing, IsOwnFault, IsScript, IsTried, LeavesUntested, Writes, of_trial, options_for, options_of, witness_options};
+ghost use Rattle.orc_run.specs.Called.{named_of};
+ghost use Rattle.orc_run.specs.Tested.{AreWays, HasFailing, IsJudged, IsOwnFault, IsScript, IsTried, LeavesUntested, Writes, of_trial, options_for, options_of, table_of, witness_options};
 ghost use Rattle.orc_run.specs.TestFaults.{all_texts, AreUnshown, AreUntold, AreUntried, AreUnwritten, IsNoMemory, IsNoScript, IsNoTest, IsNoText, IsUnfound, IsUnshown, IsUntestedFor};
 
 use crate::asked::services_never_asked;
+use crate::call::{Names, options_text};
 use crate::counterexample::{
     write_failing, write_lines, write_picture, write_ranges, write_schedule,
 };
@@ -34,6 +37,7 @@ use crate::runner::run_source;
 use crate::scripts::{CaseScripts, all_scripts, script_at, unusual_lines, ways_of};
 use crate::searched::{Searcher, write_witness};
 use orc_cases::Ways;
+use orc_claims::claim::{Claim, Plain};
 use orc_cli::{Options, Order, Shown, TestOptions, Wanted};
 use orc_engine::EngineFault;
 use orc_orders::{CaseTold, Run, TrialFault, Trials, try_again, try_ways};
@@ -42,7 +46,7 @@ use orc_rules::answers::Answers;
 use orc_site::read_script;
 use orc_syntax::parse;
 use orc_tally::{
-    CaseReport, Counterexample, Report, Row, Searched, Shown as Failing, failing, failure_at,
+    Call, CaseReport, Counterexample, Report, Row, Searched, Shown as Failing, failing, failure_at,
 };
 use orc_ways::fault::TestFault;
 use orc_ways::read_test;
@@ -73,6 +77,7 @@ pub(crate) const NO_MEMORY: Untested = Untested::Fault(RunFault::Engine(EngineFa
 struct Tester<'s, 'a, R> {
     rt: &'s R,
     alloc: Global,
+    names: &'s Names<'s>,
     trials: &'s Trials<'s, 'a>,
     workers: usize,
     /// A search through all schedules looks at so many states at most.
@@ -409,15 +414,25 @@ impl<R: Threads + Wait + Sync> Tester<'_, '_, R> {
         ways: &[Ways],
         report: &Report<'_, '_>,
         rows: &[Row],
+        options: &TestOptions,
         out: &mut W,
     ) -> Result<(), Untested>
-        ensures ok { OnOk result ((details : List (List ℕ)) × Appends (W.contents out.old) (W.contents out.new) (table report.now details)) }
+        ensures ok { OnOk result ((details : List (List ℕ)) × Appends (W.contents out.old) (W.contents out.new) (table_of (named_of self.now.names.now) options.now report.now details)) }
         ensures err { IfErr result (LeavesUntested (W.contents out.old) (W.contents out.new)) }
         ensures cause { IfErr result (AreUnshown self.now.trials.now.source.now self.now.trials.now.limit (all_texts cases.now)) }
         ensures sound { IfErr result (λ f. IsOwnFault f → ⊥) }
     {
         let details = self.all_details(report.test, cases, ways, rows)?;
-        let Ok(text) = report.table(self.alloc, details.as_slice()) else {
+        let names = self.names;
+        let Ok(known) = options_text(self.alloc, names.script, options) else {
+            return Err(NO_TEXT);
+        };
+        let call = Call {
+            source: names.source,
+            test: names.test,
+            options: known.as_slice(),
+        };
+        let Ok(text) = report.table(self.alloc, &call, details.as_slice()) else {
             return Err(NO_TEXT);
         };
         write_whole(out, text.as_slice())
@@ -543,13 +558,13 @@ impl<R: Threads + Wait + Sync> Tester<'_, '_, R> {
     ) -> Result<(), Untested>
         requires limit { self.now.trials.now.limit ≡ options.now.limit }
         requires rows { rows.now ≡ rows_of report.now }
-        ensures ok { OnOk result (Writes self.now.trials.now.source.now options.now cases.now report.now options.now.shown (W.contents out.old) (W.contents out.new)) }
+        ensures ok { OnOk result (Writes self.now.trials.now.source.now (named_of self.now.names.now) options.now cases.now report.now options.now.shown (W.contents out.old) (W.contents out.new)) }
         ensures err { IfErr result (LeavesUntested (W.contents out.old) (W.contents out.new)) }
         ensures cause { IfErr result (AreUnwritten self.now.trials.now.source.now self.now.trials.now.limit (all_texts cases.now) options.now.shown rows.now) }
         ensures sound { IfErr result (λ f. IsOwnFault f → ⊥) }
     {
         match options.shown {
-            Shown::Table => self.write_table(cases, ways, report, rows, out),
+            Shown::Table => self.write_table(cases, ways, report, rows, options, out),
             Shown::Script(number) => self.write_script(cases, rows, number, out),
             Shown::Journal(number) => self.write_journal(cases, rows, number, options, out),
         }
@@ -566,7 +581,7 @@ impl<R: Threads + Wait + Sync> Tester<'_, '_, R> {
         out: &mut W,
     ) -> Result<usize, Untested>
         requires limit { self.now.trials.now.limit ≡ options.now.limit }
-        ensures ok { IfOk result (λ n. Writes self.now.trials.now.source.now options.now cases.now report.now options.now.shown (W.contents out.old) (W.contents out.new)) }
+        ensures ok { IfOk result (λ n. Writes self.now.trials.now.source.now (named_of self.now.names.now) options.now cases.now report.now options.now.shown (W.contents out.old) (W.contents out.new)) }
         ensures number { IfOk result (λ n. n ≡ failing (rows_of report.now)) }
         ensures err { IfErr result (LeavesUntested (W.contents out.old) (W.contents out.new)) }
         ensures cause { IfErr result (AreUnwritten self.now.trials.now.source.now self.now.trials.now.limit (all_texts cases.now) options.now.shown (rows_of report.now)) }
@@ -605,6 +620,7 @@ fn tell_services<'t, 'a, R: Threads + Sync>(
 fn try_and_write<'t, 'a, R: Threads + Wait + Sync, W: Write>(
     rt: &'t R,
     alloc: Global,
+    names: &'t Names<'t>,
     trials: &'t Trials<'t, 'a>,
     test: &'t Test<'a>,
     cases: &'t [CaseScripts],
@@ -614,7 +630,7 @@ fn try_and_write<'t, 'a, R: Threads + Wait + Sync, W: Write>(
     explained: &mut Explained,
 ) -> Result<usize, Untested>
     requires limit { trials.now.limit ≡ options.now.limit }
-    ensures tested { IfOk result (λ n. (r : Report) × (r.test.now ≡ test.now) × AllZip (IsTried trials.now) cases.now r.cases.now × (r.orders ≡ options.now.orders) × AreSaid trials.now r.test.now.claim_lines.items cases.now r.cases.now r.searched.now × Writes trials.now.source.now options.now cases.now r options.now.shown (W.contents out.old) (W.contents out.new) × (n ≡ failing (rows_of r))) }
+    ensures tested { IfOk result (λ n. (r : Report) × (r.test.now ≡ test.now) × AllZip (IsTried trials.now) cases.now r.cases.now × (r.orders ≡ options.now.orders) × AreSaid trials.now r.test.now.claim_lines.items cases.now r.cases.now r.searched.now × Writes trials.now.source.now (named_of names.now) options.now cases.now r options.now.shown (W.contents out.old) (W.contents out.new) × (n ≡ failing (rows_of r))) }
     ensures fault { IfErr result (LeavesUntested (W.contents out.old) (W.contents out.new)) }
     ensures cause { IfErr result (AreUntold trials.now test.now options.now cases.now) }
     ensures sound { IfErr result (λ f. IsOwnFault f → ⊥) }
@@ -622,6 +638,7 @@ fn try_and_write<'t, 'a, R: Threads + Wait + Sync, W: Write>(
     let tester = Tester {
         rt,
         alloc,
+        names,
         trials,
         workers: options.workers as usize,
         states: options.states,
@@ -642,26 +659,38 @@ fn try_and_write<'t, 'a, R: Threads + Wait + Sync, W: Write>(
     Ok(number)
 }
 
-// Holds the claims of a test that was read.
+// Adds the claim that a run ends by itself. The error is refused memory.
+fn add_end(alloc: Global, test: &mut Test<'_>) -> Result<(), AllocError>
+    ensures { OnOk result (IsJudged test.old test.new) }
+{
+    let end = Claim {
+        conditions: Vec::new(alloc),
+        plain: Plain::Ends(true, true, None),
+    };
+    test.claims.push(end)?;
+    Ok(())
+}
+
+// Holds the claims of a test that was read, and that runs end by themselves, in these ways of its cases.
 #[tactic(auto, using(crate::proofs::Testing::unwritten))]
 fn hold<'t, 'a, R: Threads + Wait + Sync, W: Write>(
     rt: &R,
     alloc: Global,
+    names: &'t Names<'t>,
     source: &'t [u8],
     test: &'t Test<'a>,
+    ways: &[Ways],
     script: &[u8],
     options: &TestOptions,
     out: &mut W,
     explained: &mut Explained,
 ) -> Result<usize, Untested>
-    ensures tested { IfOk result (λ n. (text : List ℕ) (others : Table) → Says script.now others → SaysTest text others (test_of test.now) → HasFailing source.now text script.now options.now (W.contents out.old) (W.contents out.new) n) }
+    ensures tested { IfOk result (λ n. (text : List ℕ) (others : Table) (read : ATest) → Says script.now others → SaysTest text others (test_of read) → IsJudged read test.now → AreWays (test_of read) 0 ways.now → (length ways.now ≡ length read.cases.items) → HasFailing source.now text script.now (named_of names.now) options.now (W.contents out.old) (W.contents out.new) n) }
     ensures fault { IfErr result (LeavesUntested (W.contents out.old) (W.contents out.new)) }
-    ensures cause { (text : List ℕ) (others : Table) (s : Source) → SpellsTree source.now s → Says script.now others → SaysTest text others (test_of test.now) → IfErr result (IsUntestedFor source.now text script.now options.now) }
+    ensures cause { (text : List ℕ) (others : Table) (s : Source) (read : ATest) → SpellsTree source.now s → Says script.now others → SaysTest text others (test_of read) → IsJudged read test.now → AreWays (test_of read) 0 ways.now → (length ways.now ≡ length read.cases.items) → IfErr result (IsUntestedFor source.now text script.now options.now) }
     ensures sound { IfErr result (λ f. IsOwnFault f → ⊥) }
 {
-    let ways = ways_of(alloc, test)?;
-    let known = ways.as_slice();
-    let cases = all_scripts(alloc, known, options.ways, script)?;
+    let cases = all_scripts(alloc, ways, options.ways, script)?;
     let sites = test.sites.as_slice();
     let claims = test.claims.as_slice();
     let trials = Trials {
@@ -673,7 +702,7 @@ fn hold<'t, 'a, R: Threads + Wait + Sync, W: Write>(
     };
     let tried = cases.as_slice();
     let number = try_and_write(
-        rt, alloc, &trials, test, tried, known, options, out, explained,
+        rt, alloc, names, &trials, test, tried, ways, options, out, explained,
     )?;
     Ok(number)
 }
@@ -702,9 +731,11 @@ fn known_of<'a>(alloc: Global, text: &'a [u8], others: &Answers) -> Result<Test<
     }
 }
 
-/// Holds the claims of a test against the program that a source spells, with the built-in sites, those of the test and those of a script: each case in its
-/// first ways, as many as the options say, each way in as many orders; and then, for a claim that failed in none of these runs, all schedules of each way. Writes
-/// a line for each claim, and below one that fails what shows it; or instead the script or the journal that shows one failure. Answers how many claims fail. Where explanations are asked for, the picture of the run stands below each
+/// Holds the claims of a test against the program that a source spells, with the built-in sites, those of the test and those of a script: each case in
+/// its first ways, as many as the options say, each way in as many orders; and then, for a claim that failed in none of these runs, all schedules of each
+/// way. Writes the names of the program and the test, a line for each claim, below one that fails what shows it, and the commands that show the first
+/// failure; or instead the script or the journal that shows one failure. That runs end by themselves is claimed in each case in which no claim says how
+/// they end, and has a line where it fails. Answers how many claims fail. Where explanations are asked for, the picture of the run stands below each
 /// failure, and `explained` tells which services no run asked.
 ///
 /// The faults are those of the source's text, of the script, of the test and of the source's names, in this order; `Engine` where the number of workers or
@@ -714,6 +745,7 @@ fn known_of<'a>(alloc: Global, text: &'a [u8], others: &Answers) -> Result<Test<
 pub fn test_text<R: Threads + Wait + Sync, W: Write>(
     rt: &R,
     alloc: Global,
+    names: &Names<'_>,
     source: &[u8],
     test: &[u8],
     script: &[u8],
@@ -721,7 +753,7 @@ pub fn test_text<R: Threads + Wait + Sync, W: Write>(
     out: &mut W,
     explained: &mut Explained,
 ) -> Result<usize, Untested>
-    ensures tested { IfOk result (HasFailing source.now test.now script.now options.now (W.contents out.old) (W.contents out.new)) }
+    ensures tested { IfOk result (HasFailing source.now test.now script.now (named_of names.now) options.now (W.contents out.old) (W.contents out.new)) }
     ensures fault { IfErr result (LeavesUntested (W.contents out.old) (W.contents out.new)) }
     ensures cause { IfErr result (IsUntestedFor source.now test.now script.now options.now) }
     ensures sound { IfErr result (λ f. IsOwnFault f → ⊥) }
@@ -730,7 +762,14 @@ pub fn test_text<R: Threads + Wait + Sync, W: Write>(
         return Err(Untested::Fault(RunFault::Syntax(fault)));
     }
     let others = others_of(alloc, script)?;
-    let known = known_of(alloc, test, &others)?;
-    let number = hold(rt, alloc, source, &known, script, options, out, explained)?;
+    let mut known = known_of(alloc, test, &others)?;
+    let counted = ways_of(alloc, &known)?;
+    let Ok(()) = add_end(alloc, &mut known) else {
+        return Err(NO_MEMORY);
+    };
+    let ways = counted.as_slice();
+    let number = hold(
+        rt, alloc, names, source, &known, ways, script, options, out, explained,
+    )?;
     Ok(number)
 }

@@ -1,5 +1,5 @@
 -- The table that tells of a test's claims.
-use Rattle.std.specs.Prelude.{ℕ, zero, suc, List, [], ◌∷◌, ◌++◌, Option, Some, None, Bool, true, false, cond, not, ◌||◌, ◌&&◌, ◌-◌, codes, decimal, drop, take, is_some, length, nat_eq, nat_lt}
+use Rattle.std.specs.Prelude.{ℕ, zero, suc, List, [], ◌∷◌, ◌++◌, Option, Some, None, Bool, true, false, cond, not, ◌||◌, ◌&&◌, ◌+◌, ◌-◌, ◌%◌, codes, decimal, drop, take, is_some, length, nat_eq, nat_lt}
 use Rattle.std.specs.Char.{is_ascii_whitespace}
 use Rattle.std.specs.List.{prefix_len, suffix_len, slice_get}
 use Rattle.orc_tally.specs.declared.told.Told.{Told}
@@ -13,6 +13,9 @@ use Rattle.orc_tally.specs.declared.table.Row.TheVariants as row
 use Rattle.orc_tally.specs.declared.table.Searched.{Searched}
 use Rattle.orc_tally.specs.declared.table.Searched.TheVariants as searched
 use Rattle.orc_tally.specs.declared.table.Shown.{Shown}
+use Rattle.orc_claims.specs.declared.claim.Claim.{Claim}
+use Rattle.orc_claims.specs.declared.claim.Plain.{Plain}
+use Rattle.orc_claims.specs.declared.claim.Plain.TheVariants.{Ends}
 use Rattle.orc_ways.specs.declared.test.Case.{Case}
 use Rattle.orc_ways.specs.declared.test.ClaimLine.{ClaimLine}
 
@@ -92,14 +95,43 @@ abbrev pub claim_rows : List CaseReport → List Searched → Option ℕ → ℕ
 claim_rows rs found section claim [] = []
 claim_rows rs found section claim (l ∷ ls) = cond (is_same l.case section) (row_of rs found section claim ∷ claim_rows rs found section (suc claim) ls) (claim_rows rs found section (suc claim) ls)
 
+-- a claim says how a run ends, whatever happens in it
+abbrev pub is_of_end : Plain → Bool
+is_of_end (Ends halted quiet by) = true
+is_of_end _ = false
+
+abbrev pub is_end : Claim → Bool
+is_end c = nat_eq (length c.conditions.items) 0 && is_of_end c.plain
+
+-- one of these claims, with these lines, says so of the runs of the case at this place
+abbrev pub has_end : ℕ → List Claim → List ClaimLine → Bool
+has_end case (c ∷ cs) (l ∷ ls) = (is_held l.case case && is_end c) || has_end case cs ls
+has_end case _ _ = false
+
+-- The claim behind those that have a line is that a run ends by itself. It has a row in each case in which no claim says how runs end, where a run of the case
+-- fails it.
+abbrev pub cut_row : ℕ → Option Shown → List Row
+cut_row claim (Some s) = row.Fails claim (counterexample.Trial s) ∷ []
+cut_row claim None = []
+
+abbrev pub end_rows : List CaseReport → List Claim → List ClaimLine → ℕ → List Row
+end_rows rs cs ls case = cond (has_end case cs ls) [] (cut_row (length ls) (shown_in (Some case) (length ls) 0 rs))
+
 -- the rows of the cases from a place on
-abbrev pub case_rows : List CaseReport → List Searched → List ClaimLine → ℕ → List CaseReport → List Row
-case_rows rs found ls case [] = []
-case_rows rs found ls case (r ∷ more) = row.Case case ∷ (claim_rows rs found (Some case) 0 ls ++ case_rows rs found ls (suc case) more)
+abbrev pub case_rows : List CaseReport → List Searched → List Claim → List ClaimLine → ℕ → List CaseReport → List Row
+case_rows rs found cs ls case [] = []
+case_rows rs found cs ls case (r ∷ more) = row.Case case ∷ (claim_rows rs found (Some case) 0 ls ++ (end_rows rs cs ls case ++ case_rows rs found cs ls (suc case) more))
 
 -- all rows
 abbrev pub rows : Report → List Row
-rows r = case_rows r.cases.now r.searched.now r.test.now.claim_lines.items 0 r.cases.now ++ (row.Always ∷ claim_rows r.cases.now r.searched.now None 0 r.test.now.claim_lines.items)
+rows r = case_rows r.cases.now r.searched.now r.test.now.claims.items r.test.now.claim_lines.items 0 r.cases.now ++ (row.Always ∷ claim_rows r.cases.now r.searched.now None 0 r.test.now.claim_lines.items)
+
+-- how many of them tell of a claim
+abbrev pub claims_told : List Row → ℕ
+claims_told [] = 0
+claims_told (row.Holds c tested whole ∷ rs) = suc (claims_told rs)
+claims_told (row.Fails c s ∷ rs) = suc (claims_told rs)
+claims_told (x ∷ rs) = claims_told rs
 
 -- how many of them tell of a failure
 abbrev pub failing : List Row → ℕ
@@ -134,32 +166,47 @@ name_at None = []
 
 abbrev pub claim_at : Option ClaimLine → List ℕ
 claim_at (Some l) = trimmed (before_comment l.text.now)
-claim_at None = []
+claim_at None = codes "ends Halted or Quiet"
+
+-- a comma stands before so many digits, where these are some whole groups of three
+abbrev pub is_grouped : ℕ → Bool
+is_grouped n = nat_lt 0 n && nat_eq (n % 3) 0
+
+abbrev pub grouped : List ℕ → List ℕ
+grouped [] = []
+grouped (d ∷ ds) = d ∷ cond (is_grouped (length ds)) (44 ∷ grouped ds) (grouped ds)
+
+-- a number as it is read: `1,728`
+abbrev pub number_text : ℕ → List ℕ
+number_text n = grouped (decimal n)
 
 abbrev pub orders_text : ℕ → List ℕ
-orders_text n = cond (nat_eq n 1) (codes ", 1 order") (codes ", " ++ (decimal n ++ codes " orders each"))
+orders_text n = cond (nat_eq n 1) (codes ", 1 order") (codes ", " ++ (number_text n ++ codes " orders each"))
 
 -- how many ways a case has, and how many of them were tried where it isn't all
 abbrev pub ways_text : ℕ → ℕ → List ℕ
-ways_text ways tried = cond (nat_lt tried ways) (codes ": " ++ (decimal tried ++ (codes " of " ++ (decimal ways ++ codes " ways"))))
-    (cond (nat_eq ways 1) (codes ": 1 way") (codes ": " ++ (decimal ways ++ codes " ways")))
+ways_text ways tried = codes ": " ++ cond (nat_lt tried ways) (number_text tried ++ (codes " of " ++ (number_text ways ++ codes " ways"))) (cond (nat_eq ways 1) (codes "1 way") (number_text ways ++ codes " ways"))
 
 abbrev pub case_ways : Option CaseReport → List ℕ
 case_ways (Some r) = ways_text r.ways r.tried
 case_ways None = []
 
--- how many runs were cut, where some were
-abbrev pub cut_text : ℕ → List ℕ
-cut_text zero = []
-cut_text (suc n) = codes ", " ++ (decimal (suc n) ++ codes " runs cut")
+-- how many ways all cases have, and how many of them were tried
+abbrev pub all_ways : List CaseReport → ℕ
+all_ways [] = 0
+all_ways (r ∷ rs) = r.ways + all_ways rs
 
-abbrev pub case_cut : Option CaseReport → List ℕ
-case_cut (Some r) = cut_text r.cut
-case_cut None = []
+abbrev pub all_tried : List CaseReport → ℕ
+all_tried [] = 0
+all_tried (r ∷ rs) = r.tried + all_tried rs
+
+-- `always: 2,107 ways`
+abbrev pub always_text : Report → List ℕ
+always_text r = codes "always" ++ (ways_text (all_ways r.cases.now) (all_tried r.cases.now) ++ codes "\n")
 
 -- `case slow: 378 ways, 20 orders each`
 abbrev pub case_text : Report → ℕ → List ℕ
-case_text r case = codes "case " ++ (name_at (slice_get r.test.now.cases.items case) ++ (case_ways (slice_get r.cases.now case) ++ (orders_text r.orders ++ (case_cut (slice_get r.cases.now case) ++ codes "\n"))))
+case_text r case = codes "case " ++ (name_at (slice_get r.test.now.cases.items case) ++ (case_ways (slice_get r.cases.now case) ++ (orders_text r.orders ++ codes "\n")))
 
 abbrev pub failing_in : Option Told → ℕ
 failing_in (Some t) = t.failing
@@ -169,17 +216,26 @@ abbrev pub comma : Bool → List ℕ
 comma true = codes ""
 comma false = codes ", "
 
+-- `27 of 378 ways of slow`
+abbrev pub share : ℕ → ℕ → List ℕ → List ℕ
+share failing tried name = number_text failing ++ (codes " of " ++ (number_text tried ++ (codes " ways of " ++ name)))
+
 -- in how many ways a claim fails, of each case from a place on in which it does: `27 of 378 ways of slow, 5 of 48 ways of anything`
 abbrev pub shares : List Case → Option ℕ → ℕ → Bool → ℕ → List CaseReport → List ℕ
 shares cs section claim is_first case [] = []
 shares cs section claim is_first case (r ∷ rs) =
     cond (nat_lt 0 (failing_in (told_here section claim case r)))
-    (comma is_first ++ (decimal (failing_in (told_here section claim case r)) ++ (codes " of " ++ (decimal r.tried ++ (codes " ways of " ++ (name_at (slice_get cs case) ++ shares cs section claim false (suc case) rs))))))
+    (comma is_first ++ (share (failing_in (told_here section claim case r)) r.tried (name_at (slice_get cs case)) ++ shares cs section claim false (suc case) rs))
     (shares cs section claim is_first (suc case) rs)
 
 abbrev pub section_of : Option ClaimLine → Option ℕ
 section_of (Some l) = l.case
 section_of None = None
+
+-- the same of a claim that fails in this case; that of one without a line is this one
+abbrev pub section_in : ℕ → Option ClaimLine → Option ℕ
+section_in case (Some l) = l.case
+section_in case None = Some case
 
 -- the end of the line of a claim that holds: whether it was put to the test, and whether every schedule keeps it
 abbrev pub note : Bool → List ℕ
@@ -199,7 +255,7 @@ abbrev pub schedule_text : Report → ℕ → List ℕ
 schedule_text r case = codes "a way of " ++ (name_at (slice_get r.test.now.cases.items case) ++ codes ", in a schedule that no order showed")
 
 abbrev pub share_text : Report → ℕ → Counterexample → List ℕ
-share_text r claim (counterexample.Trial s) = shares r.test.now.cases.items (section_of (slice_get r.test.now.claim_lines.items claim)) claim true 0 r.cases.now
+share_text r claim (counterexample.Trial s) = shares r.test.now.cases.items (section_in s.case (slice_get r.test.now.claim_lines.items claim)) claim true 0 r.cases.now
 share_text r claim (counterexample.Schedule b) = schedule_text r b.case
 
 abbrev pub fails_text : Report → ℕ → Counterexample → List ℕ
@@ -207,7 +263,7 @@ fails_text r claim x = codes "  FAILS  " ++ (claim_at (slice_get r.test.now.clai
 
 abbrev pub row_text : Report → Row → List ℕ
 row_text r (row.Case case) = case_text r case
-row_text r row.Always = codes "always\n"
+row_text r row.Always = always_text r
 row_text r (row.Holds claim tested whole) = holds_text r claim tested whole
 row_text r (row.Fails claim x) = fails_text r claim x
 
@@ -217,10 +273,10 @@ lines r ds [] = []
 lines r (d ∷ ds) (row.Fails claim x ∷ xs) = fails_text r claim x ++ (d ++ lines r ds xs)
 lines r ds (x ∷ xs) = row_text r x ++ lines r ds xs
 
--- the last line
+-- how many claims fail
 abbrev pub sum_text : ℕ → ℕ → List ℕ
-sum_text zero claims = codes "ok: " ++ (decimal claims ++ codes " claims\n")
-sum_text (suc n) claims = codes "fails: " ++ (decimal (suc n) ++ (codes " of " ++ (decimal claims ++ codes " claims\n")))
+sum_text zero claims = codes "ok: " ++ (number_text claims ++ codes " claims\n")
+sum_text (suc n) claims = codes "fails: " ++ (number_text (suc n) ++ (codes " of " ++ (number_text claims ++ codes " claims\n")))
 
 -- ---- the place of a counterexample
 
@@ -234,5 +290,23 @@ way_of (counterexample.Schedule b) = b.way
 
 -- ---- the whole
 
-abbrev pub table : Report → List (List ℕ) → List ℕ
-table r ds = lines r ds (rows r) ++ sum_text (failing (rows r)) (length r.test.now.claims.items)
+-- the first line: `checkout.test, on checkout.orc`
+abbrev pub title_text : List ℕ → List ℕ → List ℕ
+title_text source test = test ++ (codes ", on " ++ (source ++ codes "\n"))
+
+-- the command that shows the first failure
+abbrev pub call_text : List ℕ → List ℕ → List ℕ → List ℕ
+call_text source test options = codes "orc test " ++ (source ++ (codes " " ++ (test ++ (options ++ codes " --fail 1"))))
+
+-- which commands show it
+abbrev pub commands_text : List ℕ → List ℕ → List ℕ → List ℕ
+commands_text source test options = codes "[1] is shown by: " ++ (call_text source test options ++ (codes " > way.script\n                 " ++ (call_text source test options ++ (codes " --journal | orc draw " ++ (source ++ codes " - --script way.script --text\n")))))
+
+-- the last lines, where a claim fails
+abbrev pub hint_text : List ℕ → List ℕ → List ℕ → ℕ → List ℕ
+hint_text source test options zero = []
+hint_text source test options (suc n) = commands_text source test options
+
+-- of the program and the test that a command line names so, with these options
+abbrev pub table : List ℕ → List ℕ → List ℕ → Report → List (List ℕ) → List ℕ
+table source test options r ds = title_text source test ++ (lines r ds (rows r) ++ (sum_text (failing (rows r)) (claims_told (rows r)) ++ hint_text source test options (failing (rows r))))

@@ -8,7 +8,7 @@ mod told;
 
 pub use sight::{ClaimSite, happenings_of};
 pub use table::{
-    Broken, CaseReport, Counterexample, Report, Row, Searched, Shown, claim_text, failing,
+    Broken, Call, CaseReport, Counterexample, Report, Row, Searched, Shown, claim_text, failing,
     failure_at, is_held, is_open, note, write_sum,
 };
 pub use told::{Failure, Told, joined, noted, nothing_told};

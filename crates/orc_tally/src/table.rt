@@ -1,10 +1,11 @@
 //! The table that tells of a test's claims.
 
-ghost use Rattle.std.specs.Prelude.{◌≡◌, ◌++◌, IfOk, OnOk, Some, length, map, true};
+ghost use Rattle.std.specs.Prelude.{◌≡◌, ◌++◌, IfOk, IfSome, OnOk, Some, codes, length, map, true};
 ghost use Rattle.std.specs.List.{slice_get};
-ghost use Rattle.orc_tally.specs.Table.{are_full, before_comment, case_cut, case_of, case_rows, case_text, case_ways, claim_at, claim_rows, comma, failing, failing_in, failure_at, failure_of, fails_text, found_of, holds_text, is_full, is_held, is_open, is_same, is_tested, lines, name_at, note, orders_text, row_of, row_text, rows, schedule_text, section_of, share_text, shares, shown_in, shown_or, sum_text, table, tested_in, told_here, trimmed, unshown, way_of, ways_text, whole_note};
+ghost use Rattle.orc_tally.specs.Table.{all_tried, all_ways, always_text, are_full, before_comment, call_text, case_of, case_rows, case_text, case_ways, claim_at, claim_rows, claims_told, comma, commands_text, cut_row, end_rows, failing, failing_in, failure_at, failure_of, fails_text, found_of, has_end, hint_text, holds_text, is_end, is_full, is_grouped, is_held, is_of_end, is_open, is_same, is_tested, lines, name_at, note, number_text, orders_text, row_of, row_text, rows, schedule_text, section_in, share, share_text, shares, shown_in, shown_or, sum_text, table, tested_in, title_text, told_here, trimmed, unshown, way_of, ways_text, whole_note};
 
 use crate::told::{Failure, Told};
+use orc_claims::claim::{Claim, Plain};
 use orc_ways::test::{ClaimLine, Test};
 use std::alloc::{AllocError, Global};
 
@@ -94,6 +95,14 @@ pub enum Row {
     },
     /// The claim at this place failed.
     Fails(usize, Counterexample),
+}
+
+/// How a command line names the program and the test, and its options on which the failures depend, a blank before each.
+#[derive(Clone, Copy)]
+pub struct Call<'c> {
+    pub source: &'c str,
+    pub test: &'c str,
+    pub options: &'c [u8],
 }
 
 /// What is told of a test, whose ways were run in so many orders each.
@@ -299,13 +308,77 @@ fn add_claims(
     }
 }
 
+// Whether it says how a run ends.
+fn is_of_end(plain: &Plain) -> bool
+    ensures { result ≡ is_of_end plain.now }
+{
+    match plain {
+        Plain::Ends(_, _, _) => true,
+        _ => false,
+    }
+}
+
+// Whether a claim says how a run ends, whatever happens in it.
+fn is_end(claim: &Claim) -> bool
+    ensures { result ≡ is_end claim.now }
+{
+    claim.conditions.len() == 0 && is_of_end(&claim.plain)
+}
+
+// Whether one of these claims, with these lines, says so of the runs of the case at this place.
+fn has_end(case: usize, claims: &[Claim], lines: &[ClaimLine<'_>]) -> bool
+    ensures { result ≡ has_end case claims.now lines.now }
+{
+    let mut rest = claims;
+    let mut behind = lines;
+    loop {
+        match rest {
+            [] => return false,
+            [claim, more @ ..] => match behind {
+                [] => return false,
+                [line, others @ ..] => {
+                    if is_held(line.case, case) && is_end(claim) {
+                        return true;
+                    }
+                    rest = more;
+                    behind = others;
+                }
+            },
+        }
+    }
+}
+
+// Adds the row of a case in which no claim says how runs end, where one of its runs was cut. The error is refused memory.
+fn add_end(
+    cases: &[CaseReport],
+    claims: &[Claim],
+    lines: &[ClaimLine<'_>],
+    case: usize,
+    rows: &mut Vec<Row>,
+) -> Result<(), AllocError>
+    ensures { OnOk result (rows.new.items ≡ rows.old.items ++ end_rows cases.now claims.now lines.now case) }
+{
+    if has_end(case, claims, lines) {
+        return Ok(());
+    }
+    let claim = lines.len();
+    match shown_in(Some(case), claim, cases) {
+        Some(shown) => {
+            rows.push(Row::Fails(claim, Counterexample::Trial(shown)))?;
+            Ok(())
+        }
+        None => Ok(()),
+    }
+}
+
 impl Report<'_, '_> {
     // The rows of the cases.
     fn case_rows(&self, alloc: Global) -> Result<Vec<Row>, AllocError>
-        ensures { IfOk result (λ rows. rows.items ≡ case_rows self.now.cases.now self.now.searched.now self.now.test.now.claim_lines.items 0 self.now.cases.now) }
+        ensures { IfOk result (λ rows. rows.items ≡ case_rows self.now.cases.now self.now.searched.now self.now.test.now.claims.items self.now.test.now.claim_lines.items 0 self.now.cases.now) }
     {
         let mut rows = Vec::new(alloc);
-        let claims = self.test.claim_lines.as_slice();
+        let claims = self.test.claims.as_slice();
+        let lines = self.test.claim_lines.as_slice();
         let mut case = 0;
         let mut rest = self.cases;
         loop {
@@ -313,7 +386,8 @@ impl Report<'_, '_> {
                 [] => return Ok(rows),
                 [_, more @ ..] => {
                     rows.push(Row::Case(case))?;
-                    add_claims(self.cases, self.searched, Some(case), claims, &mut rows)?;
+                    add_claims(self.cases, self.searched, Some(case), lines, &mut rows)?;
+                    add_end(self.cases, claims, lines, case, &mut rows)?;
                     case += 1;
                     rest = more;
                 }
@@ -349,6 +423,25 @@ pub fn failing(rows: &[Row]) -> usize
             [] => return number,
             [row, more @ ..] => {
                 if let Row::Fails(_, _) = row {
+                    number += 1;
+                }
+                rest = more;
+            }
+        }
+    }
+}
+
+// How many rows tell of a claim.
+fn claims_told(rows: &[Row]) -> usize
+    ensures { result ≡ claims_told rows.now }
+{
+    let mut number = 0;
+    let mut rest = rows;
+    loop {
+        match rest {
+            [] => return number,
+            [row, more @ ..] => {
+                if let Row::Holds { .. } | Row::Fails(_, _) = row {
                     number += 1;
                 }
                 rest = more;
@@ -426,19 +519,8 @@ impl Report<'_, '_> {
     {
         match self.test.claim_lines.get(claim) {
             Some(line) => text.extend_from_slice(claim_text(line)),
-            None => Ok(()),
+            None => text.extend_from_slice(b"ends Halted or Quiet"),
         }
-    }
-
-    fn write_orders(&self, alloc: Global, text: &mut Vec<u8>) -> Result<(), AllocError>
-        ensures { OnOk result (text.new.items ≡ text.old.items ++ orders_text self.now.orders) }
-    {
-        let orders = self.orders;
-        if orders == 1 {
-            return text.extend_from_slice(b", 1 order");
-        }
-        let line = format!(in alloc; ", {orders} orders each")?;
-        text.extend_from_slice(line.as_bytes())
     }
 
     fn write_ways(&self, alloc: Global, case: usize, text: &mut Vec<u8>) -> Result<(), AllocError>
@@ -447,17 +529,7 @@ impl Report<'_, '_> {
         let Some(report) = self.cases.get(case) else {
             return Ok(());
         };
-        let ways = report.ways;
-        let tried = report.tried;
-        if tried < ways {
-            let number = format!(in alloc; ": {tried} of {ways} ways")?;
-            return text.extend_from_slice(number.as_bytes());
-        }
-        if ways == 1 {
-            return text.extend_from_slice(b": 1 way");
-        }
-        let number = format!(in alloc; ": {ways} ways")?;
-        text.extend_from_slice(number.as_bytes())
+        write_ways(alloc, report.ways, report.tried, text)
     }
 
     // `case slow: 378 ways, 20 orders each`
@@ -467,25 +539,41 @@ impl Report<'_, '_> {
         text.extend_from_slice(b"case ")?;
         self.write_name(case, text)?;
         self.write_ways(alloc, case, text)?;
-        self.write_orders(alloc, text)?;
-        self.write_cut(alloc, case, text)?;
+        write_orders(alloc, self.orders, text)?;
         text.push(b'\n')?;
         Ok(())
     }
 
-    // How many runs of a case were cut, where some were.
-    fn write_cut(&self, alloc: Global, case: usize, text: &mut Vec<u8>) -> Result<(), AllocError>
-        ensures { OnOk result (text.new.items ≡ text.old.items ++ case_cut (slice_get self.now.cases.now case)) }
+    // `always: 2,107 ways`
+    fn write_always(&self, alloc: Global, text: &mut Vec<u8>) -> Result<(), AllocError>
+        ensures { OnOk result (text.new.items ≡ text.old.items ++ always_text self.now) }
     {
-        let Some(report) = self.cases.get(case) else {
-            return Ok(());
+        let (Some(ways), Some(tried)) = (all_ways(self.cases), all_tried(self.cases)) else {
+            // No machine tries 2^64 ways.
+            return Err(AllocError);
         };
-        let cut = report.cut;
-        if cut == 0 {
-            return Ok(());
-        }
-        let number = format!(in alloc; ", {cut} runs cut")?;
-        text.extend_from_slice(number.as_bytes())
+        text.extend_from_slice(b"always")?;
+        write_ways(alloc, ways, tried, text)?;
+        text.push(b'\n')?;
+        Ok(())
+    }
+
+    // `27 of 378 ways of slow`
+    fn write_one(
+        &self,
+        alloc: Global,
+        failing: u64,
+        tried: u64,
+        case: usize,
+        text: &mut Vec<u8>,
+    ) -> Result<(), AllocError>
+        ensures { OnOk result (text.new.items ≡ text.old.items ++ share failing tried (name_at (slice_get self.now.test.now.cases.items case))) }
+    {
+        write_number(alloc, failing, text)?;
+        text.extend_from_slice(b" of ")?;
+        write_number(alloc, tried, text)?;
+        text.extend_from_slice(b" ways of ")?;
+        self.write_name(case, text)
     }
 
     // In how many ways a claim fails, of each case in which it does.
@@ -508,10 +596,7 @@ impl Report<'_, '_> {
                     let failing = failing_in(told_here(section, claim, case, report));
                     if failing > 0 {
                         text.extend_from_slice(comma(is_first).as_bytes())?;
-                        let tried = report.tried;
-                        let share = format!(in alloc; "{failing} of {tried} ways of ")?;
-                        text.extend_from_slice(share.as_bytes())?;
-                        self.write_name(case, text)?;
+                        self.write_one(alloc, failing, report.tried, case, text)?;
                         is_first = false;
                     }
                     case += 1;
@@ -542,8 +627,8 @@ impl Report<'_, '_> {
         ensures { OnOk result (text.new.items ≡ text.old.items ++ share_text self.now claim found.now) }
     {
         match found {
-            Counterexample::Trial(_) => {
-                self.write_shares(alloc, self.section(claim), claim, text)
+            Counterexample::Trial(shown) => {
+                self.write_shares(alloc, self.section(claim, shown.case), claim, text)
             }
             Counterexample::Schedule(broken) => self.write_schedule(broken.case, text),
         }
@@ -567,13 +652,13 @@ impl Report<'_, '_> {
         Ok(())
     }
 
-    // The case of a claim.
-    fn section(&self, claim: usize) -> Option<usize>
-        ensures { result ≡ section_of (slice_get self.now.test.now.claim_lines.items claim) }
+    // The case of a claim that fails in a case.
+    fn section(&self, claim: usize, case: usize) -> Option<usize>
+        ensures { result ≡ section_in case (slice_get self.now.test.now.claim_lines.items claim) }
     {
         match self.test.claim_lines.get(claim) {
             Some(line) => line.case,
-            None => None,
+            None => Some(case),
         }
     }
 
@@ -602,7 +687,7 @@ impl Report<'_, '_> {
     {
         match row {
             Row::Case(case) => self.write_case(alloc, case, text),
-            Row::Always => text.extend_from_slice(b"always\n"),
+            Row::Always => self.write_always(alloc, text),
             Row::Holds {
                 claim,
                 tested,
@@ -641,21 +726,171 @@ impl Report<'_, '_> {
         }
     }
 
-    /// The table: a line for each case and each claim, below each that fails its details, which come in the order of the rows, and a line that tells how many
-    /// fail. The error is refused memory.
-    pub fn table(&self, alloc: Global, details: &[Vec<u8>]) -> Result<Vec<u8>, AllocError>
-        ensures { IfOk result (λ text. text.items ≡ table self.now (map (λ d. d.items) details.now)) }
+    /// The table: a line that names the test and its program, a line for each case and each claim, below each that fails its details, which come in the order of
+    /// the rows, a line that tells how many fail, and where some do the commands that show the first. The error is refused memory.
+    pub fn table(
+        &self,
+        alloc: Global,
+        call: &Call<'_>,
+        details: &[Vec<u8>],
+    ) -> Result<Vec<u8>, AllocError>
+        ensures { IfOk result (λ text. text.items ≡ table call.now.source.now call.now.test.now call.now.options.now self.now (map (λ d. d.items) details.now)) }
     {
-        let rows = self.rows(alloc)?;
+        let all = self.rows(alloc)?;
+        let rows = all.as_slice();
+        let number = failing(rows);
         let mut text = Vec::new(alloc);
-        self.write_rows(alloc, details, rows.as_slice(), &mut text)?;
-        write_sum(
-            alloc,
-            failing(rows.as_slice()),
-            self.test.claims.len(),
-            &mut text,
-        )?;
+        call.write_title(&mut text)?;
+        self.write_rows(alloc, details, rows, &mut text)?;
+        write_sum(alloc, number, claims_told(rows), &mut text)?;
+        call.write_hint(number, &mut text)?;
         Ok(text)
+    }
+}
+
+impl Call<'_> {
+    // The first line.
+    fn write_title(&self, text: &mut Vec<u8>) -> Result<(), AllocError>
+        ensures { OnOk result (text.new.items ≡ text.old.items ++ title_text self.now.source.now self.now.test.now) }
+    {
+        text.extend_from_slice(self.test.as_bytes())?;
+        text.extend_from_slice(b", on ")?;
+        text.extend_from_slice(self.source.as_bytes())?;
+        text.push(b'\n')?;
+        Ok(())
+    }
+
+    // The command that shows the first failure.
+    fn write_call(&self, text: &mut Vec<u8>) -> Result<(), AllocError>
+        ensures { OnOk result (text.new.items ≡ text.old.items ++ call_text self.now.source.now self.now.test.now self.now.options.now) }
+    {
+        text.extend_from_slice(b"orc test ")?;
+        text.extend_from_slice(self.source.as_bytes())?;
+        text.push(b' ')?;
+        text.extend_from_slice(self.test.as_bytes())?;
+        text.extend_from_slice(self.options)?;
+        text.extend_from_slice(b" --fail 1")
+    }
+
+    // The commands that show it.
+    fn write_commands(&self, text: &mut Vec<u8>) -> Result<(), AllocError>
+        ensures { OnOk result (text.new.items ≡ text.old.items ++ commands_text self.now.source.now self.now.test.now self.now.options.now) }
+    {
+        text.extend_from_slice(b"[1] is shown by: ")?;
+        self.write_call(text)?;
+        text.extend_from_slice(b" > way.script\n                 ")?;
+        self.write_call(text)?;
+        text.extend_from_slice(b" --journal | orc draw ")?;
+        text.extend_from_slice(self.source.as_bytes())?;
+        text.extend_from_slice(b" - --script way.script --text\n")?;
+        Ok(())
+    }
+
+    // The last lines.
+    fn write_hint(&self, failing: usize, text: &mut Vec<u8>) -> Result<(), AllocError>
+        ensures { OnOk result (text.new.items ≡ text.old.items ++ hint_text self.now.source.now self.now.test.now self.now.options.now failing) }
+    {
+        if failing == 0 {
+            return Ok(());
+        }
+        self.write_commands(text)
+    }
+}
+
+// Whether a comma stands before so many digits.
+fn is_grouped(digits: usize) -> bool
+    ensures { result ≡ is_grouped digits }
+{
+    digits > 0 && digits % 3 == 0
+}
+
+// Writes a number with a comma before each three of its digits. The error is refused memory.
+fn write_number(alloc: Global, number: u64, text: &mut Vec<u8>) -> Result<(), AllocError>
+    ensures { OnOk result (text.new.items ≡ text.old.items ++ number_text number) }
+{
+    let digits = format!(in alloc; "{number}")?;
+    let mut rest = digits.as_bytes();
+    loop {
+        match rest {
+            [] => return Ok(()),
+            [digit, more @ ..] => {
+                text.push(*digit)?;
+                if is_grouped(more.len()) {
+                    text.push(b',')?;
+                }
+                rest = more;
+            }
+        }
+    }
+}
+
+fn write_many(alloc: Global, orders: u64, text: &mut Vec<u8>) -> Result<(), AllocError>
+    ensures { OnOk result (text.new.items ≡ text.old.items ++ (codes ", " ++ (number_text orders ++ codes " orders each"))) }
+{
+    text.extend_from_slice(b", ")?;
+    write_number(alloc, orders, text)?;
+    text.extend_from_slice(b" orders each")?;
+    Ok(())
+}
+
+fn write_orders(alloc: Global, orders: u64, text: &mut Vec<u8>) -> Result<(), AllocError>
+    ensures { OnOk result (text.new.items ≡ text.old.items ++ orders_text orders) }
+{
+    if orders == 1 {
+        return text.extend_from_slice(b", 1 order");
+    }
+    write_many(alloc, orders, text)
+}
+
+// How many ways there are, and how many were tried where it isn't all.
+fn write_ways(alloc: Global, ways: u64, tried: u64, text: &mut Vec<u8>) -> Result<(), AllocError>
+    ensures { OnOk result (text.new.items ≡ text.old.items ++ ways_text ways tried) }
+{
+    text.extend_from_slice(b": ")?;
+    if tried < ways {
+        write_number(alloc, tried, text)?;
+        text.extend_from_slice(b" of ")?;
+        write_number(alloc, ways, text)?;
+        return text.extend_from_slice(b" ways");
+    }
+    if ways == 1 {
+        return text.extend_from_slice(b"1 way");
+    }
+    write_number(alloc, ways, text)?;
+    text.extend_from_slice(b" ways")
+}
+
+// How many ways all cases have. None where they are too many to be counted.
+fn all_ways(cases: &[CaseReport]) -> Option<u64>
+    ensures { IfSome result (λ n. n ≡ all_ways cases.now) }
+{
+    let mut number: u64 = 0;
+    let mut rest = cases;
+    loop {
+        match rest {
+            [] => return Some(number),
+            [report, more @ ..] => {
+                number = number.checked_add(report.ways)?;
+                rest = more;
+            }
+        }
+    }
+}
+
+// How many of them were tried.
+fn all_tried(cases: &[CaseReport]) -> Option<u64>
+    ensures { IfSome result (λ n. n ≡ all_tried cases.now) }
+{
+    let mut number: u64 = 0;
+    let mut rest = cases;
+    loop {
+        match rest {
+            [] => return Some(number),
+            [report, more @ ..] => {
+                number = number.checked_add(report.tried)?;
+                rest = more;
+            }
+        }
     }
 }
 
@@ -696,7 +931,7 @@ fn whole_note(tested: bool) -> &'static str
     }
 }
 
-/// Writes the last line: how many of so many claims fail. The error is refused memory.
+/// Writes how many of so many claims fail. The error is refused memory.
 pub fn write_sum(
     alloc: Global,
     failing: usize,
@@ -705,10 +940,14 @@ pub fn write_sum(
 ) -> Result<(), AllocError>
     ensures { OnOk result (text.new.items ≡ text.old.items ++ sum_text failing claims) }
 {
-    let line = if failing == 0 {
-        format!(in alloc; "ok: {claims} claims\n")?
-    } else {
-        format!(in alloc; "fails: {failing} of {claims} claims\n")?
-    };
-    text.extend_from_slice(line.as_bytes())
+    if failing == 0 {
+        text.extend_from_slice(b"ok: ")?;
+        write_number(alloc, claims as u64, text)?;
+        return text.extend_from_slice(b" claims\n");
+    }
+    text.extend_from_slice(b"fails: ")?;
+    write_number(alloc, failing as u64, text)?;
+    text.extend_from_slice(b" of ")?;
+    write_number(alloc, claims as u64, text)?;
+    text.extend_from_slice(b" claims\n")
 }
