@@ -50,8 +50,8 @@ fn claims_of(alloc: Global, test: &Test<'_>) -> Result<Vec<Claim>, AllocError> {
     Ok(claims)
 }
 
-// Whether a service is one of the case at this place. One of `given` is one of each.
-fn is_of(line: &ServiceLine<'_>, case: usize) -> bool {
+/// Whether a service is one of the case at this place. One of `given` is one of each.
+pub(crate) fn is_of(line: &ServiceLine<'_>, case: usize) -> bool {
     match line.case {
         Some(own) => own == case,
         None => true,

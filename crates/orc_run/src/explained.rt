@@ -128,8 +128,8 @@ impl Explained {
         }
     }
 
-    /// Tells in the same way of the services that no run of a test asked.
-    pub fn services(&mut self, text: Result<String, AllocError>)
+    /// Tells in the same way of what looks like a mistake in a test.
+    pub fn remarks(&mut self, text: Result<String, AllocError>)
         ensures { self.old ≡ Unasked → self.new ≡ Unasked }
     {
         if !self.is_asked() {

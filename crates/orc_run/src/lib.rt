@@ -25,6 +25,7 @@ mod searched;
 mod shown;
 mod tests;
 mod times;
+mod unanswered;
 mod unordered;
 mod witness;
 

@@ -36,12 +36,14 @@ use crate::output::{WriteFault, write_text};
 use crate::runner::run_source;
 use crate::scripts::{CaseScripts, all_scripts, script_at, unusual_lines, ways_of};
 use crate::searched::{Searcher, write_witness};
+use crate::unanswered::calls_never_answered;
 use orc_cases::Ways;
 use orc_claims::claim::{Claim, Plain};
 use orc_cli::{Options, Order, Shown, TestOptions, Wanted};
 use orc_engine::EngineFault;
 use orc_orders::{CaseTold, Run, TrialFault, Trials, try_again, try_ways};
 use orc_outcome::End;
+use orc_report::Page;
 use orc_rules::answers::Answers;
 use orc_site::read_script;
 use orc_syntax::parse;
@@ -596,8 +598,25 @@ impl<R: Threads + Wait + Sync> Tester<'_, '_, R> {
     }
 }
 
-// Tells of the services that no run asked, where the table is wanted and explanations are asked for.
-fn tell_services<'t, 'a, R: Threads + Sync>(
+// What looks like a mistake in a test: services that no run asked, and calls that no line answers.
+fn remarks<'t, 'a, R: Threads + Sync>(
+    rt: &R,
+    alloc: Global,
+    trials: &'t Trials<'t, 'a>,
+    test: &'t Test<'a>,
+    cases: &'t [CaseScripts],
+    workers: usize,
+) -> Result<String, AllocError> {
+    let services = services_never_asked(rt, alloc, trials, test, cases, workers)?;
+    let calls = calls_never_answered(alloc, trials, test, cases)?;
+    let mut page = Page::new(alloc);
+    page.say(services.as_str());
+    page.say(calls.as_str());
+    page.finish()
+}
+
+// Tells of what looks like a mistake, where the table is wanted and explanations are asked for.
+fn tell_remarks<'t, 'a, R: Threads + Sync>(
     rt: &R,
     alloc: Global,
     trials: &'t Trials<'t, 'a>,
@@ -609,7 +628,7 @@ fn tell_services<'t, 'a, R: Threads + Sync>(
     match options.shown {
         Shown::Table if explained.is_asked() => {
             let workers = options.workers as usize;
-            explained.services(services_never_asked(rt, alloc, trials, test, cases, workers));
+            explained.remarks(remarks(rt, alloc, trials, test, cases, workers));
         }
         _ => {}
     }
@@ -655,7 +674,7 @@ fn try_and_write<'t, 'a, R: Threads + Wait + Sync, W: Write>(
         searched: found,
     };
     let number = tester.write_test(cases, ways, &report, options, out)?;
-    tell_services(rt, alloc, trials, test, cases, options, explained);
+    tell_remarks(rt, alloc, trials, test, cases, options, explained);
     Ok(number)
 }
 
@@ -736,7 +755,7 @@ fn known_of<'a>(alloc: Global, text: &'a [u8], others: &Answers) -> Result<Test<
 /// way. Writes the names of the program and the test, a line for each claim, below one that fails what shows it, and the commands that show the first
 /// failure; or instead the script or the journal that shows one failure. That runs end by themselves is claimed in each case in which no claim says how
 /// they end, and has a line where it fails. Answers how many claims fail. Where explanations are asked for, the picture of the run stands below each
-/// failure, and `explained` tells which services no run asked.
+/// failure, and `explained` tells which services no run asked, and which calls no line answers.
 ///
 /// The faults are those of the source's text, of the script, of the test and of the source's names, in this order; `Engine` where the number of workers or
 /// the limit is out of range, or memory is refused for what is tried; `Write` where memory for the text is refused or the output isn't taken whole; and
