@@ -33,11 +33,14 @@ pub enum Happened<'e> {
 
 /// What is wanted of a run.
 pub trait Wanted {
-    /// How much of it has been seen after this happened, where so much had been before. None where this isn't to happen.
-    fn after(&self, seen: usize, happened: Happened<'_>) -> Option<usize>;
+    /// The time now, as far as times matter.
+    fn time(&self, now: u64) -> u64;
 
-    /// Whether a run is wanted that ends so after so much of it has been seen.
-    fn is_met(&self, seen: usize, end: End) -> bool;
+    /// How much of it has been seen after this happened at such a time, where so much had been before. None where this isn't to happen.
+    fn after(&self, seen: usize, time: u64, happened: Happened<'_>) -> Option<usize>;
+
+    /// Whether a run is wanted that ends so at such a time after so much of it has been seen.
+    fn is_met(&self, seen: usize, time: u64, end: End) -> bool;
 }
 
 // A call that was made on the way: where its entry stands, and a number of what was called.
@@ -133,25 +136,35 @@ impl Search<'_> {
         &self,
         wanted: &W,
         seen: usize,
+        time: u64,
         call: u64,
         answer: Answer,
     ) -> Option<usize> {
         let (site, args) = self.made(call)?;
-        wanted.after(seen, Happened::Answered(site, args, answer))
+        wanted.after(seen, time, Happened::Answered(site, args, answer))
     }
 
-    // How much has been seen after an entry. None where it isn't to be.
-    fn seen_after<W: Wanted>(&self, wanted: &W, seen: usize, entry: &Entry) -> Option<usize> {
+    // How much has been seen after an entry at such a time. None where it isn't to be.
+    fn seen_after<W: Wanted>(
+        &self,
+        wanted: &W,
+        seen: usize,
+        time: u64,
+        entry: &Entry,
+    ) -> Option<usize> {
         match entry {
-            Entry::Call(_, _, site, args) => { wanted.after(seen, Happened::Called(*site, args)) }
+            Entry::Call(_, _, site, args) => {
+                wanted.after(seen, time, Happened::Called(*site, args))
+            }
             Entry::Return(call, _, value) => self.answered(
                 wanted,
                 seen,
+                time,
                 *call,
                 Answer::Value(*value),
             ),
-            Entry::ReturnHalt(call) => self.answered(wanted, seen, *call, Answer::Halt),
-            Entry::Publish(_, value) => wanted.after(seen, Happened::Published(*value)),
+            Entry::ReturnHalt(call) => self.answered(wanted, seen, time, *call, Answer::Halt),
+            Entry::Publish(_, value) => wanted.after(seen, time, Happened::Published(*value)),
             _ => Some(seen),
         }
     }
@@ -252,13 +265,19 @@ impl Search<'_> {
     }
 
     // What a place looks like, as a number: its term, the calls that count and what was seen.
-    fn number_of(&self, marked: &Marked, counts: u64, seen: usize) -> Result<u64, AllocError> {
+    fn number_of(
+        &self,
+        marked: &Marked,
+        counts: u64,
+        seen: usize,
+        time: u64,
+    ) -> Result<u64, AllocError> {
         let mut called = Vec::new(self.alloc);
         for made in self.calls.as_slice() {
             called.push(made.called)?;
         }
         let form = Forms::new(self.alloc, self.program).of(marked, called.as_slice())?;
-        Ok(mix(mix(mix(1, form), counts), seen as u64))
+        Ok(mix(mix(mix(mix(1, form), counts), seen as u64), time))
     }
 
     // Goes on from a place to which the way has led: a new level of choices, unless it ends there or was there before.
@@ -269,21 +288,22 @@ impl Search<'_> {
         counts: u64,
         seen: usize,
     ) -> Result<Turn, AllocError> {
+        let time = wanted.time(marked.now());
         if marked.has_halted() {
-            return Ok(if wanted.is_met(seen, End::Halted) {
+            return Ok(if wanted.is_met(seen, time, End::Halted) {
                 Turn::Found
             } else {
                 Turn::More
             });
         }
-        let number = self.number_of(&marked, counts, seen)?;
+        let number = self.number_of(&marked, counts, seen, time)?;
         if self.known.contains_key(&number) {
             return Ok(Turn::More);
         }
         self.known.insert(number, ())?;
         let next = self.entries(&mut marked)?;
         if next.is_empty() {
-            return Ok(if wanted.is_met(seen, End::Quiet) {
+            return Ok(if wanted.is_met(seen, time, End::Quiet) {
                 Turn::Found
             } else {
                 Turn::More
@@ -314,7 +334,8 @@ impl Search<'_> {
         let mut marked = level.marked.copy(self.alloc)?;
         let counts = level.counts;
         let before = level.seen;
-        let Some(seen) = self.seen_after(wanted, before, &entry) else {
+        let time = wanted.time(marked.now());
+        let Some(seen) = self.seen_after(wanted, before, time, &entry) else {
             return Ok(Turn::More);
         };
         let from = marked.new_mark();

@@ -113,10 +113,24 @@ pub fn write_failing(
     text.extend_from_slice(line.as_bytes())
 }
 
-/// Writes what a claim saw of a run that a search found, and how that ended, where it found one. The error is refused memory.
+// Writes a time as far as a claim tells times apart: behind the last of them all are one.
+fn write_time(alloc: Global, time: u64, latest: u64, text: &mut Vec<u8>) -> Result<(), AllocError> {
+    if time < latest || latest == u64::MAX {
+        let at = format!(in alloc; "time {time}")?;
+        return text.extend_from_slice(at.as_bytes());
+    }
+    let before = latest.saturating_sub(1);
+    let behind = format!(in alloc; "a time over {before}")?;
+    text.extend_from_slice(behind.as_bytes())
+}
+
+/// Writes what a claim saw of a run that a search found, and how that ended, where it found one; with times where the claim tells some apart, which are up
+/// to the latest one. The error is refused memory.
 pub fn write_schedule(
+    alloc: Global,
     test: &Test<'_>,
     seen: Option<&Seen>,
+    latest: u64,
     text: &mut Vec<u8>,
 ) -> Result<(), AllocError> {
     let Some(seen) = seen else {
@@ -124,11 +138,19 @@ pub fn write_schedule(
     };
     text.extend_from_slice(MARGIN)?;
     text.extend_from_slice(b"saw: ")?;
-    for what in &seen.occurrences {
-        write_occurrence(test.sites.as_slice(), what, text)?;
+    for happening in &seen.happened {
+        if latest > 0 {
+            write_time(alloc, happening.time, latest, text)?;
+            text.extend_from_slice(b": ")?;
+        }
+        write_occurrence(test.sites.as_slice(), &happening.what, text)?;
         text.extend_from_slice(b", ")?;
     }
     text.extend_from_slice(word_of(seen.end).as_bytes())?;
+    if latest > 0 {
+        text.extend_from_slice(b" at ")?;
+        write_time(alloc, seen.now, latest, text)?;
+    }
     text.push(b'\n')?;
     Ok(())
 }

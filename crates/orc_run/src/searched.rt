@@ -363,6 +363,17 @@ impl Searcher<'_, '_> {
         Ok(said)
     }
 
+    /// Behind this time all times are one to such a search for a claim; 0 where the claim asks for none. The error is refused memory.
+    pub(crate) fn latest(&self, claim: usize) -> Result<u64, AllocError> {
+        let Some(claim) = self.trials.claims.get(claim) else {
+            return Ok(0);
+        };
+        match Watch::of_claim(self.alloc, claim)? {
+            Some(watch) => Ok(watch.latest()),
+            None => Ok(0),
+        }
+    }
+
     /// What such a search sees of a run that breaks a claim, in the way of this script; None where it finds none. The error is refused memory.
     pub(crate) fn see(&self, script: &[u8], claim: usize) -> Result<Option<Seen>, AllocError> {
         let Some(claim) = self.trials.claims.get(claim) else {

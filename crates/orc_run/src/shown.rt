@@ -48,7 +48,11 @@ struct Outcome<'o> {
 }
 
 impl Wanted for Outcome<'_> {
-    fn after(&self, seen: usize, happened: Happened<'_>) -> Option<usize> {
+    fn time(&self, _now: u64) -> u64 {
+        0
+    }
+
+    fn after(&self, seen: usize, _time: u64, happened: Happened<'_>) -> Option<usize> {
         let Happened::Published(value) = happened else {
             return Some(seen);
         };
@@ -58,7 +62,7 @@ impl Wanted for Outcome<'_> {
         }
     }
 
-    fn is_met(&self, seen: usize, end: End) -> bool {
+    fn is_met(&self, seen: usize, _time: u64, end: End) -> bool {
         seen == self.values.len() && end == self.end
     }
 }

@@ -325,7 +325,10 @@ impl<R: Threads + Sync> Tester<'_, '_, R> {
         if write_lines(self.alloc, number, lines, &mut text).is_err() {
             return Err(NO_TEXT);
         }
-        if write_schedule(test, seen.as_ref(), &mut text).is_err() {
+        let Ok(latest) = searcher.latest(claim) else {
+            return Err(NO_MEMORY);
+        };
+        if write_schedule(self.alloc, test, seen.as_ref(), latest, &mut text).is_err() {
             return Err(NO_TEXT);
         }
         Ok(text)

@@ -37,18 +37,27 @@ fn is_alike(one: &Occurrence, other: &Occurrence) -> bool {
 }
 
 impl Sighting<'_> {
-    fn after_what(&self, seen: usize, what: &Occurrence) -> Option<usize> {
+    fn after_what(&self, seen: usize, time: u64, what: &Occurrence) -> Option<usize> {
         if !self.watch.names(what) {
             return Some(seen);
         }
-        match self.seen.occurrences.get(seen) {
-            Some(next) if is_alike(next, what) => Some(seen.saturating_add(1)),
+        match self.seen.happened.get(seen) {
+            Some(next) if next.time == time && is_alike(&next.what, what) => {
+                Some(seen.saturating_add(1))
+            }
             _ => None,
         }
     }
 
     // After something became of a call of a site. A site that no claim names has the number of none.
-    fn after_call(&self, seen: usize, site: u32, args: &Args, phase: Phase) -> Option<usize> {
+    fn after_call(
+        &self,
+        seen: usize,
+        time: u64,
+        site: u32,
+        args: &Args,
+        phase: Phase,
+    ) -> Option<usize> {
         let mut number = 0_u32;
         for known in self.sites {
             if known.site == site && known.arguments == args.as_slice().len() {
@@ -56,26 +65,34 @@ impl Sighting<'_> {
             }
             number = number.saturating_add(1);
         }
-        self.after_what(seen, &Occurrence::Call(number, args.copied(), phase))
+        self.after_what(seen, time, &Occurrence::Call(number, args.copied(), phase))
     }
 }
 
 impl Wanted for Sighting<'_> {
-    fn after(&self, seen: usize, happened: Happened<'_>) -> Option<usize> {
+    fn time(&self, now: u64) -> u64 {
+        now.min(self.watch.latest())
+    }
+
+    fn after(&self, seen: usize, time: u64, happened: Happened<'_>) -> Option<usize> {
         match happened {
-            Happened::Called(site, args) => self.after_call(seen, site, args, Phase::Called),
+            Happened::Called(site, args) => {
+                self.after_call(seen, time, site, args, Phase::Called)
+            }
             Happened::Answered(site, args, Answer::Value(value)) => {
-                self.after_call(seen, site, args, Phase::Answered(value))
+                self.after_call(seen, time, site, args, Phase::Answered(value))
             }
             Happened::Answered(site, args, Answer::Halt) => {
-                self.after_call(seen, site, args, Phase::Halted)
+                self.after_call(seen, time, site, args, Phase::Halted)
             }
-            Happened::Published(value) => self.after_what(seen, &Occurrence::Published(value)),
+            Happened::Published(value) => {
+                self.after_what(seen, time, &Occurrence::Published(value))
+            }
         }
     }
 
-    fn is_met(&self, seen: usize, end: End) -> bool {
-        seen == self.seen.occurrences.len() && end == self.seen.end
+    fn is_met(&self, seen: usize, time: u64, end: End) -> bool {
+        seen == self.seen.happened.len() && time == self.seen.now && end == self.seen.end
     }
 }
 

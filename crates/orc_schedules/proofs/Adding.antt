@@ -29,7 +29,7 @@ use Rattle.orc_schedules.specs.Adding.{AddsOnly, IsAfterOne, IsWaited, AddsEnd, 
 use Rattle.orc_schedules.specs.Ends.{ComesFrom, AreFoundFrom, IsSaid}
 use Rattle.orc_schedules.specs.Growing.{Grows}
 use Rattle.orc_schedules.specs.Reached.{Reached, EndSeen, end_of}
-use Rattle.orc_schedules.specs.Seen.{Kept, is_unkept}
+use Rattle.orc_schedules.specs.Seen.{Kept, is_unkept, nothing_yet}
 use Rattle.orc_schedules.specs.Tables.{IsKnown, AreKnown, Keeps, LeadsTo, outcomes, outcome_at, reached, reached_at, coming_at, seen_at, after, waited, ending_if}
 use Rattle.orc_schedules.proofs.Growing.{or_else, grows_get, get_back, get_or_is, in_get, in_grows, in_map, of_map}
 use Rattle.orc_schedules.proofs.Keeping.{coming_kept, keeps_both, reached_kept, reached_grow, after_kept, term_kept, seen_kept}
@@ -163,7 +163,7 @@ same_ends t u keeps known same o is =
 module _ (defs : List SmallDefinition) (keep : Kept) (sites : List Site) where
   -- the first state, or one that comes from one before it
   abbrev IsFound : ℕ → State → List Reached → ℕ → Reached → Type 0
-  IsFound longest begin rs i r = ((r.0 ≡ begin) × (r.1 ≡ [])) ⊎ ComesFrom defs keep longest rs i r.0 r.1
+  IsFound longest begin rs i r = ((r.0 ≡ begin) × (r.1 ≡ nothing_yet)) ⊎ ComesFrom defs keep longest rs i r.0 r.1
 
   found_kept : (a b : ℕ) → a ≤ b → (begin : State) (rs us : List Reached) (i : ℕ) (r : Reached) → Grows rs us → IsFound a begin rs i r → IsFound b begin us i r
   found_kept a b le begin rs us i r g (inl e) = inl e
@@ -273,15 +273,15 @@ module _ (defs : List SmallDefinition) (keep : Kept) (sites : List Site) where
     go (inr m) = inr (subst (λ (r : Reached). ComesBy defs keep u.longest from r) (sym m.3) (one m.0 m.1 m.2))
 
   -- and what comes of it where it waits
-  pub waited_comes : (t u : Tables) (behind : ℕ) (k : Key) → LeadsTo defs keep sites t (record k { term = behind }) k.term → moves_now defs (small_at (smalls t.terms) k.term) ≡ false → AddsOnly sites (IsWaited sites t k u.longest) t u → AddsOnly sites (ComesBy defs keep u.longest (reached_at sites t (record k { term = behind }))) t u
+  pub waited_comes : (t u : Tables) (behind : ℕ) (k : Key) → LeadsTo defs keep sites t (record k { term = behind }) k.term → moves_now defs (small_at (smalls t.terms) k.term) ≡ false → AddsOnly sites (IsWaited keep sites t k u.longest) t u → AddsOnly sites (ComesBy defs keep u.longest (reached_at sites t (record k { term = behind }))) t u
   waited_comes t u behind k leads still adds i x h = go (adds i x h) where
     from : Reached
     from = reached_at sites t (record k { term = behind })
 
-    one : (by : ℕ) → by ≤ u.longest → some_time (least_left (small_at (smalls t.terms) k.term)) ≡ Some by → ComesBy defs keep u.longest from (waited sites t k by)
+    one : (by : ℕ) → by ≤ u.longest → some_time (least_left (small_at (smalls t.terms) k.term)) ≡ Some by → ComesBy defs keep u.longest from (waited keep sites t k by)
     one by le left = record { ahead = (reached_at sites t k).0; is = (leads, refl); sight = waits by; goes = (wait_passes defs (small_at (smalls t.terms) k.term) by still left, refl); shows = refl; short = le }
 
-    go : (slice_get t.states i ≡ Some x) ⊎ IsWaited sites t k u.longest (reached_at sites u x) → (slice_get t.states i ≡ Some x) ⊎ ComesBy defs keep u.longest from (reached_at sites u x)
+    go : (slice_get t.states i ≡ Some x) ⊎ IsWaited keep sites t k u.longest (reached_at sites u x) → (slice_get t.states i ≡ Some x) ⊎ ComesBy defs keep u.longest from (reached_at sites u x)
     go (inl old) = inl old
     go (inr m) = inr (subst (λ (r : Reached). ComesBy defs keep u.longest from r) (sym m.2) (one m.0 m.3 m.1))
 
@@ -306,7 +306,7 @@ module _ (defs : List SmallDefinition) (keep : Kept) (sites : List Site) where
       → AllZip (IsSuccessor (smalls terms)) next (moves defs (next_call (coming_at sites t k.made)) 0 (small_at (smalls t.terms) k.term)) → next ≡ []
       → AreKnown t → Keeps t u → AreKnown u → Keeps u w → AreKnown w → Keeps w v → IsKnown t k → IsIn (record k { term = behind }) t.states → LeadsTo defs keep sites t (record k { term = behind }) k.term
       → AddsOnly sites (IsAfterOne keep sites (record t { terms = terms }) k next) (record t { terms = terms }) u → u.ends ≡ t.ends
-      → AddsOnly sites (IsWaited sites u k w.longest) u w → w.ends ≡ u.ends
+      → AddsOnly sites (IsWaited keep sites u k w.longest) u w → w.ends ≡ u.ends
       → v.states ≡ w.states → AddsEnd (outcomes w) (ending_if true (small_at (smalls w.terms) k.term)) (seen_at w k.seen) (outcomes v)
       → AreFound defs keep begin sites t → AreFound defs keep begin sites v
   still_found begin t u w v behind k terms next all none known keeps known_u keeps_w known_w keeps_v is there leads adds ends waited ends_w states end found =

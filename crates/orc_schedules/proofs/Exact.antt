@@ -3,7 +3,6 @@ use Rattle.std.proofs.Common.{◌≡◌, ◌<◌, ◌*◌, ◌^◌, ℕ, List, [
 use Rattle.std.specs.Prelude.{slice_get}
 use Rattle.std.proofs.lemmas.List.{length-map}
 use Rattle.orc_claims.specs.declared.claim.Simple.{Simple}
-use Rattle.orc_claims.specs.declared.happening.Occurrence.{Occurrence}
 use Rattle.orc_tally.specs.declared.sight.ClaimSite.{ClaimSite}
 use Rattle.orc_rules.specs.Nodes.{Listing, source}
 use Rattle.orc_rules.specs.Sites.{Table}
@@ -24,7 +23,7 @@ use Rattle.orc_schedules.specs.Ends.{AreOfRuns, ComesFrom, IsSaid, IsSeenOfRun}
 use Rattle.orc_schedules.specs.Growing.{Grows}
 use Rattle.orc_schedules.specs.Lists.{list_at, lists}
 use Rattle.orc_schedules.specs.Reached.{Reached, EndSeen, first}
-use Rattle.orc_schedules.specs.Seen.{Kept, kept, values_of}
+use Rattle.orc_schedules.specs.Seen.{Kept, Past, kept, nothing_yet, values_of}
 use Rattle.orc_schedules.specs.Tables.{reached, reached_at, outcome_at, outcomes}
 use Rattle.orc_schedules.specs.Watch.{publications}
 use Rattle.orc_schedules.proofs.Adding.{get_map}
@@ -42,38 +41,38 @@ first_found defs keep l a t old term counts values ends none added is = record {
   no_calls : made_at t.counts 0 ≡ []
   no_calls = grows_or ([] ∷ []) t.counts 0 [] counts (omega arith)
 
-  begins : reached_at a.sites t key ≡ (first l a, [])
+  begins : reached_at a.sites t key ≡ (first l a, nothing_yet)
   begins = λ i. (record { term = get_or_is (smalls t.terms) term (small (source l)) nothing is i; coming = coming_of_made a.sites (no_calls i) }, list_at (lists (values i)) 0)
 
-  each : (i : ℕ) (s : State) (vs : List Occurrence) → slice_get (reached a.sites t) i ≡ Some (s, vs) → ((s ≡ first l a) × (vs ≡ [])) ⊎ ComesFrom defs keep t.longest (reached a.sites t) i s vs
+  each : (i : ℕ) (s : State) (vs : Past) → slice_get (reached a.sites t) i ≡ Some (s, vs) → ((s ≡ first l a) × (vs ≡ nothing_yet)) ⊎ ComesFrom defs keep t.longest (reached a.sites t) i s vs
   each i s vs h =
       let m = get_map (reached_at a.sites t) t.states i (s, vs) h in
       let only : m.by ≡ key = each_added (λ (k : Key). k ≡ key) old t.states key added (λ j k there. absurd (none_get old j k none there)) refl i m.by m.there in
-      let same : (s, vs) ≡ (first l a, []) = sym m.is ∙ ap (reached_at a.sites t) only ∙ begins in
+      let same : (s, vs) ≡ (first l a, nothing_yet) = sym m.is ∙ ap (reached_at a.sites t) only ∙ begins in
       inl (ap (λ (r : Reached). r.0) same, ap (λ (r : Reached). r.1) same)
 
   no_end : (o : EndSeen) → (x : Told) × IsIn x t.ends × (o ≡ outcome_at t x) → IsSaid defs keep (reached a.sites t) o
   no_end o m = let none_in : IsIn m.0 [] = subst (λ (es : List Told). IsIn m.0 es) ends m.1 in elim none_in [ ]
 
 -- each end that a search tells is that of a run, where all that it found comes from the first state
-pub end_of_run : (l : Listing) (a : Table) (names : List Simple) (sites : List ClaimSite) (t : Tables) → AreFound (small_definitions l) (kept names sites) (first l a) a.sites t → length t.states * t.longest < 2 ^ 64
-    → (o : EndSeen) → IsIn o (outcomes t) → IsSeenOfRun l a names sites o
-end_of_run l a names sites t found fits o is =
+pub end_of_run : (l : Listing) (a : Table) (names : List Simple) (sites : List ClaimSite) (last : ℕ) (t : Tables) → AreFound (small_definitions l) (kept names sites last) (first l a) a.sites t → length t.states * t.longest < 2 ^ 64
+    → (o : EndSeen) → IsIn o (outcomes t) → IsSeenOfRun l a names sites last o
+end_of_run l a names sites last t found fits o is =
     let many : length (reached a.sites t) ≡ length t.states = length-map t.states (reached_at a.sites t) in
     let fits' : length (reached a.sites t) * t.longest < 2 ^ 64 = subst (λ (n : ℕ). n * t.longest < 2 ^ 64) (sym many) fits in
-    found_are_of_runs l a names sites t.longest (reached a.sites t) o found.states fits' (found.ends o is)
+    found_are_of_runs l a names sites last t.longest (reached a.sites t) o found.states fits' (found.ends o is)
 
 -- so are those that it lists
-pub of_runs : (l : Listing) (a : Table) (t : Tables) (es : List Ended) → AreFound (small_definitions l) (kept publications []) (first l a) a.sites t → length t.states * t.longest < 2 ^ 64 → map outcome_of es ≡ map shown_of (outcomes t)
+pub of_runs : (l : Listing) (a : Table) (t : Tables) (es : List Ended) → AreFound (small_definitions l) (kept publications [] 0) (first l a) a.sites t → length t.states * t.longest < 2 ^ 64 → map outcome_of es ≡ map shown_of (outcomes t)
     → AreOfRuns l a es
 of_runs l a t es found fits told e is =
     let there : IsIn {X = Outcome} (outcome_of e) (map shown_of (outcomes t)) = subst (λ (os : List Outcome). IsIn {X = Outcome} (outcome_of e) os) told (in_map outcome_of e es is) in
     let m = of_map shown_of (outcome_of e) (outcomes t) there in
-    let r = end_of_run l a publications [] t found fits m.0 m.1 in
+    let r = end_of_run l a publications [] 0 t found fits m.0 m.1 in
     record {
       limit = r.limit;
       outcome = r.outcome;
       run = r.run;
       end = r.end ∙ sym (ap (λ (o : Outcome). o.0) m.2);
-      shows = sym (published_seen [] r.outcome.journal) ∙ ap values_of r.shows ∙ sym (ap (λ (o : Outcome). o.1) m.2);
+      shows = sym (published_seen [] 0 r.outcome.journal r.outcome.now) ∙ ap values_of r.shows ∙ sym (ap (λ (o : Outcome). o.1) m.2);
     }

@@ -2,7 +2,6 @@
 use Rattle.std.proofs.Common.{◌≡◌, ◌<◌, ◌≤◌, ℕ, zero, suc, List, [], ◌∷◌, ◌++◌, length, map, Some, None, ◌⊎◌, Bool, true, false, refl, sym, ap, ◌∙◌, subst, inl, inr, arith, below_more, ◌+◌}
 use Rattle.std.specs.Prelude.{slice_get, cond, not}
 use Rattle.std.specs.List.{AllZip}
-use Rattle.orc_claims.specs.declared.happening.Occurrence.{Occurrence}
 use Rattle.orc_rules.specs.Sites.{Site}
 use Rattle.orc_rules.specs.Timed.{IsIn}
 use Rattle.orc_outcome.specs.declared.end.End.{End}
@@ -26,7 +25,7 @@ use Rattle.orc_schedules.specs.declared.tables.Tables.{Tables}
 use Rattle.orc_schedules.specs.Growing.{Grows}
 use Rattle.orc_schedules.specs.Lists.{lists}
 use Rattle.orc_schedules.specs.Reached.{Reached, EndSeen, end_of}
-use Rattle.orc_schedules.specs.Seen.{Kept, seen_after}
+use Rattle.orc_schedules.specs.Seen.{Kept, Past, nothing_yet, seen_after}
 use Rattle.orc_schedules.specs.Tables.{IsKnown, AreKnown, seen_at, coming_at, reached_at, reached, outcome_at, outcomes, Keeps, after, IsDone, IsLookedAt, waited, ending_if}
 use Rattle.orc_schedules.proofs.Growing.{or_else, grows_self, grows_both, grows_len, grows_or, get_or_is, in_grows, in_map, each_added}
 use Rattle.orc_schedules.proofs.Waits.{moving_waits, moving_ends, still_waits, still_ends}
@@ -76,7 +75,7 @@ map_grows : {X Y : Type 0} (f : X → Y) (xs ys : List X) → Grows xs ys → Gr
 map_grows f xs ys g = (map f g.0, ap (map f) g.1 ∙ map_both f xs g.0)
 
 pub seen_kept : (t u : Tables) (i : ℕ) → Keeps t u → i < length (lists t.lists) → seen_at u i ≡ seen_at t i
-seen_kept t u i keeps lt = grows_or (lists t.lists) (lists u.lists) i [] keeps.lists lt
+seen_kept t u i keeps lt = grows_or (lists t.lists) (lists u.lists) i nothing_yet keeps.lists lt
 
 pub term_kept : (t u : Tables) (i : ℕ) → Keeps t u → i < length (smalls t.terms) → small_at (smalls u.terms) i ≡ small_at (smalls t.terms) i
 term_kept t u i keeps lt = grows_or (smalls t.terms) (smalls u.terms) i nothing keeps.terms lt
@@ -184,7 +183,7 @@ module _ (defs : List SmallDefinition) (keep : Kept) (sites : List Site) (t : Ta
       record {
         followed = moving_followed u v some known more followed;
         waits = λ by h. absurd (moving_waits defs ask 0 f by (moving some) h);
-        told = λ e h. subst (λ (vs : List Occurrence). IsIn {X = EndSeen} (end_of e, vs) (outcomes v)) (seen_kept t u k.seen keeps is.2)
+        told = λ e h. subst (λ (vs : Past). IsIn {X = EndSeen} (end_of e, vs) (outcomes v)) (seen_kept t u k.seen keeps is.2)
             (told e (ap (ending_if false) (term_kept t u k.term keeps is.0) ∙ moving_ends defs ask 0 f e (moving some) h));
       }
 
@@ -195,7 +194,7 @@ module _ (defs : List SmallDefinition) (keep : Kept) (sites : List Site) (t : Ta
   no_item none i s h = let e : slice_get [] i ≡ Some s = ap (λ (l : List Successor). slice_get l i) (sym none) ∙ h in cc e
 
   module _ (u w : Tables) (none : next ≡ []) (keeps : Keeps t u) (is : IsKnown t k)
-      (waiting : (sites : List Site) (by : ℕ) → some_time (least_left (small_at (smalls u.terms) k.term)) ≡ Some by → (by ≤ w.longest) × IsIn {X = Reached} (waited sites u k by) (reached sites w)) where
+      (waiting : (sites : List Site) (by : ℕ) → some_time (least_left (small_at (smalls u.terms) k.term)) ≡ Some by → (by ≤ w.longest) × IsIn {X = Reached} (waited keep sites u k by) (reached sites w)) where
     time_there : (by : ℕ) → wait defs (small_at (smalls t.terms) k.term) ≡ Some by → some_time (least_left (small_at (smalls u.terms) k.term)) ≡ Some by
     time_there by h =
         ap (λ (g : Small). some_time (least_left g)) (term_kept t u k.term keeps is.0)
@@ -209,15 +208,15 @@ module _ (defs : List SmallDefinition) (keep : Kept) (sites : List Site) (t : Ta
         let there = (waiting sites by (time_there by p.0)).1 in
         let term : pass by (small_at (smalls u.terms) k.term) ≡ s.term = ap (pass by) (term_kept t u k.term keeps is.0) ∙ sym p.1 in
         let coming : coming_at sites u k.made ≡ s.coming = coming_kept keep sites t u k.made keeps is.1 ∙ sym g.1 in
-        in_grows (s, seen_at t k.seen) (reached sites w) (reached sites v) (reached_grow keep sites w v more known)
-        (subst (λ (r : Reached). IsIn {X = Reached} r (reached sites w)) (λ i. (record { term = term i; coming = coming i }, seen_kept t u k.seen keeps is.2 i)) there)
+        in_grows (s, seen_after keep (seen_at t k.seen) (waits by)) (reached sites w) (reached sites v) (reached_grow keep sites w v more known)
+        (subst (λ (r : Reached). IsIn {X = Reached} r (reached sites w)) (λ i. (record { term = term i; coming = coming i }, seen_after keep (seen_kept t u k.seen keeps is.2 i) (waits by))) there)
 
     pub still_done : (v : Tables) → Keeps t w → AreKnown w → Keeps w v → ((e : Ending) → ending_if true (small_at (smalls w.terms) k.term) ≡ Some e → IsIn {X = EndSeen} (end_of e, seen_at w k.seen) (outcomes v))
         → IsDone defs keep (reached sites v) v.longest (outcomes v) (reached_at sites t k)
     still_done v keeps' known more told = record {
       followed = still_followed v known more;
       waits = λ by h. let le = (waiting sites by (time_there by h)).0 in let further = more.longest in omega (arith, le, further);
-      told = λ e h. subst (λ (vs : List Occurrence). IsIn {X = EndSeen} (end_of e, vs) (outcomes v)) (seen_kept t w k.seen keeps' is.2)
+      told = λ e h. subst (λ (vs : Past). IsIn {X = EndSeen} (end_of e, vs) (outcomes v)) (seen_kept t w k.seen keeps' is.2)
           (told e (ap (ending_if true) (term_kept t w k.term keeps' is.0) ∙ sym (still_ends defs (next_call (coming_at sites t k.made)) 0 (small_at (smalls t.terms) k.term) (still none)) ∙ h));
     }
 

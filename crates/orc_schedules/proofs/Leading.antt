@@ -2,6 +2,7 @@
 use Rattle.std.proofs.Common.{◌≡◌, ◌<◌, ℕ, List, [], ◌∷◌, ◌++◌, length, true, refl, sym, ap, ◌∙◌, subst, arith, length-append}
 use Rattle.std.specs.Prelude.{slice_get}
 use Rattle.orc_rules.specs.Sites.{Site}
+use Rattle.orc_claims.specs.declared.happening.Happening.{Happening as Told_of}
 use Rattle.orc_claims.specs.declared.happening.Occurrence.{Occurrence}
 use Rattle.orc_search.specs.declared.successor.Successor.{Successor}
 use Rattle.orc_search.specs.Asked.{coming_of_made}
@@ -18,15 +19,16 @@ use Rattle.orc_schedules.specs.declared.told.Told.{Told}
 use Rattle.orc_schedules.specs.Counts.{made_at}
 use Rattle.orc_schedules.specs.Lists.{list_at, lists}
 use Rattle.orc_schedules.specs.Reached.{Reached}
-use Rattle.orc_schedules.specs.Seen.{Kept, is_nothing, is_unkept, seen_after}
+use Rattle.orc_schedules.specs.Seen.{Kept, Past, is_nothing, is_unkept, seen_after}
 use Rattle.orc_schedules.specs.Tables.{AreKnown, IsKnown, Keeps, IsDone, IsLookedAt, LeadsTo, coming_at, outcomes, reached, reached_at, seen_at}
+use Rattle.orc_schedules.specs.Watch.{all_at}
 use Rattle.orc_schedules.proofs.Adding.{leads_kept}
 use Rattle.orc_schedules.proofs.Growing.{grows_len}
 use Rattle.orc_schedules.proofs.Keeping.{coming_kept, known_kept, reached_kept, seen_kept}
 
-adds_nothing : (ws us : List Occurrence) → ws ++ us ≡ ws → is_nothing us ≡ true
-adds_nothing ws [] e = refl
-adds_nothing ws (u ∷ us) e = let l = ap length e in absurd (omega (arith, l, length-append ws (u ∷ us)))
+adds_nothing : (hs : List Told_of) (now : ℕ) (us : List Occurrence) → hs ++ all_at now us ≡ hs → is_nothing us ≡ true
+adds_nothing hs now [] e = refl
+adds_nothing hs now (u ∷ us) e = let l = ap length e in absurd (omega (arith, l, length-append hs (all_at now (u ∷ us))))
 
 -- the numbers of states and ends are known, where more was added to the other tables
 pub known_all : (t u : Tables) → Keeps t u → u.states ≡ t.states → u.ends ≡ t.ends → AreKnown t → AreKnown u
@@ -40,7 +42,7 @@ module _ (keep : Kept) (sites : List Site) where
   pub is_hidden : (t u : Tables) (k : Key) (made seen : ℕ) (h : Happening) → Keeps t u → IsKnown t k → made ≡ k.made → seen ≡ k.seen
       → coming_of_made sites (made_at u.counts made) ≡ coming_after h (coming_at sites t k.made) → list_at (lists u.lists) seen ≡ seen_after keep (seen_at t k.seen) (happens h) → IsHidden (is_unkept keep) (coming_at sites t k.made) h
   is_hidden t u k made seen h keeps known same_made same_seen coming list = (
-    adds_nothing (seen_at t k.seen) (keep h) (sym list ∙ ap (seen_at u) same_seen ∙ seen_kept t u k.seen keeps known.2),
+    adds_nothing (Past.happened (seen_at t k.seen)) (Past.now (seen_at t k.seen)) (keep.of h) (ap Past.happened (sym list ∙ ap (seen_at u) same_seen ∙ seen_kept t u k.seen keeps known.2)),
     sym coming ∙ ap (coming_at sites u) same_made ∙ coming_kept keep sites t u k.made keeps known.1,
   )
 

@@ -25,7 +25,7 @@ use Rattle.orc_schedules.specs.Lists.{list_at, lists}
 use Rattle.orc_schedules.specs.Counts.{made_at}
 use Rattle.orc_schedules.specs.Adding.{Outcome, outcome_of, shown_of}
 use Rattle.orc_schedules.specs.Reached.{Reached, IsAmong, first, AreAll, AreAllSeen}
-use Rattle.orc_schedules.specs.Seen.{Kept, kept, seen_of, values_of}
+use Rattle.orc_schedules.specs.Seen.{Kept, kept, nothing_yet, seen_of, values_of}
 use Rattle.orc_schedules.specs.Tables.{AreKnown, IsKnown, AreDone, IsLookedAt, Keeps, reached, reached_at, outcome_at, outcomes}
 use Rattle.orc_schedules.specs.Watch.{publications}
 use Rattle.orc_schedules.proofs.Journals.{published_seen}
@@ -79,26 +79,26 @@ module _ (defs : List SmallDefinition) (keep : Kept) (sites : List Site) where
       subst (λ (x : Reached). IsLookedAt defs keep (reached sites t) t.longest (outcomes t) x) (sym o.2) (done g.0 o.0 (within t.states g.0 o.0 g.1) g.1)
 
 -- so the ends are all that there are
-pub whole : (l : Listing) (a : Table) (names : List Simple) (sites : List ClaimSite) (limit : ℕ) (t : Tables) → AreDone (small_definitions l) (kept names sites) a.sites t (length t.states) → IsIn {X = Reached} (first l a, []) (reached a.sites t)
-    → suc limit * t.longest < 2 ^ 64 → AreAllSeen l a names sites limit (outcomes t)
-whole l a names sites limit t done there time =
-    let each = all_done (small_definitions l) (kept names sites) a.sites t done in
-    all_are_found l a names sites limit t.longest (reached a.sites t) (outcomes t) each there time
+pub whole : (l : Listing) (a : Table) (names : List Simple) (sites : List ClaimSite) (last limit : ℕ) (t : Tables) → AreDone (small_definitions l) (kept names sites last) a.sites t (length t.states) → IsIn {X = Reached} (first l a, nothing_yet) (reached a.sites t)
+    → suc limit * t.longest < 2 ^ 64 → AreAllSeen l a names sites last limit (outcomes t)
+whole l a names sites last limit t done there time =
+    let each = all_done (small_definitions l) (kept names sites last) a.sites t done in
+    all_are_found l a names sites last limit t.longest (reached a.sites t) (outcomes t) each there time
 
 -- and what they published all that there is
-pub whole_shown : (l : Listing) (a : Table) (limit : ℕ) (t : Tables) (es : List Ended) → AreAllSeen l a publications [] limit (outcomes t) → map outcome_of es ≡ map shown_of (outcomes t) → AreAll l a limit es
+pub whole_shown : (l : Listing) (a : Table) (limit : ℕ) (t : Tables) (es : List Ended) → AreAllSeen l a publications [] 0 limit (outcomes t) → map outcome_of es ≡ map shown_of (outcomes t) → AreAll l a limit es
 whole_shown l a limit t es all told o run ended =
-    let there : IsIn {X = Outcome} (o.end, values_of (seen_of publications [] o.journal)) (map shown_of (outcomes t)) = in_map shown_of (o.end, seen_of publications [] o.journal) (outcomes t) (all o run ended) in
-    among es o.end (published o.journal) (subst (λ (vs : List Value). IsIn {X = Outcome} (o.end, vs) (map outcome_of es)) (published_seen [] o.journal)
-    (subst (λ (os : List Outcome). IsIn {X = Outcome} (o.end, values_of (seen_of publications [] o.journal)) os) (sym told) there))
+    let there : IsIn {X = Outcome} (o.end, values_of (seen_of publications [] 0 o.journal o.now)) (map shown_of (outcomes t)) = in_map shown_of (o.end, seen_of publications [] 0 o.journal o.now) (outcomes t) (all o run ended).0 in
+    among es o.end (published o.journal) (subst (λ (vs : List Value). IsIn {X = Outcome} (o.end, vs) (map outcome_of es)) (published_seen [] 0 o.journal o.now)
+    (subst (λ (os : List Outcome). IsIn {X = Outcome} (o.end, values_of (seen_of publications [] 0 o.journal o.now)) os) (sym told) there))
 
 -- the first state is there
 pub first_there : (keep : Kept) (l : Listing) (a : Table) (t u : Tables) (term : ℕ) → Grows ([] ∷ []) t.counts → t.lists ≡ record { calls = []; longer = [] } → slice_get (smalls t.terms) term ≡ Some (small (source l)) → IsIn (record { term = term; made = 0; seen = 0 }) t.states → Keeps t u → AreKnown t
-    → IsIn {X = Reached} (first l a, []) (reached a.sites u)
+    → IsIn {X = Reached} (first l a, nothing_yet) (reached a.sites u)
 first_there keep l a t u term counts values is there keeps known =
     let key : Key = record { term = term; made = 0; seen = 0 } in
     let none : made_at t.counts 0 ≡ [] = grows_or ([] ∷ []) t.counts 0 [] counts (omega arith) in
-    in_grows (first l a, []) (reached a.sites t) (reached a.sites u) (reached_grow keep a.sites t u keeps known)
+    in_grows (first l a, nothing_yet) (reached a.sites t) (reached a.sites u) (reached_grow keep a.sites t u keeps known)
     (subst (λ (r : Reached). IsIn {X = Reached} r (reached a.sites t)) (λ i. (record { term = get_or_is (smalls t.terms) term (small (source l)) nothing is i; coming = coming_of_made a.sites (none i) }, list_at (lists (values i)) 0))
     (in_map (reached_at a.sites t) key t.states there))
 

@@ -5,7 +5,6 @@ use Rattle.orc_rules.specs.Sites.{Site}
 use Rattle.orc_rules.specs.Timed.{IsIn}
 use Rattle.orc_claims.specs.Claims.{holds}
 use Rattle.orc_claims.specs.declared.claim.Claim.{Claim}
-use Rattle.orc_claims.specs.declared.happening.Occurrence.{Occurrence}
 use Rattle.orc_outcome.specs.declared.end.End.{End}
 use Rattle.orc_search.specs.declared.successor.Successor.{Successor}
 use Rattle.orc_search.specs.Early.{IsAhead}
@@ -20,9 +19,9 @@ use Rattle.orc_schedules.specs.declared.states.Key.{Key}
 use Rattle.orc_schedules.specs.declared.tables.Tables.{Tables}
 use Rattle.orc_schedules.specs.Ends.{AreFoundFrom, IsSaid, time_of}
 use Rattle.orc_schedules.specs.Reached.{Reached, EndSeen, end_of}
-use Rattle.orc_schedules.specs.Seen.{Kept, is_unkept, seen_after, values_of}
+use Rattle.orc_schedules.specs.Seen.{Kept, Past, is_unkept, seen_after, values_of}
 use Rattle.orc_schedules.specs.Tables.{outcomes, reached, reached_at, after, waited}
-use Rattle.orc_schedules.specs.Watch.{state_of_end, untimed}
+use Rattle.orc_schedules.specs.Watch.{state_of_end}
 
 -- an outcome: how a run ended, and what it published
 abbrev pub Outcome : Type 0
@@ -38,11 +37,11 @@ shown_of o = (o.0, values_of o.1)
 
 -- an end with what was seen
 abbrev pub end_seen : Seen → EndSeen
-end_seen s = (s.end, s.occurrences.items)
+end_seen s = (s.end, record { happened = s.happened.items; now = s.now })
 
 -- whether a claim holds where a run ended so, of which this was seen
 abbrev pub holds_by : Claim → EndSeen → Bool
-holds_by c o = holds c (untimed o.1) (state_of_end o.0) 0
+holds_by c o = holds c o.1.happened (state_of_end o.0) o.1.now
 
 -- each state of u stands in t, or is such a one
 abbrev pub AddsOnly : List Site → (Reached → Type 0) → Tables → Tables → Type 0
@@ -53,12 +52,12 @@ abbrev pub IsAfterOne : Kept → List Site → Tables → Key → List Successor
 IsAfterOne keep sites t k next r = (i : ℕ) × (s : Successor) × (slice_get next i ≡ Some s) × (r ≡ after keep sites t k s)
 
 -- what a state becomes once the time has passed that a call has left in it, no longer than this
-abbrev pub IsWaited : List Site → Tables → Key → ℕ → Reached → Type 0
-IsWaited sites t k longest r = (by : ℕ) × (some_time (least_left (small_at (smalls t.terms) k.term)) ≡ Some by) × (r ≡ waited sites t k by) × (by ≤ longest)
+abbrev pub IsWaited : Kept → List Site → Tables → Key → ℕ → Reached → Type 0
+IsWaited keep sites t k longest r = (by : ℕ) × (some_time (least_left (small_at (smalls t.terms) k.term)) ≡ Some by) × (r ≡ waited keep sites t k by) × (by ≤ longest)
 
 -- each outcome of us is among os, or is this end with this seen
-abbrev pub AddsEnd : List EndSeen → Option Ending → List Occurrence → List EndSeen → Type 0
-AddsEnd os end ws us = (o : EndSeen) → IsIn o us → IsIn o os ⊎ ((e : Ending) × (end ≡ Some e) × (o ≡ (end_of e, ws)))
+abbrev pub AddsEnd : List EndSeen → Option Ending → Past → List EndSeen → Type 0
+AddsEnd os end p us = (o : EndSeen) → IsIn o us → IsIn o os ⊎ ((e : Ending) × (end ≡ Some e) × (o ≡ (end_of e, p)))
 
 -- a state to which early steps lead from the first one goes to the second, in no more time than this
 pub record ComesBy (defs : List SmallDefinition) (keep : Kept) (longest : ℕ) (r s : Reached) : Type 0 where

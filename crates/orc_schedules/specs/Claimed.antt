@@ -9,7 +9,8 @@ use Rattle.orc_tally.specs.Sight.{renumbered}
 use Rattle.orc_tally.specs.declared.sight.ClaimSite.{ClaimSite}
 use Rattle.orc_outcome.specs.Outcome.{Outcome, IsRun}
 use Rattle.orc_schedules.specs.Reached.{HasEnded}
-use Rattle.orc_schedules.specs.Watch.{named, occurred, state_of_end, watched}
+use Rattle.orc_schedules.specs.Seen.{seen_of}
+use Rattle.orc_schedules.specs.Watch.{latest_of, state_of_end, watched}
 use Rattle.orc_schedules.specs.declared.claimed.ClaimSearched.{ClaimSearched}
 use Rattle.orc_schedules.specs.declared.claimed.ClaimSearched.TheVariants.{Holds, Fails, TooMany, TooLong, NotWatched}
 use Rattle.orc_schedules.specs.declared.claimed.Seen.{Seen}
@@ -18,14 +19,14 @@ use Rattle.orc_schedules.specs.declared.claimed.Seen.{Seen}
 abbrev pub HoldsInAll : Listing → Table → List ClaimSite → Claim → ℕ → Type 0
 HoldsInAll l t sites c limit = (o : Outcome) → IsRun l t limit o → HasEnded o.end → holds c (happenings (map (renumbered sites) o.journal)) (state_of_end o.end) o.now ≡ true
 
--- it fails in a run that ended so, within a limit that is high enough, and of what it names this happened there
+-- it fails in a run that ended so, within a limit that is high enough, and of what it names this happened there, with times as far as it tells them apart
 pub record FailsInOne (l : Listing) (t : Table) (sites : List ClaimSite) (c : Claim) (s : Seen) : Type 0 where
   pub limit : ℕ
   pub outcome : Outcome
   pub run : IsRun l t limit outcome
   pub end : outcome.end ≡ s.end
   pub fails : holds c (happenings (map (renumbered sites) outcome.journal)) (state_of_end outcome.end) outcome.now ≡ false
-  pub seen : named (watched c) (occurred (happenings (map (renumbered sites) outcome.journal))) ≡ s.occurrences.items
+  pub seen : seen_of (watched c) sites (latest_of c) outcome.journal outcome.now ≡ record { happened = s.happened.items; now = s.now }
 
 -- the claim holds in all runs, or fails in this one, or the search came to a bound, or can't watch for it
 abbrev pub IsClaimSearched : Listing → Table → List ClaimSite → Claim → ℕ → ClaimSearched → Type 0

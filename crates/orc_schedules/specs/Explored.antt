@@ -15,7 +15,7 @@ use Rattle.orc_schedules.specs.Adding.{AreFound, end_seen, holds_by}
 use Rattle.orc_schedules.specs.Growing.{Grows}
 use Rattle.orc_schedules.specs.Listed.{AreListed}
 use Rattle.orc_schedules.specs.Reached.{Reached, EndSeen, first}
-use Rattle.orc_schedules.specs.Seen.{Kept}
+use Rattle.orc_schedules.specs.Seen.{Kept, nothing_yet}
 use Rattle.orc_schedules.specs.Tables.{AreDone, outcomes, reached}
 
 -- what an explorer explores
@@ -34,7 +34,7 @@ pub record IsExplorer (e : Explorer) : Type 0 where
 
 -- the first state is there, the others come of it, and where these are all, all that may come of each is there
 pub record IsExplored (l : Listing) (t : Table) (keep : Kept) (u : Tables) (all : Bool) : Type 0 where
-  pub there : IsIn {X = Reached} (first l t, []) (reached t.sites u)
+  pub there : IsIn {X = Reached} (first l t, nothing_yet) (reached t.sites u)
   pub found : AreFound (small_definitions l) keep (first l t) t.sites u
   pub done : all ≡ true → AreDone (small_definitions l) keep t.sites u (length u.states)
 

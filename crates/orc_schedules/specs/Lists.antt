@@ -5,7 +5,9 @@ use Rattle.orc_claims.specs.declared.happening.Occurrence.{Occurrence}
 use Rattle.orc_claims.specs.declared.happening.Occurrence.TheVariants as occurrence
 use Rattle.orc_schedules.specs.declared.lists.Longer.{Longer}
 use Rattle.orc_schedules.specs.declared.lists.What.{What}
-use Rattle.orc_schedules.specs.declared.lists.What.TheVariants.{Published, Call}
+use Rattle.orc_schedules.specs.declared.lists.What.TheVariants.{Published, Call, Nothing}
+use Rattle.orc_schedules.specs.Seen.{Past, nothing_yet}
+use Rattle.orc_schedules.specs.Watch.{all_at}
 
 -- what became of calls by numbers, and of what each list is made but the empty one
 pub record Linked : Type 0 where
@@ -13,24 +15,26 @@ pub record Linked : Type 0 where
   pub longer : List Longer
 
 -- the list of a number, and the empty one where there is none
-abbrev pub list_at : List (List Occurrence) → ℕ → List Occurrence
-list_at ls i = slice_index_or ls i []
+abbrev pub list_at : List Past → ℕ → Past
+list_at ls i = slice_index_or ls i nothing_yet
 
-abbrev pub what_of : List Occurrence → What → Occurrence
-what_of calls (Published v) = occurrence.Published v
-what_of calls (Call n) = slice_index_or calls n (occurrence.Published Signal)
+-- where only time passes nothing is seen
+abbrev pub what_of : List Occurrence → What → List Occurrence
+what_of calls (Published v) = occurrence.Published v ∷ []
+what_of calls (Call n) = slice_index_or calls n (occurrence.Published Signal) ∷ []
+what_of calls Nothing = []
 
--- a list with one thing more
-abbrev pub list_of : List Occurrence → List (List Occurrence) → Longer → List Occurrence
-list_of calls ls x = list_at ls x.before ++ what_of calls x.what ∷ []
+-- a list with one thing more, at this time
+abbrev pub list_of : List Occurrence → List Past → Longer → Past
+list_of calls ls x = record { happened = (list_at ls x.before).happened ++ all_at x.now (what_of calls x.what); now = x.now }
 
-abbrev pub lists_from : List Occurrence → List (List Occurrence) → List Longer → List (List Occurrence)
+abbrev pub lists_from : List Occurrence → List Past → List Longer → List Past
 lists_from calls ls [] = ls
 lists_from calls ls (x ∷ xs) = lists_from calls (ls ++ list_of calls ls x ∷ []) xs
 
--- the lists in the order of their numbers: the empty one, and each other behind the one that it is longer than
-abbrev pub lists : Linked → List (List Occurrence)
-lists l = lists_from l.calls ([] ∷ []) l.longer
+-- the lists in the order of their numbers: the empty one at time 0, and each other behind the one that it is longer than
+abbrev pub lists : Linked → List Past
+lists l = lists_from l.calls (nothing_yet ∷ []) l.longer
 
 abbrev pub AreBehind : List Longer → Type 0
 AreBehind xs = (i : ℕ) (x : Longer) → slice_get xs i ≡ Some x → x.before ≤ i
@@ -39,6 +43,7 @@ AreBehind xs = (i : ℕ) (x : Longer) → slice_get xs i ≡ Some x → x.before
 abbrev pub IsMade : ℕ → What → Type 0
 IsMade n (Published v) = Unit {0}
 IsMade n (Call k) = k < n
+IsMade n Nothing = Unit {0}
 
 abbrev pub AreMade : List Occurrence → List Longer → Type 0
 AreMade calls xs = (i : ℕ) (x : Longer) → slice_get xs i ≡ Some x → IsMade (length calls) x.what

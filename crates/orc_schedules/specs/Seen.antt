@@ -1,11 +1,13 @@
 -- What a search keeps of what happens.
-use Rattle.std.specs.Prelude.{ℕ, List, [], ◌∷◌, ◌++◌, length, map, Bool, true, false}
+use Rattle.std.specs.Prelude.{ℕ, ◌+◌, min, List, [], ◌∷◌, ◌++◌, length, map, Bool, true, false}
 use Rattle.orc_rules.specs.declared.entry.Entry.{Entry}
 use Rattle.orc_rules.specs.declared.value.Answer.{Answer}
 use Rattle.orc_rules.specs.declared.value.Answer.TheVariants as answer
 use Rattle.orc_rules.specs.declared.value.Value.{Value}
+use Rattle.orc_claims.specs.Claims.{published as all_published}
 use Rattle.orc_claims.specs.Happenings.{happenings}
 use Rattle.orc_claims.specs.declared.claim.Simple.{Simple}
+use Rattle.orc_claims.specs.declared.happening.Happening.{Happening as Told}
 use Rattle.orc_claims.specs.declared.happening.Occurrence.{Occurrence}
 use Rattle.orc_claims.specs.declared.happening.Occurrence.TheVariants as what
 use Rattle.orc_claims.specs.declared.happening.Phase.{Phase}
@@ -16,11 +18,21 @@ use Rattle.orc_search.specs.Moves.{Happening, called, answered, published, unsee
 use Rattle.orc_search.specs.States.{Sight, happens, waits}
 use Rattle.orc_schedules.specs.declared.sieve.Sieve.{Sieve}
 use Rattle.orc_schedules.specs.declared.sieve.Sieve.TheVariants.{Publications, Named}
-use Rattle.orc_schedules.specs.Watch.{named, occurred, publications}
+use Rattle.orc_schedules.specs.Watch.{all_at, named, named_until, publications}
 
--- what is kept of what happens
-abbrev pub Kept : Type 0
-Kept = Happening → List Occurrence
+-- what is kept of what happens, and the time behind which all times are one
+pub record Kept : Type 0 where
+  pub of : Happening → List Occurrence
+  pub latest : ℕ
+
+-- what was seen on the way to a state, with its times, and the time now
+pub record Past : Type 0 where
+  pub happened : List Told
+  pub now : ℕ
+
+-- before anything has happened
+abbrev pub nothing_yet : Past
+nothing_yet = record { happened = []; now = 0 }
 
 -- what became of a call that was answered so
 abbrev pub phase_of : Answer → Phase
@@ -39,8 +51,8 @@ occurs sites (published v) = what.Published v ∷ []
 occurs sites unseen = []
 
 -- that of it which is named
-abbrev pub kept : List Simple → List ClaimSite → Kept
-kept names sites h = named names (occurs sites h)
+abbrev pub kept : List Simple → List ClaimSite → ℕ → Kept
+kept names sites latest = record { of = λ h. named names (occurs sites h); latest = latest }
 
 -- whether that is nothing
 abbrev pub is_nothing : List Occurrence → Bool
@@ -48,37 +60,46 @@ is_nothing [] = true
 is_nothing (w ∷ ws) = false
 
 abbrev pub is_unkept : Kept → Happening → Bool
-is_unkept keep h = is_nothing (keep h)
+is_unkept keep h = is_nothing (keep.of h)
 
--- what was seen, after what is seen now
-abbrev pub seen_after : Kept → List Occurrence → Sight → List Occurrence
-seen_after keep ws (happens h) = ws ++ keep h
-seen_after keep ws (waits by) = ws
+-- what was seen, and this at the time now
+abbrev pub seen_now : Past → List Occurrence → Past
+seen_now p ws = record { happened = p.happened ++ all_at p.now ws; now = p.now }
 
--- what is seen on a path
-abbrev pub seen_in : Kept → List Sight → List Occurrence
-seen_in keep [] = []
-seen_in keep (happens h ∷ vs) = keep h ++ seen_in keep vs
-seen_in keep (waits by ∷ vs) = seen_in keep vs
+-- what was seen, after what is seen now: something happens, or time passes
+abbrev pub seen_after : Kept → Past → Sight → Past
+seen_after keep p (happens h) = seen_now p (keep.of h)
+seen_after keep p (waits by) = record { happened = p.happened; now = min (p.now + by) keep.latest }
 
--- what of a journal is named, where sites have the numbers that claims have for them
-abbrev pub seen_of : List Simple → List ClaimSite → List Entry → List Occurrence
-seen_of names sites es = named names (occurred (happenings (map (renumbered sites) es)))
+-- and after a path
+abbrev pub seen_on : Kept → Past → List Sight → Past
+seen_on keep p [] = p
+seen_on keep p (v ∷ vs) = seen_on keep (seen_after keep p v) vs
+
+-- what of happenings is named, by this time, with times as far as they are told apart
+abbrev pub past_of : List Simple → ℕ → List Told → ℕ → Past
+past_of names latest hs now = record { happened = named_until names latest hs; now = min now latest }
+
+-- what of a journal is named, where sites have the numbers that claims have for them, and the time at its end
+abbrev pub seen_of : List Simple → List ClaimSite → ℕ → List Entry → ℕ → Past
+seen_of names sites latest es now = past_of names latest (happenings (map (renumbered sites) es)) now
 
 -- what was published of it
-abbrev pub values_of : List Occurrence → List Value
-values_of [] = []
-values_of (what.Published v ∷ ws) = v ∷ values_of ws
-values_of (what.Call m args p ∷ ws) = values_of ws
+abbrev pub values_of : Past → List Value
+values_of p = all_published p.happened
 
 -- what passes through a sieve
 abbrev pub names_of : Sieve → List Simple
 names_of Publications = publications
-names_of (Named watch sites) = watch.now
+names_of (Named watch sites) = watch.now.names
 
 abbrev pub sites_of : Sieve → List ClaimSite
 sites_of Publications = []
 sites_of (Named watch sites) = sites.now
 
+abbrev pub latest_in : Sieve → ℕ
+latest_in Publications = 0
+latest_in (Named watch sites) = watch.now.latest
+
 abbrev pub kept_by : Sieve → Kept
-kept_by s = kept (names_of s) (sites_of s)
+kept_by s = kept (names_of s) (sites_of s) (latest_in s)

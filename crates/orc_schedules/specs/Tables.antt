@@ -2,7 +2,6 @@
 use Rattle.std.specs.Prelude.{◌≡◌, ◌<◌, ◌≤◌, ℕ, List, [], ◌∷◌, map, length, Bool, not, cond, Option, Some, slice_get}
 use Rattle.orc_rules.specs.Sites.{Site}
 use Rattle.orc_rules.specs.Timed.{IsIn}
-use Rattle.orc_claims.specs.declared.happening.Occurrence.{Occurrence}
 use Rattle.orc_search.specs.declared.successor.Successor.{Successor}
 use Rattle.orc_search.specs.Asked.{coming_of_made}
 use Rattle.orc_search.specs.Early.{IsAhead, Leads}
@@ -10,7 +9,7 @@ use Rattle.orc_search.specs.Graphs.{Ending, halted, quiet_if, ending}
 use Rattle.orc_search.specs.Moves.{SmallDefinition}
 use Rattle.orc_search.specs.Moving.{happening_of}
 use Rattle.orc_search.specs.Nodes.{small_at, smalls}
-use Rattle.orc_search.specs.States.{State, Sight, happens, Coming, coming_after, Goes}
+use Rattle.orc_search.specs.States.{State, Sight, happens, waits as passes, Coming, coming_after, Goes}
 use Rattle.orc_search.specs.Successors.{least_left, wait}
 use Rattle.orc_search.specs.Small.{Small}
 use Rattle.orc_search.specs.Ticks.{is_over, pass}
@@ -21,7 +20,7 @@ use Rattle.orc_schedules.specs.Counts.{made_at}
 use Rattle.orc_schedules.specs.Growing.{Grows}
 use Rattle.orc_schedules.specs.Lists.{list_at, lists}
 use Rattle.orc_schedules.specs.Reached.{Reached, EndSeen, end_of}
-use Rattle.orc_schedules.specs.Seen.{Kept, is_unkept, seen_after}
+use Rattle.orc_schedules.specs.Seen.{Kept, Past, is_unkept, seen_after}
 
 -- its numbers are those of a term, of a list of calls and of a list of what was seen
 abbrev pub IsKnown : Tables → Key → Type 0
@@ -32,7 +31,7 @@ abbrev pub AreKnown : Tables → Type 0
 AreKnown t = ((i : ℕ) (k : Key) → slice_get t.states i ≡ Some k → IsKnown t k) × ((i : ℕ) (e : Told) → slice_get t.ends i ≡ Some e → e.seen < length (lists t.lists))
 
 -- what was seen on the way
-abbrev pub seen_at : Tables → ℕ → List Occurrence
+abbrev pub seen_at : Tables → ℕ → Past
 seen_at t i = list_at (lists t.lists) i
 
 abbrev pub coming_at : List Site → Tables → ℕ → Coming
@@ -90,8 +89,8 @@ abbrev pub AreDone : List SmallDefinition → Kept → List Site → Tables → 
 AreDone defs keep sites t n = (i : ℕ) (k : Key) → i < n → slice_get t.states i ≡ Some k → IsLookedAt defs keep (reached sites t) t.longest (outcomes t) (reached_at sites t k)
 
 -- what a state becomes once so much time has passed
-abbrev pub waited : List Site → Tables → Key → ℕ → Reached
-waited sites t k by = (record { term = pass by (small_at (smalls t.terms) k.term); coming = coming_at sites t k.made }, seen_at t k.seen)
+abbrev pub waited : Kept → List Site → Tables → Key → ℕ → Reached
+waited keep sites t k by = (record { term = pass by (small_at (smalls t.terms) k.term); coming = coming_at sites t k.made }, seen_after keep (seen_at t k.seen) (passes by))
 
 -- how a run can end at a term, where it is known whether nothing can move there
 abbrev pub ending_if : Bool → Small → Option Ending

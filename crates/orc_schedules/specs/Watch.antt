@@ -1,5 +1,5 @@
 -- What of a run a claim depends on, and which claims a search can watch for.
-use Rattle.std.specs.Prelude.{◌≡◌, ℕ, List, [], ◌∷◌, ◌++◌, Option, Some, None, Bool, true, false, cond, ◌&&◌, ◌||◌, map, nat_eq, is_none}
+use Rattle.std.specs.Prelude.{◌≡◌, ◌<◌, ◌≤◌, ◌+◌, ◌-◌, ◌^◌, ℕ, min, List, [], ◌∷◌, ◌++◌, Option, Some, None, Bool, true, false, cond, ◌&&◌, ◌||◌, map, nat_eq}
 use Rattle.orc_rules.specs.declared.entry.State.{State}
 use Rattle.orc_rules.specs.declared.entry.State.TheVariants as state
 use Rattle.orc_outcome.specs.declared.end.End.{End}
@@ -95,36 +95,73 @@ abbrev pub all_seen : List Simple → Bool
 all_seen [] = true
 all_seen (s ∷ ss) = sees s && all_seen ss
 
--- a claim without conditions asks for no time, and counts no calls that are out at once
-abbrev pub is_timeless : Plain → Bool
-is_timeless (Count e low most by) = is_none by
-is_timeless (AtOnce e most) = false
-is_timeless (OnlyAfter e f) = true
-is_timeless (NoneAfter e f) = true
-is_timeless (EachThen e f within) = is_none within
-is_timeless (Ends halted quiet by) = is_none by
-is_timeless (InOrder vs) = true
-is_timeless (InAnyOrder vs) = true
-is_timeless (OneOf vs) = true
+-- a claim without conditions doesn't count the calls that are out at once
+abbrev pub counts_none_out : Plain → Bool
+counts_none_out (AtOnce e most) = false
+counts_none_out _ = true
 
--- whether a search can watch for a claim: it asks for no time, sees no cancel, and counts no calls that are out at once
+-- whether a search can watch for a claim: it sees no cancel, and doesn't count the calls that are out at once
 abbrev pub is_watchable : Claim → Bool
-is_watchable c = is_timeless c.plain && all_seen (watched c)
+is_watchable c = counts_none_out c.plain && all_seen (watched c)
+
+-- ---- the times that a claim tells apart
+
+-- the last time that there is
+abbrev pub last_time : ℕ
+last_time = 2 ^ 64 - 1
+
+-- behind the time that is asked for, all times are one; where none is asked for, all are
+abbrev pub latest_by : Option ℕ → ℕ
+latest_by None = 0
+latest_by (Some by) = min (by + 1) last_time
+
+-- where it is asked how much later something comes, all times count
+abbrev pub latest_within : Option ℕ → ℕ
+latest_within None = 0
+latest_within (Some within) = last_time
+
+abbrev pub latest_of_plain : Plain → ℕ
+latest_of_plain (Count e low most by) = latest_by by
+latest_of_plain (EachThen e f within) = latest_within within
+latest_of_plain (Ends halted quiet by) = latest_by by
+latest_of_plain _ = 0
+
+-- a claim tells times apart up to this one: later ones are to it as this one is
+abbrev pub latest_of : Claim → ℕ
+latest_of c = latest_of_plain c.plain
+
+-- what a search keeps for a claim: what happens that these name, and times up to the latest
+pub record Watched : Type 0 where
+  pub names : List Simple
+  pub latest : ℕ
 
 -- what a search keeps for a claim, where it can watch for it
-abbrev pub IsWatchOf : Claim → Option (List Simple) → Type 0
-IsWatchOf c (Some ss) = (is_watchable c ≡ true) × NameSame ss (watched c)
+abbrev pub IsWatchOf : Claim → Option Watched → Type 0
+IsWatchOf c (Some w) = (is_watchable c ≡ true) × NameSame w.names (watched c) × (w.latest ≡ latest_of c)
 IsWatchOf c None = is_watchable c ≡ false
 
 -- ---- what a claim depends on
 
--- what happened, without its time
-abbrev pub occurred : List Happening → List Occurrence
-occurred hs = map (λ (h : Happening). h.what) hs
+-- all of it at this time
+abbrev pub all_at : ℕ → List Occurrence → List Happening
+all_at t ws = map (λ (w : Occurrence). record { time = t; what = w }) ws
 
--- all of it at time 0
-abbrev pub untimed : List Occurrence → List Happening
-untimed ws = map (λ (w : Occurrence). record { time = 0; what = w }) ws
+-- what happened, as far as times are told apart
+abbrev pub told_until : ℕ → Happening → Happening
+told_until latest h = record { time = min h.time latest; what = h.what }
+
+abbrev pub add_happening : Bool → Happening → List Happening → List Happening
+add_happening b h hs = cond b (h ∷ hs) hs
+
+-- those that are named, in their order, with their times as far as these are told apart
+abbrev pub named_until : List Simple → ℕ → List Happening → List Happening
+named_until ss latest [] = []
+named_until ss latest (h ∷ hs) = add_happening (is_named ss h.what) (told_until latest h) (named_until ss latest hs)
+
+-- all of it by this time
+abbrev pub HappenedBy : ℕ → List Happening → Type 0
+HappenedBy now [] = Unit {0}
+HappenedBy now (h ∷ hs) = (h.time ≤ now) × HappenedBy now hs
 
 -- where a run stands that ended so; one that was cut is still running
 abbrev pub state_of_end : End → State
@@ -134,6 +171,7 @@ state_of_end Limit = state.Running
 state_of_end Full = state.Running
 state_of_end Memory = state.Running
 
--- whether a claim that a search can watch for holds in a run depends only on what its events name
+-- whether a claim that a search can watch for holds in a run depends only on what its events name, and on the times that it tells apart
 abbrev pub HoldsByWatched : Type 0
-HoldsByWatched = (c : Claim) (hs : List Happening) (end : State) (now : ℕ) → is_watchable c ≡ true → holds c hs end now ≡ holds c (untimed (named (watched c) (occurred hs))) end 0
+HoldsByWatched = (c : Claim) (hs : List Happening) (end : State) (now : ℕ) → is_watchable c ≡ true → HappenedBy now hs → now < 2 ^ 64
+    → holds c hs end now ≡ holds c (named_until (watched c) (latest_of c) hs) end (min now (latest_of c))

@@ -1,13 +1,14 @@
 //! What a search for a claim comes to.
 
-use orc_claims::happening::Occurrence;
+use orc_claims::happening::Happening;
 use orc_outcome::End;
 
-/// How a run ended, and what of it was seen, in order.
+/// How and when a run ended, and what of it was seen, in order, with times as far as the claim tells them apart.
 #[derive(Drop)]
 pub struct Seen {
     pub end: End,
-    pub occurrences: Vec<Occurrence>,
+    pub happened: Vec<Happening>,
+    pub now: u64,
 }
 
 /// What a search for a claim came to.
@@ -21,6 +22,6 @@ pub enum ClaimSearched {
     TooMany,
     /// A run within the limit of entries, or one to a state that was found, may come to a time of more than 64 bits.
     TooLong,
-    /// The claim asks for a time, sees a cancel, or counts calls that are out at once: a search can't watch for it.
+    /// The claim sees a cancel, or counts the calls that are out at once: a search can't watch for it.
     NotWatched,
 }

@@ -2,11 +2,10 @@
 
 ghost use Rattle.std.specs.Prelude.{◌≡◌, not, IfOk};
 ghost use Rattle.orc_claims.specs.Claims.{holds};
-ghost use Rattle.orc_schedules.specs.Watch.{state_of_end, untimed};
+ghost use Rattle.orc_schedules.specs.Watch.{state_of_end};
 
-use crate::calls::copied;
 use orc_claims::claim::Claim;
-use orc_claims::happening::{Happening, Occurrence};
+use orc_claims::happening::Happening;
 use orc_claims::{Verdict, judge};
 use orc_outcome::End;
 use orc_rules::entry::State;
@@ -24,37 +23,17 @@ fn state_of_end(end: End) -> State
     }
 }
 
-// All of it at time 0. The error is refused memory.
-fn untimed(alloc: Global, seen: &[Occurrence]) -> Result<Vec<Happening>, AllocError>
-    ensures { IfOk result (λ happenings. happenings.items ≡ untimed seen.now) }
-{
-    let mut happenings = Vec::new(alloc);
-    for what in seen {
-        happenings.push(Happening {
-            time: 0,
-            what: copied(what),
-        })?;
-    }
-    Ok(happenings)
-}
-
-/// Whether a claim fails in a run that ended so, of which this was seen. The error is refused memory.
+/// Whether a claim fails in a run that ended so, at this time, of which this was seen. The error is refused memory.
 pub fn fails_by(
     alloc: Global,
     claim: &Claim,
     end: End,
-    seen: &[Occurrence],
+    seen: &[Happening],
+    now: u64,
 ) -> Result<bool, AllocError>
-    ensures { IfOk result (λ fails. fails ≡ not (holds claim.now (untimed seen.now) (state_of_end end) 0)) }
+    ensures { IfOk result (λ fails. fails ≡ not (holds claim.now seen.now (state_of_end end) now)) }
 {
-    let happenings = untimed(alloc, seen)?;
-    let judged = judge(
-        alloc,
-        from_ref(claim),
-        happenings.as_slice(),
-        state_of_end(end),
-        0,
-    )?;
+    let judged = judge(alloc, from_ref(claim), seen, state_of_end(end), now)?;
     match judged.first() {
         Some(one) => Ok(one.verdict != Verdict::Holds),
         None => unreachable!(),

@@ -14,7 +14,8 @@ pub fn found_are_of_runs()
     ensures { FoundAreOfRuns }
 {}
 
-/// Whether a claim that a search can watch for holds in a run depends only on what its events name, in its order.
+/// Whether a claim that a search can watch for holds in a run depends only on what its events name, in its order, and on the times that it
+/// tells apart.
 pub fn holds_by_watched()
     ensures { HoldsByWatched }
 {}

@@ -1,18 +1,19 @@
-//! Lists of what was seen by their numbers.
+//! Lists of what was seen, with its times, by their numbers.
 
-ghost use Rattle.std.specs.Prelude.{◌≡◌, ◌<◌, ◌++◌, ◌∷◌, [], length, true, Some, slice_get, IfSome, IfNone, IfOk, OnOk, OnErr};
+ghost use Rattle.std.specs.Prelude.{◌≡◌, ◌<◌, ◌++◌, ◌∷◌, [], length, option_to_list, true, Some, slice_get, IfSome, IfNone, IfOk, OnOk, OnErr};
 ghost use Rattle.orc_rules.specs.declared.value.Value.{Value as Datum};
 ghost use Rattle.orc_claims.specs.declared.happening.Occurrence.{Occurrence as Event};
 ghost use Rattle.orc_search.specs.Moving.{happening_of};
-ghost use Rattle.orc_search.specs.States.{happens};
+ghost use Rattle.orc_search.specs.States.{happens, waits};
 ghost use Rattle.orc_schedules.specs.Growing.{Grows};
 ghost use Rattle.orc_schedules.specs.Lists.{list_at, lists, list_of, what_of, IsMade};
-ghost use Rattle.orc_schedules.specs.Seen.{becomes, kept_by, names_of, phase_of, seen_after, sites_of, values_of};
-ghost use Rattle.orc_schedules.specs.Watch.{named};
+ghost use Rattle.orc_schedules.specs.Seen.{becomes, kept_by, names_of, nothing_yet, phase_of, seen_after, seen_now, sites_of, values_of};
+ghost use Rattle.orc_claims.specs.Claims.{published as all_published};
+ghost use Rattle.orc_schedules.specs.Watch.{all_at, named};
 
 use crate::calls::Calls;
 use crate::sieve::Sieve;
-use orc_claims::happening::{Occurrence, Phase};
+use orc_claims::happening::{Happening as Happened, Occurrence, Phase};
 use orc_rules::value::{Answer, Value};
 use orc_search::node::{mix, mix_value};
 use orc_search::places::Places;
@@ -20,21 +21,23 @@ use orc_search::successor::Happening;
 use std::alloc::{AllocError, Global};
 use std::marker::Model;
 
-/// What was seen: a publication, or something of a call, by its number.
+/// What was seen: a publication, or something of a call, by its number; nothing where only time passed.
 #[derive(Clone, Copy, PartialEq, Eq)]
 pub enum What {
     Published(Value),
     Call(usize),
+    Nothing,
 }
 
-/// A list: that of a number, and one thing more behind it.
+/// A list: that of a number, and what was seen next, at this time.
 #[derive(Clone, Copy, PartialEq, Eq)]
 pub struct Longer {
     pub before: usize,
+    pub now: u64,
     pub what: What,
 }
 
-/// Lists of what was seen by their numbers; the empty list has the number 0. A list that is asked for again has the same number again, unless one with
+/// Lists of what was seen by their numbers, each with the time to which it comes; the empty list at time 0 has the number 0. A list that is asked for again has the same number again, unless one with
 /// an equal hash came between.
 pub struct Lists {
     calls: Calls,
@@ -76,6 +79,7 @@ fn hash_of(longer: Longer) -> u64 {
     match longer.what {
         What::Published(value) => mix_value(mix(1, longer.before as u64), value),
         What::Call(number) => mix(mix(2, longer.before as u64), number as u64),
+        What::Nothing => mix(mix(3, longer.before as u64), longer.now),
     }
 }
 
@@ -110,7 +114,7 @@ impl Lists {
     // What the list of that number is made of; None for the empty one, and where there is none.
     fn made_of(&self, at: usize) -> Option<Longer>
         ensures some { IfSome result (λ x. (x.before < at) × (slice_get (lists self.now) at ≡ Some (list_of self.now.calls (lists self.now) x))) }
-        ensures none { IfNone result (list_at (lists self.now) at ≡ []) }
+        ensures none { IfNone result (list_at (lists self.now) at ≡ nothing_yet) }
     {
         if at == 0 {
             return None;
@@ -118,39 +122,66 @@ impl Lists {
         longer_at(&self.longer, at - 1)
     }
 
-    fn occurrence(&self, what: What) -> Occurrence
-        ensures { result ≡ what_of self.now.calls what }
+    fn occurrence(&self, what: What) -> Option<Occurrence>
+        ensures { option_to_list result ≡ what_of self.now.calls what }
     {
         match what {
-            What::Published(value) => Occurrence::Published(value),
-            What::Call(number) => self.calls.copied_at(number),
+            What::Published(value) => Some(Occurrence::Published(value)),
+            What::Call(number) => Some(self.calls.copied_at(number)),
+            What::Nothing => None,
+        }
+    }
+
+    /// The time to which the list of that number comes; 0 where there is none.
+    pub fn now(&self, at: usize) -> u64
+        ensures { result ≡ (list_at (lists self.now) at).now }
+    {
+        match self.made_of(at) {
+            Some(longer) => longer.now,
+            None => 0,
+        }
+    }
+
+    // Adds what was seen there, if it is something. The error is refused memory.
+    fn push(&self, happened: &mut Vec<Happened>, longer: Longer) -> Result<(), AllocError>
+        ensures { OnOk result (happened.new.items ≡ happened.old.items ++ all_at longer.now (what_of self.now.calls longer.what)) }
+    {
+        match self.occurrence(longer.what) {
+            Some(what) => {
+                happened.push(Happened {
+                    time: longer.now,
+                    what,
+                })?;
+                Ok(())
+            }
+            None => Ok(()),
         }
     }
 
     /// The list of that number; the empty one where there is none. The error is refused memory.
-    pub fn occurrences(&self, alloc: Global, at: usize) -> Result<Vec<Occurrence>, AllocError>
-        ensures { IfOk result (λ v. v.items ≡ list_at (lists self.now) at) }
+    pub fn happened(&self, alloc: Global, at: usize) -> Result<Vec<Happened>, AllocError>
+        ensures { IfOk result (λ v. v.items ≡ (list_at (lists self.now) at).happened) }
     {
-        let mut occurrences = Vec::new(alloc);
+        let mut happened = Vec::new(alloc);
         let mut rest = at;
         while let Some(longer) = self.made_of(rest) {
-            occurrences.push(self.occurrence(longer.what))?;
+            self.push(&mut happened, longer)?;
             rest = longer.before;
         }
-        occurrences.reverse();
-        Ok(occurrences)
+        happened.reverse();
+        Ok(happened)
     }
 
     // Adds what was published there, if it is a publication. The error is refused memory.
-    fn push_value(&self, values: &mut Vec<Value>, what: What) -> Result<(), AllocError>
-        ensures { OnOk result (values.new.items ≡ values.old.items ++ values_of (what_of self.now.calls what ∷ [])) }
+    fn push_value(&self, values: &mut Vec<Value>, longer: Longer) -> Result<(), AllocError>
+        ensures { OnOk result (values.new.items ≡ values.old.items ++ all_published (all_at longer.now (what_of self.now.calls longer.what))) }
     {
-        match self.occurrence(what) {
-            Occurrence::Published(value) => {
+        match self.occurrence(longer.what) {
+            Some(Occurrence::Published(value)) => {
                 values.push(value)?;
                 Ok(())
             }
-            Occurrence::Call(_, _, _) => Ok(()),
+            _ => Ok(()),
         }
     }
 
@@ -161,7 +192,7 @@ impl Lists {
         let mut values = Vec::new(alloc);
         let mut rest = at;
         while let Some(longer) = self.made_of(rest) {
-            self.push_value(&mut values, longer.what)?;
+            self.push_value(&mut values, longer)?;
             rest = longer.before;
         }
         values.reverse();
@@ -179,7 +210,7 @@ impl Lists {
     }
 
     // Adds a list behind the others: its number. Where memory is refused nothing changes.
-    fn push(&mut self, longer: Longer) -> Result<usize, AllocError>
+    fn add(&mut self, longer: Longer) -> Result<usize, AllocError>
         requires before { longer.before < length (lists self.old) }
         requires made { IsMade (length self.old.calls) longer.what }
         ensures number { IfOk result (λ at. at ≡ length (lists self.old)) }
@@ -211,22 +242,21 @@ impl Lists {
         self.calls.number_of(what)
     }
 
-    // The number of the list with one thing more: that of an equal list, or else of a new one. The error is refused memory. The lists that were there
-    // stay, in both cases.
-    fn longer(&mut self, before: usize, what: What) -> Result<usize, AllocError>
-        requires before { before < length (lists self.old) }
-        requires made { IsMade (length self.old.calls) what }
-        ensures number { IfOk result (λ at. slice_get (lists self.new) at ≡ Some (list_at (lists self.old) before ++ what_of self.old.calls what ∷ [])) }
+    // The number of a longer list: that of an equal list, or else of a new one. The error is refused memory. The lists that were there stay, in both
+    // cases.
+    fn find(&mut self, longer: Longer) -> Result<usize, AllocError>
+        requires before { longer.before < length (lists self.old) }
+        requires made { IsMade (length self.old.calls) longer.what }
+        ensures number { IfOk result (λ at. slice_get (lists self.new) at ≡ Some (list_of self.old.calls (lists self.old) longer)) }
         ensures kept { Grows (lists self.old) (lists self.new) }
     {
-        let longer = Longer { before, what };
         let hash = hash_of(longer);
         if let Some(at) = self.place_of(hash) {
             if self.stands_at(at, longer) {
                 return Ok(at);
             }
         }
-        let at = self.push(longer)?;
+        let at = self.add(longer)?;
         self.remember(hash, at)?;
         Ok(at)
     }
@@ -235,13 +265,17 @@ impl Lists {
     fn after_value(&mut self, at: usize, sieve: &Sieve, value: Value) -> Result<usize, AllocError>
         requires { at < length (lists self.old) }
         ensures there { IfOk result (λ to. to < length (lists self.new)) }
-        ensures list { IfOk result (λ to. list_at (lists self.new) to ≡ list_at (lists self.old) at ++ named (names_of sieve.now) (Event.Published value ∷ [])) }
+        ensures list { IfOk result (λ to. list_at (lists self.new) to ≡ seen_now (list_at (lists self.old) at) (named (names_of sieve.now) (Event.Published value ∷ []))) }
         ensures kept { Grows (lists self.old) (lists self.new) }
     {
         if !sieve.keeps_value(value) {
             return Ok(at);
         }
-        let to = self.longer(at, What::Published(value))?;
+        let to = self.find(Longer {
+            before: at,
+            now: self.now(at),
+            what: What::Published(value),
+        })?;
         Ok(to)
     }
 
@@ -256,14 +290,39 @@ impl Lists {
     ) -> Result<usize, AllocError>
         requires { at < length (lists self.old) }
         ensures there { IfOk result (λ to. to < length (lists self.new)) }
-        ensures list { IfOk result (λ to. list_at (lists self.new) to ≡ list_at (lists self.old) at ++ named (names_of sieve.now) (becomes (sites_of sieve.now) site args.now phase ∷ [])) }
+        ensures list { IfOk result (λ to. list_at (lists self.new) to ≡ seen_now (list_at (lists self.old) at) (named (names_of sieve.now) (becomes (sites_of sieve.now) site args.now phase ∷ []))) }
         ensures kept { Grows (lists self.old) (lists self.new) }
     {
         let Some(what) = sieve.call(site, args, phase)? else {
             return Ok(at);
         };
         let number = self.number_of(what)?;
-        let to = self.longer(at, What::Call(number))?;
+        let to = self.find(Longer {
+            before: at,
+            now: self.now(at),
+            what: What::Call(number),
+        })?;
+        Ok(to)
+    }
+
+    /// The number of the list after so much time, as far as the sieve tells times apart. The error is refused memory. The lists that were there stay, in
+    /// both cases.
+    pub(crate) fn wait(&mut self, at: usize, sieve: &Sieve, by: u64) -> Result<usize, AllocError>
+        requires { at < length (lists self.old) }
+        ensures there { IfOk result (λ to. to < length (lists self.new)) }
+        ensures list { IfOk result (λ to. list_at (lists self.new) to ≡ seen_after (kept_by sieve.now) (list_at (lists self.old) at) (waits by)) }
+        ensures kept { Grows (lists self.old) (lists self.new) }
+    {
+        let before = self.now(at);
+        let now = before.saturating_add(by).min(sieve.latest());
+        if now == before {
+            return Ok(at);
+        }
+        let to = self.find(Longer {
+            before: at,
+            now,
+            what: What::Nothing,
+        })?;
         Ok(to)
     }
 

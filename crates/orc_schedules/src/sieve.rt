@@ -3,7 +3,7 @@
 ghost use Rattle.std.specs.Prelude.{◌≡◌, ◌<◌, ◌^◌, ◌∷◌, [], length, IfOk, option_to_list};
 ghost use Rattle.orc_claims.specs.declared.happening.Occurrence.TheVariants.{Published as published};
 ghost use Rattle.orc_tally.specs.Sight.{number_from};
-ghost use Rattle.orc_schedules.specs.Seen.{becomes, names_of, sites_of};
+ghost use Rattle.orc_schedules.specs.Seen.{becomes, latest_in, names_of, sites_of};
 ghost use Rattle.orc_schedules.specs.Watch.{is_named, named};
 
 use crate::counts::in_place;
@@ -42,6 +42,16 @@ fn number_of(sites: &[ClaimSite], site: u32, arguments: usize) -> u32
 }
 
 impl Sieve<'_> {
+    /// Behind this time all times are one to it.
+    pub(crate) fn latest(&self) -> u64
+        ensures { result ≡ latest_in self.now }
+    {
+        match self {
+            Sieve::Publications => 0,
+            Sieve::Named(watch, _) => watch.latest(),
+        }
+    }
+
     /// Whether it keeps that a value is published.
     pub(crate) fn keeps_value(&self, value: Value) -> bool
         ensures { result ≡ is_named (names_of self.now) (published value) }

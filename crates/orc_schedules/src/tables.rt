@@ -143,13 +143,13 @@ impl Tables {
     }
 
     // Adds what a state becomes once the time has passed that it waits. The error is refused memory.
-    fn wait(&mut self, alloc: Global, from: Key) -> Result<(), AllocError>
+    fn wait(&mut self, alloc: Global, sieve: &Sieve, from: Key) -> Result<(), AllocError>
         requires all { AreKnown self.old }
         requires from { IsKnown self.old from }
         ensures all { OnOk result (AreKnown self.new) }
         ensures kept { OnOk result (Keeps self.old self.new) }
-        ensures waited { OnOk result ((sites : List Site) (by : ℕ) → some_time (least_left (small_at (smalls self.old.terms) from.term)) ≡ Some by → (by ≤ self.new.longest) × IsIn (waited sites self.old from by) (reached sites self.new)) }
-        ensures added { OnOk result ((sites : List Site) → AddsOnly sites (IsWaited sites self.old from self.new.longest) self.old self.new) }
+        ensures waited { OnOk result ((sites : List Site) (by : ℕ) → some_time (least_left (small_at (smalls self.old.terms) from.term)) ≡ Some by → (by ≤ self.new.longest) × IsIn (waited (kept_by sieve.now) sites self.old from by) (reached sites self.new)) }
+        ensures added { OnOk result ((sites : List Site) → AddsOnly sites (IsWaited (kept_by sieve.now) sites self.old from self.new.longest) self.old self.new) }
         ensures ends { OnOk result (self.new.ends ≡ self.old.ends) }
     {
         let Some(by) = self.terms.summary(from.term).left else {
@@ -159,10 +159,11 @@ impl Tables {
             return Ok(());
         }
         let term = changed(&mut self.terms, alloc, Change::Pass(by), from.term)?;
+        let seen = self.lists.wait(from.seen, sieve, by)?;
         self.states.add(Key {
             term,
             made: from.made,
-            seen: from.seen,
+            seen,
         })?;
         self.longest = self.longest.max(by);
         Ok(())
@@ -224,7 +225,7 @@ impl Tables {
         let next = moves.next(at);
         self.follow_all(alloc, source.answers, sieve, from, next)?;
         if next.is_empty() {
-            self.wait(alloc, from)?;
+            self.wait(alloc, sieve, from)?;
             self.tell(from, true)?;
             return Ok(());
         }
@@ -319,10 +320,11 @@ impl Tables {
     fn seen_of(&self, alloc: Global, told: Told) -> Result<Seen, AllocError>
         ensures { IfOk result (λ s. end_seen s ≡ outcome_at self.now told) }
     {
-        let occurrences = self.lists.occurrences(alloc, told.seen)?;
+        let happened = self.lists.happened(alloc, told.seen)?;
         Ok(Seen {
             end: told.end,
-            occurrences,
+            happened,
+            now: self.lists.now(told.seen),
         })
     }
 
@@ -337,7 +339,7 @@ impl Tables {
         ensures none { IfOk result (λ o. IfNone o (holds_by claim.now (outcome_at self.now told) ≡ true)) }
     {
         let seen = self.seen_of(alloc, told)?;
-        if fails_by(alloc, claim, seen.end, &seen.occurrences)? {
+        if fails_by(alloc, claim, seen.end, &seen.happened, seen.now)? {
             Ok(Some(seen))
         } else {
             Ok(None)

@@ -3,7 +3,7 @@
 use crate::claimed::ClaimSearched;
 use crate::exploration::{Explorer, Schedules, search, search_claim};
 use orc_claims::claim::{Claim, Event, Plain, Simple, Slot, Wanted};
-use orc_claims::happening::{Occurrence, Phase};
+use orc_claims::happening::{Happening, Occurrence, Phase};
 use orc_outcome::End;
 use orc_rules::answers::Answers;
 use orc_rules::param::{Operand, Operands};
@@ -199,12 +199,12 @@ fn searched(
     )
 }
 
-fn is_answer(what: &Occurrence) -> bool {
-    matches!(what, Occurrence::Call(0, _, Phase::Answered(_)))
+fn is_answer(seen: &Happening) -> bool {
+    seen.time <= 1 && matches!(&seen.what, Occurrence::Call(0, _, Phase::Answered(_)))
 }
 
-fn is_number(what: &Occurrence, n: i64) -> bool {
-    match what {
+fn is_number(seen: &Happening, n: i64) -> bool {
+    match &seen.what {
         Occurrence::Published(value) => *value == Value::Number(n),
         Occurrence::Call(_, _, _) => false,
     }
@@ -213,7 +213,7 @@ fn is_number(what: &Occurrence, n: i64) -> bool {
 // Whether a claim fails where two answers are all that it sees.
 fn fails_by_answers(found: &ClaimSearched) -> bool {
     match found {
-        ClaimSearched::Fails(seen) => match seen.occurrences.as_slice() {
+        ClaimSearched::Fails(seen) => match seen.happened.as_slice() {
             [one, other] => seen.end == End::Halted && is_answer(one) && is_answer(other),
             _ => false,
         },
@@ -224,7 +224,7 @@ fn fails_by_answers(found: &ClaimSearched) -> bool {
 // Whether it fails where these two numbers are published, in this order.
 fn fails_by_numbers(found: &ClaimSearched, n: i64, m: i64) -> bool {
     match found {
-        ClaimSearched::Fails(seen) => match seen.occurrences.as_slice() {
+        ClaimSearched::Fails(seen) => match seen.happened.as_slice() {
             [one, other] => is_number(one, n) && is_number(other, m),
             _ => false,
         },
@@ -240,8 +240,25 @@ fn both_waits_of_a_race_are_answered(rt: HostRuntime) -> Result<(), Fail> {
     assert!(rt; fails_by_answers(&found));
     let found = searched(alloc, &program, &at_most(alloc, 2, None)?, 1000)?;
     assert!(rt; matches!(&found, ClaimSearched::Holds(_)));
-    let found = searched(alloc, &program, &at_most(alloc, 1, Some(5))?, 1000)?;
-    assert!(rt; matches!(&found, ClaimSearched::NotWatched));
+    // Both answers come at time 1.
+    let found = searched(alloc, &program, &at_most(alloc, 1, Some(1))?, 1000)?;
+    assert!(rt; fails_by_answers(&found));
+    let found = searched(alloc, &program, &at_most(alloc, 0, Some(0))?, 1000)?;
+    assert!(rt; matches!(&found, ClaimSearched::Holds(_)));
+    Ok(())
+}
+
+#[test]
+fn a_run_ends_at_its_time(rt: HostRuntime) -> Result<(), Fail> {
+    let alloc = rt.alloc();
+    let program = race(alloc)?;
+    let mut claim = at_most(alloc, 0, None)?;
+    claim.plain = Plain::Ends(true, false, Some(1));
+    let found = searched(alloc, &program, &claim, 1000)?;
+    assert!(rt; matches!(&found, ClaimSearched::Holds(_)));
+    claim.plain = Plain::Ends(true, false, Some(0));
+    let found = searched(alloc, &program, &claim, 1000)?;
+    assert!(rt; matches!(&found, ClaimSearched::Fails(_)));
     Ok(())
 }
 

@@ -2,27 +2,29 @@
 
 ghost use Rattle.std.specs.Prelude.{◌≡◌, ◌++◌, ◌∷◌, [], IfOk, OnOk};
 ghost use Rattle.orc_claims.specs.declared.happening.Occurrence.{Occurrence as What};
-ghost use Rattle.orc_schedules.specs.Watch.{all_seen, is_named, is_same_phase, is_seen, is_timeless, is_watchable, names_it, publications, sees, watched, watched_conditions, watched_plain, IsWatchOf, NameSame};
+ghost use Rattle.orc_schedules.specs.Watch.{all_seen, counts_none_out, is_named, is_same_phase, is_seen, is_watchable, last_time, latest_by, latest_of_plain, latest_within, names_it, publications, sees, watched, watched_conditions, watched_plain, IsWatchOf, NameSame};
 
 use orc_claims::claim::{Claim, Condition, Event, Plain, Simple, Slot, Wanted};
 use orc_claims::happening::{Occurrence, Phase};
 use std::alloc::{AllocError, Global};
 use std::marker::Model;
 
-/// What a search keeps of what happens: calls of these sites of which the same became, and publications. Arguments and values don't matter.
+/// What a search keeps of what happens: calls of these sites of which the same became, and publications, with times up to a latest one. Arguments and
+/// values don't matter.
 #[derive(Drop)]
 pub struct Watch {
     // Their slots are left out.
     names: Vec<Simple>,
+    // Behind it all times are one.
+    latest: u64,
 }
 
 impl Model for Watch {
-    ghost use Rattle.std.specs.Prelude.{List};
-    ghost use Rattle.orc_claims.specs.declared.claim.Simple.{Simple};
+    ghost use Rattle.orc_schedules.specs.Watch.{Watched};
 
-    ghost Value = { List Simple };
+    ghost Value = { Watched };
 
-    ghost view = { λ w. w.names.items };
+    ghost view = { λ w. record { names = w.names.items; latest = w.latest } };
 }
 
 // Whether the same became of a call as was wanted. A cancel is never the same.
@@ -77,16 +79,43 @@ fn all_seen(names: &[Simple]) -> bool
     }
 }
 
-// Whether a claim without conditions asks for no time, and counts no calls that are out at once.
-fn is_timeless(plain: &Plain) -> bool
-    ensures { result ≡ is_timeless plain.now }
+// Whether a claim without conditions doesn't count the calls that are out at once.
+fn counts_none_out(plain: &Plain) -> bool
+    ensures { result ≡ counts_none_out plain.now }
 {
     match plain {
-        Plain::Count(_, _, _, by) => by.is_none(),
         Plain::AtOnce(_, _) => false,
-        Plain::EachThen(_, _, within) => within.is_none(),
-        Plain::Ends(_, _, by) => by.is_none(),
         _ => true,
+    }
+}
+
+fn latest_by(by: Option<u64>) -> u64
+    ensures { result ≡ latest_by by }
+{
+    match by {
+        Some(by) => by.saturating_add(1),
+        None => 0,
+    }
+}
+
+fn latest_within(within: Option<u64>) -> u64
+    ensures { result ≡ latest_within within }
+{
+    match within {
+        Some(_) => u64::MAX,
+        None => 0,
+    }
+}
+
+// Up to this time a claim without conditions tells times apart.
+fn latest_of(plain: &Plain) -> u64
+    ensures { result ≡ latest_of_plain plain.now }
+{
+    match plain {
+        Plain::Count(_, _, _, by) => latest_by(*by),
+        Plain::EachThen(_, _, within) => latest_within(*within),
+        Plain::Ends(_, _, by) => latest_by(*by),
+        _ => 0,
     }
 }
 
@@ -104,17 +133,25 @@ fn outline(alloc: Global, name: &Simple) -> Simple
 impl Watch {
     // Nothing is kept.
     fn nothing(alloc: Global) -> Watch
-        ensures { result ≡ [] }
+        ensures { result.names ≡ [] }
     {
         Watch {
             names: Vec::new(alloc),
+            latest: 0,
         }
+    }
+
+    // Tells times apart up to this one.
+    fn tell_until(&mut self, latest: u64)
+        ensures { self.new ≡ record { names = self.old.names; latest = latest } }
+    {
+        self.latest = latest;
     }
 
     // Keeps what this names too. The error is refused memory.
     fn add(&mut self, alloc: Global, name: &Simple) -> Result<(), AllocError>
-        ensures names { OnOk result (NameSame self.new (self.old ++ name.now ∷ [])) }
-        ensures seen { OnOk result (all_seen self.new ≡ all_seen (self.old ++ name.now ∷ [])) }
+        ensures names { OnOk result (NameSame self.new.names (self.old.names ++ name.now ∷ [])) }
+        ensures seen { OnOk result (all_seen self.new.names ≡ all_seen (self.old.names ++ name.now ∷ [])) }
     {
         self.names.push(outline(alloc, name))?;
         Ok(())
@@ -122,8 +159,8 @@ impl Watch {
 
     // The same of all that an event names.
     fn add_event(&mut self, alloc: Global, event: &Event) -> Result<(), AllocError>
-        ensures names { OnOk result (NameSame self.new (self.old ++ event.now.alternatives.items)) }
-        ensures seen { OnOk result (all_seen self.new ≡ all_seen (self.old ++ event.now.alternatives.items)) }
+        ensures names { OnOk result (NameSame self.new.names (self.old.names ++ event.now.alternatives.items)) }
+        ensures seen { OnOk result (all_seen self.new.names ≡ all_seen (self.old.names ++ event.now.alternatives.items)) }
     {
         let mut rest = event.alternatives.as_slice();
         loop {
@@ -139,8 +176,8 @@ impl Watch {
 
     // The same of two events.
     fn add_events(&mut self, alloc: Global, event: &Event, other: &Event) -> Result<(), AllocError>
-        ensures names { OnOk result (NameSame self.new (self.old ++ (event.now.alternatives.items ++ other.now.alternatives.items))) }
-        ensures seen { OnOk result (all_seen self.new ≡ all_seen (self.old ++ (event.now.alternatives.items ++ other.now.alternatives.items))) }
+        ensures names { OnOk result (NameSame self.new.names (self.old.names ++ (event.now.alternatives.items ++ other.now.alternatives.items))) }
+        ensures seen { OnOk result (all_seen self.new.names ≡ all_seen (self.old.names ++ (event.now.alternatives.items ++ other.now.alternatives.items))) }
     {
         self.add_event(alloc, event)?;
         self.add_event(alloc, other)?;
@@ -149,8 +186,8 @@ impl Watch {
 
     // The same of a claim without conditions.
     fn add_plain(&mut self, alloc: Global, plain: &Plain) -> Result<(), AllocError>
-        ensures names { OnOk result (NameSame self.new (self.old ++ watched_plain plain.now)) }
-        ensures seen { OnOk result (all_seen self.new ≡ all_seen (self.old ++ watched_plain plain.now)) }
+        ensures names { OnOk result (NameSame self.new.names (self.old.names ++ watched_plain plain.now)) }
+        ensures seen { OnOk result (all_seen self.new.names ≡ all_seen (self.old.names ++ watched_plain plain.now)) }
     {
         match plain {
             Plain::Count(event, _, _, _) | Plain::AtOnce(event, _) => self.add_event(alloc, event),
@@ -166,8 +203,8 @@ impl Watch {
 
     // The same of conditions.
     fn add_conditions(&mut self, alloc: Global, conditions: &[Condition]) -> Result<(), AllocError>
-        ensures names { OnOk result (NameSame self.new (self.old ++ watched_conditions conditions.now)) }
-        ensures seen { OnOk result (all_seen self.new ≡ all_seen (self.old ++ watched_conditions conditions.now)) }
+        ensures names { OnOk result (NameSame self.new.names (self.old.names ++ watched_conditions conditions.now)) }
+        ensures seen { OnOk result (all_seen self.new.names ≡ all_seen (self.old.names ++ watched_conditions conditions.now)) }
     {
         let mut rest = conditions;
         loop {
@@ -183,46 +220,55 @@ impl Watch {
 
     // All that a claim names.
     fn of_all(alloc: Global, claim: &Claim) -> Result<Watch, AllocError>
-        ensures names { IfOk result (λ w. NameSame w (watched claim.now)) }
-        ensures seen { IfOk result (λ w. all_seen w ≡ all_seen (watched claim.now)) }
+        ensures names { IfOk result (λ w. NameSame w.names (watched claim.now)) }
+        ensures seen { IfOk result (λ w. all_seen w.names ≡ all_seen (watched claim.now)) }
+        ensures latest { IfOk result (λ w. w.latest ≡ latest_of_plain claim.now.plain) }
     {
         let mut watch = Watch::nothing(alloc);
         watch.add_plain(alloc, &claim.plain)?;
         watch.add_conditions(alloc, claim.conditions.as_slice())?;
+        watch.tell_until(latest_of(&claim.plain));
         Ok(watch)
     }
 
     // Whether none of them is a cancel.
     fn sees_all(&self) -> bool
-        ensures { result ≡ all_seen self.now }
+        ensures { result ≡ all_seen self.now.names }
     {
         all_seen(self.names.as_slice())
     }
 
-    /// What a claim depends on; None where a search can't watch for it: it asks for a time, sees a cancel, or counts calls that are out at once. The
-    /// error is refused memory.
+    /// What a claim depends on; None where a search can't watch for it: it sees a cancel, or counts the calls that are out at once. The error is
+    /// refused memory.
     pub fn of_claim(alloc: Global, claim: &Claim) -> Result<Option<Watch>, AllocError>
         ensures { IfOk result (IsWatchOf claim.now) }
     {
         let watch = Watch::of_all(alloc, claim)?;
-        if !is_timeless(&claim.plain) || !watch.sees_all() {
+        if !counts_none_out(&claim.plain) || !watch.sees_all() {
             return Ok(None);
         }
         Ok(Some(watch))
     }
 
-    /// Publications alone. The error is refused memory.
+    /// Publications alone, without times. The error is refused memory.
     pub fn of_publications(alloc: Global) -> Result<Watch, AllocError>
-        ensures { IfOk result (λ w. w ≡ publications) }
+        ensures { IfOk result (λ w. w ≡ record { names = publications; latest = 0 }) }
     {
         let mut names = Vec::new(alloc);
         names.push(Simple::Published(Slot::Any))?;
-        Ok(Watch { names })
+        Ok(Watch { names, latest: 0 })
+    }
+
+    /// Behind this time all times are one.
+    pub fn latest(&self) -> u64
+        ensures { result ≡ self.now.latest }
+    {
+        self.latest
     }
 
     /// Whether it keeps this.
     pub fn names(&self, what: &Occurrence) -> bool
-        ensures { result ≡ is_named self.now what.now }
+        ensures { result ≡ is_named self.now.names what.now }
     {
         let mut rest = self.names.as_slice();
         loop {
@@ -243,6 +289,7 @@ impl Watch {
 mod tests {
     use super::*;
     use crate::judging::fails_by;
+    use orc_claims::happening::Happening;
     use orc_outcome::End;
     use orc_rules::value::{Args, Value};
     use std::test::Fail;
@@ -267,6 +314,13 @@ mod tests {
         Occurrence::Call(7, args, phase)
     }
 
+    fn called_at(time: u64) -> Happening {
+        Happening {
+            time,
+            what: of_seven(Phase::Called),
+        }
+    }
+
     // Site 7 is called once at most, up to a time.
     fn once(alloc: Global, by: Option<u64>) -> Result<Claim, AllocError> {
         let event = event(alloc, Wanted::Called)?;
@@ -279,10 +333,38 @@ mod tests {
     }
 
     #[test]
-    fn a_claim_with_a_time_is_not_watched(rt: HostRuntime) -> Result<(), Fail> {
+    fn a_claim_about_calls_that_are_out_at_once_is_not_watched(
+        rt: HostRuntime,
+    ) -> Result<(), Fail> {
         let alloc = rt.alloc();
-        assert!(rt; !has_watch(alloc, &once(alloc, Some(5))?)?);
+        let event = event(alloc, Wanted::Called)?;
+        assert!(rt; !has_watch(alloc, &plain(alloc, Plain::AtOnce(event, 5)))?);
         assert!(rt; has_watch(alloc, &once(alloc, None)?)?);
+        Ok(())
+    }
+
+    // Behind this time all times are one to a claim.
+    fn latest(alloc: Global, claim: &Claim) -> Result<u64, AllocError> {
+        match Watch::of_claim(alloc, claim)? {
+            Some(watch) => Ok(watch.latest()),
+            None => Err(AllocError),
+        }
+    }
+
+    #[test]
+    fn times_are_told_apart_up_to_the_one_behind_that_of_the_claim(
+        rt: HostRuntime,
+    ) -> Result<(), Fail> {
+        let alloc = rt.alloc();
+        assert!(rt; latest(alloc, &once(alloc, None)?)? == 0);
+        assert!(rt; latest(alloc, &once(alloc, Some(5))?)? == 6);
+        assert!(rt; latest(alloc, &once(alloc, Some(u64::MAX))?)? == u64::MAX);
+        let ends = plain(alloc, Plain::Ends(true, false, Some(0)));
+        assert!(rt; latest(alloc, &ends)? == 1);
+        let called = event(alloc, Wanted::Called)?;
+        let halted = event(alloc, Wanted::Halted)?;
+        let within = plain(alloc, Plain::EachThen(called, halted, Some(5)));
+        assert!(rt; latest(alloc, &within)? == u64::MAX);
         Ok(())
     }
 
@@ -321,10 +403,21 @@ mod tests {
     fn the_second_of_two_calls_fails_a_claim(rt: HostRuntime) -> Result<(), Fail> {
         let alloc = rt.alloc();
         let claim = once(alloc, None)?;
-        let mut seen = vec![in alloc; of_seven(Phase::Called)]?;
-        assert!(rt; !fails_by(alloc, &claim, End::Halted, seen.as_slice())?);
-        seen.push(of_seven(Phase::Called))?;
-        assert!(rt; fails_by(alloc, &claim, End::Quiet, seen.as_slice())?);
+        let mut seen = vec![in alloc; called_at(2)]?;
+        assert!(rt; !fails_by(alloc, &claim, End::Halted, seen.as_slice(), 5)?);
+        seen.push(called_at(4))?;
+        assert!(rt; fails_by(alloc, &claim, End::Quiet, seen.as_slice(), 5)?);
+        let by_three = once(alloc, Some(3))?;
+        assert!(rt; !fails_by(alloc, &by_three, End::Quiet, seen.as_slice(), 5)?);
+        Ok(())
+    }
+
+    #[test]
+    fn a_late_end_fails_a_claim(rt: HostRuntime) -> Result<(), Fail> {
+        let alloc = rt.alloc();
+        let claim = plain(alloc, Plain::Ends(true, false, Some(20)));
+        assert!(rt; !fails_by(alloc, &claim, End::Halted, &[], 20)?);
+        assert!(rt; fails_by(alloc, &claim, End::Halted, &[], 21)?);
         Ok(())
     }
 }

@@ -24,5 +24,5 @@ returns c =
     let most = c.max-steps.ensures in
     let limit_fits : suc limit * u.longest < 2 ^ 64 = let le : limit ≤ c.max-steps.result = omega (arith, most) in omega (arith, time, mul-le-mul_right u.longest le) in
     let states_fit : length u.states * u.longest < 2 ^ 64 = let len = c.len-states.ensures in let le : length u.states ≤ c.max-steps.result = omega (arith, most, len) in omega (arith, time, mul-le-mul_right u.longest le) in
-    let all = whole l a publications [] limit u (is.done c.if-not-all.false) is.there limit_fits in
+    let all = whole l a publications [] 0 limit u (is.done c.if-not-all.false) is.there limit_fits in
     record { all = (whole_shown l a limit u c.in_ok-ended.ended.items all c.in_ok-ended.ensures, of_runs l a u c.in_ok-ended.ended.items is.found states_fit c.in_ok-ended.ensures) }

@@ -8,6 +8,6 @@ decreases-loop-rest l = length l.rest
 
 abbrev pub invariant-loop-rest : goal.invariant-loop-rest
 invariant-loop-rest l = record {
-  names : NameSame (l.self ++ watched_conditions l.rest) (l.fn.self ++ watched_conditions l.fn.conditions);
-  seen : all_seen (l.self ++ watched_conditions l.rest) ≡ all_seen (l.fn.self ++ watched_conditions l.fn.conditions);
+  names : NameSame (l.self.names ++ watched_conditions l.rest) (l.fn.self.names ++ watched_conditions l.fn.conditions);
+  seen : all_seen (l.self.names ++ watched_conditions l.rest) ≡ all_seen (l.fn.self.names ++ watched_conditions l.fn.conditions);
 }

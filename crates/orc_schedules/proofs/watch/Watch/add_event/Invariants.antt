@@ -8,6 +8,6 @@ decreases-loop-rest l = length l.rest
 
 abbrev pub invariant-loop-rest : goal.invariant-loop-rest
 invariant-loop-rest l = record {
-  names : NameSame (l.self ++ l.rest) (l.fn.self ++ l.fn.event.alternatives.items);
-  seen : all_seen (l.self ++ l.rest) ≡ all_seen (l.fn.self ++ l.fn.event.alternatives.items);
+  names : NameSame (l.self.names ++ l.rest) (l.fn.self.names ++ l.fn.event.alternatives.items);
+  seen : all_seen (l.self.names ++ l.rest) ≡ all_seen (l.fn.self.names ++ l.fn.event.alternatives.items);
 }

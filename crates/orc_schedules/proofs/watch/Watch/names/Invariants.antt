@@ -7,4 +7,4 @@ abbrev pub decreases-loop-rest : goal.decreases-loop-rest
 decreases-loop-rest l = length l.rest
 
 abbrev pub invariant-loop-rest : goal.invariant-loop-rest
-invariant-loop-rest l = is_named l.rest l.what ≡ is_named l.fn.self l.fn.what
+invariant-loop-rest l = is_named l.rest l.what ≡ is_named l.fn.self.names l.fn.what

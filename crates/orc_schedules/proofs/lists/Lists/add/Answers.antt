@@ -2,7 +2,7 @@ use Rattle.std.proofs.Common.{◌≡◌, ◌<◌, ◌++◌, ◌∷◌, [], List,
 use Rattle.orc_schedules.specs.declared.lists.Longer.{Longer}
 use Rattle.orc_schedules.specs.Lists.{Linked, lists, AreBehind, AreMade, IsMade}
 use Rattle.orc_schedules.proofs.Longer.{behind_last, made_last}
-use Rattle.orc_schedules.proofs.lists.Lists.push.Goals as goal
+use Rattle.orc_schedules.proofs.lists.Lists.add.Goals as goal
 
 pub invariant_of-self-2 : goal.invariant_of-self-2
 invariant_of-self-2 c =
