@@ -12,7 +12,7 @@ use std::alloc::{AllocError, Global};
 use std::convert::AsStr;
 
 /// In how many orders `outcomes` runs a program at most, and where nothing is said.
-const MOST_ORDERS: i64 = 10_000;
+const MOST_ORDERS: i64 = 1_000_000;
 
 const DEFAULT_ORDERS: u64 = 100;
 

@@ -4,7 +4,7 @@ use Rattle.std.proofs.lemmas.Bool.{cases_eq, cases_lt}
 use Rattle.std.proofs.lemmas.List.{get_or_append_left, get_or_push}
 use Rattle.std.proofs.lemmas.List.Elements.{All-push}
 use Rattle.std.proofs.lemmas.List.Quantifiers.{all_pairs_push, position-Some}
-use Rattle.std.proofs.lemmas.Option.{get_or_from_slice_get, slice_get-get_or}
+use Rattle.std.proofs.lemmas.Option.{get_or_from_slice_get}
 use Rattle.orc_rules.specs.Nodes.{Listing}
 use Rattle.orc_rules.specs.Sites.{Table}
 use Rattle.orc_orders.proofs.Places.{counted_once_more, first_there, not_counted, not_there, position_stays}
@@ -14,9 +14,6 @@ use Rattle.orc_orders.specs.declared.seen.Seen.{Seen}
 
 pub counted_first : (order : ℕ) (c : Came) (xs ys : List Seen) (x : Seen) → All (λ y. IsOf c y → ⊥) xs → IsOf c x → x.first ≡ order → x.times ≡ 1 → ys ≡ xs ++ x ∷ [] → Counts order c xs ys
 counted_first order c xs ys x unseen is since once e = subst (Counts order c xs) (sym e) (first xs x unseen is since once)
-
-pub counted_again : (order : ℕ) (c : Came) (xs ys : List Seen) (at : ℕ) (x y : Seen) → at < length xs → x ≡ slice_index_or xs at x → IsOf c (slice_index_or xs at x) → y ≡ record x { times = x.times + 1 } → ys ≡ slice_set xs at y → Counts order c xs ys
-counted_again order c xs ys at x y here same is raised e = subst (Counts order c xs) (sym (e ∙ ap (slice_set xs at) raised)) (again xs at x (slice_get-get_or xs at x here ∙ ap Some (sym same)) (subst (IsOf c) (sym same) is))
 
 pub none_yet : (l : Listing) (t : Table) (limit : ℕ) (xs : List Seen) → xs ≡ [] → IsSurvey l t limit 0 xs
 none_yet l t limit xs e = subst (IsSurvey l t limit 0) (sym e) (record {

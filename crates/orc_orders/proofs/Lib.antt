@@ -1,5 +1,6 @@
 pub mod Adding
 pub mod Counting
+pub mod Known
 pub mod Lent
 pub mod Places
 pub mod Raised

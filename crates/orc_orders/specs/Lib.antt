@@ -1,4 +1,5 @@
 pub mod Lines
+pub mod Found
 pub mod Survey
 pub mod TrialFaults
 pub mod Trials

@@ -9,7 +9,7 @@ ghost use Rattle.orc_engine.specs.Ranges.{IsInRange};
 ghost use Rattle.orc_orders.specs.Survey.{Came, Counts, IsOfRun, IsSurvey};
 ghost use Rattle.orc_orders.specs.Tried.{IsTried};
 
-use crate::seen::{Seen, count};
+use crate::seen::{Outcomes, Seen};
 use orc_engine::{EngineFault, run_alone};
 use orc_outcome::{End, Played};
 use orc_rules::answers::Answers;
@@ -20,7 +20,7 @@ use std::thread;
 use std::thread::Threads;
 
 /// So many orders are run before what came of them is counted.
-const BATCH: u64 = 64;
+const BATCH: u64 = 1_024;
 
 /// The runs of a batch are shared out among threads where they have so many entries in all, as far as those before them tell. A thread that begins may wait
 /// longer for a processor than a shorter batch takes.
@@ -89,9 +89,9 @@ impl<R: Threads + Sync> Surveyor<'_, R> {
     }
 
     // Counts what the run in an order came to, and tells how many entries it had. A run for which memory is refused tells nothing of the program.
-    fn count(&self, trial: &Trial, order: u64, seen: &mut Vec<Seen>) -> Result<u64, EngineFault>
+    fn count(&self, trial: &Trial, order: u64, seen: &mut Outcomes) -> Result<u64, EngineFault>
         requires tried { IsTried self.now.program.now self.now.answers.now self.now.limit trial.now }
-        ensures counted { OnOk result ((c : Came) × IsOfRun self.now.program.now self.now.answers.now self.now.limit c × Counts order c seen.old.items seen.new.items) }
+        ensures counted { OnOk result ((c : Came) × IsOfRun self.now.program.now self.now.answers.now self.now.limit c × Counts order c seen.old seen.new) }
         ensures range { IfErr result (λ fault. fault ≡ EngineFault.Range → IsInRange 1 self.now.limit → ⊥) }
         ensures sound { IfErr result (λ fault. IsOwn fault → IsProgram (definitions self.now.program.now) (source self.now.program.now) → ⊥) }
     {
@@ -101,7 +101,7 @@ impl<R: Threads + Sync> Surveyor<'_, R> {
         };
         let end = played.summary.end;
         let values = played.published.as_slice();
-        if end == End::Memory || count(self.alloc, seen, order, end, values).is_err() {
+        if end == End::Memory || seen.count(self.alloc, order, end, values).is_err() {
             return Err(EngineFault::Memory);
         }
         Ok(played.summary.entries)
@@ -114,12 +114,12 @@ impl<R: Threads + Sync> Surveyor<'_, R> {
         threads: usize,
         first: u64,
         number: u64,
-        seen: &mut Vec<Seen>,
+        seen: &mut Outcomes,
     ) -> Result<u64, EngineFault>
         requires threads { 0 < threads }
         requires some { 0 < number }
         requires room { first + number < 2 ^ 64 }
-        ensures counted { OnOk result (IsSurvey self.now.program.now self.now.answers.now self.now.limit first seen.old.items → IsSurvey self.now.program.now self.now.answers.now self.now.limit (first + number) seen.new.items) }
+        ensures counted { OnOk result (IsSurvey self.now.program.now self.now.answers.now self.now.limit first seen.old → IsSurvey self.now.program.now self.now.answers.now self.now.limit (first + number) seen.new) }
         ensures range { IfErr result (λ fault. fault ≡ EngineFault.Range → IsInRange 1 self.now.limit → ⊥) }
         ensures sound { IfErr result (λ fault. IsOwn fault → IsProgram (definitions self.now.program.now) (source self.now.program.now) → ⊥) }
     {
@@ -165,7 +165,7 @@ pub fn survey<R: Threads + Sync>(
         answers,
         limit,
     };
-    let mut seen = Vec::new(alloc);
+    let mut seen = Outcomes::new(alloc);
     let mut next = 0;
     // The first run shows how long they are.
     let mut batch = 1;
@@ -175,11 +175,11 @@ pub fn survey<R: Threads + Sync>(
         let mean = surveyor.go(threads, next, number, &mut seen)?;
         next += number;
         batch = (ROOM / mean.max(1)).clamp(workers as u64, BATCH);
-        threads = if mean.saturating_mul(batch) < WORTH {
+        threads = if mean.saturating_mul(batch.min(orders - next)) < WORTH {
             1
         } else {
             workers
         };
     }
-    Ok(seen)
+    Ok(seen.into_seen())
 }

@@ -1,14 +1,18 @@
 //! The outcomes that came up.
 
-ghost use Rattle.std.specs.Prelude.{◌≡◌, ◌<◌, ◌↔◌, true, length, slice_index_or, MatchOption, OnOk};
+ghost use Rattle.std.specs.Prelude.{◌≡◌, ◌<◌, ◌↔◌, [], true, length, slice_index_or, MatchOption, OnErr, OnOk};
 ghost use Rattle.std.specs.List.{All};
 ghost use Rattle.orc_rules.specs.Sites.{values_eq};
 ghost use Rattle.orc_orders.specs.Survey.{Counts, IsOf};
+ghost use Rattle.orc_orders.specs.Found.{came_of, IsOnceMore};
 
+use indexmap::IndexSet;
 use orc_outcome::End;
 use orc_rules::builtin::is_same;
 use orc_rules::value::Value;
 use std::alloc::{AllocError, Global};
+use std::hash::{Hash, Hasher};
+use std::marker::Model;
 
 /// An outcome that came up: how a run ended, and what it published.
 #[derive(Drop)]
@@ -67,30 +71,136 @@ pub fn place_of(seen: &[Seen], end: End, values: &[Value]) -> Option<usize>
     None
 }
 
-/// One order more came to this outcome. The error is refused memory.
-#[tactic(auto, using(crate::proofs::Counting::counted_first, crate::proofs::Counting::counted_again))]
-pub(crate) fn count(
-    alloc: Global,
-    seen: &mut Vec<Seen>,
-    order: u64,
+// An outcome as a hash finds it.
+#[derive(PartialEq, Eq, Drop)]
+struct Outcome {
     end: End,
-    values: &[Value],
-) -> Result<(), AllocError>
-    ensures counted { OnOk result (Counts order (record { end = end; values = values.now }) seen.old.items seen.new.items) }
+    values: Vec<Value>,
+}
+
+// Its values tell nearly all outcomes apart.
+impl Hash for Outcome {
+    ghost use Rattle.std.specs.Hash as fed;
+    ghost use Rattle.std.specs.Hash.{second_alike, on_Alike, items_Alike};
+    ghost use Rattle.orc_rules.specs.contracts.value.ValueHash.TheImpl as feeding;
+    ghost use Rattle.orc_rules.specs.contracts.value.ValueHash.TheImpl.Laws.{respects_eq-law};
+
+    ghost hash_input = { λ o. fed.slice feeding.ghosts.hash_input o.values.items };
+
+    ghost respects_eq = { (second_alike _ (on_Alike (λ o. o.values.items) (items_Alike (record { fed = respects_eq-law })))).fed };
+
+    fn hash<H: Hasher>(&self, state: &mut H) {
+        self.values.hash(state);
+    }
+}
+
+/// The outcomes that came up, each found by a hash.
+pub(crate) struct Outcomes {
+    seen: Vec<Seen>,
+    // At the place of each what it is found by.
+    known: IndexSet<Outcome>,
+}
+
+impl Drop for Outcomes {
+    fn drop(self) {
+        let Outcomes { seen: _, known: _ } = self;
+    }
+}
+
+impl Model for Outcomes {
+    ghost use Rattle.std.specs.Prelude.{List};
+    ghost use Rattle.orc_orders.specs.declared.seen.Seen.{Seen};
+    ghost use Rattle.orc_orders.specs.Found.{AreKnown};
+
+    ghost Value = { List Seen };
+
+    ghost view = { λ o. o.seen.items };
+
+    ghost invariant = { λ o. AreKnown o.known.keys o.seen.items };
+}
+
+// One order more came to the outcome at this place.
+#[tactic(auto, using(crate::proofs::Known::once_more))]
+fn again(seen: &mut Vec<Seen>, at: usize) -> Result<(), AllocError>
+    requires { at < length seen.old.items }
+    ensures more { OnOk result (IsOnceMore at seen.old.items seen.new.items) }
+    ensures refused { OnErr result (seen.new.items ≡ seen.old.items) }
 {
-    let Some(at) = place_of(seen.as_slice(), end, values) else {
-        seen.push(Seen {
-            end,
-            values: Vec::from_slice(alloc, values)?,
-            first: order,
-            times: 1,
-        })?;
-        return Ok(());
-    };
     let Some(times) = seen[at].times.checked_add(1) else {
         // No machine makes 2^64 runs.
         return Err(AllocError);
     };
     seen[at].times = times;
     Ok(())
+}
+
+impl Outcomes {
+    /// None.
+    pub(crate) fn new(alloc: Global) -> Outcomes
+        ensures { result ≡ [] }
+    {
+        Outcomes {
+            seen: Vec::new(alloc),
+            known: IndexSet::new(alloc),
+        }
+    }
+
+    /// The outcomes in the order in which they came up first.
+    pub(crate) fn into_seen(self) -> Vec<Seen>
+        ensures { result.items ≡ self }
+    {
+        let Outcomes { seen, known: _ } = self;
+        seen
+    }
+
+    // The place of an outcome, if it came up.
+    #[tactic(auto, using(crate::proofs::Known::found_at, crate::proofs::Known::not_found))]
+    fn place_of(&self, outcome: &Outcome) -> Option<usize>
+        ensures { MatchOption result (All (λ y. IsOf (came_of outcome.now) y → ⊥) self.now) (λ at. (at < length self.now) × ((d : Seen) → IsOf (came_of outcome.now) (slice_index_or self.now at d))) }
+    {
+        match self.known.get_index_of(outcome) {
+            Some(at) => Some(at),
+            None => None,
+        }
+    }
+
+    // An order came to an outcome for the first time. Where memory is refused nothing changes.
+    #[tactic(auto, using(crate::proofs::Counting::counted_first, crate::proofs::Known::known_too))]
+    fn add(&mut self, alloc: Global, order: u64, outcome: Outcome) -> Result<(), AllocError>
+        requires { All (λ y. IsOf (came_of outcome) y → ⊥) self.old }
+        ensures { OnOk result (Counts order (came_of outcome) self.old self.new) }
+    {
+        let seen = Seen {
+            end: outcome.end,
+            values: Vec::from_slice(alloc, &outcome.values)?,
+            first: order,
+            times: 1,
+        };
+        self.seen.try_reserve(1)?;
+        self.known.insert(outcome)?;
+        let pushed = self.seen.push(seen);
+        prove!(pushed.is_ok());
+        Ok(())
+    }
+
+    /// One order more came to this outcome. The error is refused memory.
+    #[tactic(auto, using(crate::proofs::Known::counted_at, crate::proofs::Known::counted_as, crate::proofs::Known::known_still))]
+    pub(crate) fn count(
+        &mut self,
+        alloc: Global,
+        order: u64,
+        end: End,
+        values: &[Value],
+    ) -> Result<(), AllocError>
+        ensures counted { OnOk result (Counts order (record { end = end; values = values.now }) self.old self.new) }
+    {
+        let outcome = Outcome {
+            end,
+            values: Vec::from_slice(alloc, values)?,
+        };
+        match self.place_of(&outcome) {
+            Some(at) => again(&mut self.seen, at),
+            None => self.add(alloc, order, outcome),
+        }
+    }
 }
