@@ -1,11 +1,10 @@
 //! Programs, and what their runs have to come to.
 
-use orc_journal_text::write_journal;
 use orc_load::{LoadFault, Loaded};
 use orc_outcome::{End, Played};
 use orc_rules::value::Value;
-use orc_run::check_text;
 use orc_site::{Gate, Sites};
+use orc_verdict::check_journal;
 use orc_workers::{EngineFault, run_pool};
 use std::alloc::Global;
 use std::sync::Wait;
@@ -145,12 +144,7 @@ impl Storm {
         let Some(journal) = &played.journal else {
             return false;
         };
-        let mut text = Vec::new(alloc);
-        if !matches!(write_journal(journal, &loaded.answers, &mut text), Ok(true)) {
-            return false;
-        }
-        let mut verdict = Vec::new(alloc);
-        check_text(alloc, self.source, SCRIPT, &text, &mut verdict).is_ok()
+        check_journal(alloc, &loaded.program, &loaded.answers, journal).is_ok()
     }
 }
 

@@ -1,13 +1,11 @@
-//! Tests over several crates of what the program by itself can't show: sites and gates of one's own, streams and files that fail, the parts of an
-//! engine with workers, and the reference. A test that needs no more than the program is a row of `crates/orc_rows/data`.
+//! Tests over several crates of what the program by itself can't show: sites and gates of one's own, the parts of an engine with workers, and the
+//! reference. None needs `orc_run`, so the gate proves them beside it. A test that needs no more than the program is a row of `crates/orc_rows/data`.
 #![tactic(auto)]
 
 #[cfg(test)]
 mod crews;
 #[cfg(test)]
 mod gates;
-#[cfg(test)]
-mod harness;
 #[cfg(test)]
 mod hostile;
 #[cfg(test)]
@@ -24,7 +22,5 @@ mod runs;
 mod scope_rows;
 #[cfg(test)]
 mod scripts;
-#[cfg(test)]
-mod streams;
 #[cfg(test)]
 mod syntax_rows;

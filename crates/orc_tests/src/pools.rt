@@ -6,9 +6,10 @@ use orc_journal_text::write_journal;
 use orc_load::{Loaded, load};
 use orc_outcome::{End, Played};
 use orc_reference::play as play_plainly;
+use orc_rules::entry::State;
 use orc_rules::value::Value;
-use orc_run::check_text;
 use orc_site::{Gate, Open, Scripted, read_script};
+use orc_verdict::check_journal;
 use orc_workers::{EngineFault, run_pool};
 use std::alloc::Global;
 use std::sync::Wait;
@@ -70,11 +71,28 @@ pub(crate) fn text_of(alloc: Global, script: &[u8], played: &Played) -> Vec<u8> 
     text
 }
 
+/// Where a run's journal has brought the program, if the check accepts it.
+pub(crate) fn state_of(
+    alloc: Global,
+    source: &[u8],
+    script: &[u8],
+    played: &Played,
+) -> Option<State> {
+    let Some(journal) = &played.journal else {
+        return None;
+    };
+    let Ok(loaded) = load(alloc, source, script) else {
+        return None;
+    };
+    match check_journal(alloc, &loaded.program, &loaded.answers, journal) {
+        Ok(verdict) => Some(verdict.state),
+        Err(_) => None,
+    }
+}
+
 /// Whether the check accepts a run's journal.
 pub(crate) fn is_accepted(alloc: Global, source: &[u8], script: &[u8], played: &Played) -> bool {
-    let mut out = Vec::new(alloc);
-    let text = text_of(alloc, script, played);
-    check_text(alloc, source, script, &text, &mut out).is_ok()
+    state_of(alloc, source, script, played).is_some()
 }
 
 // How a run ends, where the check accepts its journal and it publishes these values, in any order.
