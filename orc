@@ -530,7 +530,7 @@ build() {
     total=$(wc -w <<<"$libraries")
     [ -x "$program" ] || is_first=yes
     lane_count=1
-    if [ -n "$is_first" ] && [ "$jobs" -gt 1 ]; then lane_count=$((jobs < 4 ? 2 : 3)); fi
+    if [ -n "$is_first" ] && [ "$jobs" -gt 1 ]; then lane_count=$((jobs < 4 ? 2 : 4)); fi
     # shellcheck disable=SC2086
     weigh $libraries orc >"$room/weights"
     if [ -t 2 ]; then clear=$'\r\e[K'; fi
