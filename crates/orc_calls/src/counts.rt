@@ -69,7 +69,8 @@ impl Counts {
         ensures nth { result ≡ nth_in self.now site args.now }
         ensures from_1 { 1 ≤ result }
     {
-        let key = Key::of(site, args);
+        let mut key = Key::new();
+        key.write(site, args);
         match self.next.get(key.as_slice()) {
             Some(next) => *next,
             None => 1,
@@ -112,7 +113,8 @@ impl Counts {
         ensures added { OnOk result (CountsOne site args.now self.old self.new) }
         ensures refused { OnErr result (self.new ≡ self.old) }
     {
-        let key = Key::of(site, args);
+        let mut key = Key::new();
+        key.write(site, args);
         if let Some(next) = self.next.get_mut(key.as_slice()) {
             let Some(more) = next.checked_add(1) else {
                 // No memory holds 2^64 calls.

@@ -44,19 +44,28 @@ fn amount_of(value: Value) -> u64
 }
 
 impl Key {
-    /// The key of a site with these arguments.
-    pub(crate) fn of(site: u32, args: &Args) -> Key
-        ensures { result ≡ key site args.now }
+    /// No numbers.
+    #[inline(always)]
+    pub(crate) fn new() -> Key
+        ensures { result ≡ [] }
     {
-        let mut key = Key {
-            words: [site as u64; 33],
-            len: 1,
-        };
-        for value in args.as_slice() {
-            key.push(kind_of(*value));
-            key.push(amount_of(*value));
+        Key {
+            words: [0; 33],
+            len: 0,
         }
-        key
+    }
+
+    /// Becomes the key of a site with these arguments.
+    // Written where it stays: a key that was handed out would be copied twice, all of its 272 bytes.
+    pub(crate) fn write(&mut self, site: u32, args: &Args)
+        ensures { self.new ≡ key site args.now }
+    {
+        self.len = 0;
+        self.push(site as u64);
+        for value in args.as_slice() {
+            self.push(kind_of(*value));
+            self.push(amount_of(*value));
+        }
     }
 
     fn push(&mut self, word: u64)

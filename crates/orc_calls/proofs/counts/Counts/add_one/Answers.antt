@@ -34,7 +34,7 @@ returns-in-Some-clause-added c =
     let v = c.in-Some-checked_add.more in
     let n = c.get_mut.follows.lender v in
     let put = puts k v m n ((c.get_mut.follows.holds v).3 (search rules)) in
-    let is : k ≡ key site args = c.as_slice.ensures ∙ c.of-key.ensures in
+    let is : k ≡ key site args = c.as_slice.ensures ∙ c.write.ensures in
     let here : c.in-Some.next.now ≡ nth_in (map entry_of m.entries) site args = nth_seen k m.entries (Some c.in-Some.next.now) site args c.in-Some.ensures.value is in
     let next : v ≡ suc (nth_in (map entry_of m.entries) site args) = omega (arith, c.in-Some-checked_add.ensures, here) in
     subst (λ z. CountsOne site args z (map entry_of n.entries)) c.self.view_is (counts_one site args k v m.entries n.entries put is next)
@@ -57,7 +57,7 @@ returns-clause-added c =
     let m = c.get_mut.follows.lender-at-none in
     let n = c.insert.new.self in
     let put = puts words.items 2 m n c.in_ok-insert.ensures.updates in
-    let is : words.items ≡ key site args = c.in_ok-words.ensures.items ∙ c.as_slice-2.ensures ∙ c.of-key.ensures in
-    let here : 1 ≡ nth_in (map entry_of old.entries) site args = nth_seen c.as_slice.result.now old.entries None site args (ap option_copied_mut (sym c.in_default.is) ∙ c.get_mut.ensures.value) (c.as_slice.ensures ∙ c.of-key.ensures) in
+    let is : words.items ≡ key site args = c.in_ok-words.ensures.items ∙ c.as_slice-2.ensures ∙ c.write.ensures in
+    let here : 1 ≡ nth_in (map entry_of old.entries) site args = nth_seen c.as_slice.result.now old.entries None site args (ap option_copied_mut (sym c.in_default.is) ∙ c.get_mut.ensures.value) (c.as_slice.ensures ∙ c.write.ensures) in
     let next : 2 ≡ suc (nth_in (map entry_of m.entries) site args) = ap suc (here ∙ sym (ap (λ z. nth_in (map entry_of z.entries) site args) c.get_mut.follows.holds-at-none)) in
     subst (λ z. CountsOne site args z (map entry_of n.entries)) (ap (λ z. map entry_of z.entries) c.get_mut.follows.holds-at-none ∙ c.self.view_is) (counts_one site args words.items 2 m.entries n.entries put is next)

@@ -8,19 +8,19 @@ pub returns-in-Some-clause-nth : goal.returns-in-Some-clause-nth
 returns-in-Some-clause-nth c =
     let site = c.args.site in
     let args = c.args.args.now in
-    nth_seen c.as_slice.result.now c.self.inside.next.entries (Some c.in-Some.next.now) site args (ap option_copied (sym c.in-Some.is) ∙ c.get.ensures.value) (c.as_slice.ensures ∙ c.of-key.ensures)
+    nth_seen c.as_slice.result.now c.self.inside.next.entries (Some c.in-Some.next.now) site args (ap option_copied (sym c.in-Some.is) ∙ c.get.ensures.value) (c.as_slice.ensures ∙ c.write.ensures)
     ∙ ap (λ z. nth_in z site args) c.self.view_is
 
 pub returns-in-Some-clause-from_1 : goal.returns-in-Some-clause-from_1
 returns-in-Some-clause-from_1 c =
     let site = c.args.site in
     let args = c.args.args.now in
-    let next = nth_seen c.as_slice.result.now c.self.inside.next.entries (Some c.in-Some.next.now) site args (ap option_copied (sym c.in-Some.is) ∙ c.get.ensures.value) (c.as_slice.ensures ∙ c.of-key.ensures) in
+    let next = nth_seen c.as_slice.result.now c.self.inside.next.entries (Some c.in-Some.next.now) site args (ap option_copied (sym c.in-Some.is) ∙ c.get.ensures.value) (c.as_slice.ensures ∙ c.write.ensures) in
     subst (λ n. 1 ≤ n) (sym next) (c.self.invariant (key site args))
 
 pub returns-in-None-clause-nth : goal.returns-in-None-clause-nth
 returns-in-None-clause-nth c =
     let site = c.args.site in
     let args = c.args.args.now in
-    nth_seen c.as_slice.result.now c.self.inside.next.entries None site args (ap option_copied (sym c.in-None.is) ∙ c.get.ensures.value) (c.as_slice.ensures ∙ c.of-key.ensures)
+    nth_seen c.as_slice.result.now c.self.inside.next.entries None site args (ap option_copied (sym c.in-None.is) ∙ c.get.ensures.value) (c.as_slice.ensures ∙ c.write.ensures)
     ∙ ap (λ z. nth_in z site args) c.self.view_is
