@@ -79,6 +79,7 @@ impl Counts {
 
     /// The next call of a site with these arguments: which one it is and what the table of sites says of it. The counts are looked into once
     /// where a script answers the site, and else not at all.
+    #[inline(always)]
     pub fn next_call(&self, answers: &Answers, site: u32, args: &Args) -> NextCall
         ensures nth { NextNth answers.now.sites self.now site args.now result.nth }
         ensures from_1 { 1 ≤ result.nth }

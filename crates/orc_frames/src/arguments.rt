@@ -13,6 +13,7 @@ use orc_rules::param::Operand;
 use orc_rules::value::Args;
 
 /// Puts the values of operands into `args`, if each of them has one. Whether each has one.
+#[inline(always)]
 pub fn take_values(
     scopes: &[StoredScope],
     cells: &[Bound],

@@ -106,6 +106,7 @@ impl<P: Program> Ledger<P> {
     }
 
     /// `f >x> g`: a token on the left side, in the same slot.
+    #[inline(always)]
     pub fn feed(
         &mut self,
         slot: usize,

@@ -45,6 +45,7 @@ impl<P: Program> Ledger<P> {
     }
 
     /// A `>x>` takes what the token publishes: a token on a copy of its right side, in the same slot.
+    #[inline(always)]
     pub fn send(
         &mut self,
         slot: usize,

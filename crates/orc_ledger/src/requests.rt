@@ -57,6 +57,7 @@ fn write_call<P: Program>(
 
 impl<P: Program> Ledger<P> {
     // The site that a token calls. Its arguments are put into `args`.
+    #[inline(always)]
     pub(crate) fn ask(&self, graph: &Graph, token: Token, args: &mut Args) -> u32
         requires graph { graph.now ≡ P.listing }
         requires calls { what_of (code P.listing) (definitions P.listing) self.now token ≡ Action.Call }
@@ -75,6 +76,7 @@ impl<P: Program> Ledger<P> {
     }
 
     // The call that a token makes next of a site with these arguments, by one look into the counts.
+    #[inline(always)]
     pub(crate) fn next_call(&self, answers: &Answers, token: Token, site: u32, args: &Args) -> Call
         requires { answers.now.sites ≡ P.sites }
         ensures { IsNextCall P.listing P.sites self.now token site args.now result }
