@@ -1,8 +1,7 @@
-use Rattle.std.proofs.Common.{arith, sym}
+use Rattle.std.proofs.Common.{◌-◌, ◌≤◌, length, slice_index_or, arith, sym}
 use Rattle.orc_journal_text.proofs.Few.{next_fits, one_digit_more, read_one, read_all}
 use Rattle.orc_journal_text.proofs.reader.few_digits_at.Goals as goal
 use Rattle.orc_journal_text.proofs.reader.few_digits_at.Goals.{then-loop-at-test+else-is_ascii_digit, else-loop-at-test}
-use Rattle.std.proofs.Common.{length, slice_index_or, ◌-◌, ◌≤◌}
 
 pub overflow_mul-number : goal.overflow_mul-number
 overflow_mul-number c = omega (arith, next_fits c.loop-at.number 0 c.loop-at.at (length c.args.bytes.now) c.min-most.result c.min-most.ensures c.loop-at-test.true c.loop-at.invariant.small (omega arith))

@@ -1,4 +1,4 @@
-use Rattle.std.proofs.Common.{◌≡◌, ◌<◌, ◌≤◌, ◌-◌, ◌*◌, ◌^◌, length, drop}
+use Rattle.std.proofs.Common.{◌≡◌, ◌<◌, ◌≤◌, ◌-◌, ◌*◌, ◌^◌, drop}
 use Rattle.orc_rules.specs.Digits.{digits_from}
 use Rattle.orc_journal_text.proofs.reader.few_digits_at.Given as goal
 
