@@ -5,6 +5,7 @@ pub mod Coming
 pub mod Composing
 pub mod Digits
 pub mod Entries
+pub mod Few
 pub mod Loops
 pub mod Names
 pub mod Outputs

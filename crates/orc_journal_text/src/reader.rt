@@ -15,6 +15,9 @@ use orc_rules::kind::Kind;
 use orc_rules::limits::MOST_ARGUMENTS;
 use orc_rules::value::{Args, Value};
 
+/// A number of fewer digits has fewer than 64 bits, since a digit takes 4 at most.
+const FEW: usize = 16;
+
 // The bytes after a text.
 pub(crate) fn after<'a>(text: &[u8], bytes: &'a [u8]) -> Option<&'a [u8]>
     ensures { Gives (λ r. r.now) result (after text.now bytes.now) }
@@ -45,13 +48,32 @@ fn is_plain(bytes: &[u8]) -> bool
     }
 }
 
+// The same as `digits_at`, but as long as a number has under `FEW` digits it can't be too great, and no sum is tested.
+#[inline(always)]
+fn few_digits_at(bytes: &[u8]) -> Option<(u64, &[u8])>
+    ensures { Gives (λ x. (x.0, x.1.now)) result (digits_at bytes.now) }
+{
+    let most = bytes.len().min(FEW);
+    let mut number: u64 = 0;
+    let mut at = 0;
+    while at < most && bytes[at].is_ascii_digit() {
+        number = number * 10 + (bytes[at] - b'0') as u64;
+        at += 1;
+    }
+    if at == FEW {
+        return digits_at(bytes);
+    }
+    Some((number, &bytes[at..]))
+}
+
 // The number in decimal that stands first, with no leading zeros.
+#[inline(always)]
 #[tactic(auto, unfolding(crate::specs::Reading::number_at))]
 fn number_at(bytes: &[u8]) -> Option<(u64, &[u8])>
     ensures { Gives (λ x. (x.0, x.1.now)) result (number_at bytes.now) }
 {
     if is_plain(bytes) {
-        digits_at(bytes)
+        few_digits_at(bytes)
     } else {
         None
     }
@@ -66,6 +88,7 @@ fn negated(number: u64) -> i64
     -1 - below
 }
 
+#[inline(always)]
 #[tactic(auto, unfolding(crate::specs::Reading::value_at))]
 fn value_at(bytes: &[u8]) -> Option<(Value, &[u8])>
     ensures { Gives (λ x. (x.0, x.1.now)) result (value_at bytes.now) }
@@ -93,6 +116,7 @@ fn value_at(bytes: &[u8]) -> Option<(Value, &[u8])>
     None
 }
 
+#[inline(always)]
 #[tactic(auto, unfolding(crate::specs::Reading::number_field))]
 fn number_field(bytes: &[u8]) -> Option<(u64, &[u8])>
     ensures { Gives (λ x. (x.0, x.1.now)) result (number_field bytes.now) }
@@ -100,6 +124,7 @@ fn number_field(bytes: &[u8]) -> Option<(u64, &[u8])>
     number_at(after(b" ", bytes)?)
 }
 
+#[inline(always)]
 #[tactic(auto, unfolding(crate::specs::Reading::value_field))]
 fn value_field(bytes: &[u8]) -> Option<(Value, &[u8])>
     ensures { Gives (λ x. (x.0, x.1.now)) result (value_field bytes.now) }
@@ -107,6 +132,7 @@ fn value_field(bytes: &[u8]) -> Option<(Value, &[u8])>
     value_at(after(b" ", bytes)?)
 }
 
+#[inline(always)]
 #[tactic(auto, unfolding(crate::specs::Reading::pair_field))]
 fn pair_field(bytes: &[u8]) -> Option<((u64, u64), &[u8])>
     ensures { Gives (λ x. (x.0, x.1.now)) result (pair_field bytes.now) }
@@ -116,6 +142,7 @@ fn pair_field(bytes: &[u8]) -> Option<((u64, u64), &[u8])>
     Some(((first, second), rest))
 }
 
+#[inline(always)]
 #[tactic(auto, unfolding(crate::specs::Reading::sent_field))]
 fn sent_field(bytes: &[u8]) -> Option<((u64, Value), &[u8])>
     ensures { Gives (λ x. (x.0, x.1.now)) result (sent_field bytes.now) }
@@ -126,6 +153,7 @@ fn sent_field(bytes: &[u8]) -> Option<((u64, Value), &[u8])>
 }
 
 // ` halt`, or a mark and a value.
+#[inline(always)]
 #[tactic(auto, unfolding(crate::specs::Reading::outcome_field))]
 fn outcome_field(bytes: &[u8]) -> Option<(Option<(u64, Value)>, &[u8])>
     ensures { Gives (λ x. (x.0, x.1.now)) result (outcome_field bytes.now) }
@@ -188,15 +216,6 @@ fn values_at<'a>(bytes: &'a [u8], args: &mut Args) -> Option<&'a [u8]>
     None
 }
 
-#[tactic(auto, unfolding(crate::specs::Reading::call_field))]
-fn call_field<'a>(bytes: &'a [u8], answers: &Answers, args: &mut Args) -> Option<(u32, &'a [u8])>
-    ensures { Gives (λ x. ((x.0, args.new), x.1.now)) result (call_field answers.now.names bytes.now) }
-{
-    let (site, rest) = name_at(after(b" ", bytes)?, answers)?;
-    let rest = arguments_at(rest, args)?;
-    Some((site, rest))
-}
-
 // The word of this kind.
 fn word_at(kind: Kind, bytes: &[u8]) -> Option<(Kind, &[u8])>
     ensures { Gives (λ x. (x.0, x.1.now)) result (kind_from (kind ∷ []) bytes.now) }
@@ -245,16 +264,19 @@ fn kind_at(bytes: &[u8]) -> Option<(Kind, &[u8])>
 // than to read a line. Each kind has a function of its own, since one for all would clear the room of all their fields at each line.
 
 #[inline(never)]
-#[tactic(auto, unfolding(crate::specs::Reading::fields_at))]
+#[tactic(auto, unfolding(crate::specs::Reading::fields_at, crate::specs::Reading::call_field))]
 fn call_at<'a>(bytes: &'a [u8], answers: &Answers, entry: &mut Entry) -> Option<&'a [u8]>
     ensures { Gives (λ r. (entry.new, r.now)) result (fields_at answers.now.names Call bytes.now) }
 {
     let (s, rest) = number_field(bytes)?;
     let (k, rest) = number_field(rest)?;
-    let mut args = Args::new();
-    let (site, rest) = call_field(rest, answers, &mut args)?;
-    *entry = Entry::Call(s, k, site, args);
-    Some(rest)
+    let (site, rest) = name_at(after(b" ", rest)?, answers)?;
+    // The arguments are read where they stay.
+    *entry = Entry::Call(s, k, site, Args::new());
+    match entry {
+        Entry::Call(_, _, _, args) => arguments_at(rest, args),
+        _ => None,
+    }
 }
 
 #[inline(never)]
