@@ -13,3 +13,4 @@ pub mod Limit
 pub mod Ranged
 pub mod Once
 pub mod Cases
+pub mod Worked

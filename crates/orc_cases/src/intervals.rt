@@ -51,37 +51,3 @@ pub(crate) fn intervals(alloc: Global, numbers: &[u64]) -> Result<Vec<Interval>,
         }
     }
 }
-
-#[cfg(test)]
-mod tests {
-    use super::*;
-    use std::test::Fail;
-
-    // Whether the intervals of these numbers begin and end so.
-    fn are(alloc: Global, numbers: &[u64], wanted: &[(u64, u64)]) -> bool {
-        let Ok(found) = intervals(alloc, numbers) else {
-            return false;
-        };
-        found.len() == wanted.len()
-            && found.iter().zip(wanted.iter()).all(|(interval, (first, last))| interval.first
-                == *first
-                && interval.last == *last)
-    }
-
-    #[test]
-    fn numbers_that_touch_are_one_interval(rt: HostRuntime) -> Result<(), Fail> {
-        let alloc = rt.alloc();
-        assert!(rt; are(alloc, &[], &[]));
-        assert!(rt; are(alloc, &[4], &[(4, 4)]));
-        assert!(rt; are(alloc, &[3, 4, 5, 9], &[(3, 5), (9, 9)]));
-        assert!(rt; are(alloc, &[0, 0, 2, 2, 3, 3, 3, 7], &[(0, 0), (2, 3), (7, 7)]));
-        assert!(rt;
-            are(
-                alloc,
-                &[0, u64::MAX - 1, u64::MAX, u64::MAX],
-                &[(0, 0), (u64::MAX - 1, u64::MAX)]
-            )
-        );
-        Ok(())
-    }
-}

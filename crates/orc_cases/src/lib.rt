@@ -8,8 +8,6 @@ pub mod laws;
 mod lines;
 mod ranges;
 mod sizes;
-#[cfg(test)]
-mod tests;
 mod text;
 mod ways;
 mod weights;

@@ -18,8 +18,6 @@ mod lists;
 mod sieve;
 mod states;
 mod tables;
-#[cfg(test)]
-mod tests;
 mod told;
 mod watch;
 

@@ -81,30 +81,3 @@ pub fn happenings_of(
     }
     Ok(happenings)
 }
-
-#[cfg(test)]
-mod tests {
-    use super::*;
-    use std::test::Fail;
-
-    const SITES: [ClaimSite; 2] = [
-        ClaimSite {
-            site: 7,
-            arguments: 2,
-        },
-        ClaimSite {
-            site: 7,
-            arguments: 1,
-        },
-    ];
-
-    #[test]
-    fn a_site_has_a_number_for_each_number_of_arguments(rt: HostRuntime) -> Result<(), Fail> {
-        let sites = SITES;
-        assert_eq!(rt; number_of(&sites, 7, 1), 1);
-        assert_eq!(rt; number_of(&sites, 7, 2), 0);
-        assert_eq!(rt; number_of(&sites, 7, 3), 2);
-        assert_eq!(rt; number_of(&sites, 8, 1), 2);
-        Ok(())
-    }
-}

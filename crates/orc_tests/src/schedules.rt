@@ -1,7 +1,5 @@
-//! Programs whose outcomes follow from the rules.
+//! Searches through every schedule of programs whose outcomes follow from the rules.
 
-use crate::claimed::ClaimSearched;
-use crate::exploration::{Explorer, Schedules, search, search_claim};
 use orc_claims::claim::{Claim, Event, Plain, Simple, Slot, Wanted};
 use orc_claims::happening::{Happening, Occurrence, Phase};
 use orc_outcome::End;
@@ -9,6 +7,7 @@ use orc_rules::answers::Answers;
 use orc_rules::param::{Operand, Operands};
 use orc_rules::program::{Definition, Program, TermNode, Terms};
 use orc_rules::value::Value;
+use orc_schedules::{ClaimSearched, Explorer, Schedules, search, search_claim};
 use orc_tally::ClaimSite;
 use std::alloc::{AllocError, Global};
 use std::test::Fail;

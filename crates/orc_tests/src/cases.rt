@@ -1,6 +1,6 @@
-//! Worked cases.
+//! Worked cases of tests: their ways, and how failing ones are told.
 
-use crate::{MOST_WAYS, Ways};
+use orc_cases::{MOST_WAYS, Ways};
 use orc_rules::answers::Answers;
 use orc_ways::read_test;
 use std::alloc::{AllocError, Global};
@@ -111,4 +111,91 @@ fn many(rt: HostRuntime) {
         ) == Ok(961)
     );
     assert!(rt; size(alloc, b"case c\n") == Ok(1));
+}
+
+fn is_among(scripts: &[&[u8]], wanted: &[u8]) -> bool {
+    for script in scripts {
+        if *script == wanted {
+            return true;
+        }
+    }
+    false
+}
+
+// What is told of the ranges in the ways with these scripts, as ways that fail.
+fn ranges_told(
+    alloc: Global,
+    text: &[u8],
+    failing: &[&[u8]],
+) -> Result<Option<Vec<u8>>, AllocError> {
+    let others = Answers::builtin(alloc)?;
+    let Ok(test) = read_test(alloc, text, &others) else {
+        return Ok(None);
+    };
+    let Some(ways) = Ways::of_case(alloc, &test, 0)? else {
+        return Ok(None);
+    };
+    let scripts = ways.scripts(alloc, ways.count(), b"")?;
+    let mut fails = Vec::new(alloc);
+    for script in scripts.iter() {
+        fails.push(is_among(failing, script.as_slice()))?;
+    }
+    Ok(Some(ways.failing_ranges(alloc, 0, fails.as_slice())?))
+}
+
+fn tells(alloc: Global, text: &[u8], failing: &[&[u8]], wanted: &[u8]) -> bool {
+    match ranges_told(alloc, text, failing) {
+        Ok(Some(told)) => told.as_slice() == wanted,
+        _ => false,
+    }
+}
+
+#[test]
+fn numbers_that_touch_are_one_interval(rt: HostRuntime) {
+    let alloc = rt.alloc();
+    let one = b"case c\nA() = 1 after 3..9\n";
+    assert!(rt; tells(alloc, one, &[], b"A() = 1 after \n"));
+    assert!(rt; tells(alloc, one, &[b"A() = 1 after 4\n"], b"A() = 1 after 4\n"));
+    assert!(rt;
+        tells(
+            alloc,
+            one,
+            &[
+                b"A() = 1 after 3\n",
+                b"A() = 1 after 4\n",
+                b"A() = 1 after 5\n",
+                b"A() = 1 after 9\n"
+            ],
+            b"A() = 1 after 3..5, 9\n"
+        )
+    );
+    // A number occurs once for each script that has it.
+    assert!(rt;
+        tells(
+            alloc,
+            b"case c\nA() = 1 after 0..7\nB() = 1 | 2 | 3\n",
+            &[
+                b"A() = 1\nB() = 1\n",
+                b"A() = 1\nB() = 2\n",
+                b"A() = 1 after 2\nB() = 1\n",
+                b"A() = 1 after 2\nB() = 3\n",
+                b"A() = 1 after 3\nB() = 1\n",
+                b"A() = 1 after 3\nB() = 2\n",
+                b"A() = 1 after 3\nB() = 3\n",
+                b"A() = 1 after 7\nB() = 1\n"
+            ],
+            b"A() = 1 after 0, 2..3, 7\n"
+        )
+    );
+    assert!(rt;
+        tells(
+            alloc,
+            b"case c\nA() = 1 after 9223372036854775806..9223372036854775807\n",
+            &[
+                b"A() = 1 after 9223372036854775806\n",
+                b"A() = 1 after 9223372036854775807\n"
+            ],
+            b"A() = 1 after 9223372036854775806..9223372036854775807\n"
+        )
+    );
 }

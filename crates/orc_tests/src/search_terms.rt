@@ -1,15 +1,15 @@
-//! Worked terms: what is made of them, by their numbers.
+//! Worked terms of a search through every schedule: what is made of them, by their numbers.
 
-use crate::change::{Change, changed};
-use crate::moves::{Source, successors};
-use crate::node::{Joint, Node, Tip, Waiting};
-use crate::source::numbered;
-use crate::successor::{Frame, Happening, Successor, lifted};
-use crate::terms::Terms;
 use orc_rules::answers::Answers;
 use orc_rules::param::{Operand, Operands, Param};
 use orc_rules::program::{Program, TermNode, Terms as Nodes};
 use orc_rules::value::{Answer, Found, Value};
+use orc_search::change::{Change, changed};
+use orc_search::moves::{Source, successors};
+use orc_search::node::{Joint, Node, Tip, Waiting};
+use orc_search::source::numbered;
+use orc_search::successor::{Frame, Happening, Successor, lifted};
+use orc_search::terms::Terms;
 use std::alloc::{AllocError, Global};
 use std::test::Fail;
 

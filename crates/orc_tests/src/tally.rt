@@ -1,0 +1,104 @@
+//! What claims see of runs, and what is told of them where there are many runs.
+
+use orc_claims::claim::{Claim, Plain};
+use orc_claims::happening::{Happening, Occurrence, Phase};
+use orc_claims::{Judged, Verdict};
+use orc_journal::{Journal, Version};
+use orc_rules::limits::MOST_ARGUMENTS;
+use orc_rules::value::Value;
+use orc_tally::{ClaimSite, Failure, Told, happenings_of, joined, noted, nothing_told};
+use std::alloc::{AllocError, Global};
+use std::test::Fail;
+
+const FAILS: Judged = Judged {
+    verdict: Verdict::FailsAt(3),
+    tested: true,
+};
+
+const HOLDS: Judged = Judged {
+    verdict: Verdict::Holds,
+    tested: false,
+};
+
+// What is told of one claim before the first trial.
+fn nothing(alloc: Global) -> Result<Vec<Told>, AllocError> {
+    let ends = Claim {
+        conditions: Vec::new(alloc),
+        plain: Plain::Ends(true, false, None),
+    };
+    let claims = vec![in alloc; ends]?;
+    nothing_told(alloc, claims.as_slice())
+}
+
+#[test]
+fn a_way_that_fails_twice_is_one_way(rt: HostRuntime) -> Result<(), Fail> {
+    let alloc = rt.alloc();
+    let nothing = nothing(alloc)?;
+    let holds = noted(alloc, 5, 0, nothing.as_slice(), &[HOLDS])?;
+    let fails = noted(alloc, 5, 1, holds.as_slice(), &[FAILS])?;
+    let told = noted(alloc, 5, 2, fails.as_slice(), &[FAILS])?;
+    let first = Failure {
+        way: 5,
+        order: 1,
+        verdict: Verdict::FailsAt(3),
+    };
+    let wanted = Told {
+        failing: 1,
+        first: Some(first),
+        tested: true,
+    };
+    assert_eq!(rt; told.first().copied(), Some(wanted));
+    let twice = joined(alloc, told.as_slice(), told.as_slice())?;
+    assert_eq!(rt;
+        twice.first().copied(),
+        Some(Told {
+            failing: 2,
+            first: Some(first),
+            tested: true
+        })
+    );
+    Ok(())
+}
+
+const ONE: Value = Value::Number(1);
+
+const SITES: [ClaimSite; 2] = [
+    ClaimSite {
+        site: 7,
+        arguments: 2,
+    },
+    ClaimSite {
+        site: 7,
+        arguments: 1,
+    },
+];
+
+// The number that claims have for a site that is called with these arguments.
+fn number_of(alloc: Global, site: u32, arguments: &[Value]) -> Result<Option<u32>, AllocError> {
+    if arguments.len() > MOST_ARGUMENTS {
+        return Err(AllocError);
+    }
+    let mut journal = Journal::new(alloc, Version::Two);
+    journal.push_call(1, 1, site, arguments)?;
+    let sites = SITES;
+    let happenings = happenings_of(alloc, &sites, &journal)?;
+    match happenings.as_slice() {
+        [
+            Happening {
+                what: Occurrence::Call(number, _, Phase::Called),
+                ..
+            },
+        ] => Ok(Some(*number)),
+        _ => Ok(None),
+    }
+}
+
+#[test]
+fn a_site_has_a_number_for_each_number_of_arguments(rt: HostRuntime) -> Result<(), Fail> {
+    let alloc = rt.alloc();
+    assert_eq!(rt; number_of(alloc, 7, &[ONE])?, Some(1));
+    assert_eq!(rt; number_of(alloc, 7, &[ONE, ONE])?, Some(0));
+    assert_eq!(rt; number_of(alloc, 7, &[ONE, ONE, ONE])?, Some(2));
+    assert_eq!(rt; number_of(alloc, 8, &[ONE])?, Some(2));
+    Ok(())
+}
