@@ -4,9 +4,13 @@
 #![tactic(auto)]
 
 mod arguments;
+mod commands;
 mod job;
+mod words;
 
-pub use arguments::{DEFAULT_STATES, DEFAULT_TRIALS, DEFAULT_WAYS, Ranges, read_words};
+pub use arguments::{DEFAULT_STATES, DEFAULT_TRIALS, DEFAULT_WAYS};
+pub use commands::Ranges;
 pub use job::{
     Asked, Job, Options, Order, STANDARD_INPUT, Shown, SurveyOptions, TestOptions, Wanted,
 };
+pub use words::read_words;

@@ -1,0 +1,162 @@
+//! The commands as `clap` reads them.
+
+use crate::arguments::{ARGUMENTS, Argument, Beside, COMMANDS, Takes};
+use clap::{Arg, ArgAction, Command, value_parser};
+use std::alloc::{AllocError, Global};
+
+const VERSION: &str = "0.1.0 (proved with logic dac8208d650f15bf)";
+
+/// What stands below the list of commands.
+const CODES: &str = "Faults, each one line on standard error, a code with its place:
+  S, C  the source's text, its names    (a byte, counted from 0)
+  L, J  the script, the journal's text  (a line, counted from 1)
+  T     the test's text                 (a line, counted from 1)
+  K     an entry of the journal         (counted from 1)
+  E     the engine
+
+Status:
+  0  halted, or done                    4  cut by a limit
+  1  a fault in one of the files        5  memory was refused
+  2  the command line was refused       6  a file or the output failed
+  3  quiet: it waits for ever           7  the engine is at fault";
+
+// What the help says of a setting.
+#[derive(Drop)]
+struct Told {
+    default: String,
+    help: String,
+}
+
+// An argument, and what is told of it where it is a setting.
+#[derive(Drop)]
+struct Row {
+    argument: &'static Argument,
+    told: Option<Told>,
+}
+
+impl Row {
+    // The error is refused memory.
+    fn new(alloc: Global, argument: &'static Argument) -> Result<Row, AllocError> {
+        let told = match &argument.takes {
+            Takes::Setting(least, most, default) => {
+                let help = argument.help;
+                Some(Told {
+                    default: format!(in alloc; "{default}")?,
+                    help: format!(in alloc; "{help}, {least} to {most}")?,
+                })
+            }
+            _ => None,
+        };
+        Ok(Row { argument, told })
+    }
+
+    fn is_of(&self, command: &str) -> bool {
+        for one in self.argument.of {
+            if *one == command {
+                return true;
+            }
+        }
+        false
+    }
+
+    // An argument with what the help says of it.
+    fn helping<'a>(&'a self, argument: Arg<'a>) -> Arg<'a> {
+        match &self.told {
+            Some(told) => argument
+                .help(told.help.as_str())
+                .default_value(told.default.as_str()),
+            None => argument.help(self.argument.help),
+        }
+    }
+
+    // An argument with what it goes beside. The error is refused memory.
+    fn beside<'a>(&self, argument: Arg<'a>) -> Result<Arg<'a>, AllocError> {
+        match self.argument.beside {
+            Beside::Anything => Ok(argument),
+            Beside::Not(other) => argument.conflicts_with(other),
+            Beside::Only(other) => argument.requires_arg(other),
+        }
+    }
+
+    // The argument as `clap` reads it. The error is refused memory.
+    fn argument<'a>(&'a self, alloc: Global) -> Result<Arg<'a>, AllocError> {
+        let name = self.argument.name;
+        let named = self.beside(self.helping(Arg::new(alloc, name)))?;
+        Ok(match self.argument.takes {
+            Takes::File(called) => named.value_name(called).required(true),
+            Takes::MaybeFile(called) => named.value_name(called),
+            Takes::Nothing => named.long(name).action(ArgAction::SetTrue),
+            Takes::Text(called) => named.long(name).value_name(called),
+            Takes::Word(called, words, default) => named
+                .long(name)
+                .value_name(called)
+                .value_parser(words)
+                .default_value(default),
+            Takes::Number => named
+                .long(name)
+                .value_name("N")
+                .value_parser(value_parser!(u64)),
+            Takes::Choice(most) => named
+                .long(name)
+                .value_name("K")
+                .value_parser(value_parser!(u64).range(1..=most)),
+            Takes::Setting(least, most, _) => named
+                .long(name)
+                .value_name("N")
+                .value_parser(value_parser!(u64).range(least..=most)),
+        })
+    }
+}
+
+/// The numbers that options take, which a command borrows.
+pub struct Ranges {
+    rows: Vec<Row>,
+}
+
+// Written out, so that a caller's proof sees one call and not the drop of each field.
+impl Drop for Ranges {
+    fn drop(self) {
+        let Ranges { rows: _ } = self;
+    }
+}
+
+impl Ranges {
+    /// The error is refused memory.
+    pub fn new(alloc: Global) -> Result<Ranges, AllocError> {
+        let mut rows = Vec::new(alloc);
+        for argument in ARGUMENTS.iter() {
+            rows.push(Row::new(alloc, argument)?)?;
+        }
+        Ok(Ranges { rows })
+    }
+
+    // A command with its arguments. The error is refused memory.
+    fn command<'a>(
+        &'a self,
+        alloc: Global,
+        name: &'a str,
+        about: &'a str,
+    ) -> Result<Command<'a>, AllocError> {
+        let mut command = Command::new(alloc, name).about(about);
+        for row in self.rows.as_slice() {
+            if row.is_of(name) {
+                command = command.arg(row.argument(alloc)?)?;
+            }
+        }
+        Ok(command)
+    }
+
+    /// The whole command line. The error is refused memory.
+    pub(crate) fn orc_command<'a>(&'a self, alloc: Global) -> Result<Command<'a>, AllocError> {
+        let mut orc = Command::new(alloc, "orc")
+            .version(VERSION)
+            .about("Run programs of the Orc calculus, and check their journals")
+            .after_help(CODES)
+            .subcommand_required(true)
+            .arg_required_else_help(true);
+        for (name, about) in COMMANDS.iter() {
+            orc = orc.subcommand(self.command(alloc, *name, *about)?)?;
+        }
+        Ok(orc)
+    }
+}
