@@ -12,10 +12,15 @@ use orc_rules::limits::DEFAULT_WORKERS;
 use std::alloc::Global;
 use std::convert::AsStr;
 
+// Whether a flag is there. It states nothing, so that no caller's proof reads what `clap` states of flags.
+fn is_given(given: &ArgMatches, name: &str) -> bool {
+    given.get_flag(name)
+}
+
 fn wanted_of(given: &ArgMatches) -> Wanted {
-    if given.get_flag("journal") {
+    if is_given(given, "journal") {
         Wanted::Journal
-    } else if given.get_flag("times") {
+    } else if is_given(given, "times") {
         Wanted::Times
     } else {
         Wanted::Values
@@ -32,7 +37,7 @@ fn order_of(given: &ArgMatches) -> Order {
 
 // How a program is run. The order of a number is one worker's.
 fn options_of(given: &ArgMatches) -> Option<Options> {
-    let order = if given.get_flag("unordered") {
+    let order = if is_given(given, "unordered") {
         Order::Unordered
     } else {
         order_of(given)
@@ -59,7 +64,7 @@ fn survey_options_of(given: &ArgMatches) -> Option<SurveyOptions> {
 
 // Through how many states all schedules are searched, where they are.
 fn states_of(given: &ArgMatches) -> Option<u64> {
-    if !given.get_flag("all") {
+    if !is_given(given, "all") {
         return None;
     }
     given.get_one::<u64>("states")
@@ -98,7 +103,7 @@ fn shown_of(given: &ArgMatches) -> Shown {
     match given.get_one::<u64>("fail") {
         None => Shown::Table,
         Some(number) => {
-            if given.get_flag("journal") {
+            if is_given(given, "journal") {
                 Shown::Journal(number)
             } else {
                 Shown::Script(number)
@@ -119,7 +124,7 @@ fn test_options_of(given: &ArgMatches) -> Option<TestOptions> {
 }
 
 fn form_of(given: &ArgMatches) -> Option<Form> {
-    if given.get_flag("text") {
+    if is_given(given, "text") {
         return Some(Form::Text(given.get_one::<u64>("width")?));
     }
     let theme = match given.get_str("theme")? {
@@ -172,7 +177,7 @@ fn draw_of<'a>(file: &'a str, given: &ArgMatches<'a>) -> Option<Job<'a>> {
     let script = given.get_str("script");
     let options = orc_draw::Options {
         form: form_of(given)?,
-        all: given.get_flag("all"),
+        all: is_given(given, "all"),
     };
     match given.get_str("journal") {
         Some(journal) => Some(Job::Draw {
@@ -237,7 +242,7 @@ pub fn read_words<'a, S: AsStr>(
             if job.shares_input() {
                 return Err(command.error(ErrorKind::ArgumentConflict, SHARED)?);
             }
-            let explain = given.get_flag("explain");
+            let explain = is_given(given, "explain");
             return Ok(Asked { job, explain });
         }
     }
