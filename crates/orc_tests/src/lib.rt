@@ -1,12 +1,7 @@
 //! Tests over several crates of what the program by itself can't show: sites and gates of one's own, the parts of an engine with workers, and the
-//! reference; and of single crates, which would be proved twice if they had tests of their own. None needs `orc_run`, so the gate proves them beside it. A
-//! test that needs no more than the program is a row of `crates/orc_rows/data`.
+//! reference. None needs `orc_run`, so the gate proves them beside it. A test that needs no more than the program is a row of `crates/orc_rows/data`.
 #![tactic(auto)]
 
-#[cfg(test)]
-mod cases;
-#[cfg(test)]
-mod claims;
 #[cfg(test)]
 mod crews;
 #[cfg(test)]
@@ -24,18 +19,8 @@ mod pushes;
 #[cfg(test)]
 mod runs;
 #[cfg(test)]
-mod schedules;
-#[cfg(test)]
 mod scope_rows;
 #[cfg(test)]
 mod scripts;
 #[cfg(test)]
-mod search_places;
-#[cfg(test)]
-mod search_terms;
-#[cfg(test)]
 mod syntax_rows;
-#[cfg(test)]
-mod tally;
-#[cfg(test)]
-mod watches;
