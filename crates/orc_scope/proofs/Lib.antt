@@ -4,6 +4,7 @@ pub mod Build
 pub mod Closed
 pub mod Cuts
 pub mod Deep
+pub mod Early
 pub mod Least
 pub mod Listed
 pub mod Output

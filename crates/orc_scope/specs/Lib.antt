@@ -4,6 +4,7 @@ pub mod Deep
 pub mod Lawful
 pub mod Listed
 pub mod Looking
+pub mod Names
 pub mod Numbers
 pub mod Pieces
 pub mod Program

@@ -4,10 +4,15 @@ ghost use Rattle.std.specs.Prelude.{◌≡◌, ◌-◌, ◌++◌, ◌∷◌, [],
 ghost use Rattle.std.specs.HashMap.{get_by};
 ghost use Rattle.orc_syntax.specs.Ast.{text_of};
 ghost use Rattle.orc_scope.specs.Scope.{position};
+ghost use Rattle.orc_scope.specs.Names.{late};
+ghost use Rattle.orc_scope.specs.declared.names.TheConstants.{EARLY};
 
 use std::alloc::{AllocError, Global};
 use std::collections::HashMap;
 use std::marker::Model;
+
+/// So many names at the front are compared one by one: most scopes have no more, and a hash takes longer.
+const EARLY: usize = 8;
 
 /// Names in their order. A name is found by its text, and the time that this takes doesn't grow with their number.
 pub struct Names<'a> {
@@ -30,7 +35,40 @@ impl<'a> Model for Names<'a> {
 
     ghost view = { λ n. map text_of n.texts.items };
 
-    ghost invariant = { λ n. (text : List ℕ) → get_by (λ k. bytes_eq text k.now) n.places ≡ position (map text_of n.texts.items) text };
+    ghost invariant = { λ n. (text : List ℕ) → get_by (λ k. bytes_eq text k.now) n.places ≡ late EARLY (position (map text_of n.texts.items) text) };
+}
+
+// Whether two names are the same. They are compared from the end: names that begin alike are many.
+#[tactic(auto, using(crate::proofs::Early::all_dropped, crate::proofs::Early::one_more, crate::proofs::Early::same_bytes))]
+fn is_same(name: &[u8], text: &[u8]) -> bool
+    ensures { result ≡ bytes_eq name.now text.now }
+{
+    if name.len() != text.len() {
+        return false;
+    }
+    let mut at = name.len();
+    while at > 0 {
+        at -= 1;
+        if name[at] != text[at] {
+            return false;
+        }
+    }
+    true
+}
+
+// The place of a name among these, from 0: the first one.
+#[tactic(auto, using(crate::proofs::Early::place_here, crate::proofs::Early::place_later, crate::proofs::Early::place_nowhere))]
+fn place_among(names: &[&[u8]], text: &[u8]) -> Option<usize>
+    ensures { result ≡ position (map text_of names.now) text.now }
+{
+    let mut at = 0;
+    while at < names.len() {
+        if is_same(names[at], text) {
+            return Some(at);
+        }
+        at += 1;
+    }
+    None
 }
 
 impl<'a> Names<'a> {
@@ -52,10 +90,16 @@ impl<'a> Names<'a> {
     }
 
     /// The place of a name, from 0: the first one.
+    #[tactic(auto, using(crate::proofs::Early::found_early, crate::proofs::Early::found_late, crate::proofs::Early::found_nowhere))]
     pub fn find(&self, text: &[u8]) -> Option<usize>
         ensures { result ≡ position self.now text.now }
     {
-        self.places.get(&text).copied()
+        let early = self.texts.len().min(EARLY);
+        match place_among(&self.texts[..early], text) {
+            Some(at) => Some(at),
+            None if self.texts.len() > EARLY => self.places.get(&text).copied(),
+            None => None,
+        }
     }
 
     /// The name at a place, from 0.
@@ -72,7 +116,7 @@ impl<'a> Names<'a> {
     {
         let at = self.texts.len();
         self.texts.reserve(1)?;
-        if self.places.get(&text).is_none() {
+        if at >= EARLY && self.find(text).is_none() {
             self.places.insert(text, at)?;
         }
         self.texts.push(text)?;
@@ -86,7 +130,8 @@ impl<'a> Names<'a> {
         let Some(text) = self.texts.pop() else {
             return;
         };
-        if self.places.get(&text).copied() == Some(self.texts.len()) {
+        let at = self.texts.len();
+        if at >= EARLY && self.places.get(&text).copied() == Some(at) {
             self.places.remove(&text);
         }
     }
