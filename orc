@@ -1,9 +1,12 @@
 #!/bin/bash
 # Runs the program orc, and first proves and builds it where a source is newer than the program. While that is done for the first time, it shows
-# what the unproved program answers: `--no-preview` as the first word, or ORC_PREVIEW=0, leaves that out.
+# what the unproved program answers, and gives a run's proved answer as soon as the check of journals is proved, by the journal that the unproved
+# program wrote: `--no-preview` as the first word, or ORC_PREVIEW=0, leaves both out.
 set -eu
 top=$(cd "$(dirname "$(readlink -f "$0")")" && pwd)
 program=$top/crates/orc/out/orc
+# The program that checks a journal, and writes what its run published.
+certifier=$top/crates/orc_certify/out/orc_certify
 wants_preview=${ORC_PREVIEW:-1}
 if [ "${1:-}" = --no-preview ]; then
     wants_preview=0
@@ -27,12 +30,12 @@ below() {
         END { count = split(wanted, all, " "); for (n = 1; n <= count; n++) visit(all[n]) }' "$top/crates.txt"
 }
 
-# Whether a source of the program changed since it was built.
+# is_stale PROGRAM: whether a source of it changed since it was built.
 is_stale() {
-    [ -x "$program" ] || return 0
-    local places=("$top/crates.txt") crate
-    for crate in $(below orc); do places+=("$top/crates/$crate"/{src,specs,proofs}); done
-    [ -n "$(find "${places[@]}" -newer "$program" -print -quit 2>/dev/null)" ]
+    local built=$top/crates/$1/out/$1 places=("$top/crates.txt") crate
+    [ -x "$built" ] || return 0
+    for crate in $(below "$1"); do places+=("$top/crates/$crate"/{src,specs,proofs}); done
+    [ -n "$(find "${places[@]}" -newer "$built" -print -quit 2>/dev/null)" ]
 }
 
 # How many processors to use: one for each 2 GB of free memory at most. Five jobs in two lanes take 8 GB.
@@ -85,7 +88,7 @@ weigh() {
     declare -A bytes=()
     for crate; do bytes[$crate]=$(cat "$top/crates/$crate"/{src,specs,proofs}/* 2>/dev/null | wc -c); done
     for crate; do
-        if [ -e "$top/crates/$crate/out/rlib" ]; then
+        if [ -e "$top/crates/$crate/out/rlib" ] || { [ "$crate" = orc_certify ] && [ -x "$certifier" ]; }; then
             echo "$crate 0"
             continue
         fi
@@ -193,19 +196,28 @@ beside() {
     set +m
 }
 
-# prove ROOT JOBS CRATE: proves and builds a library. Those below it are built, so `rt` makes no quick pass over the sources first.
+# prove ROOT JOBS CRATE: proves and builds a library, or the program that checks journals. Those below it are built, so `rt` makes no quick pass over
+# the sources first.
 prove() {
-    local status=0
+    local status=0 built=$1/crates/$3/out/$3
     if has_failed; then return 1; fi
-    (cd "$1/crates/$3" && exec rt lib --jobs "$2") >"$room/$3.log" 2>&1 || status=$?
+    if [ "$3" = orc_certify ]; then
+        # It is run without words, so its status says nothing: it is built, or it isn't.
+        rm -f "$built"
+        (cd "$1/crates/$3" && exec rt run --jobs "$2") >"$room/$3.log" 2>&1 || status=$?
+        if [ -x "$built" ]; then status=0; fi
+    else
+        (cd "$1/crates/$3" && exec rt lib --jobs "$2") >"$room/$3.log" 2>&1 || status=$?
+    fi
     cat "$room/$3.log" >>"$log" || true
     [ "$status" = 0 ] || fail "$3" "$status"
     return "$status"
 }
 
-# Whether all that a crate stands on is proved: what it names, and so what that names.
+# Whether all that a crate stands on is proved: what it names, and so what that names. What the check of journals doesn't need waits for it.
 is_ready() {
     local crate
+    if [ -n "$early" ] && [[ " $early " != *" $1 "* ]] && [ ! -e "$room/orc_certify.proved" ]; then return 1; fi
     for crate in ${uses[$1]}; do
         # The others are libraries of the kit.
         [ -z "${uses[$crate]+known}" ] || [ -e "$room/$crate.proved" ] || return 1
@@ -315,6 +327,7 @@ in_turn() {
     shift
     for crate; do
         kill -0 "$$" 2>/dev/null || return 1
+        [ ! -e "$room/$crate.proved" ] || continue
         begin "$crate"
         prove "$top" "$jobs" "$crate" || return 1
         tell "$crate" || return 1
@@ -322,6 +335,38 @@ in_turn() {
 }
 
 compile() { cd "$top/crates/orc" && exec rt run --jobs "$1" -- --version >"$room/orc.log" 2>&1; }
+
+# plan_answer WORD..: whether a journal can answer this command, which is `run` with what it publishes or with its journal. Sets `form`, which is
+# empty if not, and what the run is given: `file`, `script` and `limit`.
+plan_answer() {
+    local word wanted=values
+    form='' file='' script=/dev/null limit=''
+    [ "${1:-}" = run ] || return 0
+    shift
+    while [ "$#" -gt 0 ]; do
+        word=$1
+        shift
+        case $word in
+        --script | --limit | --workers | --order)
+            [ "$#" -gt 0 ] || return 0
+            word=$word=$1
+            shift
+            ;;
+        esac
+        case $word in
+        --script=*) script=${word#*=} ;;
+        --limit=*) limit=${word#*=} ;;
+        --workers=* | --order=* | --unordered) ;;
+        --journal) wanted=journal ;;
+        -*) return 0 ;;
+        *)
+            [ -z "$file" ] || return 0
+            file=$word
+            ;;
+        esac
+    done
+    if [ -n "$file" ] && [ "$script" != - ]; then form=$wanted; fi
+}
 
 # plan_preview OWN WORD..: `rt try` reads only files that are handed to it by a name without folders. Copies the files that the words name, and sets
 # `data` and `words`; or says in `reason` why that can't be.
@@ -362,11 +407,13 @@ plan_preview() {
         fi
         if [ -n "$reason" ]; then return 1; fi
     done
+    # The values that are wanted stand in the journal.
+    if [ "$form" = values ]; then words+=(--journal); fi
 }
 
 # show_preview OWN SECONDS: what the unproved program wrote and its status, each line marked. `rt try` adds some lines to standard error.
 show_preview() {
-    local own=$1 end count
+    local own=$1 text=$1/out comes='the proving has ended' end count
     end=$(tail -n 1 "$own/err" 2>/dev/null)
     case $end in
     "run=ended status="*) ;;
@@ -375,18 +422,23 @@ show_preview() {
         return
         ;;
     esac
-    if [ "$(wc -c <"$own/out")" -gt 1048576 ]; then
+    if [ "$form" = values ]; then
+        text=$own/values
+        sed -n 's/^publish [0-9]* //p' "$own/out" >"$text" || return
+    fi
+    if [ "$(wc -c <"$text")" -gt 1048576 ]; then
         say "no preview: the output has over 1 MiB"
         return
     fi
     end=${end#run=ended status=}
-    { cat "$own/out" && sed -e '/^checked: ended /d' -e '/^races: /d' -e '/^run=ended status=/d' "$own/err"; } >"$own/written" || return
+    { cat "$text" && sed -e '/^checked: ended /d' -e '/^races: /d' -e '/^run=ended status=/d' "$own/err"; } >"$own/written" || return
     count=$(wc -l <"$own/written")
+    case $form${end%% *} in values[03] | journal[03]) comes='the check of journals is proved' ;; esac
     {
         say "a preview, NOT PROVED YET (after $2 s):"
         sed -n -e '100q' -e 's/^/not proved yet | /p' "$own/written"
         if [ "$count" -ge 100 ]; then echo "not proved yet | .. (of $count lines)"; fi
-        echo "not proved yet: status ${end%% *}. The proved answer comes when the proving has ended."
+        echo "not proved yet: status ${end%% *}. The proved answer comes when $comes."
     } >"$own/shown" 2>&1 || return
     : >"$room/hush"
     cat "$own/shown" >&2
@@ -417,7 +469,56 @@ preview() {
     trap 'wait "$tried"; exit 143' TERM
     wait "$tried" || true
     trap - TERM
-    if kill -0 "$$" 2>/dev/null; then show_preview "$own" "$((SECONDS - begun))"; fi
+    if kill -0 "$$" 2>/dev/null; then
+        show_preview "$own" "$((SECONDS - begun))"
+        # From here on its journal is there.
+        sed -n '$s/^run=ended status=\([0-9]*\) .*/\1/p' "$own/err" >"$own/status" || true
+    fi
+}
+
+# can_answer: whether the journal of the preview can be checked now.
+can_answer() { [ -n "$early" ] && [ -z "$was_tried" ] && [ -e "$room/orc_certify.proved" ] && [ -s "$room/.preview/status" ]; }
+
+# answer_early: gives the proved answer, if the check takes the journal that the unproved program wrote as that of a whole run.
+answer_early() {
+    local found status=0
+    was_tried=yes
+    number "$room/.preview/status"
+    # A run that a limit has cut has no such journal, nor has what is no run.
+    case $found in 0 | 3) ;; *) return ;; esac
+    : >"$room/hush"
+    printf '%s' "$clear" >&2
+    # What breaks this script off reaches it while it waits, and not while it runs a command.
+    set -m
+    "$certifier" "$form" "$file" "$room/.preview/out" "$script" ${limit:+"$limit"} 2>>"$log" </dev/null &
+    set +m
+    wait $! || status=$?
+    case $status in
+    0 | 3)
+        answered=$status
+        say "this is the proved answer (after $((SECONDS - started)) s): a proved check took the run's journal. The status will be $status."
+        say "The proofs of the whole program go on. They may be broken off: the next call goes on from there."
+        ;;
+    6 | 141)
+        answered=$status
+        say write
+        ;;
+    *) say "the check doesn't take the journal of the preview: the proved answer comes when the proving has ended" ;;
+    esac
+    rm -f "$room/hush"
+}
+
+# await PID..: waits for these lanes, and gives an early answer as soon as it can be given.
+await() {
+    local each
+    for each; do
+        while [ -n "$early" ] && [ -z "$was_tried" ] && kill -0 "$each" 2>/dev/null; do
+            if can_answer; then answer_early; fi
+            sleep 0.3 &
+            wait $! || true
+        done
+        wait "$each" || broken=yes
+    done
 }
 
 # Ends all that this script has started, and waits for it.
@@ -475,11 +576,16 @@ first_start() {
     declare -gA uses=()
     say "building the program for the first time: every proof is checked, on $jobs processors."
     say "That takes half an hour to an hour; the next call starts at once. The log is build.log."
+    if [ -n "$early" ]; then say "A proved answer to this command comes earlier, when the check of journals is proved."; fi
     say "It may be broken off: the next call goes on from there."
     while IFS=: read -r each names; do
         if [[ $each == [a-z]* ]]; then uses[${each%% *}]=$names; fi
     done <"$top/crates.txt"
     crates=$(ways <"$room/weights" | sort -rn | cut -d ' ' -f 2 | grep -v '^orc$')
+    # By the longest way to the check of journals, then to the program.
+    if [ -n "$early" ]; then
+        crates=$( (grep -wF "${early// /$'\n'}" "$room/weights" | ways | sort -rn | cut -d ' ' -f 2 && echo "$crates") | awk '!seen[$1]++')
+    fi
     lanes=()
     for ((each = 0; each < lane_count; each++)); do
         # shellcheck disable=SC2086
@@ -505,12 +611,13 @@ tell_failure() {
 }
 
 build() {
-    local jobs libraries each is_first='' broken='' lanes=()
+    local jobs libraries each is_first='' broken='' early='' was_tried='' lanes=()
+    local form='' file script limit
     if ! command -v rt >/dev/null; then
         give_up "'rt', the prover and compiler of Rattle, isn't on the PATH; the program can't be built without it"
     fi
     lock_up
-    if ! is_stale; then
+    if ! is_stale orc; then
         exec {lock}<&-
         return
     fi
@@ -526,13 +633,23 @@ build() {
     log=$top/build.log
     { : >"$log" && : >"$room/going"; } 2>/dev/null || give_up "the program can't be built, since $log can't be written"
     jobs=$(processors)
-    libraries=$(below orc | grep -v '^orc$')
-    total=$(wc -w <<<"$libraries")
     [ -x "$program" ] || is_first=yes
+    if [ -n "$is_first" ] && [ "$wants_preview" != 0 ]; then plan_answer "$@"; fi
+    libraries=$(below orc | grep -v '^orc$')
+    if [ -n "$form" ]; then
+        early=$(below orc_certify | paste -sd ' ')
+        libraries=$(below orc_certify orc | grep -v '^orc$')
+    fi
+    total=$(wc -w <<<"$libraries")
     lane_count=1
     if [ -n "$is_first" ] && [ "$jobs" -gt 1 ]; then lane_count=$((jobs < 4 ? 2 : 4)); fi
     # shellcheck disable=SC2086
     weigh $libraries orc >"$room/weights"
+    if [ -n "$early" ] && ! is_stale orc_certify; then
+        # An earlier start has built it.
+        begin orc_certify
+        mkdir "$room/orc_certify.begun" && echo 0 >"$room/orc_certify.proved"
+    fi
     if [ -t 2 ]; then clear=$'\r\e[K'; fi
     if [ "$lane_count" -gt 1 ]; then
         first_start "$jobs"
@@ -544,7 +661,7 @@ build() {
     fi
     if [ -n "$is_first" ] && [ "$wants_preview" != 0 ]; then beside preview "$@"; fi
     [ -z "$clear" ] || beside watch
-    for each in "${lanes[@]}"; do wait "$each" || broken=yes; done
+    await "${lanes[@]}"
     if [ -z "$broken" ] && ! has_failed; then
         [ -n "$clear" ] || say "compiling orc ($((SECONDS - started)) s so far$(left))"
         begin orc
@@ -565,5 +682,8 @@ build() {
     exec {lock}<&-
 }
 
-if is_stale; then build "$@"; fi
+# The status of an answer that was given early.
+answered=
+if is_stale orc; then build "$@"; fi
+if [ -n "$answered" ]; then exit "$answered"; fi
 exec "$program" "$@"

@@ -10,7 +10,7 @@ use Rattle.orc_rules.specs.Text.{line}
 use Rattle.orc_journal.specs.Written.{Written}
 use Rattle.orc_journal_text.specs.Texts.{header, entry_lines, journal_text}
 use Rattle.orc_journal_text.proofs.Composing.{lines_more}
-use Rattle.orc_run.specs.Output.{AppendsPrefix}
+use Rattle.orc_output.specs.Output.{AppendsPrefix}
 
 -- what holds without a fault, and at one
 pub on_ok : {X Y A B : Type 0} (r : Result X Y) → (A → B) → OnOk r A → OnOk r B

@@ -25,7 +25,7 @@ use Rattle.orc_schedules.specs.declared.ended.Ended.{Ended}
 use Rattle.orc_schedules.specs.declared.exploration.Schedules.{Schedules}
 use Rattle.orc_schedules.specs.declared.exploration.Schedules.TheVariants as schedules
 use Rattle.orc_run.proofs.Listed.{at_back, at_front, of_either}
-use Rattle.orc_run.specs.Output.{AppendsPrefix}
+use Rattle.orc_output.specs.Output.{AppendsPrefix}
 use Rattle.orc_run.specs.Searched.{AreMore, Closes, HasEnd, IsUnseen, LeavesUnsearched, TellsAll, ended_of, found_of, last_line, line_of_all, long, long_line, many, none, says_all, these, together, unseen_lines}
 use Rattle.orc_run.specs.Surveyed.{IsUnwritten, LeavesUnsurveyed}
 use Rattle.orc_run.specs.declared.faults.RunFault.{RunFault}

@@ -19,7 +19,7 @@ use Rattle.orc_journal_text.specs.Texts.{IsJournal, IsFault as IsBadText}
 use Rattle.orc_checker.specs.Checker.{context}
 use Rattle.orc_verdict.specs.Verdicts.{records_cancels, IsCutShort}
 use Rattle.orc_load.specs.Loading.{IsProgramOf}
-use Rattle.orc_run.specs.Output.{AppendsPrefix}
+use Rattle.orc_output.specs.Output.{AppendsPrefix}
 use Rattle.orc_run.specs.Running.{IsUnloaded, Runs}
 use Rattle.orc_outcome.specs.declared.end.End.{End}
 use Rattle.orc_outcome.specs.declared.end.End.TheVariants as ends

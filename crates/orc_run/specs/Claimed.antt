@@ -16,7 +16,7 @@ use Rattle.orc_tally.specs.Sight.{Sight, sight}
 use Rattle.orc_orders.specs.Trials.{claim_sites}
 use Rattle.orc_findings.specs.Findings.{failing, findings_text}
 use Rattle.orc_run.specs.Checked.{IsCheckFault, IsJudgedAt, verdict_line}
-use Rattle.orc_run.specs.Output.{AppendsPrefix}
+use Rattle.orc_output.specs.Output.{AppendsPrefix}
 use Rattle.orc_run.specs.Running.{IsUnloaded}
 use Rattle.orc_run.specs.declared.faults.RunFault.{RunFault}
 use Rattle.orc_run.specs.declared.faults.RunFault.TheVariants as fault

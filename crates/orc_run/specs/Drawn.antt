@@ -5,7 +5,7 @@ use Rattle.std.specs.Io.KnownBytes.{Keeps, Appends}
 use Rattle.orc_rules.specs.declared.entry.State.{State}
 use Rattle.orc_journal.specs.Written.{Written}
 use Rattle.orc_run.specs.Checked.{IsCheckFault, IsJudged}
-use Rattle.orc_run.specs.Output.{AppendsPrefix}
+use Rattle.orc_output.specs.Output.{AppendsPrefix}
 use Rattle.orc_engine.specs.Ranges.{IsInRange}
 use Rattle.orc_scheduler.specs.declared.fault.EngineFault.TheVariants as engine
 use Rattle.orc_run.specs.Running.{IsFaultOf, Runs}

@@ -7,7 +7,6 @@ pub mod Drawn
 pub mod Failures
 pub mod Faults
 pub mod Inputs
-pub mod Output
 pub mod Printed
 pub mod Running
 pub mod Searched

@@ -5,7 +5,7 @@ use Rattle.std.specs.Io.KnownBytes.{Keeps, Appends}
 use Rattle.orc_syntax.specs.Tree.{Source}
 use Rattle.orc_syntax.specs.Text.{SpellsText, IsFault, IfFault}
 use Rattle.orc_syntax.specs.Printing.{printed}
-use Rattle.orc_run.specs.Output.{AppendsPrefix}
+use Rattle.orc_output.specs.Output.{AppendsPrefix}
 use Rattle.orc_run.specs.declared.faults.RunFault.{RunFault}
 use Rattle.orc_run.specs.declared.faults.RunFault.TheVariants as fault
 

@@ -18,7 +18,7 @@ use Rattle.orc_journal.specs.Written.{Written}
 use Rattle.orc_outcome.specs.Outcome.{Outcome, IsRun, Tells}
 use Rattle.orc_outcome.specs.declared.end.Summary.{Summary}
 use Rattle.orc_scheduler.specs.Faults.{IsOwn}
-use Rattle.orc_run.specs.Output.{AppendsPrefix}
+use Rattle.orc_output.specs.Output.{AppendsPrefix}
 use Rattle.orc_run.specs.Times.{timed}
 use Rattle.orc_cli.specs.Wanted.{keeps_journal}
 use Rattle.orc_cli.specs.declared.job.Options.{Options}

@@ -16,7 +16,7 @@ use Rattle.orc_schedules.specs.Reached.{AreAll, IsAmong}
 use Rattle.orc_schedules.specs.declared.ended.Ended.{Ended}
 use Rattle.orc_schedules.specs.declared.exploration.Schedules.{Schedules}
 use Rattle.orc_schedules.specs.declared.exploration.Schedules.TheVariants as schedules
-use Rattle.orc_run.specs.Output.{AppendsPrefix}
+use Rattle.orc_output.specs.Output.{AppendsPrefix}
 use Rattle.orc_run.specs.declared.faults.RunFault.{RunFault}
 use Rattle.orc_run.specs.declared.faults.RunFault.TheVariants as fault
 

@@ -16,7 +16,7 @@ use Rattle.orc_outcome.specs.declared.played.Played.{Played}
 use Rattle.orc_orders.specs.Survey.{IsSurvey}
 use Rattle.orc_orders.specs.declared.seen.Seen.{Seen}
 use Rattle.orc_schedules.specs.declared.ended.Ended.{Ended}
-use Rattle.orc_run.specs.Output.{AppendsPrefix}
+use Rattle.orc_output.specs.Output.{AppendsPrefix}
 use Rattle.orc_run.specs.Running.{IsFaultOf, IsOwnOf}
 use Rattle.orc_run.specs.Searched.{IsUnseen, ended_of}
 use Rattle.orc_scheduler.specs.declared.fault.EngineFault.TheVariants as engine

@@ -9,7 +9,7 @@ use Rattle.orc_load.specs.Loading.{IsProgramOf}
 use Rattle.orc_orders.specs.Lines.{lines}
 use Rattle.orc_orders.specs.Survey.{IsSurvey}
 use Rattle.orc_orders.specs.declared.seen.Seen.{Seen}
-use Rattle.orc_run.specs.Output.{AppendsPrefix}
+use Rattle.orc_output.specs.Output.{AppendsPrefix}
 use Rattle.orc_run.specs.declared.faults.RunFault.{RunFault}
 use Rattle.orc_run.specs.declared.faults.RunFault.TheVariants as fault
 

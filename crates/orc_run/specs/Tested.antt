@@ -31,7 +31,7 @@ use Rattle.orc_cli.specs.declared.job.Shown.TheVariants as shown
 use Rattle.orc_cli.specs.declared.job.TestOptions.{TestOptions}
 use Rattle.orc_cli.specs.declared.job.Wanted.TheVariants as wanted
 use Rattle.orc_run.specs.Called.{Named, options_text}
-use Rattle.orc_run.specs.Output.{AppendsPrefix}
+use Rattle.orc_output.specs.Output.{AppendsPrefix}
 use Rattle.orc_run.specs.Running.{IsOwnOf, Ran, of_load}
 use Rattle.orc_run.specs.Whole.{AreSaid, IsScriptAt}
 use Rattle.orc_run.specs.declared.faults.RunFault.{RunFault}

@@ -11,9 +11,9 @@ ghost use Rattle.orc_run.specs.Claimed.{HasClaimed, IsUnclaimedFor, IsUnreadTest
 
 use crate::faults::RunFault;
 use crate::judge::{Judged, judge, line_of};
-use crate::output::{WriteFault, write_text};
 use orc_findings::{Findings, Seen, find};
 use orc_orders::claim_sites;
+use orc_output::{WriteFault, write_text};
 use orc_site::read_script;
 use orc_syntax::parse;
 use orc_tally::happenings_of;

@@ -8,7 +8,6 @@ ghost use Rattle.orc_run.specs.declared.explained.Explained.TheVariants.{Nothing
 use crate::failures::Failure;
 use crate::faults::RunFault;
 use crate::inputs::{ReadFault, title_of};
-use crate::output::{WriteFault, write_text};
 use crate::run_end::explain_run;
 use orc_engine::EngineFault;
 use orc_explain_fault::{
@@ -17,6 +16,7 @@ use orc_explain_fault::{
 use orc_explain_refusal::explain_refusal;
 use orc_load::Loaded;
 use orc_outcome::Played;
+use orc_output::{WriteFault, write_text};
 use orc_report::{Document, Subject};
 use orc_site::read_script;
 use orc_verdict::CheckFault;

@@ -7,7 +7,7 @@ ghost use Rattle.orc_run.specs.Failures.{failure_line, failure_status, told};
 use crate::explained::Explained;
 use crate::faults::RunFault;
 use crate::inputs::ReadFault;
-use crate::output::{WriteFault, write_text};
+use orc_output::{WriteFault, write_text};
 use orc_rules::limits::MOST_ROWS;
 use std::fmt;
 use std::io::Write;

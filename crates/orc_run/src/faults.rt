@@ -4,10 +4,10 @@ ghost use Rattle.std.specs.Prelude.{◌≡◌, Some};
 ghost use Rattle.orc_run.specs.Faults.{line, status};
 ghost use Rattle.orc_run.specs.Running.{of_load};
 
-use crate::output::WriteFault;
 use orc_engine::EngineFault;
 use orc_journal_text::JournalFault;
 use orc_load::LoadFault;
+use orc_output::WriteFault;
 use orc_scope::ScopeFault;
 use orc_site::ScriptFault;
 use orc_syntax::SyntaxFault;

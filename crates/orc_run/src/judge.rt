@@ -9,10 +9,10 @@ ghost use Rattle.orc_journal.specs.Written.{Written};
 ghost use Rattle.orc_outcome.specs.declared.end.Summary.{Summary as RunSummary};
 
 use crate::faults::RunFault;
-use crate::output::{WriteFault, write_text};
 use orc_journal::Journal;
 use orc_journal_text::{JournalFault, read_journal};
 use orc_load::{LoadFault, load};
+use orc_output::{WriteFault, write_text};
 use orc_rules::answers::Answers;
 use orc_rules::entry::State;
 use orc_verdict::{TextFault, check_journal, check_lines};

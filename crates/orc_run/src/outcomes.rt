@@ -12,11 +12,11 @@ ghost use Rattle.orc_run.specs.Searched.{AreMore, HasSearched, LeavesUnsearched,
 ghost use Rattle.orc_run.specs.Surveyed.{HasSurveyed, IsUnwritten, LeavesUnsurveyed};
 
 use crate::faults::RunFault;
-use crate::output::{WriteFault, write_text};
 use orc_cli::SurveyOptions;
 use orc_engine::EngineFault;
 use orc_load::{Loaded, load};
 use orc_orders::{Seen, lines_of, place_of, survey, write_unseen};
+use orc_output::{WriteFault, write_text};
 use orc_schedules::{Ended, Schedules, search};
 use std::alloc::{AllocError, Global};
 use std::io::Write;

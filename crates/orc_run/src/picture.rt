@@ -7,12 +7,12 @@ ghost use Rattle.orc_run.specs.Running.{Runs};
 
 use crate::faults::RunFault;
 use crate::judge::{Judged, judge};
-use crate::output::{WriteFault, write_text};
 use crate::runner::run_source;
 use orc_cli::{Options as RunOptions, Wanted};
 use orc_draw::{DrawFault, Options, Subject, draw};
 use orc_engine::EngineFault;
 use orc_outcome::End;
+use orc_output::{WriteFault, write_text};
 use orc_syntax::{Ast, parse};
 use std::alloc::Global;
 use std::io::Write;

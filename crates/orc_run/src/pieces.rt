@@ -4,11 +4,11 @@ ghost use Rattle.std.specs.Prelude.{◌≡◌, OnOk, OnErr};
 ghost use Rattle.std.specs.Io.KnownBytes.{Appends};
 ghost use Rattle.orc_journal.specs.declared.journal.Version.TheVariants.{Two};
 ghost use Rattle.orc_journal_text.specs.Texts.{AreOf, journal_text};
-ghost use Rattle.orc_run.specs.Output.{AppendsPrefix};
+ghost use Rattle.orc_output.specs.Output.{AppendsPrefix};
 
-use crate::output::{WriteFault, write_text};
 use orc_journal::Journal;
 use orc_journal_text::{has_line, write_entry, write_header};
+use orc_output::{WriteFault, write_text};
 use orc_rules::answers::Answers;
 use std::alloc::Global;
 use std::io::Write;

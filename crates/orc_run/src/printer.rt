@@ -7,7 +7,7 @@ ghost use Rattle.orc_syntax.specs.Printing.{printed};
 ghost use Rattle.orc_run.specs.Printed.{Prints, LeavesUnprinted, IsPrintFault};
 
 use crate::faults::RunFault;
-use crate::output::{WriteFault, write_text};
+use orc_output::{WriteFault, write_text};
 use orc_syntax::{Ast, parse, print};
 use std::alloc::{AllocError, Global};
 use std::io::Write;

@@ -10,15 +10,13 @@ ghost use Rattle.orc_rules.specs.Program.{IsProgram};
 ghost use Rattle.orc_outcome.specs.Outcome.{IsPlayed};
 ghost use Rattle.orc_scheduler.specs.Faults.{IsOwn};
 ghost use Rattle.orc_engine.specs.Ranges.{IsInRange};
-ghost use Rattle.orc_run.specs.Output.{AppendsPrefix};
+ghost use Rattle.orc_output.specs.Output.{AppendsPrefix};
 ghost use Rattle.orc_run.specs.Running.{Ran, LeavesAtFault, IsFaultOf, IsOther, IsOwnOf, Shows, written};
 ghost use Rattle.orc_cli.specs.Wanted.{keeps_journal};
 ghost use Rattle.orc_cli.specs.declared.job.Wanted.TheVariants as what;
 
 use crate::faults::RunFault;
-use crate::output::WriteFault;
 use crate::pieces::write_journal;
-use crate::publications::write_values;
 use crate::times::write_times;
 use crate::unordered::run_unordered;
 // The engine. Another one with the same contract takes its place here.
@@ -26,6 +24,7 @@ use orc_cli::{Options, Order, Wanted};
 use orc_engine::{EngineFault, run_alone, run_parallel};
 use orc_load::{Loaded, load};
 use orc_outcome::{Played, Summary};
+use orc_output::{WriteFault, write_values};
 use orc_rules::answers::Answers;
 use std::alloc::Global;
 use std::io::Write;

@@ -32,7 +32,6 @@ use crate::counterexample::{
 use crate::explained::Explained;
 use crate::failing_ways::failing_ways;
 use crate::faults::RunFault;
-use crate::output::{WriteFault, write_text};
 use crate::runner::run_source;
 use crate::scripts::{CaseScripts, all_scripts, script_at, unusual_lines, ways_of};
 use crate::searched::{Searcher, write_witness};
@@ -43,6 +42,7 @@ use orc_cli::{Options, Order, Shown, TestOptions, Wanted};
 use orc_engine::EngineFault;
 use orc_orders::{CaseTold, Run, TrialFault, Trials, try_again, try_ways};
 use orc_outcome::End;
+use orc_output::{WriteFault, write_text};
 use orc_report::Page;
 use orc_rules::answers::Answers;
 use orc_site::read_script;

@@ -2,12 +2,12 @@
 
 ghost use Rattle.std.specs.Prelude.{◌≡◌, ◌++◌, IfOk, OnOk, OnErr};
 ghost use Rattle.std.specs.Io.KnownBytes.{Appends};
-ghost use Rattle.orc_run.specs.Output.{AppendsPrefix};
+ghost use Rattle.orc_output.specs.Output.{AppendsPrefix};
 ghost use Rattle.orc_run.specs.Times.{timed, timed_line};
 
-use crate::output::{WriteFault, write_text};
 use orc_journal::Journal;
 use orc_journal_text::write_value;
+use orc_output::{WriteFault, write_text};
 use orc_rules::entry::Entry;
 use orc_rules::value::Value;
 use std::alloc::{AllocError, Global};

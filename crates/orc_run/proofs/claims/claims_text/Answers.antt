@@ -1,7 +1,7 @@
 -- What is told of a journal that was checked.
 use Rattle.std.proofs.Common.{subst}
 use Rattle.std.specs.Io.KnownBytes.{Appends}
-use Rattle.orc_run.specs.Output.{AppendsPrefix}
+use Rattle.orc_output.specs.Output.{AppendsPrefix}
 use Rattle.orc_run.proofs.Claiming.{is_told, is_untold}
 use Rattle.orc_run.proofs.claims.claims_text.Goals as goal
 

@@ -1,7 +1,7 @@
 -- What came of the program in all schedules was told.
 use Rattle.std.proofs.Common.{refl, subst}
 use Rattle.std.specs.Io.KnownBytes.{Appends}
-use Rattle.orc_run.specs.Output.{AppendsPrefix}
+use Rattle.orc_output.specs.Output.{AppendsPrefix}
 use Rattle.orc_run.specs.Searched.{says_all}
 use Rattle.orc_run.proofs.Searching.{all_told, not_told}
 use Rattle.orc_run.proofs.outcomes.search_text.Goals as goal

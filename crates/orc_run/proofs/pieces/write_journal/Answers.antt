@@ -4,7 +4,7 @@ use Rattle.orc_rules.specs.Text.{line}
 use Rattle.orc_journal.specs.declared.journal.Version.TheVariants.{Two}
 use Rattle.orc_journal_text.specs.Texts.{journal_text}
 use Rattle.orc_journal_text.proofs.Composing.{each_more}
-use Rattle.orc_run.specs.Output.{AppendsPrefix}
+use Rattle.orc_output.specs.Output.{AppendsPrefix}
 use Rattle.orc_run.proofs.Parted.{IsPart, line_more, written, faulted, cut, on_err}
 use Rattle.orc_run.proofs.pieces.write_journal.Goals as goal
 use Rattle.orc_run.proofs.pieces.write_journal.Goals.{then-len-ge-PIECE+in_ok-write_text, else-len-ge-PIECE}

@@ -3,7 +3,7 @@
 ghost use Rattle.std.specs.Prelude.{OnOk, OnErr};
 ghost use Rattle.std.specs.Io.KnownBytes.{Appends};
 ghost use Rattle.orc_rules.specs.Text.{output};
-ghost use Rattle.orc_run.specs.Output.{AppendsPrefix};
+ghost use Rattle.orc_output.specs.Output.{AppendsPrefix};
 
 use crate::output::{WriteFault, write_text};
 use orc_journal_text::write_publications;

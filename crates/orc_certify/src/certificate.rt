@@ -1,0 +1,129 @@
+//! A proved answer for a journal, whoever made it.
+
+ghost use Rattle.std.specs.Prelude.{IfOk, IfErr, IfSome, OnOk, OnErr};
+ghost use Rattle.std.specs.Io.KnownBytes.{Appends};
+ghost use Rattle.orc_output.specs.Output.{AppendsPrefix};
+ghost use Rattle.orc_certify.specs.Certified.{shown, Answers, IsCertified, IsEndOf, Leaves};
+
+use orc_journal::{Journal, Version};
+use orc_journal_text::read_journal;
+use orc_load::load;
+use orc_outcome::End;
+use orc_output::{WriteFault, write_text, write_values};
+use orc_rules::entry::State;
+use orc_verdict::check_journal;
+use std::alloc::Global;
+use std::io::Write;
+
+/// What is wanted of a run.
+#[derive(Clone, Copy, Debug, PartialEq, Eq)]
+pub enum Form {
+    /// What it published, a line each.
+    Values,
+    /// Its journal.
+    Journal,
+}
+
+/// Why no answer is given for a journal.
+#[derive(Clone, Copy, Debug, PartialEq, Eq)]
+pub enum Unanswered {
+    /// It isn't known to be the journal of a whole run: there is no program, the check refuses it, it is of the first version, it has more entries
+    /// than the limit, the run goes on behind it, or memory was refused.
+    Uncertified,
+    /// The output wasn't taken whole, or memory for the text was refused.
+    Unwritten,
+}
+
+/// A journal that was checked, and how its run ended.
+#[derive(Drop)]
+struct Certificate {
+    journal: Journal,
+    end: End,
+}
+
+// How a run ended that stands so. None where it goes on.
+fn end_of(state: State) -> Option<End>
+    ensures { IfSome result (IsEndOf state) }
+{
+    match state {
+        State::Halted => Some(End::Halted),
+        State::Quiet => Some(End::Quiet),
+        State::Running => None,
+    }
+}
+
+// Checks a journal's text against the program that a source spells, with the built-in sites and those of a script. None where it isn't known to
+// be the journal of a whole run.
+fn check(
+    alloc: Global,
+    source: &[u8],
+    script: &[u8],
+    limit: u64,
+    text: &[u8],
+) -> Option<Certificate>
+    ensures { IfSome result (λ c. IsCertified source.now script.now limit text.now c.journal c.end) }
+{
+    let Ok(loaded) = load(alloc, source, script) else {
+        return None;
+    };
+    let Ok(journal) = read_journal(alloc, text, &loaded.answers) else {
+        return None;
+    };
+    if journal.version() != Version::Two || journal.len() as u64 > limit {
+        return None;
+    }
+    let Ok(verdict) = check_journal(alloc, &loaded.program, &loaded.answers, &journal) else {
+        return None;
+    };
+    let end = end_of(verdict.state)?;
+    Some(Certificate { journal, end })
+}
+
+// Writes what is wanted of the run of a journal, whose text this is.
+fn write_answer<W: Write>(
+    alloc: Global,
+    form: Form,
+    journal: &Journal,
+    text: &[u8],
+    out: &mut W,
+) -> Result<(), WriteFault>
+    ensures ok { OnOk result (Appends (W.contents out.old) (W.contents out.new) (shown form text.now journal.now.entries)) }
+    ensures err { OnErr result (AppendsPrefix (W.contents out.old) (W.contents out.new) (shown form text.now journal.now.entries)) }
+{
+    match form {
+        Form::Values => {
+            let Ok(values) = journal.published(alloc) else {
+                return Err(WriteFault);
+            };
+            write_values(alloc, values.as_slice(), out)
+        }
+        Form::Journal => write_text(out, text),
+    }
+}
+
+/// Gives the answer of a run whose journal this text is: where the check accepts it as the journal of a run of the program that the source spells,
+/// with the built-in sites and those of the script, which has at most `limit` entries and ended by itself, what is wanted of that run is written,
+/// and how it ended is answered, Halted or Quiet. Nobody need trust who made the journal.
+///
+/// `Uncertified` is answered where the text isn't known to be such a journal, or memory was refused, and nothing is written then; `Unwritten` where
+/// the output isn't taken whole, or memory for its text was refused, and a prefix of it was written then.
+pub fn certify<W: Write>(
+    alloc: Global,
+    source: &[u8],
+    script: &[u8],
+    limit: u64,
+    text: &[u8],
+    form: Form,
+    out: &mut W,
+) -> Result<End, Unanswered>
+    ensures answered { IfOk result (Answers source.now script.now limit text.now form (W.contents out.old) (W.contents out.new)) }
+    ensures unanswered { IfErr result (Leaves source.now script.now limit text.now form (W.contents out.old) (W.contents out.new)) }
+{
+    let Some(certificate) = check(alloc, source, script, limit, text) else {
+        return Err(Unanswered::Uncertified);
+    };
+    match write_answer(alloc, form, &certificate.journal, text, out) {
+        Ok(()) => Ok(certificate.end),
+        Err(_) => Err(Unanswered::Unwritten),
+    }
+}

@@ -1,0 +1,97 @@
+//! The program `orc_certify`: a run's answer by its journal alone. `orc_certify FORM FILE JOURNAL SCRIPT [LIMIT]` checks JOURNAL as that of a run of
+//! FILE with SCRIPT, of at most LIMIT entries, and writes what the run published (`values`) or the journal (`journal`). An empty file is no script.
+//!
+//! The status is that of the run, 0 where it halted and 3 where it is quiet. With 10 nothing was written: the journal proves no answer, or a file
+//! couldn't be read. With 6 the output wasn't taken whole, and with 2 the words are others.
+#![tactic(auto)]
+
+mod certificate;
+
+use certificate::{Form, Unanswered, certify};
+use orc_rules::limits::DEFAULT_ENTRIES;
+use std::process::ExitCode;
+use std::{env, fs, io};
+
+/// The status where the journal proves no answer. No run of `orc` ends with it.
+const UNCERTIFIED: u8 = 10;
+
+/// The status where the output wasn't taken whole.
+const UNWRITTEN: u8 = 6;
+
+/// The status of other words.
+const WRONG_WORDS: u8 = 2;
+
+/// What a command line asks for.
+#[derive(Drop)]
+struct Asked<'a> {
+    form: Form,
+    source: &'a str,
+    journal: &'a str,
+    script: &'a str,
+    limit: u64,
+}
+
+fn form_of(word: &str) -> Option<Form> {
+    match word {
+        "values" => Some(Form::Values),
+        "journal" => Some(Form::Journal),
+        _ => None,
+    }
+}
+
+fn limit_of(word: Option<&String>) -> Option<u64> {
+    match word {
+        Some(word) => word.parse::<u64>().ok(),
+        None => Some(DEFAULT_ENTRIES),
+    }
+}
+
+fn read_words(words: &[String]) -> Option<Asked<'_>> {
+    let [_, form, source, journal, script, rest @ ..] = words else {
+        return None;
+    };
+    if rest.len() > 1 {
+        return None;
+    }
+    Some(Asked {
+        form: form_of(form.as_str())?,
+        source: source.as_str(),
+        journal: journal.as_str(),
+        script: script.as_str(),
+        limit: limit_of(rest.first())?,
+    })
+}
+
+// Reads the files and writes the answer. The error is that of a file.
+fn answer(rt: &HostRuntime, asked: &Asked) -> io::Result<u8> {
+    let source = fs::read(rt, asked.source)?;
+    let script = fs::read(rt, asked.script)?;
+    let journal = fs::read(rt, asked.journal)?;
+    let answered = certify(
+        rt.alloc(),
+        source.as_slice(),
+        script.as_slice(),
+        asked.limit,
+        journal.as_slice(),
+        asked.form,
+        &mut rt.stdout(),
+    );
+    match answered {
+        Ok(end) => Ok(end.status()),
+        Err(Unanswered::Uncertified) => Ok(UNCERTIFIED),
+        Err(Unanswered::Unwritten) => Ok(UNWRITTEN),
+    }
+}
+
+fn main(rt: HostRuntime) -> ExitCode {
+    let Ok(args) = env::args(&rt) else {
+        return ExitCode::from(WRONG_WORDS);
+    };
+    let Ok(words) = args.collect::<Vec<String>>(rt.alloc()) else {
+        return ExitCode::from(UNCERTIFIED);
+    };
+    let Some(asked) = read_words(words.as_slice()) else {
+        return ExitCode::from(WRONG_WORDS);
+    };
+    ExitCode::from(answer(&rt, &asked).unwrap_or(UNCERTIFIED))
+}
