@@ -5,6 +5,7 @@ mod fit;
 mod lines;
 mod pieces;
 mod reader;
+mod tail;
 mod text;
 mod writer;
 
