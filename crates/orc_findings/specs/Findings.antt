@@ -24,6 +24,16 @@ sight_of s = record { happened = s.happenings.now; state = s.state; now = s.time
 abbrev pub is_always : ClaimLine → Bool
 is_always l = not (is_some l.case)
 
+-- what is said of where a claim fails, if there is one
+abbrev pub verdict_in : Option Claim → Sight → Option Verdict
+verdict_in (Some c) s = Some (said c s).verdict
+verdict_in None s = None
+
+-- the same of what is said first
+abbrev pub first_verdict : List Judged → Option Verdict
+first_verdict [] = None
+first_verdict (j ∷ js) = Some j.verdict
+
 -- ---- where a claim fails
 
 abbrev pub state_text : State → List ℕ

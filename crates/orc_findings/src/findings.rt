@@ -3,9 +3,10 @@
 ghost use Rattle.std.specs.Prelude.{◌≡◌, ◌++◌, IfOk, OnOk, decimal, length};
 ghost use Rattle.std.specs.List.{count_by, slice_get};
 ghost use Rattle.orc_claims.specs.Verdicts.{says_so};
-ghost use Rattle.orc_findings.specs.Findings.{at_text, end_text, failing, findings_text, is_always, moment_text, place_text, row_text, rows_text, sight_of, state_text, unsaid};
+ghost use Rattle.orc_findings.specs.Findings.{at_text, end_text, failing, findings_text, first_verdict, is_always, moment_text, place_text, row_text, rows_text, sight_of, state_text, unsaid, verdict_in};
 
 use crate::happening::{write_happening, write_published};
+use orc_claims::claim::Claim;
 use orc_claims::happening::Happening;
 use orc_claims::{Judged, Verdict, judge};
 use orc_rules::entry::State;
@@ -103,21 +104,21 @@ fn state_text(state: State) -> &'static str
     }
 }
 
-// Writes a time behind these words.
-fn write_moment(
+/// Writes a number behind these words. The error is refused memory.
+pub(crate) fn write_numbered(
     alloc: Global,
     words: &'static str,
-    time: u64,
+    number: u64,
     text: &mut Vec<u8>,
 ) -> Result<(), AllocError>
-    ensures { OnOk result (text.new.items ≡ text.old.items ++ (words.now ++ decimal time)) }
+    ensures { OnOk result (text.new.items ≡ text.old.items ++ (words.now ++ decimal number)) }
 {
-    let line = format!(in alloc; "{words}{time}")?;
+    let line = format!(in alloc; "{words}{number}")?;
     text.extend_from_slice(line.as_bytes())
 }
 
-// Writes a happening at which a claim fails.
-fn write_moment_of(
+/// Writes a happening at which a claim fails, behind its time. The error is refused memory.
+pub(crate) fn write_moment(
     alloc: Global,
     sites: &[SiteName<'_>],
     happening: &Happening,
@@ -125,19 +126,52 @@ fn write_moment_of(
 ) -> Result<(), AllocError>
     ensures { OnOk result (text.new.items ≡ text.old.items ++ moment_text sites.now happening.now) }
 {
-    write_moment(alloc, "time ", happening.time, text)?;
+    write_numbered(alloc, "time ", happening.time, text)?;
     text.extend_from_slice(b": ")?;
     write_happening(sites, happening, text)?;
     Ok(())
 }
 
+// What is said of the first claim, if there is one.
+fn first_verdict(judged: &[Judged]) -> Option<Verdict>
+    ensures { result ≡ first_verdict judged.now }
+{
+    match judged {
+        [] => None,
+        [one, ..] => Some(one.verdict),
+    }
+}
+
 impl Seen<'_> {
+    /// What is said of where the claim at this place fails in the run; None where there is no such claim. The error is refused memory.
+    #[tactic(auto, using(crate::proofs::Placed::none_there))]
+    pub fn verdict(
+        &self,
+        alloc: Global,
+        claims: &[Claim],
+        claim: usize,
+    ) -> Result<Option<Verdict>, AllocError>
+        ensures { IfOk result (λ v. v ≡ verdict_in (slice_get claims.now claim) (sight_of self.now)) }
+    {
+        if claim >= claims.len() {
+            return Ok(None);
+        }
+        let judged = judge(
+            alloc,
+            &claims[claim..claim + 1],
+            self.happenings,
+            self.state,
+            self.time,
+        )?;
+        Ok(first_verdict(judged.as_slice()))
+    }
+
     // How it ended, and what it published.
     fn write_end(&self, alloc: Global, text: &mut Vec<u8>) -> Result<(), AllocError>
         ensures { OnOk result (text.new.items ≡ text.old.items ++ end_text (sight_of self.now)) }
     {
         text.extend_from_slice(state_text(self.state).as_bytes())?;
-        write_moment(alloc, " at time ", self.time, text)?;
+        write_numbered(alloc, " at time ", self.time, text)?;
         text.extend_from_slice(b", having published")?;
         write_published(self.happenings, text)?;
         Ok(())
@@ -170,7 +204,7 @@ impl Seen<'_> {
         ensures { OnOk result (text.new.items ≡ text.old.items ++ at_text sites.now (sight_of self.now) (slice_get self.now.happenings.now at)) }
     {
         match self.happenings.get(at) {
-            Some(happening) => write_moment_of(alloc, sites, happening, text),
+            Some(happening) => write_moment(alloc, sites, happening, text),
             None => self.write_end(alloc, text),
         }
     }

@@ -1,0 +1,97 @@
+-- What stands below a claim of a test that fails.
+use Rattle.std.specs.Prelude.{◌^◌, ◌-◌, ℕ, zero, List, [], ◌∷◌, ◌++◌, Option, Some, None, Bool, true, false, cond, ◌||◌, codes, decimal, drop, length, nat_eq, nat_lt}
+use Rattle.std.specs.List.{slice_get}
+use Rattle.orc_outcome.specs.declared.end.End.{End}
+use Rattle.orc_outcome.specs.declared.end.End.TheVariants as ends
+use Rattle.orc_claims.specs.declared.happening.Happening.{Happening}
+use Rattle.orc_claims.specs.declared.verdict.Verdict.{Verdict}
+use Rattle.orc_claims.specs.declared.verdict.Verdict.TheVariants as verdict
+use Rattle.orc_ways.specs.declared.test.SiteName.{SiteName}
+use Rattle.orc_findings.specs.Findings.{moment_text}
+use Rattle.orc_findings.specs.Texts.{happening_text, published_from}
+
+-- ---- the lines of its way
+
+-- what stands before a line that has no number
+abbrev pub blanks : List ℕ
+blanks = codes "           "
+
+-- what stands before the first line: the number of the failure, and blanks up to where lines begin
+abbrev pub padded : List ℕ → List ℕ
+padded number = number ++ drop (length number) blanks
+
+abbrev pub number_text : ℕ → List ℕ
+number_text n = padded (codes "    [" ++ (decimal n ++ codes "]"))
+
+-- lines with this before each, where a line begins
+abbrev pub headed : Bool → List ℕ → List ℕ → List ℕ
+headed begins head [] = []
+headed true head (c ∷ cs) = head ++ (c ∷ headed (nat_eq c 10) head cs)
+headed false head (c ∷ cs) = c ∷ headed (nat_eq c 10) head cs
+
+-- those of the way, below one another: the first stands behind the number
+abbrev pub lines_or_usual : List ℕ → List ℕ
+lines_or_usual [] = codes "all services as usual\n"
+lines_or_usual (c ∷ cs) = headed false blanks (c ∷ cs)
+
+-- of the failure with this number, where these lines of its way aren't usual
+abbrev pub way_text : ℕ → List ℕ → List ℕ
+way_text number lines = number_text number ++ lines_or_usual lines
+
+-- ---- where it fails
+
+-- what stands before the lines below these
+abbrev pub margin : List ℕ
+margin = codes "         "
+
+abbrev pub end_word : End → List ℕ
+end_word ends.Halted = codes "Halted"
+end_word ends.Quiet = codes "Quiet"
+end_word ends.Limit = codes "cut by the limit"
+end_word ends.Full = codes "Full"
+end_word ends.Memory = codes "without memory"
+
+-- how the run ended, and what it published
+abbrev pub ending_text : List Happening → End → ℕ → List ℕ
+ending_text hs end now = codes "ended " ++ (end_word end ++ (codes " at time " ++ (decimal now ++ (codes ", having published" ++ published_from true hs))))
+
+-- the happening at which the claim fails: its time, and what happened
+abbrev pub at_or_end : List SiteName → List Happening → End → ℕ → Option Happening → List ℕ
+at_or_end ss hs end now (Some h) = moment_text ss h
+at_or_end ss hs end now None = ending_text hs end now
+
+-- or the end, where it fails there
+abbrev pub place_of : List SiteName → List Happening → End → ℕ → Verdict → List ℕ
+place_of ss hs end now (verdict.FailsAt at) = at_or_end ss hs end now (slice_get hs at)
+place_of ss hs end now _ = ending_text hs end now
+
+-- the line: where the claim fails in this run, and the number of its order
+abbrev pub failing_text : List SiteName → List Happening → End → ℕ → Verdict → ℕ → List ℕ
+failing_text ss hs end now v order = margin ++ (place_of ss hs end now v ++ (codes " (order " ++ (decimal order ++ codes ")\n")))
+
+-- ---- what a claim saw of a run
+
+-- a time, as far as the claim tells times apart: behind the last of them all are one
+abbrev pub time_text : ℕ → ℕ → List ℕ
+time_text latest time = cond (nat_lt time latest || nat_eq latest (2 ^ 64 - 1)) (codes "time " ++ decimal time) (codes "a time over " ++ decimal (latest - 1))
+
+-- the same before and behind what happened, where it tells some apart
+abbrev pub timed : ℕ → ℕ → List ℕ
+timed zero time = []
+timed latest time = time_text latest time ++ codes ": "
+
+abbrev pub at_time : ℕ → ℕ → List ℕ
+at_time zero time = []
+at_time latest time = codes " at " ++ time_text latest time
+
+-- what happened, each with its time
+abbrev pub seen_one : List SiteName → ℕ → Happening → List ℕ
+seen_one ss latest h = timed latest h.time ++ (happening_text ss h.what ++ codes ", ")
+
+abbrev pub seen_all : List SiteName → ℕ → List Happening → List ℕ
+seen_all ss latest [] = []
+seen_all ss latest (h ∷ hs) = seen_one ss latest h ++ seen_all ss latest hs
+
+-- the line: what was seen, and how the run ended
+abbrev pub seen_text : List SiteName → ℕ → List Happening → End → ℕ → List ℕ
+seen_text ss latest hs end now = margin ++ (codes "saw: " ++ (seen_all ss latest hs ++ (end_word end ++ (at_time latest now ++ codes "\n"))))
