@@ -1,7 +1,8 @@
 //! Calls that the table of sites answers at once: the call and its answer in one go.
 
-ghost use Rattle.std.specs.Prelude.{◌≡◌, ◌++◌, ◌∷◌, [], IfOk, IfErr, IfSome, OnOk, OnErr};
-ghost use Rattle.orc_rules.specs.Nodes.{code, definitions};
+ghost use Rattle.std.specs.Prelude.{◌≡◌, ◌++◌, ◌∷◌, [], map, slice_index_or, IfOk, IfErr, IfSome, IfNone, OnOk, OnErr};
+ghost use Rattle.orc_rules.specs.Nodes.{code, definitions, param_of};
+ghost use Rattle.orc_rules.specs.Term.{site as calls_site};
 ghost use Rattle.orc_rules.specs.declared.entry.Entry.TheVariants.{Call as Calls};
 ghost use Rattle.orc_rules.specs.declared.value.Found.TheVariants.{After};
 ghost use Rattle.orc_calls.specs.Counting.{CountsCall};
@@ -11,6 +12,7 @@ ghost use Rattle.orc_log.specs.Logs.{log_with};
 ghost use Rattle.orc_subrun.specs.Moved.{IsSilent};
 ghost use Rattle.orc_frames.specs.Doing.{IsCall};
 ghost use Rattle.orc_ledger_spec.specs.Doing.{term_of, what_of};
+ghost use Rattle.orc_ledger_spec.specs.Moves.{StandsAt};
 ghost use Rattle.orc_tables.specs.Tokens.{IsHeld};
 
 use crate::ledger::Ledger;
@@ -96,6 +98,38 @@ impl<P: Program> Ledger<P> {
     {
         let site = self.ask(graph, token, args);
         self.answer_through(answers, slot, token, site, args)
+    }
+
+    /// The same of a token that stands at a call of this site with these operands, by one look at them. None, which changes nothing, where an operand has
+    /// no value.
+    #[inline(always)]
+    pub fn call_at(
+        &mut self,
+        graph: &Graph,
+        answers: &Answers,
+        slot: usize,
+        token: Token,
+        scope: usize,
+        site: u32,
+        list: u32,
+        args: &mut Args,
+    ) -> Result<Option<Called>, LedgerFault>
+        requires graph { graph.now ≡ P.listing }
+        requires answers { answers.now.sites ≡ P.sites }
+        requires held { IsHeld self.old.slots slot token }
+        requires at { StandsAt P.listing token scope (calls_site site (map param_of (slice_index_or P.listing.lists list []))) }
+        ensures done { IfOk result (λ called. IfSome called (λ c. IsCalled P.listing P.sites self.old slot token c self.new)) }
+        ensures none { IfOk result (λ called. IfNone called (self.new ≡ self.old)) }
+        ensures refused { OnErr result (self.new ≡ self.old) }
+        ensures why { IfErr result (λ fault. IsRefused self.old 0 0 0 fault) }
+    {
+        if self.take_values(graph.operands(list as usize), scope, args) {
+            return match self.answer_through(answers, slot, token, site, args) {
+                Ok(called) => Ok(Some(called)),
+                Err(fault) => Err(fault),
+            };
+        }
+        Ok(None)
     }
 
     /// The same of a call whose site and arguments are known.

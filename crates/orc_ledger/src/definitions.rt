@@ -35,6 +35,9 @@ fn extend_within(scopes: &mut Vec<StoredScope>, more: &[StoredScope])
     requires { vec_len scopes.old + length more.now ≤ vec_capacity scopes.old }
     ensures { scopes.new.items ≡ scopes.old.items ++ more.now }
 {
+    if more.is_empty() {
+        return;
+    }
     let added = scopes.extend_from_slice(more);
     prove!(added.is_ok());
 }
@@ -43,6 +46,7 @@ impl<P: Program> Ledger<P> {
     /// A call of a definition: a token on its body in the same slot, in scopes for its parameters. `added` is lent for these scopes, and what it
     /// held is lost. Ok(false), which changes nothing, where there is no such definition, where the operands are not as many as the
     /// parameters, or where one of them isn't bound: no checked program has such a call.
+    #[inline(always)]
     pub fn def(
         &mut self,
         graph: &Graph,

@@ -58,6 +58,7 @@ impl<P: Program> Ledger<P> {
     }
 
     /// `f | g`: a token on each side, the left one in the same slot. Gives the right one's slot.
+    #[inline(always)]
     pub fn fork(
         &mut self,
         slot: usize,

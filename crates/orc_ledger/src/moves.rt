@@ -17,6 +17,7 @@ ghost use Rattle.orc_frames.specs.Paths.{standing, has_left};
 ghost use Rattle.orc_tables.specs.Steps.{group_at};
 ghost use Rattle.orc_frames.specs.Doing.{scan, closed};
 ghost use Rattle.orc_tables.specs.declared.records.Frame.TheVariants.{PruneRight};
+ghost use Rattle.orc_tables.specs.declared.records.Standing.TheVariants.{On};
 ghost use Rattle.orc_ledger_spec.specs.Claims.{HasAsked, IsBarredAt};
 ghost use Rattle.orc_ledger_spec.specs.Moves.{StandsAt, IsThere, Moves, IsHindered};
 
@@ -218,6 +219,7 @@ impl<P: Program> Ledger<P> {
         }
     }
 
+    #[inline(always)]
     fn move_publish(
         &mut self,
         slot: usize,
@@ -236,6 +238,7 @@ impl<P: Program> Ledger<P> {
         Ok(Moved::Gone(group))
     }
 
+    #[inline(always)]
     fn move_send(
         &mut self,
         slot: usize,
@@ -285,6 +288,7 @@ impl<P: Program> Ledger<P> {
     }
 
     // A token on a value publishes it.
+    #[inline(always)]
     pub(crate) fn move_value<C: Claim>(
         &mut self,
         slot: usize,
@@ -448,5 +452,24 @@ impl<P: Program> Ledger<P> {
     {
         let mut claim = Always;
         self.advance_by(graph, slot, token, &mut claim, added, cancelled)
+    }
+
+    /// The same of a token that stands on this value.
+    #[inline(always)]
+    pub fn advance_value(
+        &mut self,
+        slot: usize,
+        token: Token,
+        value: Value,
+        cancelled: &mut Vec<u64>,
+    ) -> Result<Moved, LedgerFault>
+        requires held { IsHeld self.old.slots slot token }
+        requires on { token.standing ≡ On value }
+        ensures done { IfOk result (λ m. Moves P.listing self.old slot token m cancelled.new.items self.new) }
+        ensures refused { OnErr result (self.new ≡ self.old) }
+        ensures why { IfErr result (λ fault. IsHindered P.listing self.old token fault) }
+    {
+        let mut claim = Always;
+        self.move_value(slot, token, value, &mut claim, cancelled)
     }
 }

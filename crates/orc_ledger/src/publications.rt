@@ -26,6 +26,7 @@ use orc_tables::{Standing, Token};
 
 impl<P: Program> Ledger<P> {
     /// A publication of the program: nothing round the token takes it.
+    #[inline(always)]
     pub fn publish(&mut self, slot: usize, token: Token, value: Value) -> Result<(), LedgerFault>
         requires held { IsHeld self.old.slots slot token }
         requires form { standing (code P.listing) (its_env (code P.listing) self.old) token.standing ≡ param (Is value) }
