@@ -62,13 +62,17 @@ impl Page {
         self.gutter = digits(number);
     }
 
+    /// `line L` of a place of a text.
+    pub fn line(&mut self, text: &[u8], at: usize) {
+        let place = place_of(text, at.min(text.len()));
+        self.say_number("line ", place.line as u64, "");
+    }
+
     /// `line L, column C` of a place of a text.
     pub fn place(&mut self, text: &[u8], at: usize) {
         let place = place_of(text, at.min(text.len()));
-        self.say("line ");
-        self.number(place.line as u64);
-        self.say(", column ");
-        self.number(place.column as u64);
+        self.say_number("line ", place.line as u64, "");
+        self.say_number(", column ", place.column as u64, "");
     }
 
     // The columns of a line behind the first so many, after a blank. What begins at the place is a column, whatever it is. No blank is written

@@ -2,6 +2,7 @@
 
 ghost use Rattle.std.specs.Prelude.{◌≤◌};
 
+use crate::page::Page;
 use std::alloc::{AllocError, Global};
 use std::marker::Model;
 use strsim::osa_distance;
@@ -12,11 +13,13 @@ const LONGEST: usize = 64;
 /// A name from which on two edits are few.
 const LONG: usize = 6;
 
-/// The search for the nearest of some names.
+/// The search for the nearest of some names to one.
 #[derive(Drop)]
-pub struct Near<'n> {
+pub struct Near<'n, 'c> {
     alloc: Global,
     name: &'n [u8],
+    // The nearest so far.
+    nearest: Option<&'c [u8]>,
     // The most edits of a name that is to be taken.
     most: usize,
     // Whether a name that differs in capitals alone may still be taken.
@@ -24,7 +27,7 @@ pub struct Near<'n> {
     is_refused: bool,
 }
 
-impl<'n> Model for Near<'n> {
+impl<'n, 'c> Model for Near<'n, 'c> {
     ghost use Rattle.std.specs.Prelude.{ℕ};
 
     // The most edits of a name that is still to be taken.
@@ -50,10 +53,10 @@ fn edits(alloc: Global, a: &[u8], b: &[u8]) -> Result<Option<usize>, AllocError>
     }
 }
 
-impl<'n> Near<'n> {
+impl<'n, 'c> Near<'n, 'c> {
     /// Nothing yet for this name. What is taken is two edits away at most, or one where the name has under six bytes, and none where it has one. Nothing
     /// is near a name of over 64 bytes.
-    pub fn new(alloc: Global, name: &'n [u8]) -> Near<'n>
+    pub fn new(alloc: Global, name: &'n [u8]) -> Near<'n, 'c>
         ensures { result ≤ 2 }
     {
         let most = match name.len() {
@@ -64,48 +67,45 @@ impl<'n> Near<'n> {
         Near {
             alloc,
             name,
+            nearest: None,
             most,
             is_open: name.len() <= LONGEST,
             is_refused: false,
         }
     }
 
-    /// Whether memory was refused: then none is taken any more.
-    pub fn is_refused(&self) -> bool {
-        self.is_refused
+    /// The nearest of the names, if one is near enough. Where memory was refused, the page isn't given out.
+    pub fn nearest(&self, page: &mut Page) -> Option<&'c [u8]> {
+        if self.is_refused {
+            page.refuse();
+        }
+        self.nearest
     }
 
-    /// Whether one more name is nearer than those before, and near enough. One that differs in capitals alone is the nearest.
-    pub fn takes(&mut self, candidate: &[u8]) -> bool
+    /// Compares one more name: it is taken where it is nearer than those before, and near enough. One that differs in capitals alone is the nearest.
+    pub fn add(&mut self, candidate: &'c [u8])
         ensures { self.new ≤ self.old }
     {
         if !self.is_open || candidate == self.name {
-            return false;
+            return;
         }
         if are_alike(self.name, candidate) {
             self.is_open = false;
-            return true;
+            self.nearest = Some(candidate);
+            return;
         }
         if self.most == 0 || self.name.len().abs_diff(candidate.len()) > self.most {
-            return false;
+            return;
         }
-        self.take_if_near(candidate)
-    }
-
-    // Takes a name to which few edits lead: whether it did. From then on only nearer ones are taken.
-    fn take_if_near(&mut self, candidate: &[u8]) -> bool
-        ensures { self.new ≤ self.old }
-    {
         match edits(self.alloc, self.name, candidate) {
             Ok(Some(edits)) if edits <= self.most => {
                 self.most = edits.saturating_sub(1);
-                true
+                self.nearest = Some(candidate);
             }
-            Ok(_) => false,
+            Ok(_) => {}
             Err(_) => {
                 self.is_open = false;
                 self.is_refused = true;
-                false
             }
         }
     }

@@ -1,0 +1,60 @@
+//! Sentences as data: words with places to fill.
+
+use crate::page::Page;
+use orc_rules::value::Value;
+
+/// What fills a place of a sentence.
+#[derive(Clone, Copy)]
+pub enum Fill<'a> {
+    /// Words as they stand.
+    Text(&'a str),
+    /// A word of a text, as far as a page shows it.
+    Word(&'a [u8]),
+    /// The name of a file.
+    Path(&'a str),
+    Number(u64),
+    /// A number below a million, with a comma behind its thousands.
+    Grouped(u64),
+    /// A number of things: their name takes an `s` but for one of them.
+    Count(u64, &'a str),
+    Value(Value),
+    /// A call's values in their brackets.
+    Values(&'a [Value]),
+    /// `line L, column C` of a place of a text.
+    Place(&'a [u8], usize),
+    /// `line L` of a place of a text.
+    Line(&'a [u8], usize),
+}
+
+impl Page {
+    /// A sentence in ASCII, in which each `%` is the next of what fills it.
+    pub fn tell(&mut self, sentence: &str, fills: &[Fill]) {
+        let mut next: usize = 0;
+        for byte in sentence.as_bytes() {
+            if *byte != b'%' {
+                self.sign(*byte as char);
+            } else if let Some(fill) = fills.get(next) {
+                next = next.saturating_add(1);
+                match *fill {
+                    Fill::Text(text) => self.say(text),
+                    Fill::Word(word) => self.word(word),
+                    Fill::Path(path) => self.path(path),
+                    Fill::Number(number) => self.number(number),
+                    Fill::Grouped(number) => self.grouped(number),
+                    Fill::Count(number, name) => self.count(number, name),
+                    Fill::Value(value) => self.value(value),
+                    Fill::Values(values) => self.values(values),
+                    Fill::Place(text, at) => self.place(text, at),
+                    Fill::Line(text, at) => self.line(text, at),
+                }
+            }
+        }
+    }
+
+    /// Such a sentence as a line of its own below what was shown.
+    pub fn remark(&mut self, sentence: &str, fills: &[Fill]) {
+        self.note("");
+        self.tell(sentence, fills);
+        self.say("\n");
+    }
+}
