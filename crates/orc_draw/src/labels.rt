@@ -1,9 +1,9 @@
 //! The names of the rows.
 
 use crate::picture::Subject;
-use crate::story::{Called, Kind};
+use crate::story::Kind;
 use orc_lex::token::Span;
-use orc_report::Page;
+use orc_report::{Fill, Page};
 use orc_rules::entry::Entry;
 use orc_source_map::Purpose;
 use std::alloc::{AllocError, Global};
@@ -25,18 +25,21 @@ impl Texts<'_, '_> {
     pub(crate) fn label(&self, kind: Kind) -> Result<String, AllocError> {
         let mut page = Page::new(self.alloc);
         match kind {
-            Kind::Call(called) => self.call(&mut page, called),
+            // The site and its arguments, as the journal has them.
+            Kind::Call(called) => {
+                if let Some(Entry::Call(_, _, site, args)) = self.subject.journal.get(called.at) {
+                    let name = self.subject.answers.name(site).unwrap_or(b"?");
+                    page.tell("%%", &[Fill::Word(name), Fill::Values(args.as_slice())]);
+                }
+            }
             Kind::Pruning(Purpose::Nothing) => page.say("_ <-"),
             Kind::Pruning(Purpose::Variable(name)) => {
-                page.word(name.text);
-                page.say(" <-");
+                page.tell("% <-", &[Fill::Word(name.text)]);
             }
-            Kind::Pruning(Purpose::Argument(place, name)) => {
-                page.say("argument ");
-                page.number(place as u64);
-                page.say(" of ");
-                page.word(name.text);
-            }
+            Kind::Pruning(Purpose::Argument(place, name)) => page.tell(
+                "argument % of %",
+                &[Fill::Number(place as u64), Fill::Word(name.text)],
+            ),
             Kind::Otherwise(place) => {
                 self.left_side(&mut page, place);
                 page.say(" ; ..");
@@ -45,39 +48,8 @@ impl Texts<'_, '_> {
         page.finish()
     }
 
-    // The site and its arguments, as the journal has them.
-    fn call(&self, page: &mut Page, called: Called) {
-        let Some(Entry::Call(_, _, site, args)) = self.subject.journal.get(called.at) else {
-            return;
-        };
-        page.word(self.subject.answers.name(site).unwrap_or(b"?"));
-        page.say("(");
-        let mut is_first = true;
-        for value in args.as_slice() {
-            if !is_first {
-                page.say(", ");
-            }
-            is_first = false;
-            page.value(*value);
-        }
-        page.say(")");
-    }
-
-    // The beginning of a left side, its words with single blanks between them.
+    // The words of a left side with single blanks between them, cut where they are long.
     fn left_side(&self, page: &mut Page, place: Span) {
-        let line = self.first_words(place);
-        page.heed(&line);
-        let shown = if line.len() > LONGEST { SHOWN } else { LONGEST };
-        for byte in line.as_str().as_bytes().iter().take(shown) {
-            page.byte(*byte);
-        }
-        if line.len() > LONGEST {
-            page.say("..");
-        }
-    }
-
-    // The words that stand at a place of the source, as far as one column more than is shown.
-    fn first_words(&self, place: Span) -> Page {
         let mut line = Page::new(self.alloc);
         let text = self
             .subject
@@ -87,9 +59,9 @@ impl Texts<'_, '_> {
         let mut is_apart = false;
         for byte in text {
             if line.len() > LONGEST {
-                return line;
+                break;
             }
-            if is_blank(*byte) {
+            if matches!(*byte, b' ' | b'\t' | b'\r' | b'\n') {
                 is_apart = line.len() > 0;
             } else {
                 if is_apart {
@@ -99,10 +71,14 @@ impl Texts<'_, '_> {
                 line.byte(*byte);
             }
         }
-        line
+        page.heed(&line);
+        let is_long = line.len() > LONGEST;
+        if is_long {
+            line.truncate(SHOWN);
+        }
+        page.say(line.as_str());
+        if is_long {
+            page.say("..");
+        }
     }
-}
-
-fn is_blank(byte: u8) -> bool {
-    matches!(byte, b' ' | b'\t' | b'\r' | b'\n')
 }

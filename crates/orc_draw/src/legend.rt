@@ -4,7 +4,6 @@ use crate::markup::Markup;
 use crate::picture::Picture;
 use crate::scale::PARTS;
 use crate::story::{End, Kind};
-use crate::svg::class_of;
 use crate::text::say_small;
 use orc_report::Page;
 use std::alloc::Global;
@@ -17,62 +16,87 @@ pub(crate) struct Legend {
     width: u64,
 }
 
-// Which signs occur.
+/// What a sign is of.
 #[derive(Clone, Copy)]
-struct Signs {
-    is_answered: bool,
-    is_halted: bool,
-    is_cancelled: bool,
-    is_out: bool,
-    is_pause: bool,
-    is_bound: bool,
-    is_lost: bool,
-    is_resumed: bool,
+enum Sign {
+    Answered,
+    Halted,
+    Cancelled,
+    Pause,
+    Out,
+    Bound,
+    Lost,
+    Resumed,
 }
 
-impl Signs {
-    fn of(picture: &Picture) -> Signs {
-        let mut signs = Signs {
-            is_answered: false,
-            is_halted: false,
-            is_cancelled: false,
-            is_out: false,
-            is_pause: false,
-            is_bound: false,
-            is_lost: false,
-            is_resumed: false,
-        };
-        for row in &picture.rows.rows {
-            if let Some(span) = picture.span(row) {
-                match span.kind {
-                    Kind::Call(called) => {
-                        signs.see_call(class_of(&span), called.is_pause);
-                    }
-                    _ => signs.see_end(span.end.map(|end| end.0)),
-                }
+/// The signs that are explained where they occur, by their templates, and what they mean.
+const SIGNS: [(Sign, &str, &str); 8] = [
+    (
+        Sign::Answered,
+        "<rect class=\"bar ok\" y=\"-5\" width=\"22\" height=\"10\" rx=\"2\"/>",
+        "answered",
+    ),
+    (
+        Sign::Halted,
+        "<rect class=\"bar halt\" y=\"-5\" width=\"22\" height=\"10\" rx=\"2\"/>",
+        "halted",
+    ),
+    (
+        Sign::Cancelled,
+        "<rect class=\"bar cut\" y=\"-5\" width=\"22\" height=\"10\" rx=\"2\"/>",
+        "cancelled",
+    ),
+    (
+        Sign::Pause,
+        "<rect class=\"bar ok\" y=\"-3\" width=\"22\" height=\"6\" rx=\"2\"/>",
+        "Rwait",
+    ),
+    (
+        Sign::Out,
+        "<rect class=\"bar nev\" y=\"-5\" width=\"22\" height=\"10\" rx=\"2\"/>",
+        "not answered yet",
+    ),
+    (
+        Sign::Bound,
+        "<path class=\"bind\" d=\"M11 -6l6 6l-6 6l-6 -6Z\"/>",
+        "bound: the first value, the rest is dropped",
+    ),
+    (
+        Sign::Lost,
+        "<circle class=\"lost\" cx=\"11\" r=\"5\"/>",
+        "lost: ended without a value",
+    ),
+    (
+        Sign::Resumed,
+        "<path class=\"right\" d=\"M6 -6l11 6l-11 6Z\"/>",
+        "the right side of ; begins",
+    ),
+];
+
+// Whether a sign occurs in a picture.
+fn occurs(picture: &Picture, sign: Sign) -> bool {
+    for row in &picture.rows.rows {
+        if let Some(span) = picture.span(row) {
+            let end = span.end.map(|(end, _at)| end);
+            let is_of = match (sign, span.kind, end) {
+                (Sign::Pause, Kind::Call(called), _) => called.is_pause,
+                (Sign::Answered, Kind::Call(_), Some(End::Answered(_))) => true,
+                (Sign::Halted, Kind::Call(_), Some(End::Halted)) => true,
+                (_, Kind::Call(_), Some(End::Answered(_) | End::Halted)) => false,
+                (Sign::Cancelled, Kind::Call(_), Some(_)) => true,
+                (Sign::Out, Kind::Call(_), None) => true,
+                (_, Kind::Call(_), _) => false,
+                (Sign::Bound, _, Some(End::Bound(_, _))) => true,
+                (Sign::Lost, _, Some(End::Lost)) => true,
+                (Sign::Resumed, _, Some(End::Resumed)) => true,
+                _ => false,
+            };
+            if is_of {
+                return true;
             }
         }
-        signs
     }
-
-    fn see_call(&mut self, class: &str, is_pause: bool) {
-        match class {
-            "ok" => self.is_answered = true,
-            "halt" => self.is_halted = true,
-            "cut" => self.is_cancelled = true,
-            _ => self.is_out = true,
-        }
-        self.is_pause = self.is_pause || is_pause;
-    }
-
-    fn see_end(&mut self, end: Option<End>) {
-        match end {
-            Some(End::Bound(_, _)) => self.is_bound = true,
-            Some(End::Lost) => self.is_lost = true,
-            Some(End::Resumed) => self.is_resumed = true,
-            _ => {}
-        }
-    }
+    false
 }
 
 impl Legend {
@@ -89,7 +113,7 @@ impl Legend {
         self.down.saturating_add(14)
     }
 
-    // A sign by its template, whose numbers are its left edge, its middle, and so again, and what it means.
+    // A sign by its template, and what it means.
     fn add(&mut self, page: &mut Page, template: &str, text: &str) {
         let room = (text.len() as u64)
             .saturating_mul(6_650_000)
@@ -122,9 +146,11 @@ impl Legend {
         picture: &Picture,
         is_true: bool,
     ) {
-        let signs = Signs::of(picture);
-        self.calls(page, &signs);
-        self.sides(page, &signs);
+        for (sign, template, text) in SIGNS.iter() {
+            if occurs(picture, *sign) {
+                self.add(page, template, text);
+            }
+        }
         self.add(
             page,
             "<circle class=\"pub\" cx=\"11\" r=\"5\"/>",
@@ -144,44 +170,6 @@ impl Legend {
         }
         if !is_true {
             self.add(page, "", "the time between is not to scale");
-        }
-    }
-
-    fn calls(&mut self, page: &mut Page, signs: &Signs) {
-        if signs.is_answered {
-            let sign = "<rect class=\"bar ok\" y=\"-5\" width=\"22\" height=\"10\" rx=\"2\"/>";
-            self.add(page, sign, "answered");
-        }
-        if signs.is_halted {
-            let sign = "<rect class=\"bar halt\" y=\"-5\" width=\"22\" height=\"10\" rx=\"2\"/>";
-            self.add(page, sign, "halted");
-        }
-        if signs.is_cancelled {
-            let sign = "<rect class=\"bar cut\" y=\"-5\" width=\"22\" height=\"10\" rx=\"2\"/>";
-            self.add(page, sign, "cancelled");
-        }
-        if signs.is_pause {
-            let sign = "<rect class=\"bar ok\" y=\"-3\" width=\"22\" height=\"6\" rx=\"2\"/>";
-            self.add(page, sign, "Rwait");
-        }
-        if signs.is_out {
-            let sign = "<rect class=\"bar nev\" y=\"-5\" width=\"22\" height=\"10\" rx=\"2\"/>";
-            self.add(page, sign, "not answered yet");
-        }
-    }
-
-    fn sides(&mut self, page: &mut Page, signs: &Signs) {
-        if signs.is_bound {
-            let sign = "<path class=\"bind\" d=\"M11 -6l6 6l-6 6l-6 -6Z\"/>";
-            self.add(page, sign, "bound: the first value, the rest is dropped");
-        }
-        if signs.is_lost {
-            let sign = "<circle class=\"lost\" cx=\"11\" r=\"5\"/>";
-            self.add(page, sign, "lost: ended without a value");
-        }
-        if signs.is_resumed {
-            let sign = "<path class=\"right\" d=\"M6 -6l11 6l-11 6Z\"/>";
-            self.add(page, sign, "the right side of ; begins");
         }
     }
 }

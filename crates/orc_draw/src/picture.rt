@@ -7,7 +7,7 @@ use crate::slots::Slots;
 use crate::story::{Event, Moment, Shown, Span, Story};
 use crate::{svg, text};
 use orc_journal::Journal;
-use orc_report::{Page, digits};
+use orc_report::{Fill, Page, digits};
 use orc_rules::answers::Answers;
 use orc_rules::entry::State;
 use orc_rules::value::Value;
@@ -140,12 +140,14 @@ const FEW: u64 = 6;
 // How many entries there are, where the run stands, and what was published.
 fn summary(alloc: Global, subject: &Subject, story: &Story) -> Result<String, AllocError> {
     let mut page = Page::new(alloc);
-    page.number(subject.journal.len() as u64);
-    page.say(" entries, ");
-    page.say(subject.state.word());
-    page.say(" at time ");
-    page.number(story.now);
-    page.say(", publishes ");
+    page.tell(
+        "% entries, % at time %, publishes ",
+        &[
+            Fill::Number(subject.journal.len() as u64),
+            Fill::Text(subject.state.word()),
+            Fill::Number(story.now),
+        ],
+    );
     let mut count: u64 = 0;
     for event in &story.events {
         if let Shown::Publication(value) = event.shown {
@@ -160,9 +162,7 @@ fn summary(alloc: Global, subject: &Subject, story: &Story) -> Result<String, Al
         page.say("nothing");
     }
     if count > FEW {
-        page.say(" and ");
-        page.number(count.saturating_sub(FEW));
-        page.say(" more");
+        page.tell(" and % more", &[Fill::Number(count.saturating_sub(FEW))]);
     }
     page.finish()
 }

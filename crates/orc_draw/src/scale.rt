@@ -44,11 +44,6 @@ fn share(a: u64, b: u64, c: u64) -> u64 {
     }
 }
 
-// How many binary digits a number has.
-fn bits(number: u64) -> u64 {
-    64_u64.saturating_sub(number.leading_zeros() as u64)
-}
-
 // The times between neighbours.
 fn gaps_of(alloc: Global, instants: &[Instant]) -> Result<Vec<u64>, AllocError> {
     let mut gaps = Vec::new(alloc);
@@ -62,25 +57,6 @@ fn gaps_of(alloc: Global, instants: &[Instant]) -> Result<Vec<u64>, AllocError> 
     Ok(gaps)
 }
 
-fn sum(numbers: &[u64]) -> u64 {
-    let mut sum: u64 = 0;
-    for number in numbers {
-        sum = sum.saturating_add(*number);
-    }
-    sum
-}
-
-// Whether the longest gap is at most 25 times the shortest.
-fn are_alike(gaps: &[u64]) -> bool {
-    let mut least = u64::MAX;
-    let mut greatest = 0;
-    for gap in gaps {
-        least = least.min(*gap);
-        greatest = greatest.max(*gap);
-    }
-    greatest <= least.saturating_mul(25)
-}
-
 impl Measure {
     // The width of a slot, where there are so many.
     fn slot(&self, total: u64) -> u64
@@ -88,13 +64,6 @@ impl Measure {
     {
         self.slot
             .min(share(self.width, 6, total.saturating_mul(10)))
-    }
-
-    // What is left for the gaps.
-    fn free(&self, bands: u64) -> u64 {
-        let least = share(self.width, 4, 10);
-        let left = self.width.saturating_sub(bands);
-        least.max(left).saturating_sub(self.margin)
     }
 }
 
@@ -107,18 +76,29 @@ impl Scale {
         measure: Measure,
     ) -> Result<Scale, AllocError> {
         let mut gaps = gaps_of(alloc, instants)?;
-        let is_true = are_alike(&gaps);
-        if !is_true {
-            for gap in gaps.iter_mut() {
-                *gap = bits(*gap).saturating_add(1);
+        let mut shortest = u64::MAX;
+        let mut longest = 0;
+        for gap in &gaps {
+            shortest = shortest.min(*gap);
+            longest = longest.max(*gap);
+        }
+        let is_true = longest <= shortest.saturating_mul(25);
+        let mut whole: u64 = 0;
+        for gap in gaps.iter_mut() {
+            if !is_true {
+                // How many binary digits it has, and one more.
+                *gap = 65_u64.saturating_sub(gap.leading_zeros() as u64);
             }
+            whole = whole.saturating_add(*gap);
         }
         let slot = measure.slot(total);
-        let free = measure.free(slot.saturating_mul(total));
+        // What is left for the gaps.
+        let free = share(measure.width, 4, 10)
+            .max(measure.width.saturating_sub(slot.saturating_mul(total)))
+            .saturating_sub(measure.margin);
         let least = measure
             .gap
             .min(share(free, 1, (gaps.len() as u64).saturating_mul(2)));
-        let whole = sum(&gaps);
         let mut scale = Scale {
             begins: Vec::new(alloc),
             slot,

@@ -12,14 +12,6 @@ pub(crate) struct Slots {
     pub slots: Vec<Slot>,
 }
 
-// Whether an entry has a slot.
-fn is_shown(event: &Event, rows: &Rows) -> bool {
-    match event.shown {
-        Shown::Span(span) => rows.row_of(span).is_some(),
-        _ => true,
-    }
-}
-
 impl Slots {
     /// The slots of a story's events, from time 0 to its last time.
     pub(crate) fn new(
@@ -34,7 +26,11 @@ impl Slots {
         };
         slots.reach(0)?;
         for event in events {
-            if is_shown(event, rows) {
+            let is_shown = match event.shown {
+                Shown::Span(span) => rows.row_of(span).is_some(),
+                _ => true,
+            };
+            if is_shown {
                 slots.reach(event.at.time)?;
                 slots.add(event)?;
             }
@@ -74,26 +70,23 @@ impl Slots {
     pub(crate) fn slot(&self, at: Moment) -> Slot {
         let behind = self.slots.partition_point(|slot| slot.entry <= at.entry);
         if let Some(slot) = behind.checked_sub(1).and_then(|last| self.slots.get(last)) {
-            if self.time(slot.instant) == at.time {
+            let time = self
+                .instants
+                .get(slot.instant)
+                .map_or(0, |instant| instant.time);
+            if time == at.time {
                 return *slot;
             }
         }
+        // The last instant that isn't later.
+        let later = self
+            .instants
+            .partition_point(|instant| instant.time <= at.time);
         Slot {
             entry: at.entry,
-            instant: self.instant(at.time),
+            instant: later.saturating_sub(1),
             place: 0,
         }
-    }
-
-    fn time(&self, instant: usize) -> u64 {
-        self.instants.get(instant).map_or(0, |instant| instant.time)
-    }
-
-    // The last instant that isn't later than a time.
-    fn instant(&self, time: u64) -> usize {
-        self.instants
-            .partition_point(|instant| instant.time <= time)
-            .saturating_sub(1)
     }
 
     /// How many slots there are, at least one for each time.

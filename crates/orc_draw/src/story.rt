@@ -167,10 +167,14 @@ impl<'a> Story<'a> {
             let Some(entry) = journal.get(at) else {
                 return Ok(());
             };
+            let moment = Moment {
+                time: self.now,
+                entry: (at as u64).saturating_add(1),
+            };
             if let Entry::Call(s, k, site, args) = &entry {
-                self.call(answers, *s, *k, *site, args, at);
+                self.call(answers, *s, *k, *site, args, moment);
             } else {
-                self.tell(sketch, &entry, self.moment(at));
+                self.tell(sketch, &entry, moment);
             }
             if self.calls > MOST_ROWS {
                 return Err(DrawFault::Rows);
@@ -183,25 +187,40 @@ impl<'a> Story<'a> {
         Ok(())
     }
 
-    fn moment(&self, at: usize) -> Moment {
-        Moment {
-            time: self.now,
-            entry: (at as u64).saturating_add(1),
-        }
-    }
-
     // What is shown of an entry that is no call. Nothing is shown of the others.
     fn tell(&mut self, sketch: &Sketch<'a>, entry: &Entry, at: Moment) {
         match entry {
             Entry::Tick(time) => {
                 self.now = *time;
             }
-            Entry::Open(s, c, _, _) => self.open(sketch, *s, *c, at),
-            Entry::Other(s, _) => self.enter(sketch, *s, at),
-            Entry::Send(s, _, _) => self.leave(self.step_of(*s), at),
-            Entry::Return(k, _, value) => self.close_call(*k, End::Answered(*value), at),
-            Entry::ReturnHalt(k) => self.close_call(*k, End::Halted, at),
-            Entry::Bind(s, c, value) => self.bind(*s, *c, *value, at),
+            Entry::Open(s, c, _, _) => {
+                if let Shape::Prune(_, _, purpose) = self.trail.shape(sketch, *s) {
+                    let span = self.begin(Kind::Pruning(purpose), *s, at);
+                    self.is_refused = self.cells.insert(*c, span).is_err() || self.is_refused;
+                }
+            }
+            Entry::Other(s, _) => {
+                if let Shape::Other(_, _, place) = self.trail.shape(sketch, *s) {
+                    let span = self.begin(Kind::Otherwise(place), *s, at);
+                    self.is_refused = self.others.insert(*s, span).is_err() || self.is_refused;
+                }
+            }
+            Entry::Send(s, _, _) => self.leave(*s, at),
+            Entry::Return(k, _, value) => {
+                let span = self.shown.get(k).copied();
+                self.close(span, End::Answered(*value), at)
+            }
+            Entry::ReturnHalt(k) => {
+                let span = self.shown.get(k).copied();
+                self.close(span, End::Halted, at)
+            }
+            Entry::Bind(s, c, value) => {
+                self.leave(*s, at);
+                let answered = self.trail.token(*s).and_then(|token| token.call);
+                let answer = answered.and_then(|call| self.shown.get(&call).copied());
+                let span = self.cells.remove(c);
+                self.close(span, End::Bound(*value, answer), at)
+            }
             Entry::Lost(c) => {
                 let span = self.cells.remove(c);
                 self.close(span, End::Lost, at)
@@ -211,11 +230,14 @@ impl<'a> Story<'a> {
                 self.close(span, End::Resumed, at)
             }
             Entry::Publish(s, value) => {
-                self.leave(self.step_of(*s), at);
+                self.leave(*s, at);
                 self.note(Shown::Publication(*value), at)
             }
+            // A call that was dropped: where cancels are recorded, it ends at the entry of its cancel.
             Entry::Cancel(k) => {
-                self.cancel(*k, at);
+                if let Some(span) = self.shown.get(k).copied() {
+                    self.set_end(span, End::Cancelled, at);
+                }
                 self.note(Shown::Cancel, at)
             }
             _ => {}
@@ -229,7 +251,7 @@ impl<'a> Story<'a> {
         number: u64,
         site: u32,
         args: &Args,
-        at: usize,
+        at: Moment,
     ) {
         let is_pause = answers
             .name(site)
@@ -239,56 +261,17 @@ impl<'a> Story<'a> {
             return;
         }
         self.calls = self.calls.saturating_add(1);
-        let moment = self.moment(at);
+        let found = self.counts.next_call(answers, site, args).found;
+        self.is_refused = self.counts.add(answers, site, args).is_err() || self.is_refused;
         let called = Called {
             number,
-            at,
-            due: self.due(answers, site, args),
+            at: (at.entry as usize).saturating_sub(1),
+            due: due_time(found, self.now),
             is_pause,
         };
-        let span = self.begin(Kind::Call(called), self.step_of(mark), moment);
-        let refused = self.shown.insert(number, span).is_err();
-        self.heed(refused);
-        self.note(Shown::Span(span), moment)
-    }
-
-    // The due time of a call that is made now.
-    fn due(&mut self, answers: &Answers, site: u32, args: &Args) -> Option<u64> {
-        let found = self.counts.next_call(answers, site, args).found;
-        let refused = self.counts.add(answers, site, args).is_err();
-        self.heed(refused);
-        due_time(found, self.now)
-    }
-
-    fn open(&mut self, sketch: &Sketch<'a>, mark: u64, cell: u64, at: Moment) {
-        if let Shape::Prune(_, _, purpose) = self.trail.shape(sketch, mark) {
-            let span = self.begin(Kind::Pruning(purpose), self.step_of(mark), at);
-            let refused = self.cells.insert(cell, span).is_err();
-            self.heed(refused);
-        }
-    }
-
-    fn enter(&mut self, sketch: &Sketch<'a>, mark: u64, at: Moment) {
-        if let Shape::Other(_, _, place) = self.trail.shape(sketch, mark) {
-            let span = self.begin(Kind::Otherwise(place), self.step_of(mark), at);
-            let refused = self.others.insert(mark, span).is_err();
-            self.heed(refused);
-        }
-    }
-
-    fn bind(&mut self, mark: u64, cell: u64, value: Value, at: Moment) {
-        self.leave(self.step_of(mark), at);
-        let answered = self.trail.token(mark).and_then(|token| token.call);
-        let answer = answered.and_then(|call| self.shown.get(&call).copied());
-        let span = self.cells.remove(&cell);
-        self.close(span, End::Bound(value, answer), at)
-    }
-
-    // A call that was dropped: where cancels are recorded, at the entry of its cancel.
-    fn cancel(&mut self, call: u64, at: Moment) {
-        if let Some(span) = self.shown.get(&call).copied() {
-            self.set_end(span, End::Cancelled, at);
-        }
+        let span = self.begin(Kind::Call(called), mark, at);
+        self.is_refused = self.shown.insert(number, span).is_err() || self.is_refused;
+        self.note(Shown::Span(span), at)
     }
 
     // ---- steps
@@ -297,9 +280,9 @@ impl<'a> Story<'a> {
         self.trail.token(mark).map_or(0, |token| token.step)
     }
 
-    // What is published from a step goes outwards to the nearest `>x>` or pruning. A value comes out of each left side of an otherwise on the way.
-    fn leave(&mut self, from: usize, at: Moment) {
-        let mut number = from;
+    // What a token publishes goes outwards to the nearest `>x>` or pruning. A value comes out of each left side of an otherwise on the way.
+    fn leave(&mut self, mark: u64, at: Moment) {
+        let mut number = self.step_of(mark);
         for _step in 0..self.trail.steps().len() {
             let Some(step) = self.trail.step(number) else {
                 return;
@@ -308,8 +291,11 @@ impl<'a> Story<'a> {
                 Way::SeqLeft(_) | Way::PruneRight(_) => return,
                 Way::Then(_) => {}
                 Way::OtherwiseLeft(mark) => {
-                    if let Some(span) = self.others.get(&mark).copied() {
-                        self.set_first_end(span, End::Left, at);
+                    match self.others.get(&mark).copied() {
+                        Some(span) if self.end_of(span).is_none() => {
+                            self.set_end(span, End::Left, at);
+                        }
+                        _ => {}
                     }
                 }
             }
@@ -328,7 +314,10 @@ impl<'a> Story<'a> {
                 Way::SeqLeft(_) => None,
             };
             match (home.way, span) {
-                (Way::OtherwiseLeft(_), Some(span)) if self.is_left(span) => number = home.outer,
+                (Way::OtherwiseLeft(_), Some(span))
+                    if matches!(self.end_of(span), Some(End::Left)) => {
+                    number = home.outer;
+                }
                 _ => return span,
             }
         }
@@ -337,21 +326,16 @@ impl<'a> Story<'a> {
 
     // ---- spans
 
-    fn is_left(&self, span: usize) -> bool {
-        match self.spans.get(span) {
-            Some(
-                Span {
-                    end: Some((End::Left, _)),
-                    ..
-                },
-            ) => true,
-            _ => false,
-        }
+    // How a span has ended.
+    fn end_of(&self, span: usize) -> Option<End> {
+        let (end, _at) = self.spans.get(span)?.end?;
+        Some(end)
     }
 
-    fn begin(&mut self, kind: Kind<'a>, step: usize, began: Moment) -> usize {
+    // Begins a span at the token of a mark.
+    fn begin(&mut self, kind: Kind<'a>, mark: u64, began: Moment) -> usize {
         let span = self.spans.len();
-        let outer = self.span_round(step);
+        let outer = self.span_round(self.step_of(mark));
         let new = Span {
             kind,
             began,
@@ -360,8 +344,7 @@ impl<'a> Story<'a> {
             newest: None,
             before: None,
         };
-        let refused = self.spans.push(new).is_err();
-        self.heed(refused);
+        self.is_refused = self.spans.push(new).is_err() || self.is_refused;
         if let Some(round) = outer {
             let before = self.set_newest(round, Some(span));
             if let Some(new) = self.spans.get_mut(span) {
@@ -389,24 +372,8 @@ impl<'a> Story<'a> {
         }
     }
 
-    fn set_first_end(&mut self, span: usize, end: End, at: Moment) {
-        if let Some(span) = self.spans.get_mut(span) {
-            if span.end.is_none() {
-                span.end = Some((end, at));
-            }
-        }
-    }
-
     fn note(&mut self, shown: Shown, at: Moment) {
-        let refused = self.events.push(Event { shown, at }).is_err();
-        self.heed(refused);
-    }
-
-    fn close_call(&mut self, call: u64, end: End, at: Moment) {
-        if let Some(span) = self.shown.get(&call).copied() {
-            self.set_end(span, end, at);
-            self.note(Shown::Span(span), at);
-        }
+        self.is_refused = self.events.push(Event { shown, at }).is_err() || self.is_refused;
     }
 
     // A span ends, and what stands in it is dropped.
@@ -435,14 +402,8 @@ impl<'a> Story<'a> {
 
     fn drop_later(&mut self, span: Option<usize>) {
         if let Some(span) = span {
-            let refused = self.dropping.push(span).is_err();
-            self.heed(refused);
+            self.is_refused = self.dropping.push(span).is_err() || self.is_refused;
         }
-    }
-
-    // Once memory was refused the story isn't told to its end.
-    fn heed(&mut self, is_refused: bool) {
-        self.is_refused = self.is_refused || is_refused;
     }
 
     // A span is dropped, unless it has ended: the one before it.

@@ -91,55 +91,34 @@ fn size_of_rows(rows: u64, depth: u64) -> Size {
     }
 }
 
-impl Size {
-    // How wide so many letters are.
-    fn letters(&self, count: u64) -> u64 {
-        count.saturating_mul(self.letter).saturating_mul(602_000)
-    }
-
-    // How wide a row's label is, with its call's number.
-    fn label(&self, row: &Row, is_call: bool) -> u64 {
-        let count = (row.label.len() as u64).saturating_add(if is_call { 6 } else { 0 });
-        pixels(16)
-            .saturating_add(row.depth.saturating_mul(self.indent))
-            .saturating_add(self.letters(count))
-    }
-}
-
-fn is_call(picture: &Picture, row: &Row) -> bool {
-    match picture.span(row) {
-        Some(
-            Span {
-                kind: Kind::Call(_),
-                ..
-            },
-        ) => true,
-        _ => false,
-    }
-}
-
-// The width of what stands left of the plot.
+// The width of what stands left of the plot: the labels, each with its call's number.
 fn gutter_of(picture: &Picture, size: &Size) -> u64 {
     let mut widest = pixels(120);
     for row in &picture.rows.rows {
-        widest = widest.max(size.label(row, is_call(picture, row)));
+        let kind = picture.span(row).map(|span| span.kind);
+        let number = if matches!(kind, Some(Kind::Call(_))) {
+            6
+        } else {
+            0
+        };
+        let letters = (row.label.len() as u64).saturating_add(number);
+        let label = pixels(16)
+            .saturating_add(row.depth.saturating_mul(size.indent))
+            .saturating_add(letters.saturating_mul(size.letter).saturating_mul(602_000));
+        widest = widest.max(label);
     }
     widest.min(pixels(340)).saturating_add(pixels(14))
-}
-
-fn deepest(rows: &[Row]) -> u64 {
-    let mut deepest = 0;
-    for row in rows {
-        deepest = deepest.max(row.depth);
-    }
-    deepest
 }
 
 impl<'a> Sheet<'a> {
     fn new(alloc: Global, picture: &'a Picture<'a>) -> Result<Sheet<'a>, AllocError> {
         let rows = &picture.rows.rows;
         let count = rows.len() as u64;
-        let size = size_of_rows(count, deepest(rows));
+        let mut deepest: u64 = 0;
+        for row in rows {
+            deepest = deepest.max(row.depth);
+        }
+        let size = size_of_rows(count, deepest);
         let plot = count
             .saturating_sub(60)
             .saturating_mul(4)
@@ -244,8 +223,16 @@ impl<'a> Sheet<'a> {
         page.escaped(self.picture.name);
         page.say(": ");
         page.escaped(self.picture.summary.as_str());
-        page.say("</title><style>");
-        self.style(page, theme);
+        let letter = self.size.letter;
+        page.form("</title><style>text{font:@", &[letter]);
+        page.say(FAMILY);
+        page.form("%px}", &[letter.saturating_mul(850_000)]);
+        page.say(if theme == Theme::Dark { DARK } else { LIGHT });
+        if theme == Theme::Auto {
+            page.say("@media(prefers-color-scheme:dark){");
+            page.say(DARK);
+            page.say("}");
+        }
         page.say(
             "</style><rect class=\"bg\" width=\"100%\" height=\"100%\"/><text class=\"title\" x=\"12\" y=\"20\">",
         );
@@ -258,19 +245,6 @@ impl<'a> Sheet<'a> {
         );
         page.escaped(self.picture.summary.as_str());
         page.say("</text>");
-    }
-
-    fn style(&self, page: &mut Page, theme: Theme) {
-        let letter = self.size.letter;
-        page.form("text{font:@", &[letter]);
-        page.say(FAMILY);
-        page.form("%px}", &[letter.saturating_mul(850_000)]);
-        page.say(if theme == Theme::Dark { DARK } else { LIGHT });
-        if theme == Theme::Auto {
-            page.say("@media(prefers-color-scheme:dark){");
-            page.say(DARK);
-            page.say("}");
-        }
     }
 
     fn times(&self, page: &mut Page) {
@@ -332,9 +306,22 @@ impl<'a> Sheet<'a> {
         for some in all {
             count = count.saturating_add(some.count);
         }
+        let radius = (self.scale.slot / 2)
+            .saturating_add(pixels(2))
+            .min(pixels(5));
         for event in &self.picture.story.events {
             if let Shown::Publication(value) = event.shown {
-                self.publication(page, event.at, count <= MOST_LINES);
+                let place = self.across(event.at);
+                if count <= MOST_LINES {
+                    page.form(
+                        "<line class=\"publine\" x1=\"%\" x2=\"%\" y1=\"@\" y2=\"@\"/>\n",
+                        &[place, place, PUBLICATIONS, self.bottom()],
+                    );
+                }
+                page.form(
+                    "<circle class=\"pub\" cx=\"%\" cy=\"@\" r=\"%\"><title>entry @: publish ",
+                    &[place, PUBLICATIONS, radius, event.at.entry],
+                );
                 page.value(value);
                 page.form(" at time @</title></circle>\n", &[event.at.time]);
             }
@@ -346,24 +333,6 @@ impl<'a> Sheet<'a> {
             };
             self.values(page, some, next.saturating_sub(pixels(10)));
         }
-    }
-
-    // The dot of a publication, as far as its value.
-    fn publication(&self, page: &mut Page, at: Moment, has_line: bool) {
-        let place = self.across(at);
-        if has_line {
-            page.form(
-                "<line class=\"publine\" x1=\"%\" x2=\"%\" y1=\"@\" y2=\"@\"/>\n",
-                &[place, place, PUBLICATIONS, self.bottom()],
-            );
-        }
-        let radius = (self.scale.slot / 2)
-            .saturating_add(pixels(2))
-            .min(pixels(5));
-        page.form(
-            "<circle class=\"pub\" cx=\"%\" cy=\"@\" r=\"%\"><title>entry @: publish ",
-            &[place, PUBLICATIONS, radius, at.entry],
-        );
     }
 
     // The values of a time, where they don't reach as far as this.

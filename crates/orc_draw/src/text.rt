@@ -4,7 +4,7 @@ use crate::picture::Picture;
 use crate::rows::Row;
 use crate::scale::{Measure, PARTS, Scale};
 use crate::story::{Called, End, Kind, Moment, Span};
-use orc_report::{Page, digits};
+use orc_report::{Fill, Page, digits};
 use std::alloc::{AllocError, Global};
 
 // The widest label, and the columns that belong to no label, number or plot: blanks between them, and what stands behind a bar.
@@ -35,9 +35,19 @@ struct Stroke {
 pub(crate) fn write(alloc: Global, picture: &Picture, width: u64) -> Result<String, AllocError> {
     let mut page = Page::new(alloc);
     let columns = Columns::new(alloc, picture, width)?;
-    columns.title(&mut page);
+    page.tell(
+        "%: %\n",
+        &[
+            Fill::Path(picture.name),
+            Fill::Text(picture.summary.as_str()),
+        ],
+    );
     columns.rows(&mut page);
-    columns.note(&mut page);
+    if picture.story.small > 0 {
+        page.say("(not drawn: ");
+        say_small(&mut page, picture.story.small);
+        page.say("; --all draws them)\n");
+    }
     page.finish()
 }
 
@@ -58,19 +68,13 @@ fn columns_of(parts: u64) -> u64 {
     parts.saturating_add(PARTS / 1_000) / PARTS
 }
 
-// How many columns a row's label takes.
-fn label_width(row: &Row) -> u64 {
-    row.depth
-        .saturating_mul(2)
-        .saturating_add(row.label.len() as u64)
-}
-
 impl<'a> Columns<'a> {
     fn new(alloc: Global, picture: &'a Picture<'a>, width: u64) -> Result<Columns<'a>, AllocError> {
         let mut label = NARROWEST;
         let mut number = 1;
         for row in &picture.rows.rows {
-            label = label.max(label_width(row));
+            let indent = row.depth.saturating_mul(2);
+            label = label.max(indent.saturating_add(row.label.len() as u64));
             if let Some(Kind::Call(called)) = picture.span(row).map(|span| span.kind) {
                 number = number.max(digits(called.number));
             }
@@ -108,13 +112,6 @@ impl<'a> Columns<'a> {
         let slot = self.picture.slots.slot(at);
         let within = columns_of(self.scale.within(slot));
         self.begin(slot.instant).saturating_add(within)
-    }
-
-    fn title(&self, page: &mut Page) {
-        page.path(self.picture.name);
-        page.say(": ");
-        page.say(self.picture.summary.as_str());
-        page.say("\n")
     }
 
     // The times, what was published, and the rows of the calls and of the sides.
@@ -215,12 +212,12 @@ impl<'a> Columns<'a> {
         match span.kind {
             Kind::Call(called) => {
                 self.number(page, Some(called.number));
-                self.bar(page, &span, call_stroke(&span));
+                self.bar(page, &span);
                 say_fate(page, &span, called);
             }
             _ => {
                 self.number(page, None);
-                self.bar(page, &span, side_stroke(&span));
+                self.bar(page, &span);
                 say_end(page, &span);
             }
         }
@@ -228,7 +225,8 @@ impl<'a> Columns<'a> {
     }
 
     // A bar from where a span begins to where it ends, or to the right edge.
-    fn bar(&self, page: &mut Page, span: &Span, stroke: Stroke) {
+    fn bar(&self, page: &mut Page, span: &Span) {
+        let stroke = stroke_of(span);
         let begin = self.column(span.began);
         let end = match span.end {
             Some((_, at)) => self.column(at),
@@ -242,92 +240,49 @@ impl<'a> Columns<'a> {
         page.sign(stroke.last);
         page.say(" ")
     }
-
-    fn note(&self, page: &mut Page) {
-        let small = self.picture.story.small;
-        if small == 0 {
-            return;
-        }
-        page.say("(not drawn: ");
-        say_small(page, small);
-        page.say("; --all draws them)\n");
-    }
 }
 
-fn call_stroke(span: &Span) -> Stroke {
+// The stroke of a bar, or of the line of a side.
+fn stroke_of(span: &Span) -> Stroke {
+    let is_call = matches!(span.kind, Kind::Call(_));
     let (fill, last) = match span.end {
         Some((End::Answered(_), _)) => ('=', '>'),
         Some((End::Halted, _)) => ('=', '|'),
-        Some(_) => ('-', 'x'),
-        None => ('.', '.'),
+        Some((End::Bound(_, _), _)) => (' ', '#'),
+        Some((End::Lost, _)) => (' ', 'o'),
+        Some((End::Resumed, _)) => (' ', ';'),
+        Some(_) => (if is_call { '-' } else { ' ' }, 'x'),
+        None => (if is_call { '.' } else { ' ' }, '.'),
     };
     Stroke {
-        first: '[',
+        first: if is_call { '[' } else { ':' },
         fill,
-        last,
-    }
-}
-
-fn side_stroke(span: &Span) -> Stroke {
-    let last = match span.end {
-        Some((End::Bound(_, _), _)) => '#',
-        Some((End::Lost, _)) => 'o',
-        Some((End::Resumed, _)) => ';',
-        Some(_) => 'x',
-        None => '.',
-    };
-    Stroke {
-        first: ':',
-        fill: ' ',
         last,
     }
 }
 
 /// How many calls aren't drawn, in words.
 pub(crate) fn say_small(page: &mut Page, small: u64) {
-    page.number(small);
-    page.say(if small > 1 {
-        " built-in calls of no time"
-    } else {
-        " built-in call of no time"
-    });
+    page.tell("% of no time", &[Fill::Count(small, "built-in call")]);
 }
 
 /// How a call ends, in words.
 pub(crate) fn say_fate(page: &mut Page, span: &Span, called: Called) {
+    let due = Fill::Number(called.due.unwrap_or(0));
     match (span.end, called.due) {
         (Some((End::Answered(value), _)), _) => page.value(value),
         (Some((End::Halted, _)), _) => page.say("halt"),
-        (Some(_), due) => {
-            page.say("cancelled, ");
-            say_due(page, due)
-        }
-        (None, Some(time)) => {
-            page.say("due at ");
-            page.number(time)
-        }
+        (Some(_), Some(_)) => page.tell("cancelled, due %", &[due]),
+        (Some(_), None) => page.say("cancelled, never due"),
+        (None, Some(_)) => page.tell("due at %", &[due]),
         (None, None) => page.say("never answers"),
-    }
-}
-
-// When a call was due, in words.
-fn say_due(page: &mut Page, due: Option<u64>) {
-    match due {
-        Some(time) => {
-            page.say("due ");
-            page.number(time)
-        }
-        None => page.say("never due"),
     }
 }
 
 /// How a pruning or an otherwise ends, in words.
 pub(crate) fn say_end(page: &mut Page, span: &Span) {
     match span.end {
-        Some((End::Bound(value, _), _)) => {
-            page.say("= ");
-            page.value(value)
-        }
+        Some((End::Bound(value, _), _)) => page.tell("= %", &[Fill::Value(value)]),
         Some((End::Lost, _)) => page.say("lost"),
         Some((End::Resumed, _)) => page.say("right side"),
         Some(_) => page.say("dropped"),

@@ -107,8 +107,12 @@ impl<'a> Bindings<'a> {
     pub(crate) fn first(&self, name: &[u8]) -> Option<Binding<'a>> {
         let mut found: Option<Binding<'a>> = None;
         for binding in self.list.iter() {
-            let start = found.map_or(usize::MAX, |other| other.name.span.start);
-            if binding.name.text == name && binding.name.span.start < start {
+            let start = binding.name.span.start;
+            let is_first = match found {
+                Some(other) => start < other.name.span.start,
+                None => true,
+            };
+            if is_first && binding.name.text == name {
                 found = Some(*binding);
             }
         }

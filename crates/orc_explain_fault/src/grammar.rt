@@ -1,6 +1,6 @@
 //! What may stand where in a line of a script or a test: a table of places, and the walk over a line by it.
 
-use crate::line::{Kind, Line, Piece, is_in_range};
+use crate::line::{Kind, Line, first_of, is_in_range};
 use crate::words::{CONSTANTS, RESERVED, is_one_of};
 use orc_report::Near;
 use orc_rules::limits::{MOST_ANSWERS, MOST_ARGUMENTS};
@@ -447,7 +447,7 @@ pub(crate) struct Walk {
 impl Walk {
     /// The walk over a line of a script, or else of a test, which is looked at where it ends. None where the whole line can stand so.
     pub(crate) fn over(line: &mut Line, is_script: bool) -> Option<Walk> {
-        let is_service = is_script || line.pieces.iter().any(|piece| piece.is(b"="));
+        let is_service = is_script || first_of(line.pieces.as_slice(), b"=").is_some();
         let mut walk = Walk {
             place: if is_service {
                 Place::Service

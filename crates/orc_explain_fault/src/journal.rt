@@ -35,13 +35,13 @@ const FORMS: [(&[u8], &str); 16] = [
 
 // What stands before the first byte of this kind, and what behind it.
 fn split_at_byte(text: &[u8], byte: u8) -> (&[u8], &[u8]) {
-    let end = match text.iter().position(|other| *other == byte) {
-        Some(end) => end,
-        None => text.len(),
-    };
-    let front = text.get(..end).unwrap_or(b"");
-    let back = text.get(end.saturating_add(1)..).unwrap_or(b"");
-    (front, back)
+    for (at, other) in text.iter().enumerate() {
+        if *other == byte {
+            let behind = text.get(at.saturating_add(1)..).unwrap_or(b"");
+            return (text.get(..at).unwrap_or(b""), behind);
+        }
+    }
+    (text, b"")
 }
 
 /// What is wrong with a journal's text.

@@ -29,23 +29,36 @@ impl Piece<'_> {
     }
 }
 
+/// The place of the first piece that is this word or sign.
+pub(crate) fn first_of(pieces: &[Piece], text: &[u8]) -> Option<usize> {
+    for (place, piece) in pieces.iter().enumerate() {
+        if piece.is(text) {
+            return Some(place);
+        }
+    }
+    None
+}
+
 // What the piece is that stands first, and how many bytes it has.
 fn first_piece(rest: &[u8]) -> (Kind, usize) {
-    let more = rest.get(1..).unwrap_or(b"");
-    let (kind, end) = match rest {
-        [b'A'..=b'Z' | b'a'..=b'z', ..] => (
-            Kind::Name,
-            more.iter()
-                .position(|byte| !byte.is_ascii_alphanumeric() && *byte != b'_'),
-        ),
-        [b'0'..=b'9', ..] | [b'-', b'0'..=b'9', ..] => (
-            Kind::Number,
-            more.iter().position(|byte| !byte.is_ascii_digit()),
-        ),
-        [b'.', b'.', ..] => (Kind::Sign, Some(1)),
-        _ => (Kind::Sign, Some(0)),
+    let kind = match rest {
+        [b'A'..=b'Z' | b'a'..=b'z', ..] => Kind::Name,
+        [b'0'..=b'9', ..] | [b'-', b'0'..=b'9', ..] => Kind::Number,
+        _ => Kind::Sign,
     };
-    (kind, end.unwrap_or(more.len()).saturating_add(1))
+    let mut length: usize = 0;
+    for byte in rest {
+        let goes_on = match kind {
+            Kind::Name => byte.is_ascii_alphanumeric() || *byte == b'_',
+            Kind::Number => byte.is_ascii_digit(),
+            _ => length == 1 && rest.starts_with(b".."),
+        };
+        if length > 0 && !goes_on {
+            break;
+        }
+        length = length.saturating_add(1);
+    }
+    (kind, length)
 }
 
 /// Whether a number is one of 64 signed bits.

@@ -1,6 +1,6 @@
 //! The outline of a test or a script: what its lines are, and of which sites they speak.
 
-use crate::line::{Kind, Line, Piece};
+use crate::line::{Kind, Line, Piece, first_of};
 use orc_lex::token::Span;
 use orc_site::split_line;
 use std::alloc::{AllocError, Global};
@@ -36,10 +36,16 @@ pub(crate) fn arguments(pieces: &[Piece]) -> Option<usize> {
             if first.is(b")") {
                 return Some(0);
             }
-            let end = rest.iter().position(|piece| piece.is(b")"))?;
-            let inner = rest.get(..end)?;
-            let commas = inner.iter().filter(|piece| piece.is(b",")).count();
-            Some(commas.saturating_add(1))
+            let mut count: usize = 1;
+            for piece in rest {
+                if piece.is(b")") {
+                    return Some(count);
+                }
+                if piece.is(b",") {
+                    count = count.saturating_add(1);
+                }
+            }
+            None
         }
         _ => None,
     }
@@ -48,7 +54,7 @@ pub(crate) fn arguments(pieces: &[Piece]) -> Option<usize> {
 // What a line with these pieces is; None of a blank one.
 fn head_of<'a>(pieces: &[Piece<'a>]) -> Option<Head<'a>> {
     let first = pieces.first()?;
-    if pieces.iter().any(|piece| piece.is(b"=")) {
+    if first_of(pieces, b"=").is_some() {
         let count = arguments(pieces).unwrap_or(0);
         return Some(Head::Service(first.text, count));
     }

@@ -255,10 +255,10 @@ fn say_no_site(
         return;
     };
     // Where a line of the script has the name that may have been meant, and nothing calls it, either one may be wrong.
-    let is_called = bindings
-        .calls
-        .iter()
-        .any(|(called, _count)| called.text == meant);
+    let mut is_called = false;
+    for (called, _count) in bindings.calls.iter() {
+        is_called = is_called || called.text == meant;
+    }
     match script.service(meant) {
         Some((line, _count)) if !is_called => page.remark(
             "help: line % of the script has `%`, the program calls `%`",
@@ -288,16 +288,15 @@ fn say_own_site(page: &mut Page, subject: &Subject, bindings: &Bindings, name: &
 
 // An argument or a parameter too many, or else nodes.
 fn say_too_many(page: &mut Page, ast: &Ast, bindings: &Bindings) {
-    let has_call = bindings
-        .calls
-        .iter()
-        .any(|(_name, count)| *count > MOST_ARGUMENTS);
-    let has_definition = ast
-        .definitions
-        .iter()
-        .any(|definition| definition.parameters.len() > MOST_ARGUMENTS);
+    let mut widest: usize = 0;
+    for (_name, count) in bindings.calls.iter() {
+        widest = widest.max(*count);
+    }
+    for definition in &ast.definitions {
+        widest = widest.max(definition.parameters.len());
+    }
     let most = MOST_ARGUMENTS as u64;
-    if has_call || has_definition {
+    if widest > MOST_ARGUMENTS {
         page.tell("the %th argument or parameter\n", &[Fill::Number(most + 1)]);
         page.remark("expected: at most %", &[Fill::Number(most)]);
         page.help("put the numbers into fewer parameters");

@@ -64,13 +64,19 @@ const SIGN_PAIRS: [&[u8]; 5] = [b"//", b"/*", b"&&", b"->", b":="];
 /// A character that begins nothing.
 pub(crate) fn say_stray(page: &mut Page, document: &Document, at: usize) {
     let rest = document.text.get(at..).unwrap_or(b"");
-    let more = rest.get(1..).unwrap_or(b"");
-    let length = if SIGN_PAIRS.iter().any(|pair| rest.starts_with(*pair)) {
-        1
-    } else {
-        let end = more.iter().position(|byte| begins_character(*byte));
-        end.unwrap_or(more.len())
-    };
+    // How many bytes the character has behind its first one, or two signs that are read as one.
+    let mut length: usize = 0;
+    for byte in rest.get(1..).unwrap_or(b"") {
+        if begins_character(*byte) {
+            break;
+        }
+        length = length.saturating_add(1);
+    }
+    for pair in SIGN_PAIRS.iter() {
+        if rest.starts_with(*pair) {
+            length = 1;
+        }
+    }
     let end = at.saturating_add(1).saturating_add(length);
     let span = Span {
         start: at,
@@ -80,7 +86,10 @@ pub(crate) fn say_stray(page: &mut Page, document: &Document, at: usize) {
     let bytes = document.part(span);
     // A character stands by itself, or by its number where it can't be shown.
     let code = match str::from_utf8(bytes) {
-        Ok(text) => text.chars().next().map(|sign| sign as u32),
+        Ok(text) => match text.chars().next() {
+            Some(sign) => Some(sign as u32),
+            None => None,
+        },
         Err(_) => None,
     };
     match (bytes, code) {

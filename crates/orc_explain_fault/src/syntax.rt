@@ -70,7 +70,10 @@ fn say_unexpected(page: &mut Page, alloc: Global, document: &Document, at: usize
         }
         None => {
             // The end of the text stands behind its last token.
-            let start = tokens.back(1).map_or(at, |token| token.span.end);
+            let start = match tokens.back(1) {
+                Some(token) => token.span.end,
+                None => at,
+            };
             page.point(document, Span { start, end: start });
             page.say("the text ends here\n");
         }

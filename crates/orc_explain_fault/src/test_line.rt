@@ -1,7 +1,7 @@
 //! Lines that are none of a test (T1).
 
 use crate::grammar::{Place, Walk};
-use crate::line::{Kind, Line, Piece, is_in_range};
+use crate::line::{Kind, Line, Piece, first_of, is_in_range};
 use crate::script::number_advice;
 use crate::syntax::say_out_of_range;
 use crate::words::said_of;
@@ -215,15 +215,15 @@ fn say_whole(page: &mut Page, document: &Document, line: &Line) {
         return;
     }
     for (with, word, words) in APART.iter() {
-        if pieces.iter().any(|piece| piece.is(*with)) {
-            for piece in pieces {
-                if piece.is(*word) {
-                    page.point(document, piece.span);
-                    page.tell("`%` can't stand in this line\n", &[Fill::Word(piece.text)]);
-                    page.help(words);
-                    return;
-                }
+        let place = first_of(pieces, *word).unwrap_or(pieces.len());
+        match (first_of(pieces, *with), pieces.get(place)) {
+            (Some(_), Some(piece)) => {
+                page.point(document, piece.span);
+                page.tell("`%` can't stand in this line\n", &[Fill::Word(piece.text)]);
+                page.help(words);
+                return;
             }
+            _ => {}
         }
     }
     if let Some(piece) = pieces.first() {

@@ -21,10 +21,16 @@ pub(crate) fn say_place(page: &mut Page, alloc: Global, document: &Document, num
         page.refuse();
         return;
     };
-    let at = outline.lines.iter().position(|line| line.number == number);
-    let before = outline.lines.get(..at.unwrap_or(0)).unwrap_or(&[]);
-    let Some(here) = at.and_then(|at| outline.lines.get(at)) else {
-        return;
+    let mut at: usize = 0;
+    for line in outline.lines.iter() {
+        if line.number < number {
+            at = at.saturating_add(1);
+        }
+    }
+    let before = outline.lines.get(..at).unwrap_or(&[]);
+    let here = match outline.lines.get(at) {
+        Some(here) if here.number == number => *here,
+        _ => return,
     };
     page.point(document, span_of(line.pieces.as_slice()));
     match here.head {
@@ -57,12 +63,28 @@ fn say_misplaced(page: &mut Page, head: Head, before: &[Outlined]) {
             section = Some(*line);
         }
     }
-    let (words, help) = match (head, section.map(|section| section.head)) {
+    let (words, help) = match (head, section) {
         (Head::Claim, None) => ("a claim can't stand before the first section\n", CLAIMS),
-        (Head::Claim, Some(Head::Given)) => ("a claim can't stand below `given`\n", CLAIMS),
+        (
+            Head::Claim,
+            Some(
+                Outlined {
+                    head: Head::Given,
+                    ..
+                },
+            ),
+        ) => ("a claim can't stand below `given`\n", CLAIMS),
         (Head::Claim, Some(_)) => ("the 1,025th claim\n", FEWER),
         (_, None) => ("a service can't stand before the first section\n", SERVICES),
-        (_, Some(Head::Always)) => ("a service can't stand below `always`\n", SERVICES),
+        (
+            _,
+            Some(
+                Outlined {
+                    head: Head::Always,
+                    ..
+                },
+            ),
+        ) => ("a service can't stand below `always`\n", SERVICES),
         _ => ("the 1,025th service\n", FEWER),
     };
     page.say(words);

@@ -44,7 +44,12 @@ pub(crate) fn say_ways(
     page.point(document, span_of(line.pieces.as_slice()));
     page.say("this case has over 1,000,000 ways\n");
     // The service that has most ways. Those that stand behind `given` count, too.
-    let case = test.cases.iter().position(|case| case.line == number);
+    let mut case: Option<usize> = None;
+    for (place, other) in test.cases.iter().enumerate() {
+        if other.line == number {
+            case = Some(place);
+        }
+    }
     let mut widest: &[u8] = b"";
     let mut most: u64 = 1;
     for line in test.services.iter() {

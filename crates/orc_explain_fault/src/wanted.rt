@@ -345,11 +345,10 @@ impl<'a> Around<'_, 'a> {
             })
         );
         let is_reserved = is_one_of(here, RESERVED.as_slice());
-        let has_begun = self
-            .tokens
-            .before
-            .iter()
-            .any(|token| matches!(token.kind, Kind::Def | Kind::Val));
+        let mut has_begun = false;
+        for token in self.tokens.before.iter() {
+            has_begun = has_begun || matches!(token.kind, Kind::Def | Kind::Val);
+        }
         match test {
             Test::Always => true,
             Test::Name => is_name(token),
@@ -415,7 +414,10 @@ impl<'a> Around<'_, 'a> {
             About::LooseCall => self.loose_call(),
             _ => self.open_bracket(),
         };
-        let start = at.map_or(0, |token| token.span.start);
+        let start = match at {
+            Some(token) => token.span.start,
+            None => 0,
+        };
         page.note("help: ");
         match about {
             About::Bracket => page.tell(words, &[Fill::Place(self.text, start)]),

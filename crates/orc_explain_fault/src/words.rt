@@ -16,7 +16,12 @@ pub(crate) const NUMBER_ENDS: [(&[u8], &str); 2] = [
 
 /// Whether a word is one of these.
 pub(crate) fn is_one_of(word: &[u8], words: &[&[u8]]) -> bool {
-    words.iter().any(|other| *other == word)
+    for other in words {
+        if *other == word {
+            return true;
+        }
+    }
+    false
 }
 
 /// What a table says of a word.

@@ -1,27 +1,11 @@
 //! The entries that are allowed at a place of a run, in words.
 
 use crate::line::say_entry;
-use orc_report::Page;
+use orc_report::{Fill, Page};
 use orc_rules::answers::Answers;
 use orc_rules::entry::Entry;
 use orc_verdict::Allowed;
 use std::alloc::Global;
-
-/// The tick that is allowed, as its time.
-pub(crate) fn tick_in(allowed: &Allowed) -> Option<u64> {
-    match allowed.entries().first() {
-        Some(Entry::Tick(time)) => Some(*time),
-        _ => None,
-    }
-}
-
-/// How many things can be done now: ticks are none.
-pub(crate) fn things_in(allowed: &Allowed) -> u64 {
-    match tick_in(allowed) {
-        Some(_) => 0,
-        None => allowed.count(),
-    }
-}
 
 /// The cancel that has to come.
 pub(crate) fn cancel_in(allowed: &Allowed) -> Option<u64> {
@@ -51,9 +35,9 @@ pub(crate) fn say_allowed(
         }
         say_entry(page, alloc, answers, entry);
     }
-    let told = entries.len() as u64;
-    if allowed.count() > told {
-        page.say_number(" and ", allowed.count().saturating_sub(told), " more");
+    let more = allowed.count().saturating_sub(entries.len() as u64);
+    if more > 0 {
+        page.tell(" and % more", &[Fill::Number(more)]);
     }
     page.say("\n");
 }

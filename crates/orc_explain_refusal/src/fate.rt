@@ -2,7 +2,7 @@
 
 use crate::named::{Named, named_by, place_of, stands_at};
 use orc_checker::Marked;
-use orc_report::Page;
+use orc_report::{Fill, Page};
 use orc_rules::entry::Entry;
 use orc_term::arena::{Kind, Single};
 use orc_verdict::numbers_of;
@@ -21,21 +21,6 @@ pub(crate) enum Fate {
     Ended(u64),
     /// The left side of the otherwise published.
     Left(u64),
-}
-
-impl Fate {
-    // The words round the number of the entry that did it.
-    fn words(self) -> Option<(&'static str, u64, &'static str)> {
-        match self {
-            Fate::Nothing => None,
-            Fate::UsedUp(entry) => Some((": entry ", entry, " used it up")),
-            Fate::Returned(entry) => Some((": it has returned at entry ", entry, "")),
-            Fate::Cancelled(entry) => Some((": it was cancelled at entry ", entry, "")),
-            Fate::Bound(entry) => Some((": the bind at entry ", entry, " dropped it")),
-            Fate::Ended(entry) => Some((": the end of its side at entry ", entry, " dropped it")),
-            Fate::Left(entry) => Some((": the publication at entry ", entry, " left it")),
-        }
-    }
 }
 
 /// One that is watched while entries are applied.
@@ -128,55 +113,32 @@ impl Watch {
         }
     }
 
-    // How many of its kind there have been.
-    fn numbers(&self, marked: &Marked) -> u64 {
-        let next = match self.named {
-            Named::Token(_) | Named::Otherwise(_) => marked.new_mark(),
-            Named::Call(_) => marked.new_call(),
-            Named::Cell(_) => marked.new_cell(),
-            Named::Nothing => 1,
-        };
-        next.saturating_sub(1)
-    }
-
-    fn number(&self) -> u64 {
-        match self.named {
-            Named::Token(number)
-            | Named::Call(number)
-            | Named::Cell(number)
-            | Named::Otherwise(number) => number,
-            Named::Nothing => 0,
-        }
-    }
-
     /// Says that it isn't there, and why.
     pub(crate) fn say(&self, marked: &Marked, page: &mut Page) {
-        page.say(match self.named {
-            Named::Token(_) | Named::Nothing => "no mark ",
-            Named::Call(_) => "no call ",
-            Named::Cell(_) => "no cell ",
-            Named::Otherwise(_) => "no otherwise ",
-        });
-        page.number(self.number());
-        page.say(" now");
-        match self.fate.words() {
-            Some((before, entry, behind)) => page.say_number(before, entry, behind),
-            None => self.say_numbers(marked, page),
-        }
+        let (kind, number, next) = match self.named {
+            Named::Token(mark) => ("mark", mark, marked.new_mark()),
+            Named::Call(call) => ("call", call, marked.new_call()),
+            Named::Cell(cell) => ("cell", cell, marked.new_cell()),
+            Named::Otherwise(mark) => ("otherwise", mark, marked.new_mark()),
+            Named::Nothing => ("mark", 0, 1),
+        };
+        // How many of its kind there have been.
+        let last = next.saturating_sub(1);
+        let (why, other) = match self.fate {
+            Fate::UsedUp(entry) => (": entry % used it up", entry),
+            Fate::Returned(entry) => (": it has returned at entry %", entry),
+            Fate::Cancelled(entry) => (": it was cancelled at entry %", entry),
+            Fate::Bound(entry) => (": the bind at entry % dropped it", entry),
+            Fate::Ended(entry) => (": the end of its side at entry % dropped it", entry),
+            Fate::Left(entry) => (": the publication at entry % left it", entry),
+            // It never stood.
+            Fate::Nothing if last == 0 => (": there was none before", 0),
+            Fate::Nothing if number == 0 => (": numbers begin with 1", 0),
+            Fate::Nothing if number > last => (": numbers go up to %", last),
+            Fate::Nothing => (": no otherwise was entered by this mark", 0),
+        };
+        page.tell("no % % now", &[Fill::Text(kind), Fill::Number(number)]);
+        page.tell(why, &[Fill::Number(other)]);
         page.say("\n");
-    }
-
-    // Says why it never stood.
-    fn say_numbers(&self, marked: &Marked, page: &mut Page) {
-        let last = self.numbers(marked);
-        if last == 0 {
-            page.say(": there was none before");
-        } else if self.number() == 0 {
-            page.say(": numbers begin with 1");
-        } else if self.number() > last {
-            page.say_number(": numbers go up to ", last, "");
-        } else {
-            page.say(": no otherwise was entered by this mark");
-        }
     }
 }

@@ -26,22 +26,12 @@ pub(crate) fn line_of(
 /// Writes the line of an entry.
 pub(crate) fn say_entry(page: &mut Page, alloc: Global, answers: &Answers, entry: &Entry) {
     match line_of(alloc, answers, Some(entry)) {
-        Ok(line) => say_bytes(page, line.as_slice()),
+        Ok(line) => {
+            for byte in line.iter() {
+                page.byte(*byte);
+            }
+        }
         Err(_) => page.refuse(),
-    }
-}
-
-fn say_bytes(page: &mut Page, bytes: &[u8]) {
-    for byte in bytes {
-        page.byte(*byte);
-    }
-}
-
-/// The whole of a line.
-pub(crate) fn whole(line: &[u8]) -> Span {
-    Span {
-        start: 0,
-        end: line.len(),
     }
 }
 

@@ -28,14 +28,6 @@ pub(crate) fn named_by(entry: &Entry) -> Named {
     }
 }
 
-/// The cell that a `bind` names beside its token.
-pub(crate) fn bound_by(entry: &Entry) -> Named {
-    match entry {
-        Entry::Bind(_, cell, _) => Named::Cell(*cell),
-        _ => Named::Nothing,
-    }
-}
-
 // Whether a node is what is named.
 fn is_named(kind: Kind, named: Named) -> bool {
     match (kind, named) {

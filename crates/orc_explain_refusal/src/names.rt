@@ -3,7 +3,7 @@
 use crate::sign::Sign;
 use orc_checker::Marked;
 use orc_env::{Bound, StoredScope};
-use orc_report::Page;
+use orc_report::{Fill, Page};
 use orc_rules::answers::Answers;
 use orc_scope::{Names as Variables, variables};
 use orc_syntax::Ast;
@@ -84,42 +84,38 @@ impl<'r, 's> Names<'r, 's> {
         if let Some(Some(name)) = self.cells.get(cell as usize) {
             self.say_variable(page, *name);
         }
-        page.say("#");
-        page.number(cell);
+        page.tell("#%", &[Fill::Number(cell)]);
     }
 
     /// Writes a sign, with the name that it binds where that is a variable.
     pub(crate) fn say_sign(&self, page: &mut Page, sign: Sign) {
-        match sign {
-            Sign::Par => page.say(" | "),
-            Sign::Other => page.say(" ; "),
-            Sign::Seq(name) => self.say_binder(page, " >", name, "> "),
-            Sign::Prune(name) => self.say_binder(page, " <", name, "< "),
-            Sign::Opened(cell) => {
-                page.say(" <");
-                self.say_cell(page, cell);
-                page.say("< ");
-            }
-        }
-    }
-
-    fn say_binder(&self, page: &mut Page, before: &str, name: u32, behind: &str) {
+        let (before, behind) = match sign {
+            Sign::Par => (" | ", ""),
+            Sign::Other => (" ; ", ""),
+            Sign::Seq(_) => (" >", "> "),
+            Sign::Prune(_) | Sign::Opened(_) => (" <", "< "),
+        };
         page.say(before);
-        if self.argument(name).is_none() {
-            self.say_variable(page, name);
+        match sign {
+            Sign::Seq(name) | Sign::Prune(name) if self.argument(name).is_none() => {
+                self.say_variable(page, name);
+            }
+            Sign::Opened(cell) => self.say_cell(page, cell),
+            _ => {}
         }
         page.say(behind);
     }
 
-    pub(crate) fn say_definition(&self, page: &mut Page, definition: u32) {
-        if let Some(definition) = self.ast.definitions.get(definition as usize) {
-            page.word(definition.name.text);
+    /// The name of a definition, nothing where there is none.
+    pub(crate) fn definition(&self, definition: u32) -> &'s [u8] {
+        match self.ast.definitions.get(definition as usize) {
+            Some(definition) => definition.name.text,
+            None => b"",
         }
     }
 
-    pub(crate) fn say_site(&self, page: &mut Page, site: u32) {
-        if let Some(name) = self.answers.name(site) {
-            page.word(name);
-        }
+    /// The name of a site, nothing where there is none.
+    pub(crate) fn site(&self, site: u32) -> &'r [u8] {
+        self.answers.name(site).unwrap_or(b"")
     }
 }

@@ -1,12 +1,11 @@
 //! Why an entry is refused, said under its place.
 
-use crate::allowed::{cancel_in, things_in, tick_in};
-use crate::line::{field, say_entry, whole};
+use crate::allowed::cancel_in;
+use crate::line::{field, say_entry};
 use crate::replay::Replay;
 use orc_calls::due_time;
-use orc_checker::Marked;
 use orc_lex::token::Span;
-use orc_report::{Page, left_out};
+use orc_report::{Fill, Page, left_out};
 use orc_rules::answers::Answers;
 use orc_rules::entry::{Entry, RuleFault};
 use orc_rules::limits::{MOST_ARGUMENTS, MOST_LEVELS};
@@ -29,166 +28,129 @@ pub(crate) struct Refused<'r> {
     pub number: u64,
 }
 
-// The numbers that an entry may give to what it makes and what they have to be, in their order in its line.
-fn numbers_at(marked: &Marked, entry: &Entry) -> [(Option<u64>, u64); 4] {
-    let new = numbers_of(entry);
-    let mark = marked.new_mark();
-    [
-        (new.cell, marked.new_cell()),
-        (new.call, marked.new_call()),
-        (new.mark, mark),
-        (new.second, mark.saturating_add(1)),
-    ]
-}
-
 impl Refused<'_> {
-    // Shows the entry with carets under a part of its line. What is said next stands behind them.
-    fn show(&self, page: &mut Page, part: Span) {
+    // Shows the entry with carets under a word of its line, counted from 0, or else under the whole line. What is said next stands behind them.
+    fn show(&self, page: &mut Page, word: Option<usize>) {
+        let part = match word {
+            Some(number) => field(self.line, number),
+            None => Span {
+                start: 0,
+                end: self.line.len(),
+            },
+        };
         let first = left_out((part.start as u64).saturating_add(1));
         page.row(self.number, self.line, first, part.start);
         page.carets(self.line, first, part);
     }
 
-    fn show_whole(&self, page: &mut Page) {
-        self.show(page, whole(self.line));
-    }
-
-    fn show_word(&self, page: &mut Page, number: usize) {
-        self.show(page, field(self.line, number));
-    }
-
     /// Shows the entry, and says why it is refused.
     pub(crate) fn say(&self, page: &mut Page, alloc: Global, why: RuleFault) {
-        match self.entry {
-            Some(entry) => self.say_reason(page, alloc, entry, why),
-            None => self.say_end(page),
-        }
-    }
-
-    fn say_reason(&self, page: &mut Page, alloc: Global, entry: &Entry, why: RuleFault) {
+        let cancel = cancel_in(self.allowed);
+        let cancelled = Fill::Number(cancel.unwrap_or(0));
+        let Some(entry) = self.entry else {
+            // A cancel is due behind the last entry.
+            self.show(page, None);
+            page.tell("the journal ends here, and cancel % is due\n", &[cancelled]);
+            return;
+        };
         match why {
-            RuleFault::Cancel => self.say_cancel(page),
-            RuleFault::Mark => self.say_mark(page),
+            RuleFault::Cancel => {
+                self.show(page, None);
+                match cancel {
+                    Some(_) => page.tell("cancel % has to come first\n", &[cancelled]),
+                    None => page.say("no cancel is due\n"),
+                }
+            }
+            // The token is missing, or where it stands, the cell that a `bind` names beside it.
+            RuleFault::Mark if self.replay.first.stands() => {
+                self.show(page, Some(2));
+                self.replay.second.say(&self.replay.marked, page);
+            }
+            RuleFault::Mark => {
+                self.show(page, Some(1));
+                self.replay.first.say(&self.replay.marked, page);
+            }
             RuleFault::Form => self.say_form(page, alloc, entry),
             RuleFault::Number => self.say_number(page, entry),
             RuleFault::Answer => self.say_answer(page, entry),
             RuleFault::Time => self.say_time(page, entry),
-            RuleFault::Halted => self.say_halted(page),
-            RuleFault::Deep => self.say_deep(page),
+            RuleFault::Halted => {
+                self.show(page, Some(1));
+                page.say("that side hasn't halted\n");
+            }
+            RuleFault::Deep => {
+                self.show(page, None);
+                page.tell(
+                    "the term would nest over % levels\n",
+                    &[Fill::Grouped(MOST_LEVELS as u64)],
+                );
+            }
             RuleFault::Memory => {}
         }
     }
 
-    fn say_halted(&self, page: &mut Page) {
-        self.show_word(page, 1);
-        page.say("that side hasn't halted\n");
-    }
-
-    fn say_deep(&self, page: &mut Page) {
-        self.show_whole(page);
-        page.say("the term would nest over ");
-        page.grouped(MOST_LEVELS as u64);
-        page.say(" levels\n");
-    }
-
-    // A cancel is due behind the last entry.
-    fn say_end(&self, page: &mut Page) {
-        self.show_whole(page);
-        let call = cancel_in(self.allowed).unwrap_or(0);
-        page.say_number("the journal ends here, and cancel ", call, " is due\n");
-    }
-
-    fn say_cancel(&self, page: &mut Page) {
-        self.show_whole(page);
-        match cancel_in(self.allowed) {
-            Some(call) => page.say_number("cancel ", call, " has to come first\n"),
-            None => page.say("no cancel is due\n"),
-        }
-    }
-
-    // The token is missing, or where it stands, the cell that a `bind` names beside it.
-    fn say_mark(&self, page: &mut Page) {
-        let marked = &self.replay.marked;
-        if self.replay.first.stands() {
-            self.show_word(page, 2);
-            self.replay.second.say(marked, page);
-        } else {
-            self.show_word(page, 1);
-            self.replay.first.say(marked, page);
-        }
-    }
-
+    // The entry that the token may have in its place.
     fn say_form(&self, page: &mut Page, alloc: Global, entry: &Entry) {
         let mark = mark_named(entry).unwrap_or(0);
         match entry_of(&self.replay.marked, self.program, mark) {
-            Some(other) => self.say_other(page, alloc, entry, mark, &other),
+            Some(other) if other.kind().word() == entry.kind().word() => {
+                self.show(page, None);
+                page.say("this has to be `");
+                say_entry(page, alloc, self.answers, &other);
+                page.say("`\n");
+            }
+            Some(other) => {
+                self.show(page, Some(0));
+                let word = Fill::Word(other.kind().word());
+                page.tell("mark % may `%`\n", &[Fill::Number(mark), word]);
+            }
             None => self.say_waits(page, mark),
         }
     }
 
-    // The entry that the token may have in its place.
-    fn say_other(&self, page: &mut Page, alloc: Global, entry: &Entry, mark: u64, other: &Entry) {
-        if other.kind().word() == entry.kind().word() {
-            self.show_whole(page);
-            page.say("this has to be `");
-            say_entry(page, alloc, self.answers, other);
-        } else {
-            self.show_word(page, 0);
-            page.say_number("mark ", mark, " may `");
-            page.word(other.kind().word());
-        }
-        page.say("`\n");
-    }
-
-    // The token waits for cells.
+    // The token waits for those of its arguments that are cells without a value.
     fn say_waits(&self, page: &mut Page, mark: u64) {
-        let cells = self.cells_awaited(mark);
-        if cells == 0 {
-            self.show_whole(page);
-            page.say("another kind of term, name, argument, value or taker stands there\n");
-            return;
-        }
-        self.show_word(page, 0);
-        page.say_number("mark ", mark, " waits for cell");
-        page.say(if cells == 1 { " " } else { "s " });
-        self.say_cells(page, mark);
-        page.say("\n");
-    }
-
-    // How many of a token's arguments are cells without a value.
-    fn cells_awaited(&self, mark: u64) -> u64 {
+        let marked = &self.replay.marked;
         let mut cells: u64 = 0;
         for place in 0..MOST_ARGUMENTS {
-            if self
-                .replay
-                .marked
-                .awaited(self.program, mark, place)
-                .is_some()
-            {
+            if marked.awaited(self.program, mark, place).is_some() {
                 cells = cells.saturating_add(1);
             }
         }
-        cells
-    }
-
-    fn say_cells(&self, page: &mut Page, mark: u64) {
-        let mut sign = "";
+        if cells == 0 {
+            self.show(page, None);
+            page.say("another kind of term, name, argument, value or taker stands there\n");
+            return;
+        }
+        self.show(page, Some(0));
+        let mut sign = if cells == 1 { " " } else { "s " };
+        page.tell("mark % waits for cell", &[Fill::Number(mark)]);
         for place in 0..MOST_ARGUMENTS {
-            if let Some(cell) = self.replay.marked.awaited(self.program, mark, place) {
-                page.say_number(sign, cell, "");
+            if let Some(cell) = marked.awaited(self.program, mark, place) {
+                page.tell("%%", &[Fill::Text(sign), Fill::Number(cell)]);
                 sign = ", ";
             }
         }
+        page.say("\n");
     }
 
+    // The first number that an entry gives to what it makes and that isn't the next one.
     fn say_number(&self, page: &mut Page, entry: &Entry) {
-        // New numbers stand behind the entry's word and what it names.
+        let marked = &self.replay.marked;
+        let new = numbers_of(entry);
+        let mark = marked.new_mark();
+        // New numbers stand behind the entry's word and what it names, in this order.
         let mut place: usize = 2;
-        for (number, next) in numbers_at(&self.replay.marked, entry) {
+        for (number, next) in [
+            (new.cell, marked.new_cell()),
+            (new.call, marked.new_call()),
+            (new.mark, mark),
+            (new.second, mark.saturating_add(1)),
+        ] {
             if let Some(number) = number {
                 if number != next {
-                    self.show_word(page, place);
-                    page.say_number("the next number is ", next, "\n");
+                    self.show(page, Some(place));
+                    page.tell("the next number is %\n", &[Fill::Number(next)]);
                     return;
                 }
                 place = place.saturating_add(1);
@@ -211,55 +173,53 @@ impl Refused<'_> {
             Entry::Return(_, _, _) => 3,
             _ => 2,
         };
-        self.show_word(page, answer);
+        self.show(page, Some(answer));
         match self.returned(entry) {
             Some((Found::After(Answer::Value(value), _), _)) => {
-                page.say("the table's answer is ");
-                page.value(value);
+                page.tell("the table's answer is %\n", &[Fill::Value(value)]);
             }
-            Some((Found::After(Answer::Halt, _), _)) => page.say("the table's answer is halt"),
-            Some((Found::Never, _)) | None => page.say("the table says never"),
+            Some((Found::After(Answer::Halt, _), _)) => page.say("the table's answer is halt\n"),
+            Some((Found::Never, _)) | None => page.say("the table says never\n"),
         }
-        page.say("\n");
     }
 
     fn say_time(&self, page: &mut Page, entry: &Entry) {
-        self.show_word(page, 1);
-        match entry {
-            Entry::Return(call, _, _) | Entry::ReturnHalt(call) => {
-                self.say_due(page, *call, self.returned(entry));
-            }
-            _ => self.say_tick(page),
-        }
-        page.say("\n");
-    }
-
-    fn say_due(&self, page: &mut Page, call: u64, returned: Option<(Found, u64)>) {
-        page.say_number("call ", call, "");
-        let due = match returned {
+        self.show(page, Some(1));
+        let (Entry::Return(call, _, _) | Entry::ReturnHalt(call)) = entry else {
+            self.say_tick(page);
+            return;
+        };
+        let call = Fill::Number(*call);
+        let due = match self.returned(entry) {
             Some((found, at)) => due_time(found, at),
             None => None,
         };
         match due {
-            Some(time) => {
-                page.say_number(" is due at ", time, "");
-                page.say_number(", and now it is ", self.replay.marked.now(), "");
-            }
-            None => page.say(" is never due: its due time is over the greatest time"),
+            Some(time) => page.tell(
+                "call % is due at %, and now it is %\n",
+                &[
+                    call,
+                    Fill::Number(time),
+                    Fill::Number(self.replay.marked.now()),
+                ],
+            ),
+            None => page.tell(
+                "call % is never due: its due time is over the greatest time\n",
+                &[call],
+            ),
         }
     }
 
     fn say_tick(&self, page: &mut Page) {
-        let things = things_in(self.allowed);
-        if things > 0 {
-            page.say("a tick comes only where nothing can be done now: ");
-            page.count(things, "thing");
-            page.say(" can");
-            return;
-        }
-        match tick_in(self.allowed) {
-            Some(time) => page.say_number("the next due time is ", time, ""),
-            None => page.say("no call that is out is ever due"),
+        match self.allowed.entries().first() {
+            Some(Entry::Tick(time)) => {
+                page.tell("the next due time is %\n", &[Fill::Number(*time)]);
+            }
+            Some(_) => page.tell(
+                "a tick comes only where nothing can be done now: % can\n",
+                &[Fill::Count(self.allowed.count(), "thing")],
+            ),
+            None => page.say("no call that is out is ever due\n"),
         }
     }
 }

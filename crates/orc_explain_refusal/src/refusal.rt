@@ -10,9 +10,9 @@ use crate::strip::Strip;
 use crate::way::Way;
 use orc_journal::Journal;
 use orc_journal_text::read_journal;
-use orc_report::{Document, Page};
+use orc_report::{Document, Fill, Page};
 use orc_rules::answers::Answers;
-use orc_rules::entry::RuleFault;
+use orc_rules::entry::{Entry, RuleFault};
 use orc_rules::program::Program;
 use orc_site::read_script;
 use orc_syntax::{Ast, parse};
@@ -56,14 +56,13 @@ impl<'s> Case<'s> {
         script: &[u8],
         journal: &[u8],
     ) -> Result<Case<'s>, AllocError> {
-        let Ok(ast) = parse(alloc, source) else {
+        let (Ok(ast), Ok(answers)) = (parse(alloc, source), read_script(alloc, script)) else {
             return Err(AllocError);
         };
-        let Ok(answers) = read_script(alloc, script) else {
-            return Err(AllocError);
-        };
-        let program = program_of(alloc, &ast, &answers)?;
-        let Ok(journal) = read_journal(alloc, journal, &answers) else {
+        let (Ok(program), Ok(journal)) = (
+            program_of(alloc, &ast, &answers),
+            read_journal(alloc, journal, &answers),
+        ) else {
             return Err(AllocError);
         };
         Ok(Case {
@@ -85,69 +84,44 @@ impl<'s> Case<'s> {
     ) -> Result<(), AllocError> {
         let mut replay = Replay::new(alloc, &self.program, &self.answers, &self.journal, place)?;
         let allowed = Allowed::new(alloc, &mut replay.marked, &self.program, &self.answers)?;
-        self.say_place(page, name, place, replay.marked.now());
+        let number = line_number(place);
+        page.widen(number);
+        page.inset();
+        page.tell(
+            "--> %, entry % (line %), at time %\n",
+            &[
+                Fill::Path(name),
+                Fill::Number(number.saturating_sub(1)),
+                Fill::Number(number),
+                Fill::Number(replay.marked.now()),
+            ],
+        );
+        page.margin();
+        page.say("\n");
         if let Some(before) = place.checked_sub(1) {
-            self.say_before(page, alloc, before);
+            let line = line_of(alloc, &self.answers, self.journal.get(before).as_ref())?;
+            page.row(line_number(before), line.as_slice(), 0, 0);
         }
-        self.say_why(page, alloc, &replay, &allowed, place, why);
+        let entry = self.journal.get(place);
+        let line = line_of(alloc, &self.answers, entry.as_ref())?;
+        let refused = Refused {
+            program: &self.program,
+            answers: &self.answers,
+            replay: &replay,
+            allowed: &allowed,
+            entry: entry.as_ref(),
+            line: line.as_slice(),
+            number,
+        };
+        refused.say(page, alloc, why);
         if let RuleFault::Deep = why {
             page.note("the rules allow this entry: only the checker's limit refuses it\n");
             return Ok(());
         }
-        self.say_term(page, alloc, &replay, place, why)?;
+        self.say_term(page, alloc, &replay, entry.as_ref(), why)?;
         let has_halted = replay.marked.has_halted();
         say_allowed(page, alloc, &self.answers, &allowed, has_halted);
         Ok(())
-    }
-
-    // Where the entry stands.
-    fn say_place(&self, page: &mut Page, name: &str, place: usize, time: u64) {
-        let number = line_number(place);
-        page.widen(number);
-        page.inset();
-        page.say("--> ");
-        page.path(name);
-        page.say_number(", entry ", number.saturating_sub(1), "");
-        page.say_number(" (line ", number, ")");
-        page.say_number(", at time ", time, "\n");
-        page.margin();
-        page.say("\n");
-    }
-
-    // The entry before it.
-    fn say_before(&self, page: &mut Page, alloc: Global, before: usize) {
-        let entry = self.journal.get(before);
-        match line_of(alloc, &self.answers, entry.as_ref()) {
-            Ok(line) => page.row(line_number(before), line.as_slice(), 0, 0),
-            Err(_) => page.refuse(),
-        }
-    }
-
-    // The entry, and what is wrong with it.
-    fn say_why(
-        &self,
-        page: &mut Page,
-        alloc: Global,
-        replay: &Replay,
-        allowed: &Allowed,
-        place: usize,
-        why: RuleFault,
-    ) {
-        let entry = self.journal.get(place);
-        let Ok(line) = line_of(alloc, &self.answers, entry.as_ref()) else {
-            page.refuse();
-            return;
-        };
-        let refused = Refused {
-            program: &self.program,
-            answers: &self.answers,
-            replay,
-            allowed,
-            entry: entry.as_ref(),
-            line: line.as_slice(),
-            number: line_number(place),
-        };
-        refused.say(page, alloc, why);
     }
 
     // The term before the entry. The error is refused memory.
@@ -156,47 +130,27 @@ impl<'s> Case<'s> {
         page: &mut Page,
         alloc: Global,
         replay: &Replay,
-        place: usize,
+        entry: Option<&Entry>,
         why: RuleFault,
     ) -> Result<(), AllocError> {
-        let entry = self.journal.get(place);
         let marked = &replay.marked;
         let names = Names::new(alloc, &self.ast, &self.answers, marked)?;
         let spent = Spent::new(alloc, marked)?;
-        let way = Way::new(
-            alloc,
-            marked,
-            &spent,
-            entry.as_ref(),
-            replay.first.named,
-            why,
-        )?;
+        let way = Way::new(alloc, marked, &spent, entry, replay.first.named, why)?;
         page.margin();
         page.say("\n");
         page.note("the term before it, its marks below:\n");
-        self.show_term(page, alloc, replay, &names, &way, &spent);
-        Ok(())
-    }
-
-    fn show_term(
-        &self,
-        page: &mut Page,
-        alloc: Global,
-        replay: &Replay,
-        names: &Names,
-        way: &Way,
-        spent: &Spent,
-    ) {
         let strip = Strip::new(
             alloc,
             &self.program,
             replay,
             &self.journal,
-            names,
-            way,
-            spent,
+            &names,
+            &way,
+            &spent,
         );
         strip.show(page, alloc);
+        Ok(())
     }
 }
 

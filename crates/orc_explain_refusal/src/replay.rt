@@ -1,7 +1,7 @@
 //! A journal's entries applied again, up to the one that was refused.
 
 use crate::fate::Watch;
-use crate::named::{Named, bound_by, named_by};
+use crate::named::{Named, named_by};
 use orc_checker::Marked;
 use orc_journal::{Journal, Version};
 use orc_rules::answers::Answers;
@@ -44,7 +44,8 @@ impl Replay {
         let cancels = matches!(journal.version(), Version::Two);
         let marked = Marked::new(alloc, program, cancels)?;
         let (first, second) = match journal.get(place) {
-            Some(entry) => (named_by(&entry), bound_by(&entry)),
+            Some(Entry::Bind(mark, cell, _)) => (Named::Token(mark), Named::Cell(cell)),
+            Some(entry) => (named_by(&entry), Named::Nothing),
             None => (Named::Nothing, Named::Nothing),
         };
         let first = Watch::new(first, &marked);

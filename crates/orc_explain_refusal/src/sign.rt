@@ -10,38 +10,31 @@ pub(crate) enum Sign {
     Opened(u64),
 }
 
-/// How tightly a sign binds, and its left and its right part have to.
+/// How tightly a sign binds, and its left and its right part have to; and the variable that it binds in each.
 #[derive(Clone, Copy)]
 pub(crate) struct Levels {
     pub own: usize,
     pub left: usize,
     pub right: usize,
+    pub bound_left: Option<u32>,
+    pub bound_right: Option<u32>,
 }
 
 impl Sign {
     pub(crate) fn levels(self) -> Levels {
-        let (own, left, right) = match self {
-            Sign::Other => (1, 1, 2),
-            Sign::Prune(_) | Sign::Opened(_) => (2, 2, 3),
-            Sign::Par => (3, 3, 4),
-            Sign::Seq(_) => (4, 5, 4),
+        let (own, left, right, bound_left, bound_right) = match self {
+            Sign::Other => (1, 1, 2, None, None),
+            Sign::Opened(_) => (2, 2, 3, None, None),
+            Sign::Prune(name) => (2, 2, 3, Some(name), None),
+            Sign::Par => (3, 3, 4, None, None),
+            Sign::Seq(name) => (4, 5, 4, None, Some(name)),
         };
-        Levels { own, left, right }
-    }
-
-    /// The variable that it binds in its left part.
-    pub(crate) fn bound_left(self) -> Option<u32> {
-        match self {
-            Sign::Prune(name) => Some(name),
-            _ => None,
-        }
-    }
-
-    /// The variable that it binds in its right part.
-    pub(crate) fn bound_right(self) -> Option<u32> {
-        match self {
-            Sign::Seq(name) => Some(name),
-            _ => None,
+        Levels {
+            own,
+            left,
+            right,
+            bound_left,
+            bound_right,
         }
     }
 }

@@ -15,7 +15,7 @@ use std::alloc::Global;
 const LONGEST_PART: usize = 28;
 
 /// What is written behind the place that is shown, in columns.
-const AHEAD: usize = 300;
+pub(crate) const AHEAD: usize = 300;
 
 /// Where a mark's number goes.
 #[derive(Clone, Copy)]
@@ -54,9 +54,10 @@ pub(crate) struct Strip<'r, 's> {
     pub is_cut: bool,
     /// The variables of the source that is being written.
     pub bound: Vec<u32>,
+    /// So many columns are written at most.
+    pub most: usize,
     tasks: Vec<Task>,
     parts: Vec<Part>,
-    most: usize,
 }
 
 // Written out, so that a caller's proof sees one call and not the drop of each field.
@@ -108,20 +109,16 @@ impl<'r, 's> Strip<'r, 's> {
             parts: Vec::new(alloc),
             most: AHEAD,
         };
-        strip.begin();
-        strip.write();
-        strip
-    }
-
-    fn begin(&mut self) {
-        match self.way.top() {
+        match way.top() {
             Some(top) => {
                 // What stands left of the named part is short.
-                self.most = usize::MAX;
-                self.push(Task::Way(top, 0));
+                strip.most = usize::MAX;
+                strip.push(Task::Way(top, 0));
             }
-            None => self.push(Task::Node(0, 0)),
+            None => strip.push(Task::Node(0, 0)),
         }
+        strip.write();
+        strip
     }
 
     fn write(&mut self) {
@@ -137,26 +134,36 @@ impl<'r, 's> Strip<'r, 's> {
         }
     }
 
+    // Writes a part as far as its own parts. One that is left out ends all the same, and binds its names.
     fn act(&mut self, task: Task) {
+        let is_long = self.is_long();
         match task {
-            Task::Open => self.open(),
-            Task::Close => self.close(),
-            Task::Bind(name) => self.bind(name),
+            Task::Open => {
+                let part = Part {
+                    start: self.page.len(),
+                    seen: 0,
+                    is_long,
+                };
+                if self.parts.push(part).is_err() {
+                    self.page.refuse();
+                }
+            }
+            Task::Close => self.close(is_long),
+            Task::Bind(name) => {
+                if self.bound.push(name).is_err() {
+                    self.page.refuse();
+                }
+            }
             Task::Unbind => {
                 let _name = self.bound.pop();
             }
-            _ if self.is_long() => {}
-            _ => self.write_part(task),
-        }
-    }
-
-    // Writes a part that isn't left out, as far as its own parts.
-    fn write_part(&mut self, task: Task) {
-        match task {
+            _ if is_long => {}
             Task::Node(at, level) => self.node(at, level),
             Task::Way(at, level) => self.way_node(at, level),
             Task::Source(node, scope, level) => {
-                self.see();
+                if let Some(part) = self.parts.last_mut() {
+                    part.seen = part.seen.saturating_add(1);
+                }
                 self.source(node, scope, level);
             }
             Task::Operand(operand, scope) => self.operand(operand, scope),
@@ -166,7 +173,6 @@ impl<'r, 's> Strip<'r, 's> {
                 let end = self.page.len();
                 self.named = Some(Stretch { start, end });
             }
-            Task::Open | Task::Close | Task::Bind(_) | Task::Unbind => {}
         }
     }
 
@@ -177,33 +183,8 @@ impl<'r, 's> Strip<'r, 's> {
         }
     }
 
-    fn bind(&mut self, name: u32) {
-        if self.bound.push(name).is_err() {
-            self.page.refuse();
-        }
-    }
-
-    /// From here on the line goes on for so long that all that is shown is written.
-    pub(crate) fn begin_named(&mut self) {
-        let start = self.page.len();
-        self.most = start.saturating_add(AHEAD);
-        self.push(Task::Underline(start));
-    }
-
-    fn open(&mut self) {
-        let part = Part {
-            start: self.page.len(),
-            seen: 0,
-            is_long: self.is_long(),
-        };
-        if self.parts.push(part).is_err() {
-            self.page.refuse();
-        }
-    }
-
-    // Ends a part: it is left out where it has become long.
-    fn close(&mut self) {
-        let is_long = self.is_long();
+    // Ends a part: it is left out where it has become long, and so are the notes in it.
+    fn close(&mut self, is_long: bool) {
         let Some(part) = self.parts.pop() else {
             return;
         };
@@ -211,20 +192,15 @@ impl<'r, 's> Strip<'r, 's> {
             return;
         }
         self.page.truncate(part.start);
-        self.forget_notes(part.start);
-        self.page.say("..");
-    }
-
-    // Takes back the notes from a column on.
-    fn forget_notes(&mut self, start: usize) {
         for _note in 0..self.notes.len() {
             match self.notes.last() {
-                Some(note) if note.column >= start => {
+                Some(note) if note.column >= part.start => {
                     let _note = self.notes.pop();
                 }
                 _ => break,
             }
         }
+        self.page.say("..");
     }
 
     // Whether the part that is being written is left out: each node of the program takes a column at least.
@@ -239,21 +215,16 @@ impl<'r, 's> Strip<'r, 's> {
         }
     }
 
-    fn see(&mut self) {
-        if let Some(part) = self.parts.last_mut() {
-            part.seen = part.seen.saturating_add(1);
-        }
-    }
-
     /// Lets an operation wait with its parts, in brackets where its place wants a tighter form.
     pub(crate) fn push_joined(&mut self, sign: Sign, wanted: usize, left: Side, right: Side) {
-        let is_inner = sign.levels().own < wanted;
+        let levels = sign.levels();
+        let is_inner = levels.own < wanted;
         if is_inner {
             self.push(Task::Say(")"));
         }
-        self.push_side(right, sign.bound_right());
+        self.push_side(right, levels.bound_right);
         self.push(Task::Sign(sign));
-        self.push_side(left, sign.bound_left());
+        self.push_side(left, levels.bound_left);
         if is_inner {
             self.push(Task::Say("("));
         }

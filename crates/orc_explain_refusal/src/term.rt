@@ -1,8 +1,9 @@
 //! The parts of a marked term and of its sources.
 
 use crate::sign::Sign;
-use crate::strip::{Note, Side, Strip};
+use crate::strip::{AHEAD, Note, Side, Strip};
 use crate::task::Task;
+use orc_report::Fill;
 use orc_rules::entry::Entry;
 use orc_rules::limits::MOST_ARGUMENTS;
 use orc_rules::param::{Operand, Param};
@@ -16,27 +17,15 @@ struct Called {
     given: [Option<usize>; MOST_ARGUMENTS],
 }
 
-// A side of the program's source.
-fn source_of(node: usize, scope: usize, level: usize) -> Side {
-    Side {
-        task: Task::Source(node, scope, level),
-        is_part: false,
-    }
-}
-
 impl<'r, 's> Strip<'r, 's> {
-    fn kind(&self, at: usize) -> Kind {
-        match self.replay.marked.nodes().get(at) {
-            Some(slot) => slot.node().kind,
-            None => Kind::Leaf(Tip::Gone),
-        }
-    }
-
     /// Writes a node of the way: the named one, or one above it.
     pub(crate) fn way_node(&mut self, at: usize, wanted: usize) {
         if let Some(node) = self.way.node(at) {
             if at == 0 {
-                self.begin_named();
+                // From here on the line goes on for so long that all that is shown is written.
+                let start = self.page.len();
+                self.most = start.saturating_add(AHEAD);
+                self.push(Task::Underline(start));
             }
             self.parts_of(node, wanted, at.checked_sub(1));
         }
@@ -51,16 +40,23 @@ impl<'r, 's> Strip<'r, 's> {
         }
     }
 
+    // Whether a part of a node is the one of this place on the way.
+    fn is_on_way(&self, part: u32, below: Option<usize>) -> bool {
+        match below {
+            Some(place) => self.way.node(place) == Some(part as usize),
+            None => false,
+        }
+    }
+
     // A part of a node, whose own part on the way is the one of this place.
     fn part(&self, part: u32, level: usize, below: Option<usize>) -> Side {
-        let at = part as usize;
         match below {
-            Some(place) if self.way.node(place) == Some(at) => Side {
+            Some(place) if self.is_on_way(part, below) => Side {
                 task: Task::Way(place, level),
                 is_part: false,
             },
             _ => Side {
-                task: Task::Node(at, level),
+                task: Task::Node(part as usize, level),
                 is_part: self.way.is_short(),
             },
         }
@@ -68,98 +64,69 @@ impl<'r, 's> Strip<'r, 's> {
 
     // Writes the parts of a node, whose own part on the way is the one of this place.
     fn parts_of(&mut self, at: usize, wanted: usize, below: Option<usize>) {
-        match self.kind(at) {
-            Kind::Leaf(tip) => self.tip(tip, wanted),
-            Kind::One(Single::Passed, part) => self.push(self.part(part, wanted, below).task),
+        let kind = match self.replay.marked.nodes().get(at) {
+            Some(slot) => slot.node().kind,
+            None => Kind::Leaf(Tip::Gone),
+        };
+        let (sign, left, right, scope) = match kind {
+            Kind::Leaf(tip) => return self.tip(tip, wanted),
+            Kind::One(Single::Passed, part) => return self.push(
+                self.part(part, wanted, below).task,
+            ),
+            // Of the sides of a `|` one that has halted is left out.
+            Kind::Two(Double::Both, left, right) if self.is_left_out(left, below) => {
+                return self.push(self.part(right, wanted, below).task);
+            }
+            Kind::Two(Double::Both, left, right) if self.is_left_out(right, below) => {
+                return self.push(self.part(left, wanted, below).task);
+            }
+            Kind::Two(Double::Both, left, right) => (Sign::Par, left, right, None),
+            Kind::Two(Double::Side(cell), left, right) => (Sign::Opened(cell), left, right, None),
             Kind::One(Single::Feeds(name, right, scope), left) => {
-                self.join_source(Sign::Seq(name), wanted, left, right, scope, below)
+                (Sign::Seq(name), left, right, Some(scope))
             }
             Kind::One(Single::Entered(_, right, scope), left) => {
-                self.join_source(Sign::Other, wanted, left, right, scope, below)
+                (Sign::Other, left, right, Some(scope))
             }
-            Kind::Two(Double::Side(cell), left, right) => {
-                self.join(Sign::Opened(cell), wanted, left, right, below)
-            }
-            Kind::Two(Double::Both, left, right) => {
-                self.join_both(wanted, left, right, below);
-            }
-        }
-    }
-
-    // Both sides of a `|`, or the one that is left.
-    fn join_both(&mut self, wanted: usize, left: u32, right: u32, below: Option<usize>) {
-        if self.is_left_out(left as usize, below) {
-            self.push(self.part(right, wanted, below).task);
-        } else if self.is_left_out(right as usize, below) {
-            self.push(self.part(left, wanted, below).task);
-        } else {
-            self.join(Sign::Par, wanted, left, right, below);
-        }
-    }
-
-    // Whether a side of a `|` is left out: it has halted.
-    fn is_left_out(&self, at: usize, below: Option<usize>) -> bool {
-        if let Some(place) = below {
-            if self.way.node(place) == Some(at) {
-                return false;
-            }
-        }
-        self.spent.is_spent(&self.replay.marked, at)
-    }
-
-    fn join(&mut self, sign: Sign, wanted: usize, left: u32, right: u32, below: Option<usize>) {
+        };
         let levels = sign.levels();
         let left = self.part(left, levels.left, below);
-        let right = self.part(right, levels.right, below);
-        self.push_joined(sign, wanted, left, right);
-    }
-
-    fn join_source(
-        &mut self,
-        sign: Sign,
-        wanted: usize,
-        left: u32,
-        right: u32,
-        scope: u32,
-        below: Option<usize>,
-    ) {
-        let levels = sign.levels();
-        let left = self.part(left, levels.left, below);
-        let right = Side {
-            task: Task::Source(right as usize, scope as usize, levels.right),
-            is_part: self.way.is_short(),
+        let right = match scope {
+            Some(scope) => Side {
+                task: Task::Source(right as usize, scope as usize, levels.right),
+                is_part: self.way.is_short(),
+            },
+            None => self.part(right, levels.right, below),
         };
         self.push_joined(sign, wanted, left, right);
     }
 
-    fn note(&mut self, mark: u64) {
-        let column = self.page.len();
-        if self.notes.push(Note { column, mark }).is_err() {
-            self.page.refuse();
-        }
+    // Whether a side of a `|` is left out: it has halted, and isn't on the way.
+    fn is_left_out(&self, part: u32, below: Option<usize>) -> bool {
+        !self.is_on_way(part, below) && self.spent.is_spent(&self.replay.marked, part as usize)
     }
 
     fn tip(&mut self, tip: Tip, wanted: usize) {
+        if let Tip::Token(mark, _, _) | Tip::Bears(mark, _) = tip {
+            let column = self.page.len();
+            if self.notes.push(Note { column, mark }).is_err() {
+                self.page.refuse();
+            }
+        }
         match tip {
             Tip::Gone | Tip::Ended => self.page.say("stop"),
-            Tip::Token(mark, node, scope) => {
-                self.note(mark);
+            Tip::Token(_, node, scope) => {
                 self.push(Task::Source(node as usize, scope as usize, wanted));
             }
-            Tip::Bears(mark, value) => {
-                self.note(mark);
-                self.page.value(value);
+            Tip::Bears(_, value) => self.page.value(value),
+            // A call that is out.
+            Tip::Waits(call) => {
+                self.page.tell("?%:", &[Fill::Number(call)]);
+                if let Some(Entry::Call(_, _, site, args)) = self.replay.call(self.journal, call) {
+                    self.page.word(self.names.site(site));
+                    self.page.values(args.as_slice());
+                }
             }
-            Tip::Waits(call) => self.pending(call),
-        }
-    }
-
-    // A call that is out.
-    fn pending(&mut self, call: u64) {
-        self.page.say_number("?", call, ":");
-        if let Some(Entry::Call(_, _, site, args)) = self.replay.call(self.journal, call) {
-            self.names.say_site(&mut self.page, site);
-            self.page.values(args.as_slice());
         }
     }
 
@@ -169,28 +136,30 @@ impl<'r, 's> Strip<'r, 's> {
             self.call(called, scope);
             return;
         }
-        match self.program.node(node) {
-            TermNode::Par(left, right) => self.pair(Sign::Par, left, right, scope, wanted),
-            TermNode::Seq(left, name, right) => {
-                self.pair(Sign::Seq(name), left, right, scope, wanted);
+        let (sign, left, right) = match self.program.node(node) {
+            TermNode::Par(left, right) => (Sign::Par, left, right),
+            TermNode::Seq(left, name, right) => (Sign::Seq(name), left, right),
+            TermNode::Prune(left, name, right) => (Sign::Prune(name), left, right),
+            TermNode::Other(left, right) => (Sign::Other, left, right),
+            TermNode::Operand(operand) => return self.operand(operand, scope),
+            TermNode::Stop | TermNode::Site(_, _) | TermNode::Call(_, _) => {
+                return self.page.say("stop");
             }
-            TermNode::Prune(left, name, right) => {
-                self.pair(Sign::Prune(name), left, right, scope, wanted);
-            }
-            TermNode::Other(left, right) => self.pair(Sign::Other, left, right, scope, wanted),
-            TermNode::Operand(operand) => self.operand(operand, scope),
-            TermNode::Stop | TermNode::Site(_, _) | TermNode::Call(_, _) => self.page.say("stop"),
-        }
-    }
-
-    fn pair(&mut self, sign: Sign, left: usize, right: usize, scope: usize, wanted: usize) {
+        };
         let levels = sign.levels();
-        let left = source_of(left, scope, levels.left);
-        let right = source_of(right, scope, levels.right);
+        let left = Side {
+            task: Task::Source(left, scope, levels.left),
+            is_part: false,
+        };
+        let right = Side {
+            task: Task::Source(right, scope, levels.right),
+            is_part: false,
+        };
         self.push_joined(sign, wanted, left, right);
     }
 
-    // The call that a node is, with the prunings of its arguments round it: the first argument's is the innermost.
+    // The call that a node is, with the prunings of its arguments round it: the first argument's is the innermost, and each of them is that of the
+    // operand at its place.
     fn called(&self, node: usize) -> Option<Called> {
         let mut given = [None; MOST_ARGUMENTS];
         let mut at = node;
@@ -207,7 +176,17 @@ impl<'r, 's> Strip<'r, 's> {
                     at = inner;
                 }
                 call @ (TermNode::Site(_, list) | TermNode::Call(_, list)) => {
-                    return self.with_given(call, list, given);
+                    let operands = self.program.operands(list);
+                    for (place, value) in given.iter().enumerate() {
+                        let own = match operands.get(place) {
+                            Some(Operand::Name(name)) => self.names.argument(*name),
+                            _ => None,
+                        };
+                        if value.is_some() && own != Some(place) {
+                            return None;
+                        }
+                    }
+                    return Some(Called { node: call, given });
                 }
                 _ => return None,
             }
@@ -215,50 +194,18 @@ impl<'r, 's> Strip<'r, 's> {
         None
     }
 
-    // A call with the expressions given, where each is that of its argument.
-    fn with_given(
-        &self,
-        node: TermNode,
-        list: usize,
-        given: [Option<usize>; MOST_ARGUMENTS],
-    ) -> Option<Called> {
-        let operands = self.program.operands(list);
-        for (place, value) in given.iter().enumerate() {
-            if value.is_some() && !self.is_own(operands.get(place).copied(), place) {
-                return None;
-            }
-        }
-        Some(Called { node, given })
-    }
-
-    // Whether an operand is that of the pruning of a call's argument at a place.
-    fn is_own(&self, operand: Option<Operand>, place: usize) -> bool {
-        match operand {
-            Some(Operand::Name(name)) => self.names.argument(name) == Some(place),
-            _ => false,
-        }
-    }
-
     fn call(&mut self, called: Called, scope: usize) {
-        match called.node {
-            TermNode::Site(site, list) => {
-                self.names.say_site(&mut self.page, site);
-                self.arguments(list, called.given, scope);
-            }
-            TermNode::Call(definition, list) => {
-                self.names.say_definition(&mut self.page, definition);
-                self.arguments(list, called.given, scope);
-            }
-            _ => {}
-        }
-    }
-
-    fn arguments(&mut self, list: usize, given: [Option<usize>; MOST_ARGUMENTS], scope: usize) {
+        let (name, list) = match called.node {
+            TermNode::Site(site, list) => (self.names.site(site), list),
+            TermNode::Call(definition, list) => (self.names.definition(definition), list),
+            _ => return,
+        };
+        self.page.word(name);
         self.page.say("(");
         self.push(Task::Say(")"));
         let operands = self.program.operands(list);
         for (place, operand) in operands.iter().enumerate().rev() {
-            self.push(match given.get(place).copied().flatten() {
+            self.push(match called.given.get(place).copied().flatten() {
                 Some(node) => Task::Source(node, scope, 0),
                 None => Task::Operand(*operand, scope),
             });

@@ -10,20 +10,14 @@ use std::alloc::{AllocError, Global};
 /// So many levels above the named part are shown at most.
 const LEVELS: usize = 12;
 
-/// What stands behind the carets.
-#[derive(Clone, Copy)]
-pub(crate) enum Label {
-    Mark(u64),
-    Call(u64),
-    Nothing,
-}
-
 /// The nodes from the named part upward as far as they are shown, none where nothing is named.
 #[derive(Drop)]
 pub(crate) struct Way {
     nodes: Vec<usize>,
-    label: Label,
-    is_inner: bool,
+    /// What stands behind the carets: words, and the number that fills them.
+    pub label: Option<(&'static str, u64)>,
+    /// Whether nodes above it aren't shown.
+    pub is_inner: bool,
 }
 
 // The side that an entry says has halted.
@@ -63,29 +57,25 @@ impl Way {
         named: Named,
         why: RuleFault,
     ) -> Result<Way, AllocError> {
+        let label = match named {
+            Named::Token(mark) => Some((" mark %", mark)),
+            Named::Call(call) => Some((" call %", call)),
+            Named::Cell(_) | Named::Otherwise(_) | Named::Nothing => None,
+        };
+        let (label, place) = match (why, entry) {
+            (RuleFault::Halted, Some(entry)) => (None, side_of(marked, entry)),
+            _ if label.is_some() => (label, place_of(marked, named)),
+            _ => (None, None),
+        };
         let mut way = Way {
             nodes: Vec::new(alloc),
-            label: Label::Nothing,
+            label,
             is_inner: false,
-        };
-        let place = match (why, entry) {
-            (RuleFault::Halted, Some(entry)) => side_of(marked, entry),
-            _ => way.place_named(marked, named),
         };
         if let Some(place) = place {
             way.climb(marked, spent, place)?;
         }
         Ok(way)
-    }
-
-    // Where a token or a call stands.
-    fn place_named(&mut self, marked: &Marked, named: Named) -> Option<usize> {
-        self.label = match named {
-            Named::Token(mark) => Label::Mark(mark),
-            Named::Call(call) => Label::Call(call),
-            Named::Cell(_) | Named::Otherwise(_) | Named::Nothing => return None,
-        };
-        place_of(marked, named)
     }
 
     fn climb(&mut self, marked: &Marked, spent: &Spent, from: usize) -> Result<(), AllocError> {
@@ -129,14 +119,5 @@ impl Way {
     /// The node of that place, where the named one is 0.
     pub(crate) fn node(&self, place: usize) -> Option<usize> {
         self.nodes.get(place).copied()
-    }
-
-    pub(crate) fn label(&self) -> Label {
-        self.label
-    }
-
-    /// Whether nodes above it aren't shown.
-    pub(crate) fn is_inner(&self) -> bool {
-        self.is_inner
     }
 }
