@@ -5,8 +5,6 @@
 #[cfg(test)]
 mod cases;
 #[cfg(test)]
-mod claims;
-#[cfg(test)]
 mod schedules;
 #[cfg(test)]
 mod search_places;

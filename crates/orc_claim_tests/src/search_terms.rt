@@ -15,19 +15,25 @@ use std::test::Fail;
 
 const ONE: Value = Value::Number(1);
 
+// A term, which may be made of those made before it, by their places.
+#[derive(Clone, Copy)]
+enum Make {
+    Nothing,
+    Gives(Param),
+    // A call of site 7 with these two parameters.
+    Asks(Param, Param),
+    // A call of site 7 that is out, and gives 1 after this time.
+    Awaits(u64),
+    Pair(Joint, usize, usize),
+    Changed(Change, usize),
+    // What `f >5> g` becomes, by the place of g, where f becomes the other one and publishes 1.
+    Fed(usize, usize),
+}
+
 // A call of site 7 with these two parameters.
 fn call(terms: &mut Terms, alloc: Global, p: Param, q: Param) -> Result<usize, AllocError> {
     let params = vec![in alloc; p, q]?;
     terms.number_of(Node::Tip(Tip::Asks(7, params)))
-}
-
-// A call of site 7 that is out, and gives 1 after this time.
-fn out(terms: &mut Terms, alloc: Global, left: u64) -> Result<usize, AllocError> {
-    terms.number_of(Node::Tip(Tip::Awaits(Waiting {
-        site: 7,
-        args: Vec::new(alloc),
-        rest: Found::After(Answer::Value(ONE), left),
-    })))
 }
 
 fn pair(terms: &mut Terms, joint: Joint, f: usize, g: usize) -> Result<usize, AllocError> {
@@ -37,113 +43,171 @@ fn pair(terms: &mut Terms, joint: Joint, f: usize, g: usize) -> Result<usize, Al
     terms.number_of(Node::Pair(joint, f, g))
 }
 
-fn after(terms: &mut Terms, alloc: Global, change: Change, at: usize) -> Result<usize, AllocError> {
-    if at >= terms.len() {
-        return Err(AllocError);
-    }
-    changed(terms, alloc, change, at)
-}
-
-#[test]
-fn what_is_put_for_a_name(rt: HostRuntime) -> Result<(), Fail> {
-    let alloc = rt.alloc();
-    let mut terms = Terms::new(alloc);
-    let free = call(&mut terms, alloc, Param::Name(5), Param::Name(6))?;
-    let below_its_name = pair(&mut terms, Joint::Feeds(5), free, free)?;
-    let below_another = pair(&mut terms, Joint::Feeds(6), below_its_name, below_its_name)?;
-    let put = after(
-        &mut terms,
-        alloc,
-        Change::Put(Param::Is(ONE), 5),
-        below_another,
-    )?;
-    let filled = call(&mut terms, alloc, Param::Is(ONE), Param::Name(6))?;
-    let left_filled = pair(&mut terms, Joint::Feeds(5), filled, free)?;
-    let wanted = pair(&mut terms, Joint::Feeds(6), left_filled, left_filled)?;
-    assert_eq!(rt; put, wanted);
-    Ok(())
-}
-
-#[test]
-fn cells_behind_a_settled_one_move_up(rt: HostRuntime) -> Result<(), Fail> {
-    let alloc = rt.alloc();
-    let mut terms = Terms::new(alloc);
-    let nothing = terms.number_of(Node::Tip(Tip::Nothing))?;
-    let inner = call(&mut terms, alloc, Param::Cell(0), Param::Cell(1))?;
-    let opened = pair(&mut terms, Joint::Needs, inner, nothing)?;
-    let settled = after(&mut terms, alloc, Change::Settle(Param::Void, 0), opened)?;
-    let wanted_inner = call(&mut terms, alloc, Param::Void, Param::Cell(0))?;
-    let wanted = pair(&mut terms, Joint::Needs, wanted_inner, nothing)?;
-    assert_eq!(rt; settled, wanted);
-    Ok(())
-}
-
-#[test]
-fn time_passes_for_both_calls(rt: HostRuntime) -> Result<(), Fail> {
-    let alloc = rt.alloc();
-    let mut terms = Terms::new(alloc);
-    let first = out(&mut terms, alloc, 3)?;
-    let second = out(&mut terms, alloc, 5)?;
-    let both = pair(&mut terms, Joint::Both, first, second)?;
-    assert_eq!(rt; terms.summary(both).left, Some(3));
-    assert!(rt; !terms.summary(both).over);
-    let passed = after(&mut terms, alloc, Change::Pass(3), both)?;
-    let due = out(&mut terms, alloc, 0)?;
-    let later = out(&mut terms, alloc, 2)?;
-    let wanted = pair(&mut terms, Joint::Both, due, later)?;
-    assert_eq!(rt; passed, wanted);
-    Ok(())
-}
-
-// What the whole becomes where a part becomes that term and publishes 1; None where it publishes that on.
+// What the whole becomes where the part in this frame becomes that term and publishes 1. None where it publishes that on.
 fn taken(
     terms: &mut Terms,
     alloc: Global,
     frame: Frame,
-    other: usize,
     to: usize,
 ) -> Result<Option<usize>, AllocError> {
+    let (Frame::Feeds(_, other) | Frame::First(other)) = frame else {
+        return Err(AllocError);
+    };
     if to >= terms.len() || other >= terms.len() {
         return Err(AllocError);
     }
     let happening = Happening::Published(ONE);
-    let successor = match frame {
-        Frame::Feeds(x, _) => {
-            lifted(
-                terms,
-                alloc,
-                Frame::Feeds(x, other),
-                Successor { happening, to },
-            )?
-        }
-        _ => lifted(
-            terms,
-            alloc,
-            Frame::First(other),
-            Successor { happening, to },
-        )?,
-    };
+    let successor = lifted(terms, alloc, frame, Successor { happening, to })?;
     match successor.happening {
         Happening::Unseen => Ok(Some(successor.to)),
         _ => Ok(None),
     }
 }
 
+// The number of the term at a place.
+fn at(made: &[usize], place: usize) -> Result<usize, AllocError> {
+    match made.get(place) {
+        Some(number) => Ok(*number),
+        None => Err(AllocError),
+    }
+}
+
+fn number_of(
+    terms: &mut Terms,
+    alloc: Global,
+    made: &[usize],
+    it: Make,
+) -> Result<usize, AllocError> {
+    match it {
+        Make::Nothing => terms.number_of(Node::Tip(Tip::Nothing)),
+        Make::Gives(param) => terms.number_of(Node::Tip(Tip::Gives(param))),
+        Make::Asks(p, q) => call(terms, alloc, p, q),
+        Make::Awaits(left) => terms.number_of(Node::Tip(Tip::Awaits(Waiting {
+            site: 7,
+            args: Vec::new(alloc),
+            rest: Found::After(Answer::Value(ONE), left),
+        }))),
+        Make::Pair(joint, f, g) => pair(terms, joint, at(made, f)?, at(made, g)?),
+        Make::Changed(change, place) => {
+            let root = at(made, place)?;
+            if root >= terms.len() {
+                return Err(AllocError);
+            }
+            changed(terms, alloc, change, root)
+        }
+        Make::Fed(right, left) => {
+            match taken(
+                terms,
+                alloc,
+                Frame::Feeds(5, at(made, right)?),
+                at(made, left)?,
+            )? {
+                Some(whole) => Ok(whole),
+                None => Err(AllocError),
+            }
+        }
+    }
+}
+
+// The numbers of these terms.
+fn numbers_of(terms: &mut Terms, alloc: Global, makes: &[Make]) -> Result<Vec<usize>, AllocError> {
+    let mut made = Vec::new(alloc);
+    for it in makes {
+        let number = number_of(terms, alloc, made.as_slice(), *it)?;
+        made.push(number)?;
+    }
+    Ok(made)
+}
+
+const NAMES: Make = Make::Asks(Param::Name(5), Param::Name(6));
+
+const FILLED: Make = Make::Asks(Param::Is(ONE), Param::Name(6));
+
+// What a row shows, and terms of which the last two are the same.
+const SAME: [(&str, &[Make]); 4] = [
+    (
+        "what is put for a name",
+        &[
+            NAMES,
+            // On the right of a `>5>` the name is another one.
+            Make::Pair(Joint::Feeds(5), 0, 0),
+            Make::Pair(Joint::Feeds(6), 1, 1),
+            FILLED,
+            Make::Pair(Joint::Feeds(5), 3, 0),
+            Make::Changed(Change::Put(Param::Is(ONE), 5), 2),
+            Make::Pair(Joint::Feeds(6), 4, 4),
+        ],
+    ),
+    (
+        "cells behind a settled one move up",
+        &[
+            Make::Nothing,
+            Make::Asks(Param::Cell(0), Param::Cell(1)),
+            Make::Pair(Joint::Needs, 1, 0),
+            Make::Asks(Param::Void, Param::Cell(0)),
+            Make::Changed(Change::Settle(Param::Void, 0), 2),
+            Make::Pair(Joint::Needs, 3, 0),
+        ],
+    ),
+    (
+        "time passes for both calls",
+        &[
+            Make::Awaits(3),
+            Make::Awaits(5),
+            Make::Pair(Joint::Both, 0, 1),
+            Make::Awaits(0),
+            Make::Awaits(2),
+            Make::Changed(Change::Pass(3), 2),
+            Make::Pair(Joint::Both, 3, 4),
+        ],
+    ),
+    (
+        "a right side takes what is published",
+        &[
+            Make::Nothing,
+            NAMES,
+            Make::Pair(Joint::Feeds(5), 0, 1),
+            FILLED,
+            Make::Fed(1, 0),
+            Make::Pair(Joint::Both, 2, 3),
+        ],
+    ),
+];
+
 #[test]
-fn a_right_side_takes_what_is_published(rt: HostRuntime) -> Result<(), Fail> {
-    let alloc = rt.alloc();
-    let mut terms = Terms::new(alloc);
-    let nothing = terms.number_of(Node::Tip(Tip::Nothing))?;
-    let right = call(&mut terms, alloc, Param::Name(5), Param::Name(6))?;
-    let whole = taken(&mut terms, alloc, Frame::Feeds(5, right), right, nothing)?;
-    let rest = pair(&mut terms, Joint::Feeds(5), nothing, right)?;
-    let copy = call(&mut terms, alloc, Param::Is(ONE), Param::Name(6))?;
-    let wanted = pair(&mut terms, Joint::Both, rest, copy)?;
-    assert_eq!(rt; whole, Some(wanted));
-    assert_eq!(rt;
-        taken(&mut terms, alloc, Frame::First(right), right, nothing)?,
-        None
-    );
+fn terms_become_what_the_rules_say(rt: HostRuntime) -> Result<(), Fail> {
+    for (name, makes) in SAME.iter() {
+        let mut terms = Terms::new(rt.alloc());
+        let made = numbers_of(&mut terms, rt.alloc(), makes)?;
+        assert!(rt;
+            matches!(made.as_slice(), [_, _, .., one, other] if *one == *other),
+            "{name}"
+        );
+    }
+    Ok(())
+}
+
+#[test]
+fn the_call_that_is_due_first_says_when_time_stops(rt: HostRuntime) -> Result<(), Fail> {
+    let mut terms = Terms::new(rt.alloc());
+    let makes = [
+        Make::Awaits(3),
+        Make::Awaits(5),
+        Make::Pair(Joint::Both, 0, 1),
+    ];
+    let made = numbers_of(&mut terms, rt.alloc(), makes.as_slice())?;
+    let summary = terms.summary(at(made.as_slice(), 2)?);
+    assert!(rt; summary.left == Some(3) && !summary.over);
+    Ok(())
+}
+
+#[test]
+fn the_first_side_of_an_otherwise_publishes_on(rt: HostRuntime) -> Result<(), Fail> {
+    let mut terms = Terms::new(rt.alloc());
+    let made = numbers_of(&mut terms, rt.alloc(), [Make::Nothing, NAMES].as_slice())?;
+    let frame = Frame::First(at(made.as_slice(), 1)?);
+    let whole = taken(&mut terms, rt.alloc(), frame, at(made.as_slice(), 0)?)?;
+    assert!(rt; whole.is_none());
     Ok(())
 }
 
@@ -166,10 +230,16 @@ fn a_program_has_its_terms(rt: HostRuntime) -> Result<(), Fail> {
     let program = program(alloc)?;
     let mut terms = Terms::new(alloc);
     let numbers = numbered(&mut terms, alloc, &program)?;
-    let left = call(&mut terms, alloc, Param::Name(5), Param::Name(5))?;
-    let right = terms.number_of(Node::Tip(Tip::Gives(Param::Is(ONE))))?;
-    let wanted = pair(&mut terms, Joint::Prunes(5), left, right)?;
-    assert_eq!(rt; numbers.get(program.source()).copied(), Some(wanted));
+    let makes = [
+        Make::Asks(Param::Name(5), Param::Name(5)),
+        Make::Gives(Param::Is(ONE)),
+        Make::Pair(Joint::Prunes(5), 0, 1),
+    ];
+    let made = numbers_of(&mut terms, alloc, makes.as_slice())?;
+    assert_eq!(rt;
+        at(numbers.as_slice(), program.source())?,
+        at(made.as_slice(), 2)?
+    );
     Ok(())
 }
 

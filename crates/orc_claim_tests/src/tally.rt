@@ -93,12 +93,15 @@ fn number_of(alloc: Global, site: u32, arguments: &[Value]) -> Result<Option<u32
     }
 }
 
+// How calls are made, by their site and how many arguments they have, and their numbers.
+const NUMBERS: [(u32, usize, u32); 4] = [(7, 1, 1), (7, 2, 0), (7, 3, 2), (8, 1, 2)];
+
 #[test]
 fn a_site_has_a_number_for_each_number_of_arguments(rt: HostRuntime) -> Result<(), Fail> {
-    let alloc = rt.alloc();
-    assert_eq!(rt; number_of(alloc, 7, &[ONE])?, Some(1));
-    assert_eq!(rt; number_of(alloc, 7, &[ONE, ONE])?, Some(0));
-    assert_eq!(rt; number_of(alloc, 7, &[ONE, ONE, ONE])?, Some(2));
-    assert_eq!(rt; number_of(alloc, 8, &[ONE])?, Some(2));
+    let ones = [ONE, ONE, ONE];
+    for (site, arguments, wanted) in NUMBERS.iter() {
+        let number = number_of(rt.alloc(), *site, &ones[..*arguments])?;
+        assert!(rt; number == Some(*wanted), "{site} {arguments}: {number:?}");
+    }
     Ok(())
 }

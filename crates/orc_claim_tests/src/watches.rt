@@ -1,134 +1,137 @@
 //! What a search keeps of what happens, and how it holds a claim against an end.
 
-use orc_claims::claim::{Claim, Condition, Event, Plain, Simple, Slot, Wanted};
+use orc_claims::claim::{Claim, Event, Plain};
 use orc_claims::happening::{Happening, Occurrence, Phase};
 use orc_outcome::End;
+use orc_rules::answers::Answers;
 use orc_rules::value::{Args, Value};
 use orc_schedules::{Watch, fails_by};
+use orc_ways::read_test;
+use orc_ways::test::Test;
 use std::alloc::{AllocError, Global};
 use std::test::Fail;
 
-// This becomes of a call of site 7, with any one argument.
-fn event(alloc: Global, wanted: Wanted) -> Result<Event, AllocError> {
-    let slots = vec![in alloc; Slot::Any]?;
-    let alternatives = vec![in alloc; Simple::Call(7, slots, wanted)]?;
-    Ok(Event { alternatives })
-}
-
-fn plain(alloc: Global, plain: Plain) -> Claim {
-    Claim {
-        conditions: Vec::new(alloc),
-        plain,
+// A test with one claim. No test is an error, as refused memory is.
+fn test_of<'a>(alloc: Global, text: &'a [u8]) -> Result<Test<'a>, AllocError> {
+    match read_test(alloc, text, &Answers::builtin(alloc)?) {
+        Ok(test) => Ok(test),
+        Err(_) => Err(AllocError),
     }
 }
 
-fn of_seven(phase: Phase) -> Occurrence {
-    let mut args = Args::new();
-    args.push(Value::Number(1));
-    Occurrence::Call(7, args, phase)
-}
-
-fn called_at(time: u64) -> Happening {
-    Happening {
-        time,
-        what: of_seven(Phase::Called),
-    }
-}
-
-// Site 7 is called once at most, up to a time.
-fn once(alloc: Global, by: Option<u64>) -> Result<Claim, AllocError> {
-    let event = event(alloc, Wanted::Called)?;
-    Ok(plain(alloc, Plain::Count(event, 0, Some(1), by)))
-}
-
-fn has_watch(alloc: Global, claim: &Claim) -> Result<bool, AllocError> {
-    let watch = Watch::of_claim(alloc, claim)?;
-    Ok(watch.is_some())
-}
-
-#[test]
-fn a_claim_about_calls_that_are_out_at_once_is_not_watched(rt: HostRuntime) -> Result<(), Fail> {
-    let alloc = rt.alloc();
-    let event = event(alloc, Wanted::Called)?;
-    assert!(rt; !has_watch(alloc, &plain(alloc, Plain::AtOnce(event, 5)))?);
-    assert!(rt; has_watch(alloc, &once(alloc, None)?)?);
-    Ok(())
-}
-
-// Behind this time all times are one to a claim.
-fn latest(alloc: Global, claim: &Claim) -> Result<u64, AllocError> {
-    match Watch::of_claim(alloc, claim)? {
-        Some(watch) => Ok(watch.latest()),
+fn watch_of(alloc: Global, text: &[u8]) -> Result<Option<Watch>, AllocError> {
+    let test = test_of(alloc, text)?;
+    match test.claims.first() {
+        Some(claim) => Watch::of_claim(alloc, claim),
         None => Err(AllocError),
     }
+}
+
+// Claims, and the time behind which all times are one to them. No search watches for one about calls that are out at once, or with a cancel in a condition.
+const LATEST: [(&[u8], Option<u64>); 7] = [
+    (b"always\nat most 5 Rwait(_) at once", None),
+    (
+        b"always\nif no Rwait(_) cancelled then at most 1 Rwait(_)",
+        None,
+    ),
+    (b"always\nat most 1 Rwait(_)", Some(0)),
+    (b"always\nat most 1 Rwait(_) by 5", Some(6)),
+    (
+        b"always\nat most 1 Rwait(_) by 9223372036854775807",
+        Some(9_223_372_036_854_775_808),
+    ),
+    (b"always\nends Halted by 0", Some(1)),
+    (
+        b"always\neach Rwait(_) then Rwait(_) halted within 5",
+        Some(u64::MAX),
+    ),
+];
+
+// The same of a claim whose time is the last one. No text has that.
+fn latest_at_the_end(alloc: Global) -> Result<Option<u64>, AllocError> {
+    let event = Event {
+        alternatives: Vec::new(alloc),
+    };
+    let claim = Claim {
+        conditions: Vec::new(alloc),
+        plain: Plain::Count(event, 0, Some(1), Some(u64::MAX)),
+    };
+    Ok(Watch::of_claim(alloc, &claim)?.map(|watch| watch.latest()))
 }
 
 #[test]
 fn times_are_told_apart_up_to_the_one_behind_that_of_the_claim(
     rt: HostRuntime,
 ) -> Result<(), Fail> {
-    let alloc = rt.alloc();
-    assert!(rt; latest(alloc, &once(alloc, None)?)? == 0);
-    assert!(rt; latest(alloc, &once(alloc, Some(5))?)? == 6);
-    assert!(rt; latest(alloc, &once(alloc, Some(u64::MAX))?)? == u64::MAX);
-    let ends = plain(alloc, Plain::Ends(true, false, Some(0)));
-    assert!(rt; latest(alloc, &ends)? == 1);
-    let called = event(alloc, Wanted::Called)?;
-    let halted = event(alloc, Wanted::Halted)?;
-    let within = plain(alloc, Plain::EachThen(called, halted, Some(5)));
-    assert!(rt; latest(alloc, &within)? == u64::MAX);
+    for (text, wanted) in LATEST.iter() {
+        let latest = watch_of(rt.alloc(), text)?.map(|watch| watch.latest());
+        assert!(rt; latest == *wanted, "{text:?}: {latest:?}");
+    }
+    assert_eq!(rt; latest_at_the_end(rt.alloc())?, Some(u64::MAX));
     Ok(())
 }
 
-#[test]
-fn a_claim_with_a_cancel_in_a_condition_is_not_watched(rt: HostRuntime) -> Result<(), Fail> {
-    let alloc = rt.alloc();
-    let mut claim = once(alloc, None)?;
-    claim.conditions.push(Condition {
-        event: event(alloc, Wanted::Cancelled)?,
-        happens: false,
-    })?;
-    assert!(rt; !has_watch(alloc, &claim)?);
-    Ok(())
+// This becomes of a call of the only site that a claim names.
+fn call(phase: Phase) -> Occurrence {
+    let mut args = Args::new();
+    args.push(Value::Number(1));
+    Occurrence::Call(0, args, phase)
 }
 
 #[test]
 fn what_conditions_name_is_kept(rt: HostRuntime) -> Result<(), Fail> {
-    let alloc = rt.alloc();
-    let mut claim = once(alloc, None)?;
-    claim.conditions.push(Condition {
-        event: event(alloc, Wanted::Halted)?,
-        happens: true,
-    })?;
-    let Some(watch) = Watch::of_claim(alloc, &claim)? else {
-        return Err(Fail::from(AllocError));
-    };
-    assert!(rt; watch.names(&of_seven(Phase::Called)));
-    assert!(rt; watch.names(&of_seven(Phase::Halted)));
-    assert!(rt; !watch.names(&of_seven(Phase::Answered(Value::Signal))));
-    assert!(rt; !watch.names(&of_seven(Phase::Cancelled)));
+    let text = b"always\nif Rwait(_) halted then at most 1 Rwait(_)";
+    let watch = watch_of(rt.alloc(), text)?.expect(&rt, "a watch");
+    assert!(rt; watch.names(&call(Phase::Called)));
+    assert!(rt; watch.names(&call(Phase::Halted)));
+    assert!(rt; !watch.names(&call(Phase::Answered(Value::Signal))));
+    assert!(rt; !watch.names(&call(Phase::Cancelled)));
     assert!(rt; !watch.names(&Occurrence::Published(Value::Signal)));
     Ok(())
 }
 
-#[test]
-fn the_second_of_two_calls_fails_a_claim(rt: HostRuntime) -> Result<(), Fail> {
-    let alloc = rt.alloc();
-    let claim = once(alloc, None)?;
-    let mut seen = vec![in alloc; called_at(2)]?;
-    assert!(rt; !fails_by(alloc, &claim, End::Halted, seen.as_slice(), 5)?);
-    seen.push(called_at(4))?;
-    assert!(rt; fails_by(alloc, &claim, End::Quiet, seen.as_slice(), 5)?);
-    let by_three = once(alloc, Some(3))?;
-    assert!(rt; !fails_by(alloc, &by_three, End::Quiet, seen.as_slice(), 5)?);
-    Ok(())
+// Whether a claim fails in a run that ends so, at this time, and calls the claim's site at those times.
+fn fails(
+    alloc: Global,
+    text: &[u8],
+    end: End,
+    calls: &[u64],
+    now: u64,
+) -> Result<bool, AllocError> {
+    let mut seen = Vec::new(alloc);
+    for time in calls {
+        seen.push(Happening {
+            time: *time,
+            what: call(Phase::Called),
+        })?;
+    }
+    let test = test_of(alloc, text)?;
+    match test.claims.first() {
+        Some(claim) => fails_by(alloc, claim, end, seen.as_slice(), now),
+        None => Err(AllocError),
+    }
 }
 
+// Claims, the end of a run, when it calls the claim's site, its last time, and whether the claim fails in it.
+const ENDS: [(&[u8], End, &[u64], u64, bool); 5] = [
+    (b"always\nat most 1 Rwait(_)", End::Halted, &[2], 5, false),
+    (b"always\nat most 1 Rwait(_)", End::Quiet, &[2, 4], 5, true),
+    (
+        b"always\nat most 1 Rwait(_) by 3",
+        End::Quiet,
+        &[2, 4],
+        5,
+        false,
+    ),
+    (b"always\nends Halted by 20", End::Halted, &[], 20, false),
+    (b"always\nends Halted by 20", End::Halted, &[], 21, true),
+];
+
 #[test]
-fn a_late_end_fails_a_claim(rt: HostRuntime) -> Result<(), Fail> {
-    let alloc = rt.alloc();
-    let claim = plain(alloc, Plain::Ends(true, false, Some(20)));
-    assert!(rt; !fails_by(alloc, &claim, End::Halted, &[], 20)?);
-    assert!(rt; fails_by(alloc, &claim, End::Halted, &[], 21)?);
+fn a_second_call_or_a_late_end_fails_a_claim(rt: HostRuntime) -> Result<(), Fail> {
+    for (text, end, calls, now, wanted) in ENDS.iter() {
+        let fails = fails(rt.alloc(), text, *end, calls, *now)?;
+        assert!(rt; fails == *wanted, "{text:?} with calls at {calls:?}");
+    }
     Ok(())
 }

@@ -15,7 +15,6 @@ use orc_rules::answers::Answers;
 use orc_rules::value::{Args, Value};
 use std::alloc::Global;
 use std::marker::Brand;
-use std::test::Fail;
 
 // So many slots are looked at for tokens.
 const SLOTS: usize = 4;
@@ -226,69 +225,73 @@ fn known_of(alloc: Global, source: &[u8], limit: usize) -> Option<Known> {
     known_named::<Brand>(alloc, &graph, &loaded.answers, limit)
 }
 
+// Whether the journal is this one then.
+fn has_text(alloc: Global, source: &[u8], limit: usize, journal: &[u8]) -> bool {
+    match text_of(alloc, source, limit) {
+        Some(Ok(text)) => text.as_slice() == journal,
+        _ => false,
+    }
+}
+
 const SOURCE: &[u8] = b"def f(n) = Add(n, 1)\nf(4)";
 
 // The rules allow these entries in this order alone.
 const JOURNAL: &[u8] = b"orc-journal 2\ndef 1 2\ncall 2 1 Add(4, 1)\nreturn 1 3 5\npublish 3 5\n";
 
-#[test]
-fn what_is_run_apart_stands_in_its_place(rt: HostRuntime) -> Result<(), Fail> {
-    let alloc = rt.alloc();
-    let text = text_of(alloc, SOURCE, 4);
-    assert!(rt; matches!(&text, Some(Ok(text)) if text.as_slice() == JOURNAL));
-    // One entry more than there is room for.
-    let text = text_of(alloc, SOURCE, 3);
-    assert!(rt; matches!(text, Some(Err(LedgerFault::Limit))));
-    // What isn't over is no part.
-    assert!(rt; text_of(alloc, b"def f() = f()\nf()", 100).is_none());
-    Ok(())
+/// Whether what is run apart stands in its place, with as many entries as there is room for. What isn't over is no part.
+pub(crate) fn stands_in_its_place(alloc: Global) -> bool {
+    has_text(alloc, SOURCE, 4, JOURNAL)
+        && matches!(text_of(alloc, SOURCE, 3), Some(Err(LedgerFault::Limit)))
+        && text_of(alloc, b"def f() = f()\nf()", 100).is_none()
 }
 
-// The rules allow these entries, one journal each: that of a call whose run opens a cell, of one in a right side and of one in the left side of a `>x>`, and of
-// two that come to nothing there.
-const OPENS: &[u8] = b"orc-journal 2\ndef 1 2\nopen 2 1 3 4\nbind 4 1 4\npublish 3 4\n";
+// Programs, and the entries that the rules allow, one journal each.
+const PLACES: [(&[u8], &[u8]); 5] = [
+    // A call whose run opens a cell.
+    (
+        b"def f(n) = x <x< n\nf(4)",
+        b"orc-journal 2\ndef 1 2\nopen 2 1 3 4\nbind 4 1 4\npublish 3 4\n",
+    ),
+    // One in a right side.
+    (
+        b"def f(n) = x <x< n\ny <y< f(4)",
+        b"orc-journal 2\nopen 1 1 2 3\ndef 3 4\nopen 4 2 5 6\nbind 6 2 4\n",
+    ),
+    // One in the left side of a `>x>`.
+    (
+        b"def f(n) = Add(n, 1)\nf(4) >x> Add(x, 10)",
+        b"orc-journal 2\nseq 1 2\ndef 2 3\ncall 3 1 Add(4, 1)\nreturn 1 4 5\n",
+    ),
+    // Two that come to nothing there.
+    (
+        b"def f() = stop\ny <y< f()",
+        b"orc-journal 2\nopen 1 1 2 3\ndef 3 4\nend 4\n",
+    ),
+    (
+        b"def f() = stop\nf() >x> x",
+        b"orc-journal 2\nseq 1 2\ndef 2 3\nend 3\n",
+    ),
+];
 
-const BINDS: &[u8] = b"orc-journal 2\nopen 1 1 2 3\ndef 3 4\nopen 4 2 5 6\nbind 6 2 4\n";
-
-const SENDS: &[u8] = b"orc-journal 2\nseq 1 2\ndef 2 3\ncall 3 1 Add(4, 1)\nreturn 1 4 5\n";
-
-const ENDS_RIGHT: &[u8] = b"orc-journal 2\nopen 1 1 2 3\ndef 3 4\nend 4\n";
-
-const ENDS_LEFT: &[u8] = b"orc-journal 2\nseq 1 2\ndef 2 3\nend 3\n";
-
-#[test]
-fn a_call_opens_cells_and_comes_to_a_value_or_to_nothing_wherever_it_stands(
-    rt: HostRuntime,
-) -> Result<(), Fail> {
-    let alloc = rt.alloc();
-    let cases: [(&[u8], &[u8]); 5] = [
-        (b"def f(n) = x <x< n\nf(4)", OPENS),
-        (b"def f(n) = x <x< n\ny <y< f(4)", BINDS),
-        (b"def f(n) = Add(n, 1)\nf(4) >x> Add(x, 10)", SENDS),
-        (b"def f() = stop\ny <y< f()", ENDS_RIGHT),
-        (b"def f() = stop\nf() >x> x", ENDS_LEFT),
-    ];
-    for (source, journal) in cases {
-        let text = text_of(alloc, source, 100);
-        assert!(rt;
-            matches!(&text, Some(Ok(text)) if text.as_slice() == journal),
-            "at {source:?}"
-        );
+/// Whether a call opens cells, and comes to a value or to nothing, wherever it stands. One that comes to two values is no part where the run doesn't
+/// publish them.
+pub(crate) fn stands_anywhere(alloc: Global) -> bool {
+    for (source, journal) in PLACES.iter() {
+        if !has_text(alloc, source, 100, journal) {
+            return false;
+        }
     }
-    // A call that comes to two values is no part where the run doesn't publish them.
-    assert!(rt; text_of(alloc, b"def f(n) = n | 1\nf(4) >x> x", 100).is_none());
-    Ok(())
+    text_of(alloc, b"def f(n) = n | 1\nf(4) >x> x", 100).is_none()
 }
 
-#[test]
-fn a_part_whose_journal_is_not_kept_counts_and_publishes(rt: HostRuntime) -> Result<(), Fail> {
-    let alloc = rt.alloc();
-    let known = known_of(alloc, SOURCE, 4);
-    assert!(rt;
-        matches!(&known, Some(known) if known.values.as_slice() == [Value::Number(5)].as_slice())
-    );
-    assert!(rt; matches!(&known, Some(known) if known.entries == 4));
-    // One entry more than there is room for.
-    assert!(rt; known_of(alloc, SOURCE, 3).is_none());
-    Ok(())
+/// Whether a part whose journal isn't kept counts and publishes, with as many entries as there is room for.
+pub(crate) fn counts_and_publishes(alloc: Global) -> bool {
+    match known_of(alloc, SOURCE, 4) {
+        Some(known) => {
+            known.values.as_slice() == [Value::Number(5)].as_slice()
+                && known.entries == 4
+                && known_of(alloc, SOURCE, 3).is_none()
+        }
+        None => false,
+    }
 }

@@ -1,13 +1,12 @@
-//! Replays a journal by calls of the ledger, entry by entry, and tells whether that writes the same journal. Its arguments are the files of a program,
-//! of a script and of a journal of the second version.
+//! Drives a ledger by its calls alone: what it writes, what comes next, and what it refuses.
+//!
+//!     orc_replay                              tells of each family of rows whether the ledger does what they say
+//!     orc_replay PROGRAM SCRIPT JOURNAL       replays a journal of the second version, entry by entry, and tells whether that writes the same one
 #![tactic(auto)]
 
-#[cfg(test)]
 mod apart;
-#[cfg(test)]
 mod random;
 mod replay;
-#[cfg(test)]
 mod rows;
 
 use crate::replay::{Odd, Stop, replay_journal};
@@ -38,12 +37,56 @@ pub(crate) fn replay_text(
     Ok((journal.len(), state))
 }
 
+fn tell<R: Print>(rt: &R, what: &str, holds: bool) -> io::Result<()> {
+    let word = if holds { "holds" } else { "WRONG" };
+    println!(rt; "{word}: {what}")
+}
+
+// Tells what holds of a ledger.
+fn tell_all<R: Print>(rt: &R, alloc: Global) -> io::Result<()> {
+    let told = [
+        (
+            "tokens wait, and cells are lost",
+            rows::hold(alloc, rows::WAITS.as_slice()),
+        ),
+        (
+            "calls are answered when they are due",
+            rows::hold(alloc, rows::CALLS.as_slice()),
+        ),
+        (
+            "limits refuse the entry past them",
+            rows::limits_refuse(alloc),
+        ),
+        ("moves of marks come first", rows::marks_move_first(alloc)),
+        ("what was written is replayed", rows::are_replayed(alloc)),
+        (
+            "what is run apart stands in its place",
+            apart::stands_in_its_place(alloc),
+        ),
+        (
+            "a call opens cells and comes to a value or to nothing, wherever it stands",
+            apart::stands_anywhere(alloc),
+        ),
+        (
+            "a part whose journal isn't kept counts and publishes",
+            apart::counts_and_publishes(alloc),
+        ),
+        (
+            "300 programs at random are replayed",
+            random::are_replayed(alloc),
+        ),
+    ];
+    for (what, holds) in told.iter() {
+        tell(rt, what, *holds)?;
+    }
+    Ok(())
+}
+
 fn main(rt: HostRuntime) -> io::Result<()> {
     let alloc = rt.alloc();
     let words = env::args(&rt)?.collect::<Vec<String>>(alloc)?;
     let [_, source, script, journal] = words.as_slice() else {
-        println!(&rt; "the files of a program, a script and a journal are wanted")?;
-        return Ok(());
+        return tell_all(&rt, alloc);
     };
     let source = fs::read(&rt, source.as_str())?;
     let script = fs::read(&rt, script.as_str())?;

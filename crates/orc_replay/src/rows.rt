@@ -14,13 +14,12 @@ use orc_rules::entry::{Entry, State};
 use orc_rules::value::{Answer, Value};
 use std::alloc::{AllocError, Global};
 use std::marker::Brand;
-use std::test::Fail;
 
 /// What is done with a ledger, or asked of it.
 #[derive(Clone, Copy)]
-enum Step<'a> {
+pub(crate) enum Step {
     /// These entries are done, a line each. Cancels are not: they come with a bind.
-    Does(&'a str),
+    Does(&'static str),
     /// The token with this mark waits.
     Waits(u64),
     /// This comes next.
@@ -37,17 +36,13 @@ enum Step<'a> {
 
 /// A program, and the steps of its run.
 #[derive(Clone, Copy)]
-struct Row<'a> {
-    source: &'a str,
-    script: &'a str,
-    steps: &'a [Step<'a>],
+pub(crate) struct Row {
+    source: &'static str,
+    script: &'static str,
+    steps: &'static [Step],
 }
 
 const SIGNAL: Answer = Answer::Value(Value::Signal);
-
-const fn number(n: i64) -> Answer {
-    Answer::Value(Value::Number(n))
-}
 
 // What the token with this mark does next.
 fn word<P: Naming>(ledger: &Ledger<P>, graph: &Graph, serial: u64) -> Option<Action>
@@ -160,148 +155,140 @@ fn fault_of(alloc: Global, row: &Row) -> Option<usize> {
     wrong_step::<Brand>(alloc, &graph, &loaded.answers, row.steps)
 }
 
-// The first row of which a step isn't so.
-fn first_wrong<'a>(alloc: Global, rows: &'a [Row<'a>]) -> Option<(&'a str, usize)> {
+/// Whether the ledger does what all these rows say.
+pub(crate) fn hold(alloc: Global, rows: &[Row]) -> bool {
     for row in rows {
-        if let Some(step) = fault_of(alloc, row) {
-            return Some((row.source, step));
+        if fault_of(alloc, row).is_some() {
+            return false;
         }
     }
-    None
+    true
 }
 
-#[test]
-fn tokens_wait_and_cells_are_lost(rt: HostRuntime) -> Result<(), Fail> {
-    let rows = [
-        // The inner x is bound first, and the call still waits for the outer one.
-        Row {
-            source: "def g(a) = Add(a, x) <x< 1\ng(x) <x< 10",
-            script: "",
-            steps: &[
-                Step::Does("open 1 1 2 3\ndef 2 4\nopen 4 2 5 6\n"),
-                Step::Waits(5),
-                Step::Does("bind 6 2 1\n"),
-                Step::Waits(5),
-                Step::Does("bind 3 1 10\ncall 5 1 Add(10, 1)\nreturn 1 7 11\npublish 7 11\n"),
-                Step::Halted(true),
-            ],
-        },
-        Row {
-            source: "(Add(x, 1) <x< stop) ; 7",
-            script: "",
-            steps: &[
-                Step::Does("other 1 2\nopen 2 1 3 4\n"),
-                Step::Waits(3),
-                Step::Does("end 4\nlost 1\nvoid 3\nright 1 5\n"),
-                Step::Halted(false),
-                Step::Does("publish 5 7\n"),
-                Step::Halted(true),
-            ],
-        },
-        // Either value may be bound.
-        Row {
-            source: "x <x< (1 | 2)",
-            script: "",
-            steps: &[Step::Does("open 1 1 2 3\nfork 3 4 5\nbind 4 1 1\npublish 2 1\n")],
-        },
-        Row {
-            source: "x <x< (1 | 2)",
-            script: "",
-            steps: &[Step::Does("open 1 1 2 3\nfork 3 4 5\nbind 5 1 2\npublish 2 2\n")],
-        },
-    ];
-    assert_eq!(rt; first_wrong(rt.alloc(), rows.as_slice()), None);
-    Ok(())
-}
+/// Tokens wait, and cells are lost.
+pub(crate) const WAITS: [Row; 4] = [
+    // The inner x is bound first, and the call still waits for the outer one.
+    Row {
+        source: "def g(a) = Add(a, x) <x< 1\ng(x) <x< 10",
+        script: "",
+        steps: &[
+            Step::Does("open 1 1 2 3\ndef 2 4\nopen 4 2 5 6\n"),
+            Step::Waits(5),
+            Step::Does("bind 6 2 1\n"),
+            Step::Waits(5),
+            Step::Does("bind 3 1 10\ncall 5 1 Add(10, 1)\nreturn 1 7 11\npublish 7 11\n"),
+            Step::Halted(true),
+        ],
+    },
+    Row {
+        source: "(Add(x, 1) <x< stop) ; 7",
+        script: "",
+        steps: &[
+            Step::Does("other 1 2\nopen 2 1 3 4\n"),
+            Step::Waits(3),
+            Step::Does("end 4\nlost 1\nvoid 3\nright 1 5\n"),
+            Step::Halted(false),
+            Step::Does("publish 5 7\n"),
+            Step::Halted(true),
+        ],
+    },
+    // Either value may be bound.
+    Row {
+        source: "x <x< (1 | 2)",
+        script: "",
+        steps: &[Step::Does("open 1 1 2 3\nfork 3 4 5\nbind 4 1 1\npublish 2 1\n")],
+    },
+    Row {
+        source: "x <x< (1 | 2)",
+        script: "",
+        steps: &[Step::Does("open 1 1 2 3\nfork 3 4 5\nbind 5 1 2\npublish 2 2\n")],
+    },
+];
 
-#[test]
-fn calls_are_answered_when_they_are_due(rt: HostRuntime) -> Result<(), Fail> {
-    let rows = [
-        Row {
-            source: "(Rwait(3) >> Ift(false)) ; 9",
-            script: "",
-            steps: &[
-                Step::Does("other 1 2\nseq 2 3\ncall 3 1 Rwait(3)\n"),
-                Step::Asked(1, 0, 1),
-                Step::Refuses(1, SIGNAL, ReturnFault::Wrong),
-                Step::Due(None),
-                Step::Next(Next::Ticks(3)),
-                Step::Does("tick 3\n"),
-                Step::Due(Some(1)),
-                Step::Next(Next::Work),
-                Step::Refuses(1, number(5), ReturnFault::Wrong),
-                Step::Does("return 1 4 signal\nsend 4 5 signal\ncall 5 2 Ift(false)\n"),
-                Step::Does("return 2 halt\nright 1 6\npublish 6 9\n"),
-                Step::Refuses(1, SIGNAL, ReturnFault::Gone),
-                Step::Halted(true),
-            ],
-        },
-        // A call that is cancelled is gone.
-        Row {
-            source: "x <x< (Rwait(0) | 1)",
-            script: "",
-            steps: &[
-                Step::Does("open 1 1 2 3\nfork 3 4 5\ncall 4 1 Rwait(0)\nbind 5 1 1\ncancel 1\n"),
-                Step::Refuses(1, SIGNAL, ReturnFault::Gone),
-                Step::Does("publish 2 1\n"),
-                Step::Halted(true),
-            ],
-        },
-        Row {
-            source: "x <x< (1 | Add(2, 3))",
-            script: "",
-            steps: &[
-                Step::Does("open 1 1 2 3\nfork 3 4 5\ncall 5 1 Add(2, 3)\n"),
-                Step::Due(Some(1)),
-                Step::Does("bind 4 1 1\ncancel 1\n"),
-                Step::Due(None),
-                Step::Does("publish 2 1\n"),
-            ],
-        },
-        // Of two calls that are due the one made last may be answered first.
-        Row {
-            source: "Flip() | Flip() | Flip() | Flip()",
-            script: "Flip() = 1 then halt then 3 after 2",
-            steps: &[
-                Step::Does("fork 1 2 3\nfork 2 4 5\nfork 4 6 7\n"),
-                Step::Does("call 6 1 Flip()\ncall 7 2 Flip()\ncall 5 3 Flip()\ncall 3 4 Flip()\n"),
-                Step::Asked(2, 0, 2),
-                Step::Asked(4, 0, 4),
-                Step::Refuses(2, number(1), ReturnFault::Wrong),
-                Step::Refuses(3, number(3), ReturnFault::Wrong),
-                Step::Does("return 2 halt\nreturn 1 8 1\npublish 8 1\n"),
-                Step::Next(Next::Ticks(2)),
-                Step::Does("tick 2\nreturn 4 9 3\nreturn 3 10 3\npublish 10 3\npublish 9 3\n"),
-                Step::Halted(true),
-            ],
-        },
-        // A sequence of answers counts for each list of arguments.
-        Row {
-            source: "Flip(1) | Flip(2)",
-            script: "Flip(_) = 1 then 2",
-            steps: &[
-                Step::Does("fork 1 2 3\ncall 2 1 Flip(1)\ncall 3 2 Flip(2)\n"),
-                Step::Asked(1, 0, 1),
-                Step::Asked(2, 0, 1),
-                Step::Refuses(2, number(2), ReturnFault::Wrong),
-                Step::Does("return 2 4 1\n"),
-            ],
-        },
-        Row {
-            source: "A() | A()",
-            script: "A() = never then 1",
-            steps: &[
-                Step::Does("fork 1 2 3\ncall 2 1 A()\ncall 3 2 A()\n"),
-                Step::Due(Some(2)),
-                Step::Does("return 2 4 1\npublish 4 1\n"),
-                Step::Next(Next::Quiet),
-                Step::Halted(false),
-            ],
-        },
-    ];
-    assert_eq!(rt; first_wrong(rt.alloc(), rows.as_slice()), None);
-    Ok(())
-}
+/// Calls are answered when they are due.
+pub(crate) const CALLS: [Row; 6] = [
+    Row {
+        source: "(Rwait(3) >> Ift(false)) ; 9",
+        script: "",
+        steps: &[
+            Step::Does("other 1 2\nseq 2 3\ncall 3 1 Rwait(3)\n"),
+            Step::Asked(1, 0, 1),
+            Step::Refuses(1, SIGNAL, ReturnFault::Wrong),
+            Step::Due(None),
+            Step::Next(Next::Ticks(3)),
+            Step::Does("tick 3\n"),
+            Step::Due(Some(1)),
+            Step::Next(Next::Work),
+            Step::Refuses(1, Answer::Value(Value::Number(5)), ReturnFault::Wrong),
+            Step::Does("return 1 4 signal\nsend 4 5 signal\ncall 5 2 Ift(false)\n"),
+            Step::Does("return 2 halt\nright 1 6\npublish 6 9\n"),
+            Step::Refuses(1, SIGNAL, ReturnFault::Gone),
+            Step::Halted(true),
+        ],
+    },
+    // A call that is cancelled is gone.
+    Row {
+        source: "x <x< (Rwait(0) | 1)",
+        script: "",
+        steps: &[
+            Step::Does("open 1 1 2 3\nfork 3 4 5\ncall 4 1 Rwait(0)\nbind 5 1 1\ncancel 1\n"),
+            Step::Refuses(1, SIGNAL, ReturnFault::Gone),
+            Step::Does("publish 2 1\n"),
+            Step::Halted(true),
+        ],
+    },
+    Row {
+        source: "x <x< (1 | Add(2, 3))",
+        script: "",
+        steps: &[
+            Step::Does("open 1 1 2 3\nfork 3 4 5\ncall 5 1 Add(2, 3)\n"),
+            Step::Due(Some(1)),
+            Step::Does("bind 4 1 1\ncancel 1\n"),
+            Step::Due(None),
+            Step::Does("publish 2 1\n"),
+        ],
+    },
+    // Of two calls that are due the one made last may be answered first.
+    Row {
+        source: "Flip() | Flip() | Flip() | Flip()",
+        script: "Flip() = 1 then halt then 3 after 2",
+        steps: &[
+            Step::Does("fork 1 2 3\nfork 2 4 5\nfork 4 6 7\n"),
+            Step::Does("call 6 1 Flip()\ncall 7 2 Flip()\ncall 5 3 Flip()\ncall 3 4 Flip()\n"),
+            Step::Asked(2, 0, 2),
+            Step::Asked(4, 0, 4),
+            Step::Refuses(2, Answer::Value(Value::Number(1)), ReturnFault::Wrong),
+            Step::Refuses(3, Answer::Value(Value::Number(3)), ReturnFault::Wrong),
+            Step::Does("return 2 halt\nreturn 1 8 1\npublish 8 1\n"),
+            Step::Next(Next::Ticks(2)),
+            Step::Does("tick 2\nreturn 4 9 3\nreturn 3 10 3\npublish 10 3\npublish 9 3\n"),
+            Step::Halted(true),
+        ],
+    },
+    // A sequence of answers counts for each list of arguments.
+    Row {
+        source: "Flip(1) | Flip(2)",
+        script: "Flip(_) = 1 then 2",
+        steps: &[
+            Step::Does("fork 1 2 3\ncall 2 1 Flip(1)\ncall 3 2 Flip(2)\n"),
+            Step::Asked(1, 0, 1),
+            Step::Asked(2, 0, 1),
+            Step::Refuses(2, Answer::Value(Value::Number(2)), ReturnFault::Wrong),
+            Step::Does("return 2 4 1\n"),
+        ],
+    },
+    Row {
+        source: "A() | A()",
+        script: "A() = never then 1",
+        steps: &[
+            Step::Does("fork 1 2 3\ncall 2 1 A()\ncall 3 2 A()\n"),
+            Step::Due(Some(2)),
+            Step::Does("return 2 4 1\npublish 4 1\n"),
+            Step::Next(Next::Quiet),
+            Step::Halted(false),
+        ],
+    },
+];
 
 // Where the first token and those after it in its slot have moved until one is refused: how many entries there are, and why.
 fn refused_at<P: Naming>(alloc: Global, graph: &Graph, limit: usize) -> Option<(usize, LedgerFault)>
@@ -330,97 +317,98 @@ fn refused(alloc: Global, source: &[u8], limit: usize) -> Option<(usize, LedgerF
     refused_at::<Brand>(alloc, &graph, limit)
 }
 
-#[test]
-fn limits_refuse_the_entry_past_them(rt: HostRuntime) -> Result<(), Fail> {
-    let alloc = rt.alloc();
-    let feeds = b"def f() = f() >> 1\nf()";
-    let others = b"def f() = f() ; 1\nf()";
-    assert_eq!(rt;
-        refused(alloc, feeds, 100_000),
-        Some((8_193, LedgerFault::Full))
-    );
-    assert_eq!(rt;
-        refused(alloc, others, 100_000),
-        Some((2_047, LedgerFault::Full))
-    );
-    assert_eq!(rt;
-        refused(alloc, others, 100),
-        Some((100, LedgerFault::Limit))
-    );
-    Ok(())
+// Programs, their limits, and how many entries there are when a token is refused, and why.
+const LIMITS: [(&[u8], usize, usize, LedgerFault); 3] = [
+    (
+        b"def f() = f() >> 1\nf()",
+        100_000,
+        8_193,
+        LedgerFault::Full,
+    ),
+    (b"def f() = f() ; 1\nf()", 100_000, 2_047, LedgerFault::Full),
+    (b"def f() = f() ; 1\nf()", 100, 100, LedgerFault::Limit),
+];
+
+/// Whether limits refuse the entry past them.
+pub(crate) fn limits_refuse(alloc: Global) -> bool {
+    for (source, limit, entries, fault) in LIMITS.iter() {
+        if refused(alloc, source, *limit) != Some((*entries, *fault)) {
+            return false;
+        }
+    }
+    true
 }
 
-// A journal that the rules allow, with an entry before moves of marks that the ledger makes first.
-#[test]
-fn moves_of_marks_come_first(rt: HostRuntime) -> Result<(), Fail> {
-    let rows: [(&[u8], &[u8], Stop); 3] = [
-        (
-            b"stop <x< stop",
-            b"orc-journal 2\nopen 1 1 2 3\nlost 1\nend 2\n",
-            Stop {
-                at: 2,
-                why: Odd::Live,
-            },
-        ),
-        (
-            b"stop ; 1",
-            b"orc-journal 2\nother 1 2\nright 1 3\npublish 3 1\n",
-            Stop {
-                at: 2,
-                why: Odd::Live,
-            },
-        ),
-        (
-            b"Rwait(1) | stop",
-            b"orc-journal 2\nfork 1 2 3\ncall 2 1 Rwait(1)\ntick 1\n",
-            Stop {
-                at: 3,
-                why: Odd::Time,
-            },
-        ),
-    ];
-    for (source, journal, stop) in rows {
-        assert_eq!(rt;
-            replay_text(rt.alloc(), source, b"", journal),
-            Err(stop),
-            "at {source:?}"
-        );
+// Programs, and journals that the rules allow, with an entry before moves of marks that the ledger makes first.
+const EARLY: [(&[u8], &[u8], Stop); 3] = [
+    (
+        b"stop <x< stop",
+        b"orc-journal 2\nopen 1 1 2 3\nlost 1\nend 2\n",
+        Stop {
+            at: 2,
+            why: Odd::Live,
+        },
+    ),
+    (
+        b"stop ; 1",
+        b"orc-journal 2\nother 1 2\nright 1 3\npublish 3 1\n",
+        Stop {
+            at: 2,
+            why: Odd::Live,
+        },
+    ),
+    (
+        b"Rwait(1) | stop",
+        b"orc-journal 2\nfork 1 2 3\ncall 2 1 Rwait(1)\ntick 1\n",
+        Stop {
+            at: 3,
+            why: Odd::Time,
+        },
+    ),
+];
+
+/// Whether such an entry isn't replayed.
+pub(crate) fn marks_move_first(alloc: Global) -> bool {
+    for (source, journal, stop) in EARLY.iter() {
+        if replay_text(alloc, source, b"", journal) != Err(*stop) {
+            return false;
+        }
     }
-    Ok(())
+    true
 }
 
-#[test]
-fn replays_what_was_written(rt: HostRuntime) -> Result<(), Fail> {
-    let rows: [(&[u8], &[u8], &[u8], usize, State); 3] = [
-        (
-            b"(1 | 2) >x> Add(x, 10)",
-            b"",
-            b"orc-journal 2\nseq 1 2\nfork 2 3 4\nsend 3 5 1\ncall 5 1 Add(1, 10)\nreturn 1 6 11\npublish 6 11\nsend 4 7 2\ncall 7 2 Add(2, 10)\nreturn 2 8 12\npublish 8 12\n",
-            10,
-            State::Halted,
-        ),
-        (
-            b"OtherwiseLeft() ; OtherwiseLeft() ; OtherwiseLeft() ; 0",
-            b"OtherwiseLeft() = halt then halt then 5",
-            b"orc-journal 2\nother 1 2\nother 2 3\nother 3 4\ncall 4 1 OtherwiseLeft()\nreturn 1 halt\nright 3 5\ncall 5 2 OtherwiseLeft()\nreturn 2 halt\nright 2 6\ncall 6 3 OtherwiseLeft()\nreturn 3 7 5\npublish 7 5\n",
-            12,
-            State::Halted,
-        ),
-        // A publication leaves the otherwise, whose group goes without an entry, and the cell is lost after it.
-        (
-            b"x <x< ((1 ; 2) >y> stop)",
-            b"",
-            b"orc-journal 2\nopen 1 1 2 3\nseq 3 4\nother 4 5\nsend 5 6 1\nend 6\nlost 1\nvoid 2\n",
-            7,
-            State::Halted,
-        ),
-    ];
-    for (source, script, journal, entries, state) in rows {
-        assert_eq!(rt;
-            replay_text(rt.alloc(), source, script, journal),
-            Ok((entries, state)),
-            "at {source:?}"
-        );
+// Programs, scripts, journals that the rules allow, how many entries these have, and where they lead.
+const WRITTEN: [(&[u8], &[u8], &[u8], usize, State); 3] = [
+    (
+        b"(1 | 2) >x> Add(x, 10)",
+        b"",
+        b"orc-journal 2\nseq 1 2\nfork 2 3 4\nsend 3 5 1\ncall 5 1 Add(1, 10)\nreturn 1 6 11\npublish 6 11\nsend 4 7 2\ncall 7 2 Add(2, 10)\nreturn 2 8 12\npublish 8 12\n",
+        10,
+        State::Halted,
+    ),
+    (
+        b"Try() ; Try() ; Try() ; 0",
+        b"Try() = halt then halt then 5",
+        b"orc-journal 2\nother 1 2\nother 2 3\nother 3 4\ncall 4 1 Try()\nreturn 1 halt\nright 3 5\ncall 5 2 Try()\nreturn 2 halt\nright 2 6\ncall 6 3 Try()\nreturn 3 7 5\npublish 7 5\n",
+        12,
+        State::Halted,
+    ),
+    // A publication leaves the otherwise, whose group goes without an entry, and the cell is lost after it.
+    (
+        b"x <x< ((1 ; 2) >y> stop)",
+        b"",
+        b"orc-journal 2\nopen 1 1 2 3\nseq 3 4\nother 4 5\nsend 5 6 1\nend 6\nlost 1\nvoid 2\n",
+        7,
+        State::Halted,
+    ),
+];
+
+/// Whether what was written is replayed.
+pub(crate) fn are_replayed(alloc: Global) -> bool {
+    for (source, script, journal, entries, state) in WRITTEN.iter() {
+        if replay_text(alloc, source, script, journal) != Ok((*entries, *state)) {
+            return false;
+        }
     }
-    Ok(())
+    true
 }

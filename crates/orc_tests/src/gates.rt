@@ -75,55 +75,43 @@ impl Gate for Slow {
     }
 }
 
-/// Sites whose calls are held at a gate.
-#[derive(Drop)]
-pub(crate) struct Held<'a> {
-    pub(crate) scripted: Scripted<'a>,
-    pub(crate) gate: &'a Turnstile,
-}
-
-impl<'a> Sites for Held<'a> {
-    type Call = SiteCall<'a>;
-
-    fn call(&self, request: &Request) -> Result<SiteCall<'a>, AllocError> {
-        self.gate.pass(request.number);
-        self.scripted.call(request)
-    }
-
-    fn cancel(&self, _number: u64) {}
-
-    fn goes_by_table(&self) -> bool {
-        false
-    }
-}
-
-/// How sites take a call for another one.
+/// What sites do otherwise than the table's.
 #[derive(Clone, Copy)]
-pub(crate) enum Wrong {
-    /// They answer it without its arguments.
+pub(crate) enum Twist<'a> {
+    /// They hold each call at this gate.
+    Held(&'a Turnstile),
+    /// They answer a call without its arguments.
     Value,
     /// They think that it was made at another time.
     Time,
     /// They think that it was made too late for an answer.
     Never,
+    /// They are refused memory for the call with this number.
+    Refused(u64),
 }
 
-/// Sites that take a call for another one.
+/// Sites that take each call for another one, or hold it, or are refused memory for one.
 #[derive(Drop)]
-pub(crate) struct Liar<'a> {
+pub(crate) struct Twisted<'a> {
     pub(crate) scripted: Scripted<'a>,
-    pub(crate) wrong: Wrong,
+    pub(crate) twist: Twist<'a>,
 }
 
-impl<'a> Sites for Liar<'a> {
+impl<'a> Sites for Twisted<'a> {
     type Call = SiteCall<'a>;
 
     fn call(&self, request: &Request) -> Result<SiteCall<'a>, AllocError> {
         let mut other = request.copied();
-        match self.wrong {
-            Wrong::Value => other.args = Args::new(),
-            Wrong::Time => other.made_at = other.made_at.saturating_add(2),
-            Wrong::Never => other.made_at = u64::MAX,
+        match self.twist {
+            Twist::Held(gate) => gate.pass(request.number),
+            Twist::Value => other.args = Args::new(),
+            Twist::Time => other.made_at = other.made_at.saturating_add(2),
+            Twist::Never => other.made_at = u64::MAX,
+            Twist::Refused(number) => {
+                if request.number == number {
+                    return Err(AllocError);
+                }
+            }
         }
         self.scripted.call(&other)
     }
@@ -131,7 +119,7 @@ impl<'a> Sites for Liar<'a> {
     fn cancel(&self, _number: u64) {}
 
     fn may_wait(&self) -> bool {
-        false
+        matches!(self.twist, Twist::Held(_) | Twist::Refused(_))
     }
 
     fn goes_by_table(&self) -> bool {
@@ -213,30 +201,6 @@ impl<'a> Sites for Odd<'a> {
             source: Source::new(),
             waker: None,
         })
-    }
-
-    fn cancel(&self, _number: u64) {}
-
-    fn goes_by_table(&self) -> bool {
-        false
-    }
-}
-
-/// Sites that are refused memory for the call with this number.
-#[derive(Drop)]
-pub(crate) struct Refusing<'a> {
-    pub(crate) scripted: Scripted<'a>,
-    pub(crate) number: u64,
-}
-
-impl<'a> Sites for Refusing<'a> {
-    type Call = SiteCall<'a>;
-
-    fn call(&self, request: &Request) -> Result<SiteCall<'a>, AllocError> {
-        if request.number == self.number {
-            return Err(AllocError);
-        }
-        self.scripted.call(request)
     }
 
     fn cancel(&self, _number: u64) {}

@@ -1,53 +1,60 @@
 //! Sites that answer late, never or wrongly, that hold their calls, and that are refused memory, on several workers.
 
-use crate::gates::{
-    Board, Hold, LOOKS, Liar, Manner, Noting, Odd, Refusing, Slow, Turnstile, Wrong,
-};
-use crate::pools::{is_accepted, play, text_of};
+use crate::gates::{Board, Hold, Manner, Noting, Odd, Slow, Turnstile, Twist, Twisted};
+use crate::pools::{is_accepted, play};
+use orc_journal::Journal;
 use orc_load::load;
 use orc_outcome::{End, Played};
+use orc_rules::entry::Entry;
 use orc_rules::value::Value;
-use orc_site::{Open, Scripted};
+use orc_site::{Gate, Open, Scripted};
 use orc_workers::{EngineFault, run_pool};
-use std::alloc::Global;
+use std::alloc::{AllocError, Global};
 use std::sync::Wait;
 use std::test::Fail;
 use std::thread::Threads;
 
-// How a run fails whose sites take calls for others.
-fn fault_by_liar<R: Threads + Wait + Sync>(
+const NEVER: &[u8] = b"Never() = never\n";
+
+// A run by sites that do otherwise than the table's; None where the text is no program.
+fn by_twisted<R: Threads + Wait + Sync, G: Gate + Sync>(
     rt: &R,
     alloc: Global,
     source: &[u8],
-    wrong: Wrong,
+    twist: Twist<'_>,
+    gate: &G,
     workers: usize,
-) -> Option<EngineFault> {
+) -> Option<Result<Played, EngineFault>> {
     let loaded = load(alloc, source, b"").ok()?;
-    let sites = Liar {
+    let sites = Twisted {
         scripted: Scripted::new(&loaded.answers),
-        wrong,
+        twist,
     };
     let (program, answers) = (&loaded.program, &loaded.answers);
-    run_pool(
-        rt, alloc, program, answers, &sites, &Open, workers, false, 100,
-    )
-    .err()
+    Some(run_pool(
+        rt, alloc, program, answers, &sites, gate, workers, true, 1000,
+    ))
 }
 
+// Programs, and how the answer to their call is one to another call.
+const LIES: [(&[u8], Twist<'static>); 4] = [
+    (b"Add(1, 1)", Twist::Value),
+    (b"Rwait(1) >> 1", Twist::Value),
+    (b"Rwait(1) >> 1", Twist::Time),
+    (b"Rwait(1) >> 1", Twist::Never),
+];
+
 #[test]
-fn answers_of_other_calls_are_found(rt: HostRuntime) -> Result<(), Fail> {
-    let alloc = rt.alloc();
-    for workers in [1, 2, 4, 16] {
-        let value = fault_by_liar(&rt, alloc, b"Add(1, 1)", Wrong::Value, workers);
-        assert_eq!(rt; value, Some(EngineFault::Site(1)));
-        let early = fault_by_liar(&rt, alloc, b"Rwait(1) >> 1", Wrong::Value, workers);
-        assert_eq!(rt; early, Some(EngineFault::Site(1)));
-        let late = fault_by_liar(&rt, alloc, b"Rwait(1) >> 1", Wrong::Time, workers);
-        assert_eq!(rt; late, Some(EngineFault::Site(1)));
-        let never = fault_by_liar(&rt, alloc, b"Rwait(1) >> 1", Wrong::Never, workers);
-        assert_eq!(rt; never, Some(EngineFault::Site(1)));
+fn answers_of_other_calls_are_found(rt: HostRuntime) {
+    for (source, twist) in LIES.iter() {
+        for workers in [1, 2, 4, 16] {
+            let run = by_twisted(&rt, rt.alloc(), source, *twist, &Open, workers);
+            assert!(rt;
+                matches!(&run, Some(Err(EngineFault::Site(1)))),
+                "{source:?} on {workers}"
+            );
+        }
     }
-    Ok(())
 }
 
 // How a run goes whose sites answer calls in this manner.
@@ -58,7 +65,7 @@ fn by_odd<R: Threads + Wait + Sync>(
     manner: Manner,
     workers: usize,
 ) -> Option<Result<Played, EngineFault>> {
-    let loaded = load(alloc, source, b"Never() = never\n").ok()?;
+    let loaded = load(alloc, source, NEVER).ok()?;
     let sites = Odd {
         answers: &loaded.answers,
         manner,
@@ -69,56 +76,55 @@ fn by_odd<R: Threads + Wait + Sync>(
     ))
 }
 
+const SILENT: [(&[u8], Manner); 6] = [
+    (b"Add(1, 1)", Manner::Zero),
+    (b"Add(1, 1)", Manner::Nothing),
+    (b"Rwait(1) >> 1", Manner::Zero),
+    (b"Rwait(1) >> 1", Manner::Nothing),
+    (b"Rwait(7) | Never()", Manner::Zero),
+    (b"Rwait(7) | Never()", Manner::Nothing),
+];
+
 #[test]
-fn calls_that_answer_zero_or_nothing_are_found(rt: HostRuntime) -> Result<(), Fail> {
-    let alloc = rt.alloc();
-    let sources: [&[u8]; 3] = [b"Add(1, 1)", b"Rwait(1) >> 1", b"Rwait(7) | Never()"];
+fn calls_that_answer_zero_or_nothing_are_found(rt: HostRuntime) {
     for workers in [1, 2, 4, 16] {
-        for source in sources {
-            for manner in [Manner::Zero, Manner::Nothing] {
-                let fault = by_odd(&rt, alloc, source, manner, workers).and_then(|run| run.err());
-                assert_eq!(rt; fault, Some(EngineFault::Site(1)), "at {source:?}");
-            }
+        for (source, manner) in SILENT.iter() {
+            let run = by_odd(&rt, rt.alloc(), source, *manner, workers);
+            assert!(rt;
+                matches!(&run, Some(Err(EngineFault::Site(1)))),
+                "{source:?} on {workers}"
+            );
         }
         // A call that is never due need not answer.
-        let never = by_odd(&rt, alloc, b"Never() | 1", Manner::Nothing, workers);
-        let end = never.and_then(|run| run.ok()).map(|run| run.summary.end);
-        assert_eq!(rt; end, Some(End::Quiet));
+        let run = by_odd(&rt, rt.alloc(), b"Never() | 1", Manner::Nothing, workers);
+        assert!(rt;
+            matches!(&run, Some(Ok(played)) if played.summary.end == End::Quiet),
+            "on {workers}"
+        );
     }
-    Ok(())
-}
-
-// The numbers of the calls that a journal cancels.
-fn cancels_in(alloc: Global, journal: &str) -> Result<Vec<u64>, Fail> {
-    let mut numbers = Vec::new(alloc);
-    for line in journal.lines() {
-        if let Some(number) = line.strip_prefix("cancel ") {
-            numbers.push(number.parse::<u64>().unwrap_or(0))?;
-        }
-    }
-    Ok(numbers)
-}
-
-// How many calls a journal has.
-fn calls_in(journal: &str) -> u64 {
-    let mut calls = 0u64;
-    for line in journal.lines() {
-        if line.starts_with("call ") {
-            calls = calls.saturating_add(1);
-        }
-    }
-    calls
 }
 
 // Whether each call of a journal passed the gate and was made once, and those that it cancels, and no others, were told cancelled once.
-fn are_told(alloc: Global, board: &Board, journal: &str) -> Result<bool, Fail> {
-    let cancels = cancels_in(alloc, journal)?;
-    let mut told = true;
-    for number in 1..calls_in(journal).saturating_add(1) {
-        let cancelled = u64::from(cancels.contains(&number));
-        told = told && board.counts(number) == [1, 1, cancelled];
+fn are_told(board: &Board, journal: &Journal) -> bool {
+    let (mut calls, mut cancels) = (0u64, 0u64);
+    for at in 0..journal.len() {
+        match journal.get(at) {
+            Some(Entry::Call(_, _, _, _)) => calls = calls.saturating_add(1),
+            Some(Entry::Cancel(number)) if board.counts(number) == [1, 1, 1] => {
+                cancels = cancels.saturating_add(1);
+            }
+            Some(Entry::Cancel(_)) => return false,
+            _ => {}
+        }
     }
-    Ok(told)
+    for number in 1..calls.saturating_add(1) {
+        match board.counts(number) {
+            [1, 1, 0] => {}
+            [1, 1, 1] if cancels > 0 => cancels = cancels.saturating_sub(1),
+            _ => return false,
+        }
+    }
+    cancels == 0
 }
 
 // A run whose sites and gate note what they are told. The number of its calls is at most 99, or not looked at.
@@ -130,8 +136,8 @@ fn noted<R: Threads + Wait + Sync>(
     hold: Hold,
     answers_late: bool,
     workers: usize,
-) -> Option<Result<Played, EngineFault>> {
-    let loaded = load(alloc, source, b"Never() = never\n").ok()?;
+) -> Option<Played> {
+    let loaded = load(alloc, source, NEVER).ok()?;
     let sites = Noting {
         answers: &loaded.answers,
         board,
@@ -139,74 +145,103 @@ fn noted<R: Threads + Wait + Sync>(
         answers_late,
     };
     let (program, answers) = (&loaded.program, &loaded.answers);
-    Some(run_pool(
+    run_pool(
         rt, alloc, program, answers, &sites, &sites, workers, true, 100_000,
-    ))
+    )
+    .ok()
 }
+
+// Whether a run halts, its journal is accepted, and its sites are told of each call and cancel.
+fn is_told<R: Threads + Wait + Sync>(
+    rt: &R,
+    alloc: Global,
+    source: &[u8],
+    workers: usize,
+) -> Result<bool, AllocError> {
+    let board = Board::new(alloc, 200)?;
+    let Some(run) = noted(rt, alloc, source, &board, Hold::Nowhere, false, workers) else {
+        return Ok(false);
+    };
+    let is_right = run.summary.end == End::Halted && is_accepted(alloc, source, NEVER, &run);
+    match &run.journal {
+        Some(journal) => Ok(is_right && are_told(&board, journal)),
+        None => Ok(false),
+    }
+}
+
+const TOLD: [&[u8]; 6] = [
+    b"x <x< (Rwait(2) >> 20 | Rwait(1) >> 10)",
+    b"x <x< (Rwait(5) | Rwait(9) | Rwait(7))",
+    b"x <x< (Rwait(5) | Rwait(5) | (Rwait(5) | Rwait(5)))",
+    // Calls of prunings inside the dropped side.
+    b"x <x< (Rwait(1) >> 1 | (y <y< (Never() | Rwait(3))) | (Never() ; 2))",
+    b"def loop(n) = Lt(n, 9) >b> (Iff(b) >> n | Ift(b) >> (x <x< (n | Never() | Rwait(5))) >> Add(n, 1) >m> loop(m))\nloop(0) | loop(4)",
+    b"(x <x< (Add(1, 1) | Add(2, 2) | Add(3, 3))) | (y <y< (Add(4, 4) | Add(5, 5)))",
+];
 
 #[test]
 fn sites_are_told_of_each_call_and_cancel(rt: HostRuntime) -> Result<(), Fail> {
-    let alloc = rt.alloc();
-    let sources: [&[u8]; 6] = [
-        b"x <x< (Rwait(2) >> 20 | Rwait(1) >> 10)",
-        b"x <x< (Rwait(5) | Rwait(9) | Rwait(7))",
-        b"x <x< (Rwait(5) | Rwait(5) | (Rwait(5) | Rwait(5)))",
-        // Calls of prunings inside the dropped side.
-        b"x <x< (Rwait(1) >> 1 | (y <y< (Never() | Rwait(3))) | (Never() ; 2))",
-        b"def loop(n) = Lt(n, 9) >b> (Iff(b) >> n | Ift(b) >> (x <x< (n | Never() | Rwait(5))) >> Add(n, 1) >m> loop(m))\nloop(0) | loop(4)",
-        b"(x <x< (Add(1, 1) | Add(2, 2) | Add(3, 3))) | (y <y< (Add(4, 4) | Add(5, 5)))",
-    ];
-    for source in sources {
+    for source in TOLD.iter() {
         for workers in [1, 2, 4, 16] {
-            let board = Board::new(alloc, 200)?;
-            let run = noted(&rt, alloc, source, &board, Hold::Nowhere, false, workers);
-            let run = run.and_then(|run| run.ok());
-            assert!(rt; run.is_some(), "at {source:?} on {workers}");
-            if let Some(run) = run {
-                assert_eq!(rt; run.summary.end, End::Halted, "at {source:?} on {workers}");
-                assert!(rt; is_accepted(alloc, source, b"Never() = never\n", &run));
-                let journal = String::from_utf8(text_of(alloc, b"Never() = never\n", &run))?;
-                assert!(rt;
-                    are_told(alloc, &board, journal.as_str())?,
-                    "at {source:?} on {workers}: {journal}"
-                );
-            }
+            assert!(rt;
+                is_told(&rt, rt.alloc(), source, workers)?,
+                "{source:?} on {workers}"
+            );
         }
     }
     Ok(())
 }
 
+// Whether a run halts that publishes this alone.
+fn halts_with(played: &Played, number: i64) -> bool {
+    played.summary.end == End::Halted
+        && played.published.as_slice() == [Value::Number(number)].as_slice()
+}
+
+// Whether a run halts that publishes 4, where the first call is held until it is told cancelled.
+fn counts_no_more<R: Threads + Wait + Sync>(
+    rt: &R,
+    alloc: Global,
+    source: &[u8],
+    hold: Hold,
+    answers_late: bool,
+    workers: usize,
+) -> Result<bool, AllocError> {
+    let board = Board::new(alloc, 20)?;
+    match noted(rt, alloc, source, &board, hold, answers_late, workers) {
+        Some(run) => { Ok(halts_with(&run, 4) && board.held_all() && board.counts(1) == [1, 1, 1]) }
+        None => Ok(false),
+    }
+}
+
+const CANCELLED: [&[u8]; 3] = [
+    // Polled at once, and polled again when both are due.
+    b"x <x< (Add(1, 1) | Add(2, 2))",
+    b"x <x< (Rwait(1) >> 1 | Rwait(1) >> 4)",
+    b"x <x< (Add(1, 1) | Rwait(0) >> (y <y< (Add(2, 2) | Rwait(1))))",
+];
+
+// Where a call is held, and whether it answers once it was cancelled.
+const HOLDS: [(Hold, bool); 6] = [
+    (Hold::Gate, false),
+    (Hold::Gate, true),
+    (Hold::Call, false),
+    (Hold::Call, true),
+    (Hold::Poll, false),
+    (Hold::Poll, true),
+];
+
 // The first call is held until it is told cancelled: before it passes the gate, while it is made, or while it is polled. Whether it answers then or
 // not, it is no more of the run.
 #[test]
 fn a_call_that_was_cancelled_counts_no_more(rt: HostRuntime) -> Result<(), Fail> {
-    let alloc = rt.alloc();
-    // Polled at once, and polled again when both are due.
-    let sources: [&[u8]; 3] = [
-        b"x <x< (Add(1, 1) | Add(2, 2))",
-        b"x <x< (Rwait(1) >> 1 | Rwait(1) >> 4)",
-        b"x <x< (Add(1, 1) | Rwait(0) >> (y <y< (Add(2, 2) | Rwait(1))))",
-    ];
-    for source in sources {
-        for hold in [Hold::Gate, Hold::Call, Hold::Poll] {
-            for answers_late in [false, true] {
-                for workers in [2, 4, 16] {
-                    let board = Board::new(alloc, 20)?;
-                    let run = noted(&rt, alloc, source, &board, hold, answers_late, workers);
-                    assert!(rt; run.is_some());
-                    if let Some(run) = run {
-                        assert!(rt; board.held_all(), "at {source:?}");
-                        assert_eq!(rt; board.counts(1), [1, 1, 1], "at {source:?}");
-                        assert_eq!(rt;
-                            run.map(|run| (
-                                run.summary.end,
-                                run.published.as_slice() == [Value::Number(4)].as_slice()
-                            )),
-                            Ok((End::Halted, true)),
-                            "at {source:?} on {workers}"
-                        );
-                    }
-                }
+    for source in CANCELLED.iter() {
+        for (hold, answers_late) in HOLDS.iter() {
+            for workers in [2, 4, 16] {
+                assert!(rt;
+                    counts_no_more(&rt, rt.alloc(), source, *hold, *answers_late, workers)?,
+                    "{source:?} on {workers}, answers late: {answers_late}"
+                );
             }
         }
     }
@@ -214,62 +249,62 @@ fn a_call_that_was_cancelled_counts_no_more(rt: HostRuntime) -> Result<(), Fail>
 }
 
 // The first call stands in a side that is dropped at once, and is held while more races than there may be groups come and go.
-#[test]
-fn a_held_call_takes_no_group(rt: HostRuntime) -> Result<(), Fail> {
-    let alloc = rt.alloc();
+fn takes_no_group<R: Threads + Wait + Sync>(rt: &R, alloc: Global, workers: usize) -> bool {
     let source =
         b"def loop(n) = Lt(n, 1100) >b> (Iff(b) >> n | Ift(b) >> (x <x< (n | Never() | Rwait(5))) >> Add(n, 1) >m> loop(m))
 (y <y< (Add(1, 1) | Rwait(0) >> 7)) >> loop(0)";
+    let Ok(loaded) = load(alloc, source, NEVER) else {
+        return false;
+    };
+    let gate = Turnstile::new(1, 1, 4_000);
+    match play(rt, alloc, &loaded, &gate, workers, 100_000) {
+        Ok(played) => halts_with(&played, 1100) && gate.held_all(),
+        Err(_) => false,
+    }
+}
+
+#[test]
+fn a_held_call_takes_no_group(rt: HostRuntime) {
     for workers in [2, 4, 16] {
-        let loaded = load(alloc, source, b"Never() = never\n");
-        assert!(rt; loaded.is_ok());
-        if let Ok(loaded) = loaded {
-            let gate = Turnstile::new(1, 1, 4_000);
-            let run = play(&rt, alloc, &loaded, &gate, workers, 100_000);
-            assert!(rt; gate.held_all());
-            assert_eq!(rt;
-                run.map(|run| (
-                    run.summary.end,
-                    run.published.as_slice() == [Value::Number(1100)].as_slice()
-                )),
-                Ok((End::Halted, true)),
-                "on {workers}"
+        assert!(rt; takes_no_group(&rt, rt.alloc(), workers), "on {workers}");
+    }
+}
+
+fn cancels(journal: &Journal, wanted: u64) -> bool {
+    for at in 0..journal.len() {
+        if matches!(journal.get(at), Some(Entry::Cancel(number)) if number == wanted) {
+            return true;
+        }
+    }
+    false
+}
+
+// A call that is refused memory ends the run; but one that another worker's bind has cancelled may be heard of too late. Tells whether it ends so.
+fn ends_refused<R: Threads + Wait + Sync>(
+    rt: &R,
+    alloc: Global,
+    number: u64,
+    workers: usize,
+) -> bool {
+    let source = b"(x <x< (Rwait(2) >> 20 | Rwait(1) >> Add(5, 5))) | (Ift(false) ; Add(1, 2))";
+    let Some(Ok(run)) = by_twisted(rt, alloc, source, Twist::Refused(number), &Slow, workers) else {
+        return false;
+    };
+    let Some(journal) = &run.journal else {
+        return false;
+    };
+    let is_late = run.summary.end == End::Halted && cancels(journal, number);
+    is_accepted(alloc, source, b"", &run) && (is_late || run.summary.end == End::Memory)
+}
+
+#[test]
+fn sites_may_be_refused_memory(rt: HostRuntime) {
+    for workers in [1, 2, 4, 16] {
+        for number in 1..6u64 {
+            assert!(rt;
+                ends_refused(&rt, rt.alloc(), number, workers),
+                "{number} on {workers}"
             );
         }
     }
-    Ok(())
-}
-
-// A call that is refused memory ends the run; but one that another worker's bind has cancelled may be heard of too late.
-#[test]
-fn sites_may_be_refused_memory(rt: HostRuntime) -> Result<(), Fail> {
-    let alloc = rt.alloc();
-    let source = b"(x <x< (Rwait(2) >> 20 | Rwait(1) >> Add(5, 5))) | (Ift(false) ; Add(1, 2))";
-    for workers in [1, 2, 4, 16] {
-        for number in 1..6u64 {
-            let loaded = load(alloc, source, b"");
-            assert!(rt; loaded.is_ok());
-            if let Ok(loaded) = loaded {
-                let sites = Refusing {
-                    scripted: Scripted::new(&loaded.answers),
-                    number,
-                };
-                let (program, answers) = (&loaded.program, &loaded.answers);
-                let run = run_pool(
-                    &rt, alloc, program, answers, &sites, &Slow, workers, true, 1000,
-                );
-                assert!(rt; run.is_ok());
-                if let Ok(run) = run {
-                    assert!(rt; is_accepted(alloc, source, b"", &run));
-                    let journal = String::from_utf8(text_of(alloc, b"", &run))?;
-                    let cancels = cancels_in(alloc, journal.as_str())?;
-                    let is_cancelled = cancels.contains(&number);
-                    if !is_cancelled || run.summary.end != End::Halted {
-                        assert_eq!(rt; run.summary.end, End::Memory, "at {number} on {workers}");
-                    }
-                }
-            }
-        }
-    }
-    Ok(())
 }

@@ -3,8 +3,6 @@
 #![tactic(auto)]
 
 #[cfg(test)]
-mod crews;
-#[cfg(test)]
 mod gates;
 #[cfg(test)]
 mod hostile;
@@ -16,8 +14,6 @@ mod pool_rows;
 mod pools;
 #[cfg(test)]
 mod pushes;
-#[cfg(test)]
-mod runs;
 #[cfg(test)]
 mod scope_rows;
 #[cfg(test)]

@@ -45,19 +45,10 @@ fn a_supply_of_two_gives_two(rt: HostRuntime) -> Result<(), Fail> {
     Ok(())
 }
 
-#[derive(Debug, PartialEq, Eq, Drop)]
-struct Life {
-    parted: bool,
-    marks: [bool; 3],
-    seen: [bool; 2],
-    opened_early: bool,
-    lasts: [Option<u32>; 2],
-    clear: bool,
-    words: [u64; 2],
-}
-
-// A group's life: two passes name it, both mark it, one after the other leaves it, and it is opened anew.
-fn live<J: Naming>(made: Unnamed) -> Option<Life>
+// A group's life: two passes name it, both mark it, one after the other leaves it, and it is opened anew. Whether each of these holds: no part of nine
+// passes is given out of eight; the first mark is won, and no other; both see it alone; the group isn't opened before its end; who leaves first isn't last,
+// and who leaves then is the last of group 1; the new group has no mark; and of two words the second one is named by one pass.
+fn live<J: Naming>(made: Unnamed) -> Option<[bool; 8]>
     requires named { made.table.shared.table_id ≡ J.table }
     requires two { 1 < J.table.words }
 {
@@ -75,39 +66,27 @@ fn live<J: Naming>(made: Unnamed) -> Option<Life>
     let opened_early = refused.is_ok();
     let left = groups.leave(first);
     let end = groups.leave(second);
-    let lasts = [
-        left.last.map(|last| last.group()),
-        end.last.map(|last| last.group()),
-    ];
+    let is_first_last = left.last.is_some();
+    let last = end.last.map(|last| last.group());
     let mut third = groups.open(left.pass, 1).ok()?;
     let fresh = groups.look(&mut third);
     let words = groups.close();
-    Some(Life {
-        parted,
-        marks,
-        seen: [bits.published, bits.killed],
-        opened_early,
-        lasts,
-        clear: !fresh.published && !fresh.killed,
-        words: [words.word(0), words.word(1)],
-    })
+    Some([
+        !parted,
+        marks[0] && !marks[1] && !marks[2],
+        bits.published && !bits.killed,
+        !opened_early,
+        !is_first_last,
+        last == Some(1),
+        !fresh.published && !fresh.killed,
+        words.word(0) == 0 && words.word(1) == 1,
+    ])
 }
 
 #[test]
 fn a_group_is_opened_anew_once_all_have_left(rt: HostRuntime) -> Result<(), Fail> {
     let made = Unnamed::new(rt.alloc(), 2, 8)?;
-    assert_eq!(rt;
-        live::<Brand>(made),
-        Some(Life {
-            parted: false,
-            marks: [true, false, false],
-            seen: [true, false],
-            opened_early: false,
-            lasts: [None, Some(1)],
-            clear: true,
-            words: [0, 1],
-        })
-    );
+    assert_eq!(rt; live::<Brand>(made), Some([true; 8]));
     Ok(())
 }
 
@@ -174,11 +153,15 @@ fn what_was_pushed_last_is_popped_and_what_was_first_is_stolen(
     for task in 1..5u32 {
         assert_eq!(rt; own.push(task), Ok(()));
     }
-    assert_eq!(rt; theft.steal(), Some(1));
-    assert_eq!(rt; own.pop(), Some(4));
-    assert_eq!(rt; theft.steal(), Some(2));
-    assert_eq!(rt; own.pop(), Some(3));
-    assert_eq!(rt; (own.pop(), theft.steal()), (None, None));
+    let taken = [
+        theft.steal(),
+        own.pop(),
+        theft.steal(),
+        own.pop(),
+        own.pop(),
+        theft.steal(),
+    ];
+    assert_eq!(rt; taken, [Some(1), Some(4), Some(2), Some(3), None, None]);
     Ok(())
 }
 
@@ -278,15 +261,27 @@ fn a_hand_takes_its_own_tasks_and_then_those_of_the_others(rt: HostRuntime) -> R
         assert_eq!(rt; second.push(task), Ok(()));
     }
     assert_eq!(rt; third.push(9), Ok(()));
-    assert_eq!(rt; second.next(), Some(4));
-    assert_eq!(rt; first.next(), Some(1));
-    assert_eq!(rt; third.next(), Some(9));
-    assert_eq!(rt; third.next(), Some(2));
-    assert_eq!(rt; second.next(), Some(3));
-    assert_eq!(rt;
-        (first.next(), second.next(), third.next()),
-        (None, None, None)
-    );
+    let taken = [
+        second.next(),
+        first.next(),
+        third.next(),
+        third.next(),
+        second.next(),
+        first.next(),
+        second.next(),
+        third.next(),
+    ];
+    let wanted = [
+        Some(4),
+        Some(1),
+        Some(9),
+        Some(2),
+        Some(3),
+        None,
+        None,
+        None,
+    ];
+    assert_eq!(rt; taken, wanted);
     assert_eq!(rt; worker_queues::<u32>(rt.alloc(), 0)?.len(), 0);
     Ok(())
 }
@@ -421,6 +416,9 @@ fn poll(solo: &Solo, call: &mut SiteCall<'_>) -> Option<Answer> {
     }
 }
 
+// Moments in the order in which they are handed in, and whether a call is due then that is due at 8.
+const MOMENTS: [(u64, bool); 5] = [(7, false), (6, false), (8, true), (3, true), (9, true)];
+
 #[test]
 fn a_call_is_ready_from_its_due_time_on(rt: HostRuntime) -> Result<(), Fail> {
     let answers = Answers::builtin(rt.alloc())?;
@@ -429,10 +427,11 @@ fn a_call_is_ready_from_its_due_time_on(rt: HostRuntime) -> Result<(), Fail> {
     let signal = Some(Answer::Value(Value::Signal));
     assert_eq!(rt; call.due(), Due::At(8));
     assert_eq!(rt; poll(&solo, &mut call), None);
-    for (moment, answer) in [(7, None), (6, None), (8, signal), (3, signal), (9, signal)] {
-        call.at(moment);
-        assert_eq!(rt; poll(&solo, &mut call), answer, "at {moment}");
-        assert_eq!(rt; call.due(), Due::At(8));
+    for (moment, is_due) in MOMENTS.iter() {
+        call.at(*moment);
+        let polled = poll(&solo, &mut call);
+        let answer = if *is_due { signal } else { None };
+        assert!(rt; polled == answer && call.due() == Due::At(8), "at {moment}");
     }
     Ok(())
 }

@@ -1,68 +1,70 @@
-//! The worked programs on 1, 2, 4 and 16 workers, by a gate that may hold calls, so that all workers are at work: what they publish, how they end, after
-//! how many entries and when, and that a check takes their journals.
+//! Worked programs on 1, 2, 4 and 16 workers, by a gate that may hold calls, so that all workers are at work, and by an open one: what they publish, how
+//! they end, after how many entries and when, and that a check takes their journals.
 
 use crate::gates::Slow;
 use crate::pools::{play, state_of};
-use orc_journal_text::write_publications;
 use orc_load::load;
 use orc_outcome::{End, Played};
 use orc_rules::entry::State;
+use orc_rules::value::Value;
 use orc_site::{Gate, Open};
 use std::alloc::{AllocError, Global};
 use std::sync::Wait;
 use std::test::Fail;
 use std::thread::Threads;
 
-const NEVER: &str = "Never() = never\n";
-
-// A program, and all that its runs may do.
+/// The numbers that a run publishes.
 #[derive(Clone, Copy)]
-struct Worked<'a> {
-    source: &'a str,
-    script: &'a str,
+enum Outs {
+    /// These, in this order.
+    Are(&'static [i64]),
+    /// These, from the least to the greatest, in any order.
+    InAnyOrder(&'static [i64]),
+    /// One of these.
+    OneOf(&'static [i64]),
+}
+
+/// A program, and all that its runs may do.
+#[derive(Clone, Copy)]
+struct Worked {
+    source: &'static [u8],
+    script: &'static [u8],
     limit: u64,
     end: End,
-    // What it publishes is one of these.
-    outs: &'a [&'a str],
-    // How many entries its journal has, cancels counted, where that isn't free.
+    outs: Outs,
+    /// How many entries its journal has, cancels counted, where that isn't free.
     entries: Option<u64>,
-    now: u64,
+    /// When it ends, where that isn't free.
+    now: Option<u64>,
 }
 
-fn halts<'a>(source: &'a str, outs: &'a [&'a str]) -> Worked<'a> {
-    Worked {
-        source,
-        script: "",
-        limit: 100_000,
-        end: End::Halted,
-        outs,
-        entries: None,
-        now: 0,
+// The numbers among a run's publications: all of them, where it publishes nothing else.
+fn numbers_of(alloc: Global, played: &Played) -> Result<Vec<i64>, AllocError> {
+    let mut numbers = Vec::new(alloc);
+    for value in &played.published {
+        if let Value::Number(number) = value {
+            numbers.push(*number)?;
+        }
     }
+    Ok(numbers)
 }
 
-fn rests<'a>(source: &'a str, outs: &'a [&'a str]) -> Worked<'a> {
-    Worked {
-        script: NEVER,
-        end: End::Quiet,
-        ..halts(source, outs)
+fn publishes(alloc: Global, outs: Outs, played: &Played) -> Result<bool, AllocError> {
+    let mut numbers = numbers_of(alloc, played)?;
+    if numbers.len() != played.published.len() {
+        return Ok(false);
     }
-}
-
-fn ends<'a>(source: &'a str, limit: u64, end: End, entries: u64) -> Worked<'a> {
-    Worked {
-        limit,
-        end,
-        entries: Some(entries),
-        ..halts(source, &[""])
-    }
-}
-
-// A line for each value that a run has published.
-fn published(alloc: Global, played: &Played) -> Result<Vec<u8>, AllocError> {
-    let mut text = Vec::new(alloc);
-    write_publications(&mut text, &played.published)?;
-    Ok(text)
+    Ok(match outs {
+        Outs::Are(wanted) => numbers.as_slice() == wanted,
+        Outs::InAnyOrder(wanted) => {
+            numbers.sort()?;
+            numbers.as_slice() == wanted
+        }
+        Outs::OneOf(wanted) => match numbers.as_slice() {
+            [number] => wanted.contains(number),
+            _ => false,
+        },
+    })
 }
 
 // Where a run that ends so leaves its program.
@@ -75,258 +77,614 @@ fn state_after(end: End) -> State {
 }
 
 // Whether a check takes a run's journal and says what the run does of its length and its end.
-fn is_confirmed(alloc: Global, row: &Worked, played: &Played) -> bool {
-    let (source, script) = (row.source.as_bytes(), row.script.as_bytes());
-    let Some(journal) = &played.journal else {
-        return false;
-    };
-    journal.len() as u64 == played.summary.entries
-        && state_of(alloc, source, script, played) == Some(state_after(played.summary.end))
+fn is_confirmed(alloc: Global, source: &[u8], script: &[u8], played: &Played) -> bool {
+    match &played.journal {
+        Some(journal) => {
+            journal.len() as u64 == played.summary.entries
+                && state_of(alloc, source, script, played) == Some(state_after(played.summary.end))
+        }
+        None => false,
+    }
 }
 
 // Whether a row's run may have been so.
-fn may_be(alloc: Global, row: &Worked, played: &Played) -> Result<bool, Fail> {
-    let text = published(alloc, played)?;
-    let listed = row.outs.iter().any(|out| out.as_bytes() == text.as_slice());
+fn may_be(alloc: Global, row: &Worked, played: &Played) -> Result<bool, AllocError> {
     let summary = played.summary;
     Ok(
-        listed
+        publishes(alloc, row.outs, played)?
             && summary.end == row.end
-            && summary.now == row.now
+            && row.now.is_none_or(|now| now == summary.now)
             && row.entries.is_none_or(|entries| entries == summary.entries)
-            && is_confirmed(alloc, row, played),
+            && is_confirmed(alloc, row.source, row.script, played),
     )
 }
 
-// What a row's run on so many workers does otherwise than it may.
-fn fault_of<R: Threads + Wait + Sync + AllocGlobal, G: Gate + Sync>(
+// Whether a row's run on so many workers is as it may be.
+fn runs<R: Threads + Wait + Sync, G: Gate + Sync>(
     rt: &R,
+    alloc: Global,
     row: &Worked,
     gate: &G,
     workers: usize,
-) -> Result<String, Fail> {
-    let alloc = rt.alloc();
-    let Ok(loaded) = load(alloc, row.source.as_bytes(), row.script.as_bytes()) else {
-        return Ok(format!(in alloc; "{} is no program\n", row.source)?);
+) -> Result<bool, AllocError> {
+    let Ok(loaded) = load(alloc, row.source, row.script) else {
+        return Ok(false);
     };
     match play(rt, alloc, &loaded, gate, workers, row.limit) {
-        Ok(played) if may_be(alloc, row, &played)? => Ok(String::new(alloc)),
-        Ok(played) => Ok(format!(in alloc;
-            "{} on {workers}: {:?} {:?}\n",
-            row.source,
-            played.summary,
-            played.published.as_slice()
-        )?),
-        Err(fault) => Ok(format!(in alloc; "{} on {workers}: {fault:?}\n", row.source)?),
+        Ok(played) => may_be(alloc, row, &played),
+        Err(_) => Ok(false),
     }
 }
 
-// What the rows' runs do otherwise than they may.
-fn faults_of<R: Threads + Wait + Sync + AllocGlobal>(
+// A number of workers on which a row's run isn't as it may be, by an open gate or by one that may hold calls.
+fn fault_of<R: Threads + Wait + Sync>(
     rt: &R,
-    rows: &[Worked],
-) -> Result<String, Fail> {
-    let mut faults = String::new(rt.alloc());
-    for row in rows {
-        faults.push_str(fault_of(rt, row, &Open, 4)?.as_str())?;
-        for workers in [1, 2, 4, 16] {
-            faults.push_str(fault_of(rt, row, &Slow, workers)?.as_str())?;
+    alloc: Global,
+    row: &Worked,
+) -> Result<Option<usize>, AllocError> {
+    for workers in [1, 2, 4, 16] {
+        if !runs(rt, alloc, row, &Open, workers)? || !runs(rt, alloc, row, &Slow, workers)? {
+            return Ok(Some(workers));
         }
     }
-    Ok(faults)
+    Ok(None)
 }
+
+// The source of the first row whose run isn't as it may be, and a number of workers on which it isn't.
+fn first_fault<R: Threads + Wait + Sync>(
+    rt: &R,
+    alloc: Global,
+    rows: &[Worked],
+) -> Result<Option<(&'static [u8], usize)>, AllocError> {
+    for row in rows {
+        if let Some(workers) = fault_of(rt, alloc, row)? {
+            return Ok(Some((row.source, workers)));
+        }
+    }
+    Ok(None)
+}
+
+const TERMS: [Worked; 20] = [
+    Worked {
+        source: b"1",
+        script: b"",
+        limit: 100_000,
+        end: End::Halted,
+        outs: Outs::Are(&[1]),
+        entries: Some(1),
+        now: Some(0),
+    },
+    Worked {
+        source: b"stop",
+        script: b"",
+        limit: 100_000,
+        end: End::Halted,
+        outs: Outs::Are(&[]),
+        entries: Some(1),
+        now: Some(0),
+    },
+    Worked {
+        source: b"1 >x> Add(x, 10)",
+        script: b"",
+        limit: 100_000,
+        end: End::Halted,
+        outs: Outs::Are(&[11]),
+        entries: None,
+        now: Some(0),
+    },
+    Worked {
+        source: b"(1 | 2) >x> Add(x, 10)",
+        script: b"",
+        limit: 100_000,
+        end: End::Halted,
+        outs: Outs::InAnyOrder(&[11, 12]),
+        entries: Some(10),
+        now: Some(0),
+    },
+    Worked {
+        source: b"(1 | 2) >x> (10 | 20) >y> Add(x, y)",
+        script: b"",
+        limit: 100_000,
+        end: End::Halted,
+        outs: Outs::InAnyOrder(&[11, 12, 21, 22]),
+        entries: None,
+        now: Some(0),
+    },
+    Worked {
+        source: b"x <x< (1 | 2)",
+        script: b"",
+        limit: 100_000,
+        end: End::Halted,
+        outs: Outs::OneOf(&[1, 2]),
+        entries: None,
+        now: Some(0),
+    },
+    Worked {
+        source: b"val x = 1 | 2\nAdd(x, x)",
+        script: b"",
+        limit: 100_000,
+        end: End::Halted,
+        outs: Outs::OneOf(&[2, 4]),
+        entries: None,
+        now: Some(0),
+    },
+    Worked {
+        source: b"1 ; 2",
+        script: b"",
+        limit: 100_000,
+        end: End::Halted,
+        outs: Outs::Are(&[1]),
+        entries: None,
+        now: Some(0),
+    },
+    Worked {
+        source: b"Ift(false) ; 2",
+        script: b"",
+        limit: 100_000,
+        end: End::Halted,
+        outs: Outs::Are(&[2]),
+        entries: None,
+        now: Some(0),
+    },
+    Worked {
+        source: b"(Ift(false) >> 1) ; 2",
+        script: b"",
+        limit: 100_000,
+        end: End::Halted,
+        outs: Outs::Are(&[2]),
+        entries: None,
+        now: Some(0),
+    },
+    Worked {
+        source: b"(1 ; 2) >x> Add(x, 1)",
+        script: b"",
+        limit: 100_000,
+        end: End::Halted,
+        outs: Outs::Are(&[2]),
+        entries: None,
+        now: Some(0),
+    },
+    Worked {
+        source: b"(Add(x, 1) <x< stop) ; 7",
+        script: b"",
+        limit: 100_000,
+        end: End::Halted,
+        outs: Outs::Are(&[7]),
+        entries: Some(7),
+        now: Some(0),
+    },
+    Worked {
+        source: b"(Add(x, 1) <x< Ift(false)) ; 3",
+        script: b"",
+        limit: 100_000,
+        end: End::Halted,
+        outs: Outs::Are(&[3]),
+        entries: None,
+        now: Some(0),
+    },
+    Worked {
+        source: b"((Add(x, y) ; 5) <x< stop) <y< Never()",
+        script: b"Never() = never\n",
+        limit: 100_000,
+        end: End::Quiet,
+        outs: Outs::Are(&[5]),
+        entries: None,
+        now: Some(0),
+    },
+    Worked {
+        source: b"def f(x, y) = x\nf(1, y) <y< Never()",
+        script: b"Never() = never\n",
+        limit: 100_000,
+        end: End::Quiet,
+        outs: Outs::Are(&[1]),
+        entries: None,
+        now: Some(0),
+    },
+    Worked {
+        source: b"def g(a) = Add(a, x) <x< 1\ng(x) <x< 10",
+        script: b"",
+        limit: 100_000,
+        end: End::Halted,
+        outs: Outs::Are(&[11]),
+        entries: Some(8),
+        now: Some(0),
+    },
+    Worked {
+        source: b"def f(a, b) = Add(a, b)\nf(2, 3) >y> Add(y, y)",
+        script: b"",
+        limit: 100_000,
+        end: End::Halted,
+        outs: Outs::Are(&[10]),
+        entries: None,
+        now: Some(0),
+    },
+    Worked {
+        source: b"def f(n) = Ift(b) >> Add(n, -1) >m> (f(m) | n) <b< Lt(0, n)\nf(5)",
+        script: b"",
+        limit: 100_000,
+        end: End::Halted,
+        outs: Outs::InAnyOrder(&[1, 2, 3, 4, 5]),
+        entries: None,
+        now: Some(0),
+    },
+    Worked {
+        source: b"Add(9223372036854775807, 1) ; 0",
+        script: b"",
+        limit: 100_000,
+        end: End::Halted,
+        outs: Outs::Are(&[0]),
+        entries: None,
+        now: Some(0),
+    },
+    Worked {
+        source: b"-9223372036854775808",
+        script: b"",
+        limit: 100_000,
+        end: End::Halted,
+        outs: Outs::Are(&[i64::MIN]),
+        entries: None,
+        now: Some(0),
+    },
+];
 
 #[test]
 fn works_terms_and_cells(rt: HostRuntime) -> Result<(), Fail> {
-    let rows = [
-        Worked {
-            entries: Some(1),
-            ..halts("1", &["1\n"])
-        },
-        Worked {
-            entries: Some(1),
-            ..halts("stop", &[""])
-        },
-        Worked {
-            entries: Some(10),
-            ..halts("(1 | 2) >x> Add(x, 10)", &["11\n12\n", "12\n11\n"])
-        },
-        halts("x <x< (1 | 2)", &["1\n", "2\n"]),
-        halts("val x = 1 | 2\nAdd(x, x)", &["2\n", "4\n"]),
-        halts("1 ; 2", &["1\n"]),
-        halts("Ift(false) ; 2", &["2\n"]),
-        Worked {
-            entries: Some(7),
-            ..halts("(Add(x, 1) <x< stop) ; 7", &["7\n"])
-        },
-        rests("def f(x, y) = x\nf(1, y) <y< Never()", &["1\n"]),
-        Worked {
-            entries: Some(8),
-            ..halts("def g(a) = Add(a, x) <x< 1\ng(x) <x< 10", &["11\n"])
-        },
-        halts("Add(9223372036854775807, 1) ; 0", &["0\n"]),
-        halts("-9223372036854775808", &["-9223372036854775808\n"]),
-        rests("((Add(x, y) ; 5) <x< stop) <y< Never()", &["5\n"]),
-        halts("(1 ; 2) >x> Add(x, 1)", &["2\n"]),
-    ];
-    assert_eq!(rt; faults_of(&rt, rows.as_slice())?.as_str(), "");
+    assert_eq!(rt; first_fault(&rt, rt.alloc(), &TERMS)?, None);
     Ok(())
 }
+
+const TIMES: [Worked; 9] = [
+    Worked {
+        source: b"x <x< (Rwait(2) >> 20 | Rwait(1) >> 10)",
+        script: b"",
+        limit: 100_000,
+        end: End::Halted,
+        outs: Outs::Are(&[10]),
+        entries: Some(12),
+        now: Some(1),
+    },
+    // The limit counts no cancels.
+    Worked {
+        source: b"x <x< (Rwait(2) >> 20 | Rwait(1) >> 10)",
+        script: b"",
+        limit: 11,
+        end: End::Halted,
+        outs: Outs::Are(&[10]),
+        entries: Some(12),
+        now: Some(1),
+    },
+    Worked {
+        source: b"Rwait(5) >> 1",
+        script: b"",
+        limit: 100_000,
+        end: End::Halted,
+        outs: Outs::Are(&[1]),
+        entries: None,
+        now: Some(5),
+    },
+    Worked {
+        source: b"(Rwait(3) >> Ift(false)) ; 9",
+        script: b"",
+        limit: 100_000,
+        end: End::Halted,
+        outs: Outs::Are(&[9]),
+        entries: Some(10),
+        now: Some(3),
+    },
+    Worked {
+        source: b"Rwait(9223372036854775807) >> Rwait(9223372036854775807) >> Rwait(1) >> 1",
+        script: b"",
+        limit: 100_000,
+        end: End::Halted,
+        outs: Outs::Are(&[1]),
+        entries: None,
+        now: Some(u64::MAX),
+    },
+    Worked {
+        source: b"Rwait(9223372036854775807) >> Rwait(9223372036854775807) >> Rwait(2) >> 1",
+        script: b"Never() = never\n",
+        limit: 100_000,
+        end: End::Quiet,
+        outs: Outs::Are(&[]),
+        entries: None,
+        now: Some(u64::MAX - 1),
+    },
+    Worked {
+        source: b"Add(Add(1, 2), Rwait(1) >> 4)",
+        script: b"",
+        limit: 100_000,
+        end: End::Halted,
+        outs: Outs::Are(&[7]),
+        entries: None,
+        now: Some(1),
+    },
+    Worked {
+        source: b"Add(1, x) <x< Rwait(1) >> 2 >y> Iff(false) >> y",
+        script: b"",
+        limit: 100_000,
+        end: End::Halted,
+        outs: Outs::Are(&[3]),
+        entries: None,
+        now: Some(1),
+    },
+    // Several calls are due at one time.
+    Worked {
+        source: b"(Rwait(2) | Rwait(2) | Rwait(2) | Rwait(1)) >> Add(1, 1)",
+        script: b"",
+        limit: 100_000,
+        end: End::Halted,
+        outs: Outs::Are(&[2, 2, 2, 2]),
+        entries: None,
+        now: Some(2),
+    },
+];
 
 #[test]
 fn works_in_time(rt: HostRuntime) -> Result<(), Fail> {
-    let race = Worked {
-        entries: Some(12),
-        now: 1,
-        ..halts("x <x< (Rwait(2) >> 20 | Rwait(1) >> 10)", &["10\n"])
-    };
-    let rows = [
-        race,
-        // The limit counts no cancels.
-        Worked { limit: 11, ..race },
-        Worked {
-            entries: Some(10),
-            now: 3,
-            ..halts("(Rwait(3) >> Ift(false)) ; 9", &["9\n"])
-        },
-        Worked {
-            now: u64::MAX,
-            ..halts(
-                "Rwait(9223372036854775807) >> Rwait(9223372036854775807) >> Rwait(1) >> 1",
-                &["1\n"],
-            )
-        },
-        Worked {
-            now: u64::MAX - 1,
-            ..rests(
-                "Rwait(9223372036854775807) >> Rwait(9223372036854775807) >> Rwait(2) >> 1",
-                &[""],
-            )
-        },
-        Worked {
-            now: 1,
-            ..halts("Add(Add(1, 2), Rwait(1) >> 4)", &["7\n"])
-        },
-        Worked {
-            now: 1,
-            ..halts("Add(1, x) <x< Rwait(1) >> 2 >y> Iff(false) >> y", &["3\n"])
-        },
-    ];
-    assert_eq!(rt; faults_of(&rt, rows.as_slice())?.as_str(), "");
+    assert_eq!(rt; first_fault(&rt, rt.alloc(), &TIMES)?, None);
     Ok(())
 }
+
+const SCRIPTS: [Worked; 7] = [
+    Worked {
+        source: b"Pair(1, 9) | (Pair(2, 9) ; 6)",
+        script: b"Pair(1, _) = 5 after 2\nPair(_, _) = halt\n",
+        limit: 100_000,
+        end: End::Halted,
+        outs: Outs::Are(&[6, 5]),
+        entries: None,
+        now: Some(2),
+    },
+    Worked {
+        source: b"A()",
+        script: b"A() = 1\nA() = 2",
+        limit: 100_000,
+        end: End::Halted,
+        outs: Outs::Are(&[1]),
+        entries: None,
+        now: Some(0),
+    },
+    // The first of two answers is taken, and the other call is cancelled.
+    Worked {
+        source: b"x <x< (A() | B())",
+        script: b"A() = 1 after 7\nB() = 2 after 3\n",
+        limit: 100_000,
+        end: End::Halted,
+        outs: Outs::Are(&[2]),
+        entries: None,
+        now: Some(3),
+    },
+    Worked {
+        source: b"Flip() | Flip() | Flip() | Flip()",
+        script: b"Flip() = 1 then halt then 3 after 2",
+        limit: 100_000,
+        end: End::Halted,
+        outs: Outs::Are(&[1, 3, 3]),
+        entries: None,
+        now: Some(2),
+    },
+    Worked {
+        source: b"Try() ; Try() ; Try() ; 0",
+        script: b"Try() = halt then halt then 5",
+        limit: 100_000,
+        end: End::Halted,
+        outs: Outs::Are(&[5]),
+        entries: None,
+        now: Some(0),
+    },
+    // A sequence counts for each list of arguments, not for each line.
+    Worked {
+        source: b"Flip(1) | Flip(2)",
+        script: b"Flip(_) = 1 then 2",
+        limit: 100_000,
+        end: End::Halted,
+        outs: Outs::Are(&[1, 1]),
+        entries: None,
+        now: Some(0),
+    },
+    Worked {
+        source: b"A() | A()",
+        script: b"A() = never then 1",
+        limit: 100_000,
+        end: End::Quiet,
+        outs: Outs::Are(&[1]),
+        entries: None,
+        now: Some(0),
+    },
+];
 
 #[test]
 fn works_by_scripts(rt: HostRuntime) -> Result<(), Fail> {
-    let rows = [
-        Worked {
-            script: "Pair(1, _) = 5 after 2\nPair(_, _) = halt\n",
-            now: 2,
-            ..halts("Pair(1, 9) | (Pair(2, 9) ; 6)", &["6\n5\n"])
-        },
-        Worked {
-            script: "A() = 1\nA() = 2",
-            ..halts("A()", &["1\n"])
-        },
-        Worked {
-            script: "Flip() = 1 then halt then 3 after 2",
-            now: 2,
-            ..halts("Flip() | Flip() | Flip() | Flip()", &["1\n3\n3\n"])
-        },
-        Worked {
-            script: "Try() = halt then halt then 5",
-            ..halts("Try() ; Try() ; Try() ; 0", &["5\n"])
-        },
-        // A sequence counts for each list of arguments, not for each line.
-        Worked {
-            script: "Flip(_) = 1 then 2",
-            ..halts("Flip(1) | Flip(2)", &["1\n1\n"])
-        },
-        Worked {
-            script: "A() = never then 1",
-            ..rests("A() | A()", &["1\n"])
-        },
-    ];
-    assert_eq!(rt; faults_of(&rt, rows.as_slice())?.as_str(), "");
+    assert_eq!(rt; first_fault(&rt, rt.alloc(), &SCRIPTS)?, None);
     Ok(())
 }
+
+const LIMITS: [Worked; 9] = [
+    Worked {
+        source: b"(1 | 2) >x> Add(x, 10)",
+        script: b"",
+        limit: 10,
+        end: End::Halted,
+        outs: Outs::InAnyOrder(&[11, 12]),
+        entries: None,
+        now: Some(0),
+    },
+    Worked {
+        source: b"(1 | 2) >x> Add(x, 10)",
+        script: b"",
+        limit: 9,
+        end: End::Limit,
+        outs: Outs::OneOf(&[11, 12]),
+        entries: Some(9),
+        now: Some(0),
+    },
+    Worked {
+        source: b"(1 | 2) >x> Add(x, 10)",
+        script: b"",
+        limit: 1,
+        end: End::Limit,
+        outs: Outs::Are(&[]),
+        entries: Some(1),
+        now: Some(0),
+    },
+    // As many frames, or groups, as there may be.
+    Worked {
+        source: b"def f() = f() >> 1\nf()",
+        script: b"",
+        limit: 100_000,
+        end: End::Full,
+        outs: Outs::Are(&[]),
+        entries: Some(8_193),
+        now: Some(0),
+    },
+    Worked {
+        source: b"def f() = f() ; 1\nf()",
+        script: b"",
+        limit: 100_000,
+        end: End::Full,
+        outs: Outs::Are(&[]),
+        entries: Some(2_047),
+        now: Some(0),
+    },
+    Worked {
+        source: b"def f() = f()\nf()",
+        script: b"",
+        limit: 500,
+        end: End::Limit,
+        outs: Outs::Are(&[]),
+        entries: Some(500),
+        now: Some(0),
+    },
+    Worked {
+        source: b"def clock() = Rwait(1) >> clock()\nclock()",
+        script: b"",
+        limit: 100,
+        end: End::Limit,
+        outs: Outs::Are(&[]),
+        entries: None,
+        now: None,
+    },
+    Worked {
+        source: b"Never() | 1",
+        script: b"Never() = never\n",
+        limit: 500,
+        end: End::Quiet,
+        outs: Outs::Are(&[1]),
+        entries: None,
+        now: Some(0),
+    },
+    // After the last of five entries only moves of marks are left, or none.
+    Worked {
+        source: b"Never() | (Never() | Never())",
+        script: b"Never() = never\n",
+        limit: 5,
+        end: End::Quiet,
+        outs: Outs::Are(&[]),
+        entries: None,
+        now: Some(0),
+    },
+];
 
 #[test]
 fn works_to_its_limits(rt: HostRuntime) -> Result<(), Fail> {
-    let sum = halts("(1 | 2) >x> Add(x, 10)", &["11\n12\n", "12\n11\n"]);
-    let rows = [
-        Worked { limit: 10, ..sum },
-        Worked {
-            limit: 9,
-            end: End::Limit,
-            entries: Some(9),
-            outs: &["11\n", "12\n"],
-            ..sum
-        },
-        Worked {
-            limit: 1,
-            end: End::Limit,
-            entries: Some(1),
-            outs: &[""],
-            ..sum
-        },
-        // As many frames, or groups, as there may be.
-        ends("def f() = f() >> 1\nf()", 100_000, End::Full, 8_193),
-        ends("def f() = f() ; 1\nf()", 100_000, End::Full, 2_047),
-        ends("def f() = f()\nf()", 500, End::Limit, 500),
-    ];
-    assert_eq!(rt; faults_of(&rt, rows.as_slice())?.as_str(), "");
+    assert_eq!(rt; first_fault(&rt, rt.alloc(), &LIMITS)?, None);
     Ok(())
 }
 
-// A loop without an end is cut by the limit, whatever its turns were.
+// Tokens that loop for ever starve neither the others nor a call, whether it is under way or due.
+const LOOPS: [Worked; 3] = [
+    Worked {
+        source: b"def loop() = loop()\nx <x< (loop() | 1)",
+        script: b"",
+        limit: 10_000_000,
+        end: End::Halted,
+        outs: Outs::Are(&[1]),
+        entries: None,
+        now: Some(0),
+    },
+    Worked {
+        source: b"def loop() = loop()\nx <x< (loop() | Add(0, 1))",
+        script: b"",
+        limit: 10_000_000,
+        end: End::Halted,
+        outs: Outs::Are(&[1]),
+        entries: None,
+        now: Some(0),
+    },
+    Worked {
+        source: b"def loop() = loop()\nx <x< (Rwait(1) >> loop() | Rwait(1) >> 1)",
+        script: b"",
+        limit: 10_000_000,
+        end: End::Halted,
+        outs: Outs::Are(&[1]),
+        entries: None,
+        now: Some(1),
+    },
+];
+
 #[test]
-fn works_a_metronome(rt: HostRuntime) -> Result<(), Fail> {
-    let alloc = rt.alloc();
-    let source = "def m() = signal | Rwait(1) >> m()\nm()";
-    for workers in [1, 2, 4, 16] {
-        let loaded = load(alloc, source.as_bytes(), b"");
-        assert!(rt; loaded.is_ok());
-        if let Ok(loaded) = loaded {
-            let played = play(&rt, alloc, &loaded, &Slow, workers, 50);
-            assert!(rt; played.is_ok());
-            if let Ok(played) = played {
-                assert_eq!(rt; played.summary.end, End::Limit);
-                assert_eq!(rt; played.summary.entries, 50);
-                let text = published(alloc, &played)?;
-                let signals = text.as_slice().len() / 7;
-                assert_eq!(rt; played.summary.published, signals as u64);
-                let row = ends(source, 50, End::Limit, 50);
-                assert!(rt; is_confirmed(alloc, &row, &played));
-            }
-        }
-    }
+fn starves_nothing_on_any_number_of_workers(rt: HostRuntime) -> Result<(), Fail> {
+    assert_eq!(rt; first_fault(&rt, rt.alloc(), &LOOPS)?, None);
     Ok(())
 }
 
 // More races one after another than there may be groups, each with two calls that are dropped.
+const KILLS: [Worked; 1] = [Worked {
+    source: b"def loop(n) = Lt(n, 1100) >b> (Iff(b) >> n | Ift(b) >> (x <x< (n | Never() | Rwait(5))) >> Add(n, 1) >m> loop(m))\nloop(0)",
+    script: b"Never() = never\n",
+    limit: 100_000,
+    end: End::Halted,
+    outs: Outs::Are(&[1100]),
+    entries: None,
+    now: Some(0),
+}];
+
 #[test]
 fn works_a_storm_of_kills(rt: HostRuntime) -> Result<(), Fail> {
-    let row = Worked {
-        script: NEVER,
-        ..halts(
-            "def loop(n) = Lt(n, 1100) >b> (Iff(b) >> n | Ift(b) >> (x <x< (n | Never() | Rwait(5))) >> Add(n, 1) >m> loop(m))\nloop(0)",
-            &["1100\n"],
-        )
-    };
-    assert_eq!(rt; faults_of(&rt, &[row])?.as_str(), "");
+    assert_eq!(rt; first_fault(&rt, rt.alloc(), &KILLS)?, None);
     Ok(())
 }
 
 // Nearly as many groups as there may be stand for good, and others come and go beside them.
+const STANDING: [Worked; 1] = [Worked {
+    source: b"def idle(n) = Lt(0, n) >b> Ift(b) >> ((x <x< Never()) | Sub(n, 1) >m> idle(m))\ndef loop(n) = Lt(n, 100) >b> (Iff(b) >> n | Ift(b) >> (x <x< (Add(n, 0) | Never())) >> Add(n, 1) >m> loop(m))\nidle(1020) | loop(0)",
+    script: b"Never() = never\n",
+    limit: 100_000,
+    end: End::Quiet,
+    outs: Outs::Are(&[100]),
+    entries: None,
+    now: Some(0),
+}];
+
 #[test]
 fn works_beside_groups_that_stand(rt: HostRuntime) -> Result<(), Fail> {
-    let row = rests(
-        "def idle(n) = Lt(0, n) >b> Ift(b) >> ((x <x< Never()) | Sub(n, 1) >m> idle(m))
-def loop(n) = Lt(n, 100) >b> (Iff(b) >> n | Ift(b) >> (x <x< (Add(n, 0) | Never())) >> Add(n, 1) >m> loop(m))
-idle(1020) | loop(0)",
-        &["100\n"],
-    );
-    assert_eq!(rt; faults_of(&rt, &[row])?.as_str(), "");
+    assert_eq!(rt; first_fault(&rt, rt.alloc(), &STANDING)?, None);
     Ok(())
+}
+
+// Whether a loop without an end, which publishes a signal in each round, is cut by the limit, whatever its turns were.
+fn is_cut<R: Threads + Wait + Sync>(rt: &R, alloc: Global, workers: usize) -> bool {
+    let source = b"def m() = signal | Rwait(1) >> m()\nm()";
+    let Ok(loaded) = load(alloc, source, b"") else {
+        return false;
+    };
+    let Ok(played) = play(rt, alloc, &loaded, &Slow, workers, 50) else {
+        return false;
+    };
+    for value in &played.published {
+        if *value != Value::Signal {
+            return false;
+        }
+    }
+    played.summary.end == End::Limit
+        && played.summary.entries == 50
+        && played.summary.published == played.published.len() as u64
+        && is_confirmed(alloc, source, b"", &played)
+}
+
+#[test]
+fn works_a_metronome(rt: HostRuntime) {
+    for workers in [1, 2, 4, 16] {
+        assert!(rt; is_cut(&rt, rt.alloc(), workers), "on {workers}");
+    }
 }

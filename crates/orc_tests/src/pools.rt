@@ -1,14 +1,14 @@
-//! Runs on several workers: what they publish and how they end, whatever gate and sites stand round them.
+//! Runs on several workers: what they publish and how they end, whatever gate and sites stand round them, and that they do what the reference does.
 
-use crate::gates::{Held, Slow, Turnstile};
-use crate::runs::ORDERED;
-use orc_journal_text::write_journal;
+use crate::gates::{Slow, Turnstile, Twist, Twisted};
+use orc_engine::run_alone;
 use orc_load::{Loaded, load};
+use orc_orders::survey;
 use orc_outcome::{End, Played};
 use orc_reference::play as play_plainly;
 use orc_rules::entry::State;
 use orc_rules::value::Value;
-use orc_site::{Gate, Open, Scripted, read_script};
+use orc_site::{Gate, Open, Scripted};
 use orc_verdict::check_journal;
 use orc_workers::{EngineFault, run_pool};
 use std::alloc::Global;
@@ -50,25 +50,14 @@ fn times(value: &Value, values: &[Value]) -> u64 {
     times
 }
 
-/// Whether these are the same values, in any order.
-pub(crate) fn are_same(some: &[Value], others: &[Value]) -> bool {
+// Whether these are the same values, in any order.
+fn are_same(some: &[Value], others: &[Value]) -> bool {
     for value in some {
         if times(value, some) != times(value, others) {
             return false;
         }
     }
     some.len() == others.len()
-}
-
-/// The text of a run's journal; empty where none is kept.
-pub(crate) fn text_of(alloc: Global, script: &[u8], played: &Played) -> Vec<u8> {
-    let mut text = Vec::new(alloc);
-    if let Some(journal) = &played.journal {
-        if let Ok(answers) = read_script(alloc, script) {
-            let _written = write_journal(journal, &answers, &mut text);
-        }
-    }
-    text
 }
 
 /// Where a run's journal has brought the program, if the check accepts it.
@@ -116,230 +105,178 @@ fn end_of<R: Threads + Wait + Sync, G: Gate + Sync>(
     }
 }
 
-#[test]
-fn publishes_the_same_on_any_number_of_workers(rt: HostRuntime) -> Result<(), Fail> {
-    let alloc = rt.alloc();
-    let rows: [(&[u8], &[u8], &[Value]); 9] = [
-        (b"1 >x> Add(x, 10)", b"", &[Value::Number(11)]),
-        // The first of two answers is taken, and the other call is cancelled.
-        (
-            b"x <x< (A() | B())",
-            b"A() = 1 after 7\nB() = 2 after 3\n",
-            &[Value::Number(2)],
-        ),
-        (b"(Ift(false) >> 1) ; 2", b"", &[Value::Number(2)]),
-        (b"(Add(x, 1) <x< Ift(false)) ; 3", b"", &[Value::Number(3)]),
-        (
-            b"def f(a, b) = Add(a, b)\nf(2, 3) >y> Add(y, y)",
-            b"",
-            &[Value::Number(10)],
-        ),
-        (b"Rwait(5) >> 1", b"", &[Value::Number(1)]),
-        (
-            b"(1 | 2) >x> (10 | 20) >y> Add(x, y)",
-            b"",
-            &[
-                Value::Number(11),
-                Value::Number(21),
-                Value::Number(12),
-                Value::Number(22),
-            ],
-        ),
-        // Several calls are due at one time.
-        (
-            b"(Rwait(2) | Rwait(2) | Rwait(2) | Rwait(1)) >> Add(1, 1)",
-            b"",
-            &[
-                Value::Number(2),
-                Value::Number(2),
-                Value::Number(2),
-                Value::Number(2),
-            ],
-        ),
-        (
-            b"def f(n) = Ift(b) >> Add(n, -1) >m> (f(m) | n) <b< Lt(0, n)\nf(5)",
-            b"",
-            &[
-                Value::Number(1),
-                Value::Number(2),
-                Value::Number(3),
-                Value::Number(4),
-                Value::Number(5),
-            ],
-        ),
-    ];
-    for row in rows {
-        for workers in [1, 2, 4, 16] {
-            let source = row.0;
-            let open = end_of(&rt, alloc, row, &Open, workers, 1000);
-            assert_eq!(rt; open, Some(End::Halted), "at {source:?} on {workers}");
-            let slow = end_of(&rt, alloc, row, &Slow, workers, 1000);
-            assert_eq!(rt; slow, Some(End::Halted), "at {source:?} on {workers}");
+// Programs whose publications don't hang on the order of what is free, with their scripts.
+const ORDERED: [(&[u8], &[u8]); 8] = [
+    (b"1 | (2 | 3) >x> Add(x, 10)", b""),
+    (
+        b"def tree(n) = Lt(0, n) >b> (Iff(b) >> n | Ift(b) >> Sub(n, 1) >m> (tree(m) | tree(m)))\ntree(6)",
+        b"",
+    ),
+    (
+        b"(A() | B()) >x> (y <y< (A() | Rwait(x) >> B()))",
+        b"A() = 1 after 7\nB() = 20 after 3\n",
+    ),
+    (
+        b"def retry(n) = A(n) ; Lt(n, 3) >b> Ift(b) >> Rwait(2) >> Add(n, 1) >m> retry(m)\nretry(0)",
+        b"A(2) = 5 after 1\nA(_) = halt after 4\n",
+    ),
+    (
+        b"def clock(n) = Lt(0, n) >b> Ift(b) >> (n | Rwait(3) >> Sub(n, 1) >m> clock(m))\nclock(9)",
+        b"",
+    ),
+    (
+        b"(Add(x, y) <x< (A() ; 3)) <y< Rwait(4) >> 2",
+        b"A() = halt after 9\n",
+    ),
+    (
+        b"(Add(x, 1) <x< stop) ; ((x <x< Never()) | 4)",
+        b"Never() = never\n",
+    ),
+    (
+        b"val a = A()\nval b = B()\nIf(Eq(a, b)) >> 1 ; Add(a, b)",
+        b"A() = 1 after 2\nA() = 9\nB() = 1 after 8\nIf(true) = signal\nIf(false) = halt\n",
+    ),
+];
+
+// Whether the engine that moves tokens over a graph publishes on one worker what the reference does, and ends so, at the same time at last.
+fn is_as_alone(alloc: Global, loaded: &Loaded, reference: &Played) -> bool {
+    match run_alone(alloc, &loaded.program, &loaded.answers, None, false, 10_000) {
+        Ok(played) => {
+            are_same(reference.published.as_slice(), played.published.as_slice())
+                && played.summary.end == reference.summary.end
+                && played.summary.now == reference.summary.now
         }
+        Err(_) => false,
     }
-    Ok(())
 }
 
-// The reference engine publishes the same values and ends so, at the same time.
-#[test]
-fn publishes_what_the_reference_does_on_any_number_of_workers(rt: HostRuntime) -> Result<(), Fail> {
-    let alloc = rt.alloc();
-    for (source, script) in ORDERED {
-        let loaded = load(alloc, source, script);
-        assert!(rt; loaded.is_ok(), "at {source:?}");
-        let Ok(loaded) = loaded else {
-            continue;
-        };
-        let reference = play_plainly(alloc, &loaded.program, &loaded.answers, 10_000);
-        assert!(rt; reference.is_ok(), "at {source:?}");
-        let Ok(reference) = reference else {
-            continue;
-        };
-        for workers in [1, 2, 4, 16] {
-            let row = (source, script, reference.published.as_slice());
-            let end = end_of(&rt, alloc, row, &Slow, workers, 10_000);
-            assert_eq!(rt;
-                end,
-                Some(reference.summary.end),
-                "at {source:?} on {workers}"
-            );
-        }
-    }
-    Ok(())
-}
-
-// Tokens that loop for ever starve neither the others nor a call, whether it is under way or due.
-#[test]
-fn starves_nothing_on_any_number_of_workers(rt: HostRuntime) -> Result<(), Fail> {
-    let alloc = rt.alloc();
-    let sources: [&[u8]; 3] = [
-        b"def loop() = loop()\nx <x< (loop() | 1)",
-        b"def loop() = loop()\nx <x< (loop() | Add(0, 1))",
-        b"def loop() = loop()\nx <x< (Rwait(1) >> loop() | Rwait(1) >> 1)",
-    ];
-    for source in sources {
-        for workers in [1, 2, 4, 16] {
-            let row: (&[u8], &[u8], &[Value]) = (source, b"", &[Value::Number(1)]);
-            let open = end_of(&rt, alloc, row, &Open, workers, 10_000_000);
-            assert_eq!(rt; open, Some(End::Halted), "at {source:?} on {workers}");
-            let slow = end_of(&rt, alloc, row, &Slow, workers, 10_000_000);
-            assert_eq!(rt; slow, Some(End::Halted), "at {source:?} on {workers}");
-        }
-    }
-    Ok(())
-}
-
-#[test]
-fn ends_as_the_rules_say_on_any_number_of_workers(rt: HostRuntime) -> Result<(), Fail> {
-    let alloc = rt.alloc();
-    let rows: [(&[u8], &[u8], &[Value], u64, End); 6] = [
-        (b"def f() = f() >> 1\nf()", b"", &[], 100_000, End::Full),
-        (b"def f() = f() ; 1\nf()", b"", &[], 100_000, End::Full),
-        (b"def f() = f()\nf()", b"", &[], 500, End::Limit),
-        (
-            b"Never() | 1",
-            b"Never() = never\n",
-            &[Value::Number(1)],
-            500,
-            End::Quiet,
-        ),
-        // After the last of five entries only moves of marks are left, or none.
-        (
-            b"Never() | (Never() | Never())",
-            b"Never() = never\n",
-            &[],
-            5,
-            End::Quiet,
-        ),
-        (
-            b"def clock() = Rwait(1) >> clock()\nclock()",
-            b"",
-            &[],
-            100,
-            End::Limit,
-        ),
-    ];
-    for (source, script, values, limit, end) in rows {
-        for workers in [1, 2, 4, 16] {
-            let row = (source, script, values);
-            let open = end_of(&rt, alloc, row, &Open, workers, limit);
-            assert_eq!(rt; open, Some(end), "at {source:?} on {workers}");
-            let slow = end_of(&rt, alloc, row, &Slow, workers, limit);
-            assert_eq!(rt; slow, Some(end), "at {source:?} on {workers}");
-        }
-    }
-    Ok(())
-}
-
-// Whether a run with a gate that holds its calls halts and publishes these values, and no call was held in vain.
-fn passes<R: Threads + Wait + Sync>(
+// Whether runs on one worker and on several do what the reference does.
+fn do_as_the_reference<R: Threads + Wait + Sync>(
     rt: &R,
     alloc: Global,
     source: &[u8],
-    values: &[Value],
-    gate: &Turnstile,
-    workers: usize,
-) -> bool {
-    let end = end_of(rt, alloc, (source, b"", values), gate, workers, 1000);
-    end == Some(End::Halted) && gate.held_all()
+    script: &[u8],
+) -> Option<bool> {
+    let loaded = load(alloc, source, script).ok()?;
+    let reference = play_plainly(alloc, &loaded.program, &loaded.answers, 10_000).ok()?;
+    let row = (source, script, reference.published.as_slice());
+    for workers in [1, 2, 4, 16] {
+        if end_of(rt, alloc, row, &Slow, workers, 10_000) != Some(reference.summary.end) {
+            return Some(false);
+        }
+    }
+    Some(is_as_alone(alloc, &loaded, &reference))
 }
 
 #[test]
-fn each_worker_makes_calls_while_others_are_held(rt: HostRuntime) -> Result<(), Fail> {
-    let alloc = rt.alloc();
-    let two: &[Value] = &[Value::Number(3), Value::Number(7)];
+fn publishes_what_the_reference_does_on_any_number_of_workers(rt: HostRuntime) {
+    for (source, script) in ORDERED.iter() {
+        let are_same = do_as_the_reference(&rt, rt.alloc(), source, script);
+        assert!(rt; are_same == Some(true), "{source:?}");
+    }
+}
+
+// A program, the numbers that it publishes, a gate that holds the numbers from the first to the last until so many were entered, and the workers.
+type HeldRow = (&'static [u8], &'static [Value], [u64; 3], usize);
+
+const TWO: &[Value] = &[Value::Number(2)];
+
+const FOUR: &[Value] = &[
+    Value::Number(3),
+    Value::Number(7),
+    Value::Number(11),
+    Value::Number(15),
+];
+
+const HELD: [HeldRow; 11] = [
     // The first call is held until another one was made.
-    let gate = Turnstile::new(1, 2, 2);
-    assert!(rt; passes(&rt, alloc, b"Add(1, 2) | Add(3, 4)", two, &gate, 2));
-    let four: &[Value] = &[
-        Value::Number(3),
-        Value::Number(7),
-        Value::Number(11),
-        Value::Number(15),
-    ];
-    let sources: [&[u8]; 3] = [
+    (
+        b"Add(1, 2) | Add(3, 4)",
+        &[Value::Number(3), Value::Number(7)],
+        [1, 2, 2],
+        2,
+    ),
+    (
         b"Add(1, 2) | Add(3, 4) | Add(5, 6) | Add(7, 8)",
+        FOUR,
+        [1, 4, 4],
+        4,
+    ),
+    (
+        b"Add(1, 2) | Add(3, 4) | Add(5, 6) | Add(7, 8)",
+        FOUR,
+        [1, 4, 4],
+        16,
+    ),
+    (
         b"Add(1, 2) | (Add(3, 4) | (Add(5, 6) | Add(7, 8)))",
+        FOUR,
+        [1, 4, 4],
+        4,
+    ),
+    (
+        b"Add(1, 2) | (Add(3, 4) | (Add(5, 6) | Add(7, 8)))",
+        FOUR,
+        [1, 4, 4],
+        16,
+    ),
+    (
         b"(Add(1, 2) | Add(3, 4)) | (Add(5, 6) | Add(7, 8))",
-    ];
-    for source in sources {
-        let gate = Turnstile::new(1, 4, 4);
-        assert!(rt; passes(&rt, alloc, source, four, &gate, 4), "at {source:?}");
-        let gate = Turnstile::new(1, 4, 4);
-        assert!(rt;
-            passes(&rt, alloc, source, four, &gate, 16),
-            "at {source:?}"
-        );
-    }
+        FOUR,
+        [1, 4, 4],
+        4,
+    ),
+    (
+        b"(Add(1, 2) | Add(3, 4)) | (Add(5, 6) | Add(7, 8))",
+        FOUR,
+        [1, 4, 4],
+        16,
+    ),
     // All are due at one time, and each is held until all were polled again and their answers were taken.
-    let gate = Turnstile::new(5, 8, 8);
-    let signals: &[u8] = b"(Rwait(3) | Rwait(3) | Rwait(3) | Rwait(3)) >> Add(1, 1)";
-    let twos: &[Value] = &[
-        Value::Number(2),
-        Value::Number(2),
-        Value::Number(2),
-        Value::Number(2),
-    ];
-    assert!(rt; passes(&rt, alloc, signals, twos, &gate, 4));
+    (
+        b"(Rwait(3) | Rwait(3) | Rwait(3) | Rwait(3)) >> Add(1, 1)",
+        &[
+            Value::Number(2),
+            Value::Number(2),
+            Value::Number(2),
+            Value::Number(2),
+        ],
+        [5, 8, 8],
+        4,
+    ),
     // The right side of an otherwise starts while another call is held.
-    let gate = Turnstile::new(2, 3, 3);
-    let otherwise: &[u8] = b"(Ift(false) ; Add(1, 1)) | Add(2, 2)";
-    let sums: &[Value] = &[Value::Number(2), Value::Number(4)];
-    assert!(rt; passes(&rt, alloc, otherwise, sums, &gate, 2));
+    (
+        b"(Ift(false) ; Add(1, 1)) | Add(2, 2)",
+        &[Value::Number(2), Value::Number(4)],
+        [2, 3, 3],
+        2,
+    ),
     // Time passes while a call is held that is due later, or at the same time as the one that is waited for.
-    let added: &[Value] = &[Value::Number(2)];
-    let sources: [&[u8]; 2] = [
+    (
         b"Rwait(5) >> stop | Rwait(1) >> Add(1, 1)",
+        TWO,
+        [1, 1, 3],
+        2,
+    ),
+    (
         b"Rwait(1) >> stop | Rwait(1) >> Add(1, 1)",
-    ];
-    for source in sources {
-        let gate = Turnstile::new(1, 1, 3);
+        TWO,
+        [1, 1, 3],
+        2,
+    ),
+];
+
+#[test]
+fn each_worker_makes_calls_while_others_are_held(rt: HostRuntime) {
+    for (source, values, [first, last, wanted], workers) in HELD.iter() {
+        let gate = Turnstile::new(*first, *last, *wanted);
+        let row: (&[u8], &[u8], &[Value]) = (source, b"", values);
+        let end = end_of(&rt, rt.alloc(), row, &gate, *workers, 1000);
         assert!(rt;
-            passes(&rt, alloc, source, added, &gate, 2),
-            "at {source:?}"
+            end == Some(End::Halted) && gate.held_all(),
+            "{source:?} on {workers}: {end:?}"
         );
     }
-    Ok(())
 }
 
 // How many values a program publishes on so many workers, by sites of which each call is held until all are called. None where a call was held in
@@ -353,9 +290,9 @@ fn published_when_held<R: Threads + Wait + Sync>(
     let loaded = load(alloc, source, b"").ok()?;
     let calls = workers as u64;
     let gate = Turnstile::new(1, calls, calls);
-    let sites = Held {
+    let sites = Twisted {
         scripted: Scripted::new(&loaded.answers),
-        gate: &gate,
+        twist: Twist::Held(&gate),
     };
     let (program, answers) = (&loaded.program, &loaded.answers);
     let played = run_pool(
@@ -369,50 +306,67 @@ fn published_when_held<R: Threads + Wait + Sync>(
     }
 }
 
+// Programs that make as many calls as there are workers, the last one as many as there may be.
+const CALLS: [(&[u8], usize); 3] = [
+    (b"Add(1, 2) | Add(3, 4)", 2),
+    (b"Add(1, 2) | Add(3, 4) | (Add(5, 6) | Add(7, 8))", 4),
+    (
+        b"def four(n) = Add(n, 1) | Add(n, 2) | (Add(n, 3) | Add(n, 4))\nfour(0) | four(4) | (four(8) | four(12))",
+        16,
+    ),
+];
+
 #[test]
-fn sites_may_hold_their_calls(rt: HostRuntime) -> Result<(), Fail> {
-    let alloc = rt.alloc();
-    let two = b"Add(1, 2) | Add(3, 4)";
-    assert_eq!(rt; published_when_held(&rt, alloc, two, 2), Some(2));
-    let four = b"Add(1, 2) | Add(3, 4) | (Add(5, 6) | Add(7, 8))";
-    assert_eq!(rt; published_when_held(&rt, alloc, four, 4), Some(4));
-    // As many as there may be workers, each with a call of its own.
-    let sixteen =
-        b"def four(n) = Add(n, 1) | Add(n, 2) | (Add(n, 3) | Add(n, 4))\nfour(0) | four(4) | (four(8) | four(12))";
-    assert_eq!(rt; published_when_held(&rt, alloc, sixteen, 16), Some(16));
-    Ok(())
+fn sites_may_hold_their_calls(rt: HostRuntime) {
+    for (source, calls) in CALLS.iter() {
+        let published = published_when_held(&rt, rt.alloc(), source, *calls);
+        assert!(rt;
+            published == Some(*calls as u64),
+            "{source:?}: {published:?}"
+        );
+    }
 }
 
 // One worker waits in vain for another call, and goes on when the gate gives up.
 #[test]
-fn one_worker_holds_one_call(rt: HostRuntime) -> Result<(), Fail> {
-    let alloc = rt.alloc();
+fn one_worker_holds_one_call(rt: HostRuntime) {
     let gate = Turnstile::that_looks(1, 2, 2, 1000);
     let row: (&[u8], &[u8], &[Value]) = (
         b"Add(1, 2) | Add(3, 4)",
         b"",
         &[Value::Number(3), Value::Number(7)],
     );
-    let end = end_of(&rt, alloc, row, &gate, 1, 1000);
-    assert_eq!(rt; end, Some(End::Halted));
-    assert!(rt; !gate.held_all());
-    Ok(())
+    let end = end_of(&rt, rt.alloc(), row, &gate, 1, 1000);
+    assert!(rt; end == Some(End::Halted) && !gate.held_all(), "{end:?}");
 }
 
+// Numbers of workers and limits, of which one is out of range.
+const OUT_OF_RANGE: [(usize, u64); 5] = [
+    (0, 10),
+    (17, 10),
+    (1, 0),
+    (1, 10_000_001),
+    (16, 10_000_001),
+];
+
 #[test]
-fn refuses_workers_and_limits_out_of_range(rt: HostRuntime) -> Result<(), Fail> {
+fn refuses_workers_and_limits_out_of_range(rt: HostRuntime) {
     let alloc = rt.alloc();
-    let loaded = load(alloc, b"1", b"");
-    assert!(rt; loaded.is_ok());
-    if let Ok(loaded) = loaded {
-        for (workers, limit) in [(0, 10), (17, 10), (1, 0), (16, 10_000_001)] {
-            let played = play(&rt, alloc, &loaded, &Open, workers, limit);
-            assert_eq!(rt; played.err(), Some(EngineFault::Range));
-        }
-        for (workers, limit) in [(1, 1), (16, 10_000_000)] {
-            let played = play(&rt, alloc, &loaded, &Slow, workers, limit);
-            assert!(rt; played.is_ok());
-        }
+    let loaded = load(alloc, b"1", b"").ok().expect(&rt, "a program");
+    let (program, answers) = (&loaded.program, &loaded.answers);
+    for (workers, limit) in OUT_OF_RANGE.iter() {
+        let played = play(&rt, alloc, &loaded, &Open, *workers, *limit).err();
+        let seen = survey(&rt, alloc, program, answers, *workers, 3, *limit).err();
+        assert!(rt;
+            played == Some(EngineFault::Range) && seen == Some(EngineFault::Range),
+            "{workers} {limit}: {played:?} {seen:?}"
+        );
     }
-    Ok(())
+    for limit in [0, 10_000_001] {
+        let alone = run_alone(alloc, program, answers, None, false, limit).err();
+        assert!(rt; alone == Some(EngineFault::Range), "{limit}: {alone:?}");
+    }
+    for (workers, limit) in [(1, 1), (16, 10_000_000)] {
+        assert!(rt; play(&rt, alloc, &loaded, &Slow, workers, limit).is_ok());
+    }
 }

@@ -1,10 +1,22 @@
 //! Entries that a journal is given without an `Entry` made of them, alone or with all those of a part.
 
 use orc_journal::{Journal, Version};
+use orc_journal_text::write_journal;
 use orc_rules::entry::Entry;
 use orc_rules::value::Value;
+use orc_site::read_script;
 use orc_subrun::Numbering;
+use std::alloc::{AllocError, Global};
 use std::test::Fail;
+
+// The text of a journal. Site 3 is `Lt` in it, site 6 `Rwait`, and site 7 `A`.
+fn text_of(alloc: Global, journal: &Journal) -> Result<Vec<u8>, AllocError> {
+    let mut text = Vec::new(alloc);
+    if let Ok(answers) = read_script(alloc, b"A(_, _) = 1\n") {
+        write_journal(journal, &answers, &mut text)?;
+    }
+    Ok(text)
+}
 
 #[test]
 fn keeps_what_is_pushed(rt: HostRuntime) -> Result<(), Fail> {
@@ -16,68 +28,43 @@ fn keeps_what_is_pushed(rt: HostRuntime) -> Result<(), Fail> {
     // The second call has a number of over 32 bits.
     journal.push_bind(6, 1, Value::Signal, &[3, 4_294_967_296])?;
     journal.push_publish(7, Value::Number(8))?;
-    assert_eq!(rt; journal.len(), 7);
-    let call = journal.get(0);
-    assert!(rt; matches!(&call, Some(Entry::Call(1, 2, 3, _))));
-    if let Some(Entry::Call(_, _, _, args)) = &call {
-        assert_eq!(rt;
-            args.as_slice(),
-            [Value::Number(-1), Value::Signal].as_slice()
-        );
-    }
-    let answer = journal.get(1);
-    assert!(rt; matches!(&answer, Some(Entry::Return(2, 5, Value::Number(-9)))));
-    let send = journal.get(2);
-    assert!(rt; matches!(&send, Some(Entry::Send(5, 6, Value::Truth(true)))));
-    let bind = journal.get(3);
-    assert!(rt; matches!(&bind, Some(Entry::Bind(6, 1, Value::Signal))));
-    let cancel = journal.get(4);
-    assert!(rt; matches!(&cancel, Some(Entry::Cancel(3))));
-    let last_cancel = journal.get(5);
-    assert!(rt; matches!(&last_cancel, Some(Entry::Cancel(4_294_967_296))));
-    let publication = journal.get(6);
-    assert!(rt; matches!(&publication, Some(Entry::Publish(7, Value::Number(8)))));
+    let text = text_of(rt.alloc(), &journal)?;
+    let wanted =
+        b"orc-journal 2\ncall 1 2 Lt(-1, signal)\nreturn 2 5 -9\nsend 5 6 true\nbind 6 1 signal\ncancel 3\ncancel 4294967296\npublish 7 8\n";
+    assert!(rt; text.as_slice() == wanted.as_slice(), "{text:?}");
     Ok(())
+}
+
+// The text of a journal to which a part was appended, whose own marks come after this one.
+fn appended(alloc: Global, mark: u64) -> Result<Vec<u8>, AllocError> {
+    let mut part = Journal::new(alloc, Version::Two);
+    part.push_call(1, 1, 7, &[Value::Number(4), Value::Signal])?;
+    part.push_return(1, 2, Value::Number(5))?;
+    part.push_publish(2, Value::Number(5))?;
+    let mut journal = Journal::new(alloc, Version::Two);
+    journal.push(&Entry::Fork(1, 2, 3))?;
+    journal.push_call(2, 1, 6, &[Value::Truth(false)])?;
+    let numbering = Numbering {
+        token: 3,
+        mark,
+        calls: 1,
+        cells: 0,
+    };
+    journal.append(&part, numbering)?;
+    text_of(alloc, &journal)
 }
 
 // The first mark of a part's own run is the token's; its other marks and its calls are numbered behind those of the journal. The second numbers have over
 // 32 bits.
 #[test]
 fn appends_a_part_under_its_numbers(rt: HostRuntime) -> Result<(), Fail> {
-    let alloc = rt.alloc();
-    let mut part = Journal::new(alloc, Version::Two);
-    part.push_call(1, 1, 7, &[Value::Number(4), Value::Signal])?;
-    part.push_return(1, 2, Value::Number(5))?;
-    part.push_publish(2, Value::Number(5))?;
-    for mark in [4, 5_000_000_000_u64] {
-        let mut journal = Journal::new(alloc, Version::Two);
-        journal.push(&Entry::Fork(1, 2, 3))?;
-        journal.push_call(2, 1, 6, &[Value::Truth(false)])?;
-        journal.append(
-            &part,
-            Numbering {
-                token: 3,
-                mark,
-                calls: 1,
-                cells: 0,
-            },
-        )?;
-        assert_eq!(rt; journal.len(), 5);
-        assert!(rt; matches!(&journal.get(1), Some(Entry::Call(2, 1, 6, _))));
-        let call = journal.get(2);
-        assert!(rt; matches!(&call, Some(Entry::Call(3, 2, 7, _))));
-        if let Some(Entry::Call(_, _, _, args)) = &call {
-            assert_eq!(rt;
-                args.as_slice(),
-                [Value::Number(4), Value::Signal].as_slice()
-            );
-        }
-        let answer = journal.get(3);
-        assert!(rt; matches!(&answer, Some(Entry::Return(2, at, Value::Number(5))) if *at == mark));
-        let publication = journal.get(4);
-        assert!(rt;
-            matches!(&publication, Some(Entry::Publish(at, Value::Number(5))) if *at == mark)
-        );
-    }
+    let small = appended(rt.alloc(), 4)?;
+    let wanted =
+        b"orc-journal 2\nfork 1 2 3\ncall 2 1 Rwait(false)\ncall 3 2 A(4, signal)\nreturn 2 4 5\npublish 4 5\n";
+    assert!(rt; small.as_slice() == wanted.as_slice(), "{small:?}");
+    let large = appended(rt.alloc(), 5_000_000_000)?;
+    let wanted =
+        b"orc-journal 2\nfork 1 2 3\ncall 2 1 Rwait(false)\ncall 3 2 A(4, signal)\nreturn 2 5000000000 5\npublish 5000000000 5\n";
+    assert!(rt; large.as_slice() == wanted.as_slice(), "{large:?}");
     Ok(())
 }

@@ -5,39 +5,18 @@ use orc_rules::param::Operand;
 use orc_rules::program::{Program, TermNode};
 use orc_rules::value::Value;
 use orc_scope::{FaultKind, ScopeFault, check};
-use orc_syntax::{SyntaxFault, parse};
+use orc_syntax::parse;
 use std::alloc::{AllocError, Global};
 use std::test::Fail;
 
-// What the check of a source says.
-#[derive(Clone, Copy, Debug, PartialEq, Eq)]
-enum Answer {
-    Unread(SyntaxFault),
-    Fault(ScopeFault),
-    Fine,
-}
-
-fn answer_of(alloc: Global, source: &[u8]) -> Answer {
-    let ast = match parse(alloc, source) {
-        Ok(ast) => ast,
-        Err(fault) => return Answer::Unread(fault),
-    };
-    match check(alloc, &ast, &[b"Add".as_slice(), b"Rwait".as_slice()]) {
-        Ok(_) => Answer::Fine,
-        Err(fault) => Answer::Fault(fault),
-    }
-}
-
-fn fault(kind: FaultKind, start: usize, end: usize) -> Answer {
-    Answer::Fault(ScopeFault {
-        kind,
-        span: Span { start, end },
-    })
+// What the check of a source says; a fault of the text is that of none.
+fn checked(alloc: Global, source: &[u8]) -> Option<Result<Program, ScopeFault>> {
+    let ast = parse(alloc, source).ok()?;
+    Some(check(alloc, &ast, &[b"Add".as_slice(), b"Rwait".as_slice()]))
 }
 
 fn program(alloc: Global, source: &[u8]) -> Option<Program> {
-    let ast = parse(alloc, source).ok()?;
-    check(alloc, &ast, &[b"Add".as_slice(), b"Rwait".as_slice()]).ok()
+    checked(alloc, source)?.ok()
 }
 
 // Adds `1|1|..|1` with so many operators: twice as many nodes and one.
@@ -68,72 +47,67 @@ fn eight_definitions(alloc: Global) -> Result<Vec<u8>, AllocError> {
 fn takes_65535_nodes(rt: HostRuntime) -> Result<(), Fail> {
     let mut most = eight_definitions(rt.alloc())?;
     add_parallel(&mut most, 763)?;
-    assert_eq!(rt; answer_of(rt.alloc(), &most), Answer::Fine);
+    assert!(rt; program(rt.alloc(), &most).is_some());
     let mut more = eight_definitions(rt.alloc())?;
     more.extend_from_slice(b"def i() = 1\n(")?;
     let start = more.len();
     add_parallel(&mut more, 763)?;
     let end = more.len();
     more.extend_from_slice(b")")?;
-    assert_eq!(rt;
-        answer_of(rt.alloc(), &more),
-        fault(FaultKind::TooMany, start, end)
-    );
+    let fault = ScopeFault {
+        kind: FaultKind::TooMany,
+        span: Span { start, end },
+    };
+    let answer = checked(rt.alloc(), &more);
+    assert!(rt; matches!(&answer, Some(Err(found)) if *found == fault));
     Ok(())
 }
 
 // `Add(Add(1, 2), 4)` is `Add(n, 4) <n< Add(1, 2)` for a new n.
-#[test]
-fn writes_out_arguments(rt: HostRuntime) -> Result<(), Fail> {
-    let Some(program) = program(rt.alloc(), b"Add(Add(1, 2), 4)") else {
-        assert!(rt; false);
-        return Ok(());
-    };
+fn has_arguments(program: &Program) -> bool {
     let TermNode::Prune(left, new, right) = program.node(program.source()) else {
-        assert!(rt; false);
-        return Ok(());
+        return false;
     };
     let (TermNode::Site(0, outer), TermNode::Site(0, inner)) = (
         program.node(left),
         program.node(right),
     ) else {
-        assert!(rt; false);
-        return Ok(());
+        return false;
     };
-    assert_eq!(rt;
-        program.operands(outer),
-        [Operand::Name(new), Operand::Is(Value::Number(4))].as_slice()
-    );
-    assert_eq!(rt;
-        program.operands(inner),
-        [Operand::Is(Value::Number(1)), Operand::Is(Value::Number(2))].as_slice()
-    );
-    Ok(())
+    let sum = [Operand::Name(new), Operand::Is(Value::Number(4))];
+    let parts = [Operand::Is(Value::Number(1)), Operand::Is(Value::Number(2))];
+    program.operands(outer) == sum.as_slice() && program.operands(inner) == parts.as_slice()
+}
+
+#[test]
+fn writes_out_arguments(rt: HostRuntime) {
+    let program = program(rt.alloc(), b"Add(Add(1, 2), 4)").expect(&rt, "a program");
+    assert!(rt; has_arguments(&program));
 }
 
 // `val x = 1 x` is `x <x< 1`; the parameter hides the definition of its name.
-#[test]
-fn writes_out_val(rt: HostRuntime) -> Result<(), Fail> {
-    let Some(program) = program(rt.alloc(), b"def f(f) = f\nval x = f(1) x") else {
-        assert!(rt; false);
-        return Ok(());
-    };
+fn has_val(program: &Program) -> bool {
     let TermNode::Prune(left, x, right) = program.node(program.source()) else {
-        assert!(rt; false);
-        return Ok(());
+        return false;
     };
-    assert!(rt; matches!(program.node(left), TermNode::Operand(Operand::Name(y)) if y == x));
-    assert!(rt; matches!(program.node(right), TermNode::Call(0, _)));
-    let [definition] = program.definitions() else {
-        assert!(rt; false);
-        return Ok(());
+    let ([definition], TermNode::Operand(Operand::Name(main)), TermNode::Call(0, _)) = (
+        program.definitions(),
+        program.node(left),
+        program.node(right),
+    ) else {
+        return false;
     };
-    let [parameter] = definition.params.as_slice() else {
-        assert!(rt; false);
-        return Ok(());
+    let ([parameter], TermNode::Operand(Operand::Name(body))) = (
+        definition.params.as_slice(),
+        program.node(definition.body),
+    ) else {
+        return false;
     };
-    assert!(rt;
-        matches!(program.node(definition.body), TermNode::Operand(Operand::Name(y)) if y == *parameter)
-    );
-    Ok(())
+    main == x && body == *parameter
+}
+
+#[test]
+fn writes_out_val(rt: HostRuntime) {
+    let program = program(rt.alloc(), b"def f(f) = f\nval x = f(1) x").expect(&rt, "a program");
+    assert!(rt; has_val(&program));
 }

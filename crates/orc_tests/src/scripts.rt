@@ -10,8 +10,12 @@ const SCRIPTS: usize = 60;
 
 const CALLS: usize = 200;
 
-// What stands at a place of a line: one of few numbers, or None for `_`.
-type Line = [Option<i64>; 3];
+// What stands at the places of a line, or of a call: numbers below 5. A 5 is a `_`.
+type Places = [u64; 3];
+
+const ANYTHING: u64 = 5;
+
+const WORDS: [&str; 6] = ["0", "1", "2", "3", "4", "_"];
 
 // Numbers at random, the same ones each time.
 #[derive(Drop)]
@@ -29,76 +33,72 @@ impl Dice {
         (self.state >> 33).checked_rem(sides).unwrap_or(0)
     }
 
-    fn value(&mut self) -> i64 {
-        self.roll(5).min(4) as i64
-    }
-
-    // In so many of a hundred cases a `_`.
-    fn pattern(&mut self, wildcards: u64) -> Option<i64> {
+    // A number, or a `_` in so many of a hundred cases.
+    fn place(&mut self, wildcards: u64) -> u64 {
         if self.roll(100) < wildcards {
-            None
+            ANYTHING
         } else {
-            Some(self.value())
+            self.roll(ANYTHING)
         }
     }
 
-    fn line(&mut self, wildcards: u64) -> Line {
+    fn places(&mut self, wildcards: u64) -> Places {
         [
-            self.pattern(wildcards),
-            self.pattern(wildcards),
-            self.pattern(wildcards),
+            self.place(wildcards),
+            self.place(wildcards),
+            self.place(wildcards),
         ]
     }
 }
 
-fn is_match(pattern: Option<i64>, value: i64) -> bool {
-    match pattern {
-        Some(wanted) => wanted == value,
-        None => true,
+fn is_match(line: &Places, call: &Places) -> bool {
+    for (wanted, value) in line.iter().zip(call.iter()) {
+        if *wanted != ANYTHING && *wanted != *value {
+            return false;
+        }
     }
+    true
 }
 
 // The place of the first line that matches, where each is looked at.
-fn first_match(lines: &[Line], call: [i64; 3]) -> Option<usize> {
-    for place in 0..lines.len() {
-        let line = lines[place];
-        if is_match(line[0], call[0]) && is_match(line[1], call[1]) && is_match(line[2], call[2]) {
+fn first_match(lines: &[Places], call: &Places) -> Option<usize> {
+    for (place, line) in lines.iter().enumerate() {
+        if is_match(line, call) {
             return Some(place);
         }
     }
     None
 }
 
-fn add_pattern(alloc: Global, text: &mut String, pattern: Option<i64>) -> Result<(), AllocError> {
-    match pattern {
-        Some(number) => text.push_str(&format!(in alloc; "{number}")?),
-        None => text.push_str("_"),
+fn word(place: u64) -> &'static str {
+    match WORDS.get(place as usize) {
+        Some(word) => word,
+        None => "_",
     }
 }
 
 // A script whose lines answer their places.
-fn script(alloc: Global, lines: &[Line]) -> Result<String, AllocError> {
+fn script(alloc: Global, lines: &[Places]) -> Result<String, AllocError> {
     let mut text = String::new(alloc);
-    for place in 0..lines.len() {
-        let line = lines[place];
-        text.push_str("S(")?;
-        add_pattern(alloc, &mut text, line[0])?;
-        text.push_str(", ")?;
-        add_pattern(alloc, &mut text, line[1])?;
-        text.push_str(", ")?;
-        add_pattern(alloc, &mut text, line[2])?;
-        text.push_str(&format!(in alloc; ") = {place}\n")?)?;
+    for (place, [one, two, three]) in lines.iter().enumerate() {
+        let (one, two, three) = (word(*one), word(*two), word(*three));
+        let line = format!(in alloc; "S({one}, {two}, {three}) = {place}\n")?;
+        text.push_str(line.as_str())?;
     }
     Ok(text)
 }
 
+fn number(place: u64) -> Value {
+    Value::Number(place.min(5) as i64)
+}
+
 // The place that a table's answer to a call is.
-fn answer(answers: &Answers, call: [i64; 3]) -> Option<usize> {
+fn answer(answers: &Answers, call: &Places) -> Option<usize> {
     let site = answers.site_named(b"S")?;
     let mut args = Args::new();
-    args.push(Value::Number(call[0]));
-    args.push(Value::Number(call[1]));
-    args.push(Value::Number(call[2]));
+    args.push(number(call[0]));
+    args.push(number(call[1]));
+    args.push(number(call[2]));
     match answers.find(site, &args, 1) {
         Found::After(Answer::Value(Value::Number(place)), 0) if place >= 0 => Some(place as usize),
         _ => None,
@@ -108,18 +108,17 @@ fn answer(answers: &Answers, call: [i64; 3]) -> Option<usize> {
 // Whether a script is read, and all calls are answered as its lines say.
 fn trial(alloc: Global, dice: &mut Dice) -> Result<bool, AllocError> {
     let wildcards = dice.roll(101);
-    let most = dice.roll(60);
     let mut lines = Vec::new(alloc);
-    for _line in 0..most {
-        lines.push(dice.line(wildcards))?;
+    for _line in 0..dice.roll(60) {
+        lines.push(dice.places(wildcards))?;
     }
     let text = script(alloc, &lines)?;
     let Ok(answers) = read_script(alloc, text.as_bytes()) else {
         return Ok(false);
     };
     for _call in 0..CALLS {
-        let call = [dice.value(), dice.value(), dice.value()];
-        if answer(&answers, call) != first_match(&lines, call) {
+        let call = dice.places(0);
+        if answer(&answers, &call) != first_match(&lines, &call) {
             return Ok(false);
         }
     }

@@ -27,45 +27,55 @@ fn is_answered(alloc: Global, text: &[u8], programs: &mut u32) -> bool {
     place <= text.len()
 }
 
+const PARTS: [&[u8]; 6] = [b"1", b"x", b"f(1,x)", b"(stop)", b"val x=2 x", b"{-c-}true"];
+
+const OPERATORS: [&[u8]; 8] = [
+    b"|",
+    b";",
+    b">x>",
+    b"<x<",
+    b">>",
+    b"<<",
+    b" ",
+    b"\n def f(x)=",
+];
+
+// How many fronts of a text and texts with one byte changed are answered; None where one isn't.
+fn answered(alloc: Global, mut text: Vec<u8>, programs: &mut u32) -> Option<u32> {
+    let mut answered = 0_u32;
+    for at in 0..text.len() {
+        if !is_answered(alloc, &text[..at], programs) {
+            return None;
+        }
+        let byte = text[at];
+        for changed in [b'(', 0xff] {
+            text[at] = changed;
+            if !is_answered(alloc, &text, programs) {
+                return None;
+            }
+            answered = answered.saturating_add(1);
+        }
+        text[at] = byte;
+    }
+    Some(answered)
+}
+
 // Fronts of a few hundred sources, and the same with one byte changed.
 #[test]
 fn answers_broken_sources(rt: HostRuntime) -> Result<(), Fail> {
-    let alloc = rt.alloc();
-    let parts: [&[u8]; 6] = [b"1", b"x", b"f(1,x)", b"(stop)", b"val x=2 x", b"{-c-}true"];
-    let operators: [&[u8]; 8] = [
-        b"|",
-        b";",
-        b">x>",
-        b"<x<",
-        b">>",
-        b"<<",
-        b" ",
-        b"\n def f(x)=",
-    ];
     let mut programs = 0;
-    let mut answered = 0_u32;
-    for f in parts {
-        for operator in operators {
-            for g in parts {
-                let mut text = joined(alloc, f, operator, g)?;
-                for at in 0..text.len() {
-                    assert!(rt;
-                        is_answered(alloc, &text[..at], &mut programs),
-                        "{text:?} {at}"
-                    );
-                    let byte = text[at];
-                    for changed in [b'(', 0xff] {
-                        text[at] = changed;
-                        assert!(rt; is_answered(alloc, &text, &mut programs), "{text:?} {at}");
-                        answered = answered.saturating_add(1);
-                    }
-                    text[at] = byte;
-                }
+    let mut texts = 0_u32;
+    for f in PARTS.iter() {
+        for operator in OPERATORS.iter() {
+            for g in PARTS.iter() {
+                let text = joined(rt.alloc(), f, operator, g)?;
+                let answered = answered(rt.alloc(), text, &mut programs);
+                assert!(rt; answered.is_some(), "{f:?} {operator:?} {g:?}");
+                texts = texts.saturating_add(answered.unwrap_or(0));
             }
         }
     }
     // Some are programs, and most aren't.
-    assert!(rt; programs > 100);
-    assert!(rt; programs < answered);
+    assert!(rt; programs > 100 && programs < texts, "{programs} of {texts}");
     Ok(())
 }
