@@ -68,7 +68,7 @@ fn push_arguments(out: &mut Vec<u8>, args: &[Value]) -> Result<(), AllocError>
     Ok(())
 }
 
-// Writes the site and the arguments of a call, and the end of its line.
+// Writes the site and the arguments of a call, with a space before.
 #[tactic(auto, using(std::proofs::lemmas::Option::get_or_from_slice_get))]
 fn push_call(out: &mut Vec<u8>, site: u32, args: &Args, answers: &Answers) -> Result<(), AllocError>
     requires { site < length answers.now.names }
