@@ -1,15 +1,18 @@
 //! Groups that are killed: who may bind, and when their words are free again.
 
+ghost use Rattle.std.specs.Prelude.{◌≡◌, ◌≤◌, true};
+
 use crate::inputs::Inputs;
 use crate::replay::Replay;
-use crate::rows::{enter_all, so};
+use crate::rows::{enter_all, has_written, so};
 use orc_book::{BookFault, Ended, Token};
 use orc_log::Program;
 use orc_rules::value::{Answer, Value};
 use orc_word::{Bit, Naming, Pass};
+use std::alloc::Global;
 
-/// A pass is left that isn't the last one to its group.
-pub(crate) fn leave_one<P: Program + Naming>(
+// A pass is left that isn't the last one to its group.
+fn leave_one<P: Program + Naming>(
     inputs: &Inputs<'_, P>,
     replay: &mut Replay<P>,
     pass: Pass<P>,
@@ -17,68 +20,40 @@ pub(crate) fn leave_one<P: Program + Naming>(
     so(!replay.passes.leave(inputs.groups, pass).ok()?)
 }
 
-/// A pass is left that is the last one to its group, and the book closes that, which adds no entry. Tells whether the run has ended so.
+/// A pass is left that is the last one to its group, and the book closes that. It has added no entry then. Tells what has become of the group.
 pub(crate) fn leave_last<P: Program + Naming>(
     inputs: &Inputs<'_, P>,
     replay: &mut Replay<P>,
     pass: Pass<P>,
-) -> Option<bool> {
+    leave: &mut Vec<Pass<P>>,
+) -> Option<Ended<P>> {
     so(replay.passes.leave(inputs.groups, pass).ok()?)?;
     let last = replay.passes.lasts.pop()?;
     let entries = replay.book.entries();
-    let ended = replay.book.halt(last, &mut replay.leave).ok()?;
+    let ended = replay.book.halt(last, leave).ok()?;
     so(replay.book.entries() == entries)?;
-    match ended {
-        Ended::Run => Some(true),
-        Ended::Group => Some(false),
-        _ => None,
-    }
-}
-
-/// The token with this mark binds its cell.
-fn bind<P: Program + Naming>(
-    inputs: &Inputs<'_, P>,
-    replay: &mut Replay<P>,
-    mark: u64,
-) -> Option<()> {
-    let token = replay.take_token(mark)?;
-    match replay
-        .book
-        .bind(inputs.groups, inputs.graph, token, &mut replay.leave)
-    {
-        Ok(()) => Some(()),
-        Err(_) => None,
-    }
-}
-
-/// A token's bind is refused as Gone, and nothing is to be left. Gives the token.
-fn binds_not<P: Program + Naming>(
-    inputs: &Inputs<'_, P>,
-    replay: &mut Replay<P>,
-    token: Token<P>,
-) -> Option<Token<P>> {
-    match replay
-        .book
-        .bind(inputs.groups, inputs.graph, token, &mut replay.leave)
-    {
-        Ok(()) => None,
-        Err(refused) => {
-            so(refused.why == BookFault::Gone && replay.leave.is_empty())?;
-            Some(refused.back)
-        }
-    }
+    Some(ended)
 }
 
 // The right side of cell 1 is bound by its second token while its first one's call pends: two passes are to be left, and the call is gone.
-fn kill<P: Program + Naming>(inputs: &Inputs<'_, P>, replay: &mut Replay<P>) -> Option<()> {
+fn kill<P: Program + Naming>(
+    inputs: &Inputs<'_, P>,
+    replay: &mut Replay<P>,
+    leave: &mut Vec<Pass<P>>,
+) -> Option<()> {
     enter_all(
         inputs,
         replay,
         "open 1 1 2 3\nfork 3 4 5\ncall 4 1 Rwait(0)\n",
     )?;
-    bind(inputs, replay, 5)?;
-    so(replay.leave.len() == 2 && replay.book.dying() == 1)?;
+    let token = replay.take_token(5)?;
+    replay
+        .book
+        .bind(inputs.groups, inputs.graph, token, leave)
+        .ok()?;
+    so(leave.len() == 2)?;
     so(replay.book.cancelled() == [1].as_slice())?;
+    so(replay.book.dying() == 1)?;
     match replay.book.returned(1, Answer::Value(Value::Signal)) {
         Ok(_) => None,
         Err(why) => so(why == BookFault::Gone),
@@ -88,23 +63,38 @@ fn kill<P: Program + Naming>(inputs: &Inputs<'_, P>, replay: &mut Replay<P>) -> 
 /// The second pass that is left after a kill says that the group was left last: closing it adds no entry, and gives the pass to the group round it. When
 /// that is left, and the one of the token that publishes, the run has halted.
 pub(crate) fn ends_after_a_kill<P: Program + Naming>(
+    alloc: Global,
     inputs: &Inputs<'_, P>,
-    replay: &mut Replay<P>,
-) -> Option<&'static str> {
-    kill(inputs, replay)?;
-    let one = replay.leave.pop()?;
-    leave_one(inputs, replay, one)?;
-    let other = replay.leave.pop()?;
-    so(!leave_last(inputs, replay, other)?)?;
-    so(replay.book.dying() == 0 && replay.leave.len() == 1)?;
-    so(replay.leave.first()?.group() == Some(0))?;
+    mut replay: Replay<P>,
+) -> Option<()>
+    requires { P.keeps ≡ true }
+{
+    let mut leave = Vec::new(alloc);
+    kill(inputs, &mut replay, &mut leave)?;
+    leave_one(inputs, &mut replay, leave.pop()?)?;
+    let pass = leave.pop()?;
+    match leave_last(inputs, &mut replay, pass, &mut leave)? {
+        Ended::Group => {}
+        _ => return None,
+    }
+    so(replay.book.dying() == 0 && leave.len() == 1)?;
+    let owed = leave.pop()?;
+    so(owed.group() == Some(0))?;
     replay.wake(inputs, 1).ok()?;
     let token = replay.take_token(2)?;
     let own = replay.book.publish(inputs.graph, token).ok()?;
-    let owed = replay.leave.pop()?;
-    leave_one(inputs, replay, owed)?;
-    so(leave_last(inputs, replay, own)? && replay.leave.is_empty())?;
-    Some("open 1 1 2 3\nfork 3 4 5\ncall 4 1 Rwait(0)\nbind 5 1 1\ncancel 1\npublish 2 1\n")
+    leave_one(inputs, &mut replay, owed)?;
+    match leave_last(inputs, &mut replay, own, &mut leave)? {
+        Ended::Run => {}
+        _ => return None,
+    }
+    so(leave.is_empty())?;
+    has_written(
+        alloc,
+        inputs,
+        replay,
+        "open 1 1 2 3\nfork 3 4 5\ncall 4 1 Rwait(0)\nbind 5 1 1\ncancel 1\npublish 2 1\n",
+    )
 }
 
 // A token whose pass wins the mark that its group is killed, outside the book.
@@ -121,45 +111,67 @@ fn won<P: Program + Naming>(inputs: &Inputs<'_, P>, token: Token<P>) -> Option<T
 
 /// A bind whose mark was won before is Gone: nothing is added, and the token comes back.
 pub(crate) fn gives_a_lost_mark_back<P: Program + Naming>(
+    alloc: Global,
     inputs: &Inputs<'_, P>,
-    replay: &mut Replay<P>,
-) -> Option<&'static str> {
-    enter_all(inputs, replay, "open 1 1 2 3\n")?;
+    mut replay: Replay<P>,
+) -> Option<()>
+    requires { P.keeps ≡ true }
+{
+    enter_all(inputs, &mut replay, "open 1 1 2 3\n")?;
     let token = replay.take_token(3)?;
     let word = token.pass.group();
     let token = won(inputs, token)?;
-    let token = binds_not(inputs, replay, token)?;
-    so(token.serial == 3 && token.pass.group() == word)?;
-    Some("open 1 1 2 3\n")
+    let mut leave = Vec::new(alloc);
+    let refused = match replay
+        .book
+        .bind(inputs.groups, inputs.graph, token, &mut leave)
+    {
+        Ok(()) => return None,
+        Err(refused) => refused,
+    };
+    so(refused.why == BookFault::Gone && leave.is_empty())?;
+    so(refused.back.serial == 3 && refused.back.pass.group() == word)?;
+    has_written(alloc, inputs, replay, "open 1 1 2 3\n")
 }
 
 /// With two words, one of which a killed group has: a pruning is Full until that group's last pass was left and the book has closed it.
 pub(crate) fn keeps_words_of_the_killed<P: Program + Naming>(
+    alloc: Global,
     inputs: &Inputs<'_, P>,
-    replay: &mut Replay<P>,
-) -> Option<&'static str> {
-    enter_all(inputs, replay, "seq 1 2\nopen 2 1 3 4\n")?;
-    bind(inputs, replay, 4)?;
-    let killed = replay.leave.pop()?;
-    so(replay.leave.is_empty())?;
+    mut replay: Replay<P>,
+) -> Option<()>
+    requires { P.keeps ≡ true }
+{
+    let mut leave = Vec::new(alloc);
+    enter_all(inputs, &mut replay, "seq 1 2\nopen 2 1 3 4\n")?;
+    let token = replay.take_token(4)?;
+    replay
+        .book
+        .bind(inputs.groups, inputs.graph, token, &mut leave)
+        .ok()?;
     replay.wake(inputs, 1).ok()?;
-    enter_all(inputs, replay, "send 3 5 1\n")?;
-    prunes_not(inputs, replay, 5, BookFault::Full)?;
-    so(replay.book.dying() == 1)?;
-    so(!leave_last(inputs, replay, killed)?)?;
+    enter_all(inputs, &mut replay, "send 3 5 1\n")?;
+    let token = replay.take_token(5)?;
+    let token = is_full(inputs, &mut replay, token)?;
+    so(replay.book.dying() == 1 && leave.len() == 1)?;
+    let pass = leave.pop()?;
+    match leave_last(inputs, &mut replay, pass, &mut leave)? {
+        Ended::Group => {}
+        _ => return None,
+    }
     so(replay.book.dying() == 0)?;
-    enter_all(inputs, replay, "open 5 2 6 7\n")?;
-    Some("seq 1 2\nopen 2 1 3 4\nbind 4 1 1\nsend 3 5 1\nopen 5 2 6 7\n")
+    replay.hold(inputs, token).ok()?;
+    enter_all(inputs, &mut replay, "open 5 2 6 7\n")?;
+    let lines = "seq 1 2\nopen 2 1 3 4\nbind 4 1 1\nsend 3 5 1\nopen 5 2 6 7\n";
+    has_written(alloc, inputs, replay, lines)
 }
 
-/// The pruning of the token with this mark is refused for this reason: what was handed in comes back, and the token is out again.
-pub(crate) fn prunes_not<P: Program + Naming>(
+// A token's pruning is refused as Full. Gives the token.
+fn is_full<P: Program + Naming>(
     inputs: &Inputs<'_, P>,
     replay: &mut Replay<P>,
-    mark: u64,
-    why: BookFault,
-) -> Option<()> {
-    let token = replay.take_token(mark)?;
+    token: Token<P>,
+) -> Option<Token<P>> {
     let same = replay.passes.same(inputs.groups, &token.pass)?;
     let idle = replay.passes.idle(inputs.groups)?;
     match replay
@@ -169,27 +181,49 @@ pub(crate) fn prunes_not<P: Program + Naming>(
         Ok(_) => None,
         Err(refused) => {
             let (token, same, idle) = refused.back;
-            so(refused.why == why && idle.group().is_none())?;
+            so(refused.why == BookFault::Full)?;
             leave_one(inputs, replay, same)?;
             leave_one(inputs, replay, idle)?;
-            replay.hold(inputs, token).ok()
+            Some(token)
         }
     }
 }
 
 /// A token that was out in a killed group is answered Gone, and comes back with its pass, whose group's word is taken until that is left.
 pub(crate) fn tells_killed_tokens<P: Program + Naming>(
+    alloc: Global,
     inputs: &Inputs<'_, P>,
-    replay: &mut Replay<P>,
-) -> Option<&'static str> {
-    enter_all(inputs, replay, "open 1 1 2 3\nfork 3 4 5\n")?;
+    mut replay: Replay<P>,
+) -> Option<()>
+    requires { P.keeps ≡ true }
+{
+    let mut leave = Vec::new(alloc);
+    enter_all(inputs, &mut replay, "open 1 1 2 3\nfork 3 4 5\n")?;
     let token = replay.take_token(5)?;
-    enter_all(inputs, replay, "bind 4 1 1\n")?;
-    let view = replay.book.view(inputs.graph, token.slot, token.serial);
-    so(view.is_none())?;
-    let token = binds_not(inputs, replay, token)?;
-    so(replay.book.dying() == 1)?;
-    so(!leave_last(inputs, replay, token.pass)?)?;
+    enter_all(inputs, &mut replay, "bind 4 1 1\n")?;
+    so(
+        replay
+            .book
+            .view(inputs.graph, token.slot, token.serial)
+            .is_none(),
+    )?;
+    let refused = match replay
+        .book
+        .bind(inputs.groups, inputs.graph, token, &mut leave)
+    {
+        Ok(()) => return None,
+        Err(refused) => refused,
+    };
+    so(refused.why == BookFault::Gone && replay.book.dying() == 1)?;
+    match leave_last(inputs, &mut replay, refused.back.pass, &mut leave)? {
+        Ended::Group => {}
+        _ => return None,
+    }
     so(replay.book.dying() == 0)?;
-    Some("open 1 1 2 3\nfork 3 4 5\nbind 4 1 1\n")
+    has_written(
+        alloc,
+        inputs,
+        replay,
+        "open 1 1 2 3\nfork 3 4 5\nbind 4 1 1\n",
+    )
 }

@@ -20,14 +20,14 @@ mod table;
 
 use crate::journals::{read_text, replay_text};
 use crate::rows::show;
-use crate::table::ROWS;
+use crate::table::rows;
 use std::alloc::Global;
 use std::{env, fs, io};
 
 // Tells of each row whether a book does what it shows.
 fn tell_rows<R: Print>(rt: &R, alloc: Global) -> io::Result<()> {
-    for row in ROWS.iter() {
-        match show(alloc, row) {
+    for row in rows() {
+        match show(alloc, &row) {
             Some(()) => println!(rt; "holds: {}", row.name)?,
             None => println!(rt; "WRONG: {}", row.name)?,
         }

@@ -12,16 +12,15 @@ use orc_word::{Bit, Groups, Naming, Pass};
 /// With a supply that had three passes, one of which is the first token's: two are there, and one that came back.
 pub(crate) fn gives_passes_again<P: Program + Naming>(
     inputs: &Inputs<'_, P>,
-    replay: &mut Replay<P>,
-) -> Option<&'static str> {
+    mut replay: Replay<P>,
+) -> Option<()> {
     let passes = &mut replay.passes;
     let one = passes.idle(inputs.groups)?;
     let _two = passes.idle(inputs.groups)?;
     so(passes.idle(inputs.groups).is_none())?;
     passes.leave(inputs.groups, one).ok()?;
     let _again = passes.idle(inputs.groups)?;
-    so(passes.idle(inputs.groups).is_none())?;
-    Some("")
+    so(passes.idle(inputs.groups).is_none())
 }
 
 // Of two passes to a group, one wins the mark that it is killed, and only once. The second one that is left is the last.
@@ -54,15 +53,15 @@ fn is_killed<P: Naming>(groups: &Groups<P>, pass: &mut Pass<P>) -> Option<bool> 
 /// A group is marked as killed once, and once again when its word was opened anew.
 pub(crate) fn is_killed_once<P: Program + Naming>(
     inputs: &Inputs<'_, P>,
-    replay: &mut Replay<P>,
-) -> Option<&'static str>
+    mut replay: Replay<P>,
+) -> Option<()>
     requires { 2 ≤ P.table.words }
 {
     for _opening in 0..2 {
         let idle = replay.passes.idle(inputs.groups)?;
         let one = inputs.groups.open(idle, 1).ok()?;
-        one_wins(inputs, replay, one)?;
+        one_wins(inputs, &mut replay, one)?;
         so(replay.passes.lasts.pop()?.group() == 1)?;
     }
-    Some("")
+    Some(())
 }

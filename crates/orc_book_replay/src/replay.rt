@@ -69,8 +69,8 @@ pub(crate) struct Replay<P: Program + Naming> {
     slots: Vec<usize>,
     // How many of the cancels of the last bind are still to be told.
     owed: usize,
-    /// Lent to the book's calls: the passes that are to be left. None is here between two entries.
-    pub leave: Vec<Pass<P>>,
+    // Lent to the book's calls.
+    leave: Vec<Pass<P>>,
     births: Births<P>,
     step: StepOut<P>,
     args: Args,

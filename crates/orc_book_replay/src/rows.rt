@@ -22,7 +22,7 @@ use orc_rules::entry::Entry;
 use orc_rules::limits::MOST_ENTRIES;
 use orc_rules::value::Answer;
 use orc_word::{Naming, Unnamed};
-use std::alloc::{AllocError, Global};
+use std::alloc::Global;
 use std::marker::Brand;
 
 /// What is done with a book, or asked of it.
@@ -102,49 +102,21 @@ pub(crate) fn enter_all<P: Program + Naming>(
     so(rest.is_empty())
 }
 
-// What a book has to have written.
-#[derive(Clone, Copy)]
-enum Written {
-    /// These entries, a line each, and no other.
-    Lines(&'static str),
-    /// The entries that these steps do, and no other.
-    Steps(&'static [Step]),
-    Anything,
-}
-
-// The text of a journal with what is to be written. None where that is anything.
-fn wanted_text(alloc: Global, written: Written) -> Result<Option<Vec<u8>>, AllocError> {
-    let mut wanted = Vec::from_slice(alloc, b"orc-journal 2\n")?;
-    match written {
-        Written::Lines(lines) => wanted.extend_from_slice(lines.as_bytes())?,
-        Written::Steps(steps) => {
-            for step in steps.iter() {
-                if let Step::Does(lines) = step {
-                    wanted.extend_from_slice(lines.as_bytes())?;
-                }
-            }
-        }
-        Written::Anything => return Ok(None),
-    }
-    Ok(Some(wanted))
-}
-
-// Whether a book has written what it has to.
-fn has_written<P: Program + Naming>(
+/// The book has written these entries, a line each, and no other.
+pub(crate) fn has_written<P: Program + Naming>(
     alloc: Global,
     inputs: &Inputs<'_, P>,
     replay: Replay<P>,
-    written: Written,
-) -> Result<bool, AllocError>
+    lines: &str,
+) -> Option<()>
     requires { P.keeps ≡ true }
 {
+    let mut wanted = Vec::from_slice(alloc, b"orc-journal 2\n").ok()?;
+    wanted.extend_from_slice(lines.as_bytes()).ok()?;
     let journal = replay.into_ledger().into_journal();
-    let Some(wanted) = wanted_text(alloc, written)? else {
-        return Ok(true);
-    };
     let mut text = Vec::new(alloc);
-    let is_whole = write_journal(&journal, inputs.answers, &mut text)?;
-    Ok(is_whole && text.as_slice() == wanted.as_slice())
+    let is_whole = write_journal(&journal, inputs.answers, &mut text).ok()?;
+    so(is_whole && text.as_slice() == wanted.as_slice())
 }
 
 // Whether the answer of a book is this one.
@@ -179,48 +151,48 @@ fn is_so<P: Program + Naming>(
 }
 
 fn are_so<P: Program + Naming>(
+    alloc: Global,
     inputs: &Inputs<'_, P>,
-    replay: &mut Replay<P>,
+    mut replay: Replay<P>,
     steps: &[Step],
-) -> Option<()> {
+) -> Option<()>
+    requires { P.keeps ≡ true }
+{
+    let mut lines = String::new(alloc);
     for step in steps {
-        is_so(inputs, replay, step)?;
+        is_so(inputs, &mut replay, step)?;
+        if let Step::Does(entries) = step {
+            lines.push_str(entries).ok()?;
+        }
     }
-    Some(())
+    has_written(alloc, inputs, replay, lines.as_str())
 }
 
-// What a book has to have written that does what a row shows. None where it doesn't do that.
 fn show_with<P: Program + Naming>(
     alloc: Global,
     inputs: &Inputs<'_, P>,
-    replay: &mut Replay<P>,
+    replay: Replay<P>,
     shows: Shows,
-) -> Option<Written>
-    requires { 2 ≤ P.table.words }
+) -> Option<()>
+    requires keeps { P.keeps ≡ true }
+    requires words { 2 ≤ P.table.words }
 {
-    let lines = match shows {
-        Shows::Steps(steps) => {
-            are_so(inputs, replay, steps)?;
-            return Some(Written::Steps(steps));
-        }
-        Shows::IsFullAfter(entries) => {
-            goes_on_until_full(alloc, inputs, replay, entries)?;
-            return Some(Written::Anything);
-        }
+    match shows {
+        Shows::Steps(steps) => are_so(alloc, inputs, replay, steps),
         Shows::GivesPassesAgain => gives_passes_again(inputs, replay),
         Shows::IsKilledOnce => is_killed_once(inputs, replay),
-        Shows::EndsAfterAKill => ends_after_a_kill(inputs, replay),
-        Shows::GivesALostMarkBack => gives_a_lost_mark_back(inputs, replay),
-        Shows::KeepsWordsOfTheKilled => keeps_words_of_the_killed(inputs, replay),
-        Shows::TellsKilledTokens => tells_killed_tokens(inputs, replay),
-        Shows::IsLive => is_live(inputs, replay),
-        Shows::RefusesOtherMoves => refuses_other_moves(inputs, replay),
-        Shows::RefusesWordsThatAreNamed => refuses_words_that_are_named(inputs, replay),
+        Shows::EndsAfterAKill => ends_after_a_kill(alloc, inputs, replay),
+        Shows::GivesALostMarkBack => gives_a_lost_mark_back(alloc, inputs, replay),
+        Shows::KeepsWordsOfTheKilled => keeps_words_of_the_killed(alloc, inputs, replay),
+        Shows::TellsKilledTokens => tells_killed_tokens(alloc, inputs, replay),
+        Shows::IsLive => is_live(alloc, inputs, replay),
+        Shows::RefusesOtherMoves => refuses_other_moves(alloc, inputs, replay),
+        Shows::RefusesWordsThatAreNamed => refuses_words_that_are_named(alloc, inputs, replay),
         Shows::MakesMoves(entries, why, left) => {
             makes_moves(alloc, inputs, replay, entries, why, left)
         }
-    };
-    Some(Written::Lines(lines?))
+        Shows::IsFullAfter(entries) => goes_on_until_full(alloc, inputs, replay, entries),
+    }
 }
 
 fn show_named<P: Program + Naming>(
@@ -247,9 +219,8 @@ fn show_named<P: Program + Naming>(
         answers,
         groups: &groups,
     };
-    let mut replay = begin(alloc, &inputs, supply, count, limit)?;
-    let written = show_with(alloc, &inputs, &mut replay, row.shows)?;
-    so(has_written(alloc, &inputs, replay, written).ok()?)
+    let replay = begin(alloc, &inputs, supply, count, limit)?;
+    show_with(alloc, &inputs, replay, row.shows)
 }
 
 /// Whether a book does what a row shows.

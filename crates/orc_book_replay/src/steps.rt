@@ -1,8 +1,10 @@
 //! Tokens that move by `step`, in the order in which they came.
 
+ghost use Rattle.std.specs.Prelude.{◌≡◌, true};
+
 use crate::inputs::Inputs;
 use crate::replay::Replay;
-use crate::rows::so;
+use crate::rows::{has_written, so};
 use orc_book::{Births, BookFault, StepOut, Token};
 use orc_ledger::Action;
 use orc_log::Program;
@@ -89,30 +91,32 @@ fn needs_one<P: Program + Naming>(
 pub(crate) fn makes_moves<P: Program + Naming>(
     alloc: Global,
     inputs: &Inputs<'_, P>,
-    replay: &mut Replay<P>,
+    mut replay: Replay<P>,
     entries: usize,
     why: BookFault,
     left: usize,
-) -> Option<&'static str> {
+) -> Option<()>
+    requires { P.keeps ≡ true }
+{
     let mut births = Births::new(alloc);
     let mut out = StepOut::new(alloc);
-    moves_once(inputs, replay, &mut births, &mut out)?;
-    needs_one(inputs, replay, &out)?;
+    moves_once(inputs, &mut replay, &mut births, &mut out)?;
+    needs_one(inputs, &replay, &out)?;
     let same = replay.passes.same(inputs.groups, &out.born.first()?.pass)?;
     births.same.push(same).ok()?;
     let idle = replay.passes.idle(inputs.groups)?;
     births.idle.push(idle).ok()?;
-    so(move_in_line(inputs, replay, &mut births, &mut out)? == why)?;
+    so(move_in_line(inputs, &mut replay, &mut births, &mut out)? == why)?;
     so(replay.book.entries() == entries)?;
     so(births.same.len() == left && births.idle.len() == 1 && out.leave.is_empty())?;
-    MOVES.get(entries).copied()
+    has_written(alloc, inputs, replay, MOVES.get(entries)?)
 }
 
 /// A single token moves by `step` until the book is full. There are so many entries then.
 pub(crate) fn goes_on_until_full<P: Program + Naming>(
     alloc: Global,
     inputs: &Inputs<'_, P>,
-    replay: &mut Replay<P>,
+    mut replay: Replay<P>,
     entries: usize,
 ) -> Option<()> {
     let mut births = Births::new(alloc);
@@ -120,10 +124,10 @@ pub(crate) fn goes_on_until_full<P: Program + Naming>(
     let first = replay.take_token(1)?;
     out.born.push(first).ok()?;
     for _move in 0..entries {
-        move_one(inputs, replay, &mut births, &mut out).ok()?;
+        move_one(inputs, &mut replay, &mut births, &mut out).ok()?;
     }
     so(replay.book.entries() == entries)?;
-    match move_one(inputs, replay, &mut births, &mut out) {
+    match move_one(inputs, &mut replay, &mut births, &mut out) {
         Ok(()) => None,
         Err(why) => so(why == BookFault::Full && replay.book.entries() == entries),
     }
