@@ -69,7 +69,7 @@ opening-step l b k words same idle takes up t taken fault.Gone (inl h) = absurd 
 opening-step l b k words same idle takes up t taken fault.Gone (inr h) = inr h
 opening-step l b k words same idle takes up t taken fault.Wrong (inl h) = absurd h
 opening-step l b k words same idle takes up t taken fault.Wrong (inr h) =
-    let one : t ≡ h.0 = one-slot t h.0 (sym ((taken.0).0).0.0 ∙ (((h.1).0).0).0.0) in
+    let one : t ≡ h.0 = one-slot t h.0 (sym (((taken.0).0).0).0.0 ∙ ((((h.1).0).0).0).0.0) in
     cc (taken.1, (h.1).1, one)
 opening-step l b k words same idle takes up t taken fault.Full (inl h) = inl (h.0, ((h.1).0, (up _ (h.1).1).0), h.2, h.3)
 opening-step l b k words same idle takes up t taken fault.Full (inr h) = inr (h.0, ((h.1).0, (up _ (h.1).1).1), h.2)

@@ -12,8 +12,12 @@ use Rattle.orc_ledger_spec.specs.Records.{Records}
 use Rattle.orc_ledger_spec.specs.Next.{members, numbers_of}
 use Rattle.orc_tables.specs.OpenGroups.{tokens_in, is_named}
 use Rattle.orc_tables.specs.declared.records.Group.{Group}
-use Rattle.orc_book.specs.Held.{Hold, word_at, Becomes, Changes, OneFewer, AreHeld, IsLoose, IsThere, IsMissing, bag, held_at, kept_at, out_at, passes_of, kept_of, out_of}
+use Rattle.orc_book.specs.declared.word_table.Kind.TheVariants.{Open}
+use Rattle.orc_book.specs.Words.{kind_at}
+use Rattle.orc_book.specs.Held.{Hold, Stood, word_at, Becomes, Changes, TakesOne, AreHeld, IsLoose, IsThere, IsMissing, bag, held_at, kept_at, out_at, passes_of, kept_of, out_of}
+use Rattle.orc_book.specs.Passes.{in_posts, of_owed}
 use Rattle.orc_book.proofs.Posts.{length-becomes}
+use Rattle.orc_book.proofs.Given.{taken-posts}
 
 -- a number is a group's, or it isn't
 pub there-or : (s : Records) (i : ℕ) → IsThere s i ⊎ IsMissing s i
@@ -44,17 +48,29 @@ got-in [] i p h = cc h
 got-in (q ∷ ps) zero p h = omega arith
 got-in (q ∷ ps) (suc i) p h = omega (arith, got-in ps i p h)
 
+-- a number that a word stands for, and that has members, is a group's
+pub counted-there : (s : Records) (ws : List Stood) (w number n : ℕ) → ((i : ℕ) → IsMissing s i → members (numbers_of s) s i ≡ 0) → kind_at ws w ≡ Open number → 1 ≤ members (numbers_of s) s number → kind_at ws w ≡ Open n → IsThere s n
+counted-there s ws w number n missing stood some e = by (there-or s n)
+  where
+    one_open : (a b : ℕ) → Open a ≡ Open b → a ≡ b
+    one_open a b h = cc h
+
+    by : IsThere s n ⊎ IsMissing s n → IsThere s n
+    by (inl h) = h
+    by (inr m) = absurd (omega (arith, missing n m, some, ap (members (numbers_of s) s) (one_open n number (sym e ∙ stood))))
+
 -- ---- clearing
 
 pub record AreClearing (s : Records) (first ps : List Hold) (k : ℕ) : Type 0 where
   pub done : (i : ℕ) → i < k → IsLoose s ps i
   pub there : (i : ℕ) → IsThere s i → IsLoose s ps i
   pub bags : weight bag ps ≡ weight bag first
+  pub held : (f : View → ℕ) → in_posts f ps ≡ in_posts f first
   pub count : length ps ≡ length first
 
 module _ (s : Records) (first ps : List Hold) (k : ℕ) (C : AreClearing s first ps k) where
   clearing-loose : IsLoose s ps k → AreClearing s first ps (k + 1)
-  clearing-loose here = record { done = λ i lt. by i (nat_eq i k) refl lt; there = C.there; bags = C.bags; count = C.count }
+  clearing-loose here = record { done = λ i lt. by i (nat_eq i k) refl lt; there = C.there; bags = C.bags; held = C.held; count = C.count }
     where
       by : (i : ℕ) (b : Bool) → nat_eq i k ≡ b → i < k + 1 → IsLoose s ps i
       by i true e lt = subst (IsLoose s ps) (sym (eqb-true i k e)) here
@@ -85,6 +101,7 @@ module _ (s : Records) (first ps : List Hold) (k : ℕ) (C : AreClearing s first
         done = λ i lt. by i (nat_eq i k) refl lt;
         there = λ i h. else i (not-both s i k h m) (C.there i h);
         bags = omega (arith, C.bags, ap (weight bag) B.1, weight-set bag ps k p (record p { kept = 0; out = 0 }) B.0);
+        held = λ f. omega (arith, C.held f, ap (in_posts f) B.1, weight-set (λ (h : Hold). weight f h.passes) ps k p (record p { kept = 0; out = 0 }) B.0);
         count = omega (arith, C.count, length-becomes ps ps' k p (record p { kept = 0; out = 0 }) B);
       }
     where
@@ -179,7 +196,7 @@ pub record AreBurying (s : Records) (first ps : List Hold) : Type 0 where
   pub bags : weight bag ps ≤ weight bag first
   pub count : length ps ≡ length first
 
-module _ (s : Records) (ps : List Hold) (all : (i : ℕ) → IsLoose s ps i) (k : ℕ) (ps' : List Hold) (more : members (numbers_of s) s k + 1 ≤ held_at ps k + out_at ps k) (C : Changes ps k ps' OneFewer) where
+module _ (s : Records) (ps : List Hold) (all : (i : ℕ) → IsLoose s ps i) (k : ℕ) (ps' : List Hold) (more : members (numbers_of s) s k + 1 ≤ held_at ps k + out_at ps k) (v : View) (C : Changes ps k ps' (TakesOne v)) where
   pub spare-loose : (i : ℕ) → IsLoose s ps' i
   spare-loose i = by i (nat_eq i k) refl
     where
@@ -207,9 +224,12 @@ module _ (s : Records) (ps : List Hold) (all : (i : ℕ) → IsLoose s ps i) (k 
   pub spare-bags : weight bag ps' ≤ weight bag ps
   spare-bags = omega (arith, ap (weight bag) (C.2).1, weight-set bag ps k C.0 C.1 (C.2).0, (C.4).0)
 
+  pub spare-held : (f : View → ℕ) → in_posts f ps' + f v ≡ in_posts f ps
+  spare-held f = taken-posts ps ps' k C.0 C.1 v C.2 (C.4).3 f
+
   pub spare-count : length ps' ≡ length ps
   spare-count = length-becomes ps ps' k C.0 C.1 C.2
 
-pub spared : (s : Records) (ps : List Hold) → ((i : ℕ) → IsLoose s ps i) → (k : ℕ) (ps' : List Hold) (o : Option View) → MatchOption o (ps' ≡ ps) (λ v. (group_of v ≡ Some (word_at ps k)) × (members (numbers_of s) s k + 1 ≤ held_at ps k + out_at ps k) × Changes ps k ps' OneFewer) → AreBurying s ps ps'
-spared s ps all k ps' Nothing same = subst (AreBurying s ps) (sym same) (record { loose = all; bags = omega arith; count = refl })
-spared s ps all k ps' (Some v) x = record { loose = spare-loose s ps all k ps' x.1 x.2; bags = spare-bags s ps all k ps' x.1 x.2; count = spare-count s ps all k ps' x.1 x.2 }
+pub spared : (s : Records) (ps : List Hold) → ((i : ℕ) → IsLoose s ps i) → (k : ℕ) (ps' : List Hold) (o : Option View) → MatchOption o (ps' ≡ ps) (λ v. (group_of v ≡ Some (word_at ps k)) × (members (numbers_of s) s k + 1 ≤ held_at ps k + out_at ps k) × Changes ps k ps' (TakesOne v)) → AreBurying s ps ps' × ((f : View → ℕ) → in_posts f ps' + of_owed f o ≡ in_posts f ps)
+spared s ps all k ps' Nothing same = (subst (AreBurying s ps) (sym same) (record { loose = all; bags = omega arith; count = refl }), λ f. omega (arith, ap (in_posts f) same))
+spared s ps all k ps' (Some v) x = (record { loose = spare-loose s ps all k ps' x.1 v x.2; bags = spare-bags s ps all k ps' x.1 v x.2; count = spare-count s ps all k ps' x.1 v x.2 }, spare-held s ps all k ps' x.1 v x.2)

@@ -22,7 +22,7 @@ use Rattle.orc_ledger_spec.specs.declared.faults.HaltFault.TheVariants as haltin
 use Rattle.orc_word.specs.declared.view.View.{View}
 use Rattle.orc_word.specs.Views.{group_of, deeds_of, Marks}
 use Rattle.orc_word.specs.declared.bits.Bit.TheVariants.{Killed}
-use Rattle.orc_book.specs.Held.{Held, IsToken, IsGone, out_at}
+use Rattle.orc_book.specs.Held.{Held, IsUnkept, IsGone, out_at}
 use Rattle.orc_book.specs.Words.{HasNoWord}
 use Rattle.orc_book.specs.declared.token.Token.{Token as Out}
 use Rattle.orc_book.specs.declared.word_table.Kind.{Kind}
@@ -99,9 +99,9 @@ abbrev pub HasNone : List View → Option ℕ → Type 0
 HasNone passes group = (v : View) → slice_get passes (length passes - 1) ≡ Some v → group_of v ≡ group → ⊥
 
 module _ {X : Type 0} (l : Listing) (b : Held) (k : Out X) where
-  -- t is the record of a token that is out: its pass names its group's word, and some token of its group is out
+  -- t is the record of a token that is out: its pass names its group's word, the book doesn't keep it, and some token of its group is out
   abbrev pub IsFound : Token → Type 0
-  IsFound t = IsToken b k.slot k.serial k.pass t × (1 ≤ out_at b.posts (group_at b.ledger.steps t.step))
+  IsFound t = IsUnkept b k.slot k.serial k.pass t × (1 ≤ out_at b.posts (group_at b.ledger.steps t.step))
 
   abbrev pub does_next : Token → Action
   does_next t = what_of (code l) (definitions l) b.ledger t

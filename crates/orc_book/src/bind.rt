@@ -1,5 +1,5 @@
 //! A cell is bound: what stood inside its right side goes.
-ghost use Rattle.std.specs.Prelude.{◌≡◌, ◌≤◌, ◌+◌, ◌⊎◌, ℕ, List, true, false, IfOk, IfErr, IfSome, MatchOption, OnOk, vec_len, vec_capacity};
+ghost use Rattle.std.specs.Prelude.{◌≡◌, ◌≤◌, ◌+◌, ◌⊎◌, ℕ, List, true, false, IfOk, IfErr, IfSome, MatchOption, OnOk, OnErr, vec_len, vec_capacity};
 ghost use Rattle.orc_rules.specs.Nodes.{code, definitions};
 ghost use Rattle.orc_rules.specs.Timed.{IsIn};
 ghost use Rattle.orc_rules.specs.declared.value.Value.{Value as ValueOf};
@@ -8,10 +8,12 @@ ghost use Rattle.orc_tables.specs.declared.records.Token.{Token as Its};
 ghost use Rattle.orc_ledger_spec.specs.Doing.{what_of};
 ghost use Rattle.orc_ledger_spec.specs.Moves.{Moves};
 ghost use Rattle.orc_ledger_spec.specs.declared.results.Moved.TheVariants as moved;
+ghost use Rattle.orc_word.specs.declared.view.View.{View};
 ghost use Rattle.orc_word.specs.Views.{group_of};
-ghost use Rattle.orc_book.specs.Held.{IsToken, HasWinner, bag};
+ghost use Rattle.orc_book.specs.Held.{IsUnkept, HasWinner, bag};
+ghost use Rattle.orc_book.specs.Passes.{GivesUp, HasWon, in_book};
 ghost use Rattle.orc_book.specs.Refusals.{is_bind, IsRefusedBind};
-ghost use Rattle.orc_book.specs.Words.{HaveDied};
+ghost use Rattle.orc_book.specs.Words.{AreThere, HaveDied};
 
 use crate::book::Book;
 use crate::post::Post;
@@ -76,8 +78,12 @@ impl<P: Program + Naming> Book<P> {
         leave: &mut Vec<Pass<P>>,
     ) -> Result<(), Refused<Token<P>>>
         requires graph { graph.now ≡ P.listing }
-        ensures done { OnOk result ((t : Its) × (c : ℕ) × (g : ℕ) × (ks : List ℕ) × IsToken self.old token.slot token.serial token.pass t × Moves P.listing self.old.ledger token.slot t (moved.Bound c g) ks self.new.ledger) }
+        ensures done { OnOk result ((t : Its) × (c : ℕ) × (g : ℕ) × (ks : List ℕ) × IsUnkept self.old token.slot token.serial token.pass t × Moves P.listing self.old.ledger token.slot t (moved.Bound c g) ks self.new.ledger) }
         ensures stands { OnOk result (HaveDied self.new.ledger self.old.stands self.new.stands) }
+        ensures there { OnOk result (AreThere self.new.ledger self.new.stands) }
+        ensures marks { self.new.marks ≡ self.old.marks }
+        ensures left { OnOk result ((won : View) × HasWon token.pass won × GivesUp leave.old.items leave.new.items (λ f. in_book f self.old + f won) (λ f. in_book f self.new)) }
+        ensures lent { OnErr result (leave.new.items ≡ leave.old.items) }
         ensures won { OnOk result (HasWinner leave.new.items (group_of token.pass)) }
         ensures refused { IfErr result (λ r. (self.new ≡ self.old) × (r.back.serial ≡ token.serial) × (r.back.slot ≡ token.slot) × (group_of r.back.pass ≡ group_of token.pass)) }
         ensures why { IfErr result (λ r. IsRefusedBind P.listing self.old token r.back.pass r.why) }

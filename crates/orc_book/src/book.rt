@@ -41,7 +41,7 @@ impl<P: Program + Naming> Model for Book<P> {
 
     ghost Value = { Held };
 
-    ghost view = { λ b. record { ledger = b.ledger; posts = b.posts.items; stands = b.words.kinds } };
+    ghost view = { λ b. record { ledger = b.ledger; posts = b.posts.items; stands = b.words.stands; marks = b.keeping } };
 
     ghost invariant = { λ b. AreHeld b.posts.items b.ledger };
 }
@@ -89,6 +89,7 @@ impl<P: Program + Naming> Book<P> {
         ensures begun { IfOk result (λ r. r.0.ledger ≡ begun limit P.listing.root) }
         ensures token { IfOk result (λ r. (t : Its) × IsToken r.0 r.1.slot r.1.serial r.1.pass t) }
         ensures stands { IfOk result (λ r. IsOpened [] 0 0 r.0.stands) }
+        ensures marks { IfOk result (λ r. r.0.marks ≡ []) }
         ensures refused { IfErr result (λ r. r.back ≡ pass) }
     {
         let Ok(mut posts) = first_posts(alloc) else {

@@ -9,7 +9,7 @@ ghost use Rattle.orc_ledger_spec.specs.Answers.{IsReturned, Pends};
 ghost use Rattle.orc_ledger_spec.specs.Doing.{what_of};
 ghost use Rattle.orc_ledger_spec.specs.Requests.{IsMade};
 ghost use Rattle.orc_word.specs.Views.{group_of};
-ghost use Rattle.orc_book.specs.Held.{IsToken, word_at, HasStayed};
+ghost use Rattle.orc_book.specs.Held.{IsUnkept, KeepsWords, HasStayed, word_at};
 ghost use Rattle.orc_book.specs.Refusals.{is_call, IsRefusedCall, IsRefusedAnswer};
 
 use crate::book::Book;
@@ -57,8 +57,8 @@ impl<P: Program + Naming> Book<P> {
     ) -> Result<u64, Refused<Token<P>>>
         requires graph { graph.now ≡ P.listing }
         requires answers { answers.now.sites ≡ P.sites }
-        ensures done { IfOk result (λ k. (t : Its) × (c : ItsCall) × IsToken self.old token.slot token.serial token.pass t × (c.number ≡ k) × IsMade P.listing P.sites self.old.ledger t c self.new.ledger) }
-        ensures stands { self.new.stands ≡ self.old.stands }
+        ensures done { IfOk result (λ k. (t : Its) × (c : ItsCall) × IsUnkept self.old token.slot token.serial token.pass t × (c.number ≡ k) × IsMade P.listing P.sites self.old.ledger t c self.new.ledger) }
+        ensures stands { KeepsWords self.old self.new }
         ensures refused { IfErr result (λ r. HasStayed self.old self.new × (r.back ≡ token)) }
         ensures why { IfErr result (λ r. IsRefusedCall P.listing self.old token r.why) }
     {
@@ -107,7 +107,7 @@ impl<P: Program + Naming> Book<P> {
     /// many entries as the limit, else as Memory.
     pub fn returned(&mut self, number: u64, answer: Answer) -> Result<Answered<P>, BookFault>
         ensures done { IfOk result (λ a. (c : ItsCall) × (slot : Option ℕ) × Pends self.old.ledger number c × IsReturned self.old.ledger c answer slot self.new.ledger) }
-        ensures stands { self.new.stands ≡ self.old.stands }
+        ensures stands { KeepsWords self.old self.new }
         ensures refused { OnErr result (self.new ≡ self.old) }
         ensures why { IfErr result (λ why. IsRefusedAnswer P.listing P.sites self.old.ledger number answer why) }
     {

@@ -3,6 +3,7 @@ ghost use Rattle.std.specs.Prelude.{◌≡◌, ◌+◌, ◌++◌, ◌∷◌, [],
 ghost use Rattle.orc_rules.specs.declared.entry.Entry.TheVariants.{Tick};
 ghost use Rattle.orc_ledger_spec.specs.Answers.{MayTick};
 ghost use Rattle.orc_book.specs.Coming.{SaysNext};
+ghost use Rattle.orc_book.specs.Held.{KeepsWords};
 ghost use Rattle.orc_book.specs.Refusals.{IsRefusedNext, IsRefusedTick};
 
 use crate::book::Book;
@@ -30,7 +31,7 @@ impl<P: Program + Naming> Book<P> {
         requires graph { graph.now ≡ P.listing }
         ensures says { IfOk result (λ n. SaysNext P.listing P.sites self.old.ledger n self.new.ledger) }
         ensures posts { self.new.posts ≡ self.old.posts }
-        ensures stands { self.new.stands ≡ self.old.stands }
+        ensures stands { KeepsWords self.old self.new }
         ensures refused { OnErr result (self.new ≡ self.old) }
         ensures why { IfErr result (λ why. IsRefusedNext P.listing self.old.ledger why) }
     {
@@ -51,7 +52,7 @@ impl<P: Program + Naming> Book<P> {
         requires { MayTick P.listing P.sites self.old.ledger time }
         ensures done { OnOk result (self.new.ledger ≡ record self.old.ledger { journal = self.old.ledger.journal ++ Tick time ∷ []; entries = self.old.ledger.entries + 1; now = time }) }
         ensures posts { self.new.posts ≡ self.old.posts }
-        ensures stands { self.new.stands ≡ self.old.stands }
+        ensures stands { KeepsWords self.old self.new }
         ensures refused { OnErr result (self.new ≡ self.old) }
         ensures why { IfErr result (λ why. IsRefusedTick self.old.ledger why) }
     {

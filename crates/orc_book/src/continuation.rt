@@ -5,7 +5,7 @@ ghost use Rattle.orc_tables.specs.declared.records.Token.{Token as Its};
 ghost use Rattle.orc_ledger_spec.specs.Doing.{what_of};
 ghost use Rattle.orc_ledger_spec.specs.Moves.{Moves};
 ghost use Rattle.orc_ledger_spec.specs.declared.results.Moved.TheVariants as moved;
-ghost use Rattle.orc_book.specs.Held.{IsToken};
+ghost use Rattle.orc_book.specs.Held.{IsToken, IsUnkept, KeepsWords};
 ghost use Rattle.orc_book.specs.Refusals.{is_onward, IsRefusedOn};
 
 use crate::book::Book;
@@ -35,8 +35,8 @@ impl<P: Program + Naming> Book<P> {
     /// Memory where the ledger refuses the entry for that.
     pub fn go_on(&mut self, graph: &Graph, token: Token<P>) -> Result<Token<P>, Refused<Token<P>>>
         requires graph { graph.now ≡ P.listing }
-        ensures done { IfOk result (λ _. (t : Its) × (ks : List ℕ) × IsToken self.old token.slot token.serial token.pass t × Moves P.listing self.old.ledger token.slot t moved.On ks self.new.ledger) }
-        ensures stands { self.new.stands ≡ self.old.stands }
+        ensures done { IfOk result (λ _. (t : Its) × (ks : List ℕ) × IsUnkept self.old token.slot token.serial token.pass t × Moves P.listing self.old.ledger token.slot t moved.On ks self.new.ledger) }
+        ensures stands { KeepsWords self.old self.new }
         ensures born { IfOk result (λ b. (t : Its) × IsToken self.new b.slot b.serial b.pass t) }
         ensures same { IfOk result (λ b. (b.slot ≡ token.slot) × (b.pass ≡ token.pass)) }
         ensures refused { IfErr result (λ r. (self.new ≡ self.old) × (r.back ≡ token)) }

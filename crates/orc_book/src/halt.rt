@@ -8,8 +8,9 @@ ghost use Rattle.orc_ledger_spec.specs.Answers.{IsAt};
 ghost use Rattle.orc_ledger_spec.specs.Halting.{HasHalted};
 ghost use Rattle.orc_ledger_spec.specs.declared.results.Halted.{Halted as ItsHalted};
 ghost use Rattle.orc_tables.specs.declared.records.Token.{Token as Its};
-ghost use Rattle.orc_book.specs.Held.{IsToken};
-ghost use Rattle.orc_book.specs.Ends.{FreesWord, HasEnded};
+ghost use Rattle.orc_book.specs.Held.{IsToken, KeepsWords};
+ghost use Rattle.orc_book.specs.Ends.{FreesWord, HasEnded, in_ended};
+ghost use Rattle.orc_book.specs.Passes.{GivesUp, in_book};
 ghost use Rattle.orc_book.specs.Refusals.{IsRefusedGroup, IsRefusedHalt};
 ghost use Rattle.orc_book.specs.Words.{kind_at};
 
@@ -48,6 +49,9 @@ impl<P: Program + Naming> Book<P> {
     ) -> Result<Ended<P>, Refused<Last<P>>>
         ensures done { IfOk result (λ e. (self.new.ledger ≡ self.old.ledger) ⊎ ((n : ℕ) × (h : ItsHalted) × HasHalted (code P.listing) self.old.ledger self.new.ledger n h)) }
         ensures word { OnOk result (FreesWord (code P.listing) self.old last.group (kind_at self.old.stands last.group) self.new) }
+        ensures marks { self.new.marks ≡ self.old.marks }
+        ensures left { IfOk result (λ e. GivesUp leave.old.items leave.new.items (λ f. in_book f self.old) (λ f. in_ended f e + in_book f self.new)) }
+        ensures lent { OnErr result (leave.new.items ≡ leave.old.items) }
         ensures born { IfOk result (HasEnded self.new) }
         ensures run { IfOk result (λ e. e ≡ Ended.Run → (p : Place) → IsAt P.listing P.sites self.new.ledger p → HasStopped (erase p.marked)) }
         ensures refused { IfErr result (λ r. (self.new ≡ self.old) × (r.back ≡ last)) }
@@ -99,7 +103,9 @@ impl<P: Program + Naming> Book<P> {
         leave: &mut Vec<Pass<P>>,
     ) -> Result<Ended<P>, BookFault>
         ensures done { IfOk result (λ _. (h : ItsHalted) × HasHalted (code P.listing) self.old.ledger self.new.ledger number h) }
-        ensures stands { self.new.stands ≡ self.old.stands }
+        ensures stands { KeepsWords self.old self.new }
+        ensures left { IfOk result (λ e. GivesUp leave.old.items leave.new.items (λ f. in_book f self.old) (λ f. in_ended f e + in_book f self.new)) }
+        ensures lent { OnErr result (leave.new.items ≡ leave.old.items) }
         ensures born { IfOk result (HasEnded self.new) }
         ensures side { IfOk result (λ e. e ≡ Ended.Run → ⊥) }
         ensures refused { OnErr result (self.new ≡ self.old) }

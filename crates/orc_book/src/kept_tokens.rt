@@ -1,6 +1,9 @@
 //! Tokens that are kept while they wait for cells.
+ghost use Rattle.std.specs.Prelude.{◌≡◌, ◌<◌, ◌≤◌, ℕ, [], length, true, false, OnOk, OnErr};
+ghost use Rattle.orc_book.specs.Held.{IsMarked, mark_at};
 
 use std::alloc::{AllocError, Global};
+use std::marker::Model;
 
 /// A token by its slot and its serial.
 #[derive(Clone, Copy)]
@@ -29,8 +32,18 @@ pub(crate) struct Keeping {
     free: u32,
 }
 
+impl Model for Keeping {
+    ghost use Rattle.std.specs.Prelude.{ℕ, List};
+
+    ghost Value = { List ℕ };
+
+    ghost view = { λ k. k.kept.items };
+}
+
 impl Keeping {
-    pub(crate) fn new(alloc: Global) -> Keeping {
+    pub(crate) fn new(alloc: Global) -> Keeping
+        ensures { result ≡ [] }
+    {
         Keeping {
             kept: Vec::new(alloc),
             heads: Vec::new(alloc),
@@ -59,7 +72,9 @@ impl Keeping {
     }
 
     // Puts a link where one is free, else behind the others. Gives its place.
-    fn put(&mut self, link: Link) -> Result<u32, AllocError> {
+    fn put(&mut self, link: Link) -> Result<u32, AllocError>
+        ensures { self.new ≡ self.old }
+    {
         let place = self.free;
         if let Some(free) = self.link_at(place) {
             self.free = free.next;
@@ -77,10 +92,15 @@ impl Keeping {
     }
 
     // A token waits for a cell.
-    fn add(&mut self, cell: u64, handle: Handle) -> Result<(), AllocError> {
+    fn add(&mut self, cell: u64, handle: Handle) -> Result<(), AllocError>
+        ensures { self.new ≡ self.old }
+    {
         let cell = cell as usize;
-        for _ in self.heads.len()..cell.saturating_add(1) {
-            self.heads.push(0)?;
+        let Some(len) = cell.checked_add(1) else {
+            return Err(AllocError);
+        };
+        if len > self.heads.len() {
+            self.heads.resize(len, 0)?;
         }
         let next = self.head_at(cell);
         let place = self.put(Link { handle, next })?;
@@ -90,22 +110,51 @@ impl Keeping {
         Ok(())
     }
 
-    /// A token is kept, and waits for these cells. Where memory is refused it isn't kept.
-    pub(crate) fn keep(&mut self, cells: &[u64], handle: Handle) -> Result<(), AllocError> {
-        for _ in self.kept.len()..handle.slot.saturating_add(1) {
-            self.kept.push(0)?;
+    // There is a mark for this slot.
+    fn reach(&mut self, slot: usize) -> Result<(), AllocError>
+        ensures same { (i : ℕ) → mark_at self.new i ≡ mark_at self.old i }
+        ensures there { OnOk result (slot < length self.new) }
+        ensures refused { OnErr result (self.new ≡ self.old) }
+    {
+        let Some(len) = slot.checked_add(1) else {
+            return Err(AllocError);
+        };
+        if len <= self.kept.len() {
+            return Ok(());
         }
+        self.kept.resize(len, 0)
+    }
+
+    /// A token is kept, and waits for these cells. Where memory is refused it isn't kept.
+    pub(crate) fn keep(&mut self, cells: &[u64], handle: Handle) -> Result<(), AllocError>
+        ensures kept { OnOk result (IsMarked self.old handle.slot handle.serial self.new) }
+        ensures refused { OnErr result (self.new ≡ self.old) }
+    {
         for cell in cells {
             self.add(*cell, handle)?;
         }
-        if let Some(kept) = self.kept.get_mut(handle.slot) {
-            *kept = handle.serial;
-        }
+        self.reach(handle.slot)?;
+        let Some(kept) = self.kept.get_mut(handle.slot) else {
+            unreachable!()
+        };
+        *kept = handle.serial;
         Ok(())
     }
 
+    /// The serial of the token that is kept in a slot; 0 for none.
+    pub(crate) fn serial_at(&self, slot: usize) -> u64
+        ensures { result ≡ mark_at self.now slot }
+    {
+        match self.kept.get(slot) {
+            Some(kept) => *kept,
+            None => 0,
+        }
+    }
+
     /// A token that waits for this cell, and does so no more.
-    pub(crate) fn pop(&mut self, cell: u64) -> Option<Handle> {
+    pub(crate) fn pop(&mut self, cell: u64) -> Option<Handle>
+        ensures { self.new ≡ self.old }
+    {
         let cell = cell as usize;
         let place = self.head_at(cell);
         let link = self.link_at(place)?;
@@ -120,7 +169,10 @@ impl Keeping {
     }
 
     /// A token is kept no more. Whether it was.
-    pub(crate) fn release(&mut self, handle: Handle) -> bool {
+    pub(crate) fn release(&mut self, handle: Handle) -> bool
+        ensures kept { result ≡ true → (mark_at self.old handle.slot ≡ handle.serial) × IsMarked self.old handle.slot 0 self.new }
+        ensures other { result ≡ false → self.new ≡ self.old }
+    {
         match self.kept.get_mut(handle.slot) {
             Some(kept) if *kept == handle.serial => {
                 *kept = 0;

@@ -2,7 +2,7 @@
 ghost use Rattle.std.specs.Prelude.{◌≡◌, ◌≤◌, ◌<◌, length, IfOk, IfErr};
 ghost use Rattle.orc_rules.specs.Timed.{IsIn};
 ghost use Rattle.orc_tables.specs.Steps.{group_at};
-ghost use Rattle.orc_book.specs.Held.{IsToken, IsGone, out_at};
+ghost use Rattle.orc_book.specs.Held.{IsUnkept, IsGone, out_at};
 ghost use Rattle.orc_book.specs.Refusals.{IsFound};
 
 use crate::book::Book;
@@ -20,9 +20,10 @@ pub(crate) struct Found {
 }
 
 impl<P: Program + Naming> Book<P> {
-    /// A token that may be out: its record is there, its pass names its group's word, and some token of the group is out. The fault is Gone.
+    /// A token that may be out: its record is there, its pass names its group's word, the book doesn't keep it, and some token of the group is out. The fault
+    /// is Gone.
     pub(crate) fn find(&self, token: &Token<P>) -> Result<Found, BookFault>
-        ensures token { IfOk result (λ f. IsToken self.now token.now.slot token.now.serial token.now.pass f.its) }
+        ensures token { IfOk result (λ f. IsUnkept self.now token.now.slot token.now.serial token.now.pass f.its) }
         ensures there { IfOk result (λ f. IsIn f.its self.now.ledger.tokens) }
         ensures group { IfOk result (λ f. f.group ≡ group_at self.now.ledger.steps f.its.step) }
         ensures out { IfOk result (λ f. (f.out ≡ out_at self.now.posts f.group) × (1 ≤ f.out) × (f.group < length self.now.posts)) }
@@ -30,6 +31,9 @@ impl<P: Program + Naming> Book<P> {
         ensures why { IfErr result (λ why. (why ≡ BookFault.Gone) × IsGone self.now token.now.slot token.now.serial token.now.pass) }
     {
         if token.serial < 1 {
+            return Err(BookFault::Gone);
+        }
+        if self.keeping.serial_at(token.slot) == token.serial {
             return Err(BookFault::Gone);
         }
         let Some(its) = self.ledger.token(token.slot, token.serial) else {

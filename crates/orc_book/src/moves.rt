@@ -6,7 +6,7 @@ ghost use Rattle.orc_rules.specs.Nodes.{code, definitions};
 ghost use Rattle.orc_ledger_spec.specs.Doing.{what_of};
 ghost use Rattle.orc_ledger_spec.specs.Moves.{Moves, IsHindered};
 ghost use Rattle.orc_ledger_spec.specs.declared.results.Moved.TheVariants as moved;
-ghost use Rattle.orc_book.specs.Held.{IsToken, IsOut, word_at};
+ghost use Rattle.orc_book.specs.Held.{IsToken, IsUnkept, IsOut, KeepsWords, word_at};
 ghost use Rattle.orc_tables.specs.Tokens.{IsHeld};
 ghost use Rattle.orc_tables.specs.Steps.{group_at};
 ghost use Rattle.orc_word.specs.Views.{group_of};
@@ -41,8 +41,8 @@ impl<P: Program + Naming> Book<P> {
     /// else next, as Full, Limit or Memory where the ledger refuses the entry for that.
     pub fn end(&mut self, graph: &Graph, token: Token<P>) -> Result<Pass<P>, Refused<Token<P>>>
         requires graph { graph.now ≡ P.listing }
-        ensures done { IfOk result (λ pass. (t : Its) × (g : ℕ) × (ks : List ℕ) × IsToken self.old token.slot token.serial token.pass t × Moves P.listing self.old.ledger token.slot t (moved.Gone g) ks self.new.ledger) }
-        ensures stands { self.new.stands ≡ self.old.stands }
+        ensures done { IfOk result (λ pass. (t : Its) × (g : ℕ) × (ks : List ℕ) × IsUnkept self.old token.slot token.serial token.pass t × Moves P.listing self.old.ledger token.slot t (moved.Gone g) ks self.new.ledger) }
+        ensures stands { KeepsWords self.old self.new }
         ensures pass { IfOk result (λ pass. pass ≡ token.pass) }
         ensures refused { IfErr result (λ r. (self.new ≡ self.old) × (r.back ≡ token)) }
         ensures why { IfErr result (λ r. IsRefusedMove P.listing self.old token is_end (IsHindered P.listing self.old.ledger) r.why) }
@@ -117,8 +117,8 @@ impl<P: Program + Naming> Book<P> {
     ) -> Result<(Token<P>, Token<P>), Refused<(Token<P>, Pass<P>)>>
         requires graph { graph.now ≡ P.listing }
         requires same { group_of same ≡ group_of token.pass }
-        ensures done { IfOk result (λ two. (t : Its) × (ks : List ℕ) × IsToken self.old token.slot token.serial token.pass t × Moves P.listing self.old.ledger token.slot t (moved.Forked two.1.slot) ks self.new.ledger) }
-        ensures stands { self.new.stands ≡ self.old.stands }
+        ensures done { IfOk result (λ two. (t : Its) × (ks : List ℕ) × IsUnkept self.old token.slot token.serial token.pass t × Moves P.listing self.old.ledger token.slot t (moved.Forked two.1.slot) ks self.new.ledger) }
+        ensures stands { KeepsWords self.old self.new }
         ensures born { IfOk result (λ two. IsOut self.new two.0 × IsOut self.new two.1) }
         ensures refused { IfErr result (λ r. (self.new ≡ self.old) × (r.back.0 ≡ token) × (r.back.1 ≡ same)) }
         ensures why { IfErr result (λ r. IsRefusedMove P.listing self.old token is_fork (IsHindered P.listing self.old.ledger) r.why) }
@@ -184,8 +184,8 @@ impl<P: Program + Naming> Book<P> {
     /// Full, Limit or Memory where the ledger refuses the entry for that.
     pub fn publish(&mut self, graph: &Graph, token: Token<P>) -> Result<Pass<P>, Refused<Token<P>>>
         requires graph { graph.now ≡ P.listing }
-        ensures done { IfOk result (λ pass. (t : Its) × (g : ℕ) × (ks : List ℕ) × IsToken self.old token.slot token.serial token.pass t × Moves P.listing self.old.ledger token.slot t (moved.Gone g) ks self.new.ledger) }
-        ensures stands { self.new.stands ≡ self.old.stands }
+        ensures done { IfOk result (λ pass. (t : Its) × (g : ℕ) × (ks : List ℕ) × IsUnkept self.old token.slot token.serial token.pass t × Moves P.listing self.old.ledger token.slot t (moved.Gone g) ks self.new.ledger) }
+        ensures stands { KeepsWords self.old self.new }
         ensures pass { IfOk result (λ pass. pass ≡ token.pass) }
         ensures refused { IfErr result (λ r. (self.new ≡ self.old) × (r.back ≡ token)) }
         ensures why { IfErr result (λ r. IsRefusedMove P.listing self.old token is_publication (IsHindered P.listing self.old.ledger) r.why) }

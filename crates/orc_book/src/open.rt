@@ -6,7 +6,7 @@ ghost use Rattle.orc_ledger_spec.specs.Doing.{what_of};
 ghost use Rattle.orc_ledger_spec.specs.Moves.{Moves};
 ghost use Rattle.orc_ledger_spec.specs.declared.results.Moved.TheVariants as moved;
 ghost use Rattle.orc_word.specs.Views.{group_of};
-ghost use Rattle.orc_book.specs.Held.{Hold, IsToken, IsOut, HasStayed, Changes, Same};
+ghost use Rattle.orc_book.specs.Held.{Hold, IsUnkept, IsOut, HasStayed, Changes, Same};
 ghost use Rattle.orc_book.specs.Refusals.{is_prune, is_other, IsRefusedOpening};
 ghost use Rattle.orc_book.specs.Words.{OpensWord, HasNoWord};
 
@@ -38,7 +38,7 @@ fn open_word<P: Naming>(
     ensures next { IfOk result (λ o. o.word ≡ words.now.next) }
     ensures few { OnOk result (words.now.next < P.table.words) }
     ensures refused { IfErr result (λ r. r.back ≡ idle) }
-    ensures why { IfErr result (λ r. HasNoWord words.now.kinds P.table.words r.why) }
+    ensures why { IfErr result (λ r. HasNoWord words.now.stands P.table.words r.why) }
 {
     let word = match words.next() {
         Ok(word) => word,
@@ -92,7 +92,7 @@ impl<P: Program + Naming> Book<P> {
         requires graph { graph.now ≡ P.listing }
         requires same { group_of same ≡ group_of token.pass }
         requires idle { group_of idle ≡ None }
-        ensures done { IfOk result (λ two. (t : Its) × (ks : List ℕ) × IsToken self.old token.slot token.serial token.pass t × Moves P.listing self.old.ledger token.slot t (moved.Forked two.1.slot) ks self.new.ledger) }
+        ensures done { IfOk result (λ two. (t : Its) × (ks : List ℕ) × IsUnkept self.old token.slot token.serial token.pass t × Moves P.listing self.old.ledger token.slot t (moved.Forked two.1.slot) ks self.new.ledger) }
         ensures born { IfOk result (λ two. IsOut self.new two.0 × IsOut self.new two.1) }
         ensures word { IfOk result (λ two. OpensWord self.old two.1 self.new) }
         ensures refused { IfErr result (λ r. HasStayed self.old self.new × (r.back.0 ≡ token) × (r.back.1 ≡ same) × (group_of r.back.2 ≡ None)) }
@@ -179,7 +179,7 @@ impl<P: Program + Naming> Book<P> {
     ) -> Result<Token<P>, Refused<(Token<P>, Pass<P>)>>
         requires graph { graph.now ≡ P.listing }
         requires idle { group_of idle ≡ None }
-        ensures done { IfOk result (λ _. (t : Its) × (ks : List ℕ) × IsToken self.old token.slot token.serial token.pass t × Moves P.listing self.old.ledger token.slot t moved.On ks self.new.ledger) }
+        ensures done { IfOk result (λ _. (t : Its) × (ks : List ℕ) × IsUnkept self.old token.slot token.serial token.pass t × Moves P.listing self.old.ledger token.slot t moved.On ks self.new.ledger) }
         ensures born { IfOk result (λ b. IsOut self.new b) }
         ensures word { IfOk result (λ b. OpensWord self.old b self.new) }
         ensures refused { IfErr result (λ r. HasStayed self.old self.new × (r.back.0 ≡ token) × (group_of r.back.1 ≡ None)) }

@@ -1,8 +1,10 @@
 //! What a book has of a group.
 ghost use Rattle.std.specs.Prelude.{◌≡◌, ◌+◌, ◌-◌, ◌<◌, ◌≤◌, ◌^◌, ◌∷◌, ◌++◌, [], Some, None, true, false, length, vec_len, vec_capacity, IfOk, OnOk, MatchOption, MatchResult};
+ghost use Rattle.orc_indexes.specs.Same.{weight};
 ghost use Rattle.orc_word.specs.Views.{group_of};
 ghost use Rattle.orc_rules.specs.declared.limits.TheConstants.{MOST_GROUPS};
-ghost use Rattle.orc_book.specs.Held.{Hold, AreFirst, HaveGrown, Becomes, Changes, Same, OneMore, OneFewer, held_at, kept_at, out_at, word_at, room_at};
+ghost use Rattle.orc_book.specs.Passes.{GivesUp};
+ghost use Rattle.orc_book.specs.Held.{Hold, AreFirst, HaveGrown, Becomes, Changes, Same, OneMore, TakesOne, held_at, kept_at, out_at, word_at, room_at};
 
 use orc_rules::limits::MOST_GROUPS;
 use orc_word::{Groups, Naming, Pass};
@@ -106,7 +108,7 @@ impl<J: Naming> Post<J> {
     /// A pass, if one is held.
     pub(crate) fn take(&mut self) -> Option<Pass<J>>
         ensures rest { (self.new.word ≡ self.old.word) × (self.new.kept ≡ self.old.kept) × (self.new.out ≡ self.old.out) }
-        ensures pass { MatchOption result ((length self.old.passes ≡ 0) × (length self.new.passes ≡ 0)) (λ pass. (group_of pass ≡ Some self.old.word) × (length self.old.passes ≡ length self.new.passes + 1)) }
+        ensures pass { MatchOption result ((length self.old.passes ≡ 0) × (length self.new.passes ≡ 0)) (λ pass. (group_of pass ≡ Some self.old.word) × (length self.old.passes ≡ length self.new.passes + 1) × (self.old.passes ≡ self.new.passes ++ pass ∷ [])) }
     {
         self.passes.pop()
     }
@@ -130,13 +132,15 @@ impl<J: Naming> Post<J> {
         ensures rest { (self.new.word ≡ self.old.word) × (self.new.kept ≡ self.old.kept) × (self.new.out ≡ self.old.out) }
         ensures held { length self.new.passes + self.new.out ≡ members }
         ensures left { vec_len leave.new + length self.new.passes ≡ vec_len leave.old + length self.old.passes }
+        ensures given { GivesUp leave.old.items leave.new.items (λ f. weight f self.old.passes) (λ f. weight f self.new.passes) }
         ensures capacity { vec_capacity leave.new ≡ vec_capacity leave.old }
     {
         let wanted = members - self.out;
         while self.passes.len() > wanted {
-            if let Some(pass) = self.passes.pop() {
-                leave.push_reserved(pass);
-            }
+            let Some(pass) = self.passes.pop() else {
+                unreachable!()
+            };
+            leave.push_reserved(pass);
         }
     }
 
@@ -191,7 +195,7 @@ pub(crate) fn settle_at<J: Naming>(
     requires enough { members ≤ held_at posts.old.items number + out_at posts.old.items number }
     requires out { out_at posts.old.items number ≤ members }
     requires room { vec_len leave.old + held_at posts.old.items number ≤ vec_capacity leave.old }
-    ensures post { (p : Hold) × (q : Hold) × Becomes posts.old.items number p q posts.new.items × (q.word ≡ p.word) × (q.kept ≡ p.kept) × (q.out ≡ p.out) × (length q.passes + q.out ≡ members) × (vec_len leave.new + length q.passes ≡ vec_len leave.old + length p.passes) }
+    ensures post { (p : Hold) × (q : Hold) × Becomes posts.old.items number p q posts.new.items × (q.word ≡ p.word) × (q.kept ≡ p.kept) × (q.out ≡ p.out) × (length q.passes + q.out ≡ members) × (vec_len leave.new + length q.passes ≡ vec_len leave.old + length p.passes) × GivesUp leave.old.items leave.new.items (λ f. weight f p.passes) (λ f. weight f q.passes) }
     ensures capacity { vec_capacity leave.new ≡ vec_capacity leave.old }
 {
     if let Some(post) = posts.get_mut(number as usize) {
@@ -225,7 +229,7 @@ pub(crate) fn put_at<J: Naming>(posts: &mut Vec<Post<J>>, number: u32, pass: Pas
 
 /// One pass fewer of a group.
 pub(crate) fn take_at<J: Naming>(posts: &mut Vec<Post<J>>, number: u32) -> Option<Pass<J>>
-    ensures fewer { MatchOption result (held_at posts.old.items number ≡ 0) (λ pass. (group_of pass ≡ Some (word_at posts.old.items number)) × Changes posts.old.items number posts.new.items OneFewer) }
+    ensures fewer { MatchOption result (held_at posts.old.items number ≡ 0) (λ pass. (group_of pass ≡ Some (word_at posts.old.items number)) × Changes posts.old.items number posts.new.items (TakesOne pass)) }
 {
     match posts.get_mut(number as usize) {
         Some(post) => post.take(),
@@ -272,7 +276,7 @@ pub(crate) fn send_at<J: Naming>(
     number: u32,
     out: usize,
 ) -> Option<Pass<J>>
-    ensures fewer { MatchOption result (held_at posts.old.items number ≡ 0) (λ pass. (group_of pass ≡ Some (word_at posts.old.items number)) × Changes posts.old.items number posts.new.items (λ p q. (length q.passes + 1 ≡ length p.passes) × (q.kept ≡ p.kept) × (q.out ≡ out))) }
+    ensures fewer { MatchOption result (held_at posts.old.items number ≡ 0) (λ pass. (group_of pass ≡ Some (word_at posts.old.items number)) × Changes posts.old.items number posts.new.items (λ p q. (length q.passes + 1 ≡ length p.passes) × (q.kept ≡ p.kept) × (q.out ≡ out) × (p.passes ≡ q.passes ++ pass ∷ []))) }
 {
     match posts.get_mut(number as usize) {
         Some(post) => {
@@ -357,7 +361,7 @@ pub(crate) fn spare_at<J: Naming>(
     number: u32,
     members: usize,
 ) -> Option<Pass<J>>
-    ensures { MatchOption result (posts.new.items ≡ posts.old.items) (λ pass. (group_of pass ≡ Some (word_at posts.old.items number)) × (members + 1 ≤ held_at posts.old.items number + out_at posts.old.items number) × Changes posts.old.items number posts.new.items OneFewer) }
+    ensures { MatchOption result (posts.new.items ≡ posts.old.items) (λ pass. (group_of pass ≡ Some (word_at posts.old.items number)) × (members + 1 ≤ held_at posts.old.items number + out_at posts.old.items number) × Changes posts.old.items number posts.new.items (TakesOne pass)) }
 {
     let held = held_in(posts, number);
     let out = out_in(posts, number);
@@ -389,11 +393,11 @@ pub(crate) fn is_over<J: Naming>(posts: &Vec<Post<J>>, number: u32, members: usi
     }
 }
 
-/// The numbers of a group's word and of the group round it.
-pub(crate) fn place_in<J: Naming>(posts: &Vec<Post<J>>, number: u32) -> Option<(u32, u32)> {
+/// The number of the group round a group, as it was told.
+pub(crate) fn parent_in<J: Naming>(posts: &Vec<Post<J>>, number: u32) -> u32 {
     match posts.get(number as usize) {
-        Some(post) => Some((post.word(), post.parent())),
-        None => None,
+        Some(post) => post.parent(),
+        None => 0,
     }
 }
 

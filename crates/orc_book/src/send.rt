@@ -1,5 +1,5 @@
 //! Publications that a `>x>` takes.
-ghost use Rattle.std.specs.Prelude.{◌≡◌, ◌≤◌, ◌<◌, ◌+◌, ℕ, List, length, Some, None, false, vec_len, vec_capacity, IfErr, IfSome, IfNone, OnOk};
+ghost use Rattle.std.specs.Prelude.{◌≡◌, ◌≤◌, ◌<◌, ◌+◌, ◌++◌, ◌∷◌, [], ℕ, MatchResult, List, length, Some, None, false, vec_len, vec_capacity, IfErr, IfSome, IfNone, OnOk};
 ghost use Rattle.orc_rules.specs.Nodes.{code, definitions};
 ghost use Rattle.orc_ledger_spec.specs.Doing.{what_of};
 ghost use Rattle.orc_tables.specs.declared.records.Token.{Token as Its};
@@ -9,8 +9,8 @@ ghost use Rattle.orc_tables.specs.Steps.{group_at};
 ghost use Rattle.orc_tables.specs.Tokens.{IsHeld};
 ghost use Rattle.orc_word.specs.declared.view.View.{View};
 ghost use Rattle.orc_word.specs.Views.{group_of};
-ghost use Rattle.orc_book.specs.Held.{IsToken, HasStayed, AreBorn, out_at};
-ghost use Rattle.orc_book.specs.Stepping.{HasStepped, AreLeft, IsFedBy};
+ghost use Rattle.orc_book.specs.Held.{IsUnkept, KeepsWords, HasStayed, AreBorn, out_at};
+ghost use Rattle.orc_book.specs.Stepping.{HasStepped, AreLeft, IsFedBy, SpendsIdle};
 
 use crate::book::Book;
 use crate::lookup::Found;
@@ -73,9 +73,11 @@ impl<P: Program + Naming> Book<P> {
         requires tokens { vec_len out.old.born + 2 ≤ vec_capacity out.old.born }
         requires passes { vec_len out.old.leave + 1 ≤ vec_capacity out.old.leave }
         ensures done { OnOk result (HasStepped P.listing self.old token.slot token.serial token.pass self.new) }
-        ensures stands { self.new.stands ≡ self.old.stands }
+        ensures stands { KeepsWords self.old self.new }
         ensures born { OnOk result (AreBorn out.old.born.items out.new.born.items self.new) }
         ensures leave { OnOk result (AreLeft out.old.leave.items out.new.leave.items) }
+        ensures same { births.new.same ≡ births.old.same }
+        ensures idle { MatchResult result (λ _. SpendsIdle token.pass births.old.idle.items births.new.idle.items out.old.leave.items out.new.leave.items) (λ _. births.new.idle.items ≡ births.old.idle.items) }
         ensures cancelled { out.new.cancelled ≡ out.old.cancelled }
         ensures refused { IfErr result (λ r. HasStayed self.old self.new × (r.back ≡ token) × (out.new.born.items ≡ out.old.born.items) × (out.new.leave.items ≡ out.old.leave.items)) }
         ensures why { IfErr result (λ r. IsRefusedStep P.listing self.old token births.old.same.items births.old.idle.items r.why) }
@@ -104,14 +106,14 @@ impl<P: Program + Naming> Book<P> {
         fed: Fed,
         out: &mut StepOut<P>,
     ) -> Result<(), Refused<Token<P>>>
-        requires token { IsToken self.old token.slot token.serial token.pass found.its }
+        requires token { IsUnkept self.old token.slot token.serial token.pass found.its }
         requires found { IsFound P.listing self.old token found.its }
         requires there { IsIn found.its self.old.ledger.tokens }
         requires fed { IsFedBy P.listing self.old.ledger found.its fed }
         requires round { group_at self.old.ledger.steps fed.outer ≡ group_at self.old.ledger.steps found.its.step }
         requires tokens { vec_len out.old.born + 2 ≤ vec_capacity out.old.born }
         ensures done { OnOk result (HasStepped P.listing self.old token.slot token.serial token.pass self.new) }
-        ensures stands { self.new.stands ≡ self.old.stands }
+        ensures stands { KeepsWords self.old self.new }
         ensures born { OnOk result (AreBorn out.old.born.items out.new.born.items self.new) }
         ensures leave { out.new.leave ≡ out.old.leave }
         ensures cancelled { out.new.cancelled ≡ out.old.cancelled }
@@ -145,7 +147,7 @@ impl<P: Program + Naming> Book<P> {
         births: &mut Births<P>,
         out: &mut StepOut<P>,
     ) -> Result<(), Refused<Token<P>>>
-        requires token { IsToken self.old token.slot token.serial token.pass found.its }
+        requires token { IsUnkept self.old token.slot token.serial token.pass found.its }
         requires found { IsFound P.listing self.old token found.its }
         requires there { IsIn found.its self.old.ledger.tokens }
         requires group { found.group ≡ group_at self.old.ledger.steps found.its.step }
@@ -156,9 +158,11 @@ impl<P: Program + Naming> Book<P> {
         requires tokens { vec_len out.old.born + 2 ≤ vec_capacity out.old.born }
         requires passes { vec_len out.old.leave + 1 ≤ vec_capacity out.old.leave }
         ensures done { OnOk result (HasStepped P.listing self.old token.slot token.serial token.pass self.new) }
-        ensures stands { self.new.stands ≡ self.old.stands }
+        ensures stands { KeepsWords self.old self.new }
         ensures born { OnOk result (AreBorn out.old.born.items out.new.born.items self.new) }
         ensures leave { OnOk result (AreLeft out.old.leave.items out.new.leave.items) }
+        ensures same { births.new.same ≡ births.old.same }
+        ensures idle { MatchResult result (λ _. (v : View) × (births.old.idle.items ≡ births.new.idle.items ++ v ∷ []) × (out.new.leave.items ≡ out.old.leave.items ++ token.pass ∷ [])) (λ _. births.new.idle.items ≡ births.old.idle.items) }
         ensures cancelled { out.new.cancelled ≡ out.old.cancelled }
         ensures refused { IfErr result (λ r. (self.new ≡ self.old) × (r.back ≡ token) × (out.new.born ≡ out.old.born) × (out.new.leave ≡ out.old.leave)) }
         ensures why { IfErr result (λ r. IsRefusedStep P.listing self.old token births.old.same.items births.old.idle.items r.why) }

@@ -3,9 +3,12 @@ ghost use Rattle.std.specs.Prelude.{◌≡◌, ◌+◌, ◌≤◌, ℕ, true, fa
 ghost use Rattle.orc_rules.specs.declared.limits.TheConstants.{MOST_GROUPS};
 ghost use Rattle.orc_indexes.specs.Same.{weight};
 ghost use Rattle.orc_book.specs.Held.{AreHeld, AreLoose, IsLoose, IsThere, IsMissing, bag};
-ghost use Rattle.orc_book.specs.Words.{HaveDied, kind_at};
+ghost use Rattle.orc_book.specs.Passes.{GivesUp, in_posts, in_words};
+ghost use Rattle.orc_book.specs.Words.{AreThere, HaveDied, kind_at};
+ghost use Rattle.orc_ledger_spec.specs.Next.{members, numbers_of};
+ghost use Rattle.orc_word.specs.declared.view.View.{View};
 
-use crate::post::{Post, clear_at, is_over, place_in, settle_at, spare_at, word_in};
+use crate::post::{Post, clear_at, is_over, parent_in, settle_at, spare_at, word_in};
 use crate::word_table::{Kind, WordTable};
 use orc_ledger::Ledger;
 use orc_log::Program;
@@ -31,6 +34,7 @@ pub(crate) fn clear_missing<P: Program, J: Naming>(ledger: &Ledger<P>, posts: &m
     requires loose { AreLoose posts.old.items ledger.now }
     ensures loose { (i : ℕ) → IsLoose ledger.now posts.new.items i }
     ensures bags { weight bag posts.new.items ≡ weight bag posts.old.items }
+    ensures held { (f : View → ℕ) → in_posts f posts.new.items ≡ in_posts f posts.old.items }
     ensures count { length posts.new.items ≡ length posts.old.items }
 {
     let count = posts.len();
@@ -44,33 +48,34 @@ pub(crate) fn clear_missing<P: Program, J: Naming>(ledger: &Ledger<P>, posts: &m
     }
 }
 
-// Where the group with this number is there no more, its word stands for a killed one, with a pass of the group that was round it.
+// Where a word stands for an open group that is there no more, it stands for a killed one, with a pass of the group that was round it.
 fn bury_one<P: Program, J: Naming>(
     ledger: &Ledger<P>,
     posts: &mut Vec<Post<J>>,
     words: &mut WordTable<J>,
-    number: u32,
+    word: u32,
 )
     requires loose { (i : ℕ) → IsLoose ledger.now posts.old.items i }
+    requires missing { (i : ℕ) → IsMissing ledger.now i → members (numbers_of ledger.now) ledger.now i ≡ 0 }
     ensures loose { (i : ℕ) → IsLoose ledger.now posts.new.items i }
     ensures bags { weight bag posts.new.items ≤ weight bag posts.old.items }
     ensures count { length posts.new.items ≡ length posts.old.items }
-    ensures died { HaveDied ledger.now words.old.kinds words.new.kinds }
+    ensures held { (f : View → ℕ) → in_posts f posts.new.items + in_words f words.new.stands ≡ in_posts f posts.old.items + in_words f words.old.stands }
+    ensures died { HaveDied ledger.now words.old.stands words.new.stands }
+    ensures there { (number : ℕ) → kind_at words.new.stands word ≡ Kind.Open number → IsThere ledger.now number }
 {
+    let Kind::Open(number) = words.kind(word) else {
+        return;
+    };
     // A group that has members is there; to ask that first is faster.
-    let members = ledger.member_count(number);
-    if members > 0 {
+    let count = ledger.member_count(number);
+    if count > 0 {
         return;
     }
     if is_there(ledger, number) {
         return;
     }
-    let Some((word, parent)) = place_in(posts, number) else {
-        return;
-    };
-    if !is_open(words, word, number) {
-        return;
-    }
+    let parent = parent_in(posts, number);
     let above = word_in(posts, parent);
     let pass = spare_at(posts, parent, ledger.member_count(parent) as usize);
     words.bury(word, above, pass);
@@ -84,24 +89,16 @@ pub(crate) fn bury_missing<P: Program, J: Naming>(
 )
     requires few { length posts.old.items ≤ MOST_GROUPS }
     requires loose { (i : ℕ) → IsLoose ledger.now posts.old.items i }
+    requires missing { (i : ℕ) → IsMissing ledger.now i → members (numbers_of ledger.now) ledger.now i ≡ 0 }
     ensures loose { (i : ℕ) → IsLoose ledger.now posts.new.items i }
     ensures bags { weight bag posts.new.items ≤ weight bag posts.old.items }
     ensures count { length posts.new.items ≡ length posts.old.items }
-    ensures died { HaveDied ledger.now words.old.kinds words.new.kinds }
+    ensures held { (f : View → ℕ) → in_posts f posts.new.items + in_words f words.new.stands ≡ in_posts f posts.old.items + in_words f words.old.stands }
+    ensures died { HaveDied ledger.now words.old.stands words.new.stands }
+    ensures there { AreThere ledger.now words.new.stands }
 {
-    let count = posts.len();
-    for number in 0..count {
-        bury_one(ledger, posts, words, number as u32);
-    }
-}
-
-// Whether a word stands for the open group with this number.
-fn is_open<J: Naming>(words: &WordTable<J>, word: u32, number: u32) -> bool
-    ensures { result ≡ true → kind_at words.now.kinds word ≡ Kind.Open number }
-{
-    match words.kind(word) {
-        Kind::Open(open) => open == number,
-        _ => false,
+    for word in 0..words.high() {
+        bury_one(ledger, posts, words, word);
     }
 }
 
@@ -115,6 +112,7 @@ pub(crate) fn settle_all<P: Program, J: Naming>(
     requires loose { (i : ℕ) → IsLoose ledger.now posts.old.items i }
     requires room { vec_len leave.old + weight bag posts.old.items ≤ vec_capacity leave.old }
     ensures held { AreHeld posts.new.items ledger.now }
+    ensures given { GivesUp leave.old.items leave.new.items (λ f. in_posts f posts.old.items) (λ f. in_posts f posts.new.items) }
     ensures room { vec_len leave.new + weight bag posts.new.items ≤ vec_len leave.old + weight bag posts.old.items }
     ensures capacity { vec_capacity leave.new ≡ vec_capacity leave.old }
 {

@@ -1,11 +1,11 @@
 //! A token's next move, whichever of those it is that have no call of their own.
-ghost use Rattle.std.specs.Prelude.{◌≡◌, ◌≤◌, ◌+◌, ◌⊎◌, List, vec_len, vec_capacity, IfErr, OnOk};
+ghost use Rattle.std.specs.Prelude.{◌≡◌, ◌≤◌, ◌+◌, ◌⊎◌, ◌++◌, ◌∷◌, [], List, vec_len, vec_capacity, IfErr, MatchResult, OnErr, OnOk};
 ghost use Rattle.orc_tables.specs.declared.records.Token.{Token as Its};
-ghost use Rattle.orc_book.specs.Held.{HasStayed, AreBorn};
+ghost use Rattle.orc_book.specs.Held.{HasStayed, KeepsWords, AreBorn};
 ghost use Rattle.orc_book.specs.Refusals.{is_end, is_fork, is_onward, is_opening, is_other, is_prune, IsTaken, IsRefusedMove, IsRefusedStep, IsUnopened};
 ghost use Rattle.orc_word.specs.declared.view.View.{View};
 ghost use Rattle.orc_ledger_spec.specs.Moves.{IsHindered};
-ghost use Rattle.orc_book.specs.Stepping.{HasStepped, AreLeft};
+ghost use Rattle.orc_book.specs.Stepping.{HasSpent, HasStepped, AreBack, AreLeft};
 ghost use Rattle.orc_book.specs.Words.{HaveOpened};
 
 use crate::book::Book;
@@ -35,8 +35,11 @@ impl<P: Program + Naming> Book<P> {
         requires graph { graph.now ≡ P.listing }
         ensures done { OnOk result (HasStepped P.listing self.old token.slot token.serial token.pass self.new) }
         ensures stands { HaveOpened self.old.stands self.new.stands }
+        ensures marks { self.new.marks ≡ self.old.marks }
         ensures born { OnOk result (AreBorn out.old.born.items out.new.born.items self.new) }
         ensures leave { OnOk result (AreLeft out.old.leave.items out.new.leave.items) }
+        ensures spent { OnOk result (HasSpent P.listing self.old token.slot token.serial token.pass (record { same = births.old.same.items; idle = births.old.idle.items; leave = out.old.leave.items }) (record { same = births.new.same.items; idle = births.new.idle.items; leave = out.new.leave.items })) }
+        ensures back { OnErr result ((births.new.same.items ≡ births.old.same.items) × AreBack births.old.idle.items births.new.idle.items) }
         ensures cancelled { out.new.cancelled ≡ out.old.cancelled }
         ensures refused { IfErr result (λ r. HasStayed self.old self.new × (r.back ≡ token) × (out.new.born.items ≡ out.old.born.items) × (out.new.leave.items ≡ out.old.leave.items)) }
         ensures why { IfErr result (λ r. IsUnopened P.listing self.old token P.table.words is_opening r.why ⊎ IsRefusedStep P.listing self.old token births.old.same.items births.old.idle.items r.why) }
@@ -72,9 +75,10 @@ impl<P: Program + Naming> Book<P> {
         requires graph { graph.now ≡ P.listing }
         requires passes { vec_len out.old.leave + 1 ≤ vec_capacity out.old.leave }
         ensures done { OnOk result (HasStepped P.listing self.old token.slot token.serial token.pass self.new) }
-        ensures stands { self.new.stands ≡ self.old.stands }
+        ensures stands { KeepsWords self.old self.new }
         ensures born { out.new.born ≡ out.old.born }
         ensures leave { OnOk result (AreLeft out.old.leave.items out.new.leave.items) }
+        ensures left { OnOk result (out.new.leave.items ≡ out.old.leave.items ++ token.pass ∷ []) }
         ensures cancelled { out.new.cancelled ≡ out.old.cancelled }
         ensures refused { IfErr result (λ r. (self.new ≡ self.old) × (r.back ≡ token) × (out.new.leave ≡ out.old.leave)) }
         ensures why { IfErr result (λ r. IsRefusedMove P.listing self.old token is_end (IsHindered P.listing self.old.ledger) r.why) }
@@ -98,7 +102,7 @@ impl<P: Program + Naming> Book<P> {
         requires taken { (t : Its) × IsTaken P.listing self.old token is_onward t }
         requires tokens { vec_len out.old.born + 2 ≤ vec_capacity out.old.born }
         ensures done { OnOk result (HasStepped P.listing self.old token.slot token.serial token.pass self.new) }
-        ensures stands { self.new.stands ≡ self.old.stands }
+        ensures stands { KeepsWords self.old self.new }
         ensures born { OnOk result (AreBorn out.old.born.items out.new.born.items self.new) }
         ensures leave { out.new.leave ≡ out.old.leave }
         ensures cancelled { out.new.cancelled ≡ out.old.cancelled }
@@ -125,9 +129,11 @@ impl<P: Program + Naming> Book<P> {
         requires taken { (t : Its) × IsTaken P.listing self.old token is_fork t }
         requires tokens { vec_len out.old.born + 2 ≤ vec_capacity out.old.born }
         ensures done { OnOk result (HasStepped P.listing self.old token.slot token.serial token.pass self.new) }
-        ensures stands { self.new.stands ≡ self.old.stands }
+        ensures stands { KeepsWords self.old self.new }
         ensures born { OnOk result (AreBorn out.old.born.items out.new.born.items self.new) }
         ensures leave { out.new.leave ≡ out.old.leave }
+        ensures same { MatchResult result (λ _. (v : View) × (births.old.same.items ≡ births.new.same.items ++ v ∷ [])) (λ _. births.new.same.items ≡ births.old.same.items) }
+        ensures idle { births.new.idle ≡ births.old.idle }
         ensures cancelled { out.new.cancelled ≡ out.old.cancelled }
         ensures refused { IfErr result (λ r. (self.new ≡ self.old) × (r.back ≡ token) × (out.new.born ≡ out.old.born)) }
         ensures why { IfErr result (λ r. IsRefusedStep P.listing self.old token births.old.same.items births.old.idle.items r.why) }
@@ -166,8 +172,11 @@ impl<P: Program + Naming> Book<P> {
         requires tokens { vec_len out.old.born + 2 ≤ vec_capacity out.old.born }
         ensures done { OnOk result (HasStepped P.listing self.old token.slot token.serial token.pass self.new) }
         ensures stands { HaveOpened self.old.stands self.new.stands }
+        ensures marks { self.new.marks ≡ self.old.marks }
         ensures born { OnOk result (AreBorn out.old.born.items out.new.born.items self.new) }
         ensures leave { out.new.leave ≡ out.old.leave }
+        ensures same { MatchResult result (λ _. (v : View) × (births.old.same.items ≡ births.new.same.items ++ v ∷ [])) (λ _. births.new.same.items ≡ births.old.same.items) }
+        ensures idle { MatchResult result (λ _. (v : View) × (births.old.idle.items ≡ births.new.idle.items ++ v ∷ [])) (λ _. AreBack births.old.idle.items births.new.idle.items) }
         ensures cancelled { out.new.cancelled ≡ out.old.cancelled }
         ensures refused { IfErr result (λ r. HasStayed self.old self.new × (r.back ≡ token) × (out.new.born ≡ out.old.born)) }
         ensures why { IfErr result (λ r. IsUnopened P.listing self.old token P.table.words is_opening r.why ⊎ IsRefusedStep P.listing self.old token births.old.same.items births.old.idle.items r.why) }
@@ -212,8 +221,11 @@ impl<P: Program + Naming> Book<P> {
         requires tokens { vec_len out.old.born + 2 ≤ vec_capacity out.old.born }
         ensures done { OnOk result (HasStepped P.listing self.old token.slot token.serial token.pass self.new) }
         ensures stands { HaveOpened self.old.stands self.new.stands }
+        ensures marks { self.new.marks ≡ self.old.marks }
         ensures born { OnOk result (AreBorn out.old.born.items out.new.born.items self.new) }
         ensures leave { out.new.leave ≡ out.old.leave }
+        ensures same { births.new.same ≡ births.old.same }
+        ensures idle { MatchResult result (λ _. (v : View) × (births.old.idle.items ≡ births.new.idle.items ++ v ∷ [])) (λ _. AreBack births.old.idle.items births.new.idle.items) }
         ensures cancelled { out.new.cancelled ≡ out.old.cancelled }
         ensures refused { IfErr result (λ r. HasStayed self.old self.new × (r.back ≡ token) × (out.new.born ≡ out.old.born)) }
         ensures why { IfErr result (λ r. IsUnopened P.listing self.old token P.table.words is_opening r.why ⊎ IsRefusedStep P.listing self.old token births.old.same.items births.old.idle.items r.why) }

@@ -2,7 +2,7 @@
 ghost use Rattle.std.specs.Prelude.{◌≡◌, IfOk, OnOk, IfErr};
 ghost use Rattle.orc_tables.specs.declared.records.Token.{Token as Its};
 ghost use Rattle.orc_ledger_spec.specs.Parts.{StandsFor, TakesIn};
-ghost use Rattle.orc_book.specs.Held.{IsToken};
+ghost use Rattle.orc_book.specs.Held.{IsUnkept, KeepsWords};
 ghost use Rattle.orc_book.specs.SubRuns.{HasComer, IsKeptOut};
 
 use crate::book::Book;
@@ -36,8 +36,8 @@ impl<P: Program + Naming> Book<P> {
         part: &SubRun<P>,
     ) -> Result<Comer<P>, Refused<Token<P>>>
         requires graph { graph.now ≡ P.listing }
-        ensures done { OnOk result ((t : Its) × IsToken self.old token.slot token.serial token.pass t × StandsFor P.listing self.old.ledger t part.now.definition part.now.args × TakesIn self.old.ledger self.new.ledger t part.now) }
-        ensures stands { self.new.stands ≡ self.old.stands }
+        ensures done { OnOk result ((t : Its) × IsUnkept self.old token.slot token.serial token.pass t × StandsFor P.listing self.old.ledger t part.now.definition part.now.args × TakesIn self.old.ledger self.new.ledger t part.now) }
+        ensures stands { KeepsWords self.old self.new }
         ensures born { IfOk result (HasComer self.new token.slot token.pass part.now.left) }
         ensures refused { IfErr result (λ r. (self.new ≡ self.old) × (r.back ≡ token)) }
         ensures why { IfErr result (λ r. IsKeptOut self.old token.slot token.serial token.pass part.now r.why) }

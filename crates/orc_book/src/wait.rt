@@ -1,12 +1,12 @@
 //! Tokens that wait for cells: the book keeps them, and they go out again once such a cell has a value, or will never have one.
-ghost use Rattle.std.specs.Prelude.{◌≡◌, ◌≤◌, ◌+◌, ℕ, Some, true, IfErr, IfSome, OnOk};
+ghost use Rattle.std.specs.Prelude.{◌≡◌, ◌≤◌, ◌+◌, ℕ, Some, true, IfErr, IfSome, MatchOption, OnOk};
 ghost use Rattle.orc_rules.specs.Nodes.{code, definitions};
 ghost use Rattle.orc_frames.specs.Doing.{is_wait};
 ghost use Rattle.orc_ledger_spec.specs.Doing.{what_of};
 ghost use Rattle.orc_tables.specs.Steps.{group_at};
 ghost use Rattle.orc_tables.specs.declared.records.Token.{Token as Its};
 ghost use Rattle.orc_book.specs.Refusals.{IsRefusedWait};
-ghost use Rattle.orc_book.specs.Held.{Changes, IsToken, IsOut, HasStayed, HaveStayed, AreBorn, KeepsOne};
+ghost use Rattle.orc_book.specs.Held.{Changes, IsUnkept, IsOut, IsMarked, HasStayed, HaveStayed, HaveWoken, AreBorn, AreUnmarked, KeepsOne, mark_at};
 
 use crate::book::Book;
 use crate::kept_tokens::Handle;
@@ -36,8 +36,9 @@ impl<P: Program + Naming> Book<P> {
     /// the token isn't out, as Wrong where it does something else next, else as Memory.
     pub fn wait(&mut self, graph: &Graph, token: Token<P>) -> Result<(), Refused<Token<P>>>
         requires graph { graph.now ≡ P.listing }
-        ensures done { OnOk result ((t : Its) × IsToken self.old token.slot token.serial token.pass t × (is_wait (what_of (code P.listing) (definitions P.listing) self.old.ledger t) ≡ true) × Changes self.old.posts (group_at self.old.ledger.steps t.step) self.new.posts KeepsOne) }
+        ensures done { OnOk result ((t : Its) × IsUnkept self.old token.slot token.serial token.pass t × (is_wait (what_of (code P.listing) (definitions P.listing) self.old.ledger t) ≡ true) × Changes self.old.posts (group_at self.old.ledger.steps t.step) self.new.posts KeepsOne) }
         ensures ledger { self.new.ledger ≡ self.old.ledger }
+        ensures marks { OnOk result (IsMarked self.old.marks token.slot token.serial self.new.marks) }
         ensures stands { self.new.stands ≡ self.old.stands }
         ensures refused { IfErr result (λ r. HasStayed self.old self.new × (r.back ≡ token)) }
         ensures why { IfErr result (λ r. IsRefusedWait P.listing self.old token r.why) }
@@ -63,11 +64,11 @@ impl<P: Program + Naming> Book<P> {
             let why = fault_of(fault);
             return Err(Refused { why, back: token });
         }
-        let Ok(()) = self.keeping.keep(self.cells.as_slice(), handle) else {
+        let Ok(()) = reserve_at(&mut self.posts, found.group) else {
             let why = BookFault::Memory;
             return Err(Refused { why, back: token });
         };
-        let Ok(()) = reserve_at(&mut self.posts, found.group) else {
+        let Ok(()) = self.keeping.keep(self.cells.as_slice(), handle) else {
             let why = BookFault::Memory;
             return Err(Refused { why, back: token });
         };
@@ -85,6 +86,7 @@ impl<P: Program + Naming> Book<P> {
     fn wake_one(&mut self, handle: Handle) -> Option<Token<P>>
         ensures same { HaveStayed self.old self.new }
         ensures born { IfSome result (IsOut self.new) }
+        ensures woken { MatchOption result (AreUnmarked self.old.marks self.new.marks) (λ k. (1 ≤ k.serial) × (mark_at self.old.marks k.slot ≡ k.serial) × IsMarked self.old.marks k.slot 0 self.new.marks) }
     {
         if handle.serial < 1 || !self.keeping.release(handle) {
             return None;
@@ -102,6 +104,7 @@ impl<P: Program + Naming> Book<P> {
     pub fn wake(&mut self, cell: u64, born: &mut Vec<Token<P>>) -> Result<(), AllocError>
         ensures same { HaveStayed self.old self.new }
         ensures born { AreBorn born.old.items born.new.items self.new }
+        ensures once { HaveWoken self.old.marks self.new.marks born.old.items born.new.items }
     {
         for _link in 0..self.keeping.len() {
             born.try_reserve(1)?;

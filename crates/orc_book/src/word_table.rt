@@ -38,29 +38,34 @@ pub(crate) enum Kind {
 pub(crate) struct WordTable<P: Naming> {
     stands: Slab<Stand<P>>,
     count: u32,
+    // This word and all above it are free.
+    high: u32,
     dying: usize,
 }
 
 impl<P: Naming> Model for WordTable<P> {
-    ghost use Rattle.std.specs.Prelude.{◌≡◌, ◌≤◌, count_by, map};
-    ghost use Rattle.orc_book.specs.Words.{Shown, is_dying, kind_of};
+    ghost use Rattle.std.specs.Prelude.{◌≡◌, ◌≤◌, ℕ, count_by, map};
+    ghost use Rattle.orc_book.specs.declared.word_table.Kind.TheVariants.{Free};
+    ghost use Rattle.orc_book.specs.Words.{Shown, is_dying, kind_at, stood_of};
 
     ghost Value = { Shown };
 
-    ghost view = { λ t. record { kinds = map kind_of t.stands.slots; next = t.stands.vacant_key } };
+    ghost view = { λ t. record { stands = map stood_of t.stands.slots; next = t.stands.vacant_key } };
 
-    ghost invariant = { λ t. (t.count ≡ P.table.words) × (t.count ≤ t.stands.capacity) × (t.dying ≡ count_by is_dying (map kind_of t.stands.slots)) };
+    ghost invariant = { λ t. (t.count ≡ P.table.words) × (t.count ≤ t.stands.capacity) × ((w : ℕ) → t.high ≤ w → kind_at (map stood_of t.stands.slots) w ≡ Free) × (t.dying ≡ count_by is_dying (map stood_of t.stands.slots)) };
 }
 
 impl<P: Naming> WordTable<P> {
-    ghost use Rattle.std.specs.Prelude.{◌<◌, ℕ, IfOk, IfErr, IfSome, IsSome, [], count_by};
+    ghost use Rattle.std.specs.Prelude.{◌<◌, ◌≤◌, ◌+◌, ℕ, None, IfOk, IfErr, IfSome, IsSome, [], count_by};
     ghost use Rattle.orc_word.specs.Views.{group_of};
-    ghost use Rattle.orc_book.specs.Words.{IsOpened, Turns, HasNoWord, is_dying, kind_at};
+    ghost use Rattle.orc_word.specs.declared.view.View.{View};
+    ghost use Rattle.orc_book.specs.Passes.{in_words, of_owed};
+    ghost use Rattle.orc_book.specs.Words.{IsOpened, Turns, HasNoWord, is_dying, kind_at, killed, owed_at, unused};
 
     /// So many words: the first stands for the program's own group, the others are free.
     pub(crate) fn new(alloc: Global, count: u32) -> Result<WordTable<P>, AllocError>
         requires { count ≡ P.table.words }
-        ensures { IfOk result (λ t. IsOpened [] 0 0 t.kinds) }
+        ensures { IfOk result (λ t. IsOpened [] 0 0 t.stands) }
     {
         let mut stands = Slab::with_capacity(alloc, count as usize)?;
         let Ok(_first) = stands.insert(Stand::Open(0)) else {
@@ -69,6 +74,7 @@ impl<P: Naming> WordTable<P> {
         Ok(WordTable {
             stands,
             count,
+            high: 1,
             dying: 0,
         })
     }
@@ -77,8 +83,8 @@ impl<P: Naming> WordTable<P> {
     /// words though one is free: no clause of the slab's rules it out.
     #[tactic(auto, using(crate::proofs::Entries::taken_some))]
     pub(crate) fn next(&self) -> Result<u32, BookFault>
-        ensures word { IfOk result (λ word. (word ≡ self.now.next) × (word < P.table.words) × (kind_at self.now.kinds word ≡ Kind.Free)) }
-        ensures why { IfErr result (HasNoWord self.now.kinds P.table.words) }
+        ensures word { IfOk result (λ word. (word ≡ self.now.next) × (word < P.table.words) × (kind_at self.now.stands word ≡ Kind.Free)) }
+        ensures why { IfErr result (HasNoWord self.now.stands P.table.words) }
     {
         if self.stands.len() >= self.count as usize {
             return Err(BookFault::Full);
@@ -94,16 +100,27 @@ impl<P: Naming> WordTable<P> {
     /// The word that `next` gives stands for the open group with this number.
     pub(crate) fn open(&mut self, number: u32)
         requires { self.old.next < P.table.words }
-        ensures { IsOpened self.old.kinds self.old.next number self.new.kinds }
+        ensures { IsOpened self.old.stands self.old.next number self.new.stands }
     {
         let _room = self.stands.capacity();
         let _key = self.stands.vacant_key();
-        let _word = self.stands.insert_reserved(Stand::Open(number));
+        let word = self.stands.insert_reserved(Stand::Open(number)) as u32;
+        if word >= self.high {
+            self.high = word + 1;
+        }
+    }
+
+    /// This word and all above it are free.
+    pub(crate) fn high(&self) -> u32
+        ensures { (w : ℕ) → result ≤ w → kind_at self.now.stands w ≡ Kind.Free }
+    {
+        self.high
     }
 
     /// What a word stands for.
     pub(crate) fn kind(&self, word: u32) -> Kind
-        ensures { result ≡ kind_at self.now.kinds word }
+        ensures kind { result ≡ kind_at self.now.stands word }
+        ensures bare { (number : ℕ) → result ≡ Kind.Open number → owed_at self.now.stands word ≡ None }
     {
         match self.stands.get(word as usize) {
             Some(Stand::Open(number)) => Kind::Open(*number),
@@ -114,9 +131,10 @@ impl<P: Naming> WordTable<P> {
 
     /// A group is killed: its word stands for it until its last pass is left.
     pub(crate) fn bury(&mut self, word: u32, parent: u32, pass: Option<Pass<P>>)
-        requires stood { (number : ℕ) × (kind_at self.old.kinds word ≡ Kind.Open number) }
+        requires stood { (number : ℕ) × (kind_at self.old.stands word ≡ Kind.Open number) }
         requires pass { owed_to parent pass ≡ Some parent }
-        ensures { Turns self.old.kinds word Kind.Dying self.new.kinds }
+        ensures killed { Turns self.old.stands word (killed pass) self.new.stands }
+        ensures held { (f : View → ℕ) → in_words f self.new.stands ≡ in_words f self.old.stands + of_owed f pass }
     {
         let _room = self.stands.capacity();
         let Some(stand) = self.stands.get_mut(word as usize) else {
@@ -129,7 +147,8 @@ impl<P: Naming> WordTable<P> {
     /// A word is free again. Gives the pass of a killed group to the one that was round it.
     pub(crate) fn free(&mut self, word: u32) -> Option<Pass<P>>
         ensures pass { IfSome result (λ pass. IsSome (group_of pass)) }
-        ensures freed { Turns self.old.kinds word Kind.Free self.new.kinds }
+        ensures owed { result ≡ owed_at self.old.stands word }
+        ensures freed { Turns self.old.stands word unused self.new.stands }
     {
         match self.stands.try_remove(word as usize) {
             Some(Stand::Dying(owed)) => {
@@ -144,7 +163,7 @@ impl<P: Naming> WordTable<P> {
 
     /// How many words stand for killed groups.
     pub(crate) fn dying(&self) -> usize
-        ensures { result ≡ count_by is_dying self.now.kinds }
+        ensures { result ≡ count_by is_dying self.now.stands }
     {
         self.dying
     }

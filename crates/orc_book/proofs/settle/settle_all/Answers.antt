@@ -2,6 +2,8 @@ use Rattle.std.proofs.Common.{arith, subst, ap, ◌∙◌}
 use Rattle.orc_indexes.specs.Same.{weight}
 use Rattle.orc_indexes.proofs.Lists.{weight-set}
 use Rattle.orc_book.specs.Held.{Becomes, bag}
+use Rattle.orc_book.specs.Passes.{in_posts}
+use Rattle.orc_book.proofs.Given.{given-on, given-posts}
 use Rattle.orc_book.proofs.Loose.{AreSettling, settling-on, settling-done, held-fewer}
 use Rattle.orc_book.proofs.settle.settle_all.Goals as goal
 
@@ -19,6 +21,7 @@ loop-number-preserved g c =
       settling-on s first ps c.loop-number.number C c.settle_at.new.posts.items d.0 d.1 B d.4 d.5 (d.6 ∙ c.member_count-members.ensures),
       omega (arith, c.loop-number.invariant.1, d.7, ap (weight bag) B.1, weight-set bag ps c.loop-number.number d.0 d.1 B.0),
       c.settle_at.ensures.capacity ∙ c.loop-number.invariant.2,
+      given-on _ _ _ (λ f. in_posts f first) (λ f. in_posts f ps) (λ f. in_posts f c.settle_at.new.posts.items) c.loop-number.invariant.3 (given-posts _ _ ps c.settle_at.new.posts.items c.loop-number.number d.0 d.1 B d.8),
     )
 
 pub returns-clause-held : goal.returns-clause-held

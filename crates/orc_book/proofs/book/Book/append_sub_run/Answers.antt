@@ -21,7 +21,7 @@ born-born-requires g c =
     let y = some-left c.args.part.now.left c.has_value.result c.has_value.ensures c.if-has_value.true in
     let T = c.in-Ok-append_sub_run.ensures.done in
     let n = numbering b.ledger t in
-    let named : group_of c.args.token.pass ≡ Some (word_at ps (group_at b.ledger.steps t.step)) = rw (← c.self.view_is) at c.in-Ok.ensures.token.2 in
+    let named : group_of c.args.token.pass ≡ Some (word_at ps (group_at b.ledger.steps t.step)) = rw (← c.self.view_is) at c.in-Ok.ensures.token.0.2 in
     record { held = (comer n t y.0, c.in-Ok-append_sub_run.ensures.comer (comer n t y.0) (comer-in n t _ y.0 y.1), named ∙ ap (λ z. Some (word_at ps (group_at z t.step))) (sym T.steps)) }
 
 pub invariant_of-self-2 : goal.invariant_of-self-2

@@ -40,5 +40,5 @@ born-requires g c =
     let its : Token = c.in-Some._its in
     let h = c.in-Some.ensures.held in
     let group : group_at s'.steps its.step ≡ group_at b.ledger.steps t.step = went-group l g.P.Program.sites b.ledger s' c.stands.ensures.lawful c.args.token.slot t W its h.0 h.1 in
-    let named : group_of c.args.token.pass ≡ Some (word_at ps (group_at b.ledger.steps t.step)) = rw (← c.self.view_is) at c.in-Ok.ensures.token.2 in
+    let named : group_of c.args.token.pass ≡ Some (word_at ps (group_at b.ledger.steps t.step)) = rw (← c.self.view_is) at c.in-Ok.ensures.token.0.2 in
     record { held = (its, h.0, named ∙ ap (λ z. Some (word_at ps z)) (sym group)) }

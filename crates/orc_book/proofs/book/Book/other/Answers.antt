@@ -33,7 +33,7 @@ returns-then-is_err-clause-refused g c =
     let s = b.ledger in
     let ps = b.posts.items in
     let ps1 = c.reserve_opening.new.posts.items in
-    let k : HasStayed (record { ledger = s; posts = ps; stands = b.words.kinds }) (record { ledger = s; posts = ps1; stands = b.words.kinds }) = stayed s ps ps1 _ c.reserve_opening.ensures.same b.words.kinds in
+    let k : HasStayed (record { ledger = s; posts = ps; stands = b.words.stands; marks = b.keeping }) (record { ledger = s; posts = ps1; stands = b.words.stands; marks = b.keeping }) = stayed s ps ps1 _ c.reserve_opening.ensures.same b.words.stands b.keeping in
     (rw (← c.self.view_is) k, refl, c.requires.idle)
 
 pub invariant_of-self-in-Err-open_word : goal.invariant_of-self-in-Err-open_word
@@ -50,7 +50,7 @@ returns-in-Err-open_word-clause-refused g c =
     let s = b.ledger in
     let ps = b.posts.items in
     let ps1 = c.reserve_opening.new.posts.items in
-    let k : HasStayed (record { ledger = s; posts = ps; stands = b.words.kinds }) (record { ledger = s; posts = ps1; stands = b.words.kinds }) = stayed s ps ps1 _ c.reserve_opening.ensures.same b.words.kinds in
+    let k : HasStayed (record { ledger = s; posts = ps; stands = b.words.stands; marks = b.keeping }) (record { ledger = s; posts = ps1; stands = b.words.stands; marks = b.keeping }) = stayed s ps ps1 _ c.reserve_opening.ensures.same b.words.stands b.keeping in
     (rw (← c.self.view_is) k, refl, ap group_of c.in-Err-open_word.ensures.refused ∙ c.requires.idle)
 
 pub invariant_of-self-in-Err-advance : goal.invariant_of-self-in-Err-advance
@@ -67,8 +67,8 @@ returns-in-Err-advance-clause-refused g c =
     let s = b.ledger in
     let ps = b.posts.items in
     let ps1 = c.reserve_opening.new.posts.items in
-    let k : HasStayed (record { ledger = s; posts = ps; stands = b.words.kinds }) (record { ledger = s; posts = ps1; stands = b.words.kinds }) = stayed s ps ps1 _ c.reserve_opening.ensures.same b.words.kinds in
-    (rw (← c.self.view_is) (subst (λ z. HasStayed (record { ledger = s; posts = ps; stands = b.words.kinds }) (record { ledger = z; posts = ps1; stands = b.words.kinds })) (sym c.in-Err-advance.ensures.refused) k), refl, c.leave-left.ensures.idle)
+    let k : HasStayed (record { ledger = s; posts = ps; stands = b.words.stands; marks = b.keeping }) (record { ledger = s; posts = ps1; stands = b.words.stands; marks = b.keeping }) = stayed s ps ps1 _ c.reserve_opening.ensures.same b.words.stands b.keeping in
+    (rw (← c.self.view_is) (subst (λ z. HasStayed (record { ledger = s; posts = ps; stands = b.words.stands; marks = b.keeping }) (record { ledger = z; posts = ps1; stands = b.words.stands; marks = b.keeping })) (sym c.in-Err-advance.ensures.refused) k), refl, c.leave-left.ensures.idle)
 
 pub bring_at-requires-clause-names : goal.bring_at-requires-clause-names
 bring_at-requires-clause-names g c =
@@ -80,8 +80,8 @@ bring_at-requires-clause-names g c =
     let t = c.in-Ok.found.its in
     let n : ℕ = c.in-Ok.found.group in
     let at : n ≡ group_at s.steps t.step = rw (← c.self.view_is) at c.in-Ok.ensures.group in
-    let named : group_of c.args.token.pass ≡ Some (word_at ps (group_at s.steps t.step)) = rw (← c.self.view_is) at c.in-Ok.ensures.token.2 in
-    let k = stayed-grown s ps0 ps1 c.grow_to.ensures.grown ps b.words.kinds (stayed s ps ps0 _ c.reserve_opening.ensures.same b.words.kinds) in
+    let named : group_of c.args.token.pass ≡ Some (word_at ps (group_at s.steps t.step)) = rw (← c.self.view_is) at c.in-Ok.ensures.token.0.2 in
+    let k = stayed-grown s ps0 ps1 c.grow_to.ensures.grown ps b.words.stands b.keeping (stayed s ps ps0 _ c.reserve_opening.ensures.same b.words.stands b.keeping) in
     named ∙ ap (λ z. Some (word_at ps z)) (sym at) ∙ ap Some (sym (k.words n))
 
 pub grow_to-requires-clause-number : goal.grow_to-requires-clause-number
@@ -179,7 +179,7 @@ invariant_of-self-in-Ok-On g c =
     let off : n ≡ number → ⊥ = λ e. free-apart l sites s L G number F t i (sym at ∙ e) in
     let D = c.raise_at.ensures in
     let ps3 = c.raise_at.new.posts.items in
-    let k = stayed-grown s ps0 ps1 c.grow_to.ensures.grown ps b.words.kinds (stayed s ps ps0 _ c.reserve_opening.ensures.same b.words.kinds) in
+    let k = stayed-grown s ps0 ps1 c.grow_to.ensures.grown ps b.words.stands b.keeping (stayed s ps ps0 _ c.reserve_opening.ensures.same b.words.stands b.keeping) in
     let out : c.in-Ok.found.out ≡ out_at ps n = rw (← c.self.view_is) at c.in-Ok.ensures.out.0 in
     let before : out_at ps2 number ≡ 0 = other-at out_of ps1 ps2 n C.0 C.1 C.2 number (λ e. off (sym e)) ∙ none.1 in
     let B : Becomes ps2 number D.0 D.1 ps3 = subst (λ z. Becomes ps2 z D.0 D.1 ps3) its D.2 in
@@ -255,7 +255,7 @@ returns-in-Some-clause-word g c =
     let ps3 = c.raise_at.new.posts.items in
     let D = c.raise_at.ensures in
     let named : word_at ps3 c.group_of_token-number.result ≡ c.in-Ok-open_word.opened.word = mine-at word_of _ ps3 _ D.0 D.1 D.2 ∙ D.3 in
-    rw (← c.self.view_is) (opens-word (record { ledger = b.ledger; posts = b.posts.items; stands = b.words.kinds }) (record { ledger = s'; posts = ps3; stands = c.open.new.self.kinds }) c.born.result c.in-Some.inner c.args.token.slot c.group_of_token-number.result c.in-Ok-open_word.opened.word b.words.next c.born.ensures.token c.born.ensures.same.0 c.in-Some.ensures.held.0 c.group_of_token-number.ensures named c.in-Ok-open_word.ensures.next c.open.ensures)
+    rw (← c.self.view_is) (opens-word (record { ledger = b.ledger; posts = b.posts.items; stands = b.words.stands; marks = b.keeping }) (record { ledger = s'; posts = ps3; stands = c.open.new.self.stands; marks = b.keeping }) c.born.result c.in-Some.inner c.args.token.slot c.group_of_token-number.result c.in-Ok-open_word.opened.word b.words.next c.born.ensures.token c.born.ensures.same.0 c.in-Some.ensures.held.0 c.group_of_token-number.ensures named c.in-Ok-open_word.ensures.next c.open.ensures refl)
 
 pub returns-in-Err-open_word-clause-why : goal.returns-in-Err-open_word-clause-why
 returns-in-Err-open_word-clause-why g c =

@@ -33,7 +33,7 @@ born-born-requires g c =
     let t = c.args.found.its in
     let same : group_at b.ledger.steps c.args.fed.outer ≡ group_at b.ledger.steps t.step = rw (← c.self.view_is) at c.requires.round in
     let T = c.in-Ok.ensures.done in
-    let named : group_of c.args.token.pass ≡ Some (word_at ps (group_at b.ledger.steps t.step)) = rw (← c.self.view_is) at c.requires.token.2 in
+    let named : group_of c.args.token.pass ≡ Some (word_at ps (group_at b.ledger.steps t.step)) = rw (← c.self.view_is) at c.requires.token.0.2 in
     record { held = (_, c.in-Ok.ensures.right, named ∙ ap (λ z. Some (word_at ps z)) (sym (alike-group b.ledger.steps s'.steps (sym T.steps.alike) c.args.fed.outer ∙ same))) }
 
 pub returns-in-Ok-clause-done : goal.returns-in-Ok-clause-done

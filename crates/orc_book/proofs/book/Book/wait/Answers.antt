@@ -1,7 +1,7 @@
 use Rattle.std.proofs.Common.{◌≡◌, ℕ, arith, refl, ap, sym, ◌∙◌, subst, Some}
 use Rattle.orc_tables.specs.Steps.{group_at}
 use Rattle.orc_word.specs.Views.{group_of}
-use Rattle.orc_book.specs.Held.{AreHeld, Changes, HasStayed, KeepsOne, kept_at, out_at, word_at}
+use Rattle.orc_book.specs.Held.{Held, AreHeld, Changes, HasStayed, KeepsOne, kept_at, out_at, word_at}
 use Rattle.orc_book.proofs.Ones.{roomy-held, tokens-few}
 use Rattle.orc_book.proofs.Moving.{kept-held}
 use Rattle.orc_book.proofs.Posts.{stayed, keeps-one}
@@ -17,8 +17,23 @@ pub returns-in_default-reserve_at-clause-refused : goal.returns-in_default-reser
 returns-in_default-reserve_at-clause-refused g c =
     let b = c.self.inside in
     let ps1 = c.reserve_at.new.posts.items in
-    let k : HasStayed (record { ledger = b.ledger; posts = b.posts.items; stands = b.words.kinds }) (record { ledger = b.ledger; posts = ps1; stands = b.words.kinds }) = stayed b.ledger b.posts.items ps1 _ c.reserve_at.ensures.same b.words.kinds in
-    (rw (← c.self.view_is) (subst (λ z. HasStayed (record { ledger = b.ledger; posts = b.posts.items; stands = b.words.kinds }) (record { ledger = z; posts = ps1; stands = b.words.kinds })) (sym c.park.ensures.same) k), refl)
+    let k : HasStayed (record { ledger = b.ledger; posts = b.posts.items; stands = b.words.stands; marks = b.keeping }) (record { ledger = b.ledger; posts = ps1; stands = b.words.stands; marks = b.keeping }) = stayed b.ledger b.posts.items ps1 _ c.reserve_at.ensures.same b.words.stands b.keeping in
+    (rw (← c.self.view_is) (subst (λ z. HasStayed (record { ledger = b.ledger; posts = b.posts.items; stands = b.words.stands; marks = b.keeping }) (record { ledger = z; posts = ps1; stands = b.words.stands; marks = b.keeping })) (sym c.park.ensures.same) k), refl)
+
+pub invariant_of-self-in_default-keep : goal.invariant_of-self-in_default-keep
+invariant_of-self-in_default-keep g c =
+    let b = c.self.inside in
+    let ps1 = c.reserve_at.new.posts.items in
+    subst (AreHeld ps1) (sym c.park.ensures.same) (roomy-held b.ledger b.posts.items ps1 _ c.reserve_at.ensures.same c.self.invariant)
+
+pub returns-in_default-keep-clause-refused : goal.returns-in_default-keep-clause-refused
+returns-in_default-keep-clause-refused g c =
+    let b = c.self.inside in
+    let ps1 = c.reserve_at.new.posts.items in
+    let first : Held = record { ledger = b.ledger; posts = b.posts.items; stands = b.words.stands; marks = b.keeping } in
+    let k : HasStayed first (record { ledger = b.ledger; posts = ps1; stands = b.words.stands; marks = b.keeping }) = stayed b.ledger b.posts.items ps1 _ c.reserve_at.ensures.same b.words.stands b.keeping in
+    let m = subst (λ z. HasStayed first (record { ledger = b.ledger; posts = ps1; stands = b.words.stands; marks = z })) (sym c.in_default-keep.ensures.refused) k in
+    (rw (← c.self.view_is) (subst (λ z. HasStayed first (record { ledger = z; posts = ps1; stands = b.words.stands; marks = c.keep.new.self })) (sym c.park.ensures.same) m), refl)
 
 pub keep_at-requires-clause-names : goal.keep_at-requires-clause-names
 keep_at-requires-clause-names g c =
@@ -27,8 +42,8 @@ keep_at-requires-clause-names g c =
     let t = c.in-Ok.found.its in
     let n : ℕ = c.in-Ok.found.group in
     let at : n ≡ group_at b.ledger.steps t.step = rw (← c.self.view_is) at c.in-Ok.ensures.group in
-    let named : group_of c.args.token.pass ≡ Some (word_at ps (group_at b.ledger.steps t.step)) = rw (← c.self.view_is) at c.in-Ok.ensures.token.2 in
-    let k = stayed b.ledger ps c.reserve_at.new.posts.items _ c.reserve_at.ensures.same b.words.kinds in
+    let named : group_of c.args.token.pass ≡ Some (word_at ps (group_at b.ledger.steps t.step)) = rw (← c.self.view_is) at c.in-Ok.ensures.token.0.2 in
+    let k = stayed b.ledger ps c.reserve_at.new.posts.items _ c.reserve_at.ensures.same b.words.stands b.keeping in
     named ∙ ap (λ z. Some (word_at ps z)) (sym at) ∙ ap Some (sym (k.words n))
 
 pub invariant_of-self-2 : goal.invariant_of-self-2

@@ -1,5 +1,5 @@
-use Rattle.orc_book.specs.Held.{HaveStayed, AreBorn}
+use Rattle.orc_book.specs.Held.{HaveStayed, HaveWoken, AreBorn}
 use Rattle.orc_book.proofs.book.Book.wake.Given as goal
 
 abbrev pub invariant-loop-link : goal.invariant-loop-link
-invariant-loop-link g l = HaveStayed l.initial.self l.self × AreBorn l.initial.born.items l.born.items l.self
+invariant-loop-link g l = HaveStayed l.initial.self l.self × AreBorn l.initial.born.items l.born.items l.self × HaveWoken l.initial.self.marks l.self.marks l.initial.born.items l.born.items
