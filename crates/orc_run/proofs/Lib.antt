@@ -1,6 +1,7 @@
 pub mod Accepting
 pub mod Causing
 pub mod Claiming
+pub mod Detailing
 pub mod Drawing
 pub mod KnownFiles
 pub mod Listed

@@ -229,7 +229,7 @@ faultless holds (job.Claims file journal script test) old new status (source, li
 faultless holds (job.Draw file journal script options) old new status (source, text, read, held, told, said, draws, is) = subst IsFaultless (sym is) zero_faultless
 faultless holds (job.DrawRun file script run options) old new status (source, read, held, said, draws, is) = subst IsFaultless (sym is) zero_faultless
 faultless holds (job.Print file) old new status (source, held, prints, is) = subst IsFaultless (sym is) zero_faultless
-faultless holds (job.Test file test script options) old new status (source, text, read, failing, held, held_too, said, tested, is) = subst IsFaultless (sym is) (of_failing (nat_eq failing 0))
+faultless holds (job.Test file test script options) old new status (source, text, read, explains, failing, held, held_too, said, tested, is) = subst IsFaultless (sym is) (of_failing (nat_eq failing 0))
 
 -- no end has the status of a fault
 no_fault : (e : End) → end_status_of e ≢ 1
@@ -258,7 +258,7 @@ failed holds (job.Claims file journal script test) old new status (source, lines
 failed holds (job.Draw file journal script options) old new status (source, text, read, held, told, said, draws, is) one = absurd (omega (arith, is, one))
 failed holds (job.DrawRun file script run options) old new status (source, read, held, said, draws, is) one = absurd (omega (arith, is, one))
 failed holds (job.Print file) old new status (source, held, prints, is) one = absurd (omega (arith, is, one))
-failed holds (job.Test file test script options) old new status (source, text, read, failing, held, held_too, said, tested, is) one = inl (options, source, text, read, record { source = file.now; test = test.now; script = option_map (λ p. p.now) script }, failing, tested, some_failing failing (sym is ∙ one))
+failed holds (job.Test file test script options) old new status (source, text, read, explains, failing, held, held_too, said, tested, is) one = inl (options, source, text, read, record { source = file.now; test = test.now; script = option_map (λ p. p.now) script }, explains, failing, tested, some_failing failing (sym is ∙ one))
 
 quiet_only : (e : End) → end_status_of e ≡ 3 → e ≡ ends.Quiet
 quiet_only ends.Halted h = absurd (omega (arith, h))
@@ -288,7 +288,7 @@ ended_quiet holds (job.Claims file journal script test) old new status (source, 
 ended_quiet holds (job.Draw file journal script options) old new status (source, text, read, held, told, said, draws, is) three = absurd (omega (arith, is, three))
 ended_quiet holds (job.DrawRun file script run options) old new status (source, read, held, said, draws, is) three = absurd (omega (arith, is, three))
 ended_quiet holds (job.Print file) old new status (source, held, prints, is) three = absurd (omega (arith, is, three))
-ended_quiet holds (job.Test file test script options) old new status (source, text, read, failing, held, held_too, said, tested, is) three = absurd (zero_or_one (nat_eq failing 0) 3 (omega arith) (sym is ∙ three))
+ended_quiet holds (job.Test file test script options) old new status (source, text, read, explains, failing, held, held_too, said, tested, is) three = absurd (zero_or_one (nat_eq failing 0) 3 (omega arith) (sym is ∙ three))
 
 -- the status of a search that didn't find all
 not_all : (source script : List ℕ) (orders limit states : ℕ) (old new : Option (List ℕ)) (all : Bool) → HasSearched source script orders limit states old new all → ◌≡◌ {A = ℕ} (cond all 0 4) 4 → TellsNotAll old new
@@ -305,7 +305,7 @@ ended_cut holds (job.Claims file journal script test) old new status (source, li
 ended_cut holds (job.Draw file journal script options) old new status (source, text, read, held, told, said, draws, is) four = absurd (omega (arith, is, four))
 ended_cut holds (job.DrawRun file script run options) old new status (source, read, held, said, draws, is) four = absurd (omega (arith, is, four))
 ended_cut holds (job.Print file) old new status (source, held, prints, is) four = absurd (omega (arith, is, four))
-ended_cut holds (job.Test file test script options) old new status (source, text, read, failing, held, held_too, said, tested, is) four = absurd (zero_or_one (nat_eq failing 0) 4 (omega arith) (sym is ∙ four))
+ended_cut holds (job.Test file test script options) old new status (source, text, read, explains, failing, held, held_too, said, tested, is) four = absurd (zero_or_one (nat_eq failing 0) 4 (omega arith) (sym is ∙ four))
 
 -- no fault has the status of such an end
 module _ (n : ℕ) (not_one : n ≢ 1) (not_five : n ≢ 5) (not_six : n ≢ 6) (not_seven : n ≢ 7) where

@@ -1,7 +1,7 @@
 -- What holding a test against a program leaves, and the scripts that show its failures.
 use Rattle.std.proofs.Common.{◌≡◌, ◌<◌, ◌∙◌, ◌++◌, ◌∷◌, ℕ, get_or, length, List, [], Option, Some, ap, arith, refl, subst, sym}
 use Rattle.std.specs.Global.{Vec}
-use Rattle.std.specs.Prelude.{option_map}
+use Rattle.std.specs.Prelude.{Bool, option_map}
 use Rattle.std.specs.List.{AllZip, slice_get}
 use Rattle.std.specs.Io.KnownBytes.{Keeps}
 use Rattle.std.proofs.KnownBytes.{Appends-nil, Keeps-refl}
@@ -101,18 +101,16 @@ pub is_report : (source script text : List ℕ) (o : TestOptions) (t : Trials) (
     → AreWays (test_of read) 0 ways → length ways ≡ length read.cases.items → AllZip (AreScripts o.ways script) ways cases → IsJudged read test
     → t.source.now ≡ source → t.sites.now ≡ test.sites.items → t.claims.now ≡ test.claims.items → t.orders ≡ o.orders → t.limit ≡ o.limit → Says script others → SaysTest text others (test_of read)
     → (r : Report) → r.test.now ≡ test → AllZip (IsTried t) cases r.cases.now → r.orders ≡ o.orders → AreSaid t r.test.now.claim_lines.items cases r.cases.now r.searched.now
-    → IsReport source text script o cases r
+    → IsReport source text script o ways cases t r
 is_report source script text o t read test cases others ways are every first judged of_source sites claims orders limit says reads r is tried each said = record {
   others = others;
   says = says;
   read = read;
   reads = reads;
   judged = subst (IsJudged read) (sym is) judged;
-  ways = ways;
   cases = are;
   every = every;
   first = first;
-  trials = t;
   of_test = record {
     of_source = of_source;
     of_sites = sites ∙ ap (λ x. x.sites.items) (sym is);
@@ -126,15 +124,17 @@ is_report source script text o t read test cases others ways are every first jud
 }
 
 -- what was tried and written of it
-pub report_of : (source script text : List ℕ) (names : Named) (o : TestOptions) (t : Trials) (read test : Test) (cases : List CaseScripts) (others : Table) (old new : Option (List ℕ)) (n : ℕ) (ways : List CaseWays)
+pub report_of : (source script text : List ℕ) (names : Named) (o : TestOptions) (explains : Bool) (t : Trials) (read test : Test) (cases : List CaseScripts) (others : Table) (old new : Option (List ℕ)) (n : ℕ) (ways : List CaseWays)
     → AreWays (test_of read) 0 ways → length ways ≡ length read.cases.items → AllZip (AreScripts o.ways script) ways cases → IsJudged read test
     → t.source.now ≡ source → t.sites.now ≡ test.sites.items → t.claims.now ≡ test.claims.items → t.orders ≡ o.orders → t.limit ≡ o.limit → Says script others → SaysTest text others (test_of read)
-    → (r : Report) × (r.test.now ≡ test) × AllZip (IsTried t) cases r.cases.now × (r.orders ≡ o.orders) × AreSaid t r.test.now.claim_lines.items cases r.cases.now r.searched.now × Writes t.source.now names o cases r o.shown old new × (n ≡ failing (rows r))
-    → HasFailing source text script names o old new n
-report_of source script text names o t read test cases others old new n ways are every first judged of_source sites claims orders limit says reads (r, is, tried, each, said, writes, number) = (
+    → (r : Report) × (r.test.now ≡ test) × AllZip (IsTried t) cases r.cases.now × (r.orders ≡ o.orders) × AreSaid t r.test.now.claim_lines.items cases r.cases.now r.searched.now × Writes t explains ways names o cases r o.shown old new × (n ≡ failing (rows r))
+    → HasFailing source text script names o explains old new n
+report_of source script text names o explains t read test cases others old new n ways are every first judged of_source sites claims orders limit says reads (r, is, tried, each, said, writes, number) = (
+  ways,
   cases,
+  t,
   r,
   is_report source script text o t read test cases others ways are every first judged of_source sites claims orders limit says reads r is tried each said,
-  subst (λ x. Writes x names o cases r o.shown old new) of_source writes,
+  writes,
   number,
 )

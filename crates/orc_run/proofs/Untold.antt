@@ -409,7 +409,7 @@ module _ (source text script : List ℕ) (o : TestOptions) (test : Test) (known 
       unloaded f is = subst (λ ss. IsFirstUnloaded source ss f) (same_scripts o.ways script ways cases first) (subst (λ s. IsFirstUnloaded s (all_texts cases) f) of_source is)
 
       reported : (r : Report) → AreReported t held o.orders cases r → HasReport source text script o r
-      reported r is = (cases, is_report source script text o t test held cases known.others ways are every first judged of_source of_sites of_claims each most known.says known.reads r is.of_test is.tried is.each is.schedules)
+      reported r is = (ways, cases, t, is_report source script text o t test held cases known.others ways are every first judged of_source of_sites of_claims each most known.says known.reads r is.of_test is.tried is.each is.schedules)
 
       -- or of which nothing is told
       pub untold : (f : Untested) → AreUntold t held o cases f → IsUntestedFor source text script o f

@@ -63,7 +63,7 @@ HasPrinted holds file old new status = (source : List ℕ) × IsHeld (holds file
 
 -- what was written tells of the file's program held against a test, and the status is 0 exactly if no claim fails
 abbrev pub HasTested : (List ℕ → Option (List ℕ)) → List ℕ → List ℕ → Option (List ℕ) → TestOptions → Option (List ℕ) → Option (List ℕ) → ℕ → Type 0
-HasTested holds file test script options old new status = (source text read : List ℕ) × (failing : ℕ) × IsHeld (holds file) source × IsHeld (holds test) text × IsRead holds script read × HasFailing source text read (record { source = file; test = test; script = script }) options old new failing × (status ≡ cond (nat_eq failing 0) 0 1)
+HasTested holds file test script options old new status = (source text read : List ℕ) × (explains : Bool) × (failing : ℕ) × IsHeld (holds file) source × IsHeld (holds test) text × IsRead holds script read × HasFailing source text read (record { source = file; test = test; script = script }) options explains old new failing × (status ≡ cond (nat_eq failing 0) 0 1)
 
 -- a job was done, with this status
 abbrev pub IsDone : (List ℕ → Option (List ℕ)) → Job → Option (List ℕ) → Option (List ℕ) → ℕ → Type 0
@@ -92,7 +92,7 @@ TellsNotAll old new = (source script : List ℕ) × (orders limit states : ℕ) 
 
 -- what was written tells of a test some claim of which fails, of a program or of a journal
 abbrev pub TellsOfFailures : Option (List ℕ) → Option (List ℕ) → Type 0
-TellsOfFailures old new = ((options : TestOptions) × (source text script : List ℕ) × (names : Named) × (failing : ℕ) × HasFailing source text script names options old new failing × (0 < failing))
+TellsOfFailures old new = ((options : TestOptions) × (source text script : List ℕ) × (names : Named) × (explains : Bool) × (failing : ℕ) × HasFailing source text script names options explains old new failing × (0 < failing))
     ⊎ ((source text script journal : List ℕ) × (failing : ℕ) × HasClaimed source text script journal old new failing × (0 < failing))
 
 -- a file could not be read

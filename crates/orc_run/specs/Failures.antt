@@ -1,5 +1,5 @@
 -- What is told of a job that was not done.
-use Rattle.std.specs.Prelude.{ℕ, List, [], ◌++◌, codes, decimal, string_bytes}
+use Rattle.std.specs.Prelude.{ℕ, List, [], ◌++◌, Bool, true, false, codes, decimal, string_bytes}
 use Rattle.orc_rules.specs.declared.limits.TheConstants.{MOST_ROWS}
 use Rattle.orc_run.specs.Faults.{line, status}
 use Rattle.orc_run.specs.Status.{read_status_of}
@@ -28,6 +28,12 @@ failure_line (failure.NoFailure n) = codes "orc: test: no failure " ++ decimal n
 failure_line (failure.NoOutcome n) = codes "orc: outcomes: no outcome " ++ decimal n
 failure_line (failure.NoRun n) = codes "orc: outcomes: no run found with outcome " ++ decimal n
 failure_line (failure.NoJournal n) = codes "orc: test: no run found with failure " ++ decimal n
+
+-- an explanation is asked for
+abbrev pub is_asked : Explained → Bool
+is_asked explained.Unasked = false
+is_asked explained.Nothing = true
+is_asked (explained.Text text) = true
 
 -- what follows it: nothing unless it is asked for
 abbrev pub told : Explained → List ℕ

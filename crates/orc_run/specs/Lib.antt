@@ -3,6 +3,7 @@ pub mod Checked
 pub mod Claimed
 pub mod Commands
 pub mod Causes
+pub mod Details
 pub mod Drawn
 pub mod Failures
 pub mod Faults

@@ -78,7 +78,7 @@ IsEngineCause workers limit (engine.Site number) = ⊥
 
 -- the test was tried, and this is reported of it
 abbrev pub HasReport : List ℕ → List ℕ → List ℕ → TestOptions → Report → Type 0
-HasReport source text script o r = (scripts : List CaseScripts) × IsReport source text script o scripts r
+HasReport source text script o r = (ways : List CaseWays) × (scripts : List CaseScripts) × (t : Trials) × IsReport source text script o ways scripts t r
 
 -- the failure with this number is to be shown
 abbrev pub IsToShow : Shown → ℕ → Type 0

@@ -1,5 +1,5 @@
 -- What holding a test against a source's program does.
-use Rattle.std.specs.Prelude.{◌≡◌, ◌++◌, ℕ, suc, List, [], ◌∷◌, None, Some, length, map, slice_get, true}
+use Rattle.std.specs.Prelude.{◌≡◌, ◌++◌, ℕ, suc, List, [], ◌∷◌, Bool, None, Some, length, map, slice_get, true}
 use Rattle.std.specs.List.{AllZip}
 use Rattle.std.specs.declared.option.Option.{Option}
 use Rattle.std.specs.declared.vec.Vec.{Vec}
@@ -32,6 +32,7 @@ use Rattle.orc_cli.specs.declared.job.TestOptions.{TestOptions}
 use Rattle.orc_cli.specs.declared.job.Wanted.TheVariants as wanted
 use Rattle.orc_run.specs.Called.{Named, options_text}
 use Rattle.orc_output.specs.Output.{AppendsPrefix}
+use Rattle.orc_run.specs.Details.{AreDetails}
 use Rattle.orc_run.specs.Running.{IsOwnOf, Ran, of_load}
 use Rattle.orc_run.specs.Whole.{AreSaid, IsScriptAt}
 use Rattle.orc_run.specs.declared.faults.RunFault.{RunFault}
@@ -77,19 +78,17 @@ pub record AreOf (source : List ℕ) (o : TestOptions) (r : Report) (t : Trials)
   pub each : t.orders ≡ o.orders
   pub most : t.limit ≡ o.limit
 
--- What is reported of a test: the text says it, but for the claim that runs end by themselves, which is held too; the scripts are those of the first ways of each
--- of its cases, so many as are to be tried, it is told of the trials of these ways, and what it says of all their schedules is so.
-pub record IsReport (source text script : List ℕ) (o : TestOptions) (scripts : List CaseScripts) (r : Report) : Type 0 where
+-- What is reported of a test: the text says it, but for the claim that runs end by themselves, which is held too; these are the ways of its cases, and the scripts
+-- of the first of them, so many as are to be tried; it is told of the trials of these ways, and what it says of all their schedules is so.
+pub record IsReport (source text script : List ℕ) (o : TestOptions) (ways : List CaseWays) (scripts : List CaseScripts) (trials : Trials) (r : Report) : Type 0 where
   pub others : Table
   pub says : Says script others
   pub read : Test
   pub reads : SaysTest text others (test_of read)
   pub judged : IsJudged read r.test.now
-  pub ways : List CaseWays
   pub cases : AreWays (test_of read) 0 ways
   pub every : length ways ≡ length read.cases.items
   pub first : AllZip (AreScripts o.ways script) ways scripts
-  pub trials : Trials
   pub of_test : AreOf source o r trials
   pub tried : AllZip (IsTried trials) scripts r.cases.now
   pub orders : r.orders ≡ o.orders
@@ -115,15 +114,15 @@ options_for o (counterexample.Schedule b) = witness_options o.limit
 abbrev pub table_of : Named → TestOptions → Report → List (List ℕ) → List ℕ
 table_of names o r ds = table names.source names.test (options_text names.script o) r ds
 
--- what is written of it: its table, with some details below each failure; or the script or the journal that shows one failure
-abbrev pub Writes : List ℕ → Named → TestOptions → List CaseScripts → Report → Shown → Option (List ℕ) → Option (List ℕ) → Type 0
-Writes source names o scripts r shown.Table old new = (details : List (List ℕ)) × Appends old new (table_of names o r details)
-Writes source names o scripts r (shown.Script n) old new = (x : Counterexample) × (text : List ℕ) × (failure_at n (rows r) ≡ Some x) × IsScript scripts x text × Appends old new text
-Writes source names o scripts r (shown.Journal n) old new = (x : Counterexample) × (text : List ℕ) × (s : Summary) × (failure_at n (rows r) ≡ Some x) × IsScript scripts x text × Ran source text (options_for o x) old new s
+-- what is written of it: its table, with the details below each failure; or the script or the journal that shows one failure
+abbrev pub Writes : Trials → Bool → List CaseWays → Named → TestOptions → List CaseScripts → Report → Shown → Option (List ℕ) → Option (List ℕ) → Type 0
+Writes t explains ways names o scripts r shown.Table old new = (details : List (List ℕ)) × AreDetails t explains ways scripts 1 (rows r) details × Appends old new (table_of names o r details)
+Writes t explains ways names o scripts r (shown.Script n) old new = (x : Counterexample) × (text : List ℕ) × (failure_at n (rows r) ≡ Some x) × IsScript scripts x text × Appends old new text
+Writes t explains ways names o scripts r (shown.Journal n) old new = (x : Counterexample) × (text : List ℕ) × (s : Summary) × (failure_at n (rows r) ≡ Some x) × IsScript scripts x text × Ran t.source.now text (options_for o x) old new s
 
--- so many claims of the test fail, and that was written
-abbrev pub HasFailing : List ℕ → List ℕ → List ℕ → Named → TestOptions → Option (List ℕ) → Option (List ℕ) → ℕ → Type 0
-HasFailing source text script names o old new number = (scripts : List CaseScripts) × (r : Report) × IsReport source text script o scripts r × Writes source names o scripts r o.shown old new × (number ≡ failing (rows r))
+-- so many claims of the test fail, and that was written, with what explains it where that is asked for
+abbrev pub HasFailing : List ℕ → List ℕ → List ℕ → Named → TestOptions → Bool → Option (List ℕ) → Option (List ℕ) → ℕ → Type 0
+HasFailing source text script names o explains old new number = (ways : List CaseWays) × (scripts : List CaseScripts) × (t : Trials) × (r : Report) × IsReport source text script o ways scripts t r × Writes t explains ways names o scripts r o.shown old new × (number ≡ failing (rows r))
 
 -- at a fault nothing was written, or at a write fault a prefix of some text
 abbrev pub LeavesUntested : Option (List ℕ) → Option (List ℕ) → Untested → Type 0

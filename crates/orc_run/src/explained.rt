@@ -2,7 +2,7 @@
 
 ghost use Rattle.std.specs.Prelude.{◌≡◌, false, if◌then◌else◌, OnOk};
 ghost use Rattle.std.specs.Io.KnownBytes.{Appends};
-ghost use Rattle.orc_run.specs.Failures.{told};
+ghost use Rattle.orc_run.specs.Failures.{is_asked, told};
 ghost use Rattle.orc_run.specs.declared.explained.Explained.TheVariants.{Nothing, Unasked};
 
 use crate::failures::Failure;
@@ -77,7 +77,8 @@ impl Explained {
 
     /// Whether the command line asks for it.
     pub(crate) fn is_asked(&self) -> bool
-        ensures { self.now ≡ Unasked → result ≡ false }
+        ensures asked { result ≡ is_asked self.now }
+        ensures unasked { self.now ≡ Unasked → result ≡ false }
     {
         match self {
             Explained::Unasked => false,

@@ -3,6 +3,7 @@
 ghost use Rattle.std.specs.Prelude.{◌≡◌, IfOk, IfErr, length};
 ghost use Rattle.std.specs.List.{AllZip};
 ghost use Rattle.orc_ways.specs.Drafting.{test_of};
+ghost use Rattle.orc_run.specs.Details.{unusual_lines};
 ghost use Rattle.orc_run.specs.Tested.{AreScripts, AreWays, IsOwnFault, IsScript};
 ghost use Rattle.orc_run.specs.TestFaults.{all_texts, IsAmong, IsNoMemory, IsNoText, IsUncounted};
 
@@ -116,6 +117,7 @@ pub(crate) fn unusual_lines(
     ways: &[Ways],
     found: Counterexample,
 ) -> Result<Vec<u8>, Untested>
+    ensures lines { IfOk result (λ text. text.items ≡ unusual_lines ways.now found) }
     ensures cause { IfErr result IsNoText }
     ensures sound { IfErr result (λ f. IsOwnFault f → ⊥) }
 {

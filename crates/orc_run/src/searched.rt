@@ -8,6 +8,7 @@ ghost use Rattle.orc_outcome.specs.Outcome.{IsPlayed};
 ghost use Rattle.orc_outcome.specs.declared.end.Summary.{Summary};
 ghost use Rattle.orc_schedules.specs.Claimed.{IsClaimSearched};
 ghost use Rattle.orc_tally.specs.Table.{are_full, section_of};
+ghost use Rattle.orc_run.specs.Details.{IsSighted};
 ghost use Rattle.orc_run.specs.Running.{Ran};
 ghost use Rattle.orc_run.specs.Tested.{IsOwnFault, LeavesUntested, witness_options};
 ghost use Rattle.orc_run.specs.TestFaults.{IsUnshown};
@@ -139,6 +140,14 @@ pub(crate) struct Searcher<'s, 'a> {
     pub(crate) reports: &'s [CaseReport],
     /// One search looks at so many states at most; 0 for no search.
     pub(crate) most: u64,
+}
+
+/// What a search sees of a run that breaks a claim.
+#[derive(Drop)]
+pub struct Sighted {
+    pub seen: Seen,
+    /// Behind this time all times are one to the claim; 0 where it asks for none.
+    pub latest: u64,
 }
 
 impl Searcher<'_, '_> {
@@ -363,25 +372,24 @@ impl Searcher<'_, '_> {
         Ok(said)
     }
 
-    /// Behind this time all times are one to such a search for a claim; 0 where the claim asks for none. The error is refused memory.
-    pub(crate) fn latest(&self, claim: usize) -> Result<u64, AllocError> {
-        let Some(claim) = self.trials.claims.get(claim) else {
-            return Ok(0);
-        };
-        match Watch::of_claim(self.alloc, claim)? {
-            Some(watch) => Ok(watch.latest()),
-            None => Ok(0),
-        }
-    }
-
     /// What such a search sees of a run that breaks a claim, in the way of this script; None where it finds none. The error is refused memory.
-    pub(crate) fn see(&self, script: &[u8], claim: usize) -> Result<Option<Seen>, AllocError> {
-        let Some(claim) = self.trials.claims.get(claim) else {
+    pub(crate) fn see(&self, script: &[u8], claim: usize) -> Result<Option<Sighted>, AllocError>
+        ensures { IfOk result (λ found. IfSome found (IsSighted self.now.trials.now script.now claim)) }
+    {
+        let Some(its) = self.trials.claims.get(claim) else {
+            return Ok(None);
+        };
+        let known = Watch::of_claim(self.alloc, its)?;
+        let Some(watch) = known else {
             return Ok(None);
         };
         let way = Way::load(self.alloc, self.trials, script)?;
-        match way.search(self.alloc, claim, self.most as usize, self.trials.limit)? {
-            ClaimSearched::Fails(seen) => Ok(Some(seen)),
+        let found = way.search(self.alloc, its, self.most as usize, self.trials.limit)?;
+        match found {
+            ClaimSearched::Fails(seen) => Ok(Some(Sighted {
+                seen,
+                latest: watch.latest(),
+            })),
             _ => Ok(None),
         }
     }

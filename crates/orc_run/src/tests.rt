@@ -1,6 +1,6 @@
 //! From a test's text to what is told of its claims.
 
-ghost use Rattle.std.specs.Prelude.{◌≡◌, List, ℕ, Some, IfOk, IfErr, OnOk, length};
+ghost use Rattle.std.specs.Prelude.{◌≡◌, List, ℕ, [], Some, IfOk, IfErr, OnOk, false, length};
 ghost use Rattle.std.specs.List.{AllZip};
 ghost use Rattle.std.specs.Io.KnownBytes.{Appends};
 ghost use Rattle.orc_outcome.specs.declared.end.Summary.{Summary};
@@ -13,7 +13,8 @@ ghost use Rattle.orc_rules.specs.Sites.{Table};
 ghost use Rattle.orc_site.specs.Script.{Says};
 ghost use Rattle.orc_syntax.specs.Tree.{Source};
 ghost use Rattle.orc_load.specs.Loading.{SpellsTree};
-ghost use Rattle.orc_orders.specs.Trials.{texts};
+ghost use Rattle.orc_orders.specs.Trials.{IsMadeAgain, texts};
+ghost use Rattle.orc_ways.specs.Values.{sites_of};
 ghost use Rattle.orc_ways.specs.Drafting.{test_of};
 ghost use Rattle.orc_ways.specs.declared.test.Test.{Test as ATest};
 ghost use Rattle.orc_ways.specs.Finishing.{Says as SaysTest};
@@ -21,14 +22,14 @@ ghost use Rattle.orc_cli.specs.declared.job.Shown.TheVariants as what;
 ghost use Rattle.orc_run.specs.Running.{Ran};
 ghost use Rattle.orc_run.specs.Whole.{AreSaid};
 ghost use Rattle.orc_run.specs.Called.{named_of};
+ghost use Rattle.orc_run.specs.Details.{AreDetails, FailsAt, IsDetail, IsScheduleDetail, IsTrialDetail};
+ghost use Rattle.orc_run.specs.Failures.{is_asked};
 ghost use Rattle.orc_run.specs.Tested.{AreWays, HasFailing, IsJudged, IsOwnFault, IsScript, IsTried, LeavesUntested, Writes, of_trial, options_for, options_of, table_of, witness_options};
 ghost use Rattle.orc_run.specs.TestFaults.{all_texts, AreUnshown, AreUntold, AreUntried, AreUnwritten, IsNoMemory, IsNoScript, IsNoTest, IsNoText, IsUnfound, IsUnshown, IsUntestedFor};
 
 use crate::asked::services_never_asked;
 use crate::call::{Names, options_text};
-use crate::counterexample::{
-    write_failing, write_lines, write_picture, write_ranges, write_schedule,
-};
+use crate::counterexample::{schedule_text, trial_text, write_picture};
 use crate::explained::Explained;
 use crate::failing_ways::failing_ways;
 use crate::faults::RunFault;
@@ -40,7 +41,8 @@ use orc_cases::Ways;
 use orc_claims::claim::{Claim, Plain};
 use orc_cli::{Options, Order, Shown, TestOptions, Wanted};
 use orc_engine::EngineFault;
-use orc_orders::{CaseTold, Run, TrialFault, Trials, try_again, try_ways};
+use orc_findings::{Seen, write_each};
+use orc_orders::{CaseTold, Run, TrialFault, Trials, state_at, try_again, try_ways};
 use orc_outcome::End;
 use orc_output::{WriteFault, write_text};
 use orc_report::Page;
@@ -189,6 +191,7 @@ impl<R: Threads + Sync> Tester<'_, '_, R> {
     // Makes the run again that shows a failure.
     #[tactic(auto, using(crate::proofs::Untold::unmade_again))]
     fn run_again(&self, script: &[u8], shown: Failing) -> Result<Run, Untested>
+        ensures made { IfOk result (IsMadeAgain self.now.trials.now.source.now (sites_of self.now.trials.now.sites.now) self.now.trials.now.limit script.now) }
         ensures cause { IfErr result (IsUnshown self.now.trials.now.source.now 1 self.now.trials.now.limit script.now) }
         ensures sound { IfErr result (λ f. IsOwnFault f → ⊥) }
     {
@@ -250,56 +253,77 @@ impl<R: Threads + Sync> Tester<'_, '_, R> {
         ways.failing_ranges(self.alloc, way, fails.as_slice())
     }
 
-    // Writes what explains a failure: these lines, and the picture of the run that shows it.
-    fn explain(
-        &self,
-        script: &[u8],
-        ranges: &[u8],
-        run: Run,
-        text: &mut Vec<u8>,
-    ) -> Result<(), Untested>
+    // What explains a failure: these lines, and the picture of the run that shows it. Nothing where it isn't explained.
+    fn explanation(&self, script: &[u8], ranges: &[u8], run: Run) -> Result<Vec<u8>, Untested>
+        ensures unasked { IfOk result (λ text. self.now.explains ≡ false → text.items ≡ []) }
         ensures cause { IfErr result IsNoText }
         ensures sound { IfErr result (λ f. IsOwnFault f → ⊥) }
     {
-        if write_ranges(ranges, text).is_err() {
+        let mut text = Vec::new(self.alloc);
+        if !self.explains {
+            return Ok(text);
+        }
+        if write_each(b"         fails with ", ranges, &mut text).is_err() {
             return Err(NO_TEXT);
         }
-        match write_picture(self.alloc, self.trials.source, script, run, text) {
-            Ok(()) => Ok(()),
+        match write_picture(self.alloc, self.trials.source, script, run, &mut text) {
+            Ok(()) => Ok(text),
             Err(_) => Err(NO_TEXT),
+        }
+    }
+
+    // Makes the run again that shows that a claim fails, and sees that it fails there where it did. The run of an order is the same each time, so the
+    // error is that of the run, or refused memory.
+    fn fail_again(&self, script: &[u8], claim: usize, shown: Failing) -> Result<Run, Untested>
+        ensures fails { IfOk result (FailsAt self.now.trials.now script.now claim shown.failure.verdict) }
+        ensures cause { IfErr result (IsUnshown self.now.trials.now.source.now 1 self.now.trials.now.limit script.now) }
+        ensures sound { IfErr result (λ f. IsOwnFault f → ⊥) }
+    {
+        let run = self.run_again(script, shown)?;
+        let seen = Seen {
+            happenings: run.happenings.as_slice(),
+            state: state_at(run.played.summary.end),
+            time: run.played.summary.now,
+        };
+        let Ok(Some(verdict)) = seen.verdict(self.alloc, self.trials.claims, claim) else {
+            return Err(NO_MEMORY);
+        };
+        if verdict == shown.failure.verdict {
+            Ok(run)
+        } else {
+            Err(NO_MEMORY)
         }
     }
 
     // What stands below a claim that fails: what isn't usual in the way that shows it, where it fails there, and what explains it.
     #[tactic(auto, using(crate::proofs::Untold::text_unshown))]
-    fn details_of(
+    fn details_of_trial(
         &self,
-        test: &Test<'_>,
         script: &[u8],
         lines: &[u8],
         ranges: &[u8],
         number: usize,
+        claim: usize,
         shown: Failing,
     ) -> Result<Vec<u8>, Untested>
+        ensures below { IfOk result (λ text. IsTrialDetail self.now.trials.now self.now.explains script.now lines.now number claim shown.failure text.items) }
         ensures cause { IfErr result (IsUnshown self.now.trials.now.source.now 1 self.now.trials.now.limit script.now) }
         ensures sound { IfErr result (λ f. IsOwnFault f → ⊥) }
     {
-        let run = self.run_again(script, shown)?;
-        let mut text = Vec::new(self.alloc);
-        if write_lines(self.alloc, number, lines, &mut text).is_err() {
+        let run = self.fail_again(script, claim, shown)?;
+        let Ok(mut text) = trial_text(self.alloc, self.trials, number, lines, &run, shown.failure)
+        else {
             return Err(NO_TEXT);
-        }
-        if write_failing(self.alloc, test, shown, &run, &mut text).is_err() {
+        };
+        let more = self.explanation(script, ranges, run)?;
+        if text.extend_from_slice(more.as_slice()).is_err() {
             return Err(NO_TEXT);
-        }
-        if self.explains {
-            self.explain(script, ranges, run, &mut text)?;
         }
         Ok(text)
     }
 
     // What stands below a claim that a schedule breaks which no order showed: what isn't usual in its way, and what the claim saw there.
-    fn schedule_of(
+    fn details_of_schedule(
         &self,
         test: &Test<'_>,
         script: &[u8],
@@ -307,6 +331,7 @@ impl<R: Threads + Sync> Tester<'_, '_, R> {
         number: usize,
         claim: usize,
     ) -> Result<Vec<u8>, Untested>
+        ensures below { IfOk result (λ text. IsScheduleDetail self.now.trials.now script.now lines.now number claim text.items) }
         ensures cause { IfErr result (IsUnshown self.now.trials.now.source.now 1 self.now.trials.now.limit script.now) }
         ensures sound { IfErr result (λ f. IsOwnFault f → ⊥) }
     {
@@ -318,24 +343,55 @@ impl<R: Threads + Sync> Tester<'_, '_, R> {
             reports: &[],
             most: self.states,
         };
-        let Ok(seen) = searcher.see(script, claim) else {
+        let Ok(found) = searcher.see(script, claim) else {
             return Err(NO_MEMORY);
         };
-        let mut text = Vec::new(self.alloc);
-        if write_lines(self.alloc, number, lines, &mut text).is_err() {
-            return Err(NO_TEXT);
+        match schedule_text(self.alloc, self.trials, number, lines, found) {
+            Ok(text) => Ok(text),
+            Err(_) => Err(NO_TEXT),
         }
-        let Ok(latest) = searcher.latest(claim) else {
-            return Err(NO_MEMORY);
-        };
-        if write_schedule(self.alloc, test, seen.as_ref(), latest, &mut text).is_err() {
-            return Err(NO_TEXT);
+    }
+
+    // The details of the failure with this number.
+    #[tactic(auto, using(crate::proofs::Untold::of_script, crate::proofs::Untold::memory_unshown, crate::proofs::Untold::texts_unshown))]
+    fn details_of(
+        &self,
+        test: &Test<'_>,
+        cases: &[CaseScripts],
+        ways: &[Ways],
+        number: usize,
+        claim: usize,
+        found: Counterexample,
+    ) -> Result<Vec<u8>, Untested>
+        ensures detail { IfOk result (λ text. IsDetail self.now.trials.now self.now.explains ways.now cases.now number claim found text.items) }
+        ensures cause { IfErr result (AreUnshown self.now.trials.now.source.now self.now.trials.now.limit (all_texts cases.now)) }
+        ensures sound { IfErr result (λ f. IsOwnFault f → ⊥) }
+    {
+        let unusual = unusual_lines(self.alloc, ways, found)?;
+        let lines = unusual.as_slice();
+        let script = script_at(cases, found)?;
+        match found {
+            Counterexample::Trial(shown) => {
+                let ranges = self.ranges_of(cases, ways, claim, shown)?;
+                let text = self.details_of_trial(
+                    script,
+                    lines,
+                    ranges.as_slice(),
+                    number,
+                    claim,
+                    shown,
+                )?;
+                Ok(text)
+            }
+            Counterexample::Schedule(_) => {
+                let text = self.details_of_schedule(test, script, lines, number, claim)?;
+                Ok(text)
+            }
         }
-        Ok(text)
     }
 
     // The details of each failure, in the order of the rows.
-    #[tactic(auto, using(crate::proofs::Untold::of_script, crate::proofs::Untold::memory_unshown, crate::proofs::Untold::texts_unshown))]
+    #[tactic(auto, using(crate::proofs::Untold::texts_unshown))]
     fn all_details(
         &self,
         test: &Test<'_>,
@@ -343,31 +399,27 @@ impl<R: Threads + Sync> Tester<'_, '_, R> {
         ways: &[Ways],
         rows: &[Row],
     ) -> Result<Vec<Vec<u8>>, Untested>
+        ensures details { IfOk result (λ all. AreDetails self.now.trials.now self.now.explains ways.now cases.now 1 rows.now (texts all.items)) }
         ensures cause { IfErr result (AreUnshown self.now.trials.now.source.now self.now.trials.now.limit (all_texts cases.now)) }
         ensures sound { IfErr result (λ f. IsOwnFault f → ⊥) }
     {
         let mut all = Vec::new(self.alloc);
-        for row in rows {
-            if let Row::Fails(claim, found) = row {
-                let unusual = unusual_lines(self.alloc, ways, *found)?;
-                let lines = unusual.as_slice();
-                let script = script_at(cases, *found)?;
-                let number = all.len().saturating_add(1);
-                let details = match found {
-                    Counterexample::Trial(shown) => {
-                        let ranges = self.ranges_of(cases, ways, *claim, *shown)?;
-                        self.details_of(test, script, lines, ranges.as_slice(), number, *shown)?
+        let mut rest = rows;
+        loop {
+            match rest {
+                [] => return Ok(all),
+                [row, more @ ..] => {
+                    if let Row::Fails(claim, found) = row {
+                        let number = all.len() + 1;
+                        let details = self.details_of(test, cases, ways, number, *claim, *found)?;
+                        if all.push(details).is_err() {
+                            return Err(NO_TEXT);
+                        }
                     }
-                    Counterexample::Schedule(_) => {
-                        self.schedule_of(test, script, lines, number, *claim)?
-                    }
-                };
-                if all.push(details).is_err() {
-                    return Err(NO_TEXT);
+                    rest = more;
                 }
             }
         }
-        Ok(all)
     }
 }
 
@@ -422,7 +474,7 @@ impl<R: Threads + Wait + Sync> Tester<'_, '_, R> {
         options: &TestOptions,
         out: &mut W,
     ) -> Result<(), Untested>
-        ensures ok { OnOk result ((details : List (List ℕ)) × Appends (W.contents out.old) (W.contents out.new) (table_of (named_of self.now.names.now) options.now report.now details)) }
+        ensures ok { OnOk result ((details : List (List ℕ)) × AreDetails self.now.trials.now self.now.explains ways.now cases.now 1 rows.now details × Appends (W.contents out.old) (W.contents out.new) (table_of (named_of self.now.names.now) options.now report.now details)) }
         ensures err { IfErr result (LeavesUntested (W.contents out.old) (W.contents out.new)) }
         ensures cause { IfErr result (AreUnshown self.now.trials.now.source.now self.now.trials.now.limit (all_texts cases.now)) }
         ensures sound { IfErr result (λ f. IsOwnFault f → ⊥) }
@@ -563,7 +615,7 @@ impl<R: Threads + Wait + Sync> Tester<'_, '_, R> {
     ) -> Result<(), Untested>
         requires limit { self.now.trials.now.limit ≡ options.now.limit }
         requires rows { rows.now ≡ rows_of report.now }
-        ensures ok { OnOk result (Writes self.now.trials.now.source.now (named_of self.now.names.now) options.now cases.now report.now options.now.shown (W.contents out.old) (W.contents out.new)) }
+        ensures ok { OnOk result (Writes self.now.trials.now self.now.explains ways.now (named_of self.now.names.now) options.now cases.now report.now options.now.shown (W.contents out.old) (W.contents out.new)) }
         ensures err { IfErr result (LeavesUntested (W.contents out.old) (W.contents out.new)) }
         ensures cause { IfErr result (AreUnwritten self.now.trials.now.source.now self.now.trials.now.limit (all_texts cases.now) options.now.shown rows.now) }
         ensures sound { IfErr result (λ f. IsOwnFault f → ⊥) }
@@ -586,7 +638,7 @@ impl<R: Threads + Wait + Sync> Tester<'_, '_, R> {
         out: &mut W,
     ) -> Result<usize, Untested>
         requires limit { self.now.trials.now.limit ≡ options.now.limit }
-        ensures ok { IfOk result (λ n. Writes self.now.trials.now.source.now (named_of self.now.names.now) options.now cases.now report.now options.now.shown (W.contents out.old) (W.contents out.new)) }
+        ensures ok { IfOk result (λ n. Writes self.now.trials.now self.now.explains ways.now (named_of self.now.names.now) options.now cases.now report.now options.now.shown (W.contents out.old) (W.contents out.new)) }
         ensures number { IfOk result (λ n. n ≡ failing (rows_of report.now)) }
         ensures err { IfErr result (LeavesUntested (W.contents out.old) (W.contents out.new)) }
         ensures cause { IfErr result (AreUnwritten self.now.trials.now.source.now self.now.trials.now.limit (all_texts cases.now) options.now.shown (rows_of report.now)) }
@@ -652,7 +704,7 @@ fn try_and_write<'t, 'a, R: Threads + Wait + Sync, W: Write>(
     explained: &mut Explained,
 ) -> Result<usize, Untested>
     requires limit { trials.now.limit ≡ options.now.limit }
-    ensures tested { IfOk result (λ n. (r : Report) × (r.test.now ≡ test.now) × AllZip (IsTried trials.now) cases.now r.cases.now × (r.orders ≡ options.now.orders) × AreSaid trials.now r.test.now.claim_lines.items cases.now r.cases.now r.searched.now × Writes trials.now.source.now (named_of names.now) options.now cases.now r options.now.shown (W.contents out.old) (W.contents out.new) × (n ≡ failing (rows_of r))) }
+    ensures tested { IfOk result (λ n. (r : Report) × (r.test.now ≡ test.now) × AllZip (IsTried trials.now) cases.now r.cases.now × (r.orders ≡ options.now.orders) × AreSaid trials.now r.test.now.claim_lines.items cases.now r.cases.now r.searched.now × Writes trials.now (is_asked explained.old) ways.now (named_of names.now) options.now cases.now r options.now.shown (W.contents out.old) (W.contents out.new) × (n ≡ failing (rows_of r))) }
     ensures fault { IfErr result (LeavesUntested (W.contents out.old) (W.contents out.new)) }
     ensures cause { IfErr result (AreUntold trials.now test.now options.now cases.now) }
     ensures sound { IfErr result (λ f. IsOwnFault f → ⊥) }
@@ -707,7 +759,7 @@ fn hold<'t, 'a, R: Threads + Wait + Sync, W: Write>(
     out: &mut W,
     explained: &mut Explained,
 ) -> Result<usize, Untested>
-    ensures tested { IfOk result (λ n. (text : List ℕ) (others : Table) (read : ATest) → Says script.now others → SaysTest text others (test_of read) → IsJudged read test.now → AreWays (test_of read) 0 ways.now → (length ways.now ≡ length read.cases.items) → HasFailing source.now text script.now (named_of names.now) options.now (W.contents out.old) (W.contents out.new) n) }
+    ensures tested { IfOk result (λ n. (text : List ℕ) (others : Table) (read : ATest) → Says script.now others → SaysTest text others (test_of read) → IsJudged read test.now → AreWays (test_of read) 0 ways.now → (length ways.now ≡ length read.cases.items) → HasFailing source.now text script.now (named_of names.now) options.now (is_asked explained.old) (W.contents out.old) (W.contents out.new) n) }
     ensures fault { IfErr result (LeavesUntested (W.contents out.old) (W.contents out.new)) }
     ensures cause { (text : List ℕ) (others : Table) (s : Source) (read : ATest) → SpellsTree source.now s → Says script.now others → SaysTest text others (test_of read) → IsJudged read test.now → AreWays (test_of read) 0 ways.now → (length ways.now ≡ length read.cases.items) → IfErr result (IsUntestedFor source.now text script.now options.now) }
     ensures sound { IfErr result (λ f. IsOwnFault f → ⊥) }
@@ -775,7 +827,7 @@ pub fn test_text<R: Threads + Wait + Sync, W: Write>(
     out: &mut W,
     explained: &mut Explained,
 ) -> Result<usize, Untested>
-    ensures tested { IfOk result (HasFailing source.now test.now script.now (named_of names.now) options.now (W.contents out.old) (W.contents out.new)) }
+    ensures tested { IfOk result (HasFailing source.now test.now script.now (named_of names.now) options.now (is_asked explained.old) (W.contents out.old) (W.contents out.new)) }
     ensures fault { IfErr result (LeavesUntested (W.contents out.old) (W.contents out.new)) }
     ensures cause { IfErr result (IsUntestedFor source.now test.now script.now options.now) }
     ensures sound { IfErr result (λ f. IsOwnFault f → ⊥) }

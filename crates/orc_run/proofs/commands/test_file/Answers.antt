@@ -1,4 +1,5 @@
 use Rattle.std.proofs.Common.{subst}
+use Rattle.orc_run.specs.Failures.{is_asked}
 use Rattle.orc_run.specs.TestFaults.{IsTestFaultOf, IsUntestedFor}
 use Rattle.orc_run.proofs.KnownFiles.{all_before}
 use Rattle.orc_run.proofs.commands.test_file.Goals as goal
@@ -8,7 +9,7 @@ pub returns-in-Ok-clause-done : goal.returns-in-Ok-clause-done
 returns-in-Ok-clause-done g c =
     let before = all_before _ _ _ _ _ _ _ _ _ _ _ _ c.in_ok-source.ensures.same c.in_ok-claims.ensures.same c.as_slice.ensures.value c.as_slice-2.ensures.value c.as_slice-3.ensures.value
     c.in_ok-source.ensures.held c.in_ok-claims.ensures.held c.in_ok-answers.ensures.held in
-    (c.as_slice.result.now, c.as_slice-2.result.now, c.as_slice-3.result.now, c.in-Ok.failing, before.0, before.1, before.2, c.in-Ok.ensures.tested, c.claims_status.ensures)
+    (c.as_slice.result.now, c.as_slice-2.result.now, c.as_slice-3.result.now, is_asked c.args.explained.now, c.in-Ok.failing, before.0, before.1, before.2, c.in-Ok.ensures.tested, c.claims_status.ensures)
 
 pub returns-in-Err-Fault-Test-clause-cause : goal.returns-in-Err-Fault-Test-clause-cause
 returns-in-Err-Fault-Test-clause-cause g c =
