@@ -19,9 +19,10 @@ use Rattle.orc_tables.specs.declared.records.Token.{Token}
 use Rattle.orc_indexes.proofs.Weight.{weight-but}
 use Rattle.orc_ledger_spec.specs.Records.{Records}
 use Rattle.orc_ledger_spec.specs.AtOnce.{IsCalled}
-use Rattle.orc_ledger_spec.specs.Calls.{Turns, Crosses, Drops, Exchanges, Resumes, Closes, group_goes}
+use Rattle.orc_ledger_spec.specs.Calls.{Turns, Crosses, Drops, Exchanges, Resumes, Closes, IsForked, group_goes}
 use Rattle.orc_ledger_spec.specs.Doing.{what_of}
 use Rattle.orc_ledger_spec.specs.Moves.{Does, Moves, CallsFit}
+use Rattle.orc_ledger_spec.specs.Parameters.{IsCalled as Entered}
 use Rattle.orc_ledger_spec.specs.Passing.{Enters, Clears}
 use Rattle.orc_ledger_spec.specs.Vacant.{Sheds}
 use Rattle.orc_ledger_spec.specs.declared.results.Called.{Called}
@@ -205,3 +206,10 @@ through-further l sites s slot t s' (s3, (s1, u, enters, held, (s2, w, v, g, h, 
     (further-still s s1 s3 (turned _ _ _ _ _ _ _ _ _ enters.done (omega arith))
     (further-still s1 s2 s3 (called-further l sites s1 slot u (called.Answered v) s2 h) (sent-further l s2 slot w s3 [] g moves)))
     gone
+
+-- a fork, and a call of a definition
+pub forks-further : (s s' : Records) (t : Token) (scope left right : ℕ) → IsForked s t scope left right s' → Advances s s'
+forks-further s s' t scope left right h = turned _ _ _ _ _ _ _ _ _ h (omega arith)
+
+pub enters-further : (l : Listing) (s s' : Records) (t : Token) (scope definition list : ℕ) → Entered l s t scope definition list s' → Advances s s'
+enters-further l s s' t scope definition list h = turned _ _ _ _ _ _ _ _ _ h.5 (omega arith)

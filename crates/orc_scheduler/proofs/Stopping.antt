@@ -4,7 +4,7 @@ use Rattle.std.specs.Prelude.{nat_lt}
 use Rattle.std.proofs.lemmas.Bool.{ltb-false}
 use Rattle.std.proofs.Math.Nat.{mul-le-mul_left}
 use Rattle.orc_rules.specs.Nodes.{Listing, code, definitions}
-use Rattle.orc_rules.specs.Term.{Term}
+use Rattle.orc_rules.specs.Term.{Term, par}
 use Rattle.orc_rules.specs.declared.value.Answer.{Answer}
 use Rattle.orc_rules.specs.declared.value.Answer.TheVariants as answer
 use Rattle.orc_frames.specs.declared.action.Action.{Action}
@@ -21,7 +21,7 @@ use Rattle.orc_ledger_spec.specs.Answers.{IsReturned, IsStopped}
 use Rattle.orc_ledger_spec.specs.Brought.{FullIsCrowded}
 use Rattle.orc_ledger_spec.specs.Calls.{IsRefused}
 use Rattle.orc_ledger_spec.specs.Halting.{HasHalted, Becomes, IsRefusedAt, IsHinderedAt}
-use Rattle.orc_ledger_spec.specs.Moves.{Hinders, IsHindered}
+use Rattle.orc_ledger_spec.specs.Moves.{Hinders, IsHindered, StandsAt}
 use Rattle.orc_ledger_spec.specs.Doing.{what_of}
 use Rattle.orc_ledger_spec.specs.Next.{members, numbers_of, ready, empty_groups, is_empty, next_at, next_by, work, ticks}
 use Rattle.orc_ledger_spec.specs.declared.results.Halted.{Halted}
@@ -29,6 +29,7 @@ use Rattle.orc_ledger_spec.specs.declared.results.Halted.TheVariants.{Lost, Resu
 use Rattle.orc_ledger_spec.specs.declared.faults.HaltFault.TheVariants.{Refused}
 use Rattle.orc_ledger_spec.specs.declared.faults.LedgerFault.{LedgerFault}
 use Rattle.orc_ledger_spec.specs.declared.faults.LedgerFault.TheVariants as fault
+use Rattle.orc_ledger_spec.proofs.Advancing.{word-par, hindered-by}
 use Rattle.orc_ledger_spec.proofs.Claiming.{never-hinders}
 use Rattle.orc_scheduler.specs.declared.scheduler.Stop.{Stop}
 use Rattle.orc_scheduler.specs.declared.scheduler.Stop.TheVariants as stop
@@ -61,6 +62,10 @@ hindered l s s' t f same law h = go f (subst (λ z. IsHindered l z t f) (sym sam
     go fault.Limit k = limited_by s' t (what_of (code l) (definitions l) s' t) k
     go fault.Memory k = tt
     go fault.Unclaimed k = absurd (never-hinders s' t (what_of (code l) (definitions l) s' t) k)
+
+-- where a token stands at `f | g`
+pub fork-refused : (l : Listing) (s s' : Records) (t : Token) (scope first second : ℕ) (f : LedgerFault) → StandsAt l t scope (par (code l first) (code l second)) → s' ≡ s → FullIsCrowded l s' → IsRefused s 1 0 0 f → Stops l s' (stop.Refused f)
+fork-refused l s s' t scope first second f at same law h = hindered l s s' t f same law (hindered-by l s t f Fork (word-par l s t scope (code l first) (code l second) at) h)
 
 limited_at : (s : Records) (side : Side) → IsRefusedAt s side fault.Limit → s.limit ≤ s.entries
 limited_at s (Right c) h = h.1

@@ -1,15 +1,16 @@
 //! The records of a run and what is done with them: tokens have their turns, calls are made, groups halt.
 
-ghost use Rattle.std.specs.Prelude.{◌≡◌, ◌≤◌, ◌<◌, ◌+◌, ◌^◌, ℕ, true, false, IfOk, IfErr, IfSome, OnErr};
+ghost use Rattle.std.specs.Prelude.{◌≡◌, ◌≤◌, ◌<◌, ◌+◌, ◌^◌, ℕ, true, false, IfOk, IfErr, IfSome, IfNone, OnErr};
 ghost use Rattle.std.specs.VecDeque.{deque_len};
-ghost use Rattle.orc_rules.specs.Nodes.{code, definitions, source};
+ghost use Rattle.orc_rules.specs.Nodes.{code, definitions, source, unfold_node};
 ghost use Rattle.orc_rules.specs.Program.{IsProgram};
 ghost use Rattle.orc_frames.specs.Doing.{is_wait};
 ghost use Rattle.orc_tables.specs.Tokens.{IsHeld};
 ghost use Rattle.orc_tables.specs.declared.records.Group.{Group};
 ghost use Rattle.orc_ledger_spec.specs.Doing.{what_of};
 ghost use Rattle.orc_ledger_spec.specs.Halting.{IsGroup};
-ghost use Rattle.orc_ledger_spec.specs.Moves.{IsHindered};
+ghost use Rattle.orc_graph.specs.Graph.{term_node};
+ghost use Rattle.orc_ledger_spec.specs.Moves.{IsHindered, StandsAt};
 ghost use Rattle.orc_ledger_spec.specs.Next.{members, numbers_of};
 ghost use Rattle.orc_ledger_spec.specs.Passing.{Passes};
 ghost use Rattle.orc_scheduler.specs.Stops.{Goes, Advances, HasMoved, IsNearer, HasTurned, Stops};
@@ -277,15 +278,12 @@ impl<P: Naming> Scheduler<P> {
         ensures nearer { IfOk result (λ _. IsNearer self.old.ledger (deque_len self.old.ready.handles + 1) self.new.ledger (deque_len self.new.ready.handles)) }
         ensures stops { IfErr result (λ stop. Stops P.listing self.new.ledger stop) }
     {
-        if !self.is_there(handle) {
+        let Some(mut token) = self.token_of(handle) else {
             return Ok(());
-        }
+        };
         let mut slot = handle.slot;
         for moved in 0..MOVES {
             self.moves = handle.moves.saturating_add(moved);
-            let Some(token) = self.ledger.held(slot) else {
-                return Ok(());
-            };
             if moved > 0 && self.is_turn_over(graph, answers, &token) {
                 break;
             }
@@ -297,8 +295,12 @@ impl<P: Naming> Scheduler<P> {
                 Step::On(next) => slot = next,
                 Step::Done | Step::Waits => return Ok(()),
             }
+            match self.ledger.held(slot) {
+                Some(next) => token = next,
+                None => return Ok(()),
+            }
         }
-        self.join_held(slot)
+        self.join(slot, token.serial)
     }
 
     // Whether a token that has moved goes on in a later turn: where tokens spread at the next call of a definition, and in an order at the next step that
@@ -394,10 +396,35 @@ impl<P: Naming> Scheduler<P> {
         if self.ready.reserve().is_err() {
             return Err(Stop::Refused(LedgerFault::Memory));
         }
+        if let Standing::At(node, scope) = token.standing {
+            let node = graph.node(node as usize);
+            if let Some(step) = self.step_at(graph, answers, slot, token, scope, node)? {
+                return Ok(step);
+            }
+        }
+        self.pass_on(graph, answers, slot, token)
+    }
+
+    // One move of a token, of any kind.
+    #[inline(always)]
+    fn pass_on(
+        &mut self,
+        graph: &Graph,
+        answers: &Answers,
+        slot: usize,
+        token: Token,
+    ) -> Result<Step, Stop>
+        requires graph { graph.now ≡ P.listing }
+        requires answers { answers.now.sites ≡ P.sites }
+        requires held { IsHeld self.old.ledger.slots slot token }
+        ensures moved { IfOk result (λ step. HasMoved self.old.ledger (deque_len self.old.ready.handles) self.new.ledger (deque_len self.new.ready.handles) step) }
+        ensures waits { IfOk result (λ step. step ≡ Step.Waits → IsProgram (definitions P.listing) (source P.listing) → is_wait (what_of (code P.listing) (definitions P.listing) self.old.ledger token) ≡ true) }
+        ensures stops { IfErr result (λ stop. Stops P.listing self.new.ledger stop) }
+    {
         calls_fit(&self.ledger);
         match self.pass(graph, answers, slot, token) {
             Ok(Passed::On) => Ok(Step::On(slot)),
-            Ok(Passed::Forked(other)) => self.part(slot, other),
+            Ok(Passed::Forked(right)) => self.part(slot, right),
             Ok(Passed::Sent(group)) => {
                 self.close(group)?;
                 Ok(Step::On(slot))
@@ -433,6 +460,78 @@ impl<P: Naming> Scheduler<P> {
         }
     }
 
+    // One move of a token at a call or at `f | g`, in place of `pass_on`, which is slower, since it tells of a move of any kind. None, which changes nothing,
+    // where the token stands elsewhere, where it can't move, and at a call of a site where each move is to be an entry.
+    #[inline(always)]
+    fn step_at(
+        &mut self,
+        graph: &Graph,
+        answers: &Answers,
+        slot: usize,
+        token: Token,
+        scope: usize,
+        node: Node,
+    ) -> Result<Option<Step>, Stop>
+        requires graph { graph.now ≡ P.listing }
+        requires answers { answers.now.sites ≡ P.sites }
+        requires held { IsHeld self.old.ledger.slots slot token }
+        requires at { StandsAt P.listing token scope (unfold_node (code P.listing) P.listing.lists (term_node node)) }
+        ensures moved { IfOk result (λ moved. IfSome moved (λ step. Advances self.old.ledger self.new.ledger × (step ≡ Step.Waits → ⊥))) }
+        ensures none { IfOk result (λ moved. IfNone moved ((self.new.ledger ≡ self.old.ledger) × (self.new.ready ≡ self.old.ready))) }
+        ensures stops { IfErr result (λ stop. Stops P.listing self.new.ledger stop) }
+    {
+        match node {
+            Node::Site(site, list) if self.goes_through => {
+                let args = &mut self.args;
+                match self
+                    .ledger
+                    .call_at(graph, answers, slot, token, scope, site, list, args)
+                {
+                    Ok(Some(called)) => match self.after_call(slot, called) {
+                        Ok(step) => Ok(Some(step)),
+                        Err(stop) => Err(stop),
+                    },
+                    Ok(None) => Ok(None),
+                    Err(fault) => {
+                        self.ledger.full_is_crowded();
+                        Err(Stop::Refused(fault))
+                    }
+                }
+            }
+            Node::Call(definition, list) => {
+                let scopes = &mut self.scopes;
+                match self
+                    .ledger
+                    .def(graph, slot, token, scope, definition, list, scopes)
+                {
+                    Ok(true) => Ok(Some(Step::On(slot))),
+                    Ok(false) => Ok(None),
+                    Err(fault) => {
+                        self.ledger.full_is_crowded();
+                        Err(Stop::Refused(fault))
+                    }
+                }
+            }
+            Node::Par(left, right) => {
+                match self.ledger.fork(slot, token, scope, left, right) {
+                    Ok(other) => {
+                        // The right side's token has the last mark.
+                        let mark = self.ledger.next_mark().saturating_sub(1);
+                        match self.join(other, mark) {
+                            Ok(()) => Ok(Some(Step::On(slot))),
+                            Err(stop) => Err(stop),
+                        }
+                    }
+                    Err(fault) => {
+                        self.ledger.full_is_crowded();
+                        Err(Stop::Refused(fault))
+                    }
+                }
+            }
+            _ => Ok(None),
+        }
+    }
+
     // A token moves: once, or through a `>x>` in one go, but where each move is to be an entry.
     #[inline(always)]
     fn pass(
@@ -460,6 +559,15 @@ impl<P: Naming> Scheduler<P> {
                 }
             }
         }
+        if let Standing::On(value) = token.standing {
+            return match self
+                .ledger
+                .advance_value(slot, token, value, &mut self.cancelled)
+            {
+                Ok(moved) => Ok(moved.passed()),
+                Err(fault) => Err(fault),
+            };
+        }
         match self
             .ledger
             .advance(graph, slot, token, &mut self.scopes, &mut self.cancelled)
@@ -469,32 +577,16 @@ impl<P: Naming> Scheduler<P> {
         }
     }
 
-    // Two tokens stand in these slots: one goes on, and the turn of the other one comes. The left side of `f | g` goes on; but the right side of a
-    // pruning, so that its group may be gone before the left side opens more.
+    // The tokens of a pruning's sides stand in these slots: the right one goes on, so that its group may be gone before the left side opens more, and
+    // the turn of the left one comes.
     #[inline(always)]
     fn part(&mut self, left: usize, right: usize) -> Result<Step, Stop>
         ensures same { self.new.ledger ≡ self.old.ledger }
         ensures on { IfOk result (λ step. (slot : ℕ) × (step ≡ Step.On slot)) }
         ensures memory { IfErr result (λ stop. stop ≡ Stop.Refused LedgerFault.Memory) }
     {
-        if self.is_beside(left, right) {
-            self.join_held(right)?;
-            Ok(Step::On(left))
-        } else {
-            self.join_held(left)?;
-            Ok(Step::On(right))
-        }
-    }
-
-    // Whether the tokens in two slots are in one group.
-    #[inline(always)]
-    fn is_beside(&self, left: usize, right: usize) -> bool {
-        match (self.ledger.held(left), self.ledger.held(right)) {
-            (Some(one), Some(other)) => {
-                self.ledger.group_of_token(&one) == self.ledger.group_of_token(&other)
-            }
-            _ => true,
-        }
+        self.join_held(left)?;
+        Ok(Step::On(right))
     }
 
     // A call of a site. Where the table answers it at once, the token on its answer goes on; but in an order a script's answer has a turn of its own.
@@ -520,18 +612,29 @@ impl<P: Naming> Scheduler<P> {
             .ledger
             .call_through(graph, answers, slot, token, &mut self.args)
         {
-            Ok(Called::Answered(_)) => Ok(Step::On(slot)),
-            Ok(Called::Halted(group)) => {
-                self.close(group)?;
-                Ok(Step::Done)
-            }
-            Ok(Called::Pends(_)) => {
-                self.holding.give_up();
-                Ok(Step::Done)
-            }
+            Ok(called) => self.after_call(slot, called),
             Err(fault) => {
                 self.ledger.full_is_crowded();
                 Err(Stop::Refused(fault))
+            }
+        }
+    }
+
+    // How the token in a slot goes on that has made a call of a site.
+    #[inline(always)]
+    fn after_call(&mut self, slot: usize, called: Called) -> Result<Step, Stop>
+        ensures goes { IfOk result (λ step. Goes self.old.ledger self.new.ledger × (step ≡ Step.Waits → ⊥)) }
+        ensures stops { IfErr result (λ stop. Stops P.listing self.new.ledger stop) }
+    {
+        match called {
+            Called::Answered(_) => Ok(Step::On(slot)),
+            Called::Halted(group) => {
+                self.close(group)?;
+                Ok(Step::Done)
+            }
+            Called::Pends(_) => {
+                self.holding.give_up();
+                Ok(Step::Done)
             }
         }
     }

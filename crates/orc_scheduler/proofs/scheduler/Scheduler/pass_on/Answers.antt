@@ -1,7 +1,7 @@
 use Rattle.std.proofs.Common.{subst}
 use Rattle.orc_scheduler.specs.Stops.{Goes}
 use Rattle.orc_scheduler.proofs.Further.{bound-further, goes-on}
-use Rattle.orc_scheduler.proofs.scheduler.Scheduler.step.Goals as goal
+use Rattle.orc_scheduler.proofs.scheduler.Scheduler.pass_on.Goals as goal
 
 pub returns-in_ok-close-in-Ok-Bound-clause-moved : goal.returns-in_ok-close-in-Ok-Bound-clause-moved
 returns-in_ok-close-in-Ok-Bound-clause-moved g c =
