@@ -15,7 +15,7 @@ use Rattle.orc_run.specs.Checked.{IsJudgedAt, IsRefusal, verdict_line}
 use Rattle.orc_run.specs.Claimed.{IsClaimed, IsUnclaimedFor, IsUnreadTest, LeavesUnclaimed, sight_at}
 use Rattle.orc_run.specs.declared.faults.RunFault.{RunFault}
 use Rattle.orc_run.specs.declared.faults.RunFault.TheVariants as fault
-use Rattle.orc_run.specs.declared.output.WriteFault.{WriteFault}
+use Rattle.orc_output.specs.declared.output.WriteFault.{WriteFault}
 
 -- the text of a test says this one, beside the sites of a script
 abbrev pub IsTestOf : List ℕ → List ℕ → Test → Type 0

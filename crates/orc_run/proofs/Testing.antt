@@ -27,7 +27,7 @@ use Rattle.orc_tally.specs.declared.table.CaseReport.{CaseReport}
 use Rattle.orc_tally.specs.declared.table.Report.{Report}
 use Rattle.orc_outcome.specs.declared.end.Summary.{Summary}
 use Rattle.orc_run.specs.Running.{IsOwnOf, LeavesAtFault, Ran}
-use Rattle.orc_run.specs.declared.output.WriteFault.{WriteFault}
+use Rattle.orc_output.specs.declared.output.WriteFault.{WriteFault}
 use Rattle.orc_run.specs.Called.{Named}
 use Rattle.orc_run.specs.Tested.{AreScripts, AreWays, HasFailing, IsJudged, IsReport, IsTried, LeavesUntested, Writes, of_trial}
 use Rattle.orc_run.specs.Whole.{AreSaid, IsScriptAt}
