@@ -34,7 +34,7 @@ struct Stroke {
 /// Writes a picture as text of about so many columns.
 pub(crate) fn write(alloc: Global, picture: &Picture, width: u64) -> Result<String, AllocError> {
     let mut page = Page::new(alloc);
-    let columns = Columns::new(alloc, picture, width)?;
+    let columns = Columns::new(alloc, &*picture, width)?;
     page.tell(
         "%: %\n",
         &[
