@@ -1,6 +1,6 @@
-//! Where a program's variables are named, where they are known, and what it calls.
+//! Where a program's variables are named, and where they are known.
 
-use orc_syntax::{Ast, Expr, Name, Operator, Part, Span};
+use orc_syntax::{Ast, Definition, Expr, Name, Node, Operator, Part, Span};
 use std::alloc::{AllocError, Global};
 
 /// What names a variable.
@@ -21,73 +21,74 @@ pub(crate) struct Binding<'a> {
     pub scope: Span,
 }
 
-/// All variables and calls of a program.
+/// All variables of a program.
+#[derive(Drop)]
 pub(crate) struct Bindings<'a> {
     pub list: Vec<Binding<'a>>,
-    /// The name of each call, and how many arguments it has.
-    pub calls: Vec<(Name<'a>, usize)>,
     // The places of the parts that their whole is still to take.
     parts: Vec<Span>,
-}
-
-// Written out, so that a caller's proof sees one call and not the drop of each field.
-impl Drop for Bindings<'_> {
-    fn drop(self) {
-        let Bindings {
-            list: _,
-            calls: _,
-            parts: _,
-        } = self;
-    }
 }
 
 const NOWHERE: Span = Span { start: 0, end: 0 };
 
 impl<'a> Bindings<'a> {
-    /// The variables and the calls of a program. The error is refused memory.
+    /// The variables of a program. The error is refused memory.
     pub(crate) fn new(alloc: Global, ast: &Ast<'a>) -> Result<Bindings<'a>, AllocError> {
         let mut bindings = Bindings {
             list: Vec::new(alloc),
-            calls: Vec::new(alloc),
             parts: Vec::new(alloc),
         };
         for definition in &ast.definitions {
-            let scope = bindings.read(&definition.body)?;
-            for parameter in &definition.parameters {
-                bindings.add(*parameter, Binder::Parameter, scope)?;
-            }
+            bindings.read_definition(definition)?;
         }
-        let _main = bindings.read(&ast.main)?;
+        let _main = bindings.read_expression(&ast.main)?;
         Ok(bindings)
     }
 
+    fn read_definition(&mut self, definition: &Definition<'a>) -> Result<(), AllocError> {
+        let scope = self.read_expression(&definition.body)?;
+        for parameter in &definition.parameters {
+            self.add(*parameter, Binder::Parameter, scope)?;
+        }
+        Ok(())
+    }
+
     // Where the expression stands.
-    fn read(&mut self, expression: &Expr<'a>) -> Result<Span, AllocError> {
+    fn read_expression(&mut self, expression: &Expr<'a>) -> Result<Span, AllocError> {
         for node in &expression.nodes {
-            match node.part {
-                Part::Plain(_) | Part::Variable(_) => {}
-                Part::Call(name, count) => {
-                    self.calls.push((name, count))?;
-                    self.parts.truncate(self.parts.len().saturating_sub(count));
-                }
-                Part::Operation(operator) => {
-                    let right = self.take();
-                    let left = self.take();
-                    match operator {
-                        Operator::Seq(Some(name)) => self.add(name, Binder::Sequence, right)?,
-                        Operator::Prune(Some(name)) => self.add(name, Binder::Pruning, left)?,
-                        _ => {}
-                    }
-                }
-                Part::Val(name) => {
-                    let scope = self.take();
-                    let _value = self.take();
-                    self.add(name, Binder::Val, scope)?;
-                }
-            }
-            self.parts.push(node.span)?;
+            self.read_node(*node)?;
         }
         Ok(self.take())
+    }
+
+    fn read_node(&mut self, node: Node<'a>) -> Result<(), AllocError> {
+        match node.part {
+            Part::Plain(_) | Part::Variable(_) => {}
+            Part::Call(_, count) => {
+                let first = self.parts.len().saturating_sub(count);
+                self.parts.truncate(first);
+            }
+            Part::Operation(operator) => self.read_operation(operator)?,
+            Part::Val(name) => self.read_val(name)?,
+        }
+        self.parts.push(node.span)?;
+        Ok(())
+    }
+
+    fn read_operation(&mut self, operator: Operator<'a>) -> Result<(), AllocError> {
+        let right = self.take();
+        let left = self.take();
+        match operator {
+            Operator::Seq(Some(name)) => self.add(name, Binder::Sequence, right),
+            Operator::Prune(Some(name)) => self.add(name, Binder::Pruning, left),
+            _ => Ok(()),
+        }
+    }
+
+    fn read_val(&mut self, name: Name<'a>) -> Result<(), AllocError> {
+        let scope = self.take();
+        let _value = self.take();
+        self.add(name, Binder::Val, scope)
     }
 
     fn take(&mut self) -> Span {
@@ -107,9 +108,8 @@ impl<'a> Bindings<'a> {
     pub(crate) fn first(&self, name: &[u8]) -> Option<Binding<'a>> {
         let mut found: Option<Binding<'a>> = None;
         for binding in self.list.iter() {
-            let start = binding.name.span.start;
             let is_first = match found {
-                Some(other) => start < other.name.span.start,
+                Some(other) => binding.name.span.start < other.name.span.start,
                 None => true,
             };
             if is_first && binding.name.text == name {
@@ -122,16 +122,21 @@ impl<'a> Bindings<'a> {
     /// The innermost variable of this name that is known at a place.
     pub(crate) fn known(&self, name: &[u8], at: usize) -> Option<Binding<'a>> {
         let mut found: Option<Binding<'a>> = None;
-        let mut least = usize::MAX;
         for binding in self.list.iter() {
             let scope = binding.scope;
-            let width = scope.end.saturating_sub(scope.start);
             let is_known = scope.start <= at && at < scope.end;
-            if is_known && width < least && binding.name.text == name {
+            let is_inner = match found {
+                Some(other) => width(scope) < width(other.scope),
+                None => true,
+            };
+            if is_known && is_inner && binding.name.text == name {
                 found = Some(*binding);
-                least = width;
             }
         }
         found
     }
+}
+
+fn width(span: Span) -> usize {
+    span.end.saturating_sub(span.start)
 }

@@ -5,7 +5,7 @@ use crate::scope::say_scope;
 use crate::script::say_script;
 use crate::syntax::{say_refused, say_syntax};
 use orc_journal_text::JournalFault;
-use orc_report::{Fill, Page, Subject};
+use orc_report::{Page, Subject};
 use orc_rules::limits::MOST_ENTRIES;
 use orc_scope::ScopeFault;
 use orc_site::ScriptFault;
@@ -46,34 +46,81 @@ pub enum Unread {
     Other,
 }
 
+// A fault of the engine.
+fn say_broken(page: &mut Page) {
+    page.note(
+        "this is a fault of orc, not of your files: the engine found nothing to do where something was left\n",
+    );
+    page.help("please keep FILE and the script, and report them");
+}
+
+fn say_range(page: &mut Page) {
+    page.note("the limit is 1 to ");
+    page.number(MOST_ENTRIES);
+    page.say("\n");
+}
+
+fn say_fault(page: &mut Page, alloc: Global, subject: &Subject, fault: Fault) {
+    match fault {
+        Fault::Syntax(fault) => say_syntax(page, alloc, &subject.source, fault),
+        Fault::Scope(fault) => say_scope(page, alloc, subject, fault),
+        Fault::Script(fault) => say_script(page, alloc, subject, fault),
+        Fault::Journal(fault) => say_journal(page, alloc, subject, fault),
+        Fault::Range => say_range(page),
+        Fault::Begin => say_refused(page, "the run was begun"),
+        Fault::Broken => say_broken(page),
+        Fault::Write => page.note(
+            "standard output took only a part of the text: a full device, or a reader that has gone\n",
+        ),
+    }
+}
+
+// A line that begins with a file's name.
+fn say_of(page: &mut Page, name: &str, words: &str) {
+    page.note("");
+    page.path(name);
+    page.say(words);
+}
+
+// There is no file of this name. In a name that doesn't begin at the root, it isn't seen where the file was looked for.
+fn say_missing(page: &mut Page, name: &str) {
+    page.note("there is no file ");
+    page.path(name);
+    page.say("\n");
+    if !name.starts_with("/") {
+        page.help(
+            "a name that doesn't begin with `/` is looked for in the folder in which orc was started",
+        );
+    }
+}
+
+fn say_unread(page: &mut Page, name: &str, why: Unread) {
+    match why {
+        Unread::Missing if name.is_empty() => {
+            page.note("the name of the file is empty\n");
+            page.help("`\"$F\"` is empty where the shell's variable F has no value");
+        }
+        Unread::Missing => say_missing(page, name),
+        Unread::Folder => {
+            say_of(page, name, " is a folder\n");
+            page.help("name a file in it");
+        }
+        Unread::Forbidden => {
+            say_of(page, name, " may not be read by this user\n");
+            page.help("`ls -ld` shows the rights of a file, and of the folders on the way to it");
+        }
+        Unread::Other => say_of(
+            page,
+            name,
+            " could not be read: a closed input, a device that fails, or links that lead in a circle\n",
+        ),
+    }
+}
+
 /// The text that explains why the file of this name could not be read, below its own line. The error is refused memory.
 pub fn explain_unread(alloc: Global, name: &str, why: Unread) -> Result<String, AllocError> {
     let mut page = Page::new(alloc);
-    let (words, help) = match why {
-        Unread::Missing if name.is_empty() => (
-            "the name of the file is empty",
-            "`\"$F\"` is empty where the shell's variable F has no value",
-        ),
-        // A name that begins at the root shows where the file was looked for.
-        Unread::Missing if name.starts_with("/") => ("there is no file %", ""),
-        Unread::Missing => (
-            "there is no file %",
-            "a name that doesn't begin with `/` is looked for in the folder in which orc was started",
-        ),
-        Unread::Folder => ("% is a folder", "name a file in it"),
-        Unread::Forbidden => (
-            "% may not be read by this user",
-            "`ls -ld` shows the rights of a file, and of the folders on the way to it",
-        ),
-        Unread::Other => (
-            "% could not be read: a closed input, a device that fails, or links that lead in a circle",
-            "",
-        ),
-    };
-    page.remark(words, &[Fill::Path(name)]);
-    if !help.is_empty() {
-        page.help(help);
-    }
+    say_unread(&mut page, name, why);
     page.finish()
 }
 
@@ -96,22 +143,6 @@ pub fn explain_refused(alloc: Global) -> Result<String, AllocError> {
 /// The text that explains a fault of these files, below its own line. The error is refused memory.
 pub fn explain(alloc: Global, subject: &Subject, fault: Fault) -> Result<String, AllocError> {
     let mut page = Page::new(alloc);
-    match fault {
-        Fault::Syntax(fault) => say_syntax(&mut page, alloc, &subject.source, fault),
-        Fault::Scope(fault) => say_scope(&mut page, alloc, subject, fault),
-        Fault::Script(fault) => say_script(&mut page, alloc, subject, fault),
-        Fault::Journal(fault) => say_journal(&mut page, alloc, subject, fault),
-        Fault::Range => page.remark("the limit is 1 to %", &[Fill::Number(MOST_ENTRIES)]),
-        Fault::Begin => say_refused(&mut page, "the run was begun"),
-        Fault::Broken => {
-            page.note(
-                "this is a fault of orc, not of your files: the engine found nothing to do where something was left\n",
-            );
-            page.help("please keep FILE and the script, and report them");
-        }
-        Fault::Write => page.note(
-            "standard output took only a part of the text: a full device, or a reader that has gone\n",
-        ),
-    }
+    say_fault(&mut page, alloc, subject, fault);
     page.finish()
 }

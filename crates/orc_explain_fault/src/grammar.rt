@@ -1,9 +1,8 @@
-//! What may stand where in a line of a script or a test: a table of places, and the walk over a line by it.
+//! What may stand where in a line of a test: a table of places, and the walk over a line by it.
 
-use crate::line::{Kind, Line, first_of, is_in_range};
+use crate::script::{Kind, Line, Piece, is_in_range};
 use crate::words::{CONSTANTS, RESERVED, is_one_of};
 use orc_report::Near;
-use orc_rules::limits::{MOST_ANSWERS, MOST_ARGUMENTS};
 
 /// A place in a line: what has been read of it tells which words may follow.
 #[derive(Clone, Copy, PartialEq, Eq)]
@@ -29,8 +28,6 @@ pub(crate) enum Place {
     EachOf,
     Calls,
     CallsEnd,
-    /// Too many patterns or answers stand before it.
-    Many,
     // Claims.
     Claim,
     Bound,
@@ -126,27 +123,8 @@ const FOLLOWING: [&[u8]; 12] = [
     b"cancelled",
 ];
 
-/// What a service's line of a test has beside what a script's has: ranges of times, and several answers.
-const RANGE_WAYS: [Way; 10] = [
-    (Place::Range, Test::Is(b".."), Next::To(Place::RangeEnd)),
-    (Place::RangeEnd, Test::Digits, Next::To(Place::AnswerEnd)),
-    (Place::AnswerEnd, Test::Is(b"|"), Next::To(Place::Answer)),
-    (Place::AnswerEnd, Test::Is(b"in"), Next::To(Place::Each)),
-    (Place::Each, Test::Is(b"each"), Next::To(Place::EachOf)),
-    (Place::EachOf, Test::Is(b"of"), Next::To(Place::Calls)),
-    (Place::Calls, Test::Is(b"2"), Next::To(Place::CallsEnd)),
-    (Place::Calls, Test::Is(b"3"), Next::To(Place::CallsEnd)),
-    (Place::Calls, Test::Is(b"4"), Next::To(Place::CallsEnd)),
-    (
-        Place::CallsEnd,
-        Test::Is(b"calls"),
-        Next::To(Place::LineEnd),
-    ),
-];
-
-/// What may stand at the places of a line.
-const WAYS: [Way; 93] = [
-    // A line of a script, or of a service.
+/// What may stand at the places in a service's line.
+const SERVICE_WAYS: [Way; 27] = [
     (Place::Bracket, Test::Is(b"("), Next::To(Place::Patterns)),
     (Place::Patterns, Test::Is(b")"), Next::To(Place::Equals)),
     (Place::Patterns, Test::Pattern, Next::To(Place::PatternEnd)),
@@ -164,19 +142,111 @@ const WAYS: [Way; 93] = [
     (Place::Delay, Test::Is(b"after"), Next::To(Place::Time)),
     (Place::Delay, Test::Else, Next::To(Place::AnswerEnd)),
     (Place::Time, Test::Digits, Next::To(Place::Range)),
+    (Place::Range, Test::Is(b".."), Next::To(Place::RangeEnd)),
     (Place::Range, Test::Else, Next::To(Place::AnswerEnd)),
+    (Place::RangeEnd, Test::Digits, Next::To(Place::AnswerEnd)),
     (Place::AnswerEnd, Test::Is(b"then"), Next::To(Place::Answer)),
+    (Place::AnswerEnd, Test::Is(b"|"), Next::To(Place::Answer)),
+    (Place::AnswerEnd, Test::Is(b"in"), Next::To(Place::Each)),
     (Place::AnswerEnd, Test::End, Next::Done),
+    (Place::Each, Test::Is(b"each"), Next::To(Place::EachOf)),
+    (Place::EachOf, Test::Is(b"of"), Next::To(Place::Calls)),
+    (Place::Calls, Test::Is(b"2"), Next::To(Place::CallsEnd)),
+    (Place::Calls, Test::Is(b"3"), Next::To(Place::CallsEnd)),
+    (Place::Calls, Test::Is(b"4"), Next::To(Place::CallsEnd)),
+    (
+        Place::CallsEnd,
+        Test::Is(b"calls"),
+        Next::To(Place::LineEnd),
+    ),
     (Place::Service, Test::Name, Next::To(Place::Bracket)),
-    // A line of a test where it begins or ends.
-    (Place::Line, Test::Word(b"given"), Next::To(Place::LineEnd)),
-    (Place::Line, Test::Word(b"always"), Next::To(Place::LineEnd)),
-    (Place::Line, Test::Word(b"case"), Next::To(Place::CaseName)),
-    (Place::Line, Test::Else, Next::To(Place::Claim)),
-    (Place::CaseName, Test::Name, Next::To(Place::CaseEnd)),
-    (Place::CaseEnd, Test::End, Next::Done),
-    (Place::LineEnd, Test::End, Next::Done),
-    // A claim, outside its events.
+];
+
+/// What may stand at the places in an event.
+const EVENT_WAYS: [Way; 20] = [
+    (Place::Published, Test::Slot, Next::To(Place::EventEnd)),
+    (Place::Open, Test::Is(b"("), Next::To(Place::Slots)),
+    (Place::Slots, Test::Is(b")"), Next::To(Place::CallEnd)),
+    (Place::Slots, Test::Slot, Next::To(Place::SlotEnd)),
+    (Place::SlotEnd, Test::Is(b")"), Next::To(Place::CallEnd)),
+    (Place::SlotEnd, Test::Is(b","), Next::To(Place::Slot)),
+    (Place::Slot, Test::Slot, Next::To(Place::SlotEnd)),
+    (
+        Place::CallEnd,
+        Test::Is(b"called"),
+        Next::To(Place::EventEnd),
+    ),
+    (
+        Place::CallEnd,
+        Test::Is(b"answered"),
+        Next::To(Place::Answered),
+    ),
+    (
+        Place::CallEnd,
+        Test::Is(b"halted"),
+        Next::To(Place::EventEnd),
+    ),
+    (
+        Place::CallEnd,
+        Test::Is(b"cancelled"),
+        Next::To(Place::EventEnd),
+    ),
+    (Place::CallEnd, Test::Is(b"or"), Next::To(Place::Event)),
+    (Place::CallEnd, Test::Else, Next::Back),
+    (Place::Answered, Test::Slot, Next::To(Place::EventEnd)),
+    (Place::Answered, Test::Is(b"or"), Next::To(Place::Event)),
+    (Place::Answered, Test::Else, Next::Back),
+    (Place::EventEnd, Test::Is(b"or"), Next::To(Place::Event)),
+    (Place::EventEnd, Test::Else, Next::Back),
+    (
+        Place::Event,
+        Test::Word(b"published"),
+        Next::To(Place::Published),
+    ),
+    (Place::Event, Test::Site, Next::To(Place::Open)),
+];
+
+/// What may stand at the places in a claim on values or on the end.
+const OUTCOME_WAYS: [Way; 19] = [
+    (Place::Ends, Test::Is(b"Halted"), Next::To(Place::EndsEnd)),
+    (Place::Ends, Test::Is(b"Quiet"), Next::To(Place::EndsEnd)),
+    (Place::EndsEnd, Test::Is(b"or"), Next::To(Place::EndsMore)),
+    (Place::EndsEnd, Test::Is(b"by"), Next::To(Place::Units)),
+    (Place::EndsEnd, Test::End, Next::Done),
+    (
+        Place::EndsMore,
+        Test::Is(b"Halted"),
+        Next::To(Place::CountEnd),
+    ),
+    (
+        Place::EndsMore,
+        Test::Is(b"Quiet"),
+        Next::To(Place::CountEnd),
+    ),
+    (
+        Place::Values,
+        Test::Is(b"nothing"),
+        Next::To(Place::LineEnd),
+    ),
+    (Place::Values, Test::Is(b"one"), Next::To(Place::OneOf)),
+    (Place::Values, Test::Pattern, Next::To(Place::ValuesEnd)),
+    (Place::ValuesEnd, Test::Pattern, Next::To(Place::ValuesEnd)),
+    (Place::ValuesEnd, Test::Is(b"in"), Next::To(Place::AnyOrder)),
+    (Place::ValuesEnd, Test::End, Next::Done),
+    (Place::OneOf, Test::Is(b"of"), Next::To(Place::Literals)),
+    (Place::Literals, Test::Literal, Next::To(Place::LiteralsEnd)),
+    (
+        Place::LiteralsEnd,
+        Test::Literal,
+        Next::To(Place::LiteralsEnd),
+    ),
+    (Place::LiteralsEnd, Test::End, Next::Done),
+    (Place::AnyOrder, Test::Is(b"any"), Next::To(Place::Order)),
+    (Place::Order, Test::Is(b"order"), Next::To(Place::LineEnd)),
+];
+
+/// What may stand at the places in a claim, outside its events.
+const CLAIM_WAYS: [Way; 30] = [
     (Place::Claim, Test::Word(b"at"), Next::To(Place::Bound)),
     (Place::Claim, Test::Word(b"exactly"), Next::To(Place::Count)),
     (Place::Claim, Test::Word(b"no"), Next::Event(Place::NoneEnd)),
@@ -235,162 +305,67 @@ const WAYS: [Way; 93] = [
     ),
     (Place::Condition, Test::Else, Next::Event(Place::Then)),
     (Place::Then, Test::Is(b"then"), Next::To(Place::Claim)),
-    // A claim on values or on the end.
-    (Place::Ends, Test::Is(b"Halted"), Next::To(Place::EndsEnd)),
-    (Place::Ends, Test::Is(b"Quiet"), Next::To(Place::EndsEnd)),
-    (Place::EndsEnd, Test::Is(b"or"), Next::To(Place::EndsMore)),
-    (Place::EndsEnd, Test::Is(b"by"), Next::To(Place::Units)),
-    (Place::EndsEnd, Test::End, Next::Done),
-    (
-        Place::EndsMore,
-        Test::Is(b"Halted"),
-        Next::To(Place::CountEnd),
-    ),
-    (
-        Place::EndsMore,
-        Test::Is(b"Quiet"),
-        Next::To(Place::CountEnd),
-    ),
-    (
-        Place::Values,
-        Test::Is(b"nothing"),
-        Next::To(Place::LineEnd),
-    ),
-    (Place::Values, Test::Is(b"one"), Next::To(Place::OneOf)),
-    (Place::Values, Test::Pattern, Next::To(Place::ValuesEnd)),
-    (Place::ValuesEnd, Test::Pattern, Next::To(Place::ValuesEnd)),
-    (Place::ValuesEnd, Test::Is(b"in"), Next::To(Place::AnyOrder)),
-    (Place::ValuesEnd, Test::End, Next::Done),
-    (Place::OneOf, Test::Is(b"of"), Next::To(Place::Literals)),
-    (Place::Literals, Test::Literal, Next::To(Place::LiteralsEnd)),
-    (
-        Place::LiteralsEnd,
-        Test::Literal,
-        Next::To(Place::LiteralsEnd),
-    ),
-    (Place::LiteralsEnd, Test::End, Next::Done),
-    (Place::AnyOrder, Test::Is(b"any"), Next::To(Place::Order)),
-    (Place::Order, Test::Is(b"order"), Next::To(Place::LineEnd)),
-    // An event.
-    (Place::Published, Test::Slot, Next::To(Place::EventEnd)),
-    (Place::Open, Test::Is(b"("), Next::To(Place::Slots)),
-    (Place::Slots, Test::Is(b")"), Next::To(Place::CallEnd)),
-    (Place::Slots, Test::Slot, Next::To(Place::SlotEnd)),
-    (Place::SlotEnd, Test::Is(b")"), Next::To(Place::CallEnd)),
-    (Place::SlotEnd, Test::Is(b","), Next::To(Place::Slot)),
-    (Place::Slot, Test::Slot, Next::To(Place::SlotEnd)),
-    (
-        Place::CallEnd,
-        Test::Is(b"called"),
-        Next::To(Place::EventEnd),
-    ),
-    (
-        Place::CallEnd,
-        Test::Is(b"answered"),
-        Next::To(Place::Answered),
-    ),
-    (
-        Place::CallEnd,
-        Test::Is(b"halted"),
-        Next::To(Place::EventEnd),
-    ),
-    (
-        Place::CallEnd,
-        Test::Is(b"cancelled"),
-        Next::To(Place::EventEnd),
-    ),
-    (Place::CallEnd, Test::Is(b"or"), Next::To(Place::Event)),
-    (Place::CallEnd, Test::Else, Next::Back),
-    (Place::Answered, Test::Slot, Next::To(Place::EventEnd)),
-    (Place::Answered, Test::Is(b"or"), Next::To(Place::Event)),
-    (Place::Answered, Test::Else, Next::Back),
-    (Place::EventEnd, Test::Is(b"or"), Next::To(Place::Event)),
-    (Place::EventEnd, Test::Else, Next::Back),
-    (
-        Place::Event,
-        Test::Word(b"published"),
-        Next::To(Place::Published),
-    ),
-    (Place::Event, Test::Site, Next::To(Place::Open)),
 ];
 
-/// What is wanted at a place, in words. Where its last way is open to anything these are the words before those of the next place.
-const WANTED: [(Place, &str); 54] = [
-    (Place::Bracket, "`(`"),
-    (Place::Open, "`(`"),
-    (Place::Patterns, "a value, `_` or `)`"),
-    (Place::PatternEnd, "`,` or `)`"),
-    (Place::SlotEnd, "`,` or `)`"),
-    (Place::Pattern, "a value or `_`"),
-    (Place::Equals, "`=`"),
-    (Place::Answer, "an answer: a value, `halt` or `never`"),
-    (Place::Delay, "`after`, "),
-    (Place::Time, NUMBER),
-    (Place::RangeEnd, NUMBER),
-    (Place::Most, NUMBER),
-    (Place::Count, NUMBER),
-    (Place::Units, NUMBER),
-    (Place::Range, "`..`, "),
-    (
-        Place::AnswerEnd,
-        "`then`, `|`, `in each of` or the end of the line",
-    ),
-    (Place::Each, "`each of`"),
-    (Place::EachOf, "`of`"),
-    (Place::OneOf, "`of`"),
-    (Place::Calls, "2, 3 or 4"),
-    (Place::CallsEnd, "`calls`"),
-    (Place::Service, "the name of a site"),
-    (Place::Published, VALUE),
-    (Place::Slot, VALUE),
-    (Place::Slots, "a value, `_`, a variable or `)`"),
-    (
-        Place::CallEnd,
-        "`called`, `answered`, `halted`, `cancelled`, `or`, ",
-    ),
-    (Place::Answered, "a value, `_`, a variable, `or`, "),
-    (Place::EventEnd, "`or`, "),
-    (Place::Event, "an event: `NAME(..)` or `published V`"),
-    (Place::Ends, "`Halted` or `Quiet`"),
-    (Place::EndsMore, "`Halted` or `Quiet`"),
-    (Place::EndsEnd, "`or`, `by` or the end of the line"),
-    (Place::Values, "`nothing`, `one of`, or values"),
-    (
-        Place::ValuesEnd,
-        "a value, `_`, `in any order` or the end of the line",
-    ),
-    (Place::Literals, "a value"),
-    (Place::LiteralsEnd, "a value or the end of the line"),
-    (Place::AnyOrder, "`any order`"),
-    (Place::Order, "`order`"),
-    (
-        Place::Claim,
-        "a claim (`at most`, `at least`, `exactly`, `no`, `each`, `if`, `ends`, `publishes`, or an event `only after` another)",
-    ),
-    (Place::Bound, "`most` or `least`"),
-    (Place::MostEnd, "`at once`, `by` or the end of the line"),
-    (Place::Once, "`once`"),
-    (Place::CountEnd, "`by` or the end of the line"),
-    (Place::NoneEnd, "`after`, `by` or the end of the line"),
-    (Place::EachEnd, "or `then`"),
-    (Place::Then, "or `then`"),
-    (Place::WithinEnd, "`within` or the end of the line"),
-    (Place::Only, "or `only after`"),
-    (Place::OnlyAfter, "`after`"),
-    (Place::Condition, "`no` or "),
-    (Place::Line, "a service, `given`, `always`, `case NAME` or "),
-    (Place::CaseName, "the case's name"),
-    (Place::CaseEnd, "the end of the line"),
-    (Place::LineEnd, "the end of the line"),
+/// What may stand at the places where a line begins or ends.
+const LINE_WAYS: [Way; 7] = [
+    (Place::Line, Test::Word(b"given"), Next::To(Place::LineEnd)),
+    (Place::Line, Test::Word(b"always"), Next::To(Place::LineEnd)),
+    (Place::Line, Test::Word(b"case"), Next::To(Place::CaseName)),
+    (Place::Line, Test::Else, Next::To(Place::Claim)),
+    (Place::CaseName, Test::Name, Next::To(Place::CaseEnd)),
+    (Place::CaseEnd, Test::End, Next::Done),
+    (Place::LineEnd, Test::End, Next::Done),
 ];
 
+// What is wanted at a place, in words. Where its last way is open to anything these are the words before those of the next place.
 fn wanted(place: Place) -> &'static str {
-    for (other, words) in WANTED.iter() {
-        if *other == place {
-            return *words;
-        }
+    match place {
+        Place::Bracket | Place::Open => "`(`",
+        Place::Patterns => "a value, `_` or `)`",
+        Place::PatternEnd | Place::SlotEnd => "`,` or `)`",
+        Place::Pattern => "a value or `_`",
+        Place::Equals => "`=`",
+        Place::Answer => "an answer: a value, `halt` or `never`",
+        Place::Delay => "`after`, ",
+        Place::Time | Place::RangeEnd | Place::Most | Place::Count | Place::Units => NUMBER,
+        Place::Range => "`..`, ",
+        Place::AnswerEnd => "`then`, `|`, `in each of` or the end of the line",
+        Place::Each => "`each of`",
+        Place::EachOf | Place::OneOf => "`of`",
+        Place::Calls => "2, 3 or 4",
+        Place::CallsEnd => "`calls`",
+        Place::Service => "the name of a site",
+        Place::Published | Place::Slot => VALUE,
+        Place::Slots => "a value, `_`, a variable or `)`",
+        Place::CallEnd => "`called`, `answered`, `halted`, `cancelled`, `or`, ",
+        Place::Answered => "a value, `_`, a variable, `or`, ",
+        Place::EventEnd => "`or`, ",
+        Place::Event => "an event: `NAME(..)` or `published V`",
+        Place::Ends | Place::EndsMore => "`Halted` or `Quiet`",
+        Place::EndsEnd => "`or`, `by` or the end of the line",
+        Place::Values => "`nothing`, `one of`, or values",
+        Place::ValuesEnd => "a value, `_`, `in any order` or the end of the line",
+        Place::Literals => "a value",
+        Place::LiteralsEnd => "a value or the end of the line",
+        Place::AnyOrder => "`any order`",
+        Place::Order => "`order`",
+        Place::Claim =>
+            "a claim (`at most`, `at least`, `exactly`, `no`, `each`, `if`, `ends`, `publishes`, or an event `only after` another)",
+        Place::Bound => "`most` or `least`",
+        Place::MostEnd => "`at once`, `by` or the end of the line",
+        Place::Once => "`once`",
+        Place::CountEnd => "`by` or the end of the line",
+        Place::NoneEnd => "`after`, `by` or the end of the line",
+        Place::EachEnd | Place::Then => "or `then`",
+        Place::WithinEnd => "`within` or the end of the line",
+        Place::Only => "or `only after`",
+        Place::OnlyAfter => "`after`",
+        Place::Condition => "`no` or ",
+        Place::Line => "a service, `given`, `always`, `case NAME` or ",
+        Place::CaseName => "the case's name",
+        Place::CaseEnd | Place::LineEnd => "the end of the line",
     }
-    ""
 }
 
 // The first of some ways on from a place that what is looked at can go.
@@ -403,28 +378,58 @@ fn way_in(ways: &[Way], place: Place, line: &Line) -> Option<(Test, Next)> {
     None
 }
 
+// The way on from a place, by what is looked at.
+fn way(place: Place, line: &Line) -> Option<(Test, Next)> {
+    way_in(LINE_WAYS.as_slice(), place, line)
+        .or(way_in(SERVICE_WAYS.as_slice(), place, line))
+        .or(way_in(CLAIM_WAYS.as_slice(), place, line))
+        .or(way_in(OUTCOME_WAYS.as_slice(), place, line))
+        .or(way_in(EVENT_WAYS.as_slice(), place, line))
+}
+
+fn is_digits(piece: Piece) -> bool {
+    match piece.text {
+        [b'0'..=b'9', ..] => is_in_range(piece.text),
+        _ => false,
+    }
+}
+
+fn is_literal(piece: Piece) -> bool {
+    match piece.kind {
+        Kind::Number => is_in_range(piece.text),
+        _ => is_one_of(piece.text, CONSTANTS.as_slice()),
+    }
+}
+
+fn is_pattern(piece: Piece) -> bool {
+    piece.is(b"_") || is_literal(piece)
+}
+
+fn is_variable(piece: Piece) -> bool {
+    match piece.text {
+        [b'a'..=b'z', ..] => !is_one_of(piece.text, FOLLOWING.as_slice()),
+        _ => false,
+    }
+}
+
+// Whether a piece is the name of a site that may be called.
+fn is_name(piece: Piece) -> bool {
+    piece.kind == Kind::Name && !is_one_of(piece.text, RESERVED.as_slice())
+}
+
 // Whether the piece that is looked at, and what is behind it, is what a test asks for.
 fn takes(test: Test, line: &Line) -> bool {
     let here = line.here();
     let is_called = line.next().is(b"(");
-    let is_name = here.kind == Kind::Name && !is_one_of(here.text, RESERVED.as_slice());
-    let is_literal = match here.kind {
-        Kind::Number => is_in_range(here.text),
-        _ => is_one_of(here.text, CONSTANTS.as_slice()),
-    };
-    let is_pattern = is_literal || here.is(b"_");
     match test {
         Test::Is(word) => here.is(word),
         Test::Word(word) => here.is(word) && !is_called,
-        Test::Name => is_name,
-        Test::Site => is_name && is_called,
-        Test::Digits => is_literal && here.kind == Kind::Number && !here.text.starts_with(b"-"),
-        Test::Literal => is_literal,
-        Test::Pattern => is_pattern,
-        Test::Slot => match here.text {
-            [b'a'..=b'z', ..] => is_pattern || !is_one_of(here.text, FOLLOWING.as_slice()),
-            _ => is_pattern,
-        },
+        Test::Name => is_name(here),
+        Test::Site => is_name(here) && is_called,
+        Test::Digits => is_digits(here),
+        Test::Literal => is_literal(here),
+        Test::Pattern => is_pattern(here),
+        Test::Slot => is_pattern(here) || is_variable(here),
         Test::End => here.kind == Kind::End,
         Test::Begins => is_called || here.is(b"published"),
         Test::Else => true,
@@ -439,45 +444,30 @@ pub(crate) struct Walk {
     pub before: Option<Place>,
     // Where the walk goes on behind the event.
     behind: Place,
-    // How many patterns were begun behind the first one, and how many answers.
-    patterns: usize,
-    answers: usize,
 }
 
 impl Walk {
-    /// The walk over a line of a script, or else of a test, which is looked at where it ends. None where the whole line can stand so.
-    pub(crate) fn over(line: &mut Line, is_script: bool) -> Option<Walk> {
-        let is_service = is_script || first_of(line.pieces.as_slice(), b"=").is_some();
+    /// The walk over a line, which is looked at where it ends. None where the whole line can stand so.
+    pub(crate) fn over(line: &mut Line) -> Option<Walk> {
+        let has_equals = line.pieces.iter().any(|piece| piece.is(b"="));
         let mut walk = Walk {
-            place: if is_service {
+            place: if has_equals {
                 Place::Service
             } else {
                 Place::Line
             },
             before: None,
             behind: Place::LineEnd,
-            patterns: 0,
-            answers: 0,
         };
         // No piece is looked at from over three places.
         for _step in 0..line.pieces.len().saturating_add(1).saturating_mul(3) {
-            let range = if is_script {
-                None
-            } else {
-                way_in(RANGE_WAYS.as_slice(), walk.place, line)
-            };
-            let Some((test, next)) = range.or(way_in(WAYS.as_slice(), walk.place, line)) else {
+            let Some((test, next)) = way(walk.place, line) else {
                 return Some(walk);
             };
             if matches!(next, Next::Done) {
                 return None;
             }
             walk.step(line, test, next);
-            // What is too much for a line of a test is told of the whole line.
-            if is_script && (walk.patterns >= MOST_ARGUMENTS || walk.answers > MOST_ANSWERS) {
-                walk.place = Place::Many;
-                return Some(walk);
-            }
         }
         None
     }
@@ -491,14 +481,7 @@ impl Walk {
             line.go();
         }
         match next {
-            Next::To(place) => {
-                self.place = place;
-                match place {
-                    Place::Pattern => self.patterns = self.patterns.saturating_add(1),
-                    Place::Answer => self.answers = self.answers.saturating_add(1),
-                    _ => {}
-                }
-            }
+            Next::To(place) => self.place = place,
             Next::Event(behind) => {
                 self.place = Place::Event;
                 self.behind = behind;
@@ -516,23 +499,39 @@ impl Walk {
         (before, wanted(self.place))
     }
 
-    /// Compares the words that may stand at its end.
-    pub(crate) fn add_words(&self, near: &mut Near<'_, 'static>) {
-        let (ranges, ways) = (RANGE_WAYS, WAYS);
-        let before = self.before.unwrap_or(self.place);
-        add_words(near, ranges.as_slice(), before);
-        add_words(near, ways.as_slice(), before);
-        add_words(near, ranges.as_slice(), self.place);
-        add_words(near, ways.as_slice(), self.place);
+    /// The word that may stand at its end and is nearest to what stands there, nothing where none is near.
+    pub(crate) fn near_word(&self, near: &mut Near) -> &'static [u8] {
+        let nearest = match self.before {
+            Some(place) => nearest_way(near, place, b""),
+            None => b"",
+        };
+        nearest_way(near, self.place, nearest)
     }
 }
 
-// Compares the words of some ways on from a place.
-fn add_words(near: &mut Near<'_, 'static>, ways: &[Way], place: Place) {
+// The word of a place that is nearest, if it is nearer than what came before.
+fn nearest_in(
+    near: &mut Near,
+    ways: &[Way],
+    place: Place,
+    nearest: &'static [u8],
+) -> &'static [u8] {
+    let mut found = nearest;
     for (from, test, _next) in ways {
-        match *test {
-            Test::Is(word) | Test::Word(word) if *from == place => near.add(word),
-            _ => {}
+        if let Test::Is(word) | Test::Word(word) = *test {
+            if *from == place && near.takes(word) {
+                found = word;
+            }
         }
     }
+    found
+}
+
+// The word of a place that is nearest, if it is nearer than what came before.
+fn nearest_way(near: &mut Near, place: Place, nearest: &'static [u8]) -> &'static [u8] {
+    let found = nearest_in(near, LINE_WAYS.as_slice(), place, nearest);
+    let found = nearest_in(near, SERVICE_WAYS.as_slice(), place, found);
+    let found = nearest_in(near, CLAIM_WAYS.as_slice(), place, found);
+    let found = nearest_in(near, OUTCOME_WAYS.as_slice(), place, found);
+    nearest_in(near, EVENT_WAYS.as_slice(), place, found)
 }

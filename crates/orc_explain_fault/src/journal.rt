@@ -3,7 +3,8 @@
 use crate::syntax::say_refused;
 use crate::words::said_of;
 use orc_journal_text::JournalFault;
-use orc_report::{Document, Fill, Near, Page, Subject};
+use orc_lex::token::Span;
+use orc_report::{Document, Near, Page, Subject};
 use orc_rules::limits::{LONGEST_JOURNAL, MOST_ENTRIES};
 use orc_site::read_script;
 use std::alloc::Global;
@@ -35,13 +36,26 @@ const FORMS: [(&[u8], &str); 16] = [
 
 // What stands before the first byte of this kind, and what behind it.
 fn split_at_byte(text: &[u8], byte: u8) -> (&[u8], &[u8]) {
-    for (at, other) in text.iter().enumerate() {
-        if *other == byte {
-            let behind = text.get(at.saturating_add(1)..).unwrap_or(b"");
-            return (text.get(..at).unwrap_or(b""), behind);
-        }
+    let end = match text.iter().position(|other| *other == byte) {
+        Some(end) => end,
+        None => text.len(),
+    };
+    let front = text.get(..end).unwrap_or(b"");
+    let back = text.get(end.saturating_add(1)..).unwrap_or(b"");
+    (front, back)
+}
+
+// The name of the site that a `call` names, where a bracket stands behind it.
+fn called(line: &[u8]) -> Option<&[u8]> {
+    let (_word, fields) = split_at_byte(line, b' ');
+    let (_mark, fields) = split_at_byte(fields, b' ');
+    let (_number, call) = split_at_byte(fields, b' ');
+    let (name, arguments) = split_at_byte(call, b'(');
+    if name.is_empty() || arguments.is_empty() {
+        None
+    } else {
+        Some(name)
     }
-    (text, b"")
 }
 
 /// What is wrong with a journal's text.
@@ -50,92 +64,121 @@ pub(crate) fn say_journal(page: &mut Page, alloc: Global, subject: &Subject, fau
         return;
     };
     match fault {
-        JournalFault::Header => {
-            let span = document.line(1);
-            page.point(&document, span);
-            page.say("no header\n");
-            page.expected("`orc-journal 2` or `orc-journal 1`, and a line feed");
-            if document.part(span).ends_with(b"\r") {
-                page.help(NO_RETURNS);
-            } else if !document.text.starts_with(b"orc-journal") {
-                page.help("a journal is what `orc run FILE --journal` writes");
-            }
-        }
-        JournalFault::Line(number) => say_line(page, alloc, subject, &document, number),
-        JournalFault::Long => {
-            page.tell(" --> %\n", &[Fill::Path(document.name)]);
-            page.remark(
-                "expected: at most % bytes and % entries",
-                &[
-                    Fill::Number(LONGEST_JOURNAL as u64),
-                    Fill::Number(MOST_ENTRIES),
-                ],
-            );
-        }
+        JournalFault::Header => say_header(page, &document),
+        JournalFault::Line(number) => say_journal_line(page, alloc, subject, &document, number),
+        JournalFault::Long => say_long_journal(page, &document),
         JournalFault::Memory => say_refused(page, "the journal was read"),
     }
 }
 
-fn say_line(page: &mut Page, alloc: Global, subject: &Subject, document: &Document, number: usize) {
+fn say_header(page: &mut Page, document: &Document) {
+    let span = document.line(1);
+    page.point(document, span);
+    page.say("no header\n");
+    page.expected("`orc-journal 2` or `orc-journal 1`, and a line feed");
+    if document.part(span).ends_with(b"\r") {
+        page.help(NO_RETURNS);
+    } else if !document.text.starts_with(b"orc-journal") {
+        page.help("a journal is what `orc run FILE --journal` writes");
+    }
+}
+
+fn say_long_journal(page: &mut Page, document: &Document) {
+    page.say(" --> ");
+    page.path(document.name);
+    page.say("\n");
+    page.note("expected: at most ");
+    page.number(LONGEST_JOURNAL as u64);
+    page.say_number(" bytes and ", MOST_ENTRIES, " entries\n");
+}
+
+fn say_journal_line(
+    page: &mut Page,
+    alloc: Global,
+    subject: &Subject,
+    document: &Document,
+    number: usize,
+) {
     let span = document.line(number);
     let line = document.part(span);
     page.point(document, span);
+    let (word, _fields) = split_at_byte(line, b' ');
     if line.is_empty() {
         page.say("an entry has to stand here: a journal has no blank lines\n");
         return;
     }
-    let (word, _fields) = split_at_byte(line, b' ');
     match said_of(word, FORMS.as_slice()) {
-        Some(form) if form == CANCEL && document.text.starts_with(b"orc-journal 1\n") => {
-            page.say("version 1 has no `cancel` lines\n");
-        }
-        Some(_) if span.end >= document.text.len() => {
-            page.say("the last line has no line feed: the journal was cut off\n");
-        }
-        Some(form) => say_wrong_form(page, alloc, subject, line, form),
-        None => {
-            let mut near = Near::new(alloc, word);
-            for (other, _form) in FORMS.iter() {
-                near.add(*other);
-            }
-            page.tell("no entry is called `%`", &[Fill::Word(word)]);
-            if let Some(meant) = near.nearest(page) {
-                page.tell("; did you mean `%`?", &[Fill::Word(meant)]);
-            }
-            page.say("\n");
-        }
+        None => say_no_entry(page, alloc, word),
+        Some(form) => say_entry(page, alloc, subject, document, span, form),
     }
     if line.ends_with(b"\r") {
         page.help(NO_RETURNS);
     }
 }
 
-// An entry in another form, or the call of a site that the table doesn't name.
-fn say_wrong_form(page: &mut Page, alloc: Global, subject: &Subject, line: &[u8], form: &str) {
-    let (word, fields) = split_at_byte(line, b' ');
-    let (_mark, fields) = split_at_byte(fields, b' ');
-    let (_number, call) = split_at_byte(fields, b' ');
-    let (name, arguments) = split_at_byte(call, b'(');
-    if word == b"call".as_slice() && !name.is_empty() && !arguments.is_empty() {
-        // The script was read before: only memory can be refused here.
-        let Ok(answers) = read_script(alloc, subject.script_text()) else {
-            page.refuse();
-            return;
-        };
-        if answers.site_named(name).is_none() {
-            let question = match subject.script {
-                Some(_) => "is this the script of that run?",
-                None => "was the journal written with a script? Give it with --script",
-            };
-            page.tell(
-                "no site is called `%`: %\n",
-                &[Fill::Word(name), Fill::Text(question)],
-            );
-            return;
+// A line that begins with the word of the entries of this form.
+fn say_entry(
+    page: &mut Page,
+    alloc: Global,
+    subject: &Subject,
+    document: &Document,
+    span: Span,
+    form: &str,
+) {
+    if form == CANCEL && document.text.starts_with(b"orc-journal 1\n") {
+        page.say("version 1 has no `cancel` lines\n");
+    } else if span.end >= document.text.len() {
+        page.say("the last line has no line feed: the journal was cut off\n");
+    } else {
+        say_wrong_form(page, alloc, subject, document.part(span), form);
+    }
+}
+
+// A line that begins with no entry's word.
+fn say_no_entry(page: &mut Page, alloc: Global, word: &[u8]) {
+    page.say_word("no entry is called `", word, "`");
+    let meant = near_word(page, alloc, word);
+    if !meant.is_empty() {
+        page.say_word("; did you mean `", meant, "`?");
+    }
+    page.say("\n");
+}
+
+// The entries' word that is nearest to one, nothing where none is near. The page heeds refused memory.
+fn near_word(page: &mut Page, alloc: Global, word: &[u8]) -> &'static [u8] {
+    let mut near = Near::new(alloc, word);
+    let mut meant: &'static [u8] = b"";
+    for (other, _form) in FORMS.iter() {
+        if near.takes(*other) {
+            meant = *other;
         }
     }
-    page.tell(
-        "the form is `%`: one space between, numbers without leading zeros\n",
-        &[Fill::Text(form)],
-    );
+    if near.is_refused() {
+        page.refuse();
+    }
+    meant
+}
+
+// An entry in another form, or the call of a site that the table doesn't name.
+fn say_wrong_form(page: &mut Page, alloc: Global, subject: &Subject, line: &[u8], form: &str) {
+    if line.starts_with(b"call ") {
+        if let Some(name) = called(line) {
+            // The script was read before: only memory can be refused here.
+            let Ok(answers) = read_script(alloc, subject.script_text()) else {
+                page.refuse();
+                return;
+            };
+            if answers.site_named(name).is_none() {
+                page.say_word("no site is called `", name, "`: ");
+                page.say(match subject.script {
+                    Some(_) => "is this the script of that run?\n",
+                    None => "was the journal written with a script? Give it with --script\n",
+                });
+                return;
+            }
+        }
+    }
+    page.say("the form is `");
+    page.say(form);
+    page.say("`: one space between, numbers without leading zeros\n");
 }

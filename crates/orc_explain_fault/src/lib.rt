@@ -9,8 +9,8 @@
 mod bindings;
 mod fault;
 mod grammar;
+mod hint;
 mod journal;
-mod line;
 mod outline;
 mod scope;
 mod script;
@@ -26,7 +26,7 @@ mod wanted;
 mod words;
 
 pub use fault::{Fault, Unread, explain, explain_refused, explain_rows, explain_unread};
-pub use line::{Line, Piece};
+pub use script::{Line, Piece};
 pub use test::explain_test;
 pub use tokens::span_at;
 pub use words::said_of;

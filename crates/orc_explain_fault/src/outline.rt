@@ -1,6 +1,6 @@
 //! The outline of a test or a script: what its lines are, and of which sites they speak.
 
-use crate::line::{Kind, Line, Piece, first_of};
+use crate::script::{Kind, Line, Piece};
 use orc_lex::token::Span;
 use orc_site::split_line;
 use std::alloc::{AllocError, Global};
@@ -36,16 +36,10 @@ pub(crate) fn arguments(pieces: &[Piece]) -> Option<usize> {
             if first.is(b")") {
                 return Some(0);
             }
-            let mut count: usize = 1;
-            for piece in rest {
-                if piece.is(b")") {
-                    return Some(count);
-                }
-                if piece.is(b",") {
-                    count = count.saturating_add(1);
-                }
-            }
-            None
+            let end = rest.iter().position(|piece| piece.is(b")"))?;
+            let inner = rest.get(..end)?;
+            let commas = inner.iter().filter(|piece| piece.is(b",")).count();
+            Some(commas.saturating_add(1))
         }
         _ => None,
     }
@@ -54,7 +48,7 @@ pub(crate) fn arguments(pieces: &[Piece]) -> Option<usize> {
 // What a line with these pieces is; None of a blank one.
 fn head_of<'a>(pieces: &[Piece<'a>]) -> Option<Head<'a>> {
     let first = pieces.first()?;
-    if first_of(pieces, b"=").is_some() {
+    if pieces.iter().any(|piece| piece.is(b"=")) {
         let count = arguments(pieces).unwrap_or(0);
         return Some(Head::Service(first.text, count));
     }
@@ -74,32 +68,82 @@ impl<'a> Outline<'a> {
         };
         let mut rest = Some(text);
         // Each line but the last one has a byte at least.
-        for number in 1..=text.len().saturating_add(1) {
+        for before in 0..text.len().saturating_add(1) {
             let Some(lines) = rest else {
-                break;
+                return Ok(outline);
             };
-            let (text, behind) = split_line(lines);
-            let span = Span {
-                start: 0,
-                end: text.len(),
-            };
-            let line = Line::new(alloc, text, span)?;
-            if let Some(head) = head_of(line.pieces.as_slice()) {
-                outline.lines.push(Outlined { number, head })?;
-            }
+            let (line, behind) = split_line(lines);
+            outline.read(alloc, before.saturating_add(1), line)?;
             rest = behind;
         }
         Ok(outline)
     }
 
-    /// The first line of a service of this name, as of a site in a script, and how many patterns it has.
-    pub(crate) fn service(&self, name: &[u8]) -> Option<(usize, usize)> {
+    fn read(&mut self, alloc: Global, number: usize, text: &'a [u8]) -> Result<(), AllocError> {
+        let span = Span {
+            start: 0,
+            end: text.len(),
+        };
+        let line = Line::new(alloc, text, span)?;
+        if let Some(head) = head_of(line.pieces.as_slice()) {
+            self.lines.push(Outlined { number, head })?;
+        }
+        Ok(())
+    }
+
+    /// What the line of a number is.
+    pub(crate) fn at(&self, number: usize) -> Option<Head<'a>> {
         for line in self.lines.iter() {
-            match line.head {
-                Head::Service(other, count) if other == name => return Some((line.number, count)),
-                _ => {}
+            if line.number == number {
+                return Some(line.head);
             }
         }
         None
+    }
+
+    /// The first line of a service of this name, as of a site in a script.
+    pub(crate) fn service(&self, name: &[u8]) -> Option<usize> {
+        for line in self.lines.iter() {
+            if let Head::Service(other, _) = line.head {
+                if other == name {
+                    return Some(line.number);
+                }
+            }
+        }
+        None
+    }
+
+    /// The section in which the line of a number stands.
+    pub(crate) fn section(&self, number: usize) -> Option<Outlined<'a>> {
+        let mut found = None;
+        for line in self.lines.iter() {
+            if line.number < number && is_section(line.head) {
+                found = Some(*line);
+            }
+        }
+        found
+    }
+
+    /// The line of the first section like this one.
+    pub(crate) fn first(&self, head: Head) -> Option<usize> {
+        for line in self.lines.iter() {
+            if are_alike(line.head, head) {
+                return Some(line.number);
+            }
+        }
+        None
+    }
+}
+
+fn is_section(head: Head) -> bool {
+    matches!(head, Head::Given | Head::Always | Head::Case(_))
+}
+
+// Whether two sections have one name.
+fn are_alike(one: Head, other: Head) -> bool {
+    match (one, other) {
+        (Head::Given, Head::Given) | (Head::Always, Head::Always) => true,
+        (Head::Case(name), Head::Case(other)) => name == other,
+        _ => false,
     }
 }

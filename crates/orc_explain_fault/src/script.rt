@@ -1,15 +1,15 @@
 //! Faults of a script (L).
 
-use crate::grammar::{Place, Walk};
-use crate::line::{Kind, Line, Piece, is_in_range};
 use crate::signs::{NO_ORDER_MARK, ORDER_MARK};
-use crate::syntax::{say_long, say_out_of_range, say_refused};
-use crate::words::{NUMBER_ENDS, is_one_of, said_of};
-use orc_report::{Document, Fill, Page, Subject};
+use crate::syntax::{say_long, say_refused};
+use crate::words::{CONSTANTS, RESERVED, is_one_of};
+use orc_lex::token::Span;
+use orc_report::{Document, Page, Subject};
+use orc_rules::builtin::Builtin;
+use orc_rules::digits::digits_at;
 use orc_rules::limits::{LONGEST_SOURCE, MOST_ANSWERS, MOST_ARGUMENTS};
 use orc_site::ScriptFault;
-use orc_site::line::is_built_in_name;
-use std::alloc::Global;
+use std::alloc::{AllocError, Global};
 
 const FORM: &str = "a line is `NAME(pattern, ..) = ANSWER [after N] { then ANSWER [after N] }`";
 
@@ -17,61 +17,308 @@ const PATTERN: &str = "a pattern is a number, `true`, `false`, `signal`, or `_` 
 
 const ANSWER: &str = "an answer is a number, `true`, `false`, `signal`, `halt` or `never`";
 
-const NO_VARIABLES: &str = ": variables don't exist here, `%` would be `_`";
+const TIME: &str = "digits alone, at most 9223372036854775807";
 
-const COMMENT: &str = "a comment is `-- ..` to the end of the line";
+/// What a piece of a line is.
+#[derive(Clone, Copy, PartialEq, Eq)]
+pub(crate) enum Kind {
+    Name,
+    Number,
+    /// A sign, or what is none.
+    Sign,
+    End,
+}
 
-/// Signs that begin a comment elsewhere.
-const COMMENTS: [&[u8]; 2] = [b"#", b"/"];
+/// A piece of a line.
+#[derive(Clone, Copy)]
+pub struct Piece<'a> {
+    pub(crate) kind: Kind,
+    pub text: &'a [u8],
+    pub(crate) span: Span,
+}
 
-/// What is said at a place where a line can't go on: what is wrong, what to write instead, and more where a name stands there, which fills it. What is
-/// to be written for a site is filled with its name.
-const WRONG: [(Place, &str, &str, &str); 9] = [
-    (
-        Place::Service,
-        "the name of a site has to stand here",
-        FORM,
-        "",
-    ),
-    (
-        Place::Bracket,
-        "`(` has to stand here",
-        "`%()` where it has no arguments",
-        "",
-    ),
-    (
-        Place::Patterns,
-        "a pattern has to stand here",
-        PATTERN,
-        NO_VARIABLES,
-    ),
-    (
-        Place::Pattern,
-        "a pattern has to stand here",
-        PATTERN,
-        NO_VARIABLES,
-    ),
-    (Place::PatternEnd, "`,` or `)` has to stand here", "", ""),
-    (Place::Equals, "`=` has to stand here", FORM, ""),
-    (
-        Place::Answer,
-        "an answer has to stand here",
-        ANSWER,
-        ": a site answers with one value, not with an expression",
-    ),
-    (
-        Place::Time,
-        "a number of units of time has to stand here",
-        "digits alone, at most 9223372036854775807",
-        "",
-    ),
-    (
-        Place::AnswerEnd,
-        "`after`, `then` or the end of the line has to stand here",
-        FORM,
-        "",
-    ),
-];
+/// What is wrong with a line.
+#[derive(Clone, Copy)]
+enum Wrong {
+    Name,
+    BuiltIn,
+    Reserved,
+    Bracket,
+    Pattern,
+    Comma,
+    Assign,
+    Answer,
+    NeverAfter,
+    Time,
+    Range,
+    More,
+    Many,
+}
+
+impl Piece<'_> {
+    /// Whether it is this word or sign.
+    pub(crate) fn is(&self, text: &[u8]) -> bool {
+        self.text == text
+    }
+}
+
+// The piece that begins at a place of a line.
+fn kind_at(rest: &[u8]) -> Kind {
+    match rest {
+        [b'A'..=b'Z' | b'a'..=b'z', ..] => Kind::Name,
+        [b'0'..=b'9', ..] | [b'-', b'0'..=b'9', ..] => Kind::Number,
+        _ => Kind::Sign,
+    }
+}
+
+// How many bytes the piece has that stands first.
+fn length(kind: Kind, rest: &[u8]) -> usize {
+    let more = rest.get(1..).unwrap_or(b"");
+    let end = match kind {
+        Kind::Name => more
+            .iter()
+            .position(|byte| !byte.is_ascii_alphanumeric() && *byte != b'_'),
+        Kind::Number => more.iter().position(|byte| !byte.is_ascii_digit()),
+        _ => Some(if rest.starts_with(b"..") { 1 } else { 0 }),
+    };
+    match end {
+        Some(end) => end.saturating_add(1),
+        None => rest.len(),
+    }
+}
+
+/// Whether a number is one of 64 signed bits.
+pub(crate) fn is_in_range(text: &[u8]) -> bool {
+    match text {
+        [b'-', digits @ ..] => match digits_at(digits) {
+            Some((number, _)) => number <= 1 << 63,
+            None => false,
+        },
+        _ => match digits_at(text) {
+            Some((number, _)) => number < 1 << 63,
+            None => false,
+        },
+    }
+}
+
+/// A line as its pieces, and the one that is looked at.
+#[derive(Drop)]
+pub struct Line<'a> {
+    pub pieces: Vec<Piece<'a>>,
+    at: usize,
+    end: Piece<'a>,
+}
+
+impl<'a> Line<'a> {
+    /// The pieces of the line that stands there, up to its comment. The error is refused memory.
+    pub fn new(alloc: Global, text: &'a [u8], span: Span) -> Result<Line<'a>, AllocError> {
+        let mut line = Line {
+            pieces: Vec::new(alloc),
+            at: 0,
+            end: Piece {
+                kind: Kind::End,
+                text: b"",
+                span: Span {
+                    start: span.start,
+                    end: span.start,
+                },
+            },
+        };
+        line.read(text, span)?;
+        Ok(line)
+    }
+
+    fn read(&mut self, text: &'a [u8], span: Span) -> Result<(), AllocError> {
+        let mut at = span.start;
+        // Each step goes on by a byte at least.
+        for _step in span.start..span.end {
+            let rest = text.get(at..span.end).unwrap_or(b"");
+            match rest {
+                [] | [b'-', b'-', ..] => return Ok(()),
+                [b' ' | b'\t' | b'\r', ..] => at = at.saturating_add(1),
+                _ => {
+                    let kind = kind_at(rest);
+                    let end = at.saturating_add(length(kind, rest));
+                    self.pieces.push(Piece {
+                        kind,
+                        text: text.get(at..end).unwrap_or(b""),
+                        span: Span { start: at, end },
+                    })?;
+                    self.end.span = Span { start: end, end };
+                    at = end;
+                }
+            }
+        }
+        Ok(())
+    }
+
+    /// The piece that is looked at.
+    pub(crate) fn here(&self) -> Piece<'a> {
+        self.pieces.get(self.at).copied().unwrap_or(self.end)
+    }
+
+    /// The piece behind it.
+    pub(crate) fn next(&self) -> Piece<'a> {
+        let next = self.pieces.get(self.at.saturating_add(1));
+        next.copied().unwrap_or(self.end)
+    }
+
+    /// Whether points or letters stand here, right behind a number.
+    pub(crate) fn lengthens_number(&self) -> bool {
+        let here = self.here();
+        match self.pieces.get(self.at.saturating_sub(1)) {
+            Some(before) => {
+                before.kind == Kind::Number
+                    && before.span.end == here.span.start
+                    && (here.kind == Kind::Name || here.text.starts_with(b"."))
+            }
+            None => false,
+        }
+    }
+
+    /// Looks at the next piece.
+    pub(crate) fn go(&mut self) {
+        self.at = self.at.saturating_add(1);
+    }
+
+    fn is_here(&self, text: &[u8]) -> bool {
+        self.here().text == text
+    }
+
+    fn want(&mut self, text: &[u8], wrong: Wrong) -> Result<(), Wrong> {
+        if self.is_here(text) {
+            self.go();
+            Ok(())
+        } else {
+            Err(wrong)
+        }
+    }
+
+    // A number, `true`, `false` or `signal`.
+    fn literal(&mut self, wrong: Wrong) -> Result<(), Wrong> {
+        let here = self.here();
+        if !is_one_of(here.text, CONSTANTS.as_slice()) {
+            if here.kind != Kind::Number {
+                return Err(wrong);
+            }
+            if !is_in_range(here.text) {
+                return Err(Wrong::Range);
+            }
+        }
+        self.go();
+        Ok(())
+    }
+
+    fn site(&mut self) -> Result<(), Wrong> {
+        let here = self.here();
+        if here.kind != Kind::Name {
+            return Err(Wrong::Name);
+        }
+        for built_in in Builtin::ALL.iter() {
+            if here.text == built_in.name() {
+                return Err(Wrong::BuiltIn);
+            }
+        }
+        if is_one_of(here.text, RESERVED.as_slice()) {
+            return Err(Wrong::Reserved);
+        }
+        self.go();
+        Ok(())
+    }
+
+    fn patterns(&mut self) -> Result<(), Wrong> {
+        self.want(b"(", Wrong::Bracket)?;
+        if self.is_here(b")") {
+            self.go();
+            return Ok(());
+        }
+        for _pattern in 0..MOST_ARGUMENTS {
+            if self.is_here(b"_") {
+                self.go();
+            } else {
+                self.literal(Wrong::Pattern)?;
+            }
+            if self.is_here(b")") {
+                self.go();
+                return Ok(());
+            }
+            self.want(b",", Wrong::Comma)?;
+        }
+        Err(Wrong::Many)
+    }
+
+    fn time(&mut self) -> Result<(), Wrong> {
+        let here = self.here();
+        match here.text {
+            [b'0'..=b'9', ..] if !is_in_range(here.text) => Err(Wrong::Range),
+            [b'0'..=b'9', ..] => {
+                self.go();
+                Ok(())
+            }
+            _ => Err(Wrong::Time),
+        }
+    }
+
+    // An answer with its time.
+    fn answer(&mut self) -> Result<(), Wrong> {
+        if self.is_here(b"never") {
+            self.go();
+            if self.is_here(b"after") {
+                self.at = self.at.saturating_sub(1);
+                return Err(Wrong::NeverAfter);
+            }
+            return Ok(());
+        }
+        if self.is_here(b"halt") {
+            self.go();
+        } else {
+            self.literal(Wrong::Answer)?;
+        }
+        if self.is_here(b"after") {
+            self.go();
+            self.time()?;
+        }
+        Ok(())
+    }
+
+    fn answers(&mut self) -> Result<(), Wrong> {
+        for _answer in 0..MOST_ANSWERS {
+            self.answer()?;
+            if self.here().kind == Kind::End {
+                return Ok(());
+            }
+            self.want(b"then", Wrong::More)?;
+        }
+        Err(Wrong::Many)
+    }
+
+    // What is wrong first: it stands at the piece that is looked at.
+    fn whole(&mut self) -> Result<(), Wrong> {
+        self.site()?;
+        self.patterns()?;
+        self.want(b"=", Wrong::Assign)?;
+        self.answers()
+    }
+}
+
+// What is wrong, in words: behind the name or the numbers, where it has some.
+fn words(wrong: Wrong) -> &'static str {
+    match wrong {
+        Wrong::Name => "the name of a site has to stand here",
+        Wrong::BuiltIn => "` is built in, and a script can't answer for it",
+        Wrong::Reserved => "` is a reserved word",
+        Wrong::Bracket => "`(` has to stand here",
+        Wrong::Pattern => "a pattern has to stand here",
+        Wrong::Comma => "`,` or `)` has to stand here",
+        Wrong::Assign => "`=` has to stand here",
+        Wrong::Answer => "an answer has to stand here",
+        Wrong::NeverAfter => "`never` takes no `after`",
+        Wrong::Time => "a number of units of time has to stand here",
+        Wrong::Range => "this number is out of range",
+        Wrong::More => "`after`, `then` or the end of the line has to stand here",
+        Wrong::Many => " answers",
+    }
+}
 
 /// What is wrong with a script.
 pub(crate) fn say_script(page: &mut Page, alloc: Global, subject: &Subject, fault: ScriptFault) {
@@ -90,83 +337,92 @@ fn say_script_line(page: &mut Page, alloc: Global, document: &Document, number: 
         page.refuse();
         return;
     };
-    let site = line.here();
-    if is_built_in_name(site.text) {
-        page.point(document, site.span);
-        let word = Fill::Word(site.text);
-        page.tell(
-            "`%` is built in, and a script can't answer for it\n",
-            &[word],
-        );
-        page.help("take another name");
-        return;
-    }
-    if let Some(walk) = Walk::over(&mut line, true) {
-        say_stop(page, document, &line, site, walk.place);
+    if let Err(wrong) = line.whole() {
+        let here = line.here();
+        page.point(document, here.span);
+        say_wrong(page, wrong, here);
+        say_advice(page, document, wrong, &line);
     }
 }
 
-// What is wrong at a place, where a line of a site can't go on.
-fn say_stop(page: &mut Page, document: &Document, line: &Line, site: Piece, place: Place) {
-    let here = line.here();
-    let word = Fill::Word(here.text);
-    let is_number = here.kind == Kind::Number && !is_in_range(here.text);
-    let is_time = place == Place::Time && !here.text.starts_with(b"-");
-    let is_value = place == Place::Answer || place == Place::Patterns || place == Place::Pattern;
-    if is_number && (is_time || is_value) {
-        say_out_of_range(page, document, here.span);
-    } else if place == Place::Many {
-        page.point(document, here.span);
-        page.tell(
-            "over % patterns or % answers\n",
-            &[
-                Fill::Number(MOST_ARGUMENTS as u64),
-                Fill::Grouped(MOST_ANSWERS as u64),
-            ],
-        );
-    } else if place == Place::Service && here.kind == Kind::Name {
-        page.point(document, here.span);
-        page.tell("`%` is a reserved word\n", &[word]);
-    } else if place == Place::AnswerEnd && here.is(b"after") && line.last().is(b"never") {
-        page.point(document, line.last().span);
-        page.say("`never` takes no `after`\n");
-    } else {
-        page.point(document, here.span);
-        say_wrong(page, document, line, site, place);
-    }
-}
-
-fn say_wrong(page: &mut Page, document: &Document, line: &Line, site: Piece, place: Place) {
-    let here = line.here();
-    let is_site = place == Place::Service;
-    let is_behind = place == Place::PatternEnd || place == Place::AnswerEnd;
-    for (other, wrong, help, more) in WRONG.iter() {
-        if *other == place {
-            page.tell("%\n", &[Fill::Text(wrong)]);
-            let help = if is_site && is_one_of(here.text, COMMENTS.as_slice()) {
-                COMMENT
-            } else if is_site && here.span.start == 0 && document.text.starts_with(ORDER_MARK) {
-                NO_ORDER_MARK
-            } else if is_behind && line.lengthens_number() {
-                number_advice(here)
-            } else {
-                help
-            };
-            if !help.is_empty() {
-                page.note("help: ");
-                page.tell(help, &[Fill::Word(site.text)]);
-                if here.kind == Kind::Name {
-                    page.tell(more, &[Fill::Word(here.text)]);
-                }
-                page.say("\n");
-            }
+fn say_wrong(page: &mut Page, wrong: Wrong, here: Piece) {
+    match wrong {
+        Wrong::BuiltIn | Wrong::Reserved => page.say_word("`", here.text, ""),
+        Wrong::Many => {
+            page.say_number("over ", MOST_ARGUMENTS as u64, " patterns or ");
+            page.grouped(MOST_ANSWERS as u64);
         }
+        _ => {}
+    }
+    page.say(words(wrong));
+    page.say("\n");
+}
+
+// What to write instead.
+fn say_advice(page: &mut Page, document: &Document, wrong: Wrong, line: &Line) {
+    let here = line.here();
+    match wrong {
+        Wrong::Name => page.help(name_advice(document, here)),
+        Wrong::BuiltIn => page.help("take another name"),
+        Wrong::Bracket => say_bare_site(page, line.pieces.first().copied()),
+        Wrong::Pattern => say_named(
+            page,
+            PATTERN,
+            here,
+            ": variables don't exist here, `",
+            "` would be `_`",
+        ),
+        Wrong::Answer => say_named(
+            page,
+            ANSWER,
+            here,
+            ": a site answers with one value, not with an expression",
+            "",
+        ),
+        Wrong::Comma | Wrong::More if line.lengthens_number() => page.help(number_advice(here)),
+        Wrong::Assign | Wrong::More => page.help(FORM),
+        Wrong::Time => page.help(TIME),
+        Wrong::Range => page.expected("-9223372036854775808 to 9223372036854775807"),
+        Wrong::Reserved | Wrong::Comma | Wrong::NeverAfter | Wrong::Many => {}
+    }
+}
+
+// What to do about what stands where a site's name has to.
+fn name_advice(document: &Document, here: Piece) -> &'static str {
+    match here.text {
+        b"#" | b"/" => "a comment is `-- ..` to the end of the line",
+        _ if here.span.start == 0 && document.text.starts_with(ORDER_MARK) => NO_ORDER_MARK,
+        _ => FORM,
     }
 }
 
 /// What to do about what stands right behind a number.
 pub(crate) fn number_advice(here: Piece) -> &'static str {
-    said_of(here.text, NUMBER_ENDS.as_slice()).unwrap_or(
-        "numbers are digits alone: a time has no unit",
-    )
+    match here.text {
+        b".." => "a range stands only in a test",
+        b"." => "numbers are whole",
+        _ => "numbers are digits alone: a time has no unit",
+    }
+}
+
+// A site without arguments.
+fn say_bare_site(page: &mut Page, site: Option<Piece>) {
+    if let Some(site) = site {
+        page.note("help: ");
+        page.say_word("`", site.text, "()` where it has no arguments\n");
+    }
+}
+
+// A hint that says more where a name stands: its two halves, and the name between them where the second one isn't empty.
+fn say_named(page: &mut Page, words: &str, here: Piece, first: &str, second: &str) {
+    page.note("help: ");
+    page.say(words);
+    if here.kind == Kind::Name {
+        if second.is_empty() {
+            page.say(first);
+        } else {
+            page.say_word(first, here.text, second);
+        }
+    }
+    page.say("\n");
 }

@@ -1,7 +1,8 @@
 //! Characters that begin nothing (S2).
 
+use crate::hint::{Hint, say_hint};
 use orc_lex::token::Span;
-use orc_report::{Document, Fill, Page, begins_character};
+use orc_report::{Document, Page, begins_character};
 
 const COMMENT: &str = "a comment is `-- ..` to the end of the line, or `{- .. -}`";
 
@@ -20,7 +21,7 @@ pub(crate) const ORDER_MARK: &[u8] = b"\xEF\xBB\xBF";
 pub(crate) const NO_ORDER_MARK: &str =
     "this is a byte order mark: save the file as UTF-8 without one";
 
-/// What is said of signs, the first that fits.
+// What is said of signs, the first that fits.
 const HINTS: [(&[u8], &str); 22] = [
     (ORDER_MARK, NO_ORDER_MARK),
     (b"//", COMMENT),
@@ -58,61 +59,80 @@ const HINTS: [(&[u8], &str); 22] = [
     (b"_", "a name begins with a letter"),
 ];
 
-/// Two signs that are read as one elsewhere.
+// Two signs that are read as one elsewhere.
 const SIGN_PAIRS: [&[u8]; 5] = [b"//", b"/*", b"&&", b"->", b":="];
 
-/// A character that begins nothing.
-pub(crate) fn say_stray(page: &mut Page, document: &Document, at: usize) {
-    let rest = document.text.get(at..).unwrap_or(b"");
-    // How many bytes the character has behind its first one, or two signs that are read as one.
-    let mut length: usize = 0;
-    for byte in rest.get(1..).unwrap_or(b"") {
-        if begins_character(*byte) {
-            break;
-        }
-        length = length.saturating_add(1);
-    }
-    for pair in SIGN_PAIRS.iter() {
-        if rest.starts_with(*pair) {
-            length = 1;
-        }
-    }
-    let end = at.saturating_add(1).saturating_add(length);
-    let span = Span {
-        start: at,
-        end: end.min(document.text.len()),
+fn is_pair(text: &[u8], at: usize) -> bool {
+    let rest = text.get(at..).unwrap_or(b"");
+    SIGN_PAIRS.iter().any(|pair| rest.starts_with(*pair))
+}
+
+// Where the character that begins there ends.
+fn character_end(text: &[u8], at: usize) -> usize {
+    let rest = text.get(at..).unwrap_or(b"");
+    let more = rest.get(1..).unwrap_or(b"");
+    let length = match more.iter().position(|byte| begins_character(*byte)) {
+        Some(end) => end,
+        None => more.len(),
     };
-    page.point(document, span);
-    let bytes = document.part(span);
-    // A character stands by itself, or by its number where it can't be shown.
-    let code = match str::from_utf8(bytes) {
-        Ok(text) => match text.chars().next() {
-            Some(sign) => Some(sign as u32),
-            None => None,
-        },
+    at.saturating_add(1).saturating_add(length).min(text.len())
+}
+
+// The number of the character that these bytes are.
+fn code(bytes: &[u8]) -> Option<u32> {
+    match str::from_utf8(bytes) {
+        Ok(text) => text.chars().next().map(|sign| sign as u32),
         Err(_) => None,
-    };
-    match (bytes, code) {
-        ([33..=126, ..], _) => page.tell("`%`", &[Fill::Word(bytes)]),
-        (_, Some(code)) if code < 128 => {
-            page.tell("the control character %", &[Fill::Number(code as u64)]);
+    }
+}
+
+// What is said of a character that begins nothing.
+fn hint(text: &[u8], at: usize) -> Option<&'static str> {
+    let rest = text.get(at..).unwrap_or(b"");
+    for (signs, said) in HINTS.iter() {
+        if rest.starts_with(*signs) {
+            return Some(*said);
         }
-        (_, Some(code)) => {
+    }
+    match rest.first() {
+        Some(128..=255) => Some(
+            "signs and names are ASCII; a text that was copied may hold other quotes, dashes or blanks",
+        ),
+        _ => None,
+    }
+}
+
+// A character by itself, or by its number where it can't be shown.
+fn say_character(page: &mut Page, bytes: &[u8]) {
+    match bytes {
+        [33..=126, ..] => page.say_word("`", bytes, "`"),
+        _ => say_unshown(page, bytes),
+    }
+}
+
+fn say_unshown(page: &mut Page, bytes: &[u8]) {
+    match code(bytes) {
+        Some(code) if code < 128 => page.say_number("the control character ", code as u64, ""),
+        Some(code) => {
             page.say("the character U+");
             page.code(code);
         }
-        (_, None) => page.say("this character"),
+        None => page.say("this character"),
     }
+}
+
+/// A character that begins nothing.
+pub(crate) fn say_stray(page: &mut Page, document: &Document, at: usize) {
+    let end = if is_pair(document.text, at) {
+        at.saturating_add(2)
+    } else {
+        character_end(document.text, at)
+    };
+    let span = Span { start: at, end };
+    page.point(document, span);
+    say_character(page, document.part(span));
     page.say(" begins nothing that a program is made of\n");
-    for (signs, said) in HINTS.iter() {
-        if rest.starts_with(*signs) {
-            page.help(said);
-            return;
-        }
-    }
-    if let [128..=255, ..] = rest {
-        page.help(
-            "signs and names are ASCII; a text that was copied may hold other quotes, dashes or blanks",
-        );
+    if let Some(words) = hint(document.text, at) {
+        say_hint(page, document, Hint::plain(words));
     }
 }

@@ -11,6 +11,24 @@ use orc_rules::limits::LONGEST_SOURCE;
 use orc_ways::fault::TestFault;
 use std::alloc::{AllocError, Global};
 
+// What is wrong with a test.
+fn say_test(
+    page: &mut Page,
+    alloc: Global,
+    document: &Document,
+    others: &Answers,
+    fault: TestFault,
+) {
+    match fault {
+        TestFault::Line(number) => say_line(page, alloc, document, number),
+        TestFault::Memory => say_refused(page, "the test was read"),
+        TestFault::Long => say_long(page, document, LONGEST_SOURCE as u64),
+        TestFault::Place(number) => say_place(page, alloc, document, number),
+        TestFault::Unknown(number) => say_unknown(page, alloc, document, others, number),
+        TestFault::Ways(number) => say_ways(page, alloc, document, others, number),
+    }
+}
+
 /// The text that explains a fault of a test, below its own line. `others` are the sites with which it was read. The error is refused memory.
 pub fn explain_test(
     alloc: Global,
@@ -19,13 +37,6 @@ pub fn explain_test(
     fault: TestFault,
 ) -> Result<String, AllocError> {
     let mut page = Page::new(alloc);
-    match fault {
-        TestFault::Line(number) => say_line(&mut page, alloc, test, number),
-        TestFault::Memory => say_refused(&mut page, "the test was read"),
-        TestFault::Long => say_long(&mut page, test, LONGEST_SOURCE as u64),
-        TestFault::Place(number) => say_place(&mut page, alloc, test, number),
-        TestFault::Unknown(number) => say_unknown(&mut page, alloc, test, others, number),
-        TestFault::Ways(number) => say_ways(&mut page, alloc, test, others, number),
-    }
+    say_test(&mut page, alloc, test, others, fault);
     page.finish()
 }

@@ -1,12 +1,10 @@
 //! Lines that are none of a test (T1).
 
 use crate::grammar::{Place, Walk};
-use crate::line::{Kind, Line, Piece, first_of, is_in_range};
-use crate::script::number_advice;
-use crate::syntax::say_out_of_range;
+use crate::script::{Kind, Line, Piece, is_in_range, number_advice};
 use crate::words::said_of;
 use orc_lex::token::Span;
-use orc_report::{Document, Fill, Near, Page};
+use orc_report::{Document, Near, Page};
 use orc_rules::digits::digits_at;
 use std::alloc::Global;
 
@@ -15,12 +13,6 @@ const COMMENT: &str = "a comment is `-- ..` to the end of the line";
 const RANGE: &str = "a range is `0..5`: two numbers with two dots between them";
 
 const VARIABLE: &str = "a variable begins with a small letter";
-
-const ANY_VALUE: &str = "variables stand in claims alone; in a service `_` stands for any value";
-
-const CASE: &str = "a case's name is one word of letters, digits and `_`";
-
-const AT_ONCE: &str = "`at once` counts calls, so each event is `NAME(..)` alone";
 
 /// What is said of words and signs that no line has there.
 const WORDS: [(&[u8], &str); 13] = [
@@ -57,135 +49,136 @@ const WORDS: [(&[u8], &str); 13] = [
     (b"returned", "`answered` says that a call has its answer"),
 ];
 
-/// What a piece is that can't stand where it stands.
-#[derive(Clone, Copy)]
-enum Seen {
-    Any,
-    Name,
-    /// It looks as one of a range.
-    OfRange,
-    Is(&'static [u8]),
-}
-
-/// What is said of a piece at a place where it can't stand.
-const ADVICE: [(Place, Seen, &str); 16] = [
-    (
-        Place::Bracket,
-        Seen::Any,
-        "a line with a `=` is a service, `NAME(pattern, ..) = ANSWER`; claims and sections have no `=`",
-    ),
-    (
-        Place::Answer,
-        Seen::Is(b"="),
-        "a service has one `=`: `Pay(_) = 1 after 3`",
-    ),
-    (Place::AnswerEnd, Seen::OfRange, RANGE),
-    (Place::RangeEnd, Seen::OfRange, RANGE),
-    (Place::Time, Seen::OfRange, RANGE),
-    (
-        Place::AnswerEnd,
-        Seen::Is(b"after"),
-        "`never` takes no `after`, and an answer takes one",
-    ),
-    (Place::Patterns, Seen::Name, ANY_VALUE),
-    (Place::Pattern, Seen::Name, ANY_VALUE),
-    (Place::Slots, Seen::Name, VARIABLE),
-    (Place::Slot, Seen::Name, VARIABLE),
-    (Place::Published, Seen::Name, VARIABLE),
-    (
-        Place::Only,
-        Seen::Any,
-        "a line that begins with a site is a service, `Pay(_) = 1 after 3`, or a claim, `Pay(_) only after Ask(_)`",
-    ),
-    (
-        Place::CountEnd,
-        Seen::Is(b"at"),
-        "`at once` stands behind `at most`",
-    ),
-    (Place::CaseName, Seen::Any, CASE),
-    (Place::CaseEnd, Seen::Any, CASE),
-    (
-        Place::Event,
-        Seen::Name,
-        "a site has brackets, with `_` for each argument that may be any: `Pay(_)`",
-    ),
-];
-
 /// What is wrong with a line that is none of a test.
 pub(crate) fn say_line(page: &mut Page, alloc: Global, document: &Document, number: usize) {
-    let Ok(mut line) = Line::new(alloc, document.text, document.line(number)) else {
+    let span = document.line(number);
+    let Ok(mut line) = Line::new(alloc, document.text, span) else {
         page.refuse();
         return;
     };
-    match Walk::over(&mut line, false) {
+    match Walk::over(&mut line) {
         Some(walk) => say_stop(page, alloc, document, &line, walk),
         None => say_whole(page, document, &line),
     }
 }
 
-// A piece that can't stand where it stands, what may stand there, and what may have been meant.
+// A piece that can't stand where it stands.
 fn say_stop(page: &mut Page, alloc: Global, document: &Document, line: &Line, walk: Walk) {
     let here = line.here();
+    page.point(document, here.span);
     if here.kind == Kind::Number && !is_in_range(here.text) {
-        say_out_of_range(page, document, here.span);
+        page.say("this number is out of range\n");
+        page.expected("-9223372036854775808 to 9223372036854775807");
         return;
     }
-    page.point(document, here.span);
     match here.kind {
         Kind::End => page.say("the line ends here\n"),
-        _ => page.tell("`%` can't stand here\n", &[Fill::Word(here.text)]),
+        _ => page.say_word("`", here.text, "` can't stand here\n"),
     }
+    say_wanted(page, alloc, line, walk);
+}
+
+// What may stand there, and what may have been meant.
+fn say_wanted(page: &mut Page, alloc: Global, line: &Line, walk: Walk) {
+    let here = line.here();
     let (before, wanted) = walk.wanted();
-    page.remark("expected: %%", &[Fill::Text(before), Fill::Text(wanted)]);
+    page.note("expected: ");
+    page.say(before);
+    page.say(wanted);
+    page.say("\n");
     let mut near = Near::new(alloc, here.text);
-    walk.add_words(&mut near);
-    match near.nearest(page) {
-        Some(word) => page.remark("help: did you mean `%`?", &[Fill::Word(word)]),
-        None => {
-            if let Some(words) = advice(line, walk) {
-                page.help(words);
-            }
-        }
+    let word = walk.near_word(&mut near);
+    if near.is_refused() {
+        page.refuse();
+    }
+    if !word.is_empty() {
+        page.note("help: ");
+        page.say_word("did you mean `", word, "`?\n");
+    } else if let Some(words) = advice(line, walk) {
+        page.help(words);
     }
 }
 
 // What to write instead.
 fn advice(line: &Line, walk: Walk) -> Option<&'static str> {
     let here = line.here();
-    let text = here.text;
-    if line.lengthens_number() && !text.starts_with(b".") {
+    if line.lengthens_number() && !here.text.starts_with(b".") {
         return Some(number_advice(here));
     }
-    if let (Some(Place::Answered), [b'A'..=b'Z', ..]) = (walk.before, text) {
+    if let (Some(Place::Answered), [b'A'..=b'Z', ..]) = (walk.before, here.text) {
         return Some(VARIABLE);
     }
-    for (place, seen, words) in ADVICE.iter() {
-        let is_seen = match *seen {
-            Seen::Any => true,
-            Seen::Name => here.kind == Kind::Name,
-            Seen::OfRange => text.starts_with(b".") || text.starts_with(b"-"),
-            Seen::Is(word) => here.is(word),
-        };
-        if is_seen && *place == walk.place {
-            return Some(*words);
-        }
+    if let Some(words) = place_advice(here, walk.place) {
+        return Some(words);
     }
-    said_of(text, WORDS.as_slice())
+    said_of(here.text, WORDS.as_slice())
+}
+
+// What a piece says by the place where it can't stand.
+fn place_advice(here: Piece, place: Place) -> Option<&'static str> {
+    match place {
+        Place::Bracket => Some(
+            "a line with a `=` is a service, `NAME(pattern, ..) = ANSWER`; claims and sections have no `=`",
+        ),
+        Place::Answer if here.is(b"=") => Some("a service has one `=`: `Pay(_) = 1 after 3`"),
+        Place::AnswerEnd | Place::RangeEnd | Place::Time if is_of_range(here) => Some(RANGE),
+        Place::AnswerEnd if here.is(b"after") => {
+            Some("`never` takes no `after`, and an answer takes one")
+        }
+        Place::Patterns | Place::Pattern if here.kind == Kind::Name => {
+            Some("variables stand in claims alone; in a service `_` stands for any value")
+        }
+        Place::Slots | Place::Slot | Place::Published if here.kind == Kind::Name => Some(VARIABLE),
+        Place::Only => Some(
+            "a line that begins with a site is a service, `Pay(_) = 1 after 3`, or a claim, `Pay(_) only after Ask(_)`",
+        ),
+        Place::CountEnd if here.is(b"at") => Some("`at once` stands behind `at most`"),
+        Place::CaseName | Place::CaseEnd => {
+            Some("a case's name is one word of letters, digits and `_`")
+        }
+        Place::Event if here.kind == Kind::Name => {
+            Some("a site has brackets, with `_` for each argument that may be any: `Pay(_)`")
+        }
+        _ => None,
+    }
+}
+
+// Whether a piece looks as one of a range.
+fn is_of_range(here: Piece) -> bool {
+    match here.text {
+        [b'.', ..] | [b'-', ..] => true,
+        _ => false,
+    }
 }
 
 // The first range that goes backwards.
 fn backwards(pieces: &[Piece]) -> Option<Span> {
     for at in 0..pieces.len() {
         if let [low, dots, high, ..] = pieces.get(at..).unwrap_or(pieces) {
-            match (dots.is(b".."), digits_at(high.text), digits_at(low.text)) {
-                (true, Some((end, _)), Some((start, _))) if end < start => {
-                    return Some(Span {
-                        start: low.span.start,
-                        end: high.span.end,
-                    });
-                }
-                _ => {}
+            if dots.is(b"..") && is_less(high.text, low.text) {
+                return Some(Span {
+                    start: low.span.start,
+                    end: high.span.end,
+                });
             }
+        }
+    }
+    None
+}
+
+// Whether a number is less than another, by their digits.
+fn is_less(one: &[u8], other: &[u8]) -> bool {
+    match (digits_at(one), digits_at(other)) {
+        (Some((one, _)), Some((other, _))) => one < other,
+        _ => false,
+    }
+}
+
+// The first piece that is this word or sign.
+fn first_of<'a>(line: &Line<'a>, word: &[u8]) -> Option<Piece<'a>> {
+    for piece in line.pieces.iter() {
+        if piece.is(word) {
+            return Some(*piece);
         }
     }
     None
@@ -193,10 +186,26 @@ fn backwards(pieces: &[Piece]) -> Option<Span> {
 
 /// A word behind which another one may not stand in a line, and why.
 const APART: [(&[u8], &[u8], &str); 6] = [
-    (b"once", b"answered", AT_ONCE),
-    (b"once", b"halted", AT_ONCE),
-    (b"once", b"cancelled", AT_ONCE),
-    (b"once", b"published", AT_ONCE),
+    (
+        b"once",
+        b"answered",
+        "`at once` counts calls, so each event is `NAME(..)` alone",
+    ),
+    (
+        b"once",
+        b"halted",
+        "`at once` counts calls, so each event is `NAME(..)` alone",
+    ),
+    (
+        b"once",
+        b"cancelled",
+        "`at once` counts calls, so each event is `NAME(..)` alone",
+    ),
+    (
+        b"once",
+        b"published",
+        "`at once` counts calls, so each event is `NAME(..)` alone",
+    ),
     (b"order", b"_", "in any order there are values alone"),
     (
         b"calls",
@@ -205,28 +214,24 @@ const APART: [(&[u8], &[u8], &str); 6] = [
     ),
 ];
 
-// A line whose pieces can all stand where they stand.
 fn say_whole(page: &mut Page, document: &Document, line: &Line) {
-    let pieces = line.pieces.as_slice();
-    if let Some(span) = backwards(pieces) {
+    if let Some(span) = backwards(line.pieces.as_slice()) {
         page.point(document, span);
         page.say("this range has no number\n");
         page.help("the smaller number stands first");
         return;
     }
     for (with, word, words) in APART.iter() {
-        let place = first_of(pieces, *word).unwrap_or(pieces.len());
-        match (first_of(pieces, *with), pieces.get(place)) {
-            (Some(_), Some(piece)) => {
+        if first_of(line, *with).is_some() {
+            if let Some(piece) = first_of(line, *word) {
                 page.point(document, piece.span);
-                page.tell("`%` can't stand in this line\n", &[Fill::Word(piece.text)]);
+                page.say_word("`", piece.text, "` can't stand in this line\n");
                 page.help(words);
                 return;
             }
-            _ => {}
         }
     }
-    if let Some(piece) = pieces.first() {
+    if let Some(piece) = line.pieces.first() {
         page.point(document, piece.span);
         page.say("this line has too much\n");
         page.expected(

@@ -1,18 +1,19 @@
 //! Sites that no service of a test has (T5).
 
-use crate::line::Line;
 use crate::outline::{Head, Outline, arguments};
-use crate::scope::add_sites;
-use orc_report::{Document, Fill, Near, Page};
+use crate::scope::near_site;
+use crate::script::Line;
+use orc_report::{Document, Near, Page};
 use orc_rules::answers::Answers;
 use std::alloc::Global;
 
 // Whether a service or another site has this name, and a service so many arguments.
 fn is_known(outline: &Outline, others: &Answers, name: &[u8], count: usize) -> bool {
     for line in outline.lines.iter() {
-        match line.head {
-            Head::Service(other, arguments) if other == name && arguments == count => return true,
-            _ => {}
+        if let Head::Service(other, arguments) = line.head {
+            if other == name && arguments == count {
+                return true;
+            }
         }
     }
     others.site_named(name).is_some()
@@ -26,60 +27,85 @@ pub(crate) fn say_unknown(
     others: &Answers,
     number: usize,
 ) {
-    let (Ok(outline), Ok(line)) = (
-        Outline::new(alloc, document.text),
-        Line::new(alloc, document.text, document.line(number)),
-    ) else {
+    let Ok(outline) = Outline::new(alloc, document.text) else {
+        page.refuse();
+        return;
+    };
+    let Ok(line) = Line::new(alloc, document.text, document.line(number)) else {
         page.refuse();
         return;
     };
     for (at, piece) in line.pieces.iter().enumerate() {
-        let count = arguments(line.pieces.get(at..).unwrap_or(&[]));
-        match count {
-            Some(count) if !is_known(&outline, others, piece.text, count) => {
+        let pieces = line.pieces.get(at..).unwrap_or(&[]);
+        if let Some(count) = arguments(pieces) {
+            if !is_known(&outline, others, piece.text, count) {
                 page.point(document, piece.span);
                 say_no_service(page, alloc, &outline, others, piece.text, count);
                 return;
             }
-            _ => {}
         }
     }
 }
 
-// A site that no service has.
-fn say_no_service<'a>(
+// The site that may have been meant, nothing where none is near. The page heeds refused memory.
+fn near_service<'a>(
     page: &mut Page,
     alloc: Global,
     outline: &Outline<'a>,
     others: &'a Answers,
     name: &[u8],
-    count: usize,
-) {
-    let word = Fill::Word(name);
-    page.tell(
-        "no service is called `%` with %\n",
-        &[word, Fill::Count(count as u64, "argument")],
-    );
-    if let Some((line, count)) = outline.service(name) {
-        page.remark(
-            "`%` has % in line %",
-            &[
-                word,
-                Fill::Count(count as u64, "argument"),
-                Fill::Number(line as u64),
-            ],
-        );
-        return;
-    }
+) -> &'a [u8] {
     let mut near = Near::new(alloc, name);
-    add_sites(&mut near, others);
+    let mut meant = near_site(&mut near, others).unwrap_or(b"");
     for line in outline.lines.iter() {
         if let Head::Service(other, _) = line.head {
-            near.add(other);
+            if near.takes(other) {
+                meant = other;
+            }
         }
     }
-    match near.nearest(page) {
-        Some(meant) => page.remark("help: did you mean `%`?", &[Fill::Word(meant)]),
-        None => page.help("a service of the test has to answer its calls, below `given` or a case"),
+    if near.is_refused() {
+        page.refuse();
+    }
+    meant
+}
+
+// With how many arguments the first service of a name stands in the test, and in which line.
+fn say_other_arguments(page: &mut Page, outline: &Outline, name: &[u8]) -> bool {
+    for line in outline.lines.iter() {
+        if let Head::Service(other, count) = line.head {
+            if other == name {
+                page.note("");
+                page.say_word("`", name, "` has ");
+                page.count(count as u64, "argument");
+                page.say_number(" in line ", line.number as u64, "\n");
+                return true;
+            }
+        }
+    }
+    false
+}
+
+// A site that no service has.
+fn say_no_service(
+    page: &mut Page,
+    alloc: Global,
+    outline: &Outline,
+    others: &Answers,
+    name: &[u8],
+    count: usize,
+) {
+    page.say_word("no service is called `", name, "` with ");
+    page.count(count as u64, "argument");
+    page.say("\n");
+    if say_other_arguments(page, outline, name) {
+        return;
+    }
+    let meant = near_service(page, alloc, outline, others, name);
+    page.note("help: ");
+    if meant.is_empty() {
+        page.say("a service of the test has to answer its calls, below `given` or a case\n");
+    } else {
+        page.say_word("did you mean `", meant, "`?\n");
     }
 }

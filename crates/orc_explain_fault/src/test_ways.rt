@@ -1,11 +1,20 @@
 //! Cases with too many ways (T6).
 
-use crate::line::{Line, span_of};
-use orc_report::{Document, Fill, Page};
+use crate::script::Line;
+use crate::test_place::span_of;
+use orc_report::{Document, Page};
 use orc_rules::answers::Answers;
 use orc_ways::read_test;
-use orc_ways::test::{Reply, Service};
+use orc_ways::test::{Reply, Service, Test};
 use std::alloc::Global;
+
+// How many answers with their times a reply stands for.
+fn times(reply: Reply) -> u64 {
+    match reply {
+        Reply::Between(_, low, high) => high.saturating_sub(low).saturating_add(1),
+        Reply::Never => 1,
+    }
+}
 
 // How many ways a service has by itself; as many as fit, where they don't.
 fn ways_of(service: &Service) -> u64 {
@@ -13,9 +22,7 @@ fn ways_of(service: &Service) -> u64 {
     for replies in service.alternatives.iter() {
         let mut ways: u64 = 1;
         for reply in replies.iter() {
-            if let Reply::Between(_, low, high) = *reply {
-                ways = ways.saturating_mul(high.saturating_sub(low).saturating_add(1));
-            }
+            ways = ways.saturating_mul(times(*reply));
         }
         all = all.saturating_add(ways);
     }
@@ -26,6 +33,20 @@ fn ways_of(service: &Service) -> u64 {
     ways
 }
 
+// The service of a case that has most ways, and how many. Those that stand behind `given` count, too.
+fn widest<'a>(test: &Test<'a>, case: Option<usize>) -> Option<(&'a [u8], u64)> {
+    let mut found = None;
+    let mut most: u64 = 1;
+    for line in test.services.iter() {
+        let ways = ways_of(&line.service);
+        if (line.case.is_none() || line.case == case) && ways > most {
+            most = ways;
+            found = Some((line.service.name, ways));
+        }
+    }
+    found
+}
+
 /// Why a case has too many ways.
 pub(crate) fn say_ways(
     page: &mut Page,
@@ -34,33 +55,22 @@ pub(crate) fn say_ways(
     others: &Answers,
     number: usize,
 ) {
-    let (Ok(line), Ok(test)) = (
-        Line::new(alloc, document.text, document.line(number)),
-        read_test(alloc, document.text, others),
-    ) else {
+    let Ok(line) = Line::new(alloc, document.text, document.line(number)) else {
         page.refuse();
         return;
     };
     page.point(document, span_of(line.pieces.as_slice()));
     page.say("this case has over 1,000,000 ways\n");
-    // The service that has most ways. Those that stand behind `given` count, too.
-    let mut case: Option<usize> = None;
-    for (place, other) in test.cases.iter().enumerate() {
-        if other.line == number {
-            case = Some(place);
-        }
-    }
-    let mut widest: &[u8] = b"";
-    let mut most: u64 = 1;
-    for line in test.services.iter() {
-        let ways = ways_of(&line.service);
-        if (line.case.is_none() || line.case == case) && ways > most {
-            most = ways;
-            widest = line.service.name;
-        }
-    }
-    if most > 1 {
-        page.remark("`%` alone has %", &[Fill::Word(widest), Fill::Number(most)]);
+    let Ok(test) = read_test(alloc, document.text, others) else {
+        page.refuse();
+        return;
+    };
+    let case = test.cases.iter().position(|case| case.line == number);
+    if let Some((name, ways)) = widest(&test, case) {
+        page.note("");
+        page.say_word("`", name, "` alone has ");
+        page.number(ways);
+        page.say("\n");
     }
     page.help(
         "the ways of services multiply, and a range has one for each of its numbers: give a case fewer ranges, or shorter ones",

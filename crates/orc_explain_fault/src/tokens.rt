@@ -1,7 +1,8 @@
 //! The tokens before a place of a source.
 
 use orc_lex::lexer::{Piece, piece_at};
-use orc_lex::token::{Span, Token};
+use orc_lex::token::{Kind, Plain, Span, Token};
+use orc_report::{Document, Page};
 use std::alloc::{AllocError, Global};
 
 /// The tokens of a source up to a place, and the one that begins there.
@@ -24,26 +25,31 @@ impl<'a> Tokens<'a> {
             before: Vec::new(alloc),
             here: None,
         };
+        tokens.read(text, place)?;
+        Ok(tokens)
+    }
+
+    fn read(&mut self, text: &'a [u8], place: usize) -> Result<(), AllocError> {
         let mut at: usize = 0;
         // Each piece has a byte at least.
         for _piece in 0..text.len() {
             if at >= text.len() || at > place {
-                break;
+                return Ok(());
             }
             match piece_at(text, at) {
                 Piece::Gap(end) => at = end,
-                Piece::Token(token) if at < place => {
-                    tokens.before.push(token)?;
+                Piece::Token(token) => {
+                    if at == place {
+                        self.here = Some(token);
+                        return Ok(());
+                    }
+                    self.before.push(token)?;
                     at = token.span.end;
                 }
-                Piece::Token(token) => {
-                    tokens.here = Some(token);
-                    break;
-                }
-                Piece::Unread(_) => break,
+                Piece::Unread(_) => return Ok(()),
             }
         }
-        Ok(tokens)
+        Ok(())
     }
 
     /// The n-th token before the place, counted back from 1.
@@ -51,6 +57,17 @@ impl<'a> Tokens<'a> {
         let at = self.before.len().checked_sub(n)?;
         self.before.get(at).copied()
     }
+}
+
+/// A token by its kind and its text.
+pub(crate) fn say_token(page: &mut Page, document: &Document, token: &Token) {
+    let before = match token.kind {
+        Kind::Name(_) => "the name `",
+        Kind::Plain(Plain::Number(_)) => "the number `",
+        Kind::Plain(_) | Kind::Def | Kind::Val => "the word `",
+        _ => "`",
+    };
+    page.say_word(before, document.part(token.span), "`");
 }
 
 /// The token that begins at a place, as wide as a byte where none does.

@@ -8,20 +8,9 @@ pub(crate) const RESERVED: [&[u8]; 6] = [b"def", b"val", b"stop", b"true", b"fal
 /// The values that are no numbers.
 pub(crate) const CONSTANTS: [&[u8]; 3] = [b"true", b"false", b"signal"];
 
-/// What is said of signs right behind a number.
-pub(crate) const NUMBER_ENDS: [(&[u8], &str); 2] = [
-    (b"..", "a range stands only in a test"),
-    (b".", "numbers are whole"),
-];
-
 /// Whether a word is one of these.
 pub(crate) fn is_one_of(word: &[u8], words: &[&[u8]]) -> bool {
-    for other in words {
-        if *other == word {
-            return true;
-        }
-    }
-    false
+    words.iter().any(|other| *other == word)
 }
 
 /// What a table says of a word.

@@ -2,7 +2,6 @@
 
 ghost use Rattle.std.specs.Prelude.{◌≤◌};
 
-use crate::page::Page;
 use std::alloc::{AllocError, Global};
 use std::marker::Model;
 use strsim::osa_distance;
@@ -13,13 +12,11 @@ const LONGEST: usize = 64;
 /// A name from which on two edits are few.
 const LONG: usize = 6;
 
-/// The search for the nearest of some names to one.
+/// The search for the nearest of some names.
 #[derive(Drop)]
-pub struct Near<'n, 'c> {
+pub struct Near<'n> {
     alloc: Global,
     name: &'n [u8],
-    // The nearest so far.
-    nearest: Option<&'c [u8]>,
     // The most edits of a name that is to be taken.
     most: usize,
     // Whether a name that differs in capitals alone may still be taken.
@@ -27,7 +24,7 @@ pub struct Near<'n, 'c> {
     is_refused: bool,
 }
 
-impl<'n, 'c> Model for Near<'n, 'c> {
+impl<'n> Model for Near<'n> {
     ghost use Rattle.std.specs.Prelude.{ℕ};
 
     // The most edits of a name that is still to be taken.
@@ -53,10 +50,10 @@ fn edits(alloc: Global, a: &[u8], b: &[u8]) -> Result<Option<usize>, AllocError>
     }
 }
 
-impl<'n, 'c> Near<'n, 'c> {
+impl<'n> Near<'n> {
     /// Nothing yet for this name. What is taken is two edits away at most, or one where the name has under six bytes, and none where it has one. Nothing
     /// is near a name of over 64 bytes.
-    pub fn new(alloc: Global, name: &'n [u8]) -> Near<'n, 'c>
+    pub fn new(alloc: Global, name: &'n [u8]) -> Near<'n>
         ensures { result ≤ 2 }
     {
         let most = match name.len() {
@@ -67,45 +64,48 @@ impl<'n, 'c> Near<'n, 'c> {
         Near {
             alloc,
             name,
-            nearest: None,
             most,
             is_open: name.len() <= LONGEST,
             is_refused: false,
         }
     }
 
-    /// The nearest of the names, if one is near enough. Where memory was refused, the page isn't given out.
-    pub fn nearest(&self, page: &mut Page) -> Option<&'c [u8]> {
-        if self.is_refused {
-            page.refuse();
-        }
-        self.nearest
+    /// Whether memory was refused: then none is taken any more.
+    pub fn is_refused(&self) -> bool {
+        self.is_refused
     }
 
-    /// Compares one more name: it is taken where it is nearer than those before, and near enough. One that differs in capitals alone is the nearest.
-    pub fn add(&mut self, candidate: &'c [u8])
+    /// Whether one more name is nearer than those before, and near enough. One that differs in capitals alone is the nearest.
+    pub fn takes(&mut self, candidate: &[u8]) -> bool
         ensures { self.new ≤ self.old }
     {
         if !self.is_open || candidate == self.name {
-            return;
+            return false;
         }
         if are_alike(self.name, candidate) {
             self.is_open = false;
-            self.nearest = Some(candidate);
-            return;
+            return true;
         }
         if self.most == 0 || self.name.len().abs_diff(candidate.len()) > self.most {
-            return;
+            return false;
         }
+        self.take_if_near(candidate)
+    }
+
+    // Takes a name to which few edits lead: whether it did. From then on only nearer ones are taken.
+    fn take_if_near(&mut self, candidate: &[u8]) -> bool
+        ensures { self.new ≤ self.old }
+    {
         match edits(self.alloc, self.name, candidate) {
             Ok(Some(edits)) if edits <= self.most => {
                 self.most = edits.saturating_sub(1);
-                self.nearest = Some(candidate);
+                true
             }
-            Ok(_) => {}
+            Ok(_) => false,
             Err(_) => {
                 self.is_open = false;
                 self.is_refused = true;
+                false
             }
         }
     }

@@ -1,0 +1,54 @@
+//! Hints: what may have been meant.
+
+use orc_report::{Document, Page, place_of};
+
+/// A hint's words. `%` stands for a name, `@` for the line and the column of a place, and `#` for its line.
+#[derive(Clone, Copy)]
+pub(crate) struct Hint<'a> {
+    words: &'static str,
+    name: &'a [u8],
+    at: usize,
+}
+
+impl<'a> Hint<'a> {
+    pub(crate) fn plain(words: &'static str) -> Hint<'a> {
+        Hint {
+            words,
+            name: b"",
+            at: 0,
+        }
+    }
+
+    pub(crate) fn of_name(words: &'static str, name: &'a [u8]) -> Hint<'a> {
+        Hint { words, name, at: 0 }
+    }
+
+    pub(crate) fn of_place(words: &'static str, name: &'a [u8], at: usize) -> Hint<'a> {
+        Hint { words, name, at }
+    }
+}
+
+// Words with their name and their place filled in.
+fn say_form(page: &mut Page, document: &Document, hint: Hint) {
+    for byte in hint.words.as_bytes() {
+        match *byte {
+            b'%' => page.word(hint.name),
+            b'@' => page.place(document.text, hint.at),
+            b'#' => say_line(page, document, hint.at),
+            byte => page.byte(byte),
+        }
+    }
+}
+
+// The number of the line of a place.
+fn say_line(page: &mut Page, document: &Document, at: usize) {
+    let place = place_of(document.text, at.min(document.text.len()));
+    page.number(place.line as u64);
+}
+
+/// The line of a hint.
+pub(crate) fn say_hint(page: &mut Page, document: &Document, hint: Hint) {
+    page.note("help: ");
+    say_form(page, document, hint);
+    page.say("\n");
+}
