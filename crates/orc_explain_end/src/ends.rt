@@ -5,13 +5,14 @@ use crate::moves::{Moves, Wait};
 use crate::replay::{Made, Replay};
 use crate::rules::Rules;
 use crate::scene::{Scene, begin, name_of, reach, say_more};
+use orc_checker::rest::Called;
 use orc_outcome::{End, Summary};
-use orc_report::{Fill, Page, Subject};
+use orc_report::{Page, Subject};
 use orc_rules::entry::Entry;
 use orc_rules::limits::{MOST_ENTRIES, MOST_FRAMES, MOST_GROUPS, MOST_TOKENS};
 use orc_rules::value::Found;
 use orc_source_map::Sketch;
-use orc_syntax::parse;
+use orc_syntax::{Ast, parse};
 use orc_verdict::mark_named;
 use std::alloc::{AllocError, Global};
 
@@ -35,96 +36,113 @@ fn count_out(calls: &[Made]) -> u64 {
 impl Scene<'_, '_> {
     // Each call that is out, and why it never returns.
     fn silent_calls(&self, page: &mut Page) {
-        let Ok(rules) = Rules::new(self.alloc, self.subject.script_text()) else {
-            page.refuse();
-            return;
-        };
+        match Rules::new(self.alloc, self.subject.script_text()) {
+            Ok(rules) => self.calls_out(page, &rules),
+            Err(_) => page.refuse(),
+        }
+    }
+
+    fn calls_out(&self, page: &mut Page, rules: &Rules) {
         let mut shown: u64 = 0;
         let mut number: u64 = 0;
         for call in &self.replay.calls {
             number = number.saturating_add(1);
             if call.is_out && shown < LINES {
                 shown = shown.saturating_add(1);
-                self.silent_call(page, number, *call, &rules);
+                self.silent_call(page, number, *call, rules);
             }
         }
         self.rest(page, count_out(&self.replay.calls), shown);
     }
 
-    // When and where a call was made, and why it never returns: its due time, or the line of the script that says so.
     fn silent_call(&self, page: &mut Page, number: u64, call: Made, rules: &Rules) {
         page.note("");
-        page.tell("call %, ", &[Fill::Number(number)]);
+        page.say_number("call ", number, ", ");
         self.call(page, call.entry);
         let at = (number as usize).saturating_sub(1);
         if let Some(kept) = self.replay.marked.calls().get(at) {
-            let called = kept.called();
-            page.tell(
-                ", made at time % in %",
-                &[Fill::Number(called.at), self.place(call.spot)],
-            );
-            match (called.found, self.journal.get(call.entry)) {
-                (Found::After(_, _), _) => page.say(": its due time is over the greatest time"),
-                (Found::Never, Some(Entry::Call(_, _, site, args))) => {
-                    let name = name_of(self.ended.answers, site);
-                    if let Some(place) = rules.first(name, args.as_slice()) {
-                        let line = Fill::Number(rules.number(place));
-                        page.tell(": line % of the script says never", &[line]);
-                    }
-                }
-                _ => {}
-            }
+            self.silence(page, call, kept.called(), rules);
         }
         page.say("\n");
     }
 
+    // When and where a call was made, and why it never returns.
+    fn silence(&self, page: &mut Page, call: Made, called: Called, rules: &Rules) {
+        page.say_number(", made at time ", called.at, " in ");
+        self.place(page, call.spot);
+        match called.found {
+            Found::Never => self.never(page, call, rules),
+            Found::After(_, _) => page.say(": its due time is over the greatest time"),
+        }
+    }
+
+    // The line of the script that says never.
+    fn never(&self, page: &mut Page, call: Made, rules: &Rules) {
+        if let Some(Entry::Call(_, _, site, args)) = self.journal.get(call.entry) {
+            let name = name_of(self.ended.answers, site);
+            if let Some(place) = rules.first(name, args.as_slice()) {
+                page.say_number(": line ", rules.number(place), " of the script says never");
+            }
+        }
+    }
+
     // Each cell that is waited for, and what could give it a value.
     fn waits(&self, page: &mut Page, moves: &Moves) {
+        let mut shown: u64 = 0;
         let mut all: u64 = 0;
         for wait in &moves.waits {
             if wait.tokens > 0 {
                 all = all.saturating_add(1);
-                if all <= LINES {
+                if shown < LINES {
+                    shown = shown.saturating_add(1);
                     self.wait(page, moves, *wait);
                 }
             }
         }
-        self.rest(page, all, all.min(LINES));
+        self.rest(page, all, shown);
     }
 
     fn wait(&self, page: &mut Page, moves: &Moves, wait: Wait) {
-        let Ok(inside) = self.replay.inside(self.alloc, wait.cell) else {
-            page.refuse();
-            return;
-        };
         page.note("");
         self.cell(page, wait.cell);
-        page.tell(
-            ", has no value, and % % for it (%); it could come from ",
-            &[
-                Fill::Count(wait.tokens, "part"),
-                Fill::Text(if wait.tokens == 1 { "waits" } else { "wait" }),
-                self.place(self.replay.spot(wait.first, self.sketch)),
-            ],
-        );
-        // The calls that are out inside, or else the first token that waits there.
+        page.say(", has no value, and ");
+        page.count(wait.tokens, "part");
+        page.say(if wait.tokens == 1 {
+            " waits for it ("
+        } else {
+            " wait for it ("
+        });
+        self.place(page, self.replay.spot(wait.first, self.sketch));
+        page.say("); it could come from ");
+        match self.replay.inside(self.alloc, wait.cell) {
+            Ok(inside) => self.giver(page, moves, &inside),
+            Err(_) => page.refuse(),
+        }
+        page.say("\n");
+    }
+
+    // What could give a value from inside these steps.
+    fn giver(&self, page: &mut Page, moves: &Moves, inside: &[bool]) {
+        if !self.calls_inside(page, inside) {
+            self.waiting_inside(page, moves, inside);
+        }
+    }
+
+    // The calls that are out inside these steps: whether there are some.
+    fn calls_inside(&self, page: &mut Page, inside: &[bool]) -> bool {
         let mut all: u64 = 0;
         let mut number: u64 = 0;
         for call in &self.replay.calls {
             number = number.saturating_add(1);
             if call.is_out && inside.get(call.step).copied().unwrap_or(false) {
                 if all < IN_A_LINE {
-                    let words = if all > 0 { ", call %" } else { "call %" };
-                    page.tell(words, &[Fill::Number(number)]);
+                    page.say_number(if all > 0 { ", call " } else { "call " }, number, "");
                 }
                 all = all.saturating_add(1);
             }
         }
         say_more(page, all, IN_A_LINE);
-        if all == 0 {
-            self.waiting_inside(page, moves, &inside);
-        }
-        page.say("\n");
+        all > 0
     }
 
     // The first token that waits inside these steps.
@@ -132,15 +150,21 @@ impl Scene<'_, '_> {
         for token in &moves.waiting {
             let step = self.replay.token(*token).step;
             if inside.get(step).copied().unwrap_or(false) {
-                let place = self.place(self.replay.spot(*token, self.sketch));
-                page.tell("what waits itself in %", &[place]);
+                page.say("what waits itself in ");
+                self.place(page, self.replay.spot(*token, self.sketch));
                 return;
             }
         }
         page.say("nothing");
     }
 
-    // The entries that could come next, with what their tokens stand on.
+    fn quiet(&self, page: &mut Page, moves: &Moves) {
+        self.silent_calls(page);
+        self.waits(page, moves);
+        page.help("a time limit is `x <x< (f | Rwait(10) >> 0)`");
+    }
+
+    // The entries that could come next.
     fn next(&self, page: &mut Page, moves: &Moves) {
         if moves.count == 0 {
             page.note("nothing could go on: it has just ended\n");
@@ -151,15 +175,24 @@ impl Scene<'_, '_> {
             page.say(if i > 0 { ", `" } else { "`" });
             self.entry(page, entry);
             page.say("`");
-            let token = mark_named(entry).unwrap_or(0);
-            if let Some(spot) = self.replay.token(token).spot {
-                page.say(" (");
-                self.term(page, token, spot);
-                page.tell(", %)", &[self.line(self.sketch.span(spot).start)]);
-            }
+            self.on(page, entry);
         }
         say_more(page, moves.count, moves.entries.len() as u64);
         page.say("\n");
+    }
+
+    // What the token of an entry stands on.
+    fn on(&self, page: &mut Page, entry: &Entry) {
+        let Some(token) = mark_named(entry) else {
+            return;
+        };
+        if let Some(spot) = self.replay.token(token).spot {
+            page.say(" (");
+            self.term(page, token, spot);
+            page.say(", ");
+            self.line(page, self.sketch.span(spot).start);
+            page.say(")");
+        }
     }
 
     // The calls that are out, with their due times.
@@ -177,14 +210,18 @@ impl Scene<'_, '_> {
                 page.say(if shown > 0 { ", " } else { "" });
                 shown = shown.saturating_add(1);
                 self.call(page, call.entry);
-                match self.replay.marked.due(number) {
-                    Some((_answer, time)) => page.tell(", due at %", &[Fill::Number(time)]),
-                    None => page.say(", never due"),
-                }
+                self.due(page, number);
             }
         }
         say_more(page, all, shown);
         page.say("\n");
+    }
+
+    fn due(&self, page: &mut Page, call: u64) {
+        match self.replay.marked.due(call) {
+            Some((_answer, time)) => page.say_number(", due at ", time, ""),
+            None => page.say(", never due"),
+        }
     }
 
     fn cut(&self, page: &mut Page, moves: &Moves) {
@@ -192,32 +229,35 @@ impl Scene<'_, '_> {
         self.out(page);
         let definitions = self.replay.definitions;
         if definitions > 0 {
-            page.remark(
-                "definitions were called %; the last call is made again for ever where nothing stops it",
-                &[Fill::Count(definitions, "time")],
-            );
+            page.note("definitions were called ");
+            page.count(definitions, "time");
+            page.say("; the last call is made again for ever where nothing stops it\n");
         }
     }
 
     // What of the engine's room is taken.
     fn room(&self, page: &mut Page, moves: &Moves) {
-        let Ok(frames) = self.replay.frames(self.alloc) else {
-            page.refuse();
-            return;
-        };
-        let calls = count_out(&self.replay.calls);
+        match self.replay.frames(self.alloc) {
+            Ok(frames) => self.taken(page, moves, frames),
+            Err(_) => page.refuse(),
+        }
+    }
+
+    fn taken(&self, page: &mut Page, moves: &Moves, frames: u64) {
         page.note("the engine can hold no more; by the rules it could go on\n");
-        page.remark(
-            "tokens and calls % of %, open sides % of %, left sides of `>x>` round one token % of %",
-            &[
-                Fill::Number(moves.tokens.saturating_add(calls)),
-                Fill::Number(MOST_TOKENS as u64),
-                Fill::Number(moves.sides),
-                Fill::Number((MOST_GROUPS as u64).saturating_sub(1)),
-                Fill::Number(frames),
-                Fill::Number(MOST_FRAMES as u64),
-            ],
+        page.note("");
+        let calls = count_out(&self.replay.calls);
+        page.say_number(
+            "tokens and calls ",
+            moves.tokens.saturating_add(calls),
+            " of ",
         );
+        page.number(MOST_TOKENS as u64);
+        page.say_number(", open sides ", moves.sides, " of ");
+        page.number((MOST_GROUPS as u64).saturating_sub(1));
+        page.say_number(", left sides of `>x>` round one token ", frames, " of ");
+        page.number(MOST_FRAMES as u64);
+        page.say("\n");
     }
 
     fn end(&self, page: &mut Page, moves: &Moves) {
@@ -226,17 +266,12 @@ impl Scene<'_, '_> {
         }
         begin(page, self.ended.summary);
         match self.ended.summary.end {
-            End::Quiet => {
-                self.silent_calls(page);
-                self.waits(page, moves);
-                page.help("a time limit is `x <x< (f | Rwait(10) >> 0)`");
-            }
+            End::Quiet => self.quiet(page, moves),
             End::Limit => {
                 self.cut(page, moves);
-                page.remark(
-                    "help: --limit sets the greatest number of entries, up to %",
-                    &[Fill::Number(MOST_ENTRIES)],
-                );
+                page.note("help: --limit sets the greatest number of entries, up to ");
+                page.number(MOST_ENTRIES);
+                page.say("\n");
             }
             End::Full => {
                 self.cut(page, moves);
@@ -263,13 +298,23 @@ pub fn explain_end(alloc: Global, subject: &Subject, ended: &Ended) -> Result<St
         return Err(AllocError);
     };
     let sketch = Sketch::new(alloc, &ast)?;
-    let mut replay = Replay::new(alloc, ended, &sketch, ended.journal)?;
+    end_of(alloc, subject, ended, &ast, &sketch)
+}
+
+fn end_of(
+    alloc: Global,
+    subject: &Subject,
+    ended: &Ended,
+    ast: &Ast,
+    sketch: &Sketch,
+) -> Result<String, AllocError> {
+    let mut replay = Replay::new(alloc, ended, sketch, ended.journal)?;
     let moves = Moves::new(alloc, ended.program, &mut replay)?;
     let scene = Scene {
         alloc,
         subject,
         ended,
-        sketch: &sketch,
+        sketch,
         definitions: ast.definitions.as_slice(),
         journal: ended.journal,
         replay: &replay,

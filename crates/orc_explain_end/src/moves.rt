@@ -112,19 +112,24 @@ impl Moves {
     fn wait(&mut self, program: &Program, replay: &Replay, token: u64) -> Result<(), AllocError> {
         self.waiting.push(token)?;
         for position in 0..MOST_ARGUMENTS {
-            let cell = replay.marked.awaited(program, token, position).unwrap_or(0);
-            let at = (cell as usize).wrapping_sub(1);
-            if let Some(wait) = self.waits.get_mut(at) {
-                if wait.last != token {
-                    wait.last = token;
-                    wait.tokens = wait.tokens.saturating_add(1);
-                    if wait.first == 0 {
-                        wait.first = token;
-                    }
-                }
+            if let Some(cell) = replay.marked.awaited(program, token, position) {
+                self.wait_for(cell, token);
             }
         }
         Ok(())
+    }
+
+    fn wait_for(&mut self, cell: u64, token: u64) {
+        let at = (cell as usize).saturating_sub(1);
+        if let Some(wait) = self.waits.get_mut(at) {
+            if wait.last != token {
+                wait.last = token;
+                wait.tokens = wait.tokens.saturating_add(1);
+                if wait.first == 0 {
+                    wait.first = token;
+                }
+            }
+        }
     }
 
     fn add_sides(&mut self, replay: &Replay) -> Result<(), AllocError> {

@@ -1,10 +1,10 @@
 //! What looks like a mistake in a run that has halted, and isn't one of the language.
 
-use crate::replay::Made;
+use crate::replay::{Loss, Made};
 use crate::rules::{Rule, Rules};
 use crate::scene::{Scene, begin, name_of};
 use orc_explain_fault::said_of;
-use orc_report::{Fill, Page};
+use orc_report::Page;
 use orc_rules::builtin::is_same;
 use orc_rules::entry::Entry;
 use orc_rules::value::Value;
@@ -97,15 +97,35 @@ enum Taken {
     Time,
 }
 
-/// What the built-in sites take, and that in words.
-const SITES: [(&[u8], Taken, &str); 7] = [
-    (b"Add", Taken::Numbers, "two numbers"),
-    (b"Sub", Taken::Numbers, "two numbers"),
-    (b"Lt", Taken::Numbers, "two numbers"),
-    (b"Eq", Taken::Values, "two values"),
-    (b"Ift", Taken::Truth, "`true` or `false`"),
-    (b"Iff", Taken::Truth, "`true` or `false`"),
-    (b"Rwait", Taken::Time, "a number of units of time"),
+impl Taken {
+    fn fits(self, args: &[Value]) -> bool {
+        match self {
+            Taken::Numbers => matches!(args, [Value::Number(_), Value::Number(_)]),
+            Taken::Values => args.len() == 2,
+            Taken::Truth => matches!(args, [Value::Truth(_)]),
+            Taken::Time => matches!(args, [Value::Number(_)]),
+        }
+    }
+
+    fn words(self) -> &'static str {
+        match self {
+            Taken::Numbers => "two numbers",
+            Taken::Values => "two values",
+            Taken::Truth => "`true` or `false`",
+            Taken::Time => "a number of units of time",
+        }
+    }
+}
+
+/// What the built-in sites take.
+const SITES: [(&[u8], Taken); 7] = [
+    (b"Add", Taken::Numbers),
+    (b"Sub", Taken::Numbers),
+    (b"Lt", Taken::Numbers),
+    (b"Eq", Taken::Values),
+    (b"Ift", Taken::Truth),
+    (b"Iff", Taken::Truth),
+    (b"Rwait", Taken::Time),
 ];
 
 /// Why a call of a built-in site halts that has the arguments that it takes.
@@ -119,25 +139,14 @@ const HALTS: [(&[u8], &str); 5] = [
 
 // Whether a built-in site is called so.
 fn is_built_in(name: &[u8]) -> bool {
-    for (site, _taken, _words) in SITES.iter() {
-        if *site == name {
-            return true;
-        }
-    }
-    false
+    SITES.iter().any(|(site, _taken)| *site == name)
 }
 
 // What a built-in site takes, where the arguments are something else.
 fn wanted(name: &[u8], args: &[Value]) -> Option<&'static str> {
-    for (site, taken, words) in SITES.iter() {
-        if *site == name {
-            return match (*taken, args) {
-                (Taken::Numbers, [Value::Number(_), Value::Number(_)])
-                | (Taken::Values, [_, _])
-                | (Taken::Truth, [Value::Truth(_)])
-                | (Taken::Time, [Value::Number(_)]) => None,
-                _ => Some(*words),
-            };
+    for (site, taken) in SITES.iter() {
+        if *site == name && !taken.fits(args) {
+            return Some(taken.words());
         }
     }
     None
@@ -147,71 +156,73 @@ fn wanted(name: &[u8], args: &[Value]) -> Option<&'static str> {
 fn hides(rules: &Rules, earlier: &Rule, later: &Rule) -> bool {
     let hiding = rules.patterns(earlier);
     let hidden = rules.patterns(later);
-    if earlier.name != later.name || hiding.len() != hidden.len() {
-        return false;
-    }
-    for (pattern, other) in hiding.iter().zip(hidden.iter()) {
-        match (pattern, other) {
-            (Some(a), Some(b)) if !is_same(*a, *b) => return false,
-            (Some(_), None) => return false,
-            _ => {}
-        }
-    }
-    true
+    earlier.name == later.name
+        && hiding.len() == hidden.len()
+        && hiding.iter().zip(hidden.iter()).all(|(pattern, other)| match (pattern, other) {
+            (None, _) => true,
+            (Some(a), Some(b)) => is_same(*a, *b),
+            (Some(_), None) => false,
+        })
 }
 
-// The first argument that a line's patterns don't take, from 1, with its pattern; and how many there are, the most where they are for others.
+// The first argument that a line's patterns don't take, from 1, with its pattern; and how many there are.
 fn differences(patterns: &[Option<Value>], args: &[Value]) -> (u64, Option<(u64, Value)>) {
     let mut count: u64 = 0;
     let mut first = None;
     let mut place: u64 = 0;
-    if patterns.len() != args.len() {
-        return (u64::MAX, None);
-    }
     for (pattern, arg) in patterns.iter().zip(args.iter()) {
         place = place.saturating_add(1);
-        match *pattern {
-            Some(value) if !is_same(value, *arg) => {
+        if let Some(value) = *pattern {
+            if !is_same(value, *arg) {
                 count = count.saturating_add(1);
                 if first.is_none() {
                     first = Some((place, value));
                 }
             }
-            _ => {}
         }
     }
     (count, first)
 }
 
-// The line that is nearest to a call, and why it doesn't answer: of those for as many arguments the one with the fewest other values, else the
-// first of the site.
-fn say_nearest(page: &mut Page, rules: &Rules, name: &[u8], args: &[Value]) {
-    let mut nearest: Option<Rule> = None;
+// The line that is nearest to a call: of those for as many arguments the one with the fewest other values, else the first of the site.
+fn nearest<'a>(rules: &Rules<'a>, name: &[u8], args: &[Value]) -> Option<Rule<'a>> {
+    let mut nearest: Option<Rule<'a>> = None;
     let mut least: u64 = 0;
     for rule in &rules.list {
         if rule.name == name {
-            let (far, _first) = differences(rules.patterns(rule), args);
+            let far = distance(rules.patterns(rule), args);
             if nearest.is_none() || far < least {
                 nearest = Some(*rule);
                 least = far;
             }
         }
     }
-    let Some(rule) = nearest else {
-        return;
-    };
-    let patterns = rules.patterns(&rule);
-    let line = Fill::Number(rule.number as u64);
-    page.tell("; the nearest one, line %", &[line]);
-    if patterns.len() != args.len() {
-        let count = Fill::Count(patterns.len() as u64, "argument");
-        page.tell(", is for %", &[count]);
+    nearest
+}
+
+// How many of a call's arguments a line's patterns don't take, the most there can be where they are for others.
+fn distance(patterns: &[Option<Value>], args: &[Value]) -> u64 {
+    if patterns.len() == args.len() {
+        differences(patterns, args).0
+    } else {
+        u64::MAX
     }
-    if let (_, Some((place, value))) = differences(patterns, args) {
-        page.tell(
-            ", wants % as argument %",
-            &[Fill::Value(value), Fill::Number(place)],
-        );
+}
+
+// Why a line doesn't answer a call.
+fn missed(page: &mut Page, rules: &Rules, rule: &Rule, args: &[Value]) {
+    let patterns = rules.patterns(rule);
+    page.say_number("; the nearest one, line ", rule.number as u64, "");
+    if patterns.len() != args.len() {
+        page.say(", is for ");
+        page.count(patterns.len() as u64, "argument");
+        return;
+    }
+    let (_count, first) = differences(patterns, args);
+    if let Some((place, value)) = first {
+        page.say(", wants ");
+        page.value(value);
+        page.say_number(" as argument ", place, "");
     }
 }
 
@@ -223,15 +234,20 @@ impl Remarks {
             halted: Groups::new(alloc),
             used: Vec::new(alloc),
         };
+        remarks.read(scene, rules)?;
+        Ok(remarks)
+    }
+
+    fn read(&mut self, scene: &Scene, rules: &Rules) -> Result<(), AllocError> {
         for _rule in &rules.list {
-            remarks.used.push(false)?;
+            self.used.push(false)?;
         }
         let mut number: u64 = 0;
         for made in &scene.replay.calls {
             number = number.saturating_add(1);
-            remarks.add(scene, rules, *made, number)?;
+            self.add(scene, rules, *made, number)?;
         }
-        Ok(remarks)
+        Ok(())
     }
 
     fn add(
@@ -245,19 +261,40 @@ impl Remarks {
             return Ok(());
         };
         let name = name_of(scene.ended.answers, site);
-        let is_scripted = scene.ended.answers.is_scripted(site);
-        let line = rules.first(name, args.as_slice());
-        if let Some(used) = self.used.get_mut(line.unwrap_or(usize::MAX)) {
-            *used = true;
-        }
-        if is_scripted && line.is_none() {
-            self.unanswered.add(made, number)
-        } else if !is_scripted && wanted(name, args.as_slice()).is_some() {
+        if scene.ended.answers.is_scripted(site) {
+            self.scripted(rules, name, args.as_slice(), made, number)
+        } else if wanted(name, args.as_slice()).is_some() {
             self.wrong.add(made, number)
-        } else if made.has_halted {
+        } else {
+            self.other(made, number)
+        }
+    }
+
+    // A call that its site could answer.
+    fn other(&mut self, made: Made, number: u64) -> Result<(), AllocError> {
+        if made.has_halted {
             self.halted.add(made, number)
         } else {
             Ok(())
+        }
+    }
+
+    fn scripted(
+        &mut self,
+        rules: &Rules,
+        name: &[u8],
+        args: &[Value],
+        made: Made,
+        number: u64,
+    ) -> Result<(), AllocError> {
+        match rules.first(name, args) {
+            Some(place) => {
+                if let Some(used) = self.used.get_mut(place) {
+                    *used = true;
+                }
+                self.other(made, number)
+            }
+            None => self.unanswered.add(made, number),
         }
     }
 
@@ -270,14 +307,10 @@ impl Remarks {
         }
         count
     }
-}
 
-/// Why calls are remarked on.
-#[derive(Clone, Copy)]
-enum Why {
-    Wrong,
-    Unanswered,
-    Halted,
+    fn is_empty(&self) -> bool {
+        self.wrong.list.is_empty() && self.unanswered.list.is_empty() && self.unused() == 0
+    }
 }
 
 impl Scene<'_, '_> {
@@ -295,89 +328,139 @@ impl Scene<'_, '_> {
 
     fn remarks(&self, page: &mut Page, remarks: &Remarks, rules: &Rules) {
         let is_silent = self.ended.summary.published == 0;
-        let is_empty = remarks.wrong.list.is_empty()
-            && remarks.unanswered.list.is_empty()
-            && remarks.unused() == 0;
-        if !is_silent && is_empty && !self.hides_a_site() {
+        if !is_silent && remarks.is_empty() && !self.hides_a_site() {
             return;
         }
         begin(page, self.ended.summary);
         if is_silent {
             page.note("nothing was published\n");
         }
-        self.calls(page, &remarks.wrong, rules, Why::Wrong);
-        self.calls(page, &remarks.unanswered, rules, Why::Unanswered);
+        self.wrong_calls(page, &remarks.wrong);
+        self.unanswered_calls(page, &remarks.unanswered, rules);
         if is_silent {
-            self.calls(page, &remarks.halted, rules, Why::Halted);
+            self.halted_calls(page, &remarks.halted, rules);
             self.losses(page);
         }
         self.unused_lines(page, remarks, rules);
         self.hidden_sites(page);
     }
 
-    // The first call of each group, why it halted, and how many calls more were made there.
-    fn calls(&self, page: &mut Page, groups: &Groups, rules: &Rules, why: Why) {
-        for group in groups.list.iter().take(SHOWN as usize) {
-            page.note("");
-            page.tell("call %, ", &[Fill::Number(group.number)]);
-            self.call(page, group.first.entry);
-            page.tell(", made in %, halted: ", &[self.place(group.first.spot)]);
-            self.reason(page, group.first.entry, rules, why);
-            if group.count > 1 {
-                let others = Fill::Count(group.count.saturating_sub(1), "more call");
-                page.tell("; so did % there", &[others]);
-            }
-            page.say("\n");
-        }
-        let all = groups.list.len() as u64;
-        self.rest(page, all, all.min(SHOWN));
+    // `call 3, Ift(3), in line 1, column 5 halted`, the first call of a group.
+    fn halted_call(&self, page: &mut Page, group: &Group) {
+        page.note("");
+        page.say_number("call ", group.number, ", ");
+        self.call(page, group.first.entry);
+        page.say(", made in ");
+        self.place(page, group.first.spot);
+        page.say(", halted: ");
     }
 
-    // Why a call halted. One that its site could answer did since its line of the script says so, or the built-in site does.
-    fn reason(&self, page: &mut Page, entry: usize, rules: &Rules, why: Why) {
-        let Some(Entry::Call(_, _, site, args)) = self.journal.get(entry) else {
-            return;
-        };
-        let name = name_of(self.ended.answers, site);
-        match why {
-            Why::Wrong => {
-                let words = wanted(name, args.as_slice()).unwrap_or("other values");
-                page.tell("`%` takes %", &[Fill::Word(name), Fill::Text(words)]);
+    // How many calls more were made there.
+    fn others(&self, page: &mut Page, group: &Group) {
+        if group.count > 1 {
+            page.say("; so did ");
+            page.count(group.count.saturating_sub(1), "more call");
+            page.say(" there");
+        }
+        page.say("\n");
+    }
+
+    fn wrong_calls(&self, page: &mut Page, groups: &Groups) {
+        let mut shown: u64 = 0;
+        for group in groups.list.iter().take(SHOWN as usize) {
+            shown = shown.saturating_add(1);
+            self.halted_call(page, group);
+            self.site_takes(page, group.first.entry);
+            self.others(page, group);
+        }
+        self.rest(page, groups.list.len() as u64, shown);
+    }
+
+    // What a call's site takes.
+    fn site_takes(&self, page: &mut Page, entry: usize) {
+        if let Some(Entry::Call(_, _, site, args)) = self.journal.get(entry) {
+            let name = name_of(self.ended.answers, site);
+            page.say_word("`", name, "` takes ");
+            page.say(wanted(name, args.as_slice()).unwrap_or("other values"));
+        }
+    }
+
+    fn unanswered_calls(&self, page: &mut Page, groups: &Groups, rules: &Rules) {
+        let mut shown: u64 = 0;
+        for group in groups.list.iter().take(SHOWN as usize) {
+            shown = shown.saturating_add(1);
+            self.halted_call(page, group);
+            page.say("no line of the script answers it");
+            self.nearest_line(page, group.first.entry, rules);
+            self.others(page, group);
+        }
+        self.rest(page, groups.list.len() as u64, shown);
+    }
+
+    fn nearest_line(&self, page: &mut Page, entry: usize, rules: &Rules) {
+        if let Some(Entry::Call(_, _, site, args)) = self.journal.get(entry) {
+            let name = name_of(self.ended.answers, site);
+            if let Some(rule) = nearest(rules, name, args.as_slice()) {
+                missed(page, rules, &rule, args.as_slice());
             }
-            Why::Unanswered => {
-                page.say("no line of the script answers it");
-                say_nearest(page, rules, name, args.as_slice());
-            }
-            Why::Halted => match rules.first(name, args.as_slice()) {
+        }
+    }
+
+    fn halted_calls(&self, page: &mut Page, groups: &Groups, rules: &Rules) {
+        let mut shown: u64 = 0;
+        for group in groups.list.iter().take(SHOWN as usize) {
+            shown = shown.saturating_add(1);
+            self.halted_call(page, group);
+            self.halting(page, group.first.entry, rules);
+            self.others(page, group);
+        }
+        self.rest(page, groups.list.len() as u64, shown);
+    }
+
+    // Why a call halted that its site could answer: its line of the script says so, or the built-in site does.
+    fn halting(&self, page: &mut Page, entry: usize, rules: &Rules) {
+        if let Some(Entry::Call(_, _, site, args)) = self.journal.get(entry) {
+            let name = name_of(self.ended.answers, site);
+            match rules.first(name, args.as_slice()) {
                 Some(place) => {
-                    let line = Fill::Number(rules.number(place));
-                    page.tell("line % of the script says halt", &[line]);
+                    page.say_number("line ", rules.number(place), " of the script says halt");
                 }
                 None => page.say(said_of(name, HALTS.as_slice()).unwrap_or("its site says halt")),
-            },
+            }
         }
     }
 
     // Where tokens came to nothing, since values were lost.
     fn losses(&self, page: &mut Page) {
         for loss in &self.replay.losses {
-            page.note("`");
-            self.words(page, loss.spot);
-            page.tell("` (%) came to nothing: ", &[self.place(loss.spot)]);
-            match loss.cell {
-                Some(cell) => {
-                    self.cell(page, cell);
-                    page.say(", has ended without a value");
-                }
-                None => page.say("what stands for a parameter has ended without a value"),
-            }
-            if loss.count > 1 {
-                let others = Fill::Count(loss.count.saturating_sub(1), "more part");
-                page.tell("; so did % there", &[others]);
-            }
-            page.say("\n");
+            self.loss(page, *loss);
         }
-        self.rest(page, self.replay.other_losses, 0);
+        let others = self.replay.other_losses;
+        if others > 0 {
+            page.note("");
+            page.say_number("and ", others, " more\n");
+        }
+    }
+
+    fn loss(&self, page: &mut Page, loss: Loss) {
+        page.note("`");
+        self.words(page, loss.spot);
+        page.say("` (");
+        self.place(page, loss.spot);
+        page.say(") came to nothing: ");
+        match loss.cell {
+            Some(cell) => {
+                self.cell(page, cell);
+                page.say(", has ended without a value");
+            }
+            None => page.say("what stands for a parameter has ended without a value"),
+        }
+        if loss.count > 1 {
+            page.say("; so did ");
+            page.count(loss.count.saturating_sub(1), "more part");
+            page.say(" there");
+        }
+        page.say("\n");
     }
 
     fn unused_lines(&self, page: &mut Page, remarks: &Remarks, rules: &Rules) {
@@ -385,9 +468,9 @@ impl Scene<'_, '_> {
         for (place, rule) in rules.list.iter().enumerate() {
             if !remarks.used.get(place).copied().unwrap_or(true) && shown < SHOWN {
                 shown = shown.saturating_add(1);
-                let line = Fill::Number(rule.number as u64);
-                page.note("");
-                page.tell("line % of the script answered no call", &[line]);
+                page.note("line ");
+                page.number(rule.number as u64);
+                page.say(" of the script answered no call");
                 self.hidden(page, rules, place, rule);
                 page.say("\n");
             }
@@ -397,12 +480,9 @@ impl Scene<'_, '_> {
 
     // Whether a definition has the name of a built-in site.
     fn hides_a_site(&self) -> bool {
-        for definition in self.definitions {
-            if is_built_in(definition.name.text) {
-                return true;
-            }
-        }
-        false
+        self.definitions
+            .iter()
+            .any(|definition| is_built_in(definition.name.text))
     }
 
     // The definitions that have the name of a built-in site: calls with this name are calls of the definition.
@@ -414,13 +494,10 @@ impl Scene<'_, '_> {
             if is_built_in(name.text) {
                 all = all.saturating_add(1);
                 if all <= SHOWN {
-                    page.remark(
-                        "`%`, defined in %, hides the built-in site of this name",
-                        &[
-                            Fill::Word(name.text),
-                            Fill::Place(source.text, name.span.start),
-                        ],
-                    );
+                    page.note("");
+                    page.say_word("`", name.text, "`, defined in ");
+                    page.place(source.text, name.span.start);
+                    page.say(", hides the built-in site of this name\n");
                 }
             }
         }
@@ -431,13 +508,17 @@ impl Scene<'_, '_> {
     fn hidden(&self, page: &mut Page, rules: &Rules, place: usize, rule: &Rule) {
         for earlier in rules.list.iter().take(place) {
             if hides(rules, earlier, rule) {
-                let line = Fill::Number(earlier.number as u64);
-                page.tell(": line % comes first and answers all of its calls", &[line]);
+                let number = earlier.number as u64;
+                page.say_number(
+                    ": line ",
+                    number,
+                    " comes first and answers all of its calls",
+                );
                 return;
             }
         }
         if !self.is_called(rule.name) {
-            page.tell(": `%` was never called", &[Fill::Word(rule.name)]);
+            page.say_word(": `", rule.name, "` was never called");
         }
     }
 

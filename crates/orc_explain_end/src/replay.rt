@@ -5,7 +5,7 @@ use orc_checker::Marked;
 use orc_env::{Bound, meaning};
 use orc_journal::Journal;
 use orc_rules::entry::Entry;
-use orc_rules::param::Param;
+use orc_rules::param::{Operand, Param};
 use orc_rules::program::{Program, TermNode};
 use orc_source_map::{Purpose, Shape, Sketch, Token, Trail, Way};
 use orc_term::arena::{Kind, Tip};
@@ -130,27 +130,25 @@ impl<'a> Replay<'a> {
     // What an entry makes besides tokens, or ends.
     fn note(&mut self, sketch: &Sketch<'a>, entry: &Entry, at: usize) -> Result<(), AllocError> {
         match entry {
-            Entry::Call(s, _, _, _) => {
-                let token = self.token(*s);
-                self.calls.push(Made {
-                    spot: token.spot.unwrap_or(0),
-                    step: token.step,
-                    entry: at,
-                    is_out: true,
-                    has_halted: false,
-                })?;
-            }
+            Entry::Call(s, _, _, _) => return self.add_call(*s, at),
             Entry::Return(k, _, _) | Entry::Cancel(k) => self.end_call(*k, false),
             Entry::ReturnHalt(k) => self.end_call(*k, true),
-            Entry::Open(s, _, _, _) => {
-                if let Shape::Prune(_, _, purpose) = self.trail.shape(sketch, *s) {
-                    let spot = self.token(*s).spot.unwrap_or(0);
-                    self.cells.push(Cell { purpose, spot })?;
-                }
-            }
+            Entry::Open(s, _, _, _) => return self.add_cell(sketch, *s),
             Entry::Def(_, _) => self.definitions = self.definitions.saturating_add(1),
             _ => {}
         }
+        Ok(())
+    }
+
+    fn add_call(&mut self, mark: u64, entry: usize) -> Result<(), AllocError> {
+        let token = self.token(mark);
+        self.calls.push(Made {
+            spot: token.spot.unwrap_or(0),
+            step: token.step,
+            entry,
+            is_out: true,
+            has_halted: false,
+        })?;
         Ok(())
     }
 
@@ -188,20 +186,22 @@ impl<'a> Replay<'a> {
     // The cell of the first lost value that a token needs.
     fn lost_cell(&self, program: &Program, token: u64) -> Option<u64> {
         let (number, scope) = self.node_of(token)?;
-        let operand = match program.node(number) {
-            TermNode::Operand(operand) => operand,
+        match program.node(number) {
+            TermNode::Operand(operand) => self.cell_of(operand, scope),
             TermNode::Site(_, list) => {
-                let mut lost = None;
                 for operand in program.operands(list) {
-                    if lost.is_none() && matches!(self.marked.param(*operand, scope), Param::Void) {
-                        lost = Some(*operand);
+                    if matches!(self.marked.param(*operand, scope), Param::Void) {
+                        return self.cell_of(*operand, scope);
                     }
                 }
-                lost?
+                None
             }
-            _ => return None,
-        };
-        // The cell that was put for it, whatever has become of it.
+            _ => None,
+        }
+    }
+
+    // The cell that was put for an operand, whatever has become of it.
+    fn cell_of(&self, operand: Operand, scope: usize) -> Option<u64> {
         match meaning(self.marked.scopes(), &[], operand, scope) {
             Some(Bound::Cell(cell)) => Some(cell),
             _ => None,
@@ -219,6 +219,15 @@ impl<'a> Replay<'a> {
             }
         }
         None
+    }
+
+    fn add_cell(&mut self, sketch: &Sketch<'a>, mark: u64) -> Result<(), AllocError> {
+        let Shape::Prune(_, _, purpose) = self.trail.shape(sketch, mark) else {
+            return Ok(());
+        };
+        let spot = self.token(mark).spot.unwrap_or(0);
+        self.cells.push(Cell { purpose, spot })?;
+        Ok(())
     }
 
     /// The token of a mark, one that stands nowhere where there is none.

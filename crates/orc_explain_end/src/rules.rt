@@ -26,6 +26,20 @@ pub(crate) struct Rules<'a> {
     patterns: Vec<Option<Value>>,
 }
 
+// The number that a piece of a line spells.
+fn number_of(text: &[u8]) -> Option<i64> {
+    match text {
+        [b'-', digits @ ..] => {
+            let (number, _rest) = digits_at(digits)?;
+            0_i64.checked_sub_unsigned(number)
+        }
+        _ => {
+            let (number, _rest) = digits_at(text)?;
+            0_i64.checked_add_unsigned(number)
+        }
+    }
+}
+
 /// The patterns that are no numbers.
 const WORDS: [(&[u8], Option<Value>); 4] = [
     (b"_", None),
@@ -41,12 +55,10 @@ fn pattern_of(text: &[u8]) -> Option<Option<Value>> {
             return Some(*pattern);
         }
     }
-    let number = match text {
-        [b'-', digits @ ..] => 0_i64.checked_sub_unsigned(digits_at(digits)?.0)?,
-        [b'0'..=b'9', ..] => 0_i64.checked_add_unsigned(digits_at(text)?.0)?,
-        _ => return None,
-    };
-    Some(Some(Value::Number(number)))
+    match text {
+        [b'-' | b'0'..=b'9', ..] => Some(Some(Value::Number(number_of(text)?))),
+        _ => None,
+    }
 }
 
 impl<'a> Rules<'a> {
@@ -58,13 +70,15 @@ impl<'a> Rules<'a> {
         };
         let mut start: usize = 0;
         let mut number: usize = 1;
-        for at in 0..=text.len() {
-            if at == text.len() || text[at] == b'\n' {
+        for (at, byte) in text.iter().enumerate() {
+            if *byte == b'\n' {
                 rules.read(alloc, text, Span { start, end: at }, number)?;
                 start = at.saturating_add(1);
                 number = number.saturating_add(1);
             }
         }
+        let end = text.len();
+        rules.read(alloc, text, Span { start, end }, number)?;
         Ok(rules)
     }
 
@@ -114,17 +128,20 @@ impl<'a> Rules<'a> {
         self.patterns.get(rule.first..end).unwrap_or(&[])
     }
 
-    /// The place in the list of the first line that answers the calls of a site with these arguments.
+    /// Whether a line answers the calls of a site with these arguments.
+    pub(crate) fn fits(&self, rule: &Rule, name: &[u8], args: &[Value]) -> bool {
+        rule.name == name
+            && rule.count == args.len()
+            && self.patterns(rule).iter().zip(args.iter()).all(|(pattern, arg)| match pattern {
+                Some(value) => is_same(*value, *arg),
+                None => true,
+            })
+    }
+
+    /// The place in the list of the first line that answers such calls.
     pub(crate) fn first(&self, name: &[u8], args: &[Value]) -> Option<usize> {
         for (place, rule) in self.list.iter().enumerate() {
-            let mut fits = rule.name == name && rule.count == args.len();
-            for (pattern, arg) in self.patterns(rule).iter().zip(args.iter()) {
-                match pattern {
-                    Some(value) if !is_same(*value, *arg) => fits = false,
-                    _ => {}
-                }
-            }
-            if fits {
+            if self.fits(rule, name, args) {
                 return Some(place);
             }
         }

@@ -6,7 +6,7 @@ use orc_explain_fault::span_at;
 use orc_journal::Journal;
 use orc_journal_text::{has_line, write_entry};
 use orc_outcome::{End, Summary};
-use orc_report::{Fill, Page, Subject};
+use orc_report::{Page, Subject, place_of};
 use orc_rules::answers::Answers;
 use orc_rules::entry::Entry;
 use orc_rules::param::Param;
@@ -45,25 +45,19 @@ pub(crate) fn begin(page: &mut Page, summary: Summary) {
 
 /// How far a run came.
 pub(crate) fn reach(page: &mut Page, summary: Summary) {
-    let entries = if summary.entries == 1 {
-        "entry"
+    page.number(summary.now);
+    page.say_number(", after ", summary.entries, "");
+    page.say(if summary.entries == 1 {
+        " entry\n"
     } else {
-        "entries"
-    };
-    page.tell(
-        "%, after % %\n",
-        &[
-            Fill::Number(summary.now),
-            Fill::Number(summary.entries),
-            Fill::Text(entries),
-        ],
-    );
+        " entries\n"
+    });
 }
 
 /// `and N more`, where there are more than were shown.
 pub(crate) fn say_more(page: &mut Page, all: u64, shown: u64) {
     if all > shown {
-        page.tell(" and % more", &[Fill::Number(all.saturating_sub(shown))]);
+        page.say_number(" and ", all.saturating_sub(shown), " more");
     }
 }
 
@@ -75,29 +69,34 @@ pub(crate) fn name_of(answers: &Answers, site: u32) -> &[u8] {
     }
 }
 
-impl<'a> Scene<'_, 'a> {
+impl Scene<'_, '_> {
     /// A line that says how many were left out.
     pub(crate) fn rest(&self, page: &mut Page, all: u64, shown: u64) {
         if all > shown {
-            page.remark("and % more", &[Fill::Number(all.saturating_sub(shown))]);
+            page.note("");
+            page.say_number("and ", all.saturating_sub(shown), " more\n");
         }
     }
 
     /// `line L, column C` of a spot.
-    pub(crate) fn place(&self, spot: usize) -> Fill<'a> {
-        Fill::Place(self.subject.source.text, self.sketch.span(spot).start)
+    pub(crate) fn place(&self, page: &mut Page, spot: usize) {
+        let source = self.subject.source;
+        page.place(source.text, self.sketch.span(spot).start);
     }
 
     /// `line L` of a place of the source.
-    pub(crate) fn line(&self, at: usize) -> Fill<'a> {
-        Fill::Line(self.subject.source.text, at)
+    pub(crate) fn line(&self, page: &mut Page, at: usize) {
+        let source = self.subject.source;
+        let text = source.text;
+        let place = place_of(text, at.min(text.len()));
+        page.say_number("line ", place.line as u64, "");
     }
 
     /// A call that was made, as `NAME(a, b)`, by the place of its entry.
     pub(crate) fn call(&self, page: &mut Page, entry: usize) {
         if let Some(Entry::Call(_, _, site, args)) = self.journal.get(entry) {
-            let name = name_of(self.ended.answers, site);
-            page.tell("%%", &[Fill::Word(name), Fill::Values(args.as_slice())]);
+            page.word(name_of(self.ended.answers, site));
+            page.values(args.as_slice());
         }
     }
 
@@ -124,35 +123,41 @@ impl<'a> Scene<'_, 'a> {
     /// What a cell's value is for.
     pub(crate) fn cell(&self, page: &mut Page, cell: u64) {
         match self.purpose(cell) {
-            Purpose::Variable(name) => page.tell(
-                "`%`, named in %",
-                &[Fill::Word(name.text), self.line(name.span.start)],
-            ),
-            Purpose::Argument(place, name) => page.tell(
-                "argument % of `%`, called in %",
-                &[
-                    Fill::Number(place as u64),
-                    Fill::Word(name.text),
-                    self.line(name.span.start),
-                ],
-            ),
+            Purpose::Variable(name) => {
+                page.say_word("`", name.text, "`, named in ");
+                self.line(page, name.span.start);
+            }
+            Purpose::Argument(place, name) => {
+                page.say_number("argument ", place as u64, "");
+                page.say_word(" of `", name.text, "`, called in ");
+                self.line(page, name.span.start);
+            }
             Purpose::Nothing => page.say("the value of a `<<`"),
         }
     }
 
     /// What a token stands on: a call with its values put in, else the source's text, cut.
     pub(crate) fn term(&self, page: &mut Page, token: u64, spot: usize) {
+        let span = self.sketch.span(spot);
         let source = self.subject.source;
         let Some((number, scope)) = self.replay.node_of(token) else {
             return;
         };
-        let (TermNode::Call(_, list) | TermNode::Site(_, list)) = self.ended.program.node(number)
-        else {
-            self.words(page, spot);
-            return;
-        };
-        let start = self.sketch.span(spot).start;
-        page.word(source.part(span_at(source.text, start)));
+        match self.ended.program.node(number) {
+            TermNode::Call(_, list) | TermNode::Site(_, list) => {
+                page.word(source.part(span_at(source.text, span.start)));
+                self.operands(page, list, scope);
+            }
+            _ => self.words(page, spot),
+        }
+    }
+
+    /// The source's text of a spot, in one line and cut.
+    pub(crate) fn words(&self, page: &mut Page, spot: usize) {
+        squeeze(page, self.subject.source.part(self.sketch.span(spot)));
+    }
+
+    fn operands(&self, page: &mut Page, list: usize, scope: usize) {
         page.say("(");
         for (i, operand) in self.ended.program.operands(list).iter().enumerate() {
             if i > 0 {
@@ -160,27 +165,30 @@ impl<'a> Scene<'_, 'a> {
             }
             match self.replay.marked.param(*operand, scope) {
                 Param::Is(value) => page.value(value),
-                Param::Cell(cell) => {
-                    // It has no value yet.
-                    if let Purpose::Variable(name) = self.purpose(cell) {
-                        page.word(name.text);
-                    }
-                    page.tell("#%", &[Fill::Number(cell)]);
-                }
+                Param::Cell(cell) => self.awaited(page, cell),
                 Param::Void | Param::Name(_) => page.say("void"),
             }
         }
         page.say(")");
     }
 
-    /// The source's text of a spot in one line, with one blank for all between two words, cut where it is long.
-    pub(crate) fn words(&self, page: &mut Page, spot: usize) {
-        let mut shown: usize = 0;
-        let mut is_apart = false;
-        for byte in self.subject.source.part(self.sketch.span(spot)) {
-            if matches!(*byte, b' ' | b'\t' | b'\r' | b'\n') {
-                is_apart = true;
-            } else {
+    // A cell without a value, as it stands in a term.
+    fn awaited(&self, page: &mut Page, cell: u64) {
+        if let Purpose::Variable(name) = self.purpose(cell) {
+            page.word(name.text);
+        }
+        page.say_number("#", cell, "");
+    }
+}
+
+// A part of a source in one line, with one blank for all between two words, cut where it is long.
+fn squeeze(page: &mut Page, text: &[u8]) {
+    let mut shown: usize = 0;
+    let mut is_apart = false;
+    for byte in text {
+        match *byte {
+            b' ' | b'\t' | b'\r' | b'\n' => is_apart = true,
+            byte => {
                 if is_apart {
                     page.say(" ");
                     shown = shown.saturating_add(1);
@@ -190,7 +198,7 @@ impl<'a> Scene<'_, 'a> {
                     page.say("..");
                     return;
                 }
-                page.byte(*byte);
+                page.byte(byte);
                 shown = shown.saturating_add(1);
             }
         }
