@@ -177,8 +177,8 @@ fn ends(alloc: Global) -> Option<[u32; 3]> {
 
 /// Whether all programs are replayed, and runs of each kind are among them.
 pub(crate) fn are_replayed(alloc: Global) -> bool {
-    match ends(alloc) {
-        Some([halted, quiet, cut]) => halted > 20 && quiet > 20 && cut > 5,
-        None => false,
-    }
+    let Some(counts) = ends(alloc) else {
+        return false;
+    };
+    counts[0] > 20 && counts[1] > 20 && counts[2] > 5
 }
