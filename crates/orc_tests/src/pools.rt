@@ -268,8 +268,9 @@ const HELD: [HeldRow; 11] = [
 
 #[test]
 fn each_worker_makes_calls_while_others_are_held(rt: HostRuntime) {
-    for (source, values, [first, last, wanted], workers) in HELD.iter() {
-        let gate = Turnstile::new(*first, *last, *wanted);
+    for (source, values, held, workers) in HELD.iter() {
+        let [first, last, wanted] = *held;
+        let gate = Turnstile::new(first, last, wanted);
         let row: (&[u8], &[u8], &[Value]) = (source, b"", values);
         let end = end_of(&rt, rt.alloc(), row, &gate, *workers, 1000);
         assert!(rt;
