@@ -40,6 +40,7 @@ impl Due {
     }
 
     /// Puts a node in, where there is a time.
+    #[inline(always)]
     fn put(&mut self, time: Option<u64>, node: u32) -> Result<(), AllocError>
         ensures noted { OnOk result (IfSome time (λ t. IsNoted self.new t node)) }
         ensures kept { (t i : ℕ) → IsNoted self.old t i → IsNoted self.new t i }
@@ -51,6 +52,7 @@ impl Due {
     }
 
     /// Notes when what a node will wait for is due, where it ever is. The error is refused memory; what was noted stays.
+    #[inline(always)]
     pub(crate) fn note(&mut self, time: Option<u64>, node: u32) -> Result<(), RuleFault>
         ensures noted { OnOk result (IfSome time (λ t. IsNoted self.new t node)) }
         ensures kept { (t i : ℕ) → IsNoted self.old t i → IsNoted self.new t i }

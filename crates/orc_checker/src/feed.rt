@@ -25,6 +25,7 @@ use orc_term::room::{push_within, reserve};
 use orc_term::walk::{Taker, rise, way_up};
 
 /// Puts a new `|` above the node `at`, which is on its left, and a new node on its right. The node keeps its number.
+#[inline(always)]
 fn graft(nodes: &mut Nodes, at: u32, tip: Tip)
     requires there { at < length nodes.old.items }
     requires room { 2 ≤ nodes.old.room }

@@ -120,6 +120,7 @@ pub(crate) fn expect_after(a: u64, b: u64) -> Result<(), RuleFault>
 }
 
 /// The value that an operand is in a scope.
+#[inline(always)]
 fn value_of(
     scopes: &[StoredScope],
     cells: &[Bound],
@@ -285,6 +286,7 @@ impl Marked {
     }
 
     /// Where token `s` stands on the value `v`, while no cancel is due.
+    #[inline(always)]
     pub(crate) fn bearer(&self, program: &Program, s: u64, v: Value) -> Result<Holder, RuleFault>
         ensures free { IfOk result (λ _. self.now.rest.to_cancel ≡ []) }
         ensures there { IfOk result (λ t. at self.now.nodes t.parent t.at (AtLeaf t.tip)) }
@@ -301,6 +303,7 @@ impl Marked {
     }
 
     /// The value on which a token stands.
+    #[inline(always)]
     pub(crate) fn value_under(&self, program: &Program, tip: Tip) -> Option<Value>
         ensures lives { IfSome result (λ v. living_kind (AtLeaf tip) ≡ 1) }
         ensures bears { IfSome result (λ v. (s : ℕ) → Carries s tip → BearsValue (code program.now) self.now.cells self.now.scopes s tip v) }

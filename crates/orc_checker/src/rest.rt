@@ -42,6 +42,7 @@ impl Model for Rest {
 }
 
 // A call of a site with these arguments is counted, or memory is refused.
+#[inline(always)]
 fn count(counts: &mut Counts, answers: &Answers, site: u32, args: &Args) -> Result<(), RuleFault>
     ensures added { OnOk result (CountsCall answers.now.sites site args.now counts.old counts.new) }
     ensures refused { OnErr result (counts.new ≡ counts.old) }
@@ -84,6 +85,7 @@ impl Rest {
     }
 
     /// What the table says of the next call of a site with these arguments.
+    #[inline(always)]
     pub(crate) fn found(&self, answers: &Answers, site: u32, args: &Args) -> Found
         ensures { NextFound answers.now.sites self.now.counts site args.now result }
     {
@@ -91,6 +93,7 @@ impl Rest {
     }
 
     /// Adds a call of a site with these arguments, and counts it. Where a growth is refused nothing changes.
+    #[inline(always)]
     pub(crate) fn add(
         &mut self,
         called: Called,

@@ -44,14 +44,19 @@ fn push_scope(scopes: &mut Vec<StoredScope>, scope: Scope) -> Result<(), RuleFau
 }
 
 /// More scopes, or refused memory, which leaves those that are there.
+#[inline(always)]
 fn extend_scopes(scopes: &mut Vec<StoredScope>, added: &Vec<StoredScope>) -> Result<(), RuleFault>
     ensures items { OnOk result (scopes.new.items ≡ scopes.old.items ++ added.now.items) }
     ensures refused { OnErr result (scopes.new.items ≡ scopes.old.items) }
     ensures why { IfErr result (λ r. r ≡ reason.Memory) }
 {
-    scopes
-        .extend_from_slice(added)
-        .map_err(|_| RuleFault::Memory)
+    // Calls without arguments add none.
+    match added.as_slice() {
+        [] => Ok(()),
+        more => scopes
+            .extend_from_slice(more)
+            .map_err(|_| RuleFault::Memory),
+    }
 }
 
 /// A scope's number as the next one keeps it, or refused memory.

@@ -11,6 +11,7 @@ use crate::nodes::Nodes;
 use crate::room::push_within;
 
 /// A node's flag, true where there is none.
+#[inline(always)]
 pub fn flag_at(flags: &Vec<bool>, i: usize) -> bool
     ensures { result ≡ flag flags.now.items i }
 {
@@ -21,6 +22,7 @@ pub fn flag_at(flags: &Vec<bool>, i: usize) -> bool
 }
 
 /// Writes a flag that is there.
+#[inline(always)]
 pub fn write_flag(flags: &mut Vec<bool>, i: usize, flag: bool)
     ensures items { flags.new.items ≡ slice_set flags.old.items i flag }
     ensures capacity { vec_capacity flags.new ≡ vec_capacity flags.old }
@@ -69,6 +71,7 @@ fn halts_next(nodes: &Nodes, flags: &Vec<bool>, place: u32) -> Option<u32>
 }
 
 /// Adds the flag of a new place, which is a candidate where the flag is set.
+#[inline(always)]
 pub fn push_flag(flags: &mut Vec<bool>, candidates: &mut Candidates, place: u32, flag: bool)
     requires { vec_len flags.old < vec_capacity flags.old }
     ensures items { flags.new.items ≡ flags.old.items ++ flag ∷ [] }
@@ -96,6 +99,7 @@ fn set_flag(nodes: &Nodes, flags: &mut Vec<bool>, candidates: &mut Candidates, p
 }
 
 /// Flags a node that hadn't halted, where `halted` is true, and each node above it that halts with it. Sides among them are candidates.
+#[inline(always)]
 pub fn settle(
     nodes: &Nodes,
     flags: &mut Vec<bool>,

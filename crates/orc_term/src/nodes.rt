@@ -39,6 +39,7 @@ impl Model for Nodes {
 }
 
 /// The node of that number, one that is gone where there is none.
+#[inline(always)]
 pub fn item(items: &Vec<Slot>, i: usize) -> Node
     ensures { result ≡ slice_index_or items.now.items i nowhere }
 {
@@ -52,6 +53,7 @@ pub fn item(items: &Vec<Slot>, i: usize) -> Node
 }
 
 // Writes a node that is there.
+#[inline(always)]
 fn set_item(items: &mut Vec<Slot>, i: usize, node: Node)
     ensures items { items.new.items ≡ slice_set items.old.items i node }
     ensures len { vec_len items.new ≡ vec_len items.old }
@@ -99,8 +101,8 @@ fn keep_restless(items: &Vec<Slot>, list: &mut Vec<u32>)
     }
 }
 
-// Room for two more in a list of those with tokens. A full list forgets the others first, and grows only where more than half of it stays: so
-// it is as long as there are tokens at one time, and not as there were nodes.
+// Room for two more in a list of those with tokens. A full list forgets the others first, and grows only where more than a quarter of it stays: so
+// it is as long as four times the tokens at one time at most, and not as there were nodes.
 fn reserve_listed(items: &Vec<Slot>, list: &mut Vec<u32>) -> Result<(), AllocError>
     ensures listed { AreListed items.now.items list.old.items → AreListed items.now.items list.new.items }
     ensures room { IfOk result (λ _. vec_len list.new + 2 ≤ vec_capacity list.new) }
@@ -109,7 +111,7 @@ fn reserve_listed(items: &Vec<Slot>, list: &mut Vec<u32>) -> Result<(), AllocErr
         return Ok(());
     }
     keep_restless(items, list);
-    if list.len() < list.capacity() / 2 {
+    if list.len() < list.capacity() / 4 {
         return Ok(());
     }
     list.try_reserve(2)
@@ -147,6 +149,7 @@ fn set_hint(hints: &mut Vec<u32>, i: u32, hint: u32)
 }
 
 // The hint of a node below `parent`, where it had none.
+#[inline(always)]
 fn hint_below(items: &Vec<Slot>, hints: &Vec<u32>, i: u32, parent: u32) -> u32
     ensures { IsHintBelow items.now.items hints.now.items i parent result }
 {
@@ -236,6 +239,7 @@ impl Nodes {
     }
 
     /// The node of that number.
+    #[inline(always)]
     pub fn get(&self, i: usize) -> Option<Node>
         ensures { result ≡ slice_get self.now.items i }
     {
@@ -246,6 +250,7 @@ impl Nodes {
     }
 
     /// The node of that number, one that is gone where there is none.
+    #[inline(always)]
     pub fn node_at(&self, i: usize) -> Node
         ensures { result ≡ slice_index_or self.now.items i nowhere }
     {
@@ -316,6 +321,7 @@ impl Nodes {
     }
 
     /// Adds a node.
+    #[inline(always)]
     pub fn push_within(&mut self, node: Node)
         requires { 1 ≤ self.old.room }
         ensures items { self.new.items ≡ self.old.items ++ node ∷ [] }
@@ -330,6 +336,7 @@ impl Nodes {
     }
 
     /// Writes a node that is there, and can move only if it could before.
+    #[inline(always)]
     pub fn write_node(&mut self, i: usize, node: Node)
         requires { CanBecome self.old.items i node }
         ensures items { self.new.items ≡ slice_set self.old.items i node }
@@ -340,6 +347,7 @@ impl Nodes {
     }
 
     /// Writes a node that is there and may move from now on.
+    #[inline(always)]
     pub fn wake(&mut self, i: u32, node: Node)
         requires room { 1 ≤ self.old.room }
         requires node { CanWake self.old.items i node }
@@ -351,6 +359,7 @@ impl Nodes {
     }
 
     /// Puts a node, with all that is below it, below the `|` of number `both` in its place.
+    #[inline(always)]
     pub fn lift(&mut self, i: u32, both: u32)
         requires { IsBeside self.old.items i both }
         ensures items { self.new.items ≡ lifted self.old.items i both }

@@ -37,6 +37,7 @@ fn step_below(kind: Kind) -> u32
     }
 }
 
+#[inline(always)]
 fn rank_at(numbers: &Vec<u32>, i: usize) -> u32
     ensures { result ≡ rank numbers.now.items i }
 {
@@ -55,6 +56,7 @@ fn set_rank(numbers: &mut Vec<u32>, i: usize, rank: u32)
 }
 
 // A number for a new node, where there is one.
+#[inline(always)]
 fn rank_below(numbers: &Vec<u32>, node: Node) -> Option<u32>
     ensures { IfSome result (λ r. rank numbers.now.items (NodeOf.parent node) < r) }
 {
@@ -62,6 +64,7 @@ fn rank_below(numbers: &Vec<u32>, node: Node) -> Option<u32>
 }
 
 // Whether a part of node `number`, which is to come, doesn't stand below it yet.
+#[inline(always)]
 fn stands_apart(items: &Vec<Slot>, number: usize, part: usize) -> bool
     ensures { result ≡ true → StandsApart items.now.items number part }
 {
@@ -74,6 +77,7 @@ fn stands_apart(items: &Vec<Slot>, number: usize, part: usize) -> bool
     }
 }
 
+#[inline(always)]
 fn stand_apart(items: &Vec<Slot>, number: usize, kind: Kind) -> bool
     ensures { result ≡ true → (i : ℕ) → IsPart kind i → StandsApart items.now.items number i }
 {
@@ -88,6 +92,7 @@ fn stand_apart(items: &Vec<Slot>, number: usize, kind: Kind) -> bool
 }
 
 // Whether a part that stands below a node has a greater number.
+#[inline(always)]
 fn is_ranked_below(items: &Vec<Slot>, numbers: &Vec<u32>, above: usize, part: usize) -> bool
     ensures { result ≡ true → IsRankedBelow items.now.items numbers.now.items above part }
 {
@@ -99,6 +104,7 @@ fn is_ranked_below(items: &Vec<Slot>, numbers: &Vec<u32>, above: usize, part: us
     }
 }
 
+#[inline(always)]
 fn are_ranked_below(items: &Vec<Slot>, numbers: &Vec<u32>, above: usize, kind: Kind) -> bool
     ensures { result ≡ true → (i : ℕ) → IsPart kind i → IsRankedBelow items.now.items numbers.now.items above i }
 {
@@ -133,6 +139,7 @@ struct Gap {
 }
 
 // The same for any node: the others take the next number.
+#[inline(always)]
 fn step_to(part: usize, gap: Gap) -> u32
     ensures { 0 < result }
 {
@@ -182,6 +189,7 @@ impl Ranks {
     }
 
     /// Ranks a node that comes behind the others.
+    #[inline(always)]
     pub fn add(&mut self, items: &Vec<Slot>, node: Node)
         ensures { AreKept items.now.items self.old → AreKept (items.now.items ++ node ∷ []) self.new }
     {
@@ -203,6 +211,7 @@ impl Ranks {
     }
 
     /// A node becomes another one, below the same node.
+    #[inline(always)]
     pub fn write(&mut self, items: &Vec<Slot>, i: usize, node: Node)
         ensures { ((x : NodeOf) → slice_get items.now.items i ≡ Some x → Follows x node) → AreKept items.now.items self.old → AreKept (slice_set items.now.items i node) self.new }
     {
@@ -212,6 +221,7 @@ impl Ranks {
     }
 
     /// A node went below another one, which was put in its place below `parent`.
+    #[inline(always)]
     pub fn lift(&mut self, items: &Vec<Slot>, i: usize, both: usize, parent: usize)
         ensures { (nodes : List NodeOf) → parent ≡ NodeOf.parent (slice_index_or nodes i nowhere) → items.now.items ≡ lifted nodes i both → AreKept nodes self.old → AreKept items.now.items self.new }
     {
@@ -229,7 +239,7 @@ impl Ranks {
         }
     }
 
-    // The nodes below `both` get greater numbers where they need them, and above node `i` half as many are left free as `|` stand there.
+    // The nodes below `both` get greater numbers where they need them, and above node `i` as many are left free as `|` stand there.
     fn make_room(&mut self, items: &Vec<Slot>, i: usize, both: usize)
         ensures { AreRankedBut items.now.items self.old.numbers.items self.old.most (both ∷ []) → AreKept items.now.items self.new }
     {
@@ -238,13 +248,14 @@ impl Ranks {
         if late.push(both).is_ok() {
             let gap = Gap {
                 below: i,
-                step: queue_above(items, both) / 2 + 2,
+                step: queue_above(items, both).saturating_add(2),
             };
             self.are_kept = self.settle(items, late, gap);
         }
     }
 
     // The number of a part becomes greater than that of the node above it; then what is below the part comes late too. False where that can't be.
+    #[inline(always)]
     fn settle_part(
         &mut self,
         items: &Vec<Slot>,
@@ -278,6 +289,7 @@ impl Ranks {
     }
 
     // The same for all parts of a node.
+    #[inline(always)]
     fn settle_parts(
         &mut self,
         items: &Vec<Slot>,

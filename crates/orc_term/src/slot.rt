@@ -44,6 +44,7 @@ impl Model for Slot {
 
 impl Slot {
     /// The node stored.
+    #[inline(always)]
     pub fn new(node: Node) -> Slot
         ensures { result ≡ node }
     {
@@ -76,6 +77,7 @@ impl Slot {
     }
 
     /// The node.
+    #[inline(always)]
     pub fn node(&self) -> Node
         ensures { result ≡ self.now }
     {

@@ -46,6 +46,7 @@ pub(crate) fn taker_here(above: Kind, place: usize, parent: u32) -> Option<Taker
 }
 
 /// What takes a publication of the node at `from`.
+#[inline(always)]
 pub fn way_up(nodes: &Nodes, from: usize) -> Option<Taker>
     ensures taker { IfSome result (IsTaker nodes.now.items from) }
     ensures none { IfNone result ((n : ℕ) (k : List Frame) (t : Tree) → Stands nodes.now.items n from k t → ⊥) }
@@ -68,6 +69,7 @@ pub fn way_up(nodes: &Nodes, from: usize) -> Option<Taker>
 }
 
 /// Leaves each otherwise between `from` and what takes its publication, and makes the way shorter for the walks that come after.
+#[inline(always)]
 pub fn rise(nodes: &mut Nodes, from: u32)
     ensures rises { Rises nodes.old.items from nodes.new.items }
     ensures passes { Passes nodes.old.items nodes.new.items }
