@@ -19,15 +19,16 @@ use Rattle.orc_tables.specs.declared.records.Token.{Token}
 use Rattle.orc_indexes.proofs.Weight.{weight-but}
 use Rattle.orc_ledger_spec.specs.Records.{Records}
 use Rattle.orc_ledger_spec.specs.AtOnce.{IsCalled}
-use Rattle.orc_ledger_spec.specs.Calls.{Turns, Crosses, Drops, Exchanges, Resumes, Closes, IsForked, group_goes}
+use Rattle.orc_ledger_spec.specs.Calls.{Turns, Crosses, Drops, Exchanges, Resumes, Closes, IsEnded, IsForked, group_goes}
 use Rattle.orc_ledger_spec.specs.Doing.{what_of}
 use Rattle.orc_ledger_spec.specs.Moves.{Does, Moves, CallsFit}
 use Rattle.orc_ledger_spec.specs.Parameters.{IsCalled as Entered}
-use Rattle.orc_ledger_spec.specs.Passing.{Enters, Clears}
+use Rattle.orc_ledger_spec.specs.Passing.{Enters, Clears, Passes}
 use Rattle.orc_ledger_spec.specs.Vacant.{Sheds}
 use Rattle.orc_ledger_spec.specs.declared.results.Called.{Called}
 use Rattle.orc_ledger_spec.specs.declared.results.Called.TheVariants as called
 use Rattle.orc_ledger_spec.specs.declared.results.Moved.TheVariants as moved
+use Rattle.orc_ledger_spec.specs.declared.results.Passed.{Passed}
 use Rattle.orc_ledger_spec.specs.declared.results.Passed.TheVariants as passed
 use Rattle.orc_ledger_spec.proofs.Cleared.{sent_sends}
 use Rattle.orc_scheduler.specs.Stops.{Goes, Advances, open_groups}
@@ -207,7 +208,24 @@ through-further l sites s slot t s' (s3, (s1, u, enters, held, (s2, w, v, g, h, 
     (further-still s1 s2 s3 (called-further l sites s1 slot u (called.Answered v) s2 h) (sent-further l s2 slot w s3 [] g moves)))
     gone
 
--- a fork, and a call of a definition
+-- a token at `f >x> g` that neither calls nor waits
+pub passes-further : (l : Listing) (sites : List Site) (s : Records) (slot : ℕ) (t : Token) (p : Passed) (ks : List ℕ) (s' : Records) → (p ≡ passed.Calls → ⊥) → (p ≡ passed.Waits → ⊥) → Passes l sites s slot t p ks s' → Advances s s'
+passes-further l sites s slot t passed.On ks s' nc nw h = on-further l s slot t s' ks h
+passes-further l sites s slot t (passed.Forked k) ks s' nc nw h = forked-further l s slot t s' ks k h
+passes-further l sites s slot t (passed.Sent g) ks s' nc nw h = sent-further l s slot t s' ks g h
+passes-further l sites s slot t (passed.Gone g) ks s' nc nw h = gone-further l s slot t s' ks g h
+passes-further l sites s slot t (passed.Bound c g) ks s' nc nw h = bound-further l s slot t s' ks c g h
+passes-further l sites s slot t passed.Calls ks s' nc nw h = absurd (nc refl)
+passes-further l sites s slot t passed.Waits ks s' nc nw h = absurd (nw refl)
+passes-further l sites s slot t (passed.Pends k) ks s' nc nw h = pends-further l sites s slot t k s' h
+passes-further l sites s slot t passed.Answered ks s' nc nw h = answered-further l sites s slot t s' h
+passes-further l sites s slot t (passed.Halted g) ks s' nc nw h = halted-further l sites s slot t g s' h
+passes-further l sites s slot t passed.Through ks s' nc nw h = through-further l sites s slot t s' h
+
+-- `stop`, a fork, and a call of a definition
+pub ends-further : (s s' : Records) (t : Token) → IsEnded s t s' → Advances s s'
+ends-further s s' t h = turned _ _ _ _ _ _ _ _ _ h (omega arith)
+
 pub forks-further : (s s' : Records) (t : Token) (scope left right : ℕ) → IsForked s t scope left right s' → Advances s s'
 forks-further s s' t scope left right h = turned _ _ _ _ _ _ _ _ _ h (omega arith)
 

@@ -23,7 +23,14 @@ impl<P: Naming> Scheduler<P> {
         ensures advances { IfOk result (λ _. Advances self.old.ledger self.new.ledger) }
         ensures stops { IfErr result (λ stop. Stops P.listing self.new.ledger stop) }
     {
-        if self.answer_due()? || self.pass_time(graph)? {
+        if self.answer_due()? {
+            return Ok(());
+        }
+        if self.pass_time(graph)? {
+            // Where there is an order it draws which of the calls that are due now is answered first.
+            if !self.ready.is_ordered() {
+                self.answer_due()?;
+            }
             return Ok(());
         }
         self.recover(graph, answers)

@@ -10,9 +10,8 @@ ghost use Rattle.orc_tables.specs.declared.records.Group.{Group};
 ghost use Rattle.orc_ledger_spec.specs.Doing.{what_of};
 ghost use Rattle.orc_ledger_spec.specs.Halting.{IsGroup};
 ghost use Rattle.orc_graph.specs.Graph.{term_node};
-ghost use Rattle.orc_ledger_spec.specs.Moves.{IsHindered, StandsAt};
+ghost use Rattle.orc_ledger_spec.specs.Moves.{IsHindered, Moves, StandsAt};
 ghost use Rattle.orc_ledger_spec.specs.Next.{members, numbers_of};
-ghost use Rattle.orc_ledger_spec.specs.Passing.{Passes};
 ghost use Rattle.orc_scheduler.specs.Stops.{Goes, Advances, HasMoved, IsNearer, HasTurned, Stops};
 
 use crate::drawn::is_at_script;
@@ -23,8 +22,8 @@ use crate::wait_list::Waiting;
 use orc_env::StoredScope;
 use orc_graph::{Graph, Node};
 use orc_ledger::{
-    Action, Called, HaltFault, Halted, Ledger, LedgerFault, Passed, Program as Naming, Standing,
-    Token, calls_fit,
+    Action, Called, HaltFault, Halted, Ledger, LedgerFault, Moved, Passed, Program as Naming,
+    Standing, Token, calls_fit,
 };
 use orc_rules::answers::Answers;
 use orc_rules::limits::MOST_GROUPS;
@@ -422,37 +421,27 @@ impl<P: Naming> Scheduler<P> {
         ensures stops { IfErr result (λ stop. Stops P.listing self.new.ledger stop) }
     {
         calls_fit(&self.ledger);
-        match self.pass(graph, answers, slot, token) {
-            Ok(Passed::On) => Ok(Step::On(slot)),
-            Ok(Passed::Forked(right)) => self.part(slot, right),
-            Ok(Passed::Sent(group)) => {
+        match self.pass(graph, slot, token) {
+            Ok(Moved::On) => Ok(Step::On(slot)),
+            Ok(Moved::Forked(right)) => self.part(slot, right),
+            Ok(Moved::Sent(group)) => {
                 self.close(group)?;
                 Ok(Step::On(slot))
             }
-            Ok(Passed::Gone(group)) => {
+            Ok(Moved::Gone(group)) => {
                 self.close(group)?;
                 Ok(Step::Done)
             }
-            Ok(Passed::Bound(cell, group)) => {
+            Ok(Moved::Bound(cell, group)) => {
                 self.wake(cell)?;
                 self.close(group)?;
                 Ok(Step::Done)
             }
-            Ok(Passed::Calls) => self.call(graph, answers, slot, token),
-            Ok(Passed::Waits) => {
+            Ok(Moved::Calls) => self.call(graph, answers, slot, token),
+            Ok(Moved::Waits) => {
                 self.wait(graph, slot)?;
                 Ok(Step::Waits)
             }
-            Ok(Passed::Pends(_)) => {
-                self.holding.give_up();
-                Ok(Step::Done)
-            }
-            Ok(Passed::Halted(group)) => {
-                self.close(group)?;
-                Ok(Step::Done)
-            }
-            Ok(Passed::Answered) => Ok(Step::On(slot)),
-            Ok(Passed::Through) => Ok(Step::On(slot)),
             Err(fault) => {
                 self.ledger.full_is_crowded();
                 Err(Stop::Refused(fault))
@@ -460,8 +449,9 @@ impl<P: Naming> Scheduler<P> {
         }
     }
 
-    // One move of a token at a call or at `f | g`, in place of `pass_on`, which is slower, since it tells of a move of any kind. None, which changes nothing,
-    // where the token stands elsewhere, where it can't move, and at a call of a site where each move is to be an entry.
+    // One move of a token at a call, at `f | g`, at `stop` or at `f >x> g`, which it enters and goes through in one go, in place of `pass_on`, which is slower,
+    // since it tells of a move of any kind. None, which changes nothing, where the token stands elsewhere, where it can't move, and at a call of a site or at
+    // `f >x> g` where each move is to be an entry.
     #[inline(always)]
     fn step_at(
         &mut self,
@@ -528,53 +518,65 @@ impl<P: Naming> Scheduler<P> {
                     }
                 }
             }
+            Node::Seq(left, name, right) if self.goes_through => {
+                let args = &mut self.args;
+                match self.ledger.feed_through(
+                    graph, answers, slot, token, scope, left, name, right, args,
+                ) {
+                    Ok(passed) => match passed {
+                        Passed::Halted(group) => {
+                            self.close(group)?;
+                            Ok(Some(Step::Done))
+                        }
+                        Passed::Pends(_) => {
+                            self.holding.give_up();
+                            Ok(Some(Step::Done))
+                        }
+                        // No token at `f >x> g` calls or waits.
+                        Passed::Calls => Ok(None),
+                        Passed::Waits => Ok(None),
+                        _ => Ok(Some(Step::On(slot))),
+                    },
+                    Err(fault) => {
+                        self.ledger.full_is_crowded();
+                        Err(Stop::Refused(fault))
+                    }
+                }
+            }
+            Node::Stop => {
+                let group = self.ledger.group_of(token.step);
+                match self.ledger.end(slot, token) {
+                    Ok(()) => {
+                        self.close(group)?;
+                        Ok(Some(Step::Done))
+                    }
+                    Err(fault) => {
+                        self.ledger.full_is_crowded();
+                        Err(Stop::Refused(fault))
+                    }
+                }
+            }
             _ => Ok(None),
         }
     }
 
-    // A token moves: once, or through a `>x>` in one go, but where each move is to be an entry.
+    // A token moves once.
     #[inline(always)]
-    fn pass(
-        &mut self,
-        graph: &Graph,
-        answers: &Answers,
-        slot: usize,
-        token: Token,
-    ) -> Result<Passed, LedgerFault>
+    fn pass(&mut self, graph: &Graph, slot: usize, token: Token) -> Result<Moved, LedgerFault>
         requires graph { graph.now ≡ P.listing }
-        requires answers { answers.now.sites ≡ P.sites }
         requires held { IsHeld self.old.ledger.slots slot token }
-        ensures done { IfOk result (λ p. Passes P.listing P.sites self.old.ledger slot token p self.new.cancelled.items self.new.ledger) }
+        ensures done { IfOk result (λ m. Moves P.listing self.old.ledger slot token m self.new.cancelled.items self.new.ledger) }
         ensures refused { OnErr result (self.new.ledger ≡ self.old.ledger) }
         ensures why { IfErr result (λ fault. IsHindered P.listing self.old.ledger token fault) }
         ensures ready { self.new.ready ≡ self.old.ready }
     {
-        if self.goes_through {
-            if let Standing::At(node, scope) = token.standing {
-                if let Node::Seq(left, name, right) = graph.node(node as usize) {
-                    let args = &mut self.args;
-                    return self.ledger.feed_through(
-                        graph, answers, slot, token, scope, left, name, right, args,
-                    );
-                }
-            }
-        }
         if let Standing::On(value) = token.standing {
-            return match self
+            return self
                 .ledger
-                .advance_value(slot, token, value, &mut self.cancelled)
-            {
-                Ok(moved) => Ok(moved.passed()),
-                Err(fault) => Err(fault),
-            };
+                .advance_value(slot, token, value, &mut self.cancelled);
         }
-        match self
-            .ledger
+        self.ledger
             .advance(graph, slot, token, &mut self.scopes, &mut self.cancelled)
-        {
-            Ok(moved) => Ok(moved.passed()),
-            Err(fault) => Err(fault),
-        }
     }
 
     // The tokens of a pruning's sides stand in these slots: the right one goes on, so that its group may be gone before the left side opens more, and

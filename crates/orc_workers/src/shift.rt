@@ -97,7 +97,7 @@ impl<'h, P: Program + Naming, R: Wait, S: Sites, G: Gate> Shift<'h, P, R, S, G> 
         self.tell_lost();
         if self.finds_end() {
             OutsideWork::Over
-        } else if self.has_turn() {
+        } else if self.take_turn() {
             self.turn()
         } else {
             self.rest()
@@ -111,8 +111,8 @@ impl<'h, P: Program + Naming, R: Wait, S: Sites, G: Gate> Shift<'h, P, R, S, G> 
         self.why.read().is_some()
     }
 
-    // Whether it has something to tell, or a token, by now one of its queue or of another's.
-    fn has_turn(&mut self) -> bool {
+    // Takes a token out of its queue or of another's, unless it has one or something to tell: whether it has either now.
+    fn take_turn(&mut self) -> bool {
         if !matches!(&self.event, CallEvent::None) || !self.local.is_empty() {
             return true;
         }
@@ -329,7 +329,7 @@ impl<'h, P: Program + Naming, R: Wait, S: Sites, G: Gate> Shift<'h, P, R, S, G> 
             return work;
         }
         self.context.idle.fetch_add(1, Ordering::SeqCst);
-        let work = if self.has_turn() {
+        let work = if self.take_turn() {
             OutsideWork::None
         } else {
             self.context.rest(self.rt, seen)
