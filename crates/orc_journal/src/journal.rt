@@ -1,6 +1,6 @@
 //! A journal in memory.
 
-ghost use Rattle.std.specs.Prelude.{◌≡◌, ◌+◌, ◌≤◌, ◌++◌, ◌∷◌, [], List, length, map, take, IfOk, OnOk, OnErr};
+ghost use Rattle.std.specs.Prelude.{◌≡◌, ◌+◌, ◌≤◌, ◌++◌, ◌∷◌, [], List, None, Some, length, map, take, true, false, IfOk, OnOk, OnErr};
 ghost use Rattle.std.specs.List.{slice_get};
 ghost use Rattle.orc_rules.specs.declared.entry.Entry.{Entry as EntryOf};
 ghost use Rattle.orc_rules.specs.declared.entry.Entry.TheVariants.{Send, Call, Return, Bind, Publish, Cancel};
@@ -232,12 +232,30 @@ impl Journal {
         pushed
     }
 
+    /// Puts the entry at a place, from 0, into `entry`, which is overwritten where it stays: it has room for the arguments of a call, and to hand one on
+    /// takes longer than to write its line. The answer is whether there is one. If not, `entry` stays as it was.
+    pub fn read(&self, at: usize, entry: &mut Entry) -> bool
+        ensures read { result ≡ true → slice_get self.now.entries at ≡ Some entry.new }
+        ensures none { result ≡ false → slice_get self.now.entries at ≡ None }
+        ensures same { result ≡ false → entry.new ≡ entry.old }
+    {
+        let Some(row) = self.rows.get(at) else {
+            return false;
+        };
+        self.tables.read(*row, entry);
+        true
+    }
+
     /// The entry at a place, from 0.
     pub fn get(&self, at: usize) -> Option<Entry>
         ensures { result ≡ slice_get self.now.entries at }
     {
-        let row = self.rows.get(at)?;
-        Some(self.tables.entry(*row))
+        let mut entry = Entry::Tick(0);
+        if self.read(at, &mut entry) {
+            Some(entry)
+        } else {
+            None
+        }
     }
 
     /// The values that its entries publish, in order. The error is refused memory.

@@ -301,38 +301,39 @@ impl Tables {
         value_at(&self.values, at)
     }
 
-    fn call(&self, s: u64, k: u64, at: u64) -> Entry
+    // Makes `entry` a call, where it stays.
+    fn read_call(&self, s: u64, k: u64, at: u64, entry: &mut Entry)
         requires { HasCall self.now at }
-        ensures { result ≡ call_by self.now.values s k (slice_index_or self.now.calls at no_call) }
+        ensures { entry.new ≡ call_by self.now.values s k (slice_index_or self.now.calls at no_call) }
     {
         let called = self.called(at);
-        Entry::Call(s, k, called.site, args_of(self.args(called)))
+        *entry = Entry::Call(s, k, called.site, args_of(self.args(called)));
     }
 
-    /// The entry of a row.
-    pub(crate) fn entry(&self, row: Row) -> Entry
+    /// Makes `entry` that of a row, where it stays.
+    pub(crate) fn read(&self, row: Row, entry: &mut Entry)
         requires { IsWithin self.now row }
-        ensures { result ≡ entry_of self.now row }
+        ensures { entry.new ≡ entry_of self.now row }
     {
         let p = self.parts_at(row);
         match p.kind {
-            Kind::End => Entry::End(p.first),
-            Kind::Fork => Entry::Fork(p.first, p.second, p.third),
-            Kind::Seq => Entry::Seq(p.first, p.second),
-            Kind::Other => Entry::Other(p.first, p.second),
-            Kind::Def => Entry::Def(p.first, p.second),
-            Kind::Void => Entry::Void(p.first),
-            Kind::Open => Entry::Open(p.first, p.second, p.third, p.fourth),
-            Kind::Send => Entry::Send(p.first, p.second, self.value(p.third)),
-            Kind::Call => self.call(p.first, p.second, p.third),
-            Kind::Return => Entry::Return(p.first, p.second, self.value(p.third)),
-            Kind::ReturnHalt => Entry::ReturnHalt(p.first),
-            Kind::Bind => Entry::Bind(p.first, p.second, self.value(p.third)),
-            Kind::Lost => Entry::Lost(p.first),
-            Kind::Right => Entry::Right(p.first, p.second),
-            Kind::Publish => Entry::Publish(p.first, self.value(p.third)),
-            Kind::Tick => Entry::Tick(p.first),
-            Kind::Cancel => Entry::Cancel(p.first),
+            Kind::End => *entry = Entry::End(p.first),
+            Kind::Fork => *entry = Entry::Fork(p.first, p.second, p.third),
+            Kind::Seq => *entry = Entry::Seq(p.first, p.second),
+            Kind::Other => *entry = Entry::Other(p.first, p.second),
+            Kind::Def => *entry = Entry::Def(p.first, p.second),
+            Kind::Void => *entry = Entry::Void(p.first),
+            Kind::Open => *entry = Entry::Open(p.first, p.second, p.third, p.fourth),
+            Kind::Send => *entry = Entry::Send(p.first, p.second, self.value(p.third)),
+            Kind::Call => self.read_call(p.first, p.second, p.third, entry),
+            Kind::Return => *entry = Entry::Return(p.first, p.second, self.value(p.third)),
+            Kind::ReturnHalt => *entry = Entry::ReturnHalt(p.first),
+            Kind::Bind => *entry = Entry::Bind(p.first, p.second, self.value(p.third)),
+            Kind::Lost => *entry = Entry::Lost(p.first),
+            Kind::Right => *entry = Entry::Right(p.first, p.second),
+            Kind::Publish => *entry = Entry::Publish(p.first, self.value(p.third)),
+            Kind::Tick => *entry = Entry::Tick(p.first),
+            Kind::Cancel => *entry = Entry::Cancel(p.first),
         }
     }
 

@@ -1,10 +1,9 @@
 -- Digits that are too few for a number of over 64 bits.
-use Rattle.std.proofs.Common.{◌≡◌, ℕ, zero, suc, ◌+◌, ◌*◌, ◌-◌, ◌^◌, ◌<◌, ◌≤◌, min, true, false, List, [], ◌∷◌, length, slice_index_or, take, drop, Some, refl, sym, ◌∙◌, arith, inl, inr}
+use Rattle.std.proofs.Common.{◌≡◌, ℕ, zero, suc, ◌+◌, ◌*◌, ◌-◌, ◌^◌, ◌<◌, ◌≤◌, true, false, List, [], ◌∷◌, length, slice_index_or, take, drop, Some, refl, sym, ◌∙◌, arith, inl, inr}
 use Rattle.std.specs.Char.{is_ascii_digit}
 use Rattle.std.proofs.lemmas.Bool.{lt-ltb, cases_lt}
 use Rattle.std.proofs.lemmas.List.{take_all, length-drop}
 use Rattle.std.proofs.lemmas.Nat.{pow-add}
-use Rattle.std.proofs.Math.Nat.{min-le_left, min-le_right, le-min}
 use Rattle.std.proofs.Math.Pow.{pow_mono}
 use Rattle.orc_rules.specs.Digits.{digits_from, digits_at}
 use Rattle.orc_rules.proofs.Numerals.{Stops, stopped}
@@ -26,10 +25,8 @@ one_digit_more n d k small digit =
 pub few_fit : (n k : ℕ) → n < 2 ^ (4 * k) → k ≤ 16 → n < 2 ^ 64
 few_fit n k small few = below n (2 ^ (4 * k)) (2 ^ 64) small (pow_mono {i = 4 * k} {j = 64} (omega (arith, few)))
 
-pub next_fits : (n d at len most : ℕ) → most ≡ min len 16 → at < most → n < 2 ^ (4 * at) → d ≤ 9 → n * 10 + d < 2 ^ 64
-next_fits n d at len most e lt small digit =
-    let top : min len 16 ≤ 16 = min-le_right len 16 in
-    few_fit (n * 10 + d) (at + 1) (one_digit_more n d at small digit) (omega (arith, lt, e, top))
+pub next_fits : (n d at : ℕ) → at < 16 → n < 2 ^ (4 * at) → d ≤ 9 → n * 10 + d < 2 ^ 64
+next_fits n d at lt small digit = few_fit (n * 10 + d) (at + 1) (one_digit_more n d at small digit) (omega (arith, lt))
 
 -- ---- reading on
 
@@ -44,10 +41,8 @@ step_at [] at n lt digit = absurd (omega (arith, lt))
 step_at (c ∷ cs) zero n lt digit = first_step c cs n digit
 step_at (c ∷ cs) (suc k) n lt digit = rw (one_up k) (step_at cs k n (omega (arith, lt)) digit)
 
-pub read_one : (bytes : List ℕ) (at most n : ℕ) → most ≡ min (length bytes) 16 → at < most → is_ascii_digit (slice_index_or bytes at 0) ≡ true → digits_from n (drop at bytes) ≡ digits_from 0 bytes → digits_from (n * 10 + (slice_index_or bytes at 0 - 48)) (drop (at + 1) bytes) ≡ digits_from 0 bytes
-read_one bytes at most n e lt digit same =
-    let within : min (length bytes) 16 ≤ length bytes = min-le_left (length bytes) 16 in
-    sym (step_at bytes at n (omega (arith, lt, e, within)) digit) ∙ same
+pub read_one : (bytes : List ℕ) (at n : ℕ) → 16 ≤ length bytes → at < 16 → is_ascii_digit (slice_index_or bytes at 0) ≡ true → digits_from n (drop at bytes) ≡ digits_from 0 bytes → digits_from (n * 10 + (slice_index_or bytes at 0 - 48)) (drop (at + 1) bytes) ≡ digits_from 0 bytes
+read_one bytes at n long lt digit same = sym (step_at bytes at n (omega (arith, lt, long)) digit) ∙ same
 
 -- ---- the end
 
@@ -57,23 +52,19 @@ stops_at [] (suc k) other = tt
 stops_at (c ∷ cs) zero other = other (omega arith)
 stops_at (c ∷ cs) (suc k) other = stops_at cs k (λ lt. other (omega (arith, lt)))
 
--- where the bytes don't end, fewer than so many digits were read
-more_there : (len at most : ℕ) → most ≡ min len 16 → at ≤ most → (at ≡ 16 → ⊥) → at < len → at < most
-more_there len at most e within full lt =
-    let top : min len 16 ≤ 16 = min-le_right len 16 in
+-- fewer than so many digits were read
+under : (at : ℕ) → at ≤ 16 → (at ≡ 16 → ⊥) → at < 16
+under at within full =
     elim (cases_lt at 16) [
-      | inl few ↦
-          let m : suc at ≤ min len 16 = le-min {k = suc at} {a = len} {b = 16} (omega (arith, lt)) (omega (arith, few)) in
-          omega (arith, m, e)
-      | inr le ↦ absurd (full (omega (arith, le, within, e, top)))
+      | inl few ↦ few
+      | inr le ↦ absurd (full (omega (arith, le, within)))
     ]
 
-pub read_all : (bytes : List ℕ) (at most n : ℕ) → most ≡ min (length bytes) 16 → at ≤ most → (at ≡ 16 → ⊥) → (at < most → is_ascii_digit (slice_index_or bytes at 0) ≡ false) → digits_from n (drop at bytes) ≡ digits_from 0 bytes → n < 2 ^ (4 * at)
+pub read_all : (bytes : List ℕ) (at n : ℕ) → at ≤ 16 → (at ≡ 16 → ⊥) → (at < 16 → is_ascii_digit (slice_index_or bytes at 0) ≡ false) → digits_from n (drop at bytes) ≡ digits_from 0 bytes → n < 2 ^ (4 * at)
     → digits_at bytes ≡ Some (n, take (length bytes - at) (drop at bytes))
 unfolding digits_at
-read_all bytes at most n e within full other same small =
-    let top : min (length bytes) 16 ≤ 16 = min-le_right (length bytes) 16 in
-    let st : Stops (drop at bytes) = stops_at bytes at (λ lt. other (more_there (length bytes) at most e within full lt)) in
-    let fit : n < 2 ^ 64 = few_fit n at small (omega (arith, within, e, top)) in
+read_all bytes at n within full other same small =
+    let st : Stops (drop at bytes) = stops_at bytes at (λ lt. other (under at within full)) in
+    let fit : n < 2 ^ 64 = few_fit n at small within in
     let whole : take (length bytes - at) (drop at bytes) ≡ drop at bytes = take_all (length bytes - at) (drop at bytes) (omega (arith, length-drop at bytes)) in
     rw (whole, sym same ∙ stopped n (drop at bytes) st, lt-ltb n (2 ^ 64) fit) refl

@@ -1,8 +1,9 @@
 -- The name of a site is read as that site.
 use Rattle.std.proofs.Common.{◌≡◌, ℕ, zero, suc, ◌<◌, ◌≤◌, Bool, true, false, cond, List, [], ◌∷◌, ◌++◌, length, Option, Some, None, refl, sym, ap, subst, ◌∙◌, append_assoc, arith, ◌==◌, slice_index_or}
 use Rattle.orc_rules.specs.declared.limits.TheConstants.{MOST_ARGUMENTS}
-use Rattle.std.specs.Prelude.{option_map, codes, bytes_eq}
+use Rattle.std.specs.Prelude.{option_map, codes, bytes_eq, slice_get}
 use Rattle.std.proofs.lemmas.Bool.{eqb-true}
+use Rattle.std.proofs.lemmas.List.{append-nil}
 use Rattle.orc_rules.specs.declared.value.Value.{Value}
 use Rattle.orc_rules.specs.Sites.{site_named, IsBare, AreNames}
 use Rattle.orc_journal_text.specs.Reading.{◌>>=◌, after, split_name, name_at, arguments_at, call_field}
@@ -55,6 +56,22 @@ named_again (n ∷ ns) (suc s) are lt = go (bytes_eq n (slice_index_or ns s []))
       let same : n ≡ slice_index_or ns s [] = same_takes n (slice_index_or ns s []) e in
       let none : site_named ns (slice_index_or ns s []) ≡ None = subst (λ (t : List ℕ). site_named ns t ≡ None) same are.1 in
       absurd cc
+
+-- a text after which nothing is left
+pub whole_name : (known name rest : List ℕ) → length rest < 1 → after known name ≡ Some rest → known ≡ name
+whole_name known name [] few e = sym (after_takes known name [] e ∙ append-nil known)
+whole_name known name (c ∷ rest) few e = absurd (omega (arith, few))
+
+-- a site that has the name is the one of that name
+pub named_at : (names : List (List ℕ)) (s : ℕ) (t : List ℕ) → AreNames names → slice_get names s ≡ Some t → site_named names t ≡ Some s
+named_at names s t are there =
+    let w = stands names s t there in
+    subst (λ z. site_named names z ≡ Some s) w.1 (named_again names s are w.0)
+  where
+    stands : (names : List (List ℕ)) (s : ℕ) (t : List ℕ) → slice_get names s ≡ Some t → (s < length names) × (slice_index_or names s [] ≡ t)
+    stands [] s t h = absurd cc
+    stands (n ∷ ns) zero t h = (omega arith, same_some n t h)
+    stands (n ∷ ns) (suc s) t h = let w = stands ns s t h in (omega (arith, w.0), w.1)
 
 bare_there : (names : List (List ℕ)) (s : ℕ) → AreNames names → s < length names → IsBare (slice_index_or names s [])
 bare_there [] s are lt = absurd (omega (arith, lt))

@@ -1,8 +1,9 @@
 //! Reading entries from lines.
 
-ghost use Rattle.std.specs.Prelude.{◌≡◌, ◌++◌, ◌∷◌, [], List, length, option_map, ℕ, IfSome, Some, ◌<◌, ◌≤◌, ◌^◌, ◌-◌, negsuc};
+ghost use Rattle.std.specs.Prelude.{◌≡◌, ◌++◌, ◌∷◌, [], List, length, option_map, ℕ, IfSome, Some, true, slice_get, ◌<◌, ◌≤◌, ◌^◌, ◌-◌, negsuc};
 ghost use Rattle.orc_rules.specs.Digits.{Gives, digits_at};
 ghost use Rattle.orc_journal_text.specs.Reading.{after, is_plain, number_at, value_at, number_field, value_field, pair_field, sent_field, outcome_field, split_name, name_at, values_at, arguments_at, call_field, all_kinds, kind_from, fields_at, entry_at};
+ghost use Rattle.orc_rules.specs.Sites.{site_named};
 ghost use Rattle.orc_rules.specs.Text.{line, Fits};
 ghost use Rattle.orc_rules.specs.declared.limits.TheConstants.{MOST_ARGUMENTS};
 ghost use Rattle.orc_rules.specs.declared.entry.Entry.{Entry as EntryOf};
@@ -19,6 +20,7 @@ use orc_rules::value::{Args, Value};
 const FEW: usize = 16;
 
 // The bytes after a text.
+#[inline(always)]
 pub(crate) fn after<'a>(text: &[u8], bytes: &'a [u8]) -> Option<&'a [u8]>
     ensures { Gives (λ r. r.now) result (after text.now bytes.now) }
 {
@@ -38,6 +40,7 @@ pub(crate) fn after<'a>(text: &[u8], bytes: &'a [u8]) -> Option<&'a [u8]>
 }
 
 // Whether a digit stands first, and no second one after a zero.
+#[inline(always)]
 fn is_plain(bytes: &[u8]) -> bool
     ensures { result ≡ is_plain bytes.now }
 {
@@ -48,15 +51,18 @@ fn is_plain(bytes: &[u8]) -> bool
     }
 }
 
-// The same as `digits_at`, but as long as a number has under `FEW` digits it can't be too great, and no sum is tested.
+// The same as `digits_at`, but as long as a number has under `FEW` digits it can't be too great, and no sum is tested. Where so many bytes have come,
+// nothing else is asked of a digit than whether it is one.
 #[inline(always)]
 fn few_digits_at(bytes: &[u8]) -> Option<(u64, &[u8])>
     ensures { Gives (λ x. (x.0, x.1.now)) result (digits_at bytes.now) }
 {
-    let most = bytes.len().min(FEW);
+    if bytes.len() < FEW {
+        return digits_at(bytes);
+    }
     let mut number: u64 = 0;
     let mut at = 0;
-    while at < most && bytes[at].is_ascii_digit() {
+    while at < FEW && bytes[at].is_ascii_digit() {
         number = number * 10 + (bytes[at] - b'0') as u64;
         at += 1;
     }
@@ -176,13 +182,52 @@ fn split_name(bytes: &[u8]) -> (&[u8], &[u8])
     bytes.split_at(end)
 }
 
+// The number of the built-in site that has this name, if one has it.
+fn likely_site(name: &[u8]) -> u32 {
+    match name {
+        [b'A', ..] => 0,
+        [b'S', ..] => 1,
+        [b'E', ..] => 2,
+        [b'L', ..] => 3,
+        [b'I', b'f', b't', ..] => 4,
+        [b'I', ..] => 5,
+        _ => 6,
+    }
+}
+
+// Whether a site has this name.
+fn is_name_of(name: &[u8], site: u32, answers: &Answers) -> bool
+    ensures { result ≡ true → slice_get answers.now.names site ≡ Some name.now }
+{
+    match answers.name(site) {
+        Some(known) => match after(known, name) {
+            Some([]) => true,
+            _ => false,
+        },
+        None => false,
+    }
+}
+
+// The number of the site of that name. Most calls are of built-in sites: one of these is tried before the table, in which to look takes longer.
+#[inline(always)]
+fn site_of(name: &[u8], answers: &Answers) -> Option<u32>
+    ensures { result ≡ site_named answers.now.names name.now }
+{
+    answers.are_apart();
+    let site = likely_site(name);
+    if is_name_of(name, site, answers) {
+        return Some(site);
+    }
+    answers.site_named(name)
+}
+
 // A site's number by its name.
 #[tactic(auto, unfolding(crate::specs::Reading::name_at))]
 fn name_at<'a>(bytes: &'a [u8], answers: &Answers) -> Option<(u32, &'a [u8])>
     ensures { Gives (λ x. (x.0, x.1.now)) result (name_at answers.now.names bytes.now) }
 {
     let (name, rest) = split_name(bytes);
-    let site = answers.site_named(name)?;
+    let site = site_of(name, answers)?;
     Some((site, rest))
 }
 
@@ -217,6 +262,7 @@ fn values_at<'a>(bytes: &'a [u8], args: &mut Args) -> Option<&'a [u8]>
 }
 
 // The word of this kind.
+#[inline(always)]
 fn word_at(kind: Kind, bytes: &[u8]) -> Option<(Kind, &[u8])>
     ensures { Gives (λ x. (x.0, x.1.now)) result (kind_from (kind ∷ []) bytes.now) }
 {
@@ -227,6 +273,7 @@ fn word_at(kind: Kind, bytes: &[u8]) -> Option<(Kind, &[u8])>
 }
 
 // The word of one of two kinds.
+#[inline(always)]
 fn either_at(kind: Kind, other: Kind, bytes: &[u8]) -> Option<(Kind, &[u8])>
     ensures { Gives (λ x. (x.0, x.1.now)) result (kind_from (kind ∷ other ∷ []) bytes.now) }
 {
@@ -237,6 +284,7 @@ fn either_at(kind: Kind, other: Kind, bytes: &[u8]) -> Option<(Kind, &[u8])>
 }
 
 // The word with which a line begins, by its first letter.
+#[inline(always)]
 fn kind_at(bytes: &[u8]) -> Option<(Kind, &[u8])>
     ensures { Gives (λ x. (x.0, x.1.now)) result (kind_from all_kinds bytes.now) }
 {
@@ -444,6 +492,7 @@ fn cancel_at<'a>(bytes: &'a [u8], entry: &mut Entry) -> Option<&'a [u8]>
 }
 
 // The fields of an entry of this kind.
+#[inline(always)]
 fn fields_at<'a>(
     kind: Kind,
     bytes: &'a [u8],
@@ -474,6 +523,7 @@ fn fields_at<'a>(
 }
 
 // The entry whose line stands first.
+#[inline(always)]
 #[tactic(auto, unfolding(crate::specs::Reading::entry_at))]
 fn entry_at<'a>(bytes: &'a [u8], answers: &Answers, entry: &mut Entry) -> Option<&'a [u8]>
     ensures { Gives (λ r. (entry.new, r.now)) result (entry_at answers.now.names bytes.now) }

@@ -135,8 +135,9 @@ pub fn write_journal(
     ensures unnamed { IfOk result (λ whole. whole ≡ false → journal.now.version ≡ Two → AreNamed answers.now.names journal.now.entries → ⊥) }
 {
     write_header(out, journal.version())?;
+    let mut entry = Entry::Tick(0);
     for at in 0..journal.len() {
-        if let Some(entry) = journal.get(at) {
+        if journal.read(at, &mut entry) {
             if !is_written(journal.version(), &entry, answers) {
                 return Ok(false);
             }

@@ -39,6 +39,7 @@ impl<'a> Model for Names<'a> {
 }
 
 // Whether two names are the same. They are compared from the end: names that begin alike are many.
+#[inline(always)]
 #[tactic(auto, using(crate::proofs::Early::all_dropped, crate::proofs::Early::one_more, crate::proofs::Early::same_bytes))]
 fn is_same(name: &[u8], text: &[u8]) -> bool
     ensures { result ≡ bytes_eq name.now text.now }
@@ -57,6 +58,7 @@ fn is_same(name: &[u8], text: &[u8]) -> bool
 }
 
 // The place of a name among these, from 0: the first one.
+#[inline(always)]
 #[tactic(auto, using(crate::proofs::Early::place_here, crate::proofs::Early::place_later, crate::proofs::Early::place_nowhere))]
 fn place_among(names: &[&[u8]], text: &[u8]) -> Option<usize>
     ensures { result ≡ position (map text_of names.now) text.now }
@@ -90,6 +92,8 @@ impl<'a> Names<'a> {
     }
 
     /// The place of a name, from 0: the first one.
+    // Inlined, with what it calls: a look-up among few names takes less than a call.
+    #[inline(always)]
     #[tactic(auto, using(crate::proofs::Early::found_early, crate::proofs::Early::found_late, crate::proofs::Early::found_nowhere))]
     pub fn find(&self, text: &[u8]) -> Option<usize>
         ensures { result ≡ position self.now text.now }

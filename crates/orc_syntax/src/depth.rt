@@ -48,6 +48,7 @@ impl Depth {
     }
 
     /// Where a definition has become whole, nothing stands before what comes.
+    #[inline(always)]
     pub fn begin_part(&mut self, defined: usize, defined_now: usize)
         ensures { count_of self.new ≡ (if nat_lt defined defined_now then none else count_of self.old) }
     {
@@ -56,6 +57,7 @@ impl Depth {
         }
     }
 
+    #[inline(always)]
     fn operate(&mut self) -> Result<(), StepError>
         ensures { (joint : Joint) → Counts result (count_of self.old) (count_of self.new) (tokens.Join joint) }
     {
@@ -67,6 +69,7 @@ impl Depth {
     }
 
     // The first or the second sign of an operator with a variable.
+    #[inline(always)]
     fn sign(&mut self) -> Result<(), StepError>
         ensures { (side : Side) → Counts result (count_of self.old) (count_of self.new) (tokens.Arrow side) }
     {
@@ -83,6 +86,7 @@ impl Depth {
     }
 
     // One more bracket.
+    #[inline(always)]
     #[tactic(auto, using(crate::proofs::Views::counts))]
     fn open(&mut self) -> Result<(), StepError>
         ensures { Counts result (count_of self.old) (count_of self.new) tokens.Open }
@@ -95,6 +99,7 @@ impl Depth {
         Ok(())
     }
 
+    #[inline(always)]
     fn bind(&mut self) -> Result<(), StepError>
         ensures { Counts result (count_of self.old) (count_of self.new) tokens.Val }
     {
@@ -106,6 +111,7 @@ impl Depth {
     }
 
     // A bracket closes.
+    #[inline(always)]
     #[tactic(auto, using(crate::proofs::Views::counts))]
     fn close(&mut self)
         ensures { count_of self.new ≡ counted (count_of self.old) tokens.Close }
@@ -117,6 +123,7 @@ impl Depth {
     }
 
     /// Counts one more token, unless it is one too many.
+    #[inline(always)]
     pub fn count(&mut self, kind: Kind) -> Result<(), StepError>
         ensures { Counts result (count_of self.old) (count_of self.new) (sort kind.entry) }
     {

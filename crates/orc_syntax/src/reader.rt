@@ -184,6 +184,7 @@ pub struct Reader<'a> {
     frames: Vec<Frame<'a>>,
 }
 
+// What a token does is inlined into the loop over the tokens: each call would copy the token and what has just been read.
 impl<'a> Reader<'a> {
     pub fn new(alloc: Global) -> Reader<'a>
         ensures context { context result ≡ record { definitions = []; parameters = [] } }
@@ -208,6 +209,7 @@ impl<'a> Reader<'a> {
     }
 
     // One more node, which ends an operand.
+    #[inline(always)]
     #[tactic(auto, using(crate::proofs::Views::stacks))]
     fn node(&mut self, part: Part<'a>, start: usize, end: usize) -> Result<Operand, StepError>
         ensures made { Makes result (λ o. (operand o ≡ machine.operand start end) × (nodes self.new ≡ nodes self.old ++ trees.item (part_sort part.entry) (record { start = start; end = end }) ∷ [])) }
@@ -223,6 +225,7 @@ impl<'a> Reader<'a> {
     }
 
     // Joins what binds at least as tightly as `level`.
+    #[inline(always)]
     fn reduce(&mut self, level: u8, last: Operand) -> Result<Operand, StepError>
         ensures reduced { Makes result (λ o. machine.reduce level (operand last) (nodes self.old) (stack self.old) ≡ machine.reduced (operand o) (nodes self.new) (stack self.new)) }
         ensures definitions { self.new.definitions.items ≡ self.old.definitions.items }
@@ -248,6 +251,7 @@ impl<'a> Reader<'a> {
     }
 
     // What is wanted behind a whole expression.
+    #[inline(always)]
     fn behind(&self) -> What
         ensures { result ≡ machine.behind (stack self.now) }
     {
@@ -265,6 +269,7 @@ impl<'a> Reader<'a> {
     }
 
     // What waits innermost.
+    #[inline(always)]
     #[tactic(auto, using(crate::proofs::Views::over_last))]
     fn top(&self) -> Option<Frame<'a>>
         ensures some { IfSome result (λ f. (k : List machine.Frame) × (stack self.now ≡ frame_of f ∷ k)) }
@@ -279,6 +284,7 @@ impl<'a> Reader<'a> {
     }
 
     // May a `val` begin here? Not as an operand.
+    #[inline(always)]
     fn takes_val(&self) -> bool
         ensures { result ≡ machine.takes_val (stack self.now) }
     {
@@ -298,6 +304,7 @@ impl<'a> Reader<'a> {
     }
 
     // An expression must begin, or a definition.
+    #[inline(always)]
     #[tactic(auto, using(crate::proofs::Views::stacks))]
     fn begin(&mut self, token: Token<'a>) -> Result<Mode<'a>, StepError>
         ensures { Leaves result self.new (machine.begin (sort token.entry.kind) token.entry.span (context self.old) (nodes self.old) (stack self.old)) }
@@ -319,6 +326,7 @@ impl<'a> Reader<'a> {
         }
     }
 
+    #[inline(always)]
     fn begin_val(&self, start: usize) -> Result<Mode<'a>, StepError>
         ensures { (at : Span) → at.start ≡ start → Leaves result self.now (machine.begin tokens.Val at (context self.now) (nodes self.now) (stack self.now)) }
     {
@@ -329,6 +337,7 @@ impl<'a> Reader<'a> {
         }
     }
 
+    #[inline(always)]
     fn begin_definition(&self) -> Result<Mode<'a>, StepError>
         ensures { Leaves result self.now (if machine.takes_def (stack self.now) then Ok (machine.state (machine.Heads machine.DefWord) (context self.now) (nodes self.now) (stack self.now)) else Err expression) }
     {
@@ -339,6 +348,7 @@ impl<'a> Reader<'a> {
     }
 
     // An operator behind its left side.
+    #[inline(always)]
     #[tactic(auto, using(crate::proofs::Views::stacks))]
     fn push(&mut self, operator: Operator<'a>, left: Operand) -> Result<Mode<'a>, StepError>
         ensures { Leaves result self.new (Ok (machine.push (link operator.entry) (context self.old) (machine.reduce (left_level_of (link operator.entry)) (operand left) (nodes self.old) (stack self.old)))) }
@@ -350,6 +360,7 @@ impl<'a> Reader<'a> {
     }
 
     // A call with its closing bracket.
+    #[inline(always)]
     #[tactic(auto, using(crate::proofs::Views::stacks))]
     fn called(
         &mut self,
@@ -364,6 +375,7 @@ impl<'a> Reader<'a> {
     }
 
     // A bracket closes behind a whole expression.
+    #[inline(always)]
     #[tactic(auto, using(crate::proofs::Views::stacks))]
     fn close(&mut self, end: usize) -> Result<Mode<'a>, StepError>
         ensures { Leaves result self.new (machine.close end (context self.old) (nodes self.old) (stack self.old)) }
@@ -383,6 +395,7 @@ impl<'a> Reader<'a> {
     }
 
     // A comma behind a whole expression.
+    #[inline(always)]
     #[tactic(auto, using(crate::proofs::Views::stacks))]
     fn another(&mut self) -> Result<Mode<'a>, StepError>
         ensures { Leaves result self.new (machine.another (context self.old) (nodes self.old) (stack self.old)) }
@@ -446,6 +459,7 @@ impl<'a> Reader<'a> {
     }
 
     // Behind an operand.
+    #[inline(always)]
     fn go_on(&mut self, last: Operand, token: Token<'a>) -> Result<Mode<'a>, StepError>
         ensures { Leaves result self.new (machine.go_on (operand last) (sort token.entry.kind) token.entry.span (context self.old) (nodes self.old) (stack self.old)) }
     {
@@ -469,6 +483,7 @@ impl<'a> Reader<'a> {
         }
     }
 
+    #[inline(always)]
     #[tactic(auto, using(crate::proofs::Views::stacks))]
     fn variable(&mut self, name: Name<'a>) -> Result<Operand, StepError>
         ensures made { Makes result (λ o. (operand o ≡ machine.place name.entry.span) × (nodes self.new ≡ nodes self.old ++ machine.variable_of (label name.entry) ∷ [])) }
@@ -480,6 +495,7 @@ impl<'a> Reader<'a> {
     }
 
     // Behind a name: a bracket makes it a call.
+    #[inline(always)]
     #[tactic(auto, using(crate::proofs::Views::stacks))]
     fn behind_name(&mut self, name: Name<'a>, token: Token<'a>) -> Result<Mode<'a>, StepError>
         ensures { Leaves result self.new (machine.behind_name (label name.entry) (sort token.entry.kind) token.entry.span (context self.old) (nodes self.old) (stack self.old)) }
@@ -497,6 +513,7 @@ impl<'a> Reader<'a> {
     }
 
     // A call without arguments.
+    #[inline(always)]
     #[tactic(auto, using(crate::proofs::Views::stacks))]
     fn close_first(&mut self, end: usize) -> Result<Mode<'a>, StepError>
         ensures { (at : Span) → at.end ≡ end → Leaves result self.new (machine.first tokens.Close at (context self.old) (nodes self.old) (stack self.old)) }
@@ -513,6 +530,7 @@ impl<'a> Reader<'a> {
     }
 
     // The first argument, or none.
+    #[inline(always)]
     fn first(&mut self, token: Token<'a>) -> Result<Mode<'a>, StepError>
         ensures { Leaves result self.new (machine.first (sort token.entry.kind) token.entry.span (context self.old) (nodes self.old) (stack self.old)) }
     {
@@ -523,6 +541,7 @@ impl<'a> Reader<'a> {
     }
 
     // The variable of an operator.
+    #[inline(always)]
     fn bind(&self, side: Side, last: Operand, token: Token<'a>) -> Result<Mode<'a>, StepError>
         ensures { Leaves result self.now (machine.bind side (operand last) (sort token.entry.kind) token.entry.span (context self.now) (nodes self.now) (stack self.now)) }
     {
@@ -540,6 +559,7 @@ impl<'a> Reader<'a> {
     }
 
     // The second sign of an operator.
+    #[inline(always)]
     fn second(
         &mut self,
         side: Side,
@@ -561,6 +581,7 @@ impl<'a> Reader<'a> {
         }
     }
 
+    #[inline(always)]
     #[tactic(auto, using(crate::proofs::Views::stacks))]
     fn parameter(
         &mut self,
@@ -574,6 +595,7 @@ impl<'a> Reader<'a> {
     }
 
     // `val x =` or `def f(a, b) =` is whole.
+    #[inline(always)]
     #[tactic(auto, using(crate::proofs::Views::stacks))]
     fn await_whole(&mut self, frame: Frame<'a>) -> Result<Mode<'a>, StepError>
         ensures { Leaves result self.new (Ok (machine.state machine.Want (context self.old) (nodes self.old) (frame_of frame.entry ∷ stack self.old))) }
@@ -583,6 +605,7 @@ impl<'a> Reader<'a> {
     }
 
     // One more token of a `val x =` or `def f(a, b) =`.
+    #[inline(always)]
     fn head(&mut self, head: Heading<'a>, token: Token<'a>) -> Result<Mode<'a>, StepError>
         ensures { Leaves result self.new (machine.head (heading head.entry) (sort token.entry.kind) token.entry.span (context self.old) (nodes self.old) (stack self.old)) }
     {
@@ -618,6 +641,7 @@ impl<'a> Reader<'a> {
     }
 
     // A name in it.
+    #[inline(always)]
     fn head_name(&mut self, head: Heading<'a>, name: Name<'a>) -> Result<Mode<'a>, StepError>
         ensures { Leaves result self.new (machine.head (heading head.entry) (tokens.Word name.entry.text.now) name.entry.span (context self.old) (nodes self.old) (stack self.old)) }
     {
@@ -632,6 +656,7 @@ impl<'a> Reader<'a> {
     }
 
     /// What one more token makes of what has come.
+    #[inline(always)]
     pub fn advance(&mut self, last: Mode<'a>, token: Token<'a>) -> Result<Mode<'a>, StepError>
         ensures { Leaves result self.new (machine.advance (mode last.entry) (sort token.entry.kind) token.entry.span (context self.old) (nodes self.old) (stack self.old)) }
     {

@@ -56,6 +56,7 @@ fn comes_before(fault: SyntaxFault, at: usize) -> bool
 }
 
 // Takes one more token.
+#[inline(always)]
 fn take<'a>(
     reader: &mut Reader<'a>,
     depth: &mut Depth,

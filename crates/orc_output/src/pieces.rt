@@ -1,0 +1,53 @@
+//! The text of a journal, in pieces.
+
+ghost use Rattle.std.specs.Prelude.{◌≡◌, OnOk, OnErr};
+ghost use Rattle.std.specs.Io.KnownBytes.{Appends};
+ghost use Rattle.orc_journal.specs.declared.journal.Version.TheVariants.{Two};
+ghost use Rattle.orc_journal_text.specs.Texts.{AreOf, journal_text};
+ghost use Rattle.orc_output.specs.Output.{AppendsPrefix};
+
+use crate::output::{WriteFault, write_text};
+use orc_journal::Journal;
+use orc_journal_text::{has_line, write_entry, write_header};
+use orc_rules::answers::Answers;
+use orc_rules::entry::Entry;
+use std::alloc::Global;
+use std::io::Write;
+
+/// A piece is written once it has so many bytes.
+const PIECE: usize = 65_536;
+
+/// Writes the text of a journal of the second version, of which no more is held at one time than a piece. At a fault a prefix of it was written: the output
+/// didn't take more, memory for a piece was refused, or the site of a call has no name.
+pub fn write_journal<W: Write>(
+    alloc: Global,
+    journal: &Journal,
+    answers: &Answers,
+    out: &mut W,
+) -> Result<(), WriteFault>
+    ensures ok { OnOk result (journal.now.version ≡ Two → Appends (W.contents out.old) (W.contents out.new) (journal_text answers.now.names journal.now)) }
+    ensures each { OnOk result (journal.now.version ≡ Two → AreOf answers.now.names Two journal.now.entries) }
+    ensures err { OnErr result (AppendsPrefix (W.contents out.old) (W.contents out.new) (journal_text answers.now.names journal.now)) }
+{
+    let mut piece = Vec::new(alloc);
+    if write_header(&mut piece, journal.version()).is_err() {
+        return Err(WriteFault);
+    }
+    let mut entry = Entry::Tick(0);
+    for at in 0..journal.len() {
+        if !journal.read(at, &mut entry) {
+            unreachable!()
+        }
+        if !has_line(&entry, answers) {
+            return Err(WriteFault);
+        }
+        if write_entry(&entry, answers, &mut piece).is_err() {
+            return Err(WriteFault);
+        }
+        if piece.len() >= PIECE {
+            write_text(out, piece.as_slice())?;
+            piece.clear();
+        }
+    }
+    write_text(out, piece.as_slice())
+}
