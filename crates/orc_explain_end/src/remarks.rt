@@ -3,7 +3,7 @@
 use crate::replay::{Loss, Made};
 use crate::rules::{Rule, Rules};
 use crate::scene::{Scene, begin, name_of};
-use orc_explain_fault::said_of;
+use orc_explain_fault::{built_in_named, wanted_by, why_halted};
 use orc_report::Page;
 use orc_rules::builtin::is_same;
 use orc_rules::entry::Entry;
@@ -88,68 +88,20 @@ impl Drop for Remarks {
     }
 }
 
-// The arguments that a built-in site takes.
-#[derive(Clone, Copy)]
-enum Taken {
-    Numbers,
-    Values,
-    Truth,
-    Time,
-}
-
-impl Taken {
-    fn fits(self, args: &[Value]) -> bool {
-        match self {
-            Taken::Numbers => matches!(args, [Value::Number(_), Value::Number(_)]),
-            Taken::Values => args.len() == 2,
-            Taken::Truth => matches!(args, [Value::Truth(_)]),
-            Taken::Time => matches!(args, [Value::Number(_)]),
-        }
-    }
-
-    fn words(self) -> &'static str {
-        match self {
-            Taken::Numbers => "two numbers",
-            Taken::Values => "two values",
-            Taken::Truth => "`true` or `false`",
-            Taken::Time => "a number of units of time",
-        }
-    }
-}
-
-/// What the built-in sites take.
-const SITES: [(&[u8], Taken); 7] = [
-    (b"Add", Taken::Numbers),
-    (b"Sub", Taken::Numbers),
-    (b"Lt", Taken::Numbers),
-    (b"Eq", Taken::Values),
-    (b"Ift", Taken::Truth),
-    (b"Iff", Taken::Truth),
-    (b"Rwait", Taken::Time),
-];
-
-/// Why a call of a built-in site halts that has the arguments that it takes.
-const HALTS: [(&[u8], &str); 5] = [
-    (b"Add", "the sum is out of range"),
-    (b"Sub", "the difference is out of range"),
-    (b"Ift", "`Ift` goes on where it is given `true`"),
-    (b"Iff", "`Iff` goes on where it is given `false`"),
-    (b"Rwait", "the time is negative"),
-];
-
-// Whether a built-in site is called so.
-fn is_built_in(name: &[u8]) -> bool {
-    SITES.iter().any(|(site, _taken)| *site == name)
-}
-
-// What a built-in site takes, where the arguments are something else.
+// What the built-in site of that name takes, where the arguments are something else.
 fn wanted(name: &[u8], args: &[Value]) -> Option<&'static str> {
-    for (site, taken) in SITES.iter() {
-        if *site == name && !taken.fits(args) {
-            return Some(taken.words());
-        }
+    match built_in_named(name) {
+        Some(site) => wanted_by(site, args),
+        None => None,
     }
-    None
+}
+
+// Why a call of the built-in site of that name halts that has the arguments that it takes.
+fn why_built_in_halted(name: &[u8]) -> Option<&'static str> {
+    match built_in_named(name) {
+        Some(site) => why_halted(site),
+        None => None,
+    }
 }
 
 // Whether an earlier line answers all calls that a later one would.
@@ -425,7 +377,7 @@ impl Scene<'_, '_> {
                 Some(place) => {
                     page.say_number("line ", rules.number(place), " of the script says halt");
                 }
-                None => page.say(said_of(name, HALTS.as_slice()).unwrap_or("its site says halt")),
+                None => page.say(why_built_in_halted(name).unwrap_or("its site says halt")),
             }
         }
     }
@@ -480,9 +432,7 @@ impl Scene<'_, '_> {
 
     // Whether a definition has the name of a built-in site.
     fn hides_a_site(&self) -> bool {
-        self.definitions
-            .iter()
-            .any(|definition| is_built_in(definition.name.text))
+        self.definitions.iter().any(|definition| built_in_named(definition.name.text).is_some())
     }
 
     // The definitions that have the name of a built-in site: calls with this name are calls of the definition.
@@ -491,7 +441,7 @@ impl Scene<'_, '_> {
         let mut all: u64 = 0;
         for definition in self.definitions {
             let name = definition.name;
-            if is_built_in(name.text) {
+            if built_in_named(name.text).is_some() {
                 all = all.saturating_add(1);
                 if all <= SHOWN {
                     page.note("");

@@ -7,6 +7,7 @@
 #![tactic(auto)]
 
 mod bindings;
+mod built_in;
 mod fault;
 mod grammar;
 mod hint;
@@ -25,6 +26,7 @@ mod tokens;
 mod wanted;
 mod words;
 
+pub use built_in::{built_in_named, wanted_by, why_halted};
 pub use fault::{Fault, Unread, explain, explain_refused, explain_rows, explain_unread};
 pub use script::{Line, Piece};
 pub use test::explain_test;

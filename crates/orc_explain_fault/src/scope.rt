@@ -1,12 +1,13 @@
 //! Faults of names (C).
 
 use crate::bindings::{Binder, Binding, Bindings};
+use crate::built_in::{built_in_named, purpose};
 use crate::hint::{Hint, say_hint};
 use crate::outline::Outline;
 use crate::syntax::say_refused;
 use crate::tokens::span_at;
 use crate::wanted::NO_IF;
-use crate::words::{RESERVED, is_one_of, said_of};
+use crate::words::{RESERVED, is_one_of};
 use orc_report::{Document, Near, Page, Subject};
 use orc_rules::answers::Answers;
 use orc_rules::limits::{MOST_ARGUMENTS, MOST_NODES};
@@ -14,17 +15,6 @@ use orc_scope::{FaultKind, ScopeFault};
 use orc_site::read_script;
 use orc_syntax::{Ast, Definition, Expr, Name, Part, parse};
 use std::alloc::Global;
-
-/// What the built-in sites answer, in words.
-const PURPOSES: [(&[u8], &str); 7] = [
-    (b"Add", "the sum of two numbers"),
-    (b"Sub", "the difference of two numbers"),
-    (b"Eq", "whether two values are the same"),
-    (b"Lt", "whether a number is less than another"),
-    (b"Ift", "`signal` for `true`, else nothing"),
-    (b"Iff", "`signal` for `false`, else nothing"),
-    (b"Rwait", "`signal` after a time"),
-];
 
 /// What other languages call a choice.
 const CHOICES: [&[u8]; 2] = [b"if", b"If"];
@@ -257,9 +247,9 @@ fn text_of<'a>(name: Option<Name<'a>>) -> Option<&'a [u8]> {
 fn say_meant(page: &mut Page, name: &[u8]) {
     page.note("help: ");
     page.say_word("did you mean `", name, "`?");
-    if let Some(purpose) = said_of(name, PURPOSES.as_slice()) {
+    if let Some(site) = built_in_named(name) {
         page.say(" It is ");
-        page.say(purpose);
+        page.say(purpose(site));
         page.say(".");
     }
     page.say("\n");

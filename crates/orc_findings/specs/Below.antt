@@ -1,14 +1,12 @@
 -- What stands below a claim of a test that fails.
-use Rattle.std.specs.Prelude.{◌^◌, ◌-◌, ℕ, zero, List, [], ◌∷◌, ◌++◌, Option, Some, None, Bool, true, false, cond, ◌||◌, codes, decimal, drop, length, nat_eq, nat_lt}
-use Rattle.std.specs.List.{slice_get}
+use Rattle.std.specs.Prelude.{◌^◌, ◌-◌, ℕ, zero, List, [], ◌∷◌, ◌++◌, Bool, true, false, cond, ◌||◌, codes, decimal, drop, length, nat_eq, nat_lt}
 use Rattle.orc_outcome.specs.declared.end.End.{End}
-use Rattle.orc_outcome.specs.declared.end.End.TheVariants as ends
 use Rattle.orc_claims.specs.declared.happening.Happening.{Happening}
 use Rattle.orc_claims.specs.declared.verdict.Verdict.{Verdict}
-use Rattle.orc_claims.specs.declared.verdict.Verdict.TheVariants as verdict
 use Rattle.orc_ways.specs.declared.test.SiteName.{SiteName}
-use Rattle.orc_findings.specs.Findings.{moment_text}
-use Rattle.orc_findings.specs.Texts.{happening_text, published_from}
+use Rattle.orc_findings.specs.Course.{end_word, place_text}
+use Rattle.orc_findings.specs.Texts.{happening_text}
+use Rattle.orc_findings.specs.declared.course.Standing.TheVariants as standing
 
 -- ---- the lines of its way
 
@@ -44,30 +42,9 @@ way_text number lines = number_text number ++ lines_or_usual lines
 abbrev pub margin : List ℕ
 margin = codes "         "
 
-abbrev pub end_word : End → List ℕ
-end_word ends.Halted = codes "Halted"
-end_word ends.Quiet = codes "Quiet"
-end_word ends.Limit = codes "cut by the limit"
-end_word ends.Full = codes "Full"
-end_word ends.Memory = codes "without memory"
-
--- how the run ended, and what it published
-abbrev pub ending_text : List Happening → End → ℕ → List ℕ
-ending_text hs end now = codes "ended " ++ (end_word end ++ (codes " at time " ++ (decimal now ++ (codes ", having published" ++ published_from true hs))))
-
--- the happening at which the claim fails: its time, and what happened
-abbrev pub at_or_end : List SiteName → List Happening → End → ℕ → Option Happening → List ℕ
-at_or_end ss hs end now (Some h) = moment_text ss h
-at_or_end ss hs end now None = ending_text hs end now
-
--- or the end, where it fails there
-abbrev pub place_of : List SiteName → List Happening → End → ℕ → Verdict → List ℕ
-place_of ss hs end now (verdict.FailsAt at) = at_or_end ss hs end now (slice_get hs at)
-place_of ss hs end now _ = ending_text hs end now
-
 -- the line: where the claim fails in this run, and the number of its order
 abbrev pub failing_text : List SiteName → List Happening → End → ℕ → Verdict → ℕ → List ℕ
-failing_text ss hs end now v order = margin ++ (place_of ss hs end now v ++ (codes " (order " ++ (decimal order ++ codes ")\n")))
+failing_text ss hs end now v order = margin ++ (place_text ss (standing.Ended end) hs now v ++ (codes " (order " ++ (decimal order ++ codes ")\n")))
 
 -- ---- what a claim saw of a run
 

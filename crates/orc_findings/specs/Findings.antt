@@ -1,20 +1,21 @@
 -- What the claims of a test that stand below `always` say of a run.
-use Rattle.std.specs.Prelude.{ℕ, suc, List, [], ◌∷◌, ◌++◌, Option, Some, None, Bool, cond, ◌&&◌, not, true, is_some, map, codes, decimal}
-use Rattle.std.specs.List.{count_by, slice_get}
+use Rattle.std.specs.Prelude.{ℕ, suc, List, [], ◌∷◌, ◌++◌, Option, Some, None, Bool, cond, ◌&&◌, not, is_some, map, codes}
+use Rattle.std.specs.List.{count_by}
 use Rattle.orc_rules.specs.declared.entry.State.{State}
 use Rattle.orc_rules.specs.declared.entry.State.TheVariants as states
 use Rattle.orc_claims.specs.Verdicts.{says_so}
 use Rattle.orc_claims.specs.declared.claim.Claim.{Claim}
-use Rattle.orc_claims.specs.declared.happening.Happening.{Happening}
 use Rattle.orc_claims.specs.declared.verdict.Judged.{Judged}
 use Rattle.orc_claims.specs.declared.verdict.Verdict.{Verdict}
-use Rattle.orc_claims.specs.declared.verdict.Verdict.TheVariants as verdict
+use Rattle.orc_outcome.specs.declared.end.End.TheVariants as ends
 use Rattle.orc_tally.specs.Sight.{Sight, fails, said}
 use Rattle.orc_tally.specs.Table.{claim_at, note, sum_text}
 use Rattle.orc_ways.specs.declared.test.ClaimLine.{ClaimLine}
 use Rattle.orc_ways.specs.declared.test.SiteName.{SiteName}
 use Rattle.orc_ways.specs.declared.test.Test.{Test}
-use Rattle.orc_findings.specs.Texts.{happening_text, published_from}
+use Rattle.orc_findings.specs.Course.{place_text}
+use Rattle.orc_findings.specs.declared.course.Standing.{Standing}
+use Rattle.orc_findings.specs.declared.course.Standing.TheVariants as standing
 use Rattle.orc_findings.specs.declared.findings.Seen.{Seen}
 
 abbrev pub sight_of : Seen → Sight
@@ -36,33 +37,17 @@ first_verdict (j ∷ js) = Some j.verdict
 
 -- ---- where a claim fails
 
-abbrev pub state_text : State → List ℕ
-state_text states.Halted = codes "ended Halted"
-state_text states.Quiet = codes "ended Quiet"
-state_text states.Running = codes "not ended"
-
--- how the run ended, and what it published
-abbrev pub end_text : Sight → List ℕ
-end_text s = state_text s.state ++ (codes " at time " ++ (decimal s.now ++ (codes ", having published" ++ published_from true s.happened)))
-
--- a happening and its time
-abbrev pub moment_text : List SiteName → Happening → List ℕ
-moment_text ss h = codes "time " ++ (decimal h.time ++ (codes ": " ++ happening_text ss h.what))
-
--- the happening at which it fails
-abbrev pub at_text : List SiteName → Sight → Option Happening → List ℕ
-at_text ss s (Some h) = moment_text ss h
-at_text ss s None = end_text s
-
-abbrev pub place_text : List SiteName → Sight → Verdict → List ℕ
-place_text ss s (verdict.FailsAt at) = at_text ss s (slice_get s.happened at)
-place_text ss s _ = end_text s
+-- how a run stands whose program is in this state
+abbrev pub standing_of : State → Standing
+standing_of states.Halted = standing.Ended ends.Halted
+standing_of states.Quiet = standing.Ended ends.Quiet
+standing_of states.Running = standing.Running
 
 -- ---- the rows
 
 abbrev pub row_text : List SiteName → Sight → ClaimLine → Judged → List ℕ
 row_text ss s l j = cond (says_so j.verdict) (codes "  ok     " ++ (claim_at (Some l) ++ note j.tested))
-    (codes "  FAILS  " ++ (claim_at (Some l) ++ (codes "\n         " ++ (place_text ss s j.verdict ++ codes "\n"))))
+    (codes "  FAILS  " ++ (claim_at (Some l) ++ (codes "\n         " ++ (place_text ss (standing_of s.state) s.happened s.now j.verdict ++ codes "\n"))))
 
 -- a row for each claim below `always`
 abbrev pub rows_text : List SiteName → Sight → List ClaimLine → List Judged → List ℕ

@@ -1,3 +1,4 @@
 pub mod Below
+pub mod Course
 pub mod Findings
 pub mod Texts

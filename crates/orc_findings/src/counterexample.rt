@@ -1,11 +1,10 @@
 //! What stands below a claim that fails: the way, where in its run, and what the claim saw there.
 
 ghost use Rattle.std.specs.Prelude.{◌≡◌, ◌++◌, OnOk, true};
-ghost use Rattle.std.specs.List.{slice_get};
-ghost use Rattle.orc_findings.specs.Below.{at_or_end, at_time, end_word, ending_text, failing_text, headed, lines_or_usual, number_text, place_of, seen_all, seen_one, seen_text, time_text, timed, way_text};
+ghost use Rattle.orc_findings.specs.Below.{at_time, failing_text, headed, lines_or_usual, number_text, seen_all, seen_one, seen_text, time_text, timed, way_text};
 
-use crate::findings::{write_moment, write_numbered};
-use crate::happening::{write_occurrence, write_published};
+use crate::course::{Course, Standing, word_of, write_numbered};
+use crate::happening::write_occurrence;
 use orc_claims::Verdict;
 use orc_claims::happening::Happening;
 use orc_outcome::End;
@@ -72,18 +71,6 @@ pub fn write_way(
     write_or_usual(lines, text)
 }
 
-fn word_of(end: End) -> &'static str
-    ensures { result.now ≡ end_word end }
-{
-    match end {
-        End::Halted => "Halted",
-        End::Quiet => "Quiet",
-        End::Limit => "cut by the limit",
-        End::Full => "Full",
-        End::Memory => "without memory",
-    }
-}
-
 // Writes a time as far as a claim tells times apart: behind the last of them all are one.
 fn write_time(alloc: Global, latest: u64, time: u64, text: &mut Vec<u8>) -> Result<(), AllocError>
     ensures { OnOk result (text.new.items ≡ text.old.items ++ time_text latest time) }
@@ -141,50 +128,6 @@ pub struct Ended<'s> {
 }
 
 impl Ended<'_> {
-    // Writes how it ended, and what it published.
-    fn write_ending(&self, alloc: Global, text: &mut Vec<u8>) -> Result<(), AllocError>
-        ensures { OnOk result (text.new.items ≡ text.old.items ++ ending_text self.now.happenings.now self.now.end self.now.time) }
-    {
-        text.extend_from_slice(b"ended ")?;
-        text.extend_from_slice(word_of(self.end).as_bytes())?;
-        write_numbered(alloc, " at time ", self.time, text)?;
-        text.extend_from_slice(b", having published")?;
-        write_published(self.happenings, text)?;
-        Ok(())
-    }
-
-    // Writes the happening at this place.
-    fn write_happening(
-        &self,
-        alloc: Global,
-        sites: &[SiteName<'_>],
-        at: usize,
-        text: &mut Vec<u8>,
-    ) -> Result<(), AllocError>
-        ensures { OnOk result (text.new.items ≡ text.old.items ++ at_or_end sites.now self.now.happenings.now self.now.end self.now.time (slice_get self.now.happenings.now at)) }
-    {
-        match self.happenings.get(at) {
-            Some(happening) => write_moment(alloc, sites, happening, text),
-            None => self.write_ending(alloc, text),
-        }
-    }
-
-    // Writes where a claim fails, of which this is said.
-    fn write_place(
-        &self,
-        alloc: Global,
-        sites: &[SiteName<'_>],
-        verdict: Verdict,
-        text: &mut Vec<u8>,
-    ) -> Result<(), AllocError>
-        ensures { OnOk result (text.new.items ≡ text.old.items ++ place_of sites.now self.now.happenings.now self.now.end self.now.time verdict) }
-    {
-        match verdict {
-            Verdict::FailsAt(at) => self.write_happening(alloc, sites, at, text),
-            Verdict::Holds | Verdict::FailsAtEnd => self.write_ending(alloc, text),
-        }
-    }
-
     /// Writes the line that says where a claim fails in the run, of which this is said: at a happening with its time, or at the end; and in which order the
     /// run was made. The error is refused memory.
     pub fn write_failing(
@@ -197,8 +140,13 @@ impl Ended<'_> {
     ) -> Result<(), AllocError>
         ensures { OnOk result (text.new.items ≡ text.old.items ++ failing_text sites.now self.now.happenings.now self.now.end self.now.time verdict order) }
     {
+        let course = Course {
+            happenings: self.happenings,
+            standing: Standing::Ended(self.end),
+            time: self.time,
+        };
         text.extend_from_slice(b"         ")?;
-        self.write_place(alloc, sites, verdict, text)?;
+        course.write_place(alloc, sites, verdict, text)?;
         write_numbered(alloc, " (order ", order, text)?;
         text.extend_from_slice(b")\n")?;
         Ok(())

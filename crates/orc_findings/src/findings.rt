@@ -1,14 +1,16 @@
 //! What the claims of a test that stand below `always` say of a run.
 
-ghost use Rattle.std.specs.Prelude.{◌≡◌, ◌++◌, IfOk, OnOk, decimal, length};
+ghost use Rattle.std.specs.Prelude.{◌≡◌, ◌++◌, IfOk, OnOk, length};
 ghost use Rattle.std.specs.List.{count_by, slice_get};
 ghost use Rattle.orc_claims.specs.Verdicts.{says_so};
-ghost use Rattle.orc_findings.specs.Findings.{at_text, end_text, failing, findings_text, first_verdict, is_always, moment_text, place_text, row_text, rows_text, sight_of, state_text, unsaid, verdict_in};
+ghost use Rattle.orc_findings.specs.Course.{place_text};
+ghost use Rattle.orc_findings.specs.Findings.{failing, findings_text, first_verdict, is_always, row_text, rows_text, sight_of, standing_of, unsaid, verdict_in};
 
-use crate::happening::{write_happening, write_published};
+use crate::course::{Course, Standing};
 use orc_claims::claim::Claim;
 use orc_claims::happening::Happening;
 use orc_claims::{Judged, Verdict, judge};
+use orc_outcome::End;
 use orc_rules::entry::State;
 use orc_tally::{claim_text, note, write_sum};
 use orc_ways::test::{ClaimLine, SiteName, Test};
@@ -94,42 +96,15 @@ fn count_always(lines: &[ClaimLine<'_>]) -> usize
     }
 }
 
-fn state_text(state: State) -> &'static str
-    ensures { result.now ≡ state_text state }
+// How a run stands whose program is in this state.
+fn standing_of(state: State) -> Standing
+    ensures { result ≡ standing_of state }
 {
     match state {
-        State::Halted => "ended Halted",
-        State::Quiet => "ended Quiet",
-        State::Running => "not ended",
+        State::Halted => Standing::Ended(End::Halted),
+        State::Quiet => Standing::Ended(End::Quiet),
+        State::Running => Standing::Running,
     }
-}
-
-/// Writes a number behind these words. The error is refused memory.
-pub(crate) fn write_numbered(
-    alloc: Global,
-    words: &'static str,
-    number: u64,
-    text: &mut Vec<u8>,
-) -> Result<(), AllocError>
-    ensures { OnOk result (text.new.items ≡ text.old.items ++ (words.now ++ decimal number)) }
-{
-    let line = format!(in alloc; "{words}{number}")?;
-    text.extend_from_slice(line.as_bytes())
-}
-
-/// Writes a happening at which a claim fails, behind its time. The error is refused memory.
-pub(crate) fn write_moment(
-    alloc: Global,
-    sites: &[SiteName<'_>],
-    happening: &Happening,
-    text: &mut Vec<u8>,
-) -> Result<(), AllocError>
-    ensures { OnOk result (text.new.items ≡ text.old.items ++ moment_text sites.now happening.now) }
-{
-    write_numbered(alloc, "time ", happening.time, text)?;
-    text.extend_from_slice(b": ")?;
-    write_happening(sites, happening, text)?;
-    Ok(())
 }
 
 // What is said of the first claim, if there is one.
@@ -166,18 +141,7 @@ impl Seen<'_> {
         Ok(first_verdict(judged.as_slice()))
     }
 
-    // How it ended, and what it published.
-    fn write_end(&self, alloc: Global, text: &mut Vec<u8>) -> Result<(), AllocError>
-        ensures { OnOk result (text.new.items ≡ text.old.items ++ end_text (sight_of self.now)) }
-    {
-        text.extend_from_slice(state_text(self.state).as_bytes())?;
-        write_numbered(alloc, " at time ", self.time, text)?;
-        text.extend_from_slice(b", having published")?;
-        write_published(self.happenings, text)?;
-        Ok(())
-    }
-
-    // Where a claim fails, of which this is said.
+    // Writes where a claim fails, of which this is said.
     fn write_place(
         &self,
         alloc: Global,
@@ -185,28 +149,14 @@ impl Seen<'_> {
         verdict: Verdict,
         text: &mut Vec<u8>,
     ) -> Result<(), AllocError>
-        ensures { OnOk result (text.new.items ≡ text.old.items ++ place_text sites.now (sight_of self.now) verdict) }
+        ensures { OnOk result (text.new.items ≡ text.old.items ++ place_text sites.now (standing_of self.now.state) self.now.happenings.now self.now.time verdict) }
     {
-        match verdict {
-            Verdict::FailsAt(at) => self.write_at(alloc, sites, at, text),
-            Verdict::Holds | Verdict::FailsAtEnd => self.write_end(alloc, text),
-        }
-    }
-
-    // The happening at this place.
-    fn write_at(
-        &self,
-        alloc: Global,
-        sites: &[SiteName<'_>],
-        at: usize,
-        text: &mut Vec<u8>,
-    ) -> Result<(), AllocError>
-        ensures { OnOk result (text.new.items ≡ text.old.items ++ at_text sites.now (sight_of self.now) (slice_get self.now.happenings.now at)) }
-    {
-        match self.happenings.get(at) {
-            Some(happening) => write_moment(alloc, sites, happening, text),
-            None => self.write_end(alloc, text),
-        }
+        let course = Course {
+            happenings: self.happenings,
+            standing: standing_of(self.state),
+            time: self.time,
+        };
+        course.write_place(alloc, sites, verdict, text)
     }
 
     // The row of a claim.

@@ -2,6 +2,7 @@
 #![tactic(auto)]
 
 mod counterexample;
+mod course;
 mod findings;
 mod happening;
 

@@ -6,7 +6,6 @@ pub mod Drawing
 pub mod KnownFiles
 pub mod Listed
 pub mod LoadFaults
-pub mod Parted
 pub mod Schedules
 pub mod Scripting
 pub mod Showing

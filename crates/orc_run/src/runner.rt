@@ -16,7 +16,6 @@ ghost use Rattle.orc_cli.specs.Wanted.{keeps_journal};
 ghost use Rattle.orc_cli.specs.declared.job.Wanted.TheVariants as what;
 
 use crate::faults::RunFault;
-use crate::pieces::write_journal;
 use crate::times::write_times;
 use crate::unordered::run_unordered;
 // The engine. Another one with the same contract takes its place here.
@@ -24,7 +23,7 @@ use orc_cli::{Options, Order, Wanted};
 use orc_engine::{EngineFault, run_alone, run_parallel};
 use orc_load::{Loaded, load};
 use orc_outcome::{Played, Summary};
-use orc_output::{WriteFault, write_values};
+use orc_output::{WriteFault, write_journal, write_values};
 use orc_rules::answers::Answers;
 use std::alloc::Global;
 use std::io::Write;

@@ -11,12 +11,12 @@ ghost use Rattle.orc_run.specs.Shown.{HasShown, HasWritten, IsOwnUnshown, IsUnsh
 
 use crate::faults::RunFault;
 use crate::outcomes::{found_of, surveyed};
-use crate::pieces::write_journal;
 use orc_cli::SurveyOptions;
 use orc_engine::{EngineFault, run_alone};
 use orc_load::Loaded;
 use orc_orders::{Seen, are_same, place_of};
 use orc_outcome::{End, PlayFault, Played};
+use orc_output::write_journal;
 use orc_reference::{Happened, Wanted, find};
 use orc_rules::value::Value;
 use orc_schedules::{Ended, search};

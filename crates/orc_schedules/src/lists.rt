@@ -11,7 +11,8 @@ ghost use Rattle.orc_schedules.specs.Seen.{becomes, kept_by, names_of, nothing_y
 ghost use Rattle.orc_claims.specs.Claims.{published as all_published};
 ghost use Rattle.orc_schedules.specs.Watch.{all_at, named};
 
-use crate::calls::Calls;
+use crate::calls::copied_at;
+use crate::once::Once;
 use crate::sieve::Sieve;
 use orc_claims::happening::{Happening as Happened, Occurrence, Phase};
 use orc_rules::value::{Answer, Value};
@@ -40,7 +41,7 @@ pub struct Longer {
 /// Lists of what was seen by their numbers, each with the time to which it comes; the empty list at time 0 has the number 0. A list that is asked for again has the same number again, unless one with
 /// an equal hash came between.
 pub struct Lists {
-    calls: Calls,
+    calls: Once<Occurrence>,
     longer: Vec<Longer>,
     // The number of the list last made with a hash. Nothing is promised of it: what is found there is compared.
     places: Places,
@@ -98,7 +99,7 @@ impl Lists {
         ensures { result ≡ record { calls = []; longer = [] } }
     {
         Lists {
-            calls: Calls::new(alloc),
+            calls: Once::new(alloc),
             longer: Vec::new(alloc),
             places: Places::new(alloc),
         }
@@ -127,7 +128,7 @@ impl Lists {
     {
         match what {
             What::Published(value) => Some(Occurrence::Published(value)),
-            What::Call(number) => Some(self.calls.copied_at(number)),
+            What::Call(number) => Some(copied_at(self.calls.as_slice(), number)),
             What::Nothing => None,
         }
     }
@@ -239,7 +240,7 @@ impl Lists {
         ensures number { IfOk result (λ n. slice_get self.new.calls n ≡ Some what) }
         ensures kept { lists self.new ≡ lists self.old }
     {
-        self.calls.number_of(what)
+        self.calls.place(what)
     }
 
     // The number of a longer list: that of an equal list, or else of a new one. The error is refused memory. The lists that were there stay, in both

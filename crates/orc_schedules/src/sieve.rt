@@ -1,8 +1,7 @@
 //! What a search keeps of what happens.
 
-ghost use Rattle.std.specs.Prelude.{◌≡◌, ◌<◌, ◌^◌, ◌∷◌, [], length, IfOk, option_to_list};
+ghost use Rattle.std.specs.Prelude.{◌≡◌, ◌∷◌, [], IfOk, option_to_list};
 ghost use Rattle.orc_claims.specs.declared.happening.Occurrence.TheVariants.{Published as published};
-ghost use Rattle.orc_tally.specs.Sight.{number_from};
 ghost use Rattle.orc_schedules.specs.Seen.{becomes, latest_in, names_of, sites_of};
 ghost use Rattle.orc_schedules.specs.Watch.{is_named, named};
 
@@ -10,7 +9,7 @@ use crate::counts::in_place;
 use crate::watch::Watch;
 use orc_claims::happening::{Occurrence, Phase};
 use orc_rules::value::Value;
-use orc_tally::ClaimSite;
+use orc_tally::{ClaimSite, claim_number};
 use std::alloc::AllocError;
 
 /// What a search keeps: publications alone; or what is watched for, of sites with the numbers that claims have for them.
@@ -18,27 +17,6 @@ use std::alloc::AllocError;
 pub(crate) enum Sieve<'a> {
     Publications,
     Named(&'a Watch, &'a [ClaimSite]),
-}
-
-// The number that claims have for a site with so many arguments; one past the last where they name none such.
-fn number_of(sites: &[ClaimSite], site: u32, arguments: usize) -> u32
-    requires { length sites.now < 2 ^ 32 }
-    ensures { result ≡ number_from 0 sites.now site arguments }
-{
-    let mut number = 0;
-    let mut rest = sites;
-    loop {
-        match rest {
-            [] => return number,
-            [known, more @ ..] => {
-                if known.site == site && known.arguments == arguments {
-                    return number;
-                }
-                number += 1;
-                rest = more;
-            }
-        }
-    }
 }
 
 impl Sieve<'_> {
@@ -80,7 +58,7 @@ impl Sieve<'_> {
                 let Some(placed) = in_place(args) else {
                     return Err(AllocError);
                 };
-                let number = number_of(sites, site, args.len());
+                let number = claim_number(sites, site, args.len());
                 let what = Occurrence::Call(number, placed, phase);
                 if watch.names(&what) {
                     Ok(Some(what))

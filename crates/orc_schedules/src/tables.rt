@@ -22,9 +22,10 @@ use crate::ended::Ended;
 use crate::judging::fails_by;
 use crate::listed::Moves;
 use crate::lists::Lists;
+use crate::once::Once;
 use crate::sieve::Sieve;
-use crate::states::{Key, States};
-use crate::told::{Ends, Told};
+use crate::states::Key;
+use crate::told::Told;
 use orc_claims::claim::Claim;
 use orc_outcome::End;
 use orc_rules::answers::Answers;
@@ -39,8 +40,8 @@ pub(crate) struct Tables {
     pub(crate) terms: Terms,
     pub(crate) counts: Counts,
     pub(crate) lists: Lists,
-    pub(crate) states: States,
-    pub(crate) ends: Ends,
+    pub(crate) states: Once<Key>,
+    pub(crate) ends: Once<Told>,
     pub(crate) longest: u64,
 }
 
@@ -68,8 +69,8 @@ impl Tables {
             terms,
             counts: Counts::new(alloc)?,
             lists: Lists::new(alloc),
-            states: States::new(alloc),
-            ends: Ends::new(alloc),
+            states: Once::new(alloc),
+            ends: Once::new(alloc),
             longest: 0,
         })
     }
@@ -79,8 +80,8 @@ impl Tables {
         ensures { OnOk result (IsBegun term self.old self.new) }
     {
         self.lists = Lists::new(alloc);
-        self.states = States::new(alloc);
-        self.ends = Ends::new(alloc);
+        self.states = Once::new(alloc);
+        self.ends = Once::new(alloc);
         self.longest = 0;
         self.states.add(Key {
             term,

@@ -6,7 +6,7 @@ mod sight;
 mod table;
 mod told;
 
-pub use sight::{ClaimSite, happenings_of};
+pub use sight::{ClaimSite, claim_number, happenings_of};
 pub use table::{
     Broken, Call, CaseReport, Counterexample, Report, Row, Searched, Shown, claim_text, failing,
     failure_at, is_held, is_open, note, write_sum,

@@ -17,8 +17,8 @@ pub struct ClaimSite {
     pub arguments: usize,
 }
 
-// The number that claims have for a site with so many arguments; one past the last where they name none such.
-fn number_of(sites: &[ClaimSite], site: u32, arguments: usize) -> u32
+/// The number that claims have for a site with so many arguments: its place among these, or one past the last where they name none such.
+pub fn claim_number(sites: &[ClaimSite], site: u32, arguments: usize) -> u32
     requires { length sites.now < 2 ^ 32 }
     ensures { result ≡ number_from 0 sites.now site arguments }
 {
@@ -45,7 +45,7 @@ fn renumbered(sites: &[ClaimSite], entry: Entry) -> Entry
 {
     match entry {
         Entry::Call(token, call, site, args) => {
-            let number = number_of(sites, site, args.as_slice().len());
+            let number = claim_number(sites, site, args.as_slice().len());
             Entry::Call(token, call, number, args)
         }
         other => other,

@@ -5,7 +5,7 @@ use Rattle.orc_journal.specs.declared.journal.Version.TheVariants.{Two}
 use Rattle.orc_journal.specs.Written.{Written}
 use Rattle.orc_journal_text.specs.Texts.{journal_text}
 use Rattle.orc_run.specs.Running.{written}
-use Rattle.orc_run.proofs.Parted.{on_ok}
+use Rattle.orc_output.proofs.Parted.{on_ok}
 use Rattle.orc_run.proofs.runner.write_run.Goals as goal
 
 -- the journal that is there is the run's, and its text was written

@@ -6,7 +6,7 @@ use Rattle.orc_run.specs.Running.{Ran}
 use Rattle.orc_run.specs.Tested.{options_for}
 use Rattle.orc_run.specs.TestFaults.{all_texts, AreUnwritten, IsUnfound}
 use Rattle.orc_run.specs.declared.tests.Untested.{Untested}
-use Rattle.orc_run.proofs.Parted.{on_ok}
+use Rattle.orc_output.proofs.Parted.{on_ok}
 use Rattle.orc_run.proofs.Untold.{unfound_unwritten}
 use Rattle.orc_run.proofs.tests.Tester.write_journal.Goals as goal
 

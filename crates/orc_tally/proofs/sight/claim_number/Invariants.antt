@@ -1,7 +1,7 @@
 -- What is left gives the same number.
 use Rattle.std.proofs.Common.{◌≡◌, ◌+◌, length}
 use Rattle.orc_tally.specs.Sight.{number_from}
-use Rattle.orc_schedules.proofs.sieve.number_of.Given as goal
+use Rattle.orc_tally.proofs.sight.claim_number.Given as goal
 
 abbrev pub decreases-loop-rest : goal.decreases-loop-rest
 decreases-loop-rest l = length l.rest

@@ -1,0 +1,126 @@
+//! Where in a run a claim fails.
+
+ghost use Rattle.std.specs.Prelude.{◌≡◌, ◌++◌, OnOk, decimal};
+ghost use Rattle.std.specs.List.{slice_get};
+ghost use Rattle.orc_findings.specs.Course.{at_text, end_text, end_word, moment_text, place_text, standing_text};
+
+use crate::happening::{write_happening, write_published};
+use orc_claims::Verdict;
+use orc_claims::happening::Happening;
+use orc_outcome::End;
+use orc_ways::test::SiteName;
+use std::alloc::{AllocError, Global};
+
+/// How a run stands where a claim is judged.
+#[derive(Clone, Copy)]
+pub(crate) enum Standing {
+    Ended(End),
+    Running,
+}
+
+/// The course of a run in which a claim may fail: what happened, where the sites have the numbers that the claims have for them; how the run stands at
+/// the end; and the time then.
+#[derive(Clone, Copy)]
+pub(crate) struct Course<'s> {
+    pub(crate) happenings: &'s [Happening],
+    pub(crate) standing: Standing,
+    pub(crate) time: u64,
+}
+
+/// What an end is called.
+pub(crate) fn word_of(end: End) -> &'static str
+    ensures { result.now ≡ end_word end }
+{
+    match end {
+        End::Halted => "Halted",
+        End::Quiet => "Quiet",
+        End::Limit => "cut by the limit",
+        End::Full => "Full",
+        End::Memory => "without memory",
+    }
+}
+
+fn write_standing(standing: Standing, text: &mut Vec<u8>) -> Result<(), AllocError>
+    ensures { OnOk result (text.new.items ≡ text.old.items ++ standing_text standing) }
+{
+    match standing {
+        Standing::Ended(end) => {
+            text.extend_from_slice(b"ended ")?;
+            text.extend_from_slice(word_of(end).as_bytes())
+        }
+        Standing::Running => text.extend_from_slice(b"not ended"),
+    }
+}
+
+/// Writes a number behind these words. The error is refused memory.
+pub(crate) fn write_numbered(
+    alloc: Global,
+    words: &'static str,
+    number: u64,
+    text: &mut Vec<u8>,
+) -> Result<(), AllocError>
+    ensures { OnOk result (text.new.items ≡ text.old.items ++ (words.now ++ decimal number)) }
+{
+    let line = format!(in alloc; "{words}{number}")?;
+    text.extend_from_slice(line.as_bytes())
+}
+
+// Writes a happening at which a claim fails, behind its time. The error is refused memory.
+fn write_moment(
+    alloc: Global,
+    sites: &[SiteName<'_>],
+    happening: &Happening,
+    text: &mut Vec<u8>,
+) -> Result<(), AllocError>
+    ensures { OnOk result (text.new.items ≡ text.old.items ++ moment_text sites.now happening.now) }
+{
+    write_numbered(alloc, "time ", happening.time, text)?;
+    text.extend_from_slice(b": ")?;
+    write_happening(sites, happening, text)?;
+    Ok(())
+}
+
+impl Course<'_> {
+    // Writes how the run stands at the end, and what it published.
+    fn write_end(&self, alloc: Global, text: &mut Vec<u8>) -> Result<(), AllocError>
+        ensures { OnOk result (text.new.items ≡ text.old.items ++ end_text self.now.standing self.now.happenings.now self.now.time) }
+    {
+        write_standing(self.standing, text)?;
+        write_numbered(alloc, " at time ", self.time, text)?;
+        text.extend_from_slice(b", having published")?;
+        write_published(self.happenings, text)?;
+        Ok(())
+    }
+
+    // Writes the happening at this place.
+    fn write_at(
+        &self,
+        alloc: Global,
+        sites: &[SiteName<'_>],
+        at: usize,
+        text: &mut Vec<u8>,
+    ) -> Result<(), AllocError>
+        ensures { OnOk result (text.new.items ≡ text.old.items ++ at_text sites.now self.now.standing self.now.happenings.now self.now.time (slice_get self.now.happenings.now at)) }
+    {
+        match self.happenings.get(at) {
+            Some(happening) => write_moment(alloc, sites, happening, text),
+            None => self.write_end(alloc, text),
+        }
+    }
+
+    /// Writes where a claim fails, of which this is said. The error is refused memory.
+    pub(crate) fn write_place(
+        &self,
+        alloc: Global,
+        sites: &[SiteName<'_>],
+        verdict: Verdict,
+        text: &mut Vec<u8>,
+    ) -> Result<(), AllocError>
+        ensures { OnOk result (text.new.items ≡ text.old.items ++ place_text sites.now self.now.standing self.now.happenings.now self.now.time verdict) }
+    {
+        match verdict {
+            Verdict::FailsAt(at) => self.write_at(alloc, sites, at, text),
+            Verdict::Holds | Verdict::FailsAtEnd => self.write_end(alloc, text),
+        }
+    }
+}

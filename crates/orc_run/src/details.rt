@@ -1,0 +1,257 @@
+//! What stands below each failure of a test.
+
+ghost use Rattle.std.specs.Prelude.{◌≡◌, [], IfErr, IfOk, false};
+ghost use Rattle.orc_orders.specs.Trials.{IsMadeAgain, texts};
+ghost use Rattle.orc_ways.specs.Values.{sites_of};
+ghost use Rattle.orc_run.specs.Details.{AreDetails, FailsAt, IsDetail, IsScheduleDetail, IsTrialDetail};
+ghost use Rattle.orc_run.specs.Tested.{IsOwnFault};
+ghost use Rattle.orc_run.specs.TestFaults.{all_texts, AreUnshown, IsNoMemory, IsNoText, IsUnshown};
+
+use crate::counterexample::{schedule_text, trial_text, write_picture};
+use crate::failing_ways::failing_ways;
+use crate::scripts::{CaseScripts, script_at, unusual_lines};
+use crate::searched::Searcher;
+use crate::tests::{NO_MEMORY, NO_TEXT, Tester, Untested, run_fault};
+use orc_cases::Ways;
+use orc_findings::{Seen, write_each};
+use orc_orders::{Run, state_at, try_again};
+use orc_tally::{Counterexample, Row, Shown as Failing};
+use orc_ways::test::Test;
+use std::alloc::AllocError;
+use std::thread::Threads;
+
+impl<R: Threads + Sync> Tester<'_, '_, R> {
+    // Makes the run again that shows a failure.
+    #[tactic(auto, using(crate::proofs::Untold::unmade_again))]
+    fn run_again(&self, script: &[u8], shown: Failing) -> Result<Run, Untested>
+        ensures made { IfOk result (IsMadeAgain self.now.trials.now.source.now (sites_of self.now.trials.now.sites.now) self.now.trials.now.limit script.now) }
+        ensures cause { IfErr result (IsUnshown self.now.trials.now.source.now 1 self.now.trials.now.limit script.now) }
+        ensures sound { IfErr result (λ f. IsOwnFault f → ⊥) }
+    {
+        match try_again(self.alloc, self.trials, script, shown.failure.order) {
+            Ok(run) => Ok(run),
+            Err(fault) => Err(Untested::Fault(run_fault(fault))),
+        }
+    }
+
+    // Those lines of the way that shows a failure that have a range, with the numbers with which the claim fails in a way. Nothing where it isn't explained.
+    fn ranges_of(
+        &self,
+        cases: &[CaseScripts],
+        ways: &[Ways],
+        claim: usize,
+        shown: Failing,
+    ) -> Result<Vec<u8>, Untested>
+        ensures cause { IfErr result IsNoMemory }
+        ensures sound { IfErr result (λ f. IsOwnFault f → ⊥) }
+    {
+        let (true, Some(case), Some(ways)) = (
+            self.explains,
+            cases.get(shown.case),
+            ways.get(shown.case),
+        ) else {
+            return Ok(Vec::new(self.alloc));
+        };
+        match self.failing_ranges(case, ways, claim, shown.failure.way) {
+            Ok(lines) => Ok(lines),
+            Err(_) => Err(NO_MEMORY),
+        }
+    }
+
+    // The same of a case.
+    fn failing_ranges(
+        &self,
+        case: &CaseScripts,
+        ways: &Ways,
+        claim: usize,
+        way: u64,
+    ) -> Result<Vec<u8>, AllocError> {
+        if !ways.has_range(way) {
+            return Ok(Vec::new(self.alloc));
+        }
+        let claims = self
+            .trials
+            .claims
+            .get(claim..claim.saturating_add(1))
+            .unwrap_or(&[]);
+        let scripts = case.scripts.as_slice();
+        let fails = failing_ways(
+            self.rt,
+            self.alloc,
+            self.trials,
+            self.workers,
+            claims,
+            scripts,
+        )?;
+        ways.failing_ranges(self.alloc, way, fails.as_slice())
+    }
+
+    // What explains a failure: these lines, and the picture of the run that shows it. Nothing where it isn't explained.
+    fn explanation(&self, script: &[u8], ranges: &[u8], run: Run) -> Result<Vec<u8>, Untested>
+        ensures unasked { IfOk result (λ text. self.now.explains ≡ false → text.items ≡ []) }
+        ensures cause { IfErr result IsNoText }
+        ensures sound { IfErr result (λ f. IsOwnFault f → ⊥) }
+    {
+        let mut text = Vec::new(self.alloc);
+        if !self.explains {
+            return Ok(text);
+        }
+        if write_each(b"         fails with ", ranges, &mut text).is_err() {
+            return Err(NO_TEXT);
+        }
+        match write_picture(self.alloc, self.trials.source, script, run, &mut text) {
+            Ok(()) => Ok(text),
+            Err(_) => Err(NO_TEXT),
+        }
+    }
+
+    // Makes the run again that shows that a claim fails, and sees that it fails there where it did. The run of an order is the same each time, so the
+    // error is that of the run, or refused memory.
+    fn fail_again(&self, script: &[u8], claim: usize, shown: Failing) -> Result<Run, Untested>
+        ensures fails { IfOk result (FailsAt self.now.trials.now script.now claim shown.failure.verdict) }
+        ensures cause { IfErr result (IsUnshown self.now.trials.now.source.now 1 self.now.trials.now.limit script.now) }
+        ensures sound { IfErr result (λ f. IsOwnFault f → ⊥) }
+    {
+        let run = self.run_again(script, shown)?;
+        let seen = Seen {
+            happenings: run.happenings.as_slice(),
+            state: state_at(run.played.summary.end),
+            time: run.played.summary.now,
+        };
+        let Ok(Some(verdict)) = seen.verdict(self.alloc, self.trials.claims, claim) else {
+            return Err(NO_MEMORY);
+        };
+        if verdict == shown.failure.verdict {
+            Ok(run)
+        } else {
+            Err(NO_MEMORY)
+        }
+    }
+
+    // What stands below a claim that fails: what isn't usual in the way that shows it, where it fails there, and what explains it.
+    #[tactic(auto, using(crate::proofs::Untold::text_unshown))]
+    fn details_of_trial(
+        &self,
+        script: &[u8],
+        lines: &[u8],
+        ranges: &[u8],
+        number: usize,
+        claim: usize,
+        shown: Failing,
+    ) -> Result<Vec<u8>, Untested>
+        ensures below { IfOk result (λ text. IsTrialDetail self.now.trials.now self.now.explains script.now lines.now number claim shown.failure text.items) }
+        ensures cause { IfErr result (IsUnshown self.now.trials.now.source.now 1 self.now.trials.now.limit script.now) }
+        ensures sound { IfErr result (λ f. IsOwnFault f → ⊥) }
+    {
+        let run = self.fail_again(script, claim, shown)?;
+        let Ok(mut text) = trial_text(self.alloc, self.trials, number, lines, &run, shown.failure)
+        else {
+            return Err(NO_TEXT);
+        };
+        let more = self.explanation(script, ranges, run)?;
+        if text.extend_from_slice(more.as_slice()).is_err() {
+            return Err(NO_TEXT);
+        }
+        Ok(text)
+    }
+
+    // What stands below a claim that a schedule breaks which no order showed: what isn't usual in its way, and what the claim saw there.
+    fn details_of_schedule(
+        &self,
+        test: &Test<'_>,
+        script: &[u8],
+        lines: &[u8],
+        number: usize,
+        claim: usize,
+    ) -> Result<Vec<u8>, Untested>
+        ensures below { IfOk result (λ text. IsScheduleDetail self.now.trials.now script.now lines.now number claim text.items) }
+        ensures cause { IfErr result (IsUnshown self.now.trials.now.source.now 1 self.now.trials.now.limit script.now) }
+        ensures sound { IfErr result (λ f. IsOwnFault f → ⊥) }
+    {
+        let searcher = Searcher {
+            alloc: self.alloc,
+            trials: self.trials,
+            test,
+            cases: &[],
+            reports: &[],
+            most: self.states,
+        };
+        let Ok(found) = searcher.see(script, claim) else {
+            return Err(NO_MEMORY);
+        };
+        match schedule_text(self.alloc, self.trials, number, lines, found) {
+            Ok(text) => Ok(text),
+            Err(_) => Err(NO_TEXT),
+        }
+    }
+
+    // The details of the failure with this number.
+    #[tactic(auto, using(crate::proofs::Untold::of_script, crate::proofs::Untold::memory_unshown, crate::proofs::Untold::texts_unshown))]
+    fn details_of(
+        &self,
+        test: &Test<'_>,
+        cases: &[CaseScripts],
+        ways: &[Ways],
+        number: usize,
+        claim: usize,
+        found: Counterexample,
+    ) -> Result<Vec<u8>, Untested>
+        ensures detail { IfOk result (λ text. IsDetail self.now.trials.now self.now.explains ways.now cases.now number claim found text.items) }
+        ensures cause { IfErr result (AreUnshown self.now.trials.now.source.now self.now.trials.now.limit (all_texts cases.now)) }
+        ensures sound { IfErr result (λ f. IsOwnFault f → ⊥) }
+    {
+        let unusual = unusual_lines(self.alloc, ways, found)?;
+        let lines = unusual.as_slice();
+        let script = script_at(cases, found)?;
+        match found {
+            Counterexample::Trial(shown) => {
+                let ranges = self.ranges_of(cases, ways, claim, shown)?;
+                let text = self.details_of_trial(
+                    script,
+                    lines,
+                    ranges.as_slice(),
+                    number,
+                    claim,
+                    shown,
+                )?;
+                Ok(text)
+            }
+            Counterexample::Schedule(_) => {
+                let text = self.details_of_schedule(test, script, lines, number, claim)?;
+                Ok(text)
+            }
+        }
+    }
+
+    /// The details of each failure, in the order of the rows.
+    #[tactic(auto, using(crate::proofs::Untold::texts_unshown))]
+    pub(crate) fn all_details(
+        &self,
+        test: &Test<'_>,
+        cases: &[CaseScripts],
+        ways: &[Ways],
+        rows: &[Row],
+    ) -> Result<Vec<Vec<u8>>, Untested>
+        ensures details { IfOk result (λ all. AreDetails self.now.trials.now self.now.explains ways.now cases.now 1 rows.now (texts all.items)) }
+        ensures cause { IfErr result (AreUnshown self.now.trials.now.source.now self.now.trials.now.limit (all_texts cases.now)) }
+        ensures sound { IfErr result (λ f. IsOwnFault f → ⊥) }
+    {
+        let mut all = Vec::new(self.alloc);
+        let mut rest = rows;
+        loop {
+            match rest {
+                [] => return Ok(all),
+                [row, more @ ..] => {
+                    if let Row::Fails(claim, found) = row {
+                        let number = all.len() + 1;
+                        let details = self.details_of(test, cases, ways, number, *claim, *found)?;
+                        if all.push(details).is_err() {
+                            return Err(NO_TEXT);
+                        }
+                    }
+                    rest = more;
+                }
+            }
+        }
+    }
+}
