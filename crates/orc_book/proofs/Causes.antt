@@ -1,8 +1,7 @@
 -- Why the calls of a book are refused.
-use Rattle.std.proofs.Common.{◌≡◌, ◌≤◌, ◌<◌, ◌+◌, ◌^◌, ℕ, List, length, refl, sym, ap, ◌∙◌, arith, inl, inr, ◌⊎◌, Bool, true, Result, Ok, Err}
+use Rattle.std.proofs.Common.{◌≡◌, ℕ, List, refl, sym, ap, ◌∙◌, inl, inr, ◌⊎◌, Bool, true, Result, Ok, Err}
 use Rattle.std.specs.Prelude.{IfErr}
 use Rattle.orc_rules.specs.Nodes.{Listing, code, definitions}
-use Rattle.orc_rules.specs.declared.limits.TheConstants.{MOST_TOKENS}
 use Rattle.orc_rules.specs.declared.value.Value.{Value}
 use Rattle.orc_frames.specs.Doing.{taken, what_by}
 use Rattle.orc_frames.specs.Spelling.{Path, whole, aiding}
@@ -19,20 +18,11 @@ use Rattle.orc_word.specs.declared.view.View.{View}
 use Rattle.orc_book.specs.declared.token.Token.{Token as Out}
 use Rattle.orc_book.specs.declared.token.BookFault.{BookFault}
 use Rattle.orc_book.specs.declared.token.BookFault.TheVariants as fault
-use Rattle.orc_book.specs.Held.{Held, Hold, AreHeld, out_at}
+use Rattle.orc_book.specs.Held.{Held}
 use Rattle.orc_book.specs.Words.{HasNoWord}
 use Rattle.orc_book.specs.Refusals.{is_opening, is_other, is_prune, is_step, IsTaken, IsUnopened, IsRefusedOpening, IsRefusedStep}
 use Rattle.orc_book.proofs.Feeding.{sends-value}
-use Rattle.orc_book.proofs.Ones.{one-slot, tokens-few}
-
-most-tokens : MOST_TOKENS ≡ 65536
-most-tokens = refl
-
--- where so many tokens of a group are out that the number of one more doesn't fit, there are more than there may be
-pub too-many : (s : Records) (ps : List Hold) → AreHeld ps s → (i out : ℕ) → out ≡ out_at ps i → (out + 1 < 2 ^ 64 → ⊥) → (calls more : ℕ) → MOST_TOKENS < length s.tokens + calls + more
-too-many s ps H i out is over calls more =
-    let least : 2 ^ 64 ≤ out + 1 = omega (arith, over) in
-    omega (arith, most-tokens, is, least, H.tokens i, tokens-few s i s.tokens)
+use Rattle.orc_book.proofs.Ones.{one-slot}
 
 -- what holds of each error
 pub weaker-err : {A E : Type 0} (r : Result A E) (P Q : E → Type 0) → ((e : E) → P e → Q e) → IfErr r P → IfErr r Q

@@ -1,7 +1,8 @@
 -- Why a book's calls are refused. A fault comes only for the cause that is said here: the first that there is.
-use Rattle.std.specs.Prelude.{◌≡◌, ◌≤◌, ◌⊎◌, ◌-◌, ℕ, List, length, Bool, true, false, Option, None, Some, slice_get}
+use Rattle.std.specs.Prelude.{◌≡◌, ◌≤◌, ◌<◌, ◌⊎◌, ◌-◌, ℕ, List, length, Bool, true, false, Option, None, Some, slice_get}
 use Rattle.orc_rules.specs.Nodes.{Listing, code, definitions}
 use Rattle.orc_rules.specs.Sites.{Site}
+use Rattle.orc_rules.specs.Timed.{IsIn}
 use Rattle.orc_rules.specs.declared.value.Answer.{Answer}
 use Rattle.orc_frames.specs.Doing.{is_wait}
 use Rattle.orc_frames.specs.declared.action.Action.{Action}
@@ -24,6 +25,7 @@ use Rattle.orc_word.specs.Views.{group_of, deeds_of, Marks}
 use Rattle.orc_word.specs.declared.bits.Bit.TheVariants.{Killed}
 use Rattle.orc_book.specs.Held.{Held, IsUnkept, IsGone, out_at}
 use Rattle.orc_book.specs.Words.{HasNoWord}
+use Rattle.orc_book.specs.declared.lookup.Found.{Found}
 use Rattle.orc_book.specs.declared.token.Token.{Token as Out}
 use Rattle.orc_book.specs.declared.word_table.Kind.{Kind}
 use Rattle.orc_book.specs.declared.word_table.Kind.TheVariants as kind
@@ -105,6 +107,17 @@ module _ {X : Type 0} (l : Listing) (b : Held) (k : Out X) where
 
   abbrev pub does_next : Token → Action
   does_next t = what_of (code l) (definitions l) b.ledger t
+
+  -- f is what the book knows of the token: its record, what it does next, the number of its group, and how many tokens of that are out
+  pub record HasFound (f : Found) : Type 0 where
+    pub unkept : IsUnkept b k.slot k.serial k.pass f.its
+    pub there : IsIn f.its b.ledger.tokens
+    pub what : f.what ≡ does_next f.its
+    pub group : f.group ≡ group_at b.ledger.steps f.its.step
+    pub out : f.out ≡ out_at b.posts f.group
+    pub some : 1 ≤ f.out
+    pub post : f.group < length b.posts
+    pub found : IsFound f.its
 
   -- and what it does next is what the call takes
   abbrev pub IsTaken : (Action → Bool) → Token → Type 0

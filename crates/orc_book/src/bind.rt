@@ -1,11 +1,8 @@
 //! A cell is bound: what stood inside its right side goes.
-ghost use Rattle.std.specs.Prelude.{◌≡◌, ◌≤◌, ◌+◌, ◌⊎◌, ℕ, List, true, false, IfOk, IfErr, IfSome, MatchOption, OnOk, OnErr, vec_len, vec_capacity};
-ghost use Rattle.orc_rules.specs.Nodes.{code, definitions};
+ghost use Rattle.std.specs.Prelude.{◌≡◌, ◌≤◌, ◌+◌, ◌⊎◌, ℕ, List, IfOk, IfErr, IfSome, OnOk, OnErr, vec_len, vec_capacity};
 ghost use Rattle.orc_rules.specs.Timed.{IsIn};
-ghost use Rattle.orc_rules.specs.declared.value.Value.{Value as ValueOf};
 ghost use Rattle.orc_indexes.specs.Same.{weight};
 ghost use Rattle.orc_tables.specs.declared.records.Token.{Token as Its};
-ghost use Rattle.orc_ledger_spec.specs.Doing.{what_of};
 ghost use Rattle.orc_ledger_spec.specs.Moves.{Moves};
 ghost use Rattle.orc_ledger_spec.specs.declared.results.Moved.TheVariants as moved;
 ghost use Rattle.orc_word.specs.declared.view.View.{View};
@@ -22,7 +19,6 @@ use crate::token::{BookFault, Refused, Token, fault_of};
 use orc_graph::Graph;
 use orc_ledger::{Action, stands};
 use orc_log::Program;
-use orc_tables::Token as Record;
 use orc_word::{Bit, Groups, Naming, Pass};
 use std::alloc::AllocError;
 
@@ -55,18 +51,6 @@ pub(crate) fn reserve_all<J: Naming>(
 }
 
 impl<P: Program + Naming> Book<P> {
-    // The cell that a token binds next, if it does.
-    fn binds_next(&self, graph: &Graph, its: &Record) -> Option<u64>
-        requires graph { graph.now ≡ P.listing }
-        ensures says { MatchOption result (is_bind (what_of (code P.listing) (definitions P.listing) self.now.ledger its.now) ≡ false) (λ _. is_bind (what_of (code P.listing) (definitions P.listing) self.now.ledger its.now) ≡ true) }
-        ensures cell { IfSome result (λ c. (v : ValueOf) × (what_of (code P.listing) (definitions P.listing) self.now.ledger its.now ≡ Action.Bind c v)) }
-    {
-        match self.ledger.what(graph, its) {
-            Action::Bind(cell, _) => Some(cell),
-            _ => None,
-        }
-    }
-
     /// A cell takes what the token publishes: all that stands inside its right side goes. The token's pass has won the mark that its group is killed, and
     /// is to be left with those of all records that went. Refused as Gone where the token isn't out or the mark was set already, as Wrong where it does something
     /// else next, as Full, Limit or Memory where the ledger refuses the entry for that or memory is refused.
@@ -88,15 +72,13 @@ impl<P: Program + Naming> Book<P> {
         ensures refused { IfErr result (λ r. (self.new ≡ self.old) × (r.back.serial ≡ token.serial) × (r.back.slot ≡ token.slot) × (group_of r.back.pass ≡ group_of token.pass)) }
         ensures why { IfErr result (λ r. IsRefusedBind P.listing self.old token r.back.pass r.why) }
     {
-        let found = match self.find(&token) {
+        let found = match self.find(graph, &token) {
             Ok(found) => found,
             Err(why) => return Err(Refused { why, back: token }),
         };
-        let Some(_cell) = self.binds_next(graph, &found.its) else {
-            return Err(Refused {
-                why: BookFault::Wrong,
-                back: token,
-            });
+        let Action::Bind(_cell, _value) = found.what else {
+            let why = BookFault::Wrong;
+            return Err(Refused { why, back: token });
         };
         if let Err(fault) = self.ledger.within(0, 0, 0) {
             return Err(Refused {

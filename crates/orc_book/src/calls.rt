@@ -1,16 +1,14 @@
 //! Calls of sites: a token makes one, and it is answered.
 ghost use Rattle.std.specs.Prelude.{◌≡◌, ◌≤◌, ◌<◌, ◌+◌, ◌⊎◌, ℕ, List, length, true, Some, Option, IfOk, IfErr, IfSome, MatchOption, OnOk, OnErr};
-ghost use Rattle.orc_rules.specs.Nodes.{code, definitions};
 ghost use Rattle.orc_rules.specs.Timed.{IsIn};
 ghost use Rattle.orc_tables.specs.declared.records.Token.{Token as Its};
 ghost use Rattle.orc_tables.specs.declared.records.Call.{Call as ItsCall};
 ghost use Rattle.orc_tables.specs.Steps.{group_at};
 ghost use Rattle.orc_ledger_spec.specs.Answers.{IsReturned, Pends};
-ghost use Rattle.orc_ledger_spec.specs.Doing.{what_of};
 ghost use Rattle.orc_ledger_spec.specs.Requests.{IsMade};
 ghost use Rattle.orc_word.specs.Views.{group_of};
 ghost use Rattle.orc_book.specs.Held.{IsUnkept, KeepsWords, HasStayed, word_at};
-ghost use Rattle.orc_book.specs.Refusals.{is_call, IsRefusedCall, IsRefusedAnswer};
+ghost use Rattle.orc_book.specs.Refusals.{IsRefusedCall, IsRefusedAnswer};
 
 use crate::book::Book;
 use crate::post::{bring_at, out_in, reserve_at, send_at, take_at};
@@ -21,7 +19,6 @@ use orc_ledger_spec::ReturnFault;
 use orc_log::Program;
 use orc_rules::answers::Answers;
 use orc_rules::value::{Answer, Args};
-use orc_tables::Token as Record;
 use orc_word::{Naming, Pass};
 
 /// What has become of a call that was answered.
@@ -34,18 +31,6 @@ pub enum Answered<P: Naming> {
 }
 
 impl<P: Program + Naming> Book<P> {
-    // Whether a token calls a site next.
-    fn calls_next(&self, graph: &Graph, its: &Record) -> bool
-        requires graph { graph.now ≡ P.listing }
-        ensures says { result ≡ is_call (what_of (code P.listing) (definitions P.listing) self.now.ledger its.now) }
-        ensures next { result ≡ true → what_of (code P.listing) (definitions P.listing) self.now.ledger its.now ≡ Action.Call }
-    {
-        match self.ledger.what(graph, its) {
-            Action::Call => true,
-            _ => false,
-        }
-    }
-
     /// A call of a site with values: it pends where the token was, and the book holds its pass. Gives its number. `args` is lent for the arguments.
     /// Refused as Gone where the token isn't out, as Wrong where it does something else next, as Full or Limit where the entry is over one, else as Memory.
     pub fn call(
@@ -62,16 +47,14 @@ impl<P: Program + Naming> Book<P> {
         ensures refused { IfErr result (λ r. HasStayed self.old self.new × (r.back ≡ token)) }
         ensures why { IfErr result (λ r. IsRefusedCall P.listing self.old token r.why) }
     {
-        let found = match self.find(&token) {
+        let found = match self.find(graph, &token) {
             Ok(found) => found,
             Err(why) => return Err(Refused { why, back: token }),
         };
-        if !self.calls_next(graph, &found.its) {
-            return Err(Refused {
-                why: BookFault::Wrong,
-                back: token,
-            });
-        }
+        let Action::Call = found.what else {
+            let why = BookFault::Wrong;
+            return Err(Refused { why, back: token });
+        };
         if let Err(fault) = self.ledger.within(0, 0, 0) {
             return Err(Refused {
                 why: fault_of(fault),

@@ -1,20 +1,21 @@
 //! Tokens that are out, as the book finds them.
-ghost use Rattle.std.specs.Prelude.{◌≡◌, ◌≤◌, ◌<◌, length, IfOk, IfErr};
-ghost use Rattle.orc_rules.specs.Timed.{IsIn};
-ghost use Rattle.orc_tables.specs.Steps.{group_at};
-ghost use Rattle.orc_book.specs.Held.{IsUnkept, IsGone, out_at};
-ghost use Rattle.orc_book.specs.Refusals.{IsFound};
+ghost use Rattle.std.specs.Prelude.{◌≡◌, IfOk, IfErr};
+ghost use Rattle.orc_book.specs.Held.{IsGone};
+ghost use Rattle.orc_book.specs.Refusals.{HasFound};
 
 use crate::book::Book;
 use crate::token::{BookFault, Token};
+use orc_graph::Graph;
+use orc_ledger::Action;
 use orc_log::Program;
 use orc_tables::Token as Record;
 use orc_word::Naming;
 
-/// A token's record, the number of its group, and how many of the group's tokens are out.
+/// A token's record, what it does next, the number of its group, and how many of the group's tokens are out.
 #[derive(Clone, Copy)]
 pub(crate) struct Found {
     pub its: Record,
+    pub what: Action,
     pub group: u32,
     pub out: usize,
 }
@@ -22,12 +23,10 @@ pub(crate) struct Found {
 impl<P: Program + Naming> Book<P> {
     /// A token that may be out: its record is there, its pass names its group's word, the book doesn't keep it, and some token of the group is out. The fault
     /// is Gone.
-    pub(crate) fn find(&self, token: &Token<P>) -> Result<Found, BookFault>
-        ensures token { IfOk result (λ f. IsUnkept self.now token.now.slot token.now.serial token.now.pass f.its) }
-        ensures there { IfOk result (λ f. IsIn f.its self.now.ledger.tokens) }
-        ensures group { IfOk result (λ f. f.group ≡ group_at self.now.ledger.steps f.its.step) }
-        ensures out { IfOk result (λ f. (f.out ≡ out_at self.now.posts f.group) × (1 ≤ f.out) × (f.group < length self.now.posts)) }
-        ensures found { IfOk result (λ f. IsFound P.listing self.now token.now f.its) }
+    #[inline(always)]
+    pub(crate) fn find(&self, graph: &Graph, token: &Token<P>) -> Result<Found, BookFault>
+        requires graph { graph.now ≡ P.listing }
+        ensures found { IfOk result (HasFound P.listing self.now token.now) }
         ensures why { IfErr result (λ why. (why ≡ BookFault.Gone) × IsGone self.now token.now.slot token.now.serial token.now.pass) }
     {
         if token.serial < 1 {
@@ -47,6 +46,12 @@ impl<P: Program + Naming> Book<P> {
         if out < 1 || token.pass.group() != Some(post.word()) {
             return Err(BookFault::Gone);
         }
-        Ok(Found { its, group, out })
+        let what = self.ledger.what(graph, &its);
+        Ok(Found {
+            its,
+            what,
+            group,
+            out,
+        })
     }
 }

@@ -1,40 +1,22 @@
 //! Moves of tokens that are out.
-ghost use Rattle.std.specs.Prelude.{◌≡◌, ◌⊎◌, ℕ, List, true, Some, IfOk, IfErr};
-ghost use Rattle.orc_rules.specs.declared.value.Value.{Value as ValueOf};
+ghost use Rattle.std.specs.Prelude.{◌≡◌, ◌⊎◌, ℕ, List, Some, IfOk, IfErr};
 ghost use Rattle.orc_tables.specs.declared.records.Token.{Token as Its};
-ghost use Rattle.orc_rules.specs.Nodes.{code, definitions};
-ghost use Rattle.orc_ledger_spec.specs.Doing.{what_of};
 ghost use Rattle.orc_ledger_spec.specs.Moves.{Moves, IsHindered};
 ghost use Rattle.orc_ledger_spec.specs.declared.results.Moved.TheVariants as moved;
 ghost use Rattle.orc_book.specs.Held.{IsToken, IsUnkept, IsOut, KeepsWords, word_at};
 ghost use Rattle.orc_tables.specs.Tokens.{IsHeld};
 ghost use Rattle.orc_tables.specs.Steps.{group_at};
 ghost use Rattle.orc_word.specs.Views.{group_of};
-ghost use Rattle.orc_book.specs.Refusals.{is_end, is_fork, is_publication, IsRefusedMove};
+ghost use Rattle.orc_book.specs.Refusals.{is_end, is_fork, is_publication, HasFound, IsRefusedMove};
 
 use crate::book::Book;
+use crate::lookup::Found;
 use crate::post::set_out;
 use crate::token::{BookFault, Refused, Token, fault_of};
 use orc_graph::Graph;
 use orc_ledger::{Action, Moved, stands};
 use orc_log::Program;
-use orc_tables::Token as Record;
 use orc_word::{Naming, Pass};
-
-impl<P: Program + Naming> Book<P> {
-    // Whether a token goes next, and no value of it is published.
-    fn ends_next(&self, graph: &Graph, its: &Record) -> bool
-        requires graph { graph.now ≡ P.listing }
-        ensures says { result ≡ is_end (what_of (code P.listing) (definitions P.listing) self.now.ledger its.now) }
-        ensures next { result ≡ true → (what_of (code P.listing) (definitions P.listing) self.now.ledger its.now ≡ Action.Halt) ⊎ (what_of (code P.listing) (definitions P.listing) self.now.ledger its.now ≡ Action.Void) }
-    {
-        match self.ledger.what(graph, its) {
-            Action::Halt => true,
-            Action::Void => true,
-            _ => false,
-        }
-    }
-}
 
 impl<P: Program + Naming> Book<P> {
     /// A token that ends, at `stop` or where it is void. Its pass is to be left. Refused as Gone where the token isn't out, as Wrong where it does something
@@ -47,16 +29,36 @@ impl<P: Program + Naming> Book<P> {
         ensures refused { IfErr result (λ r. (self.new ≡ self.old) × (r.back ≡ token)) }
         ensures why { IfErr result (λ r. IsRefusedMove P.listing self.old token is_end (IsHindered P.listing self.old.ledger) r.why) }
     {
-        let found = match self.find(&token) {
+        let found = match self.find(graph, &token) {
             Ok(found) => found,
             Err(why) => return Err(Refused { why, back: token }),
         };
-        if !self.ends_next(graph, &found.its) {
-            return Err(Refused {
+        match found.what {
+            Action::Halt | Action::Void => self.end_found(graph, token, found),
+            _ => Err(Refused {
                 why: BookFault::Wrong,
                 back: token,
-            });
+            }),
         }
+    }
+
+    // The same of a token that was found, and ends.
+    #[inline(always)]
+    pub(crate) fn end_found(
+        &mut self,
+        graph: &Graph,
+        token: Token<P>,
+        found: Found,
+    ) -> Result<Pass<P>, Refused<Token<P>>>
+        requires graph { graph.now ≡ P.listing }
+        requires found { HasFound P.listing self.old token found }
+        requires next { (found.what ≡ Action.Halt) ⊎ (found.what ≡ Action.Void) }
+        ensures done { IfOk result (λ pass. (t : Its) × (g : ℕ) × (ks : List ℕ) × IsUnkept self.old token.slot token.serial token.pass t × Moves P.listing self.old.ledger token.slot t (moved.Gone g) ks self.new.ledger) }
+        ensures stands { KeepsWords self.old self.new }
+        ensures pass { IfOk result (λ pass. pass ≡ token.pass) }
+        ensures refused { IfErr result (λ r. (self.new ≡ self.old) × (r.back ≡ token)) }
+        ensures why { IfErr result (λ r. IsRefusedMove P.listing self.old token is_end (IsHindered P.listing self.old.ledger) r.why) }
+    {
         stands(&self.ledger);
         match self.ledger.advance(
             graph,
@@ -94,18 +96,6 @@ impl<P: Program + Naming> Book<P> {
         }
     }
 
-    // Whether a token is on two sides next.
-    fn forks_next(&self, graph: &Graph, its: &Record) -> bool
-        requires graph { graph.now ≡ P.listing }
-        ensures says { result ≡ is_fork (what_of (code P.listing) (definitions P.listing) self.now.ledger its.now) }
-        ensures next { result ≡ true → what_of (code P.listing) (definitions P.listing) self.now.ledger its.now ≡ Action.Fork }
-    {
-        match self.ledger.what(graph, its) {
-            Action::Fork => true,
-            _ => false,
-        }
-    }
-
     /// A token at `f | g`: one on each side is out in its place, the left one with its pass, the right one with `same`, which names its group too. Refused as
     /// Gone where the token isn't out, as Wrong where it does something else next, as Full where the tokens and calls are as many as there may be, as Limit or
     /// Memory where the ledger refuses the entry for that.
@@ -123,27 +113,42 @@ impl<P: Program + Naming> Book<P> {
         ensures refused { IfErr result (λ r. (self.new ≡ self.old) × (r.back.0 ≡ token) × (r.back.1 ≡ same)) }
         ensures why { IfErr result (λ r. IsRefusedMove P.listing self.old token is_fork (IsHindered P.listing self.old.ledger) r.why) }
     {
-        let found = match self.find(&token) {
+        let found = match self.find(graph, &token) {
             Ok(found) => found,
             Err(why) => {
                 let back = (token, same);
                 return Err(Refused { why, back });
             }
         };
-        if !self.forks_next(graph, &found.its) {
-            let back = (token, same);
-            return Err(Refused {
-                why: BookFault::Wrong,
-                back,
-            });
+        match found.what {
+            Action::Fork => self.fork_found(graph, token, found, same),
+            _ => {
+                let why = BookFault::Wrong;
+                let back = (token, same);
+                Err(Refused { why, back })
+            }
         }
-        let Some(more) = found.out.checked_add(1) else {
-            let back = (token, same);
-            return Err(Refused {
-                why: BookFault::Full,
-                back,
-            });
-        };
+    }
+
+    // The same of a token that was found, and forks.
+    #[inline(always)]
+    pub(crate) fn fork_found(
+        &mut self,
+        graph: &Graph,
+        token: Token<P>,
+        found: Found,
+        same: Pass<P>,
+    ) -> Result<(Token<P>, Token<P>), Refused<(Token<P>, Pass<P>)>>
+        requires graph { graph.now ≡ P.listing }
+        requires found { HasFound P.listing self.old token found }
+        requires next { found.what ≡ Action.Fork }
+        requires same { group_of same ≡ group_of token.pass }
+        ensures done { IfOk result (λ two. (t : Its) × (ks : List ℕ) × IsUnkept self.old token.slot token.serial token.pass t × Moves P.listing self.old.ledger token.slot t (moved.Forked two.1.slot) ks self.new.ledger) }
+        ensures stands { KeepsWords self.old self.new }
+        ensures born { IfOk result (λ two. IsOut self.new two.0 × IsOut self.new two.1) }
+        ensures refused { IfErr result (λ r. (self.new ≡ self.old) × (r.back.0 ≡ token) × (r.back.1 ≡ same)) }
+        ensures why { IfErr result (λ r. IsRefusedMove P.listing self.old token is_fork (IsHindered P.listing self.old.ledger) r.why) }
+    {
         stands(&self.ledger);
         match self.ledger.advance(
             graph,
@@ -153,7 +158,9 @@ impl<P: Program + Naming> Book<P> {
             &mut self.cancelled,
         ) {
             Ok(Moved::Forked(other)) => {
-                set_out(&mut self.posts, found.group, more);
+                // No more tokens are out than there are.
+                let _tokens = self.ledger.token_count();
+                set_out(&mut self.posts, found.group, found.out + 1);
                 let one = self.born(token.slot, token.pass);
                 let two = self.born(other, same);
                 Ok((one, two))
@@ -168,18 +175,6 @@ impl<P: Program + Naming> Book<P> {
 }
 
 impl<P: Program + Naming> Book<P> {
-    // Whether a token publishes a value of the program next.
-    fn publishes_next(&self, graph: &Graph, its: &Record) -> bool
-        requires graph { graph.now ≡ P.listing }
-        ensures says { result ≡ is_publication (what_of (code P.listing) (definitions P.listing) self.now.ledger its.now) }
-        ensures next { result ≡ true → (v : ValueOf) × (what_of (code P.listing) (definitions P.listing) self.now.ledger its.now ≡ Action.Publish v) }
-    {
-        match self.ledger.what(graph, its) {
-            Action::Publish(_) => true,
-            _ => false,
-        }
-    }
-
     /// A publication of the program. The token's pass is to be left. Refused as Gone where the token isn't out, as Wrong where it does something else next, as
     /// Full, Limit or Memory where the ledger refuses the entry for that.
     pub fn publish(&mut self, graph: &Graph, token: Token<P>) -> Result<Pass<P>, Refused<Token<P>>>
@@ -190,16 +185,14 @@ impl<P: Program + Naming> Book<P> {
         ensures refused { IfErr result (λ r. (self.new ≡ self.old) × (r.back ≡ token)) }
         ensures why { IfErr result (λ r. IsRefusedMove P.listing self.old token is_publication (IsHindered P.listing self.old.ledger) r.why) }
     {
-        let found = match self.find(&token) {
+        let found = match self.find(graph, &token) {
             Ok(found) => found,
             Err(why) => return Err(Refused { why, back: token }),
         };
-        if !self.publishes_next(graph, &found.its) {
-            return Err(Refused {
-                why: BookFault::Wrong,
-                back: token,
-            });
-        }
+        let Action::Publish(_value) = found.what else {
+            let why = BookFault::Wrong;
+            return Err(Refused { why, back: token });
+        };
         match self.ledger.advance(
             graph,
             token.slot,

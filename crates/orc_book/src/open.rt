@@ -1,23 +1,21 @@
 //! Groups that are opened: the right side of a pruning, and the left side of an otherwise.
 ghost use Rattle.std.specs.Prelude.{◌≡◌, ◌≤◌, ◌+◌, ◌<◌, ℕ, List, length, true, Some, None, IfOk, OnOk, IfErr};
-ghost use Rattle.orc_rules.specs.Nodes.{code, definitions};
 ghost use Rattle.orc_tables.specs.declared.records.Token.{Token as Its};
-ghost use Rattle.orc_ledger_spec.specs.Doing.{what_of};
 ghost use Rattle.orc_ledger_spec.specs.Moves.{Moves};
 ghost use Rattle.orc_ledger_spec.specs.declared.results.Moved.TheVariants as moved;
 ghost use Rattle.orc_word.specs.Views.{group_of};
 ghost use Rattle.orc_book.specs.Held.{Hold, IsUnkept, IsOut, HasStayed, Changes, Same};
-ghost use Rattle.orc_book.specs.Refusals.{is_prune, is_other, IsRefusedOpening};
+ghost use Rattle.orc_book.specs.Refusals.{is_prune, is_other, HasFound, IsRefusedOpening};
 ghost use Rattle.orc_book.specs.Words.{OpensWord, HasNoWord};
 
 use crate::book::Book;
+use crate::lookup::Found;
 use crate::post::{bring_at, grow_to, put_at, raise_at, reserve_opening};
 use crate::token::{BookFault, Refused, Token, fault_of};
 use crate::word_table::WordTable;
 use orc_graph::Graph;
 use orc_ledger::{Action, Moved, stands};
 use orc_log::Program;
-use orc_tables::Token as Record;
 use orc_word::{Groups, Naming, Pass};
 
 /// A word that is free, and the pass that opened it.
@@ -54,30 +52,6 @@ fn open_word<P: Naming>(
 }
 
 impl<P: Program + Naming> Book<P> {
-    // Whether a token opens a pruning next.
-    fn prunes_next(&self, graph: &Graph, its: &Record) -> bool
-        requires graph { graph.now ≡ P.listing }
-        ensures says { result ≡ is_prune (what_of (code P.listing) (definitions P.listing) self.now.ledger its.now) }
-        ensures next { result ≡ true → what_of (code P.listing) (definitions P.listing) self.now.ledger its.now ≡ Action.Prune }
-    {
-        match self.ledger.what(graph, its) {
-            Action::Prune => true,
-            _ => false,
-        }
-    }
-
-    // Whether a token enters the left side of an otherwise next.
-    fn tries_next(&self, graph: &Graph, its: &Record) -> bool
-        requires graph { graph.now ≡ P.listing }
-        ensures says { result ≡ is_other (what_of (code P.listing) (definitions P.listing) self.now.ledger its.now) }
-        ensures next { result ≡ true → what_of (code P.listing) (definitions P.listing) self.now.ledger its.now ≡ Action.Other }
-    {
-        match self.ledger.what(graph, its) {
-            Action::Other => true,
-            _ => false,
-        }
-    }
-
     /// A token at `f <x< g`: one on each side is out in its place, the left one with its pass, the right one with `idle`, which opens the new group's word.
     /// The book holds `same` for that group, which names the token's. Refused as Gone where the token isn't out, as Wrong where it does something else next, as
     /// Full or Limit where the ledger is at one, as Full too where no word is free, as Live where the free word is still named, else as Memory.
@@ -98,20 +72,44 @@ impl<P: Program + Naming> Book<P> {
         ensures refused { IfErr result (λ r. HasStayed self.old self.new × (r.back.0 ≡ token) × (r.back.1 ≡ same) × (group_of r.back.2 ≡ None)) }
         ensures why { IfErr result (λ r. IsRefusedOpening P.listing self.old token P.table.words is_prune r.why) }
     {
-        let found = match self.find(&token) {
+        let found = match self.find(graph, &token) {
             Ok(found) => found,
             Err(why) => {
                 let back = (token, same, idle);
                 return Err(Refused { why, back });
             }
         };
-        if !self.prunes_next(graph, &found.its) {
-            let back = (token, same, idle);
-            return Err(Refused {
-                why: BookFault::Wrong,
-                back,
-            });
+        match found.what {
+            Action::Prune => self.prune_found(groups, graph, token, found, same, idle),
+            _ => {
+                let why = BookFault::Wrong;
+                let back = (token, same, idle);
+                Err(Refused { why, back })
+            }
         }
+    }
+
+    // The same of a token that was found, and opens a pruning.
+    pub(crate) fn prune_found(
+        &mut self,
+        groups: &Groups<P>,
+        graph: &Graph,
+        token: Token<P>,
+        found: Found,
+        same: Pass<P>,
+        idle: Pass<P>,
+    ) -> Result<(Token<P>, Token<P>), Refused<(Token<P>, Pass<P>, Pass<P>)>>
+        requires graph { graph.now ≡ P.listing }
+        requires found { HasFound P.listing self.old token found }
+        requires next { found.what ≡ Action.Prune }
+        requires same { group_of same ≡ group_of token.pass }
+        requires idle { group_of idle ≡ None }
+        ensures done { IfOk result (λ two. (t : Its) × (ks : List ℕ) × IsUnkept self.old token.slot token.serial token.pass t × Moves P.listing self.old.ledger token.slot t (moved.Forked two.1.slot) ks self.new.ledger) }
+        ensures born { IfOk result (λ two. IsOut self.new two.0 × IsOut self.new two.1) }
+        ensures word { IfOk result (λ two. OpensWord self.old two.1 self.new) }
+        ensures refused { IfErr result (λ r. HasStayed self.old self.new × (r.back.0 ≡ token) × (r.back.1 ≡ same) × (group_of r.back.2 ≡ None)) }
+        ensures why { IfErr result (λ r. IsRefusedOpening P.listing self.old token P.table.words is_prune r.why) }
+    {
         if let Err(fault) = self.ledger.within(1, 1, 0) {
             let back = (token, same, idle);
             return Err(Refused {
@@ -185,20 +183,42 @@ impl<P: Program + Naming> Book<P> {
         ensures refused { IfErr result (λ r. HasStayed self.old self.new × (r.back.0 ≡ token) × (group_of r.back.1 ≡ None)) }
         ensures why { IfErr result (λ r. IsRefusedOpening P.listing self.old token P.table.words is_other r.why) }
     {
-        let found = match self.find(&token) {
+        let found = match self.find(graph, &token) {
             Ok(found) => found,
             Err(why) => {
                 let back = (token, idle);
                 return Err(Refused { why, back });
             }
         };
-        if !self.tries_next(graph, &found.its) {
-            let back = (token, idle);
-            return Err(Refused {
-                why: BookFault::Wrong,
-                back,
-            });
+        match found.what {
+            Action::Other => self.other_found(groups, graph, token, found, idle),
+            _ => {
+                let why = BookFault::Wrong;
+                let back = (token, idle);
+                Err(Refused { why, back })
+            }
         }
+    }
+
+    // The same of a token that was found, and enters an otherwise.
+    pub(crate) fn other_found(
+        &mut self,
+        groups: &Groups<P>,
+        graph: &Graph,
+        token: Token<P>,
+        found: Found,
+        idle: Pass<P>,
+    ) -> Result<Token<P>, Refused<(Token<P>, Pass<P>)>>
+        requires graph { graph.now ≡ P.listing }
+        requires found { HasFound P.listing self.old token found }
+        requires next { found.what ≡ Action.Other }
+        requires idle { group_of idle ≡ None }
+        ensures done { IfOk result (λ _. (t : Its) × (ks : List ℕ) × IsUnkept self.old token.slot token.serial token.pass t × Moves P.listing self.old.ledger token.slot t moved.On ks self.new.ledger) }
+        ensures born { IfOk result (λ b. IsOut self.new b) }
+        ensures word { IfOk result (λ b. OpensWord self.old b self.new) }
+        ensures refused { IfErr result (λ r. HasStayed self.old self.new × (r.back.0 ≡ token) × (group_of r.back.1 ≡ None)) }
+        ensures why { IfErr result (λ r. IsRefusedOpening P.listing self.old token P.table.words is_other r.why) }
+    {
         if let Err(fault) = self.ledger.within(0, 1, 0) {
             let back = (token, idle);
             return Err(Refused {

@@ -1,15 +1,12 @@
 //! Publications that a `>x>` takes.
-ghost use Rattle.std.specs.Prelude.{◌≡◌, ◌≤◌, ◌<◌, ◌+◌, ◌++◌, ◌∷◌, [], ℕ, MatchResult, List, length, Some, None, false, vec_len, vec_capacity, IfErr, IfSome, IfNone, OnOk};
+ghost use Rattle.std.specs.Prelude.{◌≡◌, ◌≤◌, ◌+◌, ◌++◌, ◌∷◌, [], ℕ, MatchResult, List, vec_len, vec_capacity, IfErr, OnOk};
 ghost use Rattle.orc_rules.specs.Nodes.{code, definitions};
 ghost use Rattle.orc_ledger_spec.specs.Doing.{what_of};
-ghost use Rattle.orc_tables.specs.declared.records.Token.{Token as Its};
-ghost use Rattle.orc_book.specs.Refusals.{is_send, IsFound, IsTaken, IsRefusedStep};
-ghost use Rattle.orc_rules.specs.Timed.{IsIn};
+ghost use Rattle.orc_book.specs.Refusals.{HasFound, IsRefusedStep};
 ghost use Rattle.orc_tables.specs.Steps.{group_at};
 ghost use Rattle.orc_tables.specs.Tokens.{IsHeld};
 ghost use Rattle.orc_word.specs.declared.view.View.{View};
-ghost use Rattle.orc_word.specs.Views.{group_of};
-ghost use Rattle.orc_book.specs.Held.{IsUnkept, KeepsWords, HasStayed, AreBorn, out_at};
+ghost use Rattle.orc_book.specs.Held.{KeepsWords, HasStayed, AreBorn};
 ghost use Rattle.orc_book.specs.Stepping.{HasStepped, AreLeft, IsFedBy, SpendsIdle};
 
 use crate::book::Book;
@@ -17,7 +14,6 @@ use crate::lookup::Found;
 use crate::out::{Births, StepOut};
 use crate::post::{enter_at, out_in, set_out};
 use crate::token::{BookFault, Refused, Token, fault_of};
-use orc_graph::Graph;
 use orc_ledger::{Action, Taker, stands};
 use orc_log::Program;
 use orc_rules::value::Value;
@@ -35,41 +31,38 @@ pub(crate) struct Fed {
 }
 
 impl<P: Program + Naming> Book<P> {
-    // What a token publishes into a `>x>` next, if it does.
-    fn feeds_next(&self, graph: &Graph, its: &Record) -> Option<Fed>
-        requires graph { graph.now ≡ P.listing }
-        requires held { (slot : ℕ) × IsHeld self.now.ledger.slots slot its.now }
-        ensures fed { IfSome result (IsFedBy P.listing self.now.ledger its.now) }
-        ensures none { IfNone result (is_send (what_of (code P.listing) (definitions P.listing) self.now.ledger its.now) ≡ false) }
+    // What a token publishes into a `>x>`.
+    fn fed_by(&self, its: Record, value: Value) -> Fed
+        requires held { (slot : ℕ) × IsHeld self.now.ledger.slots slot its }
+        requires next { what_of (code P.listing) (definitions P.listing) self.now.ledger its ≡ Action.Send value }
+        ensures fed { IsFedBy P.listing self.now.ledger its result }
     {
-        let Action::Send(value) = self.ledger.what(graph, its) else {
-            return None;
-        };
-        match self.ledger.taker_of(*its) {
-            Taker::SeqLeft(name, right, scope, outer) => Some(Fed {
+        match self.ledger.taker_of(its) {
+            Taker::SeqLeft(name, right, scope, outer) => Fed {
                 value,
                 name,
                 right,
                 scope,
                 outer,
-            }),
-            Taker::Whole => None,
-            Taker::PruneRight(_, _) => None,
+            },
+            Taker::Whole => unreachable!(),
+            Taker::PruneRight(_, _) => unreachable!(),
         }
     }
 
-    // A token publishes into a `>x>`: one on a copy of its right side is out in its place. Where that stands in another group, it has an idle pass that comes
-    // to name this, and the token's own is to be left.
+    // A token that was found publishes a value into a `>x>`: one on a copy of its right side is out in its place. Where that stands in another group, it has
+    // an idle pass that comes to name this, and the token's own is to be left.
     pub(crate) fn send(
         &mut self,
         groups: &Groups<P>,
-        graph: &Graph,
         token: Token<P>,
+        found: Found,
+        value: Value,
         births: &mut Births<P>,
         out: &mut StepOut<P>,
     ) -> Result<(), Refused<Token<P>>>
-        requires graph { graph.now ≡ P.listing }
-        requires taken { (t : Its) × IsTaken P.listing self.old token is_send t }
+        requires found { HasFound P.listing self.old token found }
+        requires next { found.what ≡ Action.Send value }
         requires tokens { vec_len out.old.born + 2 ≤ vec_capacity out.old.born }
         requires passes { vec_len out.old.leave + 1 ≤ vec_capacity out.old.leave }
         ensures done { OnOk result (HasStepped P.listing self.old token.slot token.serial token.pass self.new) }
@@ -82,14 +75,7 @@ impl<P: Program + Naming> Book<P> {
         ensures refused { IfErr result (λ r. HasStayed self.old self.new × (r.back ≡ token) × (out.new.born.items ≡ out.old.born.items) × (out.new.leave.items ≡ out.old.leave.items)) }
         ensures why { IfErr result (λ r. IsRefusedStep P.listing self.old token births.old.same.items births.old.idle.items r.why) }
     {
-        let found = match self.find(&token) {
-            Ok(found) => found,
-            Err(why) => return Err(Refused { why, back: token }),
-        };
-        let Some(fed) = self.feeds_next(graph, &found.its) else {
-            let why = BookFault::Wrong;
-            return Err(Refused { why, back: token });
-        };
+        let fed = self.fed_by(found.its, value);
         let round = self.ledger.group_of(fed.outer);
         if round == found.group {
             self.send_within(token, found, fed, out)
@@ -106,11 +92,9 @@ impl<P: Program + Naming> Book<P> {
         fed: Fed,
         out: &mut StepOut<P>,
     ) -> Result<(), Refused<Token<P>>>
-        requires token { IsUnkept self.old token.slot token.serial token.pass found.its }
-        requires found { IsFound P.listing self.old token found.its }
-        requires there { IsIn found.its self.old.ledger.tokens }
+        requires found { HasFound P.listing self.old token found }
         requires fed { IsFedBy P.listing self.old.ledger found.its fed }
-        requires round { group_at self.old.ledger.steps fed.outer ≡ group_at self.old.ledger.steps found.its.step }
+        requires round { group_at self.old.ledger.steps fed.outer ≡ found.group }
         requires tokens { vec_len out.old.born + 2 ≤ vec_capacity out.old.born }
         ensures done { OnOk result (HasStepped P.listing self.old token.slot token.serial token.pass self.new) }
         ensures stands { KeepsWords self.old self.new }
@@ -147,11 +131,7 @@ impl<P: Program + Naming> Book<P> {
         births: &mut Births<P>,
         out: &mut StepOut<P>,
     ) -> Result<(), Refused<Token<P>>>
-        requires token { IsUnkept self.old token.slot token.serial token.pass found.its }
-        requires found { IsFound P.listing self.old token found.its }
-        requires there { IsIn found.its self.old.ledger.tokens }
-        requires group { found.group ≡ group_at self.old.ledger.steps found.its.step }
-        requires out { (found.out ≡ out_at self.old.posts found.group) × (1 ≤ found.out) × (found.group < length self.old.posts) }
+        requires found { HasFound P.listing self.old token found }
         requires fed { IsFedBy P.listing self.old.ledger found.its fed }
         requires round { round ≡ group_at self.old.ledger.steps fed.outer }
         requires other { round ≡ found.group → ⊥ }
@@ -167,10 +147,6 @@ impl<P: Program + Naming> Book<P> {
         ensures refused { IfErr result (λ r. (self.new ≡ self.old) × (r.back ≡ token) × (out.new.born ≡ out.old.born) × (out.new.leave ≡ out.old.leave)) }
         ensures why { IfErr result (λ r. IsRefusedStep P.listing self.old token births.old.same.items births.old.idle.items r.why) }
     {
-        let Some(there) = out_in(&self.posts, round).checked_add(1) else {
-            let why = BookFault::Full;
-            return Err(Refused { why, back: token });
-        };
         let Some(idle) = births.take_idle() else {
             let why = BookFault::Short;
             return Err(Refused { why, back: token });
@@ -180,8 +156,11 @@ impl<P: Program + Naming> Book<P> {
             token.slot, found.its, fed.value, fed.name, fed.right, fed.scope, fed.outer,
         ) {
             Ok(()) => {
+                // No more tokens are out than there are.
+                let _tokens = self.ledger.token_count();
                 set_out(&mut self.posts, found.group, found.out - 1);
-                let Ok(pass) = enter_at(groups, &mut self.posts, round, there, idle) else {
+                let out_there = out_in(&self.posts, round);
+                let Ok(pass) = enter_at(groups, &mut self.posts, round, out_there + 1, idle) else {
                     unreachable!()
                 };
                 let born = self.born(token.slot, pass);

@@ -1,14 +1,14 @@
 //! A token's next move, whichever of those it is that have no call of their own.
 ghost use Rattle.std.specs.Prelude.{◌≡◌, ◌≤◌, ◌+◌, ◌⊎◌, ◌++◌, ◌∷◌, [], List, vec_len, vec_capacity, IfErr, MatchResult, OnErr, OnOk};
-ghost use Rattle.orc_tables.specs.declared.records.Token.{Token as Its};
 ghost use Rattle.orc_book.specs.Held.{HasStayed, KeepsWords, AreBorn};
-ghost use Rattle.orc_book.specs.Refusals.{is_end, is_fork, is_onward, is_opening, is_other, is_prune, IsTaken, IsRefusedMove, IsRefusedStep, IsUnopened};
+ghost use Rattle.orc_book.specs.Refusals.{is_end, is_opening, HasFound, IsRefusedMove, IsRefusedStep, IsUnopened};
 ghost use Rattle.orc_word.specs.declared.view.View.{View};
 ghost use Rattle.orc_ledger_spec.specs.Moves.{IsHindered};
 ghost use Rattle.orc_book.specs.Stepping.{HasSpent, HasStepped, AreBack, AreLeft};
 ghost use Rattle.orc_book.specs.Words.{HaveOpened};
 
 use crate::book::Book;
+use crate::lookup::Found;
 use crate::out::{Births, StepOut};
 use crate::token::{BookFault, Refused, Token};
 use orc_graph::Graph;
@@ -44,7 +44,7 @@ impl<P: Program + Naming> Book<P> {
         ensures refused { IfErr result (λ r. HasStayed self.old self.new × (r.back ≡ token) × (out.new.born.items ≡ out.old.born.items) × (out.new.leave.items ≡ out.old.leave.items)) }
         ensures why { IfErr result (λ r. IsUnopened P.listing self.old token P.table.words is_opening r.why ⊎ IsRefusedStep P.listing self.old token births.old.same.items births.old.idle.items r.why) }
     {
-        let found = match self.find(&token) {
+        let found = match self.find(graph, &token) {
             Ok(found) => found,
             Err(why) => return Err(Refused { why, back: token }),
         };
@@ -52,13 +52,13 @@ impl<P: Program + Naming> Book<P> {
             let why = BookFault::Memory;
             return Err(Refused { why, back: token });
         };
-        match self.ledger.what(graph, &found.its) {
-            Action::Halt | Action::Void => self.step_end(graph, token, out),
-            Action::Seq | Action::Def => self.step_on(graph, token, out),
-            Action::Fork => self.step_fork(graph, token, births, out),
-            Action::Prune => self.step_prune(groups, graph, token, births, out),
-            Action::Other => self.step_other(groups, graph, token, births, out),
-            Action::Send(_) => self.send(groups, graph, token, births, out),
+        match found.what {
+            Action::Halt | Action::Void => self.step_end(graph, token, found, out),
+            Action::Seq | Action::Def => self.step_on(graph, token, found, out),
+            Action::Fork => self.step_fork(graph, token, found, births, out),
+            Action::Prune => self.step_prune(groups, graph, token, found, births, out),
+            Action::Other => self.step_other(groups, graph, token, found, births, out),
+            Action::Send(value) => self.send(groups, token, found, value, births, out),
             _ => {
                 let why = BookFault::Wrong;
                 Err(Refused { why, back: token })
@@ -70,9 +70,12 @@ impl<P: Program + Naming> Book<P> {
         &mut self,
         graph: &Graph,
         token: Token<P>,
+        found: Found,
         out: &mut StepOut<P>,
     ) -> Result<(), Refused<Token<P>>>
         requires graph { graph.now ≡ P.listing }
+        requires found { HasFound P.listing self.old token found }
+        requires next { (found.what ≡ Action.Halt) ⊎ (found.what ≡ Action.Void) }
         requires passes { vec_len out.old.leave + 1 ≤ vec_capacity out.old.leave }
         ensures done { OnOk result (HasStepped P.listing self.old token.slot token.serial token.pass self.new) }
         ensures stands { KeepsWords self.old self.new }
@@ -83,7 +86,7 @@ impl<P: Program + Naming> Book<P> {
         ensures refused { IfErr result (λ r. (self.new ≡ self.old) × (r.back ≡ token) × (out.new.leave ≡ out.old.leave)) }
         ensures why { IfErr result (λ r. IsRefusedMove P.listing self.old token is_end (IsHindered P.listing self.old.ledger) r.why) }
     {
-        match self.end(graph, token) {
+        match self.end_found(graph, token, found) {
             Ok(pass) => {
                 out.leave.push_reserved(pass);
                 Ok(())
@@ -96,10 +99,12 @@ impl<P: Program + Naming> Book<P> {
         &mut self,
         graph: &Graph,
         token: Token<P>,
+        found: Found,
         out: &mut StepOut<P>,
     ) -> Result<(), Refused<Token<P>>>
         requires graph { graph.now ≡ P.listing }
-        requires taken { (t : Its) × IsTaken P.listing self.old token is_onward t }
+        requires found { HasFound P.listing self.old token found }
+        requires next { (found.what ≡ Action.Seq) ⊎ (found.what ≡ Action.Def) }
         requires tokens { vec_len out.old.born + 2 ≤ vec_capacity out.old.born }
         ensures done { OnOk result (HasStepped P.listing self.old token.slot token.serial token.pass self.new) }
         ensures stands { KeepsWords self.old self.new }
@@ -109,7 +114,7 @@ impl<P: Program + Naming> Book<P> {
         ensures refused { IfErr result (λ r. (self.new ≡ self.old) × (r.back ≡ token) × (out.new.born ≡ out.old.born)) }
         ensures why { (same : List View) → (idle : List View) → IfErr result (λ r. IsRefusedStep P.listing self.old token same idle r.why) }
     {
-        match self.go_on(graph, token) {
+        match self.go_on_found(graph, token, found) {
             Ok(born) => {
                 out.born.push_reserved(born);
                 Ok(())
@@ -122,11 +127,13 @@ impl<P: Program + Naming> Book<P> {
         &mut self,
         graph: &Graph,
         token: Token<P>,
+        found: Found,
         births: &mut Births<P>,
         out: &mut StepOut<P>,
     ) -> Result<(), Refused<Token<P>>>
         requires graph { graph.now ≡ P.listing }
-        requires taken { (t : Its) × IsTaken P.listing self.old token is_fork t }
+        requires found { HasFound P.listing self.old token found }
+        requires next { found.what ≡ Action.Fork }
         requires tokens { vec_len out.old.born + 2 ≤ vec_capacity out.old.born }
         ensures done { OnOk result (HasStepped P.listing self.old token.slot token.serial token.pass self.new) }
         ensures stands { KeepsWords self.old self.new }
@@ -142,7 +149,7 @@ impl<P: Program + Naming> Book<P> {
             let why = BookFault::Short;
             return Err(Refused { why, back: token });
         };
-        match self.fork(graph, token, same) {
+        match self.fork_found(graph, token, found, same) {
             Ok((one, two)) => {
                 out.born.push_reserved(one);
                 out.born.push_reserved(two);
@@ -164,11 +171,13 @@ impl<P: Program + Naming> Book<P> {
         groups: &Groups<P>,
         graph: &Graph,
         token: Token<P>,
+        found: Found,
         births: &mut Births<P>,
         out: &mut StepOut<P>,
     ) -> Result<(), Refused<Token<P>>>
         requires graph { graph.now ≡ P.listing }
-        requires taken { (t : Its) × IsTaken P.listing self.old token is_prune t }
+        requires found { HasFound P.listing self.old token found }
+        requires next { found.what ≡ Action.Prune }
         requires tokens { vec_len out.old.born + 2 ≤ vec_capacity out.old.born }
         ensures done { OnOk result (HasStepped P.listing self.old token.slot token.serial token.pass self.new) }
         ensures stands { HaveOpened self.old.stands self.new.stands }
@@ -190,7 +199,7 @@ impl<P: Program + Naming> Book<P> {
             let why = BookFault::Short;
             return Err(Refused { why, back: token });
         };
-        match self.prune(groups, graph, token, same, idle) {
+        match self.prune_found(groups, graph, token, found, same, idle) {
             Ok((one, two)) => {
                 out.born.push_reserved(one);
                 out.born.push_reserved(two);
@@ -213,11 +222,13 @@ impl<P: Program + Naming> Book<P> {
         groups: &Groups<P>,
         graph: &Graph,
         token: Token<P>,
+        found: Found,
         births: &mut Births<P>,
         out: &mut StepOut<P>,
     ) -> Result<(), Refused<Token<P>>>
         requires graph { graph.now ≡ P.listing }
-        requires taken { (t : Its) × IsTaken P.listing self.old token is_other t }
+        requires found { HasFound P.listing self.old token found }
+        requires next { found.what ≡ Action.Other }
         requires tokens { vec_len out.old.born + 2 ≤ vec_capacity out.old.born }
         ensures done { OnOk result (HasStepped P.listing self.old token.slot token.serial token.pass self.new) }
         ensures stands { HaveOpened self.old.stands self.new.stands }
@@ -234,7 +245,7 @@ impl<P: Program + Naming> Book<P> {
             let why = BookFault::Short;
             return Err(Refused { why, back: token });
         };
-        match self.other(groups, graph, token, idle) {
+        match self.other_found(groups, graph, token, found, idle) {
             Ok(born) => {
                 out.born.push_reserved(born);
                 Ok(())

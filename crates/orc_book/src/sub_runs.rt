@@ -42,7 +42,7 @@ impl<P: Program + Naming> Book<P> {
         ensures refused { IfErr result (λ r. (self.new ≡ self.old) × (r.back ≡ token)) }
         ensures why { IfErr result (λ r. IsKeptOut self.old token.slot token.serial token.pass part.now r.why) }
     {
-        let found = match self.find(&token) {
+        let found = match self.find(graph, &token) {
             Ok(found) => found,
             Err(why) => return Err(Refused { why, back: token }),
         };

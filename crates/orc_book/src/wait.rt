@@ -15,23 +15,10 @@ use crate::token::{BookFault, Refused, Token, fault_of};
 use orc_graph::Graph;
 use orc_ledger::Action;
 use orc_log::Program;
-use orc_tables::Token as Record;
 use orc_word::Naming;
 use std::alloc::AllocError;
 
 impl<P: Program + Naming> Book<P> {
-    // Whether a token waits.
-    fn waits(&self, graph: &Graph, its: &Record) -> bool
-        requires graph { graph.now ≡ P.listing }
-        ensures says { result ≡ is_wait (what_of (code P.listing) (definitions P.listing) self.now.ledger its.now) }
-        ensures next { result ≡ true → is_wait (what_of (code P.listing) (definitions P.listing) self.now.ledger its.now) ≡ true }
-    {
-        match self.ledger.what(graph, its) {
-            Action::Wait(_) => true,
-            _ => false,
-        }
-    }
-
     /// A token that waits comes into the book with its pass, until `wake` is told of a cell for which it waits. Refused as Gone where
     /// the token isn't out, as Wrong where it does something else next, else as Memory.
     pub fn wait(&mut self, graph: &Graph, token: Token<P>) -> Result<(), Refused<Token<P>>>
@@ -43,14 +30,14 @@ impl<P: Program + Naming> Book<P> {
         ensures refused { IfErr result (λ r. HasStayed self.old self.new × (r.back ≡ token)) }
         ensures why { IfErr result (λ r. IsRefusedWait P.listing self.old token r.why) }
     {
-        let found = match self.find(&token) {
+        let found = match self.find(graph, &token) {
             Ok(found) => found,
             Err(why) => return Err(Refused { why, back: token }),
         };
-        if !self.waits(graph, &found.its) {
+        let Action::Wait(_cell) = found.what else {
             let why = BookFault::Wrong;
             return Err(Refused { why, back: token });
-        }
+        };
         let kept = kept_in(&self.posts, found.group);
         let _tokens = self.ledger.token_count();
         let handle = Handle {

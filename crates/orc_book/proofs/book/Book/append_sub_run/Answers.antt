@@ -21,7 +21,7 @@ born-born-requires g c =
     let y = some-left c.args.part.now.left c.has_value.result c.has_value.ensures c.if-has_value.true in
     let T = c.in-Ok-append_sub_run.ensures.done in
     let n = numbering b.ledger t in
-    let named : group_of c.args.token.pass ≡ Some (word_at ps (group_at b.ledger.steps t.step)) = rw (← c.self.view_is) at c.in-Ok.ensures.token.0.2 in
+    let named : group_of c.args.token.pass ≡ Some (word_at ps (group_at b.ledger.steps t.step)) = rw (← c.self.view_is) at c.in-Ok.ensures.found.unkept.0.2 in
     record { held = (comer n t y.0, c.in-Ok-append_sub_run.ensures.comer (comer n t y.0) (comer-in n t _ y.0 y.1), named ∙ ap (λ z. Some (word_at ps (group_at z t.step))) (sym T.steps)) }
 
 pub invariant_of-self-2 : goal.invariant_of-self-2
@@ -32,9 +32,9 @@ invariant_of-self-2 g c =
     let t = c.in-Ok.found.its in
     let n : ℕ = c.in-Ok.found.group in
     let none = none-left c.args.part.now.left c.has_value.result c.has_value.ensures c.if-has_value.false in
-    let at : n ≡ group_at b.ledger.steps t.step = rw (← c.self.view_is) at c.in-Ok.ensures.group in
-    let out : c.in-Ok.found.out ≡ out_at ps n = rw (← c.self.view_is) at c.in-Ok.ensures.out.0 in
+    let at : n ≡ group_at b.ledger.steps t.step = rw (← c.self.view_is) at c.in-Ok.ensures.found.group in
+    let out : c.in-Ok.found.out ≡ out_at ps n = rw (← c.self.view_is) at c.in-Ok.ensures.found.out in
     let d = c.set_out.ensures in
     let q : Hold = record d.0 { out = c.in-Ok.found.out - 1 } in
     taken-out-held b.ledger c.append_sub_run.new.self t c.args.part.now none c.in-Ok-append_sub_run.ensures.done ps ps' c.self.invariant
-    (d.0, q, subst (λ z. Becomes ps z d.0 q ps') at d.1, refl, (refl, refl, omega (arith, out, ap out_of (d.1).0, c.in-Ok.ensures.out.1)))
+    (d.0, q, subst (λ z. Becomes ps z d.0 q ps') at d.1, refl, (refl, refl, omega (arith, out, ap out_of (d.1).0, c.in-Ok.ensures.found.some)))

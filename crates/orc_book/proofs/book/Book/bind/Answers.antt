@@ -14,18 +14,18 @@ clear_missing-requires-clause-loose g c =
     let b = c.self.inside in
     let l = g.P.Program.listing in
     let t = c.in-Ok.found.its in
-    let w = c.in-Some.ensures.cell in
-    let D = drops l b.ledger c.args.token.slot t c.advance.new.self _ c.in-Some._cell w.0 c.in-Ok-advance._bound (rw (← c.self.view_is) at w.1) c.in-Ok-advance.ensures.done in
-    dropped-loose l g.P.Program.sites b.ledger c.stands.ensures.lawful c.stands.ensures.grouped c.in-Some._cell (bound.Is w.0) c.advance.new.self D c.stands-in-Ok-advance.ensures.lawful c.stands-in-Ok-advance.ensures.grouped b.posts.items c.self.invariant
+    let does = sym (rw (← c.self.view_is) at c.in-Ok.ensures.found.what) ∙ c.in-Bind.is in
+    let D = drops l b.ledger c.args.token.slot t c.advance.new.self _ c.in-Bind._cell c.in-Bind._value c.in-Ok-advance._bound does c.in-Ok-advance.ensures.done in
+    dropped-loose l g.P.Program.sites b.ledger c.stands.ensures.lawful c.stands.ensures.grouped c.in-Bind._cell (bound.Is c.in-Bind._value) c.advance.new.self D c.stands-in-Ok-advance.ensures.lawful c.stands-in-Ok-advance.ensures.grouped b.posts.items c.self.invariant
 
 pub bury_missing-requires-clause-missing : goal.bury_missing-requires-clause-missing
 bury_missing-requires-clause-missing g c =
     let b = c.self.inside in
     let l = g.P.Program.listing in
     let t = c.in-Ok.found.its in
-    let w = c.in-Some.ensures.cell in
-    let D = drops l b.ledger c.args.token.slot t c.advance.new.self _ c.in-Some._cell w.0 c.in-Ok-advance._bound (rw (← c.self.view_is) at w.1) c.in-Ok-advance.ensures.done in
-    (dropped-loose l g.P.Program.sites b.ledger c.stands.ensures.lawful c.stands.ensures.grouped c.in-Some._cell (bound.Is w.0) c.advance.new.self D c.stands-in-Ok-advance.ensures.lawful c.stands-in-Ok-advance.ensures.grouped b.posts.items c.self.invariant).missing
+    let does = sym (rw (← c.self.view_is) at c.in-Ok.ensures.found.what) ∙ c.in-Bind.is in
+    let D = drops l b.ledger c.args.token.slot t c.advance.new.self _ c.in-Bind._cell c.in-Bind._value c.in-Ok-advance._bound does c.in-Ok-advance.ensures.done in
+    (dropped-loose l g.P.Program.sites b.ledger c.stands.ensures.lawful c.stands.ensures.grouped c.in-Bind._cell (bound.Is c.in-Bind._value) c.advance.new.self D c.stands-in-Ok-advance.ensures.lawful c.stands-in-Ok-advance.ensures.grouped b.posts.items c.self.invariant).missing
 
 pub returns-in-Ok-advance-clause-left : goal.returns-in-Ok-advance-clause-left
 returns-in-Ok-advance-clause-left g c =

@@ -1,19 +1,14 @@
-use Rattle.std.proofs.Common.{◌≡◌, ◌≤◌, ◌<◌, ◌+◌, ◌-◌, ℕ, [], length, inl, arith, refl, ap, sym, ◌∙◌, subst, Some}
+use Rattle.std.proofs.Common.{◌≡◌, ◌≤◌, ◌-◌, ℕ, [], arith, refl, ap, sym, ◌∙◌, subst, Some}
 use Rattle.orc_rules.specs.Timed.{IsIn}
-use Rattle.orc_rules.specs.declared.limits.TheConstants.{MOST_TOKENS}
-use Rattle.orc_ledger_spec.specs.Moves.{Hinders}
-use Rattle.orc_ledger_spec.specs.declared.faults.LedgerFault.TheVariants as ledger
 use Rattle.orc_ledger_spec.specs.declared.results.Moved.TheVariants as moved
 use Rattle.orc_ledger_spec.proofs.Nests.{alike-group}
 use Rattle.orc_tables.specs.Steps.{group_at}
 use Rattle.orc_word.specs.Views.{group_of}
 use Rattle.orc_book.specs.Held.{Hold, Becomes, held_at, out_at, word_at, out_of, passes_of}
 use Rattle.orc_book.specs.Stepping.{IsFedBy}
-use Rattle.orc_book.specs.Refusals.{is_step}
 use Rattle.orc_book.proofs.Around.{round-pass}
-use Rattle.orc_book.proofs.Causes.{too-many}
 use Rattle.orc_book.proofs.Feeding.{fed-form, fed-moves}
-use Rattle.orc_book.proofs.Moving.{sent-held}
+use Rattle.orc_book.proofs.Moving.{sent-fits, sent-held}
 use Rattle.orc_book.proofs.Posts.{other-at, same-at, word-kept}
 use Rattle.orc_book.proofs.book.Book.send_across.Goals as goal
 
@@ -32,9 +27,9 @@ unreachable-requires g c =
     let t = c.args.found.its in
     let ps = b.posts.items in
     let ps1 = c.set_out.new.posts.items in
-    let i : IsIn t b.ledger.tokens = rw (← c.self.view_is) at c.requires.there in
+    let i : IsIn t b.ledger.tokens = rw (← c.self.view_is) at c.requires.found.there in
     let n : ℕ = c.args.found.group in
-    let at : n ≡ group_at b.ledger.steps t.step = rw (← c.self.view_is) at c.requires.group in
+    let at : n ≡ group_at b.ledger.steps t.step = rw (← c.self.view_is) at c.requires.found.group in
     let to : c.args.round ≡ group_at b.ledger.steps c.args.fed.outer = rw (← c.self.view_is) at c.requires.round in
     let F : IsFedBy l b.ledger t c.args.fed = rw (← c.self.view_is) at c.requires.fed in
     let d = c.set_out.ensures in
@@ -49,17 +44,15 @@ invariant_of-self g c =
     let ps1 = c.set_out.new.posts.items in
     let ps2 = c.enter_at.new.posts.items in
     let n : ℕ = c.args.found.group in
-    let at : n ≡ group_at b.ledger.steps t.step = rw (← c.self.view_is) at c.requires.group in
+    let at : n ≡ group_at b.ledger.steps t.step = rw (← c.self.view_is) at c.requires.found.group in
     let to : c.args.round ≡ group_at b.ledger.steps c.args.fed.outer = rw (← c.self.view_is) at c.requires.round in
     let d = c.set_out.ensures in
     let q : Hold = record d.0 { out = c.args.found.out - 1 } in
-    let out : c.args.found.out ≡ out_at ps n = rw (← c.self.view_is) at c.requires.out.0 in
+    let out : c.args.found.out ≡ out_at ps n = rw (← c.self.view_is) at c.requires.found.out in
     let D = c.in-Ok-enter_at.ensures.1 in
-    let there : c.in-Some.there ≡ out_at ps c.args.round + 1 = omega (arith, c.in-Some.ensures, c.out_in.ensures.out) in
-    let before : out_at ps1 c.args.round ≡ out_at ps c.args.round = other-at out_of ps ps1 n d.0 q d.1 c.args.round c.requires.other in
     sent-held b.ledger c.send.new.self t _ _ _ _ c.in-Ok.ensures.done ps ps1 ps2 c.self.invariant
-    (d.0, q, subst (λ z. Becomes ps z d.0 q ps1) at d.1, refl, (refl, refl, omega (arith, out, ap out_of (d.1).0, c.requires.out.1)))
-    (D.0, D.1, subst (λ z. Becomes ps1 z D.0 D.1 ps2) to D.2, D.3, ((D.4).0, (D.4).1, omega (arith, (D.4).2, there, before, ap out_of (D.2).0)))
+    (d.0, q, subst (λ z. Becomes ps z d.0 q ps1) at d.1, refl, (refl, refl, omega (arith, out, ap out_of (d.1).0, c.requires.found.some)))
+    (D.0, D.1, subst (λ z. Becomes ps1 z D.0 D.1 ps2) to D.2, D.3, ((D.4).0, (D.4).1, omega (arith, (D.4).2, c.out_in-out_there.ensures.out, ap out_of (D.2).0)))
 
 pub born-born-requires : goal.born-born-requires
 born-born-requires g c =
@@ -80,12 +73,18 @@ returns-in-Ok-enter_at-clause-done g c =
     let l = g.P.Program.listing in
     let t = c.args.found.its in
     let F : IsFedBy l b.ledger t c.args.fed = rw (← c.self.view_is) at c.requires.fed in
-    (t, moved.Sent (group_at b.ledger.steps t.step), [], c.requires.token, rw (← c.self.view_is) (fed-moves l b.ledger t c.args.fed F c.args.token.slot c.send.new.self [] c.in-Ok.ensures.done c.in-Ok.ensures.right))
+    (t, moved.Sent (group_at b.ledger.steps t.step), [], c.requires.found.unkept, rw (← c.self.view_is) (fed-moves l b.ledger t c.args.fed F c.args.token.slot c.send.new.self [] c.in-Ok.ensures.done c.in-Ok.ensures.right))
 
-pub returns-in_default-clause-why : goal.returns-in_default-clause-why
-returns-in_default-clause-why g c =
+pub overflow_add-out_there : goal.overflow_add-out_there
+overflow_add-out_there g c =
     let b = c.self.inside in
     let t = c.args.found.its in
-    let sends = c.requires.fed.0 in
-    let full : MOST_TOKENS < length c.args.self.now.ledger.tokens + length c.args.self.now.ledger.calls + 0 = rw (← c.self.view_is) (too-many b.ledger b.posts.items c.self.invariant c.args.round c.out_in.result c.out_in.ensures.out c.in_default.ensures (length b.ledger.calls) 0) in
-    (t, (c.requires.found, ap is_step sends), subst (λ a. Hinders c.args.self.now.ledger t a ledger.Full) (sym sends) (inl full))
+    let ps = b.posts.items in
+    let ps1 = c.set_out.new.posts.items in
+    let n : ℕ = c.args.found.group in
+    let at : n ≡ group_at b.ledger.steps t.step = rw (← c.self.view_is) at c.requires.found.group in
+    let to : c.args.round ≡ group_at b.ledger.steps c.args.fed.outer = rw (← c.self.view_is) at c.requires.round in
+    let d = c.set_out.ensures in
+    let q : Hold = record d.0 { out = c.args.found.out - 1 } in
+    let before : out_at ps1 c.args.round ≡ out_at ps c.args.round = other-at out_of ps ps1 n d.0 q d.1 c.args.round c.requires.other in
+    omega (arith, c.out_in-out_there.ensures.out, before, ap (out_at ps) to, sent-fits b.ledger c.send.new.self t _ _ _ _ c.in-Ok.ensures.done (λ e. c.requires.other (to ∙ e ∙ sym at)) ps c.self.invariant, c.token_count-tokens.ensures, c.token_count-tokens.type_inv)

@@ -22,7 +22,7 @@ invariant_of-self g c =
     let b = c.self.inside in
     let l = g.P.Program.listing in
     let t = c.args.found.its in
-    let same : group_at b.ledger.steps c.args.fed.outer ≡ group_at b.ledger.steps t.step = rw (← c.self.view_is) at c.requires.round in
+    let same : group_at b.ledger.steps c.args.fed.outer ≡ group_at b.ledger.steps t.step = (rw (← c.self.view_is) at c.requires.round) ∙ (rw (← c.self.view_is) at c.requires.found.group) in
     sent-within-held b.ledger c.send.new.self t _ _ _ _ c.in-Ok.ensures.done same b.posts.items c.self.invariant
 
 pub born-born-requires : goal.born-born-requires
@@ -31,9 +31,9 @@ born-born-requires g c =
     let s' = c.send.new.self in
     let ps = b.posts.items in
     let t = c.args.found.its in
-    let same : group_at b.ledger.steps c.args.fed.outer ≡ group_at b.ledger.steps t.step = rw (← c.self.view_is) at c.requires.round in
+    let same : group_at b.ledger.steps c.args.fed.outer ≡ group_at b.ledger.steps t.step = (rw (← c.self.view_is) at c.requires.round) ∙ (rw (← c.self.view_is) at c.requires.found.group) in
     let T = c.in-Ok.ensures.done in
-    let named : group_of c.args.token.pass ≡ Some (word_at ps (group_at b.ledger.steps t.step)) = rw (← c.self.view_is) at c.requires.token.0.2 in
+    let named : group_of c.args.token.pass ≡ Some (word_at ps (group_at b.ledger.steps t.step)) = rw (← c.self.view_is) at c.requires.found.unkept.0.2 in
     record { held = (_, c.in-Ok.ensures.right, named ∙ ap (λ z. Some (word_at ps z)) (sym (alike-group b.ledger.steps s'.steps (sym T.steps.alike) c.args.fed.outer ∙ same))) }
 
 pub returns-in-Ok-clause-done : goal.returns-in-Ok-clause-done
@@ -42,4 +42,4 @@ returns-in-Ok-clause-done g c =
     let l = g.P.Program.listing in
     let t = c.args.found.its in
     let F : IsFedBy l b.ledger t c.args.fed = rw (← c.self.view_is) at c.requires.fed in
-    (t, moved.Sent (group_at b.ledger.steps t.step), [], c.requires.token, rw (← c.self.view_is) (fed-moves l b.ledger t c.args.fed F c.args.token.slot c.send.new.self [] c.in-Ok.ensures.done c.in-Ok.ensures.right))
+    (t, moved.Sent (group_at b.ledger.steps t.step), [], c.requires.found.unkept, rw (← c.self.view_is) (fed-moves l b.ledger t c.args.fed F c.args.token.slot c.send.new.self [] c.in-Ok.ensures.done c.in-Ok.ensures.right))

@@ -45,11 +45,11 @@ returns-in-Halt-clause-spent g c =
     let b = c.args.self.now in
     let k = c.args.token in
     let t = c.in-Ok.found.its in
-    let does : c.what.result ≡ what_of (code l) (definitions l) b.ledger t = rw (← c.self.view_is) c.what.ensures in
+    let does : c.in-Ok.found.what ≡ what_of (code l) (definitions l) b.ledger t = c.in-Ok.ensures.found.what in
     let before : Lent = record { same = c.args.births.now.same.items; idle = c.args.births.now.idle.items; leave = c.args.out.now.leave.items } in
     let after : Lent = record { same = c.args.births.now.same.items; idle = c.args.births.now.idle.items; leave = c.step_end.new.out.leave.items } in
     let next : is_end (what_of (code l) (definitions l) b.ledger t) ≡ true = elim c.in-Halt.is [ inl e ↦ ap is_end (sym does ∙ e) | inr e ↦ ap is_end (sym does ∙ e) ] in
-    ok-on c.step_end.result _ (HasSpent l b k.slot k.serial k.pass before after) (λ e. end-spent l b k.slot k.serial k.pass before after t c.in-Ok.ensures.token next refl refl (e ∙ ap (λ z. z ++ k.pass ∷ []) c.reserve.ensures.leave)) c.step_end.ensures.left
+    ok-on c.step_end.result _ (HasSpent l b k.slot k.serial k.pass before after) (λ e. end-spent l b k.slot k.serial k.pass before after t c.in-Ok.ensures.found.unkept next refl refl (e ∙ ap (λ z. z ++ k.pass ∷ []) c.reserve.ensures.leave)) c.step_end.ensures.left
 
 pub returns-in-Seq-clause-spent : goal.returns-in-Seq-clause-spent
 returns-in-Seq-clause-spent g c =
@@ -57,11 +57,11 @@ returns-in-Seq-clause-spent g c =
     let b = c.args.self.now in
     let k = c.args.token in
     let t = c.in-Ok.found.its in
-    let does : c.what.result ≡ what_of (code l) (definitions l) b.ledger t = rw (← c.self.view_is) c.what.ensures in
+    let does : c.in-Ok.found.what ≡ what_of (code l) (definitions l) b.ledger t = c.in-Ok.ensures.found.what in
     let before : Lent = record { same = c.args.births.now.same.items; idle = c.args.births.now.idle.items; leave = c.args.out.now.leave.items } in
     let after : Lent = record { same = c.args.births.now.same.items; idle = c.args.births.now.idle.items; leave = c.step_on.new.out.leave.items } in
     let next : is_onward (what_of (code l) (definitions l) b.ledger t) ≡ true = elim c.in-Seq.is [ inl e ↦ ap is_onward (sym does ∙ e) | inr e ↦ ap is_onward (sym does ∙ e) ] in
-    ok-always c.step_on.result (HasSpent l b k.slot k.serial k.pass before after) (on-spent l b k.slot k.serial k.pass before after t c.in-Ok.ensures.token next refl refl (ap (λ z. z.items) c.step_on.ensures.leave ∙ c.reserve.ensures.leave))
+    ok-always c.step_on.result (HasSpent l b k.slot k.serial k.pass before after) (on-spent l b k.slot k.serial k.pass before after t c.in-Ok.ensures.found.unkept next refl refl (ap (λ z. z.items) c.step_on.ensures.leave ∙ c.reserve.ensures.leave))
 
 pub returns-in-Fork-clause-spent : goal.returns-in-Fork-clause-spent
 returns-in-Fork-clause-spent g c =
@@ -69,10 +69,10 @@ returns-in-Fork-clause-spent g c =
     let b = c.args.self.now in
     let k = c.args.token in
     let t = c.in-Ok.found.its in
-    let does : c.what.result ≡ what_of (code l) (definitions l) b.ledger t = rw (← c.self.view_is) c.what.ensures in
+    let does : c.in-Ok.found.what ≡ what_of (code l) (definitions l) b.ledger t = c.in-Ok.ensures.found.what in
     let before : Lent = record { same = c.args.births.now.same.items; idle = c.args.births.now.idle.items; leave = c.args.out.now.leave.items } in
     let after : Lent = record { same = c.step_fork.new.births.same.items; idle = c.step_fork.new.births.idle.items; leave = c.step_fork.new.out.leave.items } in
-    ok-of c.step_fork.result _ _ (HasSpent l b k.slot k.serial k.pass before after) (λ s. fork-spent l b k.slot k.serial k.pass before after t c.in-Ok.ensures.token (ap is_fork (sym does ∙ c.in-Fork.is)) s (ap (λ z. z.items) c.step_fork.ensures.idle) (ap (λ z. z.items) c.step_fork.ensures.leave ∙ c.reserve.ensures.leave)) c.step_fork.ensures.same
+    ok-of c.step_fork.result _ _ (HasSpent l b k.slot k.serial k.pass before after) (λ s. fork-spent l b k.slot k.serial k.pass before after t c.in-Ok.ensures.found.unkept (ap is_fork (sym does ∙ c.in-Fork.is)) s (ap (λ z. z.items) c.step_fork.ensures.idle) (ap (λ z. z.items) c.step_fork.ensures.leave ∙ c.reserve.ensures.leave)) c.step_fork.ensures.same
 
 pub returns-in-Prune-clause-spent : goal.returns-in-Prune-clause-spent
 returns-in-Prune-clause-spent g c =
@@ -80,10 +80,10 @@ returns-in-Prune-clause-spent g c =
     let b = c.args.self.now in
     let k = c.args.token in
     let t = c.in-Ok.found.its in
-    let does : c.what.result ≡ what_of (code l) (definitions l) b.ledger t = rw (← c.self.view_is) c.what.ensures in
+    let does : c.in-Ok.found.what ≡ what_of (code l) (definitions l) b.ledger t = c.in-Ok.ensures.found.what in
     let before : Lent = record { same = c.args.births.now.same.items; idle = c.args.births.now.idle.items; leave = c.args.out.now.leave.items } in
     let after : Lent = record { same = c.step_prune.new.births.same.items; idle = c.step_prune.new.births.idle.items; leave = c.step_prune.new.out.leave.items } in
-    ok-both c.step_prune.result _ _ _ _ (HasSpent l b k.slot k.serial k.pass before after) (λ s i. prune-spent l b k.slot k.serial k.pass before after t c.in-Ok.ensures.token (ap is_prune (sym does ∙ c.in-Prune.is)) s i (ap (λ z. z.items) c.step_prune.ensures.leave ∙ c.reserve.ensures.leave)) c.step_prune.ensures.same c.step_prune.ensures.idle
+    ok-both c.step_prune.result _ _ _ _ (HasSpent l b k.slot k.serial k.pass before after) (λ s i. prune-spent l b k.slot k.serial k.pass before after t c.in-Ok.ensures.found.unkept (ap is_prune (sym does ∙ c.in-Prune.is)) s i (ap (λ z. z.items) c.step_prune.ensures.leave ∙ c.reserve.ensures.leave)) c.step_prune.ensures.same c.step_prune.ensures.idle
 
 pub returns-in-Other-clause-spent : goal.returns-in-Other-clause-spent
 returns-in-Other-clause-spent g c =
@@ -91,10 +91,10 @@ returns-in-Other-clause-spent g c =
     let b = c.args.self.now in
     let k = c.args.token in
     let t = c.in-Ok.found.its in
-    let does : c.what.result ≡ what_of (code l) (definitions l) b.ledger t = rw (← c.self.view_is) c.what.ensures in
+    let does : c.in-Ok.found.what ≡ what_of (code l) (definitions l) b.ledger t = c.in-Ok.ensures.found.what in
     let before : Lent = record { same = c.args.births.now.same.items; idle = c.args.births.now.idle.items; leave = c.args.out.now.leave.items } in
     let after : Lent = record { same = c.step_other.new.births.same.items; idle = c.step_other.new.births.idle.items; leave = c.step_other.new.out.leave.items } in
-    ok-of c.step_other.result _ _ (HasSpent l b k.slot k.serial k.pass before after) (λ i. other-spent l b k.slot k.serial k.pass before after t c.in-Ok.ensures.token (ap is_other (sym does ∙ c.in-Other.is)) (ap (λ z. z.items) c.step_other.ensures.same) i (ap (λ z. z.items) c.step_other.ensures.leave ∙ c.reserve.ensures.leave)) c.step_other.ensures.idle
+    ok-of c.step_other.result _ _ (HasSpent l b k.slot k.serial k.pass before after) (λ i. other-spent l b k.slot k.serial k.pass before after t c.in-Ok.ensures.found.unkept (ap is_other (sym does ∙ c.in-Other.is)) (ap (λ z. z.items) c.step_other.ensures.same) i (ap (λ z. z.items) c.step_other.ensures.leave ∙ c.reserve.ensures.leave)) c.step_other.ensures.idle
 
 pub returns-in-Send-clause-spent : goal.returns-in-Send-clause-spent
 returns-in-Send-clause-spent g c =
@@ -102,7 +102,7 @@ returns-in-Send-clause-spent g c =
     let b = c.args.self.now in
     let k = c.args.token in
     let t = c.in-Ok.found.its in
-    let does : c.what.result ≡ what_of (code l) (definitions l) b.ledger t = rw (← c.self.view_is) c.what.ensures in
+    let does : c.in-Ok.found.what ≡ what_of (code l) (definitions l) b.ledger t = c.in-Ok.ensures.found.what in
     let before : Lent = record { same = c.args.births.now.same.items; idle = c.args.births.now.idle.items; leave = c.args.out.now.leave.items } in
     let after : Lent = record { same = c.send.new.births.same.items; idle = c.send.new.births.idle.items; leave = c.send.new.out.leave.items } in
-    ok-of c.send.result _ _ (HasSpent l b k.slot k.serial k.pass before after) (λ i. send-spent l b k.slot k.serial k.pass before after t c.in-Ok.ensures.token (ap is_send (sym does ∙ c.in-Send.is)) (ap (λ z. z.items) c.send.ensures.same) (subst (λ z. SpendsIdle k.pass before.idle after.idle z after.leave) c.reserve.ensures.leave i)) c.send.ensures.idle
+    ok-of c.send.result _ _ (HasSpent l b k.slot k.serial k.pass before after) (λ i. send-spent l b k.slot k.serial k.pass before after t c.in-Ok.ensures.found.unkept (ap is_send (sym does ∙ c.in-Send.is)) (ap (λ z. z.items) c.send.ensures.same) (subst (λ z. SpendsIdle k.pass before.idle after.idle z after.leave) c.reserve.ensures.leave i)) c.send.ensures.idle

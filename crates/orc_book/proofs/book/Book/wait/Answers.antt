@@ -1,4 +1,5 @@
 use Rattle.std.proofs.Common.{◌≡◌, ℕ, arith, refl, ap, sym, ◌∙◌, subst, Some}
+use Rattle.orc_frames.specs.Doing.{is_wait}
 use Rattle.orc_tables.specs.Steps.{group_at}
 use Rattle.orc_word.specs.Views.{group_of}
 use Rattle.orc_book.specs.Held.{Held, AreHeld, Changes, HasStayed, KeepsOne, kept_at, out_at, word_at}
@@ -41,8 +42,8 @@ keep_at-requires-clause-names g c =
     let ps = b.posts.items in
     let t = c.in-Ok.found.its in
     let n : ℕ = c.in-Ok.found.group in
-    let at : n ≡ group_at b.ledger.steps t.step = rw (← c.self.view_is) at c.in-Ok.ensures.group in
-    let named : group_of c.args.token.pass ≡ Some (word_at ps (group_at b.ledger.steps t.step)) = rw (← c.self.view_is) at c.in-Ok.ensures.token.0.2 in
+    let at : n ≡ group_at b.ledger.steps t.step = rw (← c.self.view_is) at c.in-Ok.ensures.found.group in
+    let named : group_of c.args.token.pass ≡ Some (word_at ps (group_at b.ledger.steps t.step)) = rw (← c.self.view_is) at c.in-Ok.ensures.found.unkept.0.2 in
     let k = stayed b.ledger ps c.reserve_at.new.posts.items _ c.reserve_at.ensures.same b.words.stands b.keeping in
     named ∙ ap (λ z. Some (word_at ps z)) (sym at) ∙ ap Some (sym (k.words n))
 
@@ -53,8 +54,8 @@ invariant_of-self-2 g c =
     let ps2 = c.keep_at.new.posts.items in
     let n : ℕ = c.in-Ok.found.group in
     let kept : c.kept_in-kept.result ≡ kept_at ps n = c.kept_in-kept.ensures in
-    let out : c.in-Ok.found.out ≡ out_at ps n = rw (← c.self.view_is) at c.in-Ok.ensures.out.0 in
-    let C : Changes ps n ps2 KeepsOne = keeps-one ps c.reserve_at.new.posts.items ps2 n c.reserve_at.ensures.same _ _ c.keep_at.ensures.more (omega (arith, kept)) (omega (arith, out, c.in-Ok.ensures.out.1)) in
+    let out : c.in-Ok.found.out ≡ out_at ps n = rw (← c.self.view_is) at c.in-Ok.ensures.found.out in
+    let C : Changes ps n ps2 KeepsOne = keeps-one ps c.reserve_at.new.posts.items ps2 n c.reserve_at.ensures.same _ _ c.keep_at.ensures.more (omega (arith, kept)) (omega (arith, out, c.in-Ok.ensures.found.some)) in
     subst (AreHeld ps2) (sym c.park.ensures.same) (kept-held b.ledger ps ps2 n C c.self.invariant)
 
 pub returns-clause-done : goal.returns-clause-done
@@ -64,16 +65,16 @@ returns-clause-done g c =
     let ps2 = c.keep_at.new.posts.items in
     let t = c.in-Ok.found.its in
     let n : ℕ = c.in-Ok.found.group in
-    let at : n ≡ group_at b.ledger.steps t.step = rw (← c.self.view_is) at c.in-Ok.ensures.group in
+    let at : n ≡ group_at b.ledger.steps t.step = rw (← c.self.view_is) at c.in-Ok.ensures.found.group in
     let kept : c.kept_in-kept.result ≡ kept_at ps n = c.kept_in-kept.ensures in
-    let out : c.in-Ok.found.out ≡ out_at ps n = rw (← c.self.view_is) at c.in-Ok.ensures.out.0 in
-    let C : Changes ps n ps2 KeepsOne = keeps-one ps c.reserve_at.new.posts.items ps2 n c.reserve_at.ensures.same _ _ c.keep_at.ensures.more (omega (arith, kept)) (omega (arith, out, c.in-Ok.ensures.out.1)) in
-    (t, c.in-Ok.ensures.token, c.waits.ensures.next c.if-not-waits.false, rw (← c.self.view_is) (subst (λ z. Changes ps z ps2 KeepsOne) at C))
+    let out : c.in-Ok.found.out ≡ out_at ps n = rw (← c.self.view_is) at c.in-Ok.ensures.found.out in
+    let C : Changes ps n ps2 KeepsOne = keeps-one ps c.reserve_at.new.posts.items ps2 n c.reserve_at.ensures.same _ _ c.keep_at.ensures.more (omega (arith, kept)) (omega (arith, out, c.in-Ok.ensures.found.some)) in
+    (t, c.in-Ok.ensures.found.unkept, ap is_wait (sym c.in-Ok.ensures.found.what ∙ c.in-Wait.is), rw (← c.self.view_is) (subst (λ z. Changes ps z ps2 KeepsOne) at C))
 
 pub overflow_add-kept : goal.overflow_add-kept
 overflow_add-kept g c =
     let b = c.self.inside in
     let ps = b.posts.items in
     let n : ℕ = c.in-Ok.found.group in
-    let out : c.in-Ok.found.out ≡ out_at ps n = rw (← c.self.view_is) at c.in-Ok.ensures.out.0 in
-    omega (arith, c.kept_in-kept.ensures, out, c.in-Ok.ensures.out.1, (c.self.invariant).tokens n, tokens-few b.ledger n b.ledger.tokens, c.token_count-tokens.ensures, c.token_count-tokens.type_inv)
+    let out : c.in-Ok.found.out ≡ out_at ps n = rw (← c.self.view_is) at c.in-Ok.ensures.found.out in
+    omega (arith, c.kept_in-kept.ensures, out, c.in-Ok.ensures.found.some, (c.self.invariant).tokens n, tokens-few b.ledger n b.ledger.tokens, c.token_count-tokens.ensures, c.token_count-tokens.type_inv)

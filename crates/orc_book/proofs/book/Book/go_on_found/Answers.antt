@@ -1,31 +1,32 @@
-use Rattle.std.proofs.Common.{◌≡◌, ap, sym, ◌∙◌, subst, Some}
+use Rattle.std.proofs.Common.{◌≡◌, ◌⊎◌, ap, sym, ◌∙◌, subst, Some}
 use Rattle.orc_rules.specs.Timed.{IsIn}
 use Rattle.orc_ledger_spec.specs.Moves.{Moves}
+use Rattle.orc_frames.specs.declared.action.Action.TheVariants as what
 use Rattle.orc_tables.specs.Steps.{group_at}
 use Rattle.orc_tables.specs.declared.records.Token.{Token}
 use Rattle.orc_word.specs.Views.{group_of}
 use Rattle.orc_book.specs.Held.{word_at}
 use Rattle.orc_book.proofs.Onwards.{went, went-group}
 use Rattle.orc_book.proofs.Moving.{went-held}
-use Rattle.orc_book.proofs.book.Book.go_on.Goals as goal
+use Rattle.orc_book.proofs.book.Book.go_on_found.Goals as goal
 
 pub invariant_of-self : goal.invariant_of-self
 invariant_of-self g c =
     let b = c.self.inside in
     let l = g.P.Program.listing in
-    let t = c.in-Ok.found.its in
-    let i : IsIn t b.ledger.tokens = rw (← c.self.view_is) at c.in-Ok.ensures.there in
+    let t = c.args.found.its in
+    let i : IsIn t b.ledger.tokens = rw (← c.self.view_is) at c.requires.found.there in
     let m = subst (λ m. Moves l b.ledger c.args.token.slot t m c.advance.new.cancelled.items c.advance.new.self) c.in-Ok-On.field-0-is c.in-Ok-On.ensures.done in
-    let W = went l b.ledger c.args.token.slot t c.advance.new.self _ (rw (← c.self.view_is) at (c.goes_on_next.ensures.next c.if-not-goes_on_next.false)) m in
+    let W = went l b.ledger c.args.token.slot t c.advance.new.self _ (subst (λ a. (a ≡ what.Seq) ⊎ (a ≡ what.Def)) (rw (← c.self.view_is) at c.requires.found.what) c.requires.next) m in
     went-held b.ledger c.advance.new.self c.stands.ensures.lawful.sound t i W.token W.scopes W.steps W.cells W.entry W.turns W.same b.posts.items c.self.invariant
 
 pub unreachable-requires : goal.unreachable-requires
 unreachable-requires g c =
     let b = c.self.inside in
     let l = g.P.Program.listing in
-    let t = c.in-Ok.found.its in
+    let t = c.args.found.its in
     let m = subst (λ m. Moves l b.ledger c.args.token.slot t m c.advance.new.cancelled.items c.advance.new.self) c.in-Ok-On.field-0-is c.in-Ok-On.ensures.done in
-    let W = went l b.ledger c.args.token.slot t c.advance.new.self _ (rw (← c.self.view_is) at (c.goes_on_next.ensures.next c.if-not-goes_on_next.false)) m in
+    let W = went l b.ledger c.args.token.slot t c.advance.new.self _ (subst (λ a. (a ≡ what.Seq) ⊎ (a ≡ what.Def)) (rw (← c.self.view_is) at c.requires.found.what) c.requires.next) m in
     c.in_default.ensures.none (W.held).0 ((W.held).1)
 
 pub born-requires : goal.born-requires
@@ -34,11 +35,11 @@ born-requires g c =
     let s' = c.advance.new.self in
     let ps = b.posts.items in
     let l = g.P.Program.listing in
-    let t = c.in-Ok.found.its in
+    let t = c.args.found.its in
     let m = subst (λ m. Moves l b.ledger c.args.token.slot t m c.advance.new.cancelled.items s') c.in-Ok-On.field-0-is c.in-Ok-On.ensures.done in
-    let W = went l b.ledger c.args.token.slot t s' _ (rw (← c.self.view_is) at (c.goes_on_next.ensures.next c.if-not-goes_on_next.false)) m in
+    let W = went l b.ledger c.args.token.slot t s' _ (subst (λ a. (a ≡ what.Seq) ⊎ (a ≡ what.Def)) (rw (← c.self.view_is) at c.requires.found.what) c.requires.next) m in
     let its : Token = c.in-Some._its in
     let h = c.in-Some.ensures.held in
     let group : group_at s'.steps its.step ≡ group_at b.ledger.steps t.step = went-group l g.P.Program.sites b.ledger s' c.stands.ensures.lawful c.args.token.slot t W its h.0 h.1 in
-    let named : group_of c.args.token.pass ≡ Some (word_at ps (group_at b.ledger.steps t.step)) = rw (← c.self.view_is) at c.in-Ok.ensures.token.0.2 in
+    let named : group_of c.args.token.pass ≡ Some (word_at ps (group_at b.ledger.steps t.step)) = rw (← c.self.view_is) at c.requires.found.unkept.0.2 in
     record { held = (its, h.0, named ∙ ap (λ z. Some (word_at ps z)) (sym group)) }

@@ -17,7 +17,7 @@ use Rattle.orc_book.proofs.Free.{free-none, free-apart}
 use Rattle.orc_book.proofs.Posts.{stayed, other-at, mine-at, length-becomes}
 use Rattle.orc_book.proofs.Standing.{opens-word}
 use Rattle.orc_book.proofs.Reading.{tried}
-use Rattle.orc_book.proofs.book.Book.other.Goals as goal
+use Rattle.orc_book.proofs.book.Book.other_found.Goals as goal
 
 pub invariant_of-self : goal.invariant_of-self
 invariant_of-self g c =
@@ -77,10 +77,10 @@ bring_at-requires-clause-names g c =
     let ps = b.posts.items in
     let ps0 = c.reserve_opening.new.posts.items in
     let ps1 = c.grow_to.new.posts.items in
-    let t = c.in-Ok.found.its in
-    let n : ℕ = c.in-Ok.found.group in
-    let at : n ≡ group_at s.steps t.step = rw (← c.self.view_is) at c.in-Ok.ensures.group in
-    let named : group_of c.args.token.pass ≡ Some (word_at ps (group_at s.steps t.step)) = rw (← c.self.view_is) at c.in-Ok.ensures.token.0.2 in
+    let t = c.args.found.its in
+    let n : ℕ = c.args.found.group in
+    let at : n ≡ group_at s.steps t.step = rw (← c.self.view_is) at c.requires.found.group in
+    let named : group_of c.args.token.pass ≡ Some (word_at ps (group_at s.steps t.step)) = rw (← c.self.view_is) at c.requires.found.unkept.0.2 in
     let k = stayed-grown s ps0 ps1 c.grow_to.ensures.grown ps b.words.stands b.keeping (stayed s ps ps0 _ c.reserve_opening.ensures.same b.words.stands b.keeping) in
     named ∙ ap (λ z. Some (word_at ps z)) (sym at) ∙ ap Some (sym (k.words n))
 
@@ -90,9 +90,9 @@ grow_to-requires-clause-number g c =
     let s = b.ledger in
     let l = g.P.Program.listing in
     let s' = c.advance.new.self in
-    let t = c.in-Ok.found.its in
+    let t = c.args.found.its in
     let m = subst (λ m. Moves l s c.args.token.slot t m c.advance.new.cancelled.items s') c.in-Ok-On.field-0-is c.in-Ok-On.ensures.done in
-    let O = tried l s c.args.token.slot t s' _ (rw (← c.self.view_is) at (c.tries_next.ensures.next c.if-not-tries_next.false)) m in
+    let O = tried l s c.args.token.slot t s' _ (sym (rw (← c.self.view_is) at c.requires.found.what) ∙ c.requires.next) m in
     let number : ℕ = O.number in
     let F : IsFree s number = O.free in
     let T = O.done in
@@ -114,7 +114,7 @@ bring_at-requires-clause-there g c =
     let ps = b.posts.items in
     let ps0 = c.reserve_opening.new.posts.items in
     let C = c.reserve_opening.ensures.same in
-    let there : c.in-Ok.found.group < length ps = rw (← c.self.view_is) at c.in-Ok.ensures.out.2 in
+    let there : c.args.found.group < length ps = rw (← c.self.view_is) at c.requires.found.post in
     omega (arith, there, length-becomes ps ps0 _ C.0 C.1 C.2, c.grow_to.ensures.grown.more)
 
 pub raise_at-requires-clause-empty : goal.raise_at-requires-clause-empty
@@ -130,12 +130,12 @@ raise_at-requires-clause-empty g c =
     let G = c.stands.ensures.grouped in
     let s' = c.advance.new.self in
     let ps2 = c.bring_at.new.posts.items in
-    let t = c.in-Ok.found.its in
-    let i : IsIn t s.tokens = rw (← c.self.view_is) at c.in-Ok.ensures.there in
-    let n : ℕ = c.in-Ok.found.group in
-    let at : n ≡ group_at s.steps t.step = rw (← c.self.view_is) at c.in-Ok.ensures.group in
+    let t = c.args.found.its in
+    let i : IsIn t s.tokens = rw (← c.self.view_is) at c.requires.found.there in
+    let n : ℕ = c.args.found.group in
+    let at : n ≡ group_at s.steps t.step = rw (← c.self.view_is) at c.requires.found.group in
     let m = subst (λ m. Moves l s c.args.token.slot t m c.advance.new.cancelled.items s') c.in-Ok-On.field-0-is c.in-Ok-On.ensures.done in
-    let O = tried l s c.args.token.slot t s' _ (rw (← c.self.view_is) at (c.tries_next.ensures.next c.if-not-tries_next.false)) m in
+    let O = tried l s c.args.token.slot t s' _ (sym (rw (← c.self.view_is) at c.requires.found.what) ∙ c.requires.next) m in
     let number : ℕ = O.number in
     let F : IsFree s number = O.free in
     let T = O.done in
@@ -161,12 +161,12 @@ invariant_of-self-in-Ok-On g c =
     let G = c.stands.ensures.grouped in
     let s' = c.advance.new.self in
     let ps2 = c.bring_at.new.posts.items in
-    let t = c.in-Ok.found.its in
-    let i : IsIn t s.tokens = rw (← c.self.view_is) at c.in-Ok.ensures.there in
-    let n : ℕ = c.in-Ok.found.group in
-    let at : n ≡ group_at s.steps t.step = rw (← c.self.view_is) at c.in-Ok.ensures.group in
+    let t = c.args.found.its in
+    let i : IsIn t s.tokens = rw (← c.self.view_is) at c.requires.found.there in
+    let n : ℕ = c.args.found.group in
+    let at : n ≡ group_at s.steps t.step = rw (← c.self.view_is) at c.requires.found.group in
     let m = subst (λ m. Moves l s c.args.token.slot t m c.advance.new.cancelled.items s') c.in-Ok-On.field-0-is c.in-Ok-On.ensures.done in
-    let O = tried l s c.args.token.slot t s' _ (rw (← c.self.view_is) at (c.tries_next.ensures.next c.if-not-tries_next.false)) m in
+    let O = tried l s c.args.token.slot t s' _ (sym (rw (← c.self.view_is) at c.requires.found.what) ∙ c.requires.next) m in
     let number : ℕ = O.number in
     let F : IsFree s number = O.free in
     let T = O.done in
@@ -180,10 +180,10 @@ invariant_of-self-in-Ok-On g c =
     let D = c.raise_at.ensures in
     let ps3 = c.raise_at.new.posts.items in
     let k = stayed-grown s ps0 ps1 c.grow_to.ensures.grown ps b.words.stands b.keeping (stayed s ps ps0 _ c.reserve_opening.ensures.same b.words.stands b.keeping) in
-    let out : c.in-Ok.found.out ≡ out_at ps n = rw (← c.self.view_is) at c.in-Ok.ensures.out.0 in
+    let out : c.args.found.out ≡ out_at ps n = rw (← c.self.view_is) at c.requires.found.out in
     let before : out_at ps2 number ≡ 0 = other-at out_of ps1 ps2 n C.0 C.1 C.2 number (λ e. off (sym e)) ∙ none.1 in
     let B : Becomes ps2 number D.0 D.1 ps3 = subst (λ z. Becomes ps2 z D.0 D.1 ps3) its D.2 in
-    let fewer : (C.1).out + 1 ≡ (C.0).out = omega (arith, (C.4).2, out, k.out n, ap out_of (C.2).0, c.in-Ok.ensures.out.1) in
+    let fewer : (C.1).out + 1 ≡ (C.0).out = omega (arith, (C.4).2, out, k.out n, ap out_of (C.2).0, c.requires.found.some) in
     tried-held s s' L.sound t i _ _ _ number T ps1 ps2 ps3 H (C.0, C.1, subst (λ z. Becomes ps1 z C.0 C.1 ps2) at C.2, C.3, ((C.4).0, (C.4).1, fewer)) D.0 D.1 B D.4 D.5 (omega (arith, D.6, before, ap out_of B.0))
 
 pub born-requires : goal.born-requires
@@ -199,12 +199,12 @@ born-requires g c =
     let G = c.stands.ensures.grouped in
     let s' = c.advance.new.self in
     let ps2 = c.bring_at.new.posts.items in
-    let t = c.in-Ok.found.its in
-    let i : IsIn t s.tokens = rw (← c.self.view_is) at c.in-Ok.ensures.there in
-    let n : ℕ = c.in-Ok.found.group in
-    let at : n ≡ group_at s.steps t.step = rw (← c.self.view_is) at c.in-Ok.ensures.group in
+    let t = c.args.found.its in
+    let i : IsIn t s.tokens = rw (← c.self.view_is) at c.requires.found.there in
+    let n : ℕ = c.args.found.group in
+    let at : n ≡ group_at s.steps t.step = rw (← c.self.view_is) at c.requires.found.group in
     let m = subst (λ m. Moves l s c.args.token.slot t m c.advance.new.cancelled.items s') c.in-Ok-On.field-0-is c.in-Ok-On.ensures.done in
-    let O = tried l s c.args.token.slot t s' _ (rw (← c.self.view_is) at (c.tries_next.ensures.next c.if-not-tries_next.false)) m in
+    let O = tried l s c.args.token.slot t s' _ (sym (rw (← c.self.view_is) at c.requires.found.what) ∙ c.requires.next) m in
     let number : ℕ = O.number in
     let F : IsFree s number = O.free in
     let T = O.done in
@@ -217,8 +217,8 @@ born-requires g c =
     let off : n ≡ number → ⊥ = λ e. free-apart l sites s L G number F t i (sym at ∙ e) in
     let D = c.raise_at.ensures in
     let ps3 = c.raise_at.new.posts.items in
-    let named : group_of c.in-Ok-open_word.opened.pass ≡ Some c.in-Ok-open_word.opened.word = c.in-Ok-open_word.ensures.opened in
-    let words : word_at ps3 c.group_of_token-number.result ≡ c.in-Ok-open_word.opened.word = mine-at word_of ps2 ps3 _ D.0 D.1 D.2 ∙ D.3 in
+    let named : group_of c.in-Ok.opened.pass ≡ Some c.in-Ok.opened.word = c.in-Ok.ensures.opened in
+    let words : word_at ps3 c.group_of_token-number.result ≡ c.in-Ok.opened.word = mine-at word_of ps2 ps3 _ D.0 D.1 D.2 ∙ D.3 in
     record { held = (inner, c.in-Some.ensures.held.0, named ∙ ap Some (sym words ∙ ap (word_at ps3) c.group_of_token-number.ensures)) }
 
 pub unreachable-requires : goal.unreachable-requires
@@ -232,12 +232,12 @@ unreachable-requires g c =
     let L = c.stands.ensures.lawful in
     let G = c.stands.ensures.grouped in
     let s' = c.advance.new.self in
-    let t = c.in-Ok.found.its in
-    let i : IsIn t s.tokens = rw (← c.self.view_is) at c.in-Ok.ensures.there in
-    let n : ℕ = c.in-Ok.found.group in
-    let at : n ≡ group_at s.steps t.step = rw (← c.self.view_is) at c.in-Ok.ensures.group in
+    let t = c.args.found.its in
+    let i : IsIn t s.tokens = rw (← c.self.view_is) at c.requires.found.there in
+    let n : ℕ = c.args.found.group in
+    let at : n ≡ group_at s.steps t.step = rw (← c.self.view_is) at c.requires.found.group in
     let m = subst (λ m. Moves l s c.args.token.slot t m c.advance.new.cancelled.items s') c.in-Ok-On.field-0-is c.in-Ok-On.ensures.done in
-    let O = tried l s c.args.token.slot t s' _ (rw (← c.self.view_is) at (c.tries_next.ensures.next c.if-not-tries_next.false)) m in
+    let O = tried l s c.args.token.slot t s' _ (sym (rw (← c.self.view_is) at c.requires.found.what) ∙ c.requires.next) m in
     c.in_default-held.ensures.none _ O.held
 
 pub reserve_opening-requires-clause-few : goal.reserve_opening-requires-clause-few
@@ -254,13 +254,13 @@ returns-in-Some-clause-word g c =
     let s' = c.advance.new.self in
     let ps3 = c.raise_at.new.posts.items in
     let D = c.raise_at.ensures in
-    let named : word_at ps3 c.group_of_token-number.result ≡ c.in-Ok-open_word.opened.word = mine-at word_of _ ps3 _ D.0 D.1 D.2 ∙ D.3 in
-    rw (← c.self.view_is) (opens-word (record { ledger = b.ledger; posts = b.posts.items; stands = b.words.stands; marks = b.keeping }) (record { ledger = s'; posts = ps3; stands = c.open.new.self.stands; marks = b.keeping }) c.born.result c.in-Some.inner c.args.token.slot c.group_of_token-number.result c.in-Ok-open_word.opened.word b.words.next c.born.ensures.token c.born.ensures.same.0 c.in-Some.ensures.held.0 c.group_of_token-number.ensures named c.in-Ok-open_word.ensures.next c.open.ensures refl)
+    let named : word_at ps3 c.group_of_token-number.result ≡ c.in-Ok.opened.word = mine-at word_of _ ps3 _ D.0 D.1 D.2 ∙ D.3 in
+    rw (← c.self.view_is) (opens-word (record { ledger = b.ledger; posts = b.posts.items; stands = b.words.stands; marks = b.keeping }) (record { ledger = s'; posts = ps3; stands = c.open.new.self.stands; marks = b.keeping }) c.born.result c.in-Some.inner c.args.token.slot c.group_of_token-number.result c.in-Ok.opened.word b.words.next c.born.ensures.token c.born.ensures.same.0 c.in-Some.ensures.held.0 c.group_of_token-number.ensures named c.in-Ok.ensures.next c.open.ensures refl)
 
 pub returns-in-Err-open_word-clause-why : goal.returns-in-Err-open_word-clause-why
 returns-in-Err-open_word-clause-why g c =
     let l = g.P.Program.listing in
     let b = c.args.self.now in
-    let t = c.in-Ok.found.its in
-    let free : IsHindered l b.ledger t ledger.Memory = subst (λ a. Hinders b.ledger t a ledger.Memory) (sym (c.tries_next.ensures.next c.if-not-tries_next.false)) (rw (← c.self.view_is) (c.in_default.ensures.places, c.in_default.ensures.room)) in
-    not-opened l b c.args.token g.P.Naming.table.words is_other t (c.in-Ok.ensures.found, sym c.tries_next.ensures.says ∙ c.if-not-tries_next.false) free _ (rw (← c.self.view_is) c.in-Err-open_word.ensures.why)
+    let t = c.args.found.its in
+    let free : IsHindered l b.ledger t ledger.Memory = subst (λ a. Hinders b.ledger t a ledger.Memory) (sym c.requires.next ∙ c.requires.found.what) (rw (← c.self.view_is) (c.in_default.ensures.places, c.in_default.ensures.room)) in
+    not-opened l b c.args.token g.P.Naming.table.words is_other t (c.requires.found.found, ap is_other (sym c.requires.found.what ∙ c.requires.next)) free _ (rw (← c.self.view_is) c.in-Err-open_word.ensures.why)
