@@ -197,17 +197,17 @@ beside() {
 }
 
 # prove ROOT JOBS CRATE: proves and builds a library, or the program that checks journals. Those below it are built, so `rt` makes no quick pass over
-# the sources first.
+# the sources first. It is `nice` to the preview, for which somebody waits.
 prove() {
     local status=0 built=$1/crates/$3/out/$3
     if has_failed; then return 1; fi
     if [ "$3" = orc_certify ]; then
         # It is run without words, so its status says nothing: it is built, or it isn't.
         rm -f "$built"
-        (cd "$1/crates/$3" && exec rt run --jobs "$2") >"$room/$3.log" 2>&1 || status=$?
+        (cd "$1/crates/$3" && exec nice rt run --jobs "$2") >"$room/$3.log" 2>&1 || status=$?
         if [ -x "$built" ]; then status=0; fi
     else
-        (cd "$1/crates/$3" && exec rt lib --jobs "$2") >"$room/$3.log" 2>&1 || status=$?
+        (cd "$1/crates/$3" && exec nice rt lib --jobs "$2") >"$room/$3.log" 2>&1 || status=$?
     fi
     cat "$room/$3.log" >>"$log" || true
     [ "$status" = 0 ] || fail "$3" "$status"
