@@ -10,9 +10,6 @@ use std::time::{Clock, Duration};
 /// How often a gate looks before it gives up.
 const LOOKS: u64 = 2_000_000_000;
 
-/// How many microseconds a call of `Ask` sleeps.
-const SLEEP: u64 = 1000;
-
 /// Holds nobody, and doesn't say so: all workers are at work.
 #[derive(Drop)]
 pub struct Slow;
@@ -63,21 +60,23 @@ impl Gate for Turnstile {
     }
 }
 
-/// Sites by the table, whose calls of one site sleep a while.
+/// Sites by the table, whose calls of one site sleep so many microseconds.
 #[derive(Drop)]
 pub struct Sleepy<'a, R: Clock> {
     rt: &'a R,
     scripted: Scripted<'a>,
     site: Option<u32>,
+    sleep: u64,
 }
 
 impl<'a, R: Clock> Sleepy<'a, R> {
-    /// Sites of which the calls of `Ask` sleep.
-    pub fn new(rt: &'a R, answers: &'a Answers) -> Sleepy<'a, R> {
+    /// Sites of which the calls of `Ask` sleep so many microseconds.
+    pub fn new(rt: &'a R, answers: &'a Answers, sleep: u64) -> Sleepy<'a, R> {
         Sleepy {
             rt,
             scripted: Scripted::new(answers),
             site: answers.site_named(b"Ask"),
+            sleep,
         }
     }
 }
@@ -87,7 +86,7 @@ impl<'a, R: Clock> Sites for Sleepy<'a, R> {
 
     fn call(&self, request: &Request) -> Result<SiteCall<'a>, AllocError> {
         if self.site == Some(request.site) {
-            thread::sleep(self.rt, Duration::from_micros(SLEEP));
+            thread::sleep(self.rt, Duration::from_micros(self.sleep));
         }
         self.scripted.call(request)
     }

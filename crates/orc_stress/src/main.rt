@@ -2,7 +2,7 @@
 //! that isn't accepted.
 //!
 //!     orc_stress ROUNDS                       each program so often, on 2, 4 and 16 workers
-//!     orc_stress NAME WORKERS [ROUNDS]        one of them on so many workers, once where nothing is said; also `due` and `asks`
+//!     orc_stress NAME WORKERS [ROUNDS]        one of them on so many workers, once where nothing is said; also `due`, `asks` and `nap`
 #![tactic(auto)]
 
 mod gates;
@@ -18,7 +18,7 @@ use std::sync::Wait;
 use std::thread::Threads;
 use std::time::Clock;
 use std::{env, io};
-use storm::{ASKS, DUE, STORMS, Storm, run};
+use storm::{ASKS, DUE, NAP, STORMS, Storm, run};
 
 /// How often each program is run where no argument says so.
 const ROUNDS: u32 = 3;
@@ -140,6 +140,17 @@ fn tell<R: Print>(
     }
 }
 
+// How many microseconds each call of a program's site sleeps, if it does.
+fn sleep_of(storm: &Storm) -> Option<u64> {
+    if storm.name == ASKS.name {
+        Some(1_000)
+    } else if storm.name == NAP.name {
+        Some(1_000_000)
+    } else {
+        None
+    }
+}
+
 // One program so often on so many workers.
 fn run_one<R: Threads + Wait + Sync + Print + Clock>(
     rt: &R,
@@ -153,11 +164,12 @@ fn run_one<R: Threads + Wait + Sync + Print + Clock>(
             println!(rt; "fault Memory")?;
             continue;
         };
-        let played = if storm.name == ASKS.name {
-            let sites = Sleepy::new(rt, &loaded.answers);
-            run(rt, alloc, &loaded, &sites, &Slow, workers)
-        } else {
-            run_scripted(rt, alloc, &loaded, &Slow, workers)
+        let played = match sleep_of(storm) {
+            Some(sleep) => {
+                let sites = Sleepy::new(rt, &loaded.answers, sleep);
+                run(rt, alloc, &loaded, &sites, &Slow, workers)
+            }
+            None => run_scripted(rt, alloc, &loaded, &Slow, workers),
         };
         tell(rt, alloc, storm, played)?;
     }
@@ -175,6 +187,9 @@ fn storm_named(name: &str) -> Option<Storm> {
     }
     if name == ASKS.name {
         return Some(ASKS);
+    }
+    if name == NAP.name {
+        return Some(NAP);
     }
     None
 }

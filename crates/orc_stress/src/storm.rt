@@ -104,6 +104,15 @@ pub const ASKS: Storm = Storm {
     values: &[1],
 };
 
+/// One call, which nothing goes beside.
+pub const NAP: Storm = Storm {
+    name: "nap",
+    source: b"Ask()",
+    end: End::Halted,
+    published: 1,
+    values: &[1],
+};
+
 impl Storm {
     /// A program in which each of so many workers can make a call of its own.
     pub fn held(source: &'static [u8], workers: usize) -> Storm {
