@@ -35,5 +35,5 @@ pub(crate) fn begin<P: Program + Naming>(
     let pass = inputs.groups.open(idle, 0).ok()?;
     let (book, token) = Book::<P>::new(alloc, inputs.graph, true, limit, words, pass).ok()?;
     let passes = Passes::new(alloc, supply);
-    Replay::begin(alloc, inputs, book, token, passes, words).ok()
+    Replay::begin(alloc, book, token, passes, words).ok()
 }

@@ -13,7 +13,7 @@ use orc_ledger::{Ledger, Next};
 use orc_load::load;
 use orc_log::Program;
 use orc_rules::answers::Answers;
-use orc_rules::entry::State;
+use orc_rules::entry::{Entry, State};
 use orc_rules::limits::MOST_ENTRIES;
 use orc_word::{Naming, Unnamed};
 use std::alloc::Global;
@@ -114,10 +114,11 @@ fn follow<P: Program + Naming>(
     replay: &mut Replay<P>,
     journal: &Journal,
 ) -> Result<(), Stop> {
+    let mut entry = Entry::Tick(0);
     for at in 0..journal.len() {
-        let Some(entry) = journal.get(at) else {
-            return Ok(());
-        };
+        if !journal.read(at, &mut entry) {
+            break;
+        }
         if let Err(why) = replay.enter(inputs, &entry) {
             return Err(Stop {
                 at: at.saturating_add(1),

@@ -80,7 +80,7 @@ pub(crate) fn ends_after_a_kill<P: Program + Naming>(
     so(replay.book.dying() == 0 && leave.len() == 1)?;
     let owed = leave.pop()?;
     so(owed.group() == Some(0))?;
-    replay.wake(inputs, 1).ok()?;
+    replay.wake(1).ok()?;
     let token = replay.take_token(2)?;
     let own = replay.book.publish(inputs.graph, token).ok()?;
     leave_one(inputs, &mut replay, owed)?;
@@ -149,7 +149,7 @@ pub(crate) fn keeps_words_of_the_killed<P: Program + Naming>(
         .book
         .bind(inputs.groups, inputs.graph, token, &mut leave)
         .ok()?;
-    replay.wake(inputs, 1).ok()?;
+    replay.wake(1).ok()?;
     enter_all(inputs, &mut replay, "send 3 5 1\n")?;
     let token = replay.take_token(5)?;
     let token = is_full(inputs, &mut replay, token)?;
@@ -160,7 +160,7 @@ pub(crate) fn keeps_words_of_the_killed<P: Program + Naming>(
         _ => return None,
     }
     so(replay.book.dying() == 0)?;
-    replay.hold(inputs, token).ok()?;
+    replay.hold(token).ok()?;
     enter_all(inputs, &mut replay, "open 5 2 6 7\n")?;
     let lines = "seq 1 2\nopen 2 1 3 4\nbind 4 1 1\nsend 3 5 1\nopen 5 2 6 7\n";
     has_written(alloc, inputs, replay, lines)

@@ -166,7 +166,7 @@ pub(crate) fn refuses_other_moves<P: Program + Naming>(
     let token = binds_not(inputs, &mut replay, token, &mut leave)?;
     let token = forks_not(inputs, &mut replay, token)?;
     so(replay.book.entries() == 0 && leave.is_empty())?;
-    replay.hold(inputs, token).ok()?;
+    replay.hold(token).ok()?;
     enter_all(inputs, &mut replay, "seq 1 2\n")?;
     has_written(alloc, inputs, replay, "seq 1 2\n")
 }
@@ -215,7 +215,7 @@ pub(crate) fn refuses_words_that_are_named<P: Program + Naming>(
         Ok(_) => return None,
         Err(refused) => so(refused.why == BookFault::Gone)?,
     }
-    replay.hold(inputs, token).ok()?;
+    replay.hold(token).ok()?;
     enter_all(inputs, &mut replay, "open 1 1 2 3\n")?;
     has_written(alloc, inputs, replay, "open 1 1 2 3\n")
 }

@@ -25,11 +25,9 @@ const MOST_DYING: usize = 512;
 pub(crate) enum Odd {
     /// No such token is out, or no such call pends.
     Gone,
-    /// The token does something else next.
-    Word,
     /// The side that the entry leaves was not left by its last pass: by the rules those inside may do nothing but make moves of marks.
     Live,
-    /// The call has another answer, or is due at another time.
+    /// The token does something else next, or the call has another answer, or is due at another time.
     Wrong,
     /// Something else comes next than this tick.
     Time,
@@ -52,11 +50,11 @@ impl From<BookFault> for Odd {
     }
 }
 
-/// A token that is out, and what it does next: as long as it is out that stays the same.
+/// The token that is out in a slot, if one is, and whether the slot is among those that are still to be looked at.
 #[derive(Drop)]
-struct Out<P: Naming> {
-    token: Token<P>,
-    what: Action,
+struct Place<P: Naming> {
+    token: Option<Token<P>>,
+    is_listed: bool,
 }
 
 /// A run whose entries are told one after another.
@@ -65,8 +63,10 @@ pub(crate) struct Replay<P: Program + Naming> {
     pub passes: Passes<P>,
     sides: Sides,
     // The tokens that are out by their slots, and the slot of each token by its mark; there is no mark 0.
-    out: Vec<Option<Out<P>>>,
+    out: Vec<Place<P>>,
     slots: Vec<usize>,
+    // The slots in which a token may wait that the book doesn't keep yet.
+    listed: Vec<usize>,
     // How many of the cancels of the last bind are still to be told.
     owed: usize,
     // Lent to the book's calls.
@@ -85,6 +85,7 @@ impl<P: Program + Naming> Drop for Replay<P> {
             sides,
             out,
             slots,
+            listed,
             owed: _,
             leave,
             births,
@@ -96,6 +97,7 @@ impl<P: Program + Naming> Drop for Replay<P> {
         drop(sides);
         drop(out);
         drop(slots);
+        drop(listed);
         drop(leave);
         drop(births);
         drop(step);
@@ -103,29 +105,10 @@ impl<P: Program + Naming> Drop for Replay<P> {
     }
 }
 
-// Whether what a token does next is the entry.
-fn says(what: Action, entry: &Entry) -> bool {
-    match (what, entry) {
-        (Action::Halt, Entry::End(_)) => true,
-        (Action::Fork, Entry::Fork(_, _, _)) => true,
-        (Action::Seq, Entry::Seq(_, _)) => true,
-        (Action::Other, Entry::Other(_, _)) => true,
-        (Action::Prune, Entry::Open(_, _, _, _)) => true,
-        (Action::Def, Entry::Def(_, _)) => true,
-        (Action::Void, Entry::Void(_)) => true,
-        (Action::Call, Entry::Call(_, _, _, _)) => true,
-        (Action::Publish(value), Entry::Publish(_, v)) => value == *v,
-        (Action::Send(value), Entry::Send(_, _, v)) => value == *v,
-        (Action::Bind(cell, value), Entry::Bind(_, c, v)) => cell == *c && value == *v,
-        _ => false,
-    }
-}
-
 impl<P: Program + Naming> Replay<P> {
     /// A run that has begun, whose first token is out. Its words are as many as are said.
     pub(crate) fn begin(
         alloc: Global,
-        inputs: &Inputs<'_, P>,
         book: Book<P>,
         token: Token<P>,
         passes: Passes<P>,
@@ -144,13 +127,14 @@ impl<P: Program + Naming> Replay<P> {
             sides,
             out: Vec::new(alloc),
             slots,
+            listed: Vec::new(alloc),
             owed: 0,
             leave: Vec::new(alloc),
             births: Births::new(alloc),
             step: StepOut::new(alloc),
             args: Args::new(),
         };
-        replay.stand(inputs, token)?;
+        replay.stand(token)?;
         Ok(replay)
     }
 
@@ -163,8 +147,8 @@ impl<P: Program + Naming> Replay<P> {
             return Err(Odd::Other);
         }
         match entry {
-            Entry::Return(number, _, value) => self.answer(inputs, *number, Answer::Value(*value))?,
-            Entry::ReturnHalt(number) => self.answer(inputs, *number, Answer::Halt)?,
+            Entry::Return(number, _, value) => self.answer(*number, Answer::Value(*value))?,
+            Entry::ReturnHalt(number) => self.answer(*number, Answer::Halt)?,
             Entry::Lost(cell) => self.halt(inputs, Side::Right(*cell))?,
             Entry::Right(mark, _) => self.halt(inputs, Side::Left(*mark))?,
             Entry::Tick(time) => self.tick(inputs, *time)?,
@@ -177,118 +161,141 @@ impl<P: Program + Naming> Replay<P> {
     fn advance(&mut self, inputs: &Inputs<'_, P>, entry: &Entry) -> Result<(), Odd> {
         match entry {
             Entry::End(mark) | Entry::Void(mark) => {
-                let token = self.take(*mark, entry)?;
+                let token = self.take(*mark)?;
                 self.end(inputs, token)
             }
             Entry::Fork(mark, _, _) => {
-                let token = self.take(*mark, entry)?;
+                let token = self.take(*mark)?;
                 self.fork(inputs, token)
             }
             Entry::Seq(mark, _) | Entry::Def(mark, _) => {
-                let token = self.take(*mark, entry)?;
+                let token = self.take(*mark)?;
                 self.go_on(inputs, token)
             }
             Entry::Open(mark, cell, _, _) => {
-                let token = self.take(*mark, entry)?;
+                let token = self.take(*mark)?;
                 self.prune(inputs, token, *cell)
             }
             Entry::Other(mark, _) => {
-                let token = self.take(*mark, entry)?;
+                let token = self.take(*mark)?;
                 self.other(inputs, token, *mark)
             }
             Entry::Send(mark, _, _) => {
-                let token = self.take(*mark, entry)?;
+                let token = self.take(*mark)?;
                 self.send(inputs, token)
             }
             Entry::Call(mark, number, _, _) => {
-                let token = self.take(*mark, entry)?;
+                let token = self.take(*mark)?;
                 self.call(inputs, token, *number)
             }
             Entry::Bind(mark, cell, _) => {
-                let token = self.take(*mark, entry)?;
+                let token = self.take(*mark)?;
                 self.bind(inputs, token, *cell)
             }
             Entry::Publish(mark, _) => {
-                let token = self.take(*mark, entry)?;
+                let token = self.take(*mark)?;
                 self.publish(inputs, token)
             }
             _ => Err(Odd::Other),
         }
     }
 
-    /// The token with this mark, if it is out and does next what the entry says.
-    fn take(&mut self, mark: u64, entry: &Entry) -> Result<Token<P>, Odd> {
-        let Some(out) = self.take_out(mark) else {
-            return Err(Odd::Gone);
-        };
-        if !says(out.what, entry) {
-            return Err(Odd::Word);
+    fn take(&mut self, mark: u64) -> Result<Token<P>, Odd> {
+        match self.take_token(mark) {
+            Some(token) => Ok(token),
+            None => Err(Odd::Gone),
         }
-        Ok(out.token)
-    }
-
-    fn take_out(&mut self, mark: u64) -> Option<Out<P>> {
-        let slot = self.slots.get(mark as usize).copied()?;
-        let place = self.out.get_mut(slot)?;
-        let out = place.take()?;
-        if out.token.serial == mark {
-            return Some(out);
-        }
-        *place = Some(out);
-        None
     }
 
     /// The token with this mark, if it is out. The replay doesn't have it any more then.
     pub(crate) fn take_token(&mut self, mark: u64) -> Option<Token<P>> {
-        match self.take_out(mark) {
-            Some(out) => Some(out.token),
-            None => None,
+        let slot = self.slots.get(mark as usize).copied()?;
+        let place = self.out.get_mut(slot)?;
+        let token = place.token.take()?;
+        if token.serial == mark {
+            return Some(token);
         }
+        place.token = Some(token);
+        None
     }
 
     /// A token that has the next mark.
-    pub(crate) fn stand(&mut self, inputs: &Inputs<'_, P>, token: Token<P>) -> Result<(), Odd> {
+    pub(crate) fn stand(&mut self, token: Token<P>) -> Result<(), Odd> {
         if token.serial != self.slots.len() as u64 {
             return Err(Odd::Other);
         }
         if self.slots.push(token.slot).is_err() {
             return Err(Odd::Memory);
         }
-        self.hold(inputs, token)
+        self.hold(token)
     }
 
-    /// A token that is out; the book keeps it where it waits.
-    pub(crate) fn hold(&mut self, inputs: &Inputs<'_, P>, token: Token<P>) -> Result<(), Odd> {
-        let Some(view) = self.book.view(inputs.graph, token.slot, token.serial) else {
-            return Err(Odd::Gone);
+    /// A token is out in its slot. One that was there is gone, and its pass is to be left.
+    pub(crate) fn hold(&mut self, token: Token<P>) -> Result<(), Odd> {
+        let slot = token.slot;
+        self.reach(slot)?;
+        let Some(place) = self.out.get_mut(slot) else {
+            return Err(Odd::Memory);
         };
-        if let Action::Wait(_) = view.what {
-            return match self.book.wait(inputs.graph, token) {
-                Ok(()) => Ok(()),
-                Err(refused) => Err(Odd::from(refused.why)),
-            };
+        if !place.is_listed {
+            if self.listed.push(slot).is_err() {
+                return Err(Odd::Memory);
+            }
+            place.is_listed = true;
         }
-        let what = view.what;
-        self.put(Out { token, what })
+        match mem::replace(&mut place.token, Some(token)) {
+            Some(gone) => self.drop_pass(gone.pass),
+            None => Ok(()),
+        }
     }
 
-    // A token is out in its slot. One that was there is gone, and its pass is to be left.
-    fn put(&mut self, out: Out<P>) -> Result<(), Odd> {
-        let slot = out.token.slot;
+    // There are places up to this slot.
+    fn reach(&mut self, slot: usize) -> Result<(), Odd> {
         for _ in 0..u64::MAX {
             if slot < self.out.len() {
                 break;
             }
-            if self.out.push(None).is_err() {
+            let place = Place {
+                token: None,
+                is_listed: false,
+            };
+            if self.out.push(place).is_err() {
                 return Err(Odd::Memory);
             }
         }
+        Ok(())
+    }
+
+    /// The book keeps the tokens that are out and wait, as it has to before time goes on.
+    pub(crate) fn keep_waiting(&mut self, inputs: &Inputs<'_, P>) -> Result<(), Odd> {
+        for _ in 0..u64::MAX {
+            let Some(slot) = self.listed.pop() else { break };
+            if let Some(place) = self.out.get_mut(slot) {
+                place.is_listed = false;
+            }
+            self.look_at(inputs, slot)?;
+        }
+        Ok(())
+    }
+
+    // Looks at the token that is out in a slot. Where that is gone its pass is to be left, and the book keeps it where it waits.
+    fn look_at(&mut self, inputs: &Inputs<'_, P>, slot: usize) -> Result<(), Odd> {
         let Some(place) = self.out.get_mut(slot) else {
-            return Err(Odd::Memory);
+            return Ok(());
         };
-        match mem::replace(place, Some(out)) {
-            Some(gone) => self.drop_pass(gone.token.pass),
-            None => Ok(()),
+        let Some(token) = place.token.take() else {
+            return Ok(());
+        };
+        let Some(view) = self.book.view(inputs.graph, token.slot, token.serial) else {
+            return self.drop_pass(token.pass);
+        };
+        if !matches!(view.what, Action::Wait(_)) {
+            place.token = Some(token);
+            return Ok(());
+        }
+        match self.book.wait(inputs.graph, token) {
+            Ok(()) => Ok(()),
+            Err(refused) => Err(Odd::from(refused.why)),
         }
     }
 
@@ -309,7 +316,7 @@ impl<P: Program + Naming> Replay<P> {
 
     fn go_on(&mut self, inputs: &Inputs<'_, P>, token: Token<P>) -> Result<(), Odd> {
         match self.book.go_on(inputs.graph, token) {
-            Ok(token) => self.stand(inputs, token),
+            Ok(token) => self.stand(token),
             Err(refused) => Err(Odd::from(refused.why)),
         }
     }
@@ -320,8 +327,8 @@ impl<P: Program + Naming> Replay<P> {
         };
         match self.book.fork(inputs.graph, token, same) {
             Ok((left, right)) => {
-                self.stand(inputs, left)?;
-                self.stand(inputs, right)
+                self.stand(left)?;
+                self.stand(right)
             }
             Err(refused) => Err(Odd::from(refused.why)),
         }
@@ -341,8 +348,8 @@ impl<P: Program + Naming> Replay<P> {
         {
             Ok((left, right)) => {
                 self.enter_side(right.pass.group(), Side::Right(cell), around)?;
-                self.stand(inputs, left)?;
-                self.stand(inputs, right)
+                self.stand(left)?;
+                self.stand(right)
             }
             Err(refused) => Err(Odd::from(refused.why)),
         }
@@ -356,7 +363,7 @@ impl<P: Program + Naming> Replay<P> {
         match self.book.other(inputs.groups, inputs.graph, token, idle) {
             Ok(token) => {
                 self.enter_side(token.pass.group(), Side::Left(mark), around)?;
-                self.stand(inputs, token)
+                self.stand(token)
             }
             Err(refused) => Err(Odd::from(refused.why)),
         }
@@ -400,13 +407,13 @@ impl<P: Program + Naming> Replay<P> {
             &mut self.births,
             &mut self.step,
         ) {
-            Ok(()) => self.sent(inputs, inside),
+            Ok(()) => self.sent(inside),
             Err(refused) => Err(Odd::from(refused.why)),
         }
     }
 
     // What has come out of a step that was a publication into a `>x>`, by a token of the group with this word.
-    fn sent(&mut self, inputs: &Inputs<'_, P>, inside: Option<u32>) -> Result<(), Odd> {
+    fn sent(&mut self, inside: Option<u32>) -> Result<(), Odd> {
         let Some(token) = self.step.born.pop() else {
             return Err(Odd::Other);
         };
@@ -414,7 +421,7 @@ impl<P: Program + Naming> Replay<P> {
             self.leave_sides(inside, token.pass.group())?;
             self.drop_pass(pass)?;
         }
-        self.stand(inputs, token)
+        self.stand(token)
     }
 
     fn publish(&mut self, inputs: &Inputs<'_, P>, token: Token<P>) -> Result<(), Odd> {
@@ -436,9 +443,9 @@ impl<P: Program + Naming> Replay<P> {
         }
     }
 
-    fn answer(&mut self, inputs: &Inputs<'_, P>, number: u64, answer: Answer) -> Result<(), Odd> {
+    fn answer(&mut self, number: u64, answer: Answer) -> Result<(), Odd> {
         match self.book.returned(number, answer) {
-            Ok(Answered::Token(token)) => self.stand(inputs, token),
+            Ok(Answered::Token(token)) => self.stand(token),
             Ok(Answered::Halted(pass)) => self.drop_pass(pass),
             Err(fault) => Err(Odd::from(fault)),
         }
@@ -460,7 +467,7 @@ impl<P: Program + Naming> Replay<P> {
         }
         self.owed = self.book.cancelled().len();
         self.sides.kill(word);
-        self.wake(inputs, cell)?;
+        self.wake(cell)?;
         if self.book.dying() < self.most_dying() {
             return Ok(());
         }
@@ -492,7 +499,7 @@ impl<P: Program + Naming> Replay<P> {
     }
 
     /// The tokens that wait for a cell go on.
-    pub(crate) fn wake(&mut self, inputs: &Inputs<'_, P>, cell: u64) -> Result<(), Odd> {
+    pub(crate) fn wake(&mut self, cell: u64) -> Result<(), Odd> {
         if self.book.wake(cell, &mut self.step.born).is_err() {
             return Err(Odd::Memory);
         }
@@ -500,7 +507,7 @@ impl<P: Program + Naming> Replay<P> {
             let Some(token) = self.step.born.pop() else {
                 break;
             };
-            self.hold(inputs, token)?;
+            self.hold(token)?;
         }
         Ok(())
     }
@@ -508,26 +515,9 @@ impl<P: Program + Naming> Replay<P> {
     // The passes of tokens that went with a killed group are left.
     fn sweep(&mut self, inputs: &Inputs<'_, P>) -> Result<(), Odd> {
         for slot in 0..self.out.len() {
-            self.sweep_slot(inputs, slot)?;
+            self.look_at(inputs, slot)?;
         }
         self.settle(inputs)
-    }
-
-    fn sweep_slot(&mut self, inputs: &Inputs<'_, P>, slot: usize) -> Result<(), Odd> {
-        let Some(place) = self.out.get_mut(slot) else {
-            return Ok(());
-        };
-        let Some(out) = place.take() else {
-            return Ok(());
-        };
-        let view = self
-            .book
-            .view(inputs.graph, out.token.slot, out.token.serial);
-        if view.is_none() {
-            return self.drop_pass(out.token.pass);
-        }
-        *place = Some(out);
-        Ok(())
     }
 
     // The passes that are to be left are left, and groups that go without an entry are closed once nobody is in them.
@@ -577,19 +567,19 @@ impl<P: Program + Naming> Replay<P> {
     // A side halts: a cell is lost, or a right side starts.
     fn halt(&mut self, inputs: &Inputs<'_, P>, side: Side) -> Result<(), Odd> {
         if let Some(last) = self.last_of(side) {
-            return self.close(inputs, last);
+            return self.close(last);
         }
         self.sweep(inputs)?;
         match self.last_of(side) {
-            Some(last) => self.close(inputs, last),
+            Some(last) => self.close(last),
             None => Err(Odd::Live),
         }
     }
 
-    fn close(&mut self, inputs: &Inputs<'_, P>, last: Last<P>) -> Result<(), Odd> {
+    fn close(&mut self, last: Last<P>) -> Result<(), Odd> {
         match self.book.halt(last, &mut self.leave) {
-            Ok(Ended::Lost(cell)) => self.wake(inputs, cell),
-            Ok(Ended::Token(token)) => self.stand(inputs, token),
+            Ok(Ended::Lost(cell)) => self.wake(cell),
+            Ok(Ended::Token(token)) => self.stand(token),
             Ok(_) => Err(Odd::Other),
             Err(refused) => Err(Odd::from(refused.why)),
         }
@@ -597,6 +587,7 @@ impl<P: Program + Naming> Replay<P> {
 
     // Time goes on. Where something else comes next, that may be a group which goes without an entry, once passes of tokens that are gone are left.
     fn tick(&mut self, inputs: &Inputs<'_, P>, time: u64) -> Result<(), Odd> {
+        self.keep_waiting(inputs)?;
         if self.ticks(inputs, time)? {
             return Ok(());
         }
@@ -651,8 +642,11 @@ impl<P: Program + Naming> Replay<P> {
             return false;
         };
         match self.out.get(*slot) {
-            Some(Some(out)) => out.token.serial == mark,
-            _ => false,
+            Some(place) => match &place.token {
+                Some(token) => token.serial == mark,
+                None => false,
+            },
+            None => false,
         }
     }
 
@@ -664,6 +658,7 @@ impl<P: Program + Naming> Replay<P> {
             sides,
             out,
             slots,
+            listed,
             owed: _,
             leave,
             births,
@@ -674,6 +669,7 @@ impl<P: Program + Naming> Replay<P> {
         drop(sides);
         drop(out);
         drop(slots);
+        drop(listed);
         drop(leave);
         drop(births);
         drop(step);

@@ -84,7 +84,7 @@ pub(crate) fn so(holds: bool) -> Option<()> {
     if holds { Some(()) } else { None }
 }
 
-/// The book does these entries, a line each.
+/// The book does these entries, a line each, and keeps the tokens that wait then.
 pub(crate) fn enter_all<P: Program + Naming>(
     inputs: &Inputs<'_, P>,
     replay: &mut Replay<P>,
@@ -99,6 +99,7 @@ pub(crate) fn enter_all<P: Program + Naming>(
         rest = read_entry(rest, inputs.answers, &mut entry)?;
         replay.enter(inputs, &entry).ok()?;
     }
+    replay.keep_waiting(inputs).ok()?;
     so(rest.is_empty())
 }
 
