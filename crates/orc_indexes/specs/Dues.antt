@@ -1,5 +1,5 @@
 -- Calls noted with their due times.
-use Rattle.std.specs.Prelude.{◌≡◌, ◌≤◌, ◌⊎◌, ℕ, List}
+use Rattle.std.specs.Prelude.{◌≡◌, ◌≤◌, ◌<◌, ◌⊎◌, ℕ, List, [], ◌∷◌, Option, Some, None}
 use Rattle.orc_rules.specs.Timed.{IsIn}
 
 -- call k is noted with time t
@@ -17,3 +17,19 @@ IsLeastFrom due t from k = IsNoted due t k × (from ≤ k) × ((j : ℕ) → IsN
 -- one note at most goes
 abbrev pub KeepsBut : List (ℕ × ℕ) → List (ℕ × ℕ) → ℕ → ℕ → Type 0
 KeepsBut due due' t k = (u j : ℕ) → IsNoted due u j → IsNoted due' u j ⊎ ((u ≡ t) × (j ≡ k))
+
+-- ---- how they are kept
+
+-- one note comes before another: at an earlier time, or with a lesser number
+abbrev pub IsBefore : ℕ × ℕ → ℕ × ℕ → Type 0
+IsBefore a b = (a.0 < b.0) ⊎ ((a.0 ≡ b.0) × (a.1 < b.1))
+
+-- the first one beside the others
+abbrev pub notes_of : Option (ℕ × ℕ) → List (ℕ × ℕ) → List (ℕ × ℕ)
+notes_of (Some a) others = a ∷ others
+notes_of None others = others
+
+-- it comes before all others; there are none where there is no first one
+abbrev pub IsFirst : Option (ℕ × ℕ) → List (ℕ × ℕ) → Type 0
+IsFirst (Some a) others = (b : ℕ × ℕ) → IsIn b others → IsBefore a b
+IsFirst None others = others ≡ []

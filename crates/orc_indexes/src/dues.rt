@@ -1,7 +1,7 @@
 //! When calls are due.
 
-ghost use Rattle.std.specs.Prelude.{◌≡◌, ◌<◌, ℕ, [], List, length, OnOk, MatchOption};
-ghost use Rattle.orc_indexes.specs.Dues.{IsNoted, IsEarliest, IsLeastFrom, KeepsBut};
+ghost use Rattle.std.specs.Prelude.{◌≡◌, ◌<◌, ℕ, [], List, length, true, false, OnOk, MatchOption};
+ghost use Rattle.orc_indexes.specs.Dues.{IsNoted, IsBefore, IsEarliest, IsLeastFrom, KeepsBut};
 
 use std::alloc::{AllocError, Global};
 use std::collections::BTreeSet;
@@ -10,13 +10,29 @@ use std::marker::Model;
 /// Numbers of calls with their due times, the earliest first. A note may stay whose call pends no more.
 #[derive(Drop)]
 pub struct Dues {
-    notes: BTreeSet<(u64, u64)>,
+    // The earliest note stands beside the tree of the others: where one call pends at a time the tree stays empty.
+    first: Option<(u64, u64)>,
+    others: BTreeSet<(u64, u64)>,
 }
 
 impl Model for Dues {
+    ghost use Rattle.std.specs.Prelude.{ℕ, List};
+    ghost use Rattle.orc_indexes.specs.Dues.{notes_of, IsFirst};
+
     ghost Value = { List (ℕ × ℕ) };
 
-    ghost view = { λ d. d.notes.keys };
+    ghost view = { λ d. notes_of d.first d.others.keys };
+
+    ghost invariant = { λ d. IsFirst d.first d.others.keys };
+}
+
+// Whether a note comes before another: at an earlier time, or with a lesser number.
+#[inline(always)]
+fn is_before(one: (u64, u64), other: (u64, u64)) -> bool
+    ensures before { result ≡ true → IsBefore one other }
+    ensures not { result ≡ false → IsBefore one other → ⊥ }
+{
+    one.0 < other.0 || (one.0 == other.0 && one.1 < other.1)
 }
 
 impl Dues {
@@ -25,7 +41,8 @@ impl Dues {
         ensures { result ≡ [] }
     {
         Dues {
-            notes: BTreeSet::new(alloc),
+            first: None,
+            others: BTreeSet::new(alloc),
         }
     }
 
@@ -34,7 +51,18 @@ impl Dues {
         ensures noted { OnOk result (IsNoted self.new time number) }
         ensures kept { (t k : ℕ) → IsNoted self.old t k → IsNoted self.new t k }
     {
-        self.notes.insert((time, number))?;
+        let note = (time, number);
+        match self.first {
+            None => self.first = Some(note),
+            Some(first) => {
+                if is_before(note, first) {
+                    self.others.insert(first)?;
+                    self.first = Some(note);
+                } else if is_before(first, note) {
+                    self.others.insert(note)?;
+                }
+            }
+        }
         Ok(())
     }
 
@@ -42,18 +70,22 @@ impl Dues {
     pub fn first(&self) -> Option<(u64, u64)>
         ensures { MatchOption result (self.now ≡ []) (IsEarliest self.now) }
     {
-        match self.notes.first() {
-            Some(first) => Some(*first),
-            None => None,
-        }
+        self.first
     }
 
     /// The least number from this one on that is noted with this time.
     pub fn first_at(&self, time: u64, from: u64) -> Option<u64>
         ensures { MatchOption result ((k : ℕ) → IsNoted self.now time k → k < from) (IsLeastFrom self.now time from) }
     {
-        match self.notes.range((time, from)..).next() {
-            Some(first) if first.0 == time => Some(first.1),
+        let first = self.first?;
+        if first.0 > time {
+            return None;
+        }
+        if first.0 == time && first.1 >= from {
+            return Some(first.1);
+        }
+        match self.others.range((time, from)..).next() {
+            Some(next) if next.0 == time => Some(next.1),
             _ => None,
         }
     }
@@ -63,6 +95,13 @@ impl Dues {
         ensures kept { KeepsBut self.old self.new time number }
         ensures gone { IsNoted self.old time number → length self.new < length self.old }
     {
-        self.notes.remove(&(time, number));
+        match self.first {
+            Some(first) if first.0 == time && first.1 == number => {
+                self.first = self.others.pop_first();
+            }
+            _ => {
+                self.others.remove(&(time, number));
+            }
+        }
     }
 }

@@ -1,11 +1,8 @@
-use Rattle.std.proofs.Common.{subst}
+use Rattle.std.proofs.Common.{◌≡◌, [], subst}
+use Rattle.std.specs.Prelude.{MatchOption}
 use Rattle.orc_indexes.specs.Dues.{IsEarliest}
-use Rattle.orc_calls.proofs.Notes.{none_earlier}
-use Rattle.orc_indexes.proofs.Notes.{first_in}
+use Rattle.orc_indexes.proofs.Notes.{first_of}
 use Rattle.orc_indexes.proofs.dues.Dues.first.Goals as goal
 
-pub returns-in-Some : goal.returns-in-Some
-returns-in-Some c =
-    let keys = c.self.inside.notes.keys in
-    let a = c.in-Some.first.now in
-    subst (λ z. IsEarliest z a) c.self.view_is (first_in keys a c.in-Some.ensures.first, none_earlier a keys c.in-Some.ensures.least)
+pub returns : goal.returns
+returns c = subst (λ z. MatchOption c.self.inside.first (z ≡ []) (IsEarliest z)) c.self.view_is (first_of c.self.inside.first c.self.inside.others.keys c.self.invariant)
