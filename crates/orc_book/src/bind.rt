@@ -1,5 +1,5 @@
 //! A cell is bound: what stood inside its right side goes.
-ghost use Rattle.std.specs.Prelude.{◌≡◌, ◌≤◌, ◌+◌, ◌⊎◌, ℕ, List, IfOk, IfErr, IfSome, OnOk, OnErr, vec_len, vec_capacity};
+ghost use Rattle.std.specs.Prelude.{◌≡◌, ◌≤◌, ◌+◌, ◌⊎◌, ℕ, IfOk, IfErr, IfSome, OnOk, OnErr, vec_len, vec_capacity};
 ghost use Rattle.orc_rules.specs.Timed.{IsIn};
 ghost use Rattle.orc_indexes.specs.Same.{weight};
 ghost use Rattle.orc_tables.specs.declared.records.Token.{Token as Its};
@@ -53,16 +53,18 @@ pub(crate) fn reserve_all<J: Naming>(
 impl<P: Program + Naming> Book<P> {
     /// A cell takes what the token publishes: all that stands inside its right side goes. The token's pass has won the mark that its group is killed, and
     /// is to be left with those of all records that went. Refused as Gone where the token isn't out or the mark was set already, as Wrong where it does something
-    /// else next, as Full, Limit or Memory where the ledger refuses the entry for that or memory is refused.
+    /// else next, as Full, Limit or Memory where the ledger refuses the entry for that or memory is refused. `cancelled` is lent: where the bind is Ok it then
+    /// holds the numbers of the calls that went, in rising order.
     pub fn bind(
         &mut self,
         groups: &Groups<P>,
         graph: &Graph,
         token: Token<P>,
         leave: &mut Vec<Pass<P>>,
+        cancelled: &mut Vec<u64>,
     ) -> Result<(), Refused<Token<P>>>
         requires graph { graph.now ≡ P.listing }
-        ensures done { OnOk result ((t : Its) × (c : ℕ) × (g : ℕ) × (ks : List ℕ) × IsUnkept self.old token.slot token.serial token.pass t × Moves P.listing self.old.ledger token.slot t (moved.Bound c g) ks self.new.ledger) }
+        ensures done { OnOk result ((t : Its) × (c : ℕ) × (g : ℕ) × IsUnkept self.old token.slot token.serial token.pass t × Moves P.listing self.old.ledger token.slot t (moved.Bound c g) cancelled.new.items self.new.ledger) }
         ensures stands { OnOk result (HaveDied self.new.ledger self.old.stands self.new.stands) }
         ensures there { OnOk result (AreThere self.new.ledger self.new.stands) }
         ensures marks { self.new.marks ≡ self.old.marks }
@@ -104,13 +106,10 @@ impl<P: Program + Naming> Book<P> {
             });
         }
         stands(&self.ledger);
-        match self.ledger.advance(
-            graph,
-            slot,
-            found.its,
-            &mut self.scopes,
-            &mut self.cancelled,
-        ) {
+        match self
+            .ledger
+            .advance(graph, slot, found.its, &mut self.scopes, cancelled)
+        {
             Ok(_bound) => {
                 stands(&self.ledger);
                 clear_missing(&self.ledger, &mut self.posts);

@@ -174,11 +174,6 @@ impl<P: Program + Naming> Book<P> {
         ledger
     }
 
-    /// The numbers of the calls that the last bind has cancelled, in rising order. Only the calls after a bind that is done make other numbers of them.
-    pub fn cancelled(&self) -> &[u64] {
-        self.cancelled.as_slice()
-    }
-
     /// How many killed groups' words are still taken.
     pub fn dying(&self) -> usize
         ensures { result ≡ count_by is_dying self.now.stands }

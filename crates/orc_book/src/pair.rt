@@ -50,7 +50,11 @@ fn bind_one<P: Program + Naming, R: Wait>(
     requires { graph.now ≡ P.listing }
 {
     let mut leave = Vec::new(alloc);
-    let bound = book.lock(rt).bind(groups, graph, token, &mut leave).is_ok();
+    let mut cancelled = Vec::new(alloc);
+    let bound = book
+        .lock(rt)
+        .bind(groups, graph, token, &mut leave, &mut cancelled)
+        .is_ok();
     let mut more = Vec::new(alloc);
     while let Some(pass) = leave.pop() {
         let _closed = leave_one(rt, groups, book, pass, &mut more);

@@ -47,12 +47,9 @@ fn kill<P: Program + Naming>(
         "open 1 1 2 3\nfork 3 4 5\ncall 4 1 Rwait(0)\n",
     )?;
     let token = replay.take_token(5)?;
-    replay
-        .book
-        .bind(inputs.groups, inputs.graph, token, leave)
-        .ok()?;
+    replay.bind_only(inputs, token, leave).ok()?;
     so(leave.len() == 2)?;
-    so(replay.book.cancelled() == [1].as_slice())?;
+    so(replay.cancelled.as_slice() == [1].as_slice())?;
     so(replay.book.dying() == 1)?;
     match replay.book.returned(1, Answer::Value(Value::Signal)) {
         Ok(_) => None,
@@ -122,10 +119,7 @@ pub(crate) fn gives_a_lost_mark_back<P: Program + Naming>(
     let word = token.pass.group();
     let token = won(inputs, token)?;
     let mut leave = Vec::new(alloc);
-    let refused = match replay
-        .book
-        .bind(inputs.groups, inputs.graph, token, &mut leave)
-    {
+    let refused = match replay.bind_only(inputs, token, &mut leave) {
         Ok(()) => return None,
         Err(refused) => refused,
     };
@@ -145,10 +139,7 @@ pub(crate) fn keeps_words_of_the_killed<P: Program + Naming>(
     let mut leave = Vec::new(alloc);
     enter_all(inputs, &mut replay, "seq 1 2\nopen 2 1 3 4\n")?;
     let token = replay.take_token(4)?;
-    replay
-        .book
-        .bind(inputs.groups, inputs.graph, token, &mut leave)
-        .ok()?;
+    replay.bind_only(inputs, token, &mut leave).ok()?;
     replay.wake(1).ok()?;
     enter_all(inputs, &mut replay, "send 3 5 1\n")?;
     let token = replay.take_token(5)?;
@@ -207,10 +198,7 @@ pub(crate) fn tells_killed_tokens<P: Program + Naming>(
             .view(inputs.graph, token.slot, token.serial)
             .is_none(),
     )?;
-    let refused = match replay
-        .book
-        .bind(inputs.groups, inputs.graph, token, &mut leave)
-    {
+    let refused = match replay.bind_only(inputs, token, &mut leave) {
         Ok(()) => return None,
         Err(refused) => refused,
     };

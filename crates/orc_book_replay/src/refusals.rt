@@ -127,7 +127,7 @@ fn binds_not<P: Program + Naming>(
     token: Token<P>,
     leave: &mut Vec<Pass<P>>,
 ) -> Option<Token<P>> {
-    match replay.book.bind(inputs.groups, inputs.graph, token, leave) {
+    match replay.bind_only(inputs, token, leave) {
         Ok(()) => None,
         Err(refused) => wrong(refused.why, refused.back),
     }

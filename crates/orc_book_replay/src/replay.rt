@@ -5,7 +5,7 @@ ghost use Rattle.std.specs.Prelude.{◌≡◌, ◌<◌, IfSome, vec_len};
 use crate::inputs::Inputs;
 use crate::passes::Passes;
 use crate::sides::{Side, Sides};
-use orc_book::{Answered, Births, Book, BookFault, Ended, Next, StepOut, Token};
+use orc_book::{Answered, Births, Book, BookFault, Ended, Next, Refused, StepOut, Token};
 use orc_ledger::{Action, Ledger};
 use orc_log::Program;
 use orc_rules::entry::Entry;
@@ -67,7 +67,8 @@ pub(crate) struct Replay<P: Program + Naming> {
     slots: Vec<usize>,
     // The slots in which a token may wait that the book doesn't keep yet.
     listed: Vec<usize>,
-    // How many of the cancels of the last bind are still to be told.
+    // The calls that the last bind has cancelled, and how many of these cancels are still to be told.
+    pub cancelled: Vec<u64>,
     owed: usize,
     // Lent to the book's calls.
     leave: Vec<Pass<P>>,
@@ -86,6 +87,7 @@ impl<P: Program + Naming> Drop for Replay<P> {
             out,
             slots,
             listed,
+            cancelled,
             owed: _,
             leave,
             births,
@@ -98,6 +100,7 @@ impl<P: Program + Naming> Drop for Replay<P> {
         drop(out);
         drop(slots);
         drop(listed);
+        drop(cancelled);
         drop(leave);
         drop(births);
         drop(step);
@@ -128,6 +131,7 @@ impl<P: Program + Naming> Replay<P> {
             out: Vec::new(alloc),
             slots,
             listed: Vec::new(alloc),
+            cancelled: Vec::new(alloc),
             owed: 0,
             leave: Vec::new(alloc),
             births: Births::new(alloc),
@@ -459,19 +463,33 @@ impl<P: Program + Naming> Replay<P> {
         let Some(word) = self.sides.right_side(inside, cell) else {
             return Err(Odd::Other);
         };
+        let leave = &mut self.leave;
+        let cancelled = &mut self.cancelled;
         if let Err(refused) = self
             .book
-            .bind(inputs.groups, inputs.graph, token, &mut self.leave)
+            .bind(inputs.groups, inputs.graph, token, leave, cancelled)
         {
             return Err(Odd::from(refused.why));
         }
-        self.owed = self.book.cancelled().len();
+        self.owed = self.cancelled.len();
         self.sides.kill(word);
         self.wake(cell)?;
         if self.book.dying() < self.most_dying() {
             return Ok(());
         }
         self.sweep(inputs)
+    }
+
+    /// The book alone is told of a token that binds. The passes that are to be left are added to a list.
+    pub(crate) fn bind_only(
+        &mut self,
+        inputs: &Inputs<'_, P>,
+        token: Token<P>,
+        leave: &mut Vec<Pass<P>>,
+    ) -> Result<(), Refused<Token<P>>> {
+        let cancelled = &mut self.cancelled;
+        self.book
+            .bind(inputs.groups, inputs.graph, token, leave, cancelled)
     }
 
     fn most_dying(&self) -> usize {
@@ -487,11 +505,10 @@ impl<P: Program + Naming> Replay<P> {
 
     // The calls that a bind has cancelled, in their order.
     fn cancel(&mut self, number: u64) -> Result<(), Odd> {
-        let cancelled = self.book.cancelled();
-        let Some(at) = cancelled.len().checked_sub(self.owed) else {
+        let Some(at) = self.cancelled.len().checked_sub(self.owed) else {
             return Err(Odd::Other);
         };
-        if self.owed < 1 || cancelled.get(at) != Some(&number) {
+        if self.owed < 1 || self.cancelled.get(at) != Some(&number) {
             return Err(Odd::Other);
         }
         self.owed -= 1;
@@ -659,6 +676,7 @@ impl<P: Program + Naming> Replay<P> {
             out,
             slots,
             listed,
+            cancelled,
             owed: _,
             leave,
             births,
@@ -670,6 +688,7 @@ impl<P: Program + Naming> Replay<P> {
         drop(out);
         drop(slots);
         drop(listed);
+        drop(cancelled);
         drop(leave);
         drop(births);
         drop(step);

@@ -110,7 +110,11 @@ impl<P: Program + Naming, C: Drop> Shared<P, C> {
         cell: u64,
     ) -> Step {
         let leave = &mut local.out.leave;
-        match self.book.bind(inputs.groups, inputs.graph, token, leave) {
+        let cancelled = &mut self.cancelled;
+        match self
+            .book
+            .bind(inputs.groups, inputs.graph, token, leave, cancelled)
+        {
             Ok(()) => {
                 self.drop_cancelled(local);
                 self.wake(local, cell);
@@ -122,10 +126,10 @@ impl<P: Program + Naming, C: Drop> Shared<P, C> {
 
     // The calls that the last bind has cancelled wait no more, and the sites are to be told.
     fn drop_cancelled(&mut self, local: &mut Local<P>) {
-        let cancelled = self.book.cancelled();
-        for number in cancelled {
+        for number in self.cancelled.iter() {
             self.pending.remove(number);
         }
+        let cancelled = self.cancelled.as_slice();
         if local.out.cancelled.extend_from_slice(cancelled).is_err() {
             self.run_short();
         }

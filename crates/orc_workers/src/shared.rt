@@ -54,8 +54,9 @@ pub(crate) enum OutsideWork<C: Drop> {
 pub(crate) struct Shared<P: Program + Naming, C: Drop> {
     pub(crate) book: Book<P>,
     pub(crate) pending: BTreeMap<u64, Box<C>>,
-    // Lent to the book for the arguments of a call.
+    // Lent to the book: for the arguments of a call, and for the numbers of the calls that a bind has cancelled.
     pub(crate) args: Args,
+    pub(crate) cancelled: Vec<u64>,
     stopper: Stopper,
     // How often those that rest had to look again.
     pub(crate) offers: u64,
@@ -71,6 +72,7 @@ impl<P: Program + Naming, C: Drop> Drop for Shared<P, C> {
             book,
             pending,
             args,
+            cancelled,
             stopper,
             offers: _,
             working: _,
@@ -79,6 +81,7 @@ impl<P: Program + Naming, C: Drop> Drop for Shared<P, C> {
         drop(book);
         drop(pending);
         drop(args);
+        drop(cancelled);
         drop(stopper);
     }
 }
@@ -90,6 +93,7 @@ impl<P: Program + Naming, C: Drop> Shared<P, C> {
             book,
             pending: BTreeMap::new(alloc),
             args: Args::new(),
+            cancelled: Vec::new(alloc),
             stopper,
             offers: 0,
             working: 1,
@@ -103,6 +107,7 @@ impl<P: Program + Naming, C: Drop> Shared<P, C> {
             book,
             pending,
             args,
+            cancelled,
             stopper,
             offers: _,
             working: _,
@@ -110,6 +115,7 @@ impl<P: Program + Naming, C: Drop> Shared<P, C> {
         } = self;
         drop(pending);
         drop(args);
+        drop(cancelled);
         (book, stopper.reason().unwrap_or(Stop::Broken))
     }
 
