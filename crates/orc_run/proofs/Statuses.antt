@@ -29,21 +29,10 @@ use Rattle.orc_ways.specs.declared.fault.TestFault.{TestFault}
 use Rattle.orc_ways.specs.declared.fault.TestFault.TheVariants as test_fault
 use Rattle.orc_journal_text.specs.Faults.{journal_status}
 use Rattle.orc_scheduler.specs.Faults.{engine_status}
-use Rattle.orc_run.specs.Running.{LeavesAtFault}
+use Rattle.orc_run.specs.Running.{KeepsOr}
 use Rattle.orc_run.specs.Status.{read_status_of}
-use Rattle.orc_run.specs.Checked.{LeavesUnchecked, LeavesUnjudged}
-use Rattle.orc_run.specs.declared.judge.Unchecked.TheVariants.{Fault}
-use Rattle.orc_run.specs.Claimed.{LeavesUnclaimed}
-use Rattle.orc_run.specs.Drawn.{LeavesUndrawn, LeavesUndrawnRun}
-use Rattle.orc_run.specs.Printed.{LeavesUnprinted}
-use Rattle.orc_run.specs.Searched.{HasSearched, LeavesUnsearched}
-use Rattle.orc_run.specs.Shown.{LeavesUnshown}
-use Rattle.orc_run.specs.Surveyed.{LeavesUnsurveyed}
-use Rattle.orc_run.specs.Tested.{LeavesUntested}
-use Rattle.orc_run.specs.declared.shown.Unshown.TheVariants as unshown
-use Rattle.orc_run.specs.declared.tests.Untested.{Untested}
-use Rattle.orc_run.specs.declared.tests.Untested.TheVariants as untested
-use Rattle.orc_cli.specs.declared.job.Options.{Options}
+use Rattle.orc_run.specs.Drawn.{LeavesUndrawn}
+use Rattle.orc_run.specs.Searched.{HasSearched}
 use Rattle.orc_cli.specs.declared.job.Job.{Job}
 use Rattle.orc_cli.specs.declared.job.Job.TheVariants as job
 use Rattle.orc_run.specs.declared.inputs.ReadFault.{ReadFault}
@@ -68,110 +57,18 @@ unread (failure.NoOutcome n) out u = absurd u
 unread (failure.NoRun n) out u = absurd u
 unread (failure.NoJournal n) out u = absurd u
 
--- and so do a run, a survey, a check, a print and a drawing at a fault that is not of the output.
-pub unrun : (source script : List ℕ) (o : Options) (old new : Option (List ℕ)) (f : RunFault) → LeavesAtFault source script o old new f → LeavesUndone (failure.Fault f) old new
-unrun source script o old new (fault.Syntax f) k = k
-unrun source script o old new (fault.Scope f) k = k
-unrun source script o old new (fault.Script f) k = k
-unrun source script o old new (fault.Test f) k = k
-unrun source script o old new (fault.Journal f) k = k
-unrun source script o old new (fault.Check f) k = k
-unrun source script o old new (fault.Engine f) k = k
-unrun source script o old new (fault.Write w) k = tt
+-- and so does a fault that is not of the output, in every command,
+pub cut_or_kept : (cut : Type 0) (old new : Option (List ℕ)) (f : RunFault) → KeepsOr cut old new f → LeavesUndone (failure.Fault f) old new
+cut_or_kept cut old new (fault.Syntax f) k = k
+cut_or_kept cut old new (fault.Scope f) k = k
+cut_or_kept cut old new (fault.Script f) k = k
+cut_or_kept cut old new (fault.Test f) k = k
+cut_or_kept cut old new (fault.Journal f) k = k
+cut_or_kept cut old new (fault.Check f) k = k
+cut_or_kept cut old new (fault.Engine f) k = k
+cut_or_kept cut old new (fault.Write w) k = tt
 
-pub unsurveyed : (source script : List ℕ) (orders limit : ℕ) (old new : Option (List ℕ)) (f : RunFault) → LeavesUnsurveyed source script orders limit old new f → LeavesUndone (failure.Fault f) old new
-unsurveyed source script orders limit old new (fault.Syntax f) k = k
-unsurveyed source script orders limit old new (fault.Scope f) k = k
-unsurveyed source script orders limit old new (fault.Script f) k = k
-unsurveyed source script orders limit old new (fault.Test f) k = k
-unsurveyed source script orders limit old new (fault.Journal f) k = k
-unsurveyed source script orders limit old new (fault.Check f) k = k
-unsurveyed source script orders limit old new (fault.Engine f) k = k
-unsurveyed source script orders limit old new (fault.Write w) k = tt
-
-pub unsearched : (source script : List ℕ) (orders limit states : ℕ) (old new : Option (List ℕ)) (f : RunFault) → LeavesUnsearched source script orders limit states old new f → LeavesUndone (failure.Fault f) old new
-unsearched source script orders limit states old new (fault.Syntax f) k = k
-unsearched source script orders limit states old new (fault.Scope f) k = k
-unsearched source script orders limit states old new (fault.Script f) k = k
-unsearched source script orders limit states old new (fault.Test f) k = k
-unsearched source script orders limit states old new (fault.Journal f) k = k
-unsearched source script orders limit states old new (fault.Check f) k = k
-unsearched source script orders limit states old new (fault.Engine f) k = k
-unsearched source script orders limit states old new (fault.Write w) k = tt
-
-pub not_shown : (source script : List ℕ) (orders limit number : ℕ) (old new : Option (List ℕ)) (f : RunFault) → LeavesUnshown source script orders limit number old new (unshown.Fault f) → LeavesUndone (failure.Fault f) old new
-not_shown source script orders limit number old new (fault.Syntax f) k = k
-not_shown source script orders limit number old new (fault.Scope f) k = k
-not_shown source script orders limit number old new (fault.Script f) k = k
-not_shown source script orders limit number old new (fault.Test f) k = k
-not_shown source script orders limit number old new (fault.Journal f) k = k
-not_shown source script orders limit number old new (fault.Check f) k = k
-not_shown source script orders limit number old new (fault.Engine f) k = k
-not_shown source script orders limit number old new (fault.Write w) k = tt
-
-pub unjudged : (source script journal : List ℕ) (old new : Option (List ℕ)) (f : RunFault) → LeavesUnjudged source script journal old new f → LeavesUndone (failure.Fault f) old new
-unjudged source script journal old new (fault.Syntax f) k = k
-unjudged source script journal old new (fault.Scope f) k = k
-unjudged source script journal old new (fault.Script f) k = k
-unjudged source script journal old new (fault.Test f) k = k
-unjudged source script journal old new (fault.Journal f) k = k
-unjudged source script journal old new (fault.Check f) k = k
-unjudged source script journal old new (fault.Engine f) k = k
-unjudged source script journal old new (fault.Write w) k = tt
-
-pub unchecked : (source script journal : List ℕ) (old new : Option (List ℕ)) (f : RunFault) → LeavesUnchecked source script journal old new (Fault f) → LeavesUndone (failure.Fault f) old new
-unchecked source script journal old new f k = unjudged source script journal old new f k
-
-pub unclaimed : (source text script journal : List ℕ) (old new : Option (List ℕ)) (f : RunFault) → LeavesUnclaimed source text script journal old new f → LeavesUndone (failure.Fault f) old new
-unclaimed source text script journal old new (fault.Syntax f) k = k
-unclaimed source text script journal old new (fault.Scope f) k = k
-unclaimed source text script journal old new (fault.Script f) k = k
-unclaimed source text script journal old new (fault.Test f) k = k
-unclaimed source text script journal old new (fault.Journal f) k = k
-unclaimed source text script journal old new (fault.Check f) k = k
-unclaimed source text script journal old new (fault.Engine f) k = k
-unclaimed source text script journal old new (fault.Write w) k = tt
-
-pub unprinted : (source : List ℕ) (old new : Option (List ℕ)) (f : RunFault) → LeavesUnprinted source old new f → LeavesUndone (failure.Fault f) old new
-unprinted source old new (fault.Syntax f) k = k
-unprinted source old new (fault.Scope f) k = k
-unprinted source old new (fault.Script f) k = k
-unprinted source old new (fault.Test f) k = k
-unprinted source old new (fault.Journal f) k = k
-unprinted source old new (fault.Check f) k = k
-unprinted source old new (fault.Engine f) k = k
-unprinted source old new (fault.Write w) k = tt
-
-pub untested_fault : (old new : Option (List ℕ)) (f : RunFault) → LeavesUntested old new (untested.Fault f) → LeavesUndone (failure.Fault f) old new
-untested_fault old new (fault.Syntax f) k = k
-untested_fault old new (fault.Scope f) k = k
-untested_fault old new (fault.Script f) k = k
-untested_fault old new (fault.Test f) k = k
-untested_fault old new (fault.Journal f) k = k
-untested_fault old new (fault.Check f) k = k
-untested_fault old new (fault.Engine f) k = k
-untested_fault old new (fault.Write w) k = tt
-
-pub undrawn_fault : (source script journal : List ℕ) (old new : Option (List ℕ)) (f : RunFault) → LeavesUndrawn source script journal old new (undrawn.Fault f) → LeavesUndone (failure.Fault f) old new
-undrawn_fault source script journal old new (fault.Syntax f) k = k
-undrawn_fault source script journal old new (fault.Scope f) k = k
-undrawn_fault source script journal old new (fault.Script f) k = k
-undrawn_fault source script journal old new (fault.Test f) k = k
-undrawn_fault source script journal old new (fault.Journal f) k = k
-undrawn_fault source script journal old new (fault.Check f) k = k
-undrawn_fault source script journal old new (fault.Engine f) k = k
-undrawn_fault source script journal old new (fault.Write w) k = tt
-
-pub undrawn_run : (old new : Option (List ℕ)) (f : RunFault) → LeavesUndrawnRun old new (undrawn.Fault f) → LeavesUndone (failure.Fault f) old new
-undrawn_run old new (fault.Syntax f) k = k
-undrawn_run old new (fault.Scope f) k = k
-undrawn_run old new (fault.Script f) k = k
-undrawn_run old new (fault.Test f) k = k
-undrawn_run old new (fault.Journal f) k = k
-undrawn_run old new (fault.Check f) k = k
-undrawn_run old new (fault.Engine f) k = k
-undrawn_run old new (fault.Write w) k = tt
-
+-- and a drawing of too many rows
 pub undrawn_rows : (source script journal : List ℕ) (old new : Option (List ℕ)) → LeavesUndrawn source script journal old new undrawn.Rows → LeavesUndone failure.Rows old new
 undrawn_rows source script journal old new k = k
 

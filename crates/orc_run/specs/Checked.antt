@@ -20,7 +20,7 @@ use Rattle.orc_checker.specs.Checker.{context}
 use Rattle.orc_verdict.specs.Verdicts.{records_cancels, IsCutShort}
 use Rattle.orc_load.specs.Loading.{IsProgramOf}
 use Rattle.orc_output.specs.Output.{AppendsPrefix}
-use Rattle.orc_run.specs.Running.{IsUnloaded, Runs}
+use Rattle.orc_run.specs.Running.{IsUnloaded, Runs, KeepsOr}
 use Rattle.orc_outcome.specs.declared.end.End.{End}
 use Rattle.orc_outcome.specs.declared.end.End.TheVariants as ends
 use Rattle.orc_outcome.specs.declared.end.Summary.{Summary}
@@ -50,8 +50,7 @@ Judges text script journal old new = (j : Written) × (state : State) × IsJudge
 
 -- at a fault nothing was written, or at a write fault a prefix of that line
 abbrev pub LeavesUnjudged : List ℕ → List ℕ → List ℕ → Option (List ℕ) → Option (List ℕ) → RunFault → Type 0
-LeavesUnjudged text script journal old new (fault.Write w) = (j : Written) × (state : State) × IsJudged text script journal j state × AppendsPrefix old new (verdict_line (length j.entries) state)
-LeavesUnjudged text script journal old new _ = Keeps old new
+LeavesUnjudged text script journal old new = KeepsOr ((j : Written) × (state : State) × IsJudged text script journal j state × AppendsPrefix old new (verdict_line (length j.entries) state)) old new
 
 -- why no verdict is given: a fault of the source or the script, of the journal's text, or of the journal: its first entry that is refused, with the first reason, refused memory aside
 abbrev pub IsRefusal : List ℕ → List ℕ → List ℕ → RunFault → Type 0

@@ -1,7 +1,7 @@
 -- What holding the claims of a test against a journal does.
 use Rattle.std.specs.Prelude.{◌≡◌, ◌++◌, ℕ, List, length}
 use Rattle.std.specs.declared.option.Option.{Option}
-use Rattle.std.specs.Io.KnownBytes.{Keeps, Appends}
+use Rattle.std.specs.Io.KnownBytes.{Appends}
 use Rattle.orc_rules.specs.Sites.{Table}
 use Rattle.orc_rules.specs.declared.entry.State.{State}
 use Rattle.orc_syntax.specs.Tree.{Source}
@@ -17,7 +17,7 @@ use Rattle.orc_orders.specs.Trials.{claim_sites}
 use Rattle.orc_findings.specs.Findings.{failing, findings_text}
 use Rattle.orc_run.specs.Checked.{IsCheckFault, IsJudgedAt, verdict_line}
 use Rattle.orc_output.specs.Output.{AppendsPrefix}
-use Rattle.orc_run.specs.Running.{IsUnloaded}
+use Rattle.orc_run.specs.Running.{IsUnloaded, KeepsOr}
 use Rattle.orc_run.specs.declared.faults.RunFault.{RunFault}
 use Rattle.orc_run.specs.declared.faults.RunFault.TheVariants as fault
 
@@ -45,8 +45,7 @@ HasClaimed source text script journal old new number = (told : List ℕ) × IsCl
 
 -- at a fault nothing was written, or at a write fault a prefix of what is told
 abbrev pub LeavesUnclaimed : List ℕ → List ℕ → List ℕ → List ℕ → Option (List ℕ) → Option (List ℕ) → RunFault → Type 0
-LeavesUnclaimed source text script journal old new (fault.Write w) = (told : List ℕ) × (number : ℕ) × IsClaimed source text script journal told number × AppendsPrefix old new told
-LeavesUnclaimed source text script journal old new _ = Keeps old new
+LeavesUnclaimed source text script journal old new = KeepsOr ((told : List ℕ) × (number : ℕ) × IsClaimed source text script journal told number × AppendsPrefix old new told) old new
 
 -- why the test isn't read: a fault of the source's text or of the script, or else one of its own
 abbrev pub IsUnreadTest : List ℕ → List ℕ → List ℕ → RunFault → Type 0

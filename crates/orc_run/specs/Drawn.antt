@@ -8,7 +8,7 @@ use Rattle.orc_run.specs.Checked.{IsCheckFault, IsJudged}
 use Rattle.orc_output.specs.Output.{AppendsPrefix}
 use Rattle.orc_engine.specs.Ranges.{IsInRange}
 use Rattle.orc_scheduler.specs.declared.fault.EngineFault.TheVariants as engine
-use Rattle.orc_run.specs.Running.{IsFaultOf, Runs}
+use Rattle.orc_run.specs.Running.{IsFaultOf, Runs, KeepsOr}
 use Rattle.orc_outcome.specs.declared.end.Summary.{Summary}
 use Rattle.orc_cli.specs.declared.job.Options.{Options as RunOptions}
 use Rattle.orc_cli.specs.declared.job.Wanted.TheVariants as wanted
@@ -26,7 +26,7 @@ Draws text script journal old new = IsAccepted text script journal × ((picture 
 
 -- where nothing was drawn nothing was written, or at a write fault a prefix of such a picture
 abbrev pub LeavesUndrawn : List ℕ → List ℕ → List ℕ → Option (List ℕ) → Option (List ℕ) → Undrawn → Type 0
-LeavesUndrawn text script journal old new (undrawn.Fault (fault.Write w)) = IsAccepted text script journal × ((picture : List ℕ) × AppendsPrefix old new picture)
+LeavesUndrawn text script journal old new (undrawn.Fault f) = KeepsOr (IsAccepted text script journal × ((picture : List ℕ) × AppendsPrefix old new picture)) old new f
 LeavesUndrawn text script journal old new _ = Keeps old new
 
 -- why nothing was drawn: a fault of the check, or too many rows of a journal that the check accepts
@@ -46,7 +46,7 @@ DrawsRun source script run old new = (journal : List ℕ) × (s : Summary) × Ru
 
 -- where none was drawn nothing was written, or at a write fault a prefix of a picture
 abbrev pub LeavesUndrawnRun : Option (List ℕ) → Option (List ℕ) → Undrawn → Type 0
-LeavesUndrawnRun old new (undrawn.Fault (fault.Write w)) = (picture : List ℕ) × AppendsPrefix old new picture
+LeavesUndrawnRun old new (undrawn.Fault f) = KeepsOr ((picture : List ℕ) × AppendsPrefix old new picture) old new f
 LeavesUndrawnRun old new _ = Keeps old new
 
 -- why a run isn't made, or not to its end

@@ -59,10 +59,14 @@ Ran source script options old new s = (text : List ℕ) × Runs source script op
 abbrev pub LeavesPart : List ℕ → List ℕ → Options → Option (List ℕ) → Option (List ℕ) → Type 0
 LeavesPart source script options old new = (l : Listing) × (t : Table) × (outcome : Outcome) × Says script t × IsProgramOf source t l × IsRun l t options.limit outcome × AppendsPrefix old new (written options.wanted t.names outcome.journal)
 
+-- at a fault nothing was written, but at one of the output: then what was cut off is so
+abbrev pub KeepsOr : Type 0 → Option (List ℕ) → Option (List ℕ) → RunFault → Type 0
+KeepsOr cut old new (fault.Write w) = cut
+KeepsOr cut old new _ = Keeps old new
+
 -- at a fault nothing was written, or at a write fault a prefix of the text of a run
 abbrev pub LeavesAtFault : List ℕ → List ℕ → Options → Option (List ℕ) → Option (List ℕ) → RunFault → Type 0
-LeavesAtFault source script options old new (fault.Write w) = LeavesPart source script options old new
-LeavesAtFault source script options old new _ = Keeps old new
+LeavesAtFault source script options old new = KeepsOr (LeavesPart source script options old new) old new
 
 -- a fault of the source or of its script, as a run's
 abbrev pub of_load : LoadFault → RunFault

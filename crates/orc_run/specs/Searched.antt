@@ -2,7 +2,7 @@
 use Rattle.std.specs.Prelude.{◌≡◌, ◌++◌, ℕ, List, [], ◌∷◌, Bool, true, false, codes, decimal, map}
 use Rattle.std.specs.List.{All, flat_map}
 use Rattle.std.specs.declared.option.Option.{Option}
-use Rattle.std.specs.Io.KnownBytes.{Keeps, Appends}
+use Rattle.std.specs.Io.KnownBytes.{Appends}
 use Rattle.orc_rules.specs.Sites.{Table}
 use Rattle.orc_rules.specs.Nodes.{Listing}
 use Rattle.orc_site.specs.Script.{Says}
@@ -18,7 +18,7 @@ use Rattle.orc_schedules.specs.declared.exploration.Schedules.{Schedules}
 use Rattle.orc_schedules.specs.declared.exploration.Schedules.TheVariants as schedules
 use Rattle.orc_output.specs.Output.{AppendsPrefix}
 use Rattle.orc_run.specs.declared.faults.RunFault.{RunFault}
-use Rattle.orc_run.specs.declared.faults.RunFault.TheVariants as fault
+use Rattle.orc_run.specs.Running.{KeepsOr}
 
 -- ---- the outcomes
 
@@ -90,8 +90,7 @@ HasSearched source script orders limit most old new all = (text : List ℕ) × T
 
 -- at a fault nothing was written, or at a write fault a prefix of such a text
 abbrev pub LeavesUnsearched : List ℕ → List ℕ → ℕ → ℕ → ℕ → Option (List ℕ) → Option (List ℕ) → RunFault → Type 0
-LeavesUnsearched source script orders limit most old new (fault.Write w) = (text : List ℕ) × (all : Bool) × TellsAll source script orders limit most text all × AppendsPrefix old new text
-LeavesUnsearched source script orders limit most old new _ = Keeps old new
+LeavesUnsearched source script orders limit most old new = KeepsOr ((text : List ℕ) × (all : Bool) × TellsAll source script orders limit most text all × AppendsPrefix old new text) old new
 
 -- ---- what a search answers
 

@@ -17,7 +17,7 @@ use Rattle.orc_orders.specs.Survey.{IsSurvey}
 use Rattle.orc_orders.specs.declared.seen.Seen.{Seen}
 use Rattle.orc_schedules.specs.declared.ended.Ended.{Ended}
 use Rattle.orc_output.specs.Output.{AppendsPrefix}
-use Rattle.orc_run.specs.Running.{IsFaultOf, IsOwnOf}
+use Rattle.orc_run.specs.Running.{IsFaultOf, IsOwnOf, KeepsOr}
 use Rattle.orc_run.specs.Searched.{IsUnseen, ended_of}
 use Rattle.orc_scheduler.specs.declared.fault.EngineFault.TheVariants as engine
 use Rattle.orc_run.specs.declared.faults.RunFault.TheVariants as fault
@@ -56,7 +56,7 @@ HasShown source script orders limit number old new = (text : List ℕ) × ShowsO
 
 -- at a fault nothing was written, or at a write fault a prefix of such a text
 abbrev pub LeavesUnshown : List ℕ → List ℕ → ℕ → ℕ → ℕ → Option (List ℕ) → Option (List ℕ) → Unshown → Type 0
-LeavesUnshown source script orders limit number old new (unshown.Fault (fault.Write w)) = (text : List ℕ) × ShowsOutcome source script orders limit number text × AppendsPrefix old new text
+LeavesUnshown source script orders limit number old new (unshown.Fault f) = KeepsOr ((text : List ℕ) × ShowsOutcome source script orders limit number text × AppendsPrefix old new text) old new f
 LeavesUnshown source script orders limit number old new _ = Keeps old new
 
 -- why none is shown: a fault has the cause that it has of a run; the others name the number
@@ -78,7 +78,7 @@ HasWritten l t p end values old new = (limit : ℕ) → IsPlayed l t limit p.sum
 
 -- and this where it wasn't written whole
 abbrev pub LeavesUnwritten : Listing → Table → Played → End → List Value → Option (List ℕ) → Option (List ℕ) → Unshown → Type 0
-LeavesUnwritten l t p end values old new (unshown.Fault (fault.Write w)) = (limit : ℕ) → IsPlayed l t limit p.summary p.published.items p.journal → (text : List ℕ) × IsJournalOf l t end values text × AppendsPrefix old new text
+LeavesUnwritten l t p end values old new (unshown.Fault f) = KeepsOr ((limit : ℕ) → IsPlayed l t limit p.summary p.published.items p.journal → (text : List ℕ) × IsJournalOf l t end values text × AppendsPrefix old new text) old new f
 LeavesUnwritten l t p end values old new _ = Keeps old new
 
 -- the same of some outcome to which no order came
@@ -86,7 +86,7 @@ abbrev pub WritesUnseen : Listing → Table → List Seen → Option (List ℕ) 
 WritesUnseen l t seen old new = (e : Ended) × IsUnseen seen e × ((text : List ℕ) × IsJournalOf l t e.end e.values.items text × Appends old new text)
 
 abbrev pub LeavesUnseen : Listing → Table → List Seen → Option (List ℕ) → Option (List ℕ) → Unshown → Type 0
-LeavesUnseen l t seen old new (unshown.Fault (fault.Write w)) = (e : Ended) × IsUnseen seen e × ((text : List ℕ) × IsJournalOf l t e.end e.values.items text × AppendsPrefix old new text)
+LeavesUnseen l t seen old new (unshown.Fault f) = KeepsOr ((e : Ended) × IsUnseen seen e × ((text : List ℕ) × IsJournalOf l t e.end e.values.items text × AppendsPrefix old new text)) old new f
 LeavesUnseen l t seen old new _ = Keeps old new
 
 -- once the program is loaded: there is no outcome with the number, or no run that has it was found, or memory was refused, or the output is at fault

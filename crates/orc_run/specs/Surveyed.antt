@@ -1,7 +1,7 @@
 -- What a survey of a source's program does.
 use Rattle.std.specs.Prelude.{ℕ, List}
 use Rattle.std.specs.declared.option.Option.{Option}
-use Rattle.std.specs.Io.KnownBytes.{Keeps, Appends}
+use Rattle.std.specs.Io.KnownBytes.{Appends}
 use Rattle.orc_rules.specs.Sites.{Table}
 use Rattle.orc_rules.specs.Nodes.{Listing}
 use Rattle.orc_site.specs.Script.{Says}
@@ -12,6 +12,7 @@ use Rattle.orc_orders.specs.declared.seen.Seen.{Seen}
 use Rattle.orc_output.specs.Output.{AppendsPrefix}
 use Rattle.orc_run.specs.declared.faults.RunFault.{RunFault}
 use Rattle.orc_run.specs.declared.faults.RunFault.TheVariants as fault
+use Rattle.orc_run.specs.Running.{KeepsOr}
 
 -- a fault that comes before anything is written
 abbrev pub IsUnwritten : RunFault → Type 0
@@ -28,5 +29,4 @@ HasSurveyed source script orders limit old new = (seen : List Seen) × CameTo so
 
 -- at a fault nothing was written, or at a write fault a prefix of the lines
 abbrev pub LeavesUnsurveyed : List ℕ → List ℕ → ℕ → ℕ → Option (List ℕ) → Option (List ℕ) → RunFault → Type 0
-LeavesUnsurveyed source script orders limit old new (fault.Write w) = (seen : List Seen) × CameTo source script orders limit seen × AppendsPrefix old new (lines orders seen)
-LeavesUnsurveyed source script orders limit old new _ = Keeps old new
+LeavesUnsurveyed source script orders limit old new = KeepsOr ((seen : List Seen) × CameTo source script orders limit seen × AppendsPrefix old new (lines orders seen)) old new

@@ -33,7 +33,7 @@ use Rattle.orc_cli.specs.declared.job.Wanted.TheVariants as wanted
 use Rattle.orc_run.specs.Called.{Named, options_text}
 use Rattle.orc_output.specs.Output.{AppendsPrefix}
 use Rattle.orc_run.specs.Details.{AreDetails}
-use Rattle.orc_run.specs.Running.{IsOwnOf, Ran, of_load}
+use Rattle.orc_run.specs.Running.{IsOwnOf, Ran, of_load, KeepsOr}
 use Rattle.orc_run.specs.Whole.{AreSaid, IsScriptAt}
 use Rattle.orc_run.specs.declared.faults.RunFault.{RunFault}
 use Rattle.orc_run.specs.declared.faults.RunFault.TheVariants as fault
@@ -126,7 +126,7 @@ HasFailing source text script names o explains old new number = (ways : List Cas
 
 -- at a fault nothing was written, or at a write fault a prefix of some text
 abbrev pub LeavesUntested : Option (List ℕ) → Option (List ℕ) → Untested → Type 0
-LeavesUntested old new (untested.Fault (fault.Write w)) = (text : List ℕ) × AppendsPrefix old new text
+LeavesUntested old new (untested.Fault f) = KeepsOr ((text : List ℕ) × AppendsPrefix old new text) old new f
 LeavesUntested old new _ = Keeps old new
 
 -- a trial's fault, as a run's

@@ -83,7 +83,7 @@ fn read_script<'a, F: Files>(
 }
 
 // Runs the program of a file: the status says how the run ended.
-#[tactic(auto, using(crate::proofs::Statuses::unread, crate::proofs::Causing::unread_run, crate::proofs::Statuses::unrun))]
+#[tactic(auto, using(crate::proofs::Statuses::unread, crate::proofs::Causing::unread_run, crate::proofs::Statuses::cut_or_kept))]
 fn run_file<'a, R: Threads + Wait + Sync, F: Files, W: Write>(
     rt: &R,
     alloc: Global,
@@ -123,7 +123,7 @@ fn run_file<'a, R: Threads + Wait + Sync, F: Files, W: Write>(
 }
 
 // Runs the program of a file in many orders.
-#[tactic(auto, using(crate::proofs::Statuses::unread, crate::proofs::Causing::unread_run, crate::proofs::Statuses::unsurveyed))]
+#[tactic(auto, using(crate::proofs::Statuses::unread, crate::proofs::Causing::unread_run, crate::proofs::Statuses::cut_or_kept))]
 fn survey_file<'a, R: Threads + Sync, F: Files, W: Write>(
     rt: &R,
     alloc: Global,
@@ -165,7 +165,7 @@ fn search_status(all: bool) -> u8
 }
 
 // Runs the program of a file in many orders, and searches all its schedules, through so many states at most: the status says whether all is told.
-#[tactic(auto, using(crate::proofs::Statuses::unread, crate::proofs::Causing::unread_run, crate::proofs::Statuses::unsearched))]
+#[tactic(auto, using(crate::proofs::Statuses::unread, crate::proofs::Causing::unread_run, crate::proofs::Statuses::cut_or_kept))]
 fn search_file<'a, R: Threads + Sync, F: Files, W: Write>(
     rt: &R,
     alloc: Global,
@@ -202,7 +202,7 @@ fn search_file<'a, R: Threads + Sync, F: Files, W: Write>(
 }
 
 // Shows an outcome of the program of a file, the one with this number: the journal of a run that has it.
-#[tactic(auto, using(crate::proofs::Statuses::unread, crate::proofs::Causing::unread_show, crate::proofs::Statuses::not_shown))]
+#[tactic(auto, using(crate::proofs::Statuses::unread, crate::proofs::Causing::unread_show, crate::proofs::Statuses::cut_or_kept))]
 fn show_file<'a, R: Threads + Sync, F: Files, W: Write>(
     rt: &R,
     alloc: Global,
@@ -244,7 +244,7 @@ fn show_file<'a, R: Threads + Sync, F: Files, W: Write>(
 
 // Checks the journal of a file. It is read piece by piece, but where an explanation is asked for: then its text is kept, so that a fault can be
 // shown in it.
-#[tactic(auto, using(crate::proofs::Statuses::unread, crate::proofs::Causing::unread_check, crate::proofs::Statuses::unjudged, crate::proofs::Statuses::unchecked))]
+#[tactic(auto, using(crate::proofs::Statuses::unread, crate::proofs::Causing::unread_check, crate::proofs::Statuses::cut_or_kept))]
 fn check_file<'a, F: Files, W: Write>(
     alloc: Global,
     file: &'a str,
@@ -308,7 +308,7 @@ fn claims_status(failing: usize) -> u8
 }
 
 // Checks the journal of a file and holds the claims of a test against it: the status says whether all hold.
-#[tactic(auto, using(crate::proofs::Statuses::unread, crate::proofs::Causing::unread_claim, crate::proofs::Statuses::unclaimed))]
+#[tactic(auto, using(crate::proofs::Statuses::unread, crate::proofs::Causing::unread_claim, crate::proofs::Statuses::cut_or_kept))]
 fn claims_file<'a, F: Files, W: Write>(
     alloc: Global,
     file: &'a str,
@@ -367,7 +367,7 @@ fn name_of(path: &str) -> &str {
 }
 
 // Draws the journal of a file.
-#[tactic(auto, using(crate::proofs::Statuses::unread, crate::proofs::Causing::unread_draw, crate::proofs::Statuses::undrawn_fault, crate::proofs::Statuses::undrawn_rows))]
+#[tactic(auto, using(crate::proofs::Statuses::unread, crate::proofs::Causing::unread_draw, crate::proofs::Statuses::cut_or_kept, crate::proofs::Statuses::undrawn_rows))]
 fn draw_file<'a, F: Files, W: Write>(
     alloc: Global,
     file: &'a str,
@@ -413,7 +413,7 @@ fn draw_file<'a, F: Files, W: Write>(
 }
 
 // Draws the journal of a run of a file's program.
-#[tactic(auto, using(crate::proofs::Statuses::unread, crate::proofs::Causing::unread_draw_run, crate::proofs::Statuses::undrawn_run))]
+#[tactic(auto, using(crate::proofs::Statuses::unread, crate::proofs::Causing::unread_draw_run, crate::proofs::Statuses::cut_or_kept))]
 fn draw_run_of<'a, R: Threads + Wait + Sync, F: Files, W: Write>(
     rt: &R,
     alloc: Global,
@@ -452,7 +452,7 @@ fn draw_run_of<'a, R: Threads + Wait + Sync, F: Files, W: Write>(
 }
 
 // Prints the program of a file.
-#[tactic(auto, using(crate::proofs::Statuses::unread, crate::proofs::Causing::unread_print, crate::proofs::Statuses::unprinted))]
+#[tactic(auto, using(crate::proofs::Statuses::unread, crate::proofs::Causing::unread_print, crate::proofs::Statuses::cut_or_kept))]
 fn print_file<'a, F: Files, W: Write>(
     alloc: Global,
     file: &'a str,
@@ -476,7 +476,7 @@ fn print_file<'a, F: Files, W: Write>(
 }
 
 // Holds the claims of a test against the program of a file: the status says whether all hold.
-#[tactic(auto, using(crate::proofs::Statuses::unread, crate::proofs::Causing::unread_test, crate::proofs::Statuses::untested_fault))]
+#[tactic(auto, using(crate::proofs::Statuses::unread, crate::proofs::Causing::unread_test, crate::proofs::Statuses::cut_or_kept))]
 fn test_file<'a, R: Threads + Wait + Sync, F: Files, W: Write>(
     rt: &R,
     alloc: Global,
