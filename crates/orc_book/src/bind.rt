@@ -54,7 +54,7 @@ impl<P: Program + Naming> Book<P> {
     /// A cell takes what the token publishes: all that stands inside its right side goes. The token's pass has won the mark that its group is killed, and
     /// is to be left with those of all records that went. Refused as Gone where the token isn't out or the mark was set already, as Wrong where it does something
     /// else next, as Full, Limit or Memory where the ledger refuses the entry for that or memory is refused. `cancelled` is lent: where the bind is Ok it then
-    /// holds the numbers of the calls that went, in rising order.
+    /// holds the numbers of the calls that went, in rising order, and else any numbers.
     pub fn bind(
         &mut self,
         groups: &Groups<P>,
