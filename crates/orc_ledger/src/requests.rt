@@ -1,6 +1,6 @@
 //! Calls of sites: a token makes one, and it pends; what it asks.
 
-ghost use Rattle.std.specs.Prelude.{◌≡◌, ◌<◌, ◌++◌, ◌∷◌, [], ℕ, true, Some, IfOk, IfErr, MatchOption, OnOk, OnErr};
+ghost use Rattle.std.specs.Prelude.{◌≡◌, ◌<◌, ◌++◌, ◌∷◌, [], ℕ, true, Some, IfOk, IfErr, MatchOption, OnOk, OnErr, length};
 ghost use Rattle.orc_rules.specs.Nodes.{code, definitions};
 ghost use Rattle.orc_rules.specs.declared.entry.Entry.TheVariants.{Call as Calls};
 ghost use Rattle.orc_calls.specs.Counting.{CountsCall};
@@ -183,5 +183,12 @@ impl<P: Program> Ledger<P> {
         ensures { MatchOption result (weight (has_number number) self.now.calls ≡ 0) (Pends self.now number) }
     {
         self.calls.get(number)
+    }
+
+    /// How many calls pend.
+    pub fn pending_count(&self) -> usize
+        ensures { result ≡ length self.now.calls }
+    {
+        self.calls.len()
     }
 }

@@ -16,7 +16,7 @@ ghost use Rattle.orc_ledger_spec.specs.Records.{its_env, its_path, is_over};
 ghost use Rattle.orc_frames.specs.Paths.{standing, has_left};
 ghost use Rattle.orc_tables.specs.Steps.{group_at};
 ghost use Rattle.orc_ledger_spec.specs.Claims.{IsBarred};
-ghost use Rattle.orc_ledger_spec.specs.Calls.{Drops, Closes, Resumes, AreCancelled, IsRefused};
+ghost use Rattle.orc_ledger_spec.specs.Calls.{Drops, GoesAlone, Closes, Resumes, AreCancelled, IsRefused};
 ghost use Rattle.orc_log.specs.Logs.{log_with};
 
 use crate::claim::Claim;
@@ -142,12 +142,14 @@ impl<P: Program> Ledger<P> {
         self.tokens.wake(cell);
         Ok(())
     }
-    /// The right side of a cell has halted without a publication: nothing is left in it. The cell has no value then.
+    /// The right side of a cell has halted without a publication: nothing is left in it. The cell has no value then, and no
+    /// other record goes.
     pub fn lost(&mut self, group: Group, cell: u64) -> Result<(), LedgerFault>
         requires there { IsIn group self.old.groups }
         requires side { group.side ≡ Right cell }
         requires empty { members (numbers_of self.old) self.old group.number ≡ 0 }
         ensures done { OnOk result (Drops (code P.listing) cell Bound.Void self.old self.new) }
+        ensures alone { OnOk result (GoesAlone self.old self.new group) }
         ensures journal { OnOk result (self.new.journal ≡ self.old.journal ++ Lost cell ∷ []) }
         ensures refused { OnErr result (self.new ≡ self.old) }
         ensures why { IfErr result (λ fault. IsRefused self.old 0 0 0 fault) }

@@ -164,6 +164,13 @@ pub record Closes (s s' : Records) (g : Group) : Type 0 where
   pub steps : s'.steps ≡ s.steps
   pub cells : s'.cells ≡ s.cells
 
+-- the group g goes, and no other record
+pub record GoesAlone (s s' : Records) (g : Group) : Type 0 where
+  pub tokens : s'.tokens ≡ s.tokens
+  pub calls : s'.calls ≡ s.calls
+  pub groups : (w : Group → ℕ) → weight w s'.groups + w g ≡ weight w s.groups
+  pub steps : s'.steps ≡ s.steps
+
 -- some tokens and calls go and others come; `made` calls are new
 pub record Exchanges (s s' : Records) (ts ts' : List Token) (cs cs' : List Call) (made : ℕ) (e : Entry) : Type 0 where
   pub limit : s'.limit ≡ s.limit

@@ -8,7 +8,7 @@ use Rattle.orc_ledger_spec.specs.Records.{Records, is_over}
 use Rattle.orc_frames.specs.Paths.{has_left}
 use Rattle.orc_tables.specs.Steps.{group_at}
 use Rattle.orc_tables.specs.Tokens.{IsHeld}
-use Rattle.orc_ledger_spec.specs.Calls.{Drops, Resumes, Closes, IsRefused}
+use Rattle.orc_ledger_spec.specs.Calls.{Drops, GoesAlone, Resumes, Closes, IsRefused}
 use Rattle.orc_ledger_spec.specs.Next.{members, numbers_of}
 use Rattle.orc_ledger_spec.specs.declared.faults.LedgerFault.{LedgerFault}
 use Rattle.orc_ledger_spec.specs.declared.results.Halted.{Halted}
@@ -25,10 +25,11 @@ abbrev pub IsGroup : Records → ℕ → Group → Type 0
 IsGroup s number g = IsIn g s.groups × (g.number ≡ number)
 
 module _ (code : ℕ → Term) (s s' : Records) (g : Group) where
-  -- its side is a cell's right side: the cell has no value
+  -- its side is a cell's right side: the cell has no value, and no other record goes
   pub record Loses (cell parent : ℕ) : Type 0 where
     pub side : g.side ≡ Right cell
     pub done : Drops code cell bound.Void s s'
+    pub alone : GoesAlone s s' g
     pub journal : s'.journal ≡ s.journal ++ entry.Lost cell ∷ []
     pub round : parent ≡ group_at s.steps g.outer
 

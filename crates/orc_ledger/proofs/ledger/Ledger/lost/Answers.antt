@@ -7,7 +7,7 @@ use Rattle.orc_tables.specs.Tokens.{live}
 use Rattle.orc_indexes.specs.Same.{weight, but}
 use Rattle.orc_ledger_spec.specs.Records.{Records}
 use Rattle.orc_tables.specs.Steps.{group_at}
-use Rattle.orc_ledger_spec.specs.Calls.{Drops, group_goes}
+use Rattle.orc_ledger_spec.specs.Calls.{Drops, GoesAlone, group_goes}
 use Rattle.orc_ledger_spec.specs.Next.{members, numbers_of}
 use Rattle.orc_indexes.specs.Same.{is_this}
 use Rattle.orc_tables.specs.declared.records.Group.{Group}
@@ -70,3 +70,11 @@ returns-clause-done g c =
     let groups : (w : Group → ℕ) → weight w s'.groups ≡ weight (but (group_goes (code l) a.cell s) w) s.groups = λ w. omega (arith, c.take_out.ensures.rest w, right-alone l sites s L (numbers_of s) G a.group there empty a.cell c.requires.side w) in
     let D : Drops (code l) a.cell Void s s' = drops-empty l sites s L a.cell E Void s' refl refl refl refl refl (ap live c.wake.ensures.items) refl groups refl refl c.settle.ensures in
     rw (← c.self.view_is) D
+
+pub returns-clause-alone : goal.returns-clause-alone
+returns-clause-alone g c =
+    let b = c.self.inside in
+    let s : Records = record { limit = b.limit; journal = b.journal.entries; entries = b.entries; next_mark = b.next_mark; now = b.time; made = b.calls.made; tokens = live b.tokens.items; slots = b.tokens.items; calls = b.calls.items; scopes = b.scopes.items; steps = b.steps.items; groups = b.groups.items; cells = b.cells.items } in
+    let s' : Records = record { limit = b.limit; journal = c.write.new.journal.entries; entries = b.entries + 1; next_mark = b.next_mark; now = b.time; made = b.calls.made; tokens = live c.wake.new.self.items; slots = c.wake.new.self.items; calls = b.calls.items; scopes = b.scopes.items; steps = b.steps.items; groups = c.take_out.new.groups.items; cells = c.settle.new.cells.items } in
+    let A : GoesAlone s s' c.args.group = record { tokens = ap live c.wake.ensures.items; calls = refl; groups = c.take_out.ensures.rest; steps = refl } in
+    rw (← c.self.view_is) A
