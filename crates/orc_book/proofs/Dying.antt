@@ -1,6 +1,5 @@
 -- What all words weigh, after one has come to stand for something else: how many stand for killed groups, and the passes that they hold.
-use Rattle.std.proofs.Common.{◌≡◌, ◌≤◌, ℕ, zero, suc, ◌+◌, List, [], ◌∷◌, length, map, Option, Some, Bool, true, false, nat_eq, eq-eqb, cond, count_by, ap, sym, ◌∙◌, arith, refl}
-use Rattle.std.proofs.lemmas.Bool.{eqb-true}
+use Rattle.std.proofs.Common.{◌≡◌, ◌≤◌, ℕ, zero, suc, ◌+◌, List, [], ◌∷◌, length, map, Option, Some, Bool, true, false, cond, count_by, ap, sym, ◌∙◌, arith, refl}
 use Rattle.std.specs.Prelude.{slice_set}
 use Rattle.std.proofs.lemmas.List.Sums.{sum_by-cons}
 use Rattle.slab.specs.Slab.{Slab, Updates, get}
@@ -75,16 +74,3 @@ module _ {X : Type 0} {g : Ghosts X} where
   pub buried-words : (s : Slab (Stand X g)) (w n : ℕ) (x : Stand X g) → kind_at (map stood_of s.slots) w ≡ Open n → (f : View → ℕ) → in_words f (map stood_of (slice_set s.slots w (Some x))) ≡ in_words f (map stood_of s.slots) + of_owed f (Stood.owed (stood_of (Some x)))
   buried-words s w n x stood f =
       omega (arith, turned-weight (λ (z : Stood). of_owed f z.owed) refl (map stood_of s.slots) (map stood_of (slice_set s.slots w (Some x))) w (stood_of (Some x)) (turned-over s w n x stood), ap (λ (z : Stood). of_owed f z.owed) (open-owed s.slots w n stood))
-
--- ---- which words are free
-
-pub free-beyond : (ws ws' : List Stood) (w high more : ℕ) (to : Stood) → Turns ws w to ws' → high ≤ more → w + 1 ≤ more → ((v : ℕ) → high ≤ v → kind_at ws v ≡ Free) → (v : ℕ) → more ≤ v → kind_at ws' v ≡ Free
-free-beyond ws ws' w high more to T le lt before v beyond = ap Stood.kind (T.others v (λ e. omega (arith, e, lt, beyond))) ∙ before v (omega (arith, le, beyond))
-
--- where a word above comes to be free, or none was
-pub free-still : (ws ws' : List Stood) (w high : ℕ) (to : Stood) → Turns ws w to ws' → ((v : ℕ) → high ≤ v → v ≡ w → to.kind ≡ Free) → ((v : ℕ) → high ≤ v → kind_at ws v ≡ Free) → (v : ℕ) → high ≤ v → kind_at ws' v ≡ Free
-free-still ws ws' w high to T here before v beyond = by (nat_eq v w) refl
-  where
-    by : (b : Bool) → nat_eq v w ≡ b → kind_at ws' v ≡ Free
-    by true e = let same = eqb-true v w e in ap (kind_at ws') same ∙ ap Stood.kind T.turned ∙ here v beyond same
-    by false e = ap Stood.kind (T.others v (λ same. cc (eq-eqb v w same, e))) ∙ before v beyond

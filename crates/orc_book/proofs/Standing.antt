@@ -1,7 +1,8 @@
 -- What words stand for after a change.
-use Rattle.std.proofs.Common.{◌≡◌, ◌⊎◌, ◌≤◌, ◌<◌, ◌+◌, inl, inr, ℕ, zero, suc, List, Option, arith, Bool, true, false, nat_eq, eq-eqb, sym, ap, ◌∙◌, subst, refl}
+use Rattle.std.proofs.Common.{◌≡◌, ◌⊎◌, ◌≤◌, ◌<◌, ◌+◌, inl, inr, ℕ, zero, suc, List, [], ◌∷◌, length, Option, arith, Bool, true, false, nat_eq, eq-eqb, sym, ap, ◌∙◌, subst, refl}
 use Rattle.std.proofs.lemmas.Bool.{eqb-true}
 use Rattle.orc_rules.specs.Term.{Term}
+use Rattle.orc_ledger_spec.specs.Next.{members, numbers_of}
 use Rattle.orc_ledger_spec.specs.Records.{Records}
 use Rattle.orc_tables.specs.Steps.{group_at}
 use Rattle.orc_tables.specs.Tokens.{IsHeld}
@@ -10,9 +11,10 @@ use Rattle.orc_word.specs.declared.view.View.{View}
 use Rattle.orc_book.specs.declared.token.Token.{Token as Out}
 use Rattle.orc_book.specs.declared.word_table.Kind.{Kind}
 use Rattle.orc_book.specs.declared.word_table.Kind.TheVariants.{Free, Open, Dying}
-use Rattle.orc_book.specs.Held.{Held, Stood, IsMissing, IsOut, IsThere, word_at}
+use Rattle.orc_book.specs.Held.{Held, Hold, Stood, IsMissing, IsOut, IsThere, word_at}
 use Rattle.orc_book.specs.Ends.{FreesWord}
 use Rattle.orc_book.specs.Words.{AreThere, HaveDied, HaveOpened, IsOpened, OpensWord, Turns, kind_at, killed, stood_at}
+use Rattle.orc_book.proofs.Loose.{either, there-or}
 use Rattle.orc_book.proofs.Ones.{one-slot}
 
 pub none-opened : (ws ws' : List Stood) → ws' ≡ ws → HaveOpened ws ws'
@@ -49,31 +51,48 @@ died-on s ws ws' ws'' D E = λ w. by w (D w) (E w)
     by w (inr d) (inl e) = inr (d.0, d.1, d.2, ap Stood.kind e ∙ d.3)
     by w (inr d) (inr e) = cc (d.3, e.1)
 
--- the words up to this one stand for open groups that there are, and then the next one does
-pub there-on : (s : Records) (ws ws' : List Stood) (k : ℕ) → HaveDied s ws ws' → ((w number : ℕ) → w < k → kind_at ws w ≡ Open number → IsThere s number) → ((number : ℕ) → kind_at ws' k ≡ Open number → IsThere s number) → (w number : ℕ) → w < k + 1 → kind_at ws' w ≡ Open number → IsThere s number
-there-on s ws ws' k D before here w number lt stood = by (nat_eq w k) refl (D w)
+-- the words of the groups up to this one stand for none of those that are missing, and then that of the next one doesn't
+pub gone-on : (s : Records) (ws ws' : List Stood) (ps : List Hold) (k : ℕ) → HaveDied s ws ws' → ((i : ℕ) → i < k → IsMissing s i → kind_at ws (word_at ps i) ≡ Open i → ⊥) → (IsMissing s k → kind_at ws' (word_at ps k) ≡ Open k → ⊥) → (i : ℕ) → i < k + 1 → IsMissing s i → kind_at ws' (word_at ps i) ≡ Open i → ⊥
+gone-on s ws ws' ps k D before here i lt m e = by (nat_eq i k) refl (D (word_at ps i))
   where
-    less : (w k : ℕ) → w < k + 1 → (w ≡ k → ⊥) → w < k
-    less w k lt off = omega (arith, lt, off)
+    less : (i k : ℕ) → i < k + 1 → (i ≡ k → ⊥) → i < k
+    less i k lt off = omega (arith, lt, off)
 
-    by : (b : Bool) → nat_eq w k ≡ b → (stood_at ws' w ≡ stood_at ws w) ⊎ ((n : ℕ) × (kind_at ws w ≡ Open n) × IsMissing s n × (kind_at ws' w ≡ Dying)) → IsThere s number
-    by true e d = here number (ap (kind_at ws') (sym (eqb-true w k e)) ∙ stood)
-    by false e (inl d) = before w number (less w k lt (λ same. cc (eq-eqb w k same, e))) (ap Stood.kind (sym d) ∙ stood)
-    by false e (inr d) = cc (d.3, stood)
+    by : (b : Bool) → nat_eq i k ≡ b → (stood_at ws' (word_at ps i) ≡ stood_at ws (word_at ps i)) ⊎ ((n : ℕ) × (kind_at ws (word_at ps i) ≡ Open n) × IsMissing s n × (kind_at ws' (word_at ps i) ≡ Dying)) → ⊥
+    by true same d = let at = eqb-true i k same in here (subst (IsMissing s) at m) (ap (λ z. kind_at ws' (word_at ps z)) (sym at) ∙ e ∙ ap Open at)
+    by false off (inl d) = before i (less i k lt (λ same. cc (eq-eqb i k same, off))) m (ap Stood.kind (sym d) ∙ e)
+    by false off (inr d) = cc (d.3, e)
 
--- those beyond the last one are free
-pub there-all : (s : Records) (ws ws' : List Stood) (k : ℕ) → HaveDied s ws ws' → ((w : ℕ) → k ≤ w → kind_at ws w ≡ Free) → ((w number : ℕ) → w < k → kind_at ws' w ≡ Open number → IsThere s number) → AreThere s ws'
-there-all s ws ws' k D beyond within w number stood = by (either w k) (D w)
+-- a group with members is there
+pub gone-over : (s : Records) (ws : List Stood) (ps : List Hold) (k k2 : ℕ) → ((i : ℕ) → IsMissing s i → members (numbers_of s) s i ≡ 0) → ((i : ℕ) → i < k → IsMissing s i → kind_at ws (word_at ps i) ≡ Open i → ⊥) → ((i : ℕ) → k ≤ i → i < k2 → 1 ≤ members (numbers_of s) s i) → (i : ℕ) → i < k2 → IsMissing s i → kind_at ws (word_at ps i) ≡ Open i → ⊥
+gone-over s ws ps k k2 missing before some i lt m e = by (either i k)
   where
-    either : (w k : ℕ) → (w < k) ⊎ (k ≤ w)
-    either w zero = inr (omega arith)
-    either zero (suc k) = inl (omega arith)
-    either (suc w) (suc k) = elim (either w k) [ inl h ↦ inl (omega (arith, h)) | inr h ↦ inr (omega (arith, h)) ]
+    by : (i < k) ⊎ (k ≤ i) → ⊥
+    by (inl less) = before i less m e
+    by (inr le) = absurd (omega (arith, some i le lt, missing i m))
 
-    by : (w < k) ⊎ (k ≤ w) → (stood_at ws' w ≡ stood_at ws w) ⊎ ((n : ℕ) × (kind_at ws w ≡ Open n) × IsMissing s n × (kind_at ws' w ≡ Dying)) → IsThere s number
-    by (inl lt) d = within w number lt stood
-    by (inr le) (inl d) = cc (beyond w le, ap Stood.kind d, stood)
-    by (inr le) (inr d) = cc (d.3, stood)
+no-post : (ps : List Hold) (i : ℕ) → length ps ≤ i → word_at ps i ≡ 0
+no-post [] i le = refl
+no-post (p ∷ ps) zero le = absurd (omega (arith, le))
+no-post (p ∷ ps) (suc i) le = no-post ps i (omega (arith, le))
+
+-- so where each word that stands for an open group is that group's, none stands for one that is missing
+pub buried-there : (s : Records) (ws ws' : List Stood) (ps : List Hold) → kind_at ws 0 ≡ Open 0 → ((w i : ℕ) → kind_at ws w ≡ Open i → word_at ps i ≡ w) → HaveDied s ws ws' → ((i : ℕ) → i < length ps → IsMissing s i → kind_at ws' (word_at ps i) ≡ Open i → ⊥) → AreThere s ws'
+buried-there s ws ws' ps root named D gone w i e = by (D w) (there-or s i)
+  where
+    one_open : (a b : ℕ) → Open a ≡ Open b → a ≡ b
+    one_open a b h = cc h
+
+    by_size : kind_at ws w ≡ Open i → IsMissing s i → (i < length ps) ⊎ (length ps ≤ i) → IsThere s i
+    by_size before m (inl lt) = absurd (gone i lt m (ap (kind_at ws') (named w i before) ∙ e))
+    by_size before m (inr le) =
+        let at : w ≡ 0 = sym (named w i before) ∙ no-post ps i le in
+        inl (one_open i 0 (sym before ∙ ap (kind_at ws) at ∙ root))
+
+    by : (stood_at ws' w ≡ stood_at ws w) ⊎ ((n : ℕ) × (kind_at ws w ≡ Open n) × IsMissing s n × (kind_at ws' w ≡ Dying)) → IsThere s i ⊎ IsMissing s i → IsThere s i
+    by d (inl h) = h
+    by (inl d) (inr m) = by_size (ap Stood.kind (sym d) ∙ e) m (either i (length ps))
+    by (inr d) (inr m) = cc (d.3, e)
 
 -- a token that is out is the one in its slot; its group's word has been opened
 pub opens-word : {X : Type 0} (b b' : Held) (k : Out X) (inner : Token) (slot number word next : ℕ) → IsOut b' k → k.slot ≡ slot → IsHeld b'.ledger.slots slot inner → number ≡ group_at b'.ledger.steps inner.step → word_at b'.posts number ≡ word → word ≡ next → IsOpened b.stands next number b'.stands → b'.marks ≡ b.marks → OpensWord b k b'

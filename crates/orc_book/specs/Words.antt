@@ -5,7 +5,7 @@ use Rattle.orc_ledger_spec.specs.Records.{Records}
 use Rattle.orc_tables.specs.Steps.{group_at}
 use Rattle.orc_tables.specs.declared.records.Token.{Token}
 use Rattle.orc_word.specs.declared.naming.Naming.{Ghosts}
-use Rattle.orc_book.specs.Held.{Held, Stood, IsMissing, IsThere, IsToken, word_at}
+use Rattle.orc_book.specs.Held.{Held, Hold, Stood, IsMissing, IsThere, IsToken, word_at}
 use Rattle.orc_book.specs.declared.token.Token.{Token as Out}
 use Rattle.orc_book.specs.declared.token.BookFault.{BookFault}
 use Rattle.orc_book.specs.declared.token.BookFault.TheVariants as fault
@@ -85,6 +85,13 @@ HaveDied s ws ws' = (w : ℕ) → (stood_at ws' w ≡ stood_at ws w) ⊎ ((numbe
 -- no word stands for an open group that the records haven't
 abbrev pub AreThere : Records → List Stood → Type 0
 AreThere s ws = (w number : ℕ) → kind_at ws w ≡ kind.Open number → IsThere s number
+
+-- each open group, and the program's own, has a word of its own: that stands for it, and a word that stands for an open group is that group's
+pub record AreNamed (s : Records) (ps : List Hold) (ws : List Stood) : Type 0 where
+  -- the program's own group has the first word
+  pub root : word_at ps 0 ≡ 0
+  pub has : (i : ℕ) → IsThere s i → kind_at ws (word_at ps i) ≡ kind.Open i
+  pub is : (w i : ℕ) → kind_at ws w ≡ kind.Open i → IsThere s i × (word_at ps i ≡ w)
 
 -- the token is out in a new group: the word of that was free and stands for it, no other word has changed, and the same tokens are kept
 abbrev pub OpensWord : {X : Type 0} → Held → Out X → Held → Type 0

@@ -1,47 +1,42 @@
 //! A cell is bound: what stood inside its right side goes.
 ghost use Rattle.std.specs.Prelude.{◌≡◌, ◌≤◌, ◌+◌, ◌⊎◌, ℕ, IfOk, IfErr, IfSome, OnOk, OnErr, vec_len, vec_capacity};
 ghost use Rattle.orc_rules.specs.Timed.{IsIn};
-ghost use Rattle.orc_indexes.specs.Same.{weight};
 ghost use Rattle.orc_tables.specs.declared.records.Token.{Token as Its};
 ghost use Rattle.orc_ledger_spec.specs.Moves.{Moves};
 ghost use Rattle.orc_ledger_spec.specs.declared.results.Moved.TheVariants as moved;
 ghost use Rattle.orc_word.specs.declared.view.View.{View};
 ghost use Rattle.orc_word.specs.Views.{group_of};
-ghost use Rattle.orc_book.specs.Held.{IsUnkept, HasWinner, bag};
+ghost use Rattle.orc_book.specs.Held.{IsUnkept, HasWinner, records_in};
 ghost use Rattle.orc_book.specs.Passes.{GivesUp, HasWon, in_book};
 ghost use Rattle.orc_book.specs.Refusals.{is_bind, IsRefusedBind};
 ghost use Rattle.orc_book.specs.Words.{AreThere, HaveDied};
 
 use crate::book::Book;
-use crate::post::Post;
-use crate::settle::{bury_missing, clear_missing, settle_all};
+use crate::settle::{bury_missing, settle_all};
 use crate::token::{BookFault, Refused, Token, fault_of};
 use orc_graph::Graph;
-use orc_ledger::{Action, stands};
+use orc_ledger::{Action, Ledger, stands};
 use orc_log::Program;
 use orc_word::{Bit, Groups, Naming, Pass};
 use std::alloc::AllocError;
 
-// How many passes are held.
-fn count_held<J: Naming>(posts: &[Post<J>]) -> Option<usize>
-    ensures { IfSome result (λ count. count ≡ weight bag posts.now) }
+// How many records there are.
+fn count_records<P: Program>(ledger: &Ledger<P>) -> Option<usize>
+    ensures { IfSome result (λ count. count ≡ records_in ledger.now) }
 {
-    let mut count: usize = 0;
-    for post in posts {
-        count = count.checked_add(post.held())?;
-    }
-    Some(count)
+    let count = ledger.token_count().checked_add(ledger.pending_count())?;
+    count.checked_add(ledger.side_count())
 }
 
-// Makes room for all passes that are held, and one more.
-pub(crate) fn reserve_all<J: Naming>(
-    posts: &Vec<Post<J>>,
+// Makes room for a pass of each record, so for all that are held, and one more.
+fn reserve_all<P: Program, J: Naming>(
+    ledger: &Ledger<P>,
     leave: &mut Vec<Pass<J>>,
 ) -> Result<(), AllocError>
     ensures items { leave.new.items ≡ leave.old.items }
-    ensures room { OnOk result (vec_len leave.new + weight bag posts.now.items + 1 ≤ vec_capacity leave.new) }
+    ensures room { OnOk result (vec_len leave.new + records_in ledger.now + 1 ≤ vec_capacity leave.new) }
 {
-    let Some(count) = count_held(posts.as_slice()) else {
+    let Some(count) = count_records(ledger) else {
         return Err(AllocError);
     };
     let Some(count) = count.checked_add(1) else {
@@ -88,7 +83,7 @@ impl<P: Program + Naming> Book<P> {
                 back: token,
             });
         }
-        if reserve_all(&self.posts, leave).is_err() {
+        if reserve_all(&self.ledger, leave).is_err() {
             return Err(Refused {
                 why: BookFault::Memory,
                 back: token,
@@ -112,7 +107,6 @@ impl<P: Program + Naming> Book<P> {
         {
             Ok(_bound) => {
                 stands(&self.ledger);
-                clear_missing(&self.ledger, &mut self.posts);
                 bury_missing(&self.ledger, &mut self.posts, &mut self.words);
                 settle_all(&self.ledger, &mut self.posts, leave);
                 leave.push_reserved(pass);

@@ -38,12 +38,13 @@ pub struct Book<P: Program + Naming> {
 
 impl<P: Program + Naming> Model for Book<P> {
     ghost use Rattle.orc_book.specs.Held.{Held, AreHeld};
+    ghost use Rattle.orc_book.specs.Words.{AreNamed};
 
     ghost Value = { Held };
 
     ghost view = { λ b. record { ledger = b.ledger; posts = b.posts.items; stands = b.words.stands; marks = b.keeping } };
 
-    ghost invariant = { λ b. AreHeld b.posts.items b.ledger };
+    ghost invariant = { λ b. AreHeld b.posts.items b.ledger × AreNamed b.ledger b.posts.items b.words.stands };
 }
 
 // Written out, so that each exit of a function that has a book drops it by one call.

@@ -1,5 +1,5 @@
 //! Groups that were left last.
-ghost use Rattle.std.specs.Prelude.{◌≡◌, ◌≤◌, ◌+◌, ◌⊎◌, ℕ, IfOk, IfErr, OnOk, OnErr, MatchOption, Some};
+ghost use Rattle.std.specs.Prelude.{◌≡◌, ◌≤◌, ◌+◌, ◌⊎◌, ℕ, IfOk, IfErr, OnOk, OnErr, None, Some};
 ghost use Rattle.orc_rules.specs.Nodes.{code};
 ghost use Rattle.orc_rules.specs.Term.{Halted as HasStopped};
 ghost use Rattle.orc_rules.specs.Marked.{erase};
@@ -7,17 +7,13 @@ ghost use Rattle.orc_rules.specs.Journal.{Place};
 ghost use Rattle.orc_ledger_spec.specs.Answers.{IsAt};
 ghost use Rattle.orc_ledger_spec.specs.Halting.{HasHalted};
 ghost use Rattle.orc_ledger_spec.specs.declared.results.Halted.{Halted as ItsHalted};
-ghost use Rattle.orc_tables.specs.declared.records.Token.{Token as Its};
-ghost use Rattle.orc_book.specs.Held.{IsToken, KeepsWords};
 ghost use Rattle.orc_book.specs.Ends.{FreesWord, HasEnded, in_ended};
 ghost use Rattle.orc_book.specs.Passes.{GivesUp, in_book};
 ghost use Rattle.orc_book.specs.Refusals.{IsRefusedGroup, IsRefusedHalt};
-ghost use Rattle.orc_book.specs.Words.{kind_at};
+ghost use Rattle.orc_book.specs.Words.{Turns, kind_at, owed_at, unused};
 
-use crate::bind::reserve_all;
 use crate::book::Book;
 use crate::post::{out_in, send_at, take_at};
-use crate::settle::{clear_missing, settle_all};
 use crate::token::{BookFault, Refused, Token, fault_of};
 use crate::word_table::Kind;
 use orc_ledger::stands;
@@ -85,25 +81,26 @@ impl<P: Program + Naming> Book<P> {
                     })
                 }
             }
-            Kind::Open(number) => match self.halt_group(number, leave) {
-                Ok(ended) => {
-                    let _none = self.words.free(word);
-                    Ok(ended)
-                }
+            Kind::Open(number) => match self.halt_group(number, word, leave) {
+                Ok(ended) => Ok(ended),
                 Err(why) => Err(Refused { why, back: last }),
             },
         }
     }
 
-    /// The group with this number, in which nobody is, ends. Where it was the left side of an otherwise that no publication has left, a token stands on the
-    /// right side, and is out. Else the group's pass to the one round it is to be left.
-    pub(crate) fn halt_group(
+    // The group with this number, in which nobody is, ends, and its word is free again. Where it was the left side of an otherwise that no publication has
+    // left, a token stands on the right side, and is out. Else the group's pass to the one round it is to be left.
+    fn halt_group(
         &mut self,
         number: u32,
+        word: u32,
         leave: &mut Vec<Pass<P>>,
     ) -> Result<Ended<P>, BookFault>
+        requires stood { kind_at self.old.stands word ≡ Kind.Open number }
+        requires bare { owed_at self.old.stands word ≡ None }
         ensures done { IfOk result (λ _. (h : ItsHalted) × HasHalted (code P.listing) self.old.ledger self.new.ledger number h) }
-        ensures stands { KeepsWords self.old self.new }
+        ensures word { OnOk result (Turns self.old.stands word unused self.new.stands) }
+        ensures marks { self.new.marks ≡ self.old.marks }
         ensures left { IfOk result (λ e. GivesUp leave.old.items leave.new.items (λ f. in_book f self.old) (λ f. in_ended f e + in_book f self.new)) }
         ensures lent { OnErr result (leave.new.items ≡ leave.old.items) }
         ensures born { IfOk result (HasEnded self.new) }
@@ -111,18 +108,21 @@ impl<P: Program + Naming> Book<P> {
         ensures refused { OnErr result (self.new ≡ self.old) }
         ensures why { IfErr result (λ why. IsRefusedGroup self.old.ledger number why) }
     {
-        if reserve_all(&self.posts, leave).is_err() {
+        if leave.try_reserve(1).is_err() {
             return Err(BookFault::Memory);
         }
         stands(&self.ledger);
         match self.ledger.halt(number) {
-            Ok(Halted::Lost(cell, _)) => {
-                stands(&self.ledger);
-                clear_missing(&self.ledger, &mut self.posts);
-                settle_all(&self.ledger, &mut self.posts, leave);
+            Ok(Halted::Lost(cell, parent)) => {
+                self.words.close(word);
+                let Some(pass) = take_at(&mut self.posts, parent) else {
+                    unreachable!()
+                };
+                leave.push_reserved(pass);
                 Ok(Ended::Lost(cell))
             }
             Ok(Halted::Closed(parent)) => {
+                self.words.close(word);
                 let Some(pass) = take_at(&mut self.posts, parent) else {
                     unreachable!()
                 };
@@ -130,6 +130,7 @@ impl<P: Program + Naming> Book<P> {
                 Ok(Ended::Group)
             }
             Ok(Halted::Resumed(slot)) => {
+                self.words.close(word);
                 let Some(its) = self.ledger.held(slot) else {
                     unreachable!()
                 };

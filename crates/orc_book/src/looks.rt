@@ -14,6 +14,7 @@ ghost use Rattle.orc_tables.specs.Tokens.{IsHeld};
 ghost use Rattle.orc_tables.specs.declared.records.Token.{Token as Its};
 ghost use Rattle.orc_book.specs.Held.{AreHeld, word_at};
 ghost use Rattle.orc_book.specs.Looks.{needs_of};
+ghost use Rattle.orc_book.specs.Words.{AreNamed};
 
 use crate::book::Book;
 use crate::post::word_in;
@@ -71,9 +72,11 @@ impl<P: Program + Naming> Book<P> {
         })
     }
 
-    /// The passes fit the records, as a law: each token is kept or out, and of each other record of a group the book holds one pass to that group.
+    /// The passes fit the records, as a law: each token is kept or out, and of each other record of a group the book holds one pass to that group. Each group
+    /// has a word of its own: it stands for that group, and no other word does.
     pub fn holds(&self)
-        ensures { AreHeld self.now.posts self.now.ledger }
+        ensures passes { AreHeld self.now.posts self.now.ledger }
+        ensures words { AreNamed self.now.ledger self.now.posts self.now.stands }
     {
         let _posts = &self.posts;
     }

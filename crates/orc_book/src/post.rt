@@ -4,7 +4,7 @@ ghost use Rattle.orc_indexes.specs.Same.{weight};
 ghost use Rattle.orc_word.specs.Views.{group_of};
 ghost use Rattle.orc_rules.specs.declared.limits.TheConstants.{MOST_GROUPS};
 ghost use Rattle.orc_book.specs.Passes.{GivesUp};
-ghost use Rattle.orc_book.specs.Held.{Hold, AreFirst, HaveGrown, Becomes, Changes, Same, OneMore, TakesOne, held_at, kept_at, out_at, word_at, room_at};
+ghost use Rattle.orc_book.specs.Held.{Hold, AreFirst, HaveGrown, Becomes, Changes, KeepsTokens, Same, OneMore, TakesOne, held_at, kept_at, out_at, word_at, room_at};
 
 use orc_rules::limits::MOST_GROUPS;
 use orc_word::{Groups, Naming, Pass};
@@ -124,18 +124,36 @@ impl<J: Naming> Post<J> {
         }
     }
 
-    /// Passes go until they are, with the tokens that are out, as many as the group has members. They are to be left.
+    /// Nobody is kept or out where the group has no members. Passes go until they are, with the tokens that are out, as many as it has. They are to be left.
     pub(crate) fn settle(&mut self, members: usize, leave: &mut Vec<Pass<J>>)
         requires enough { members ≤ length self.old.passes + self.old.out }
-        requires out { self.old.out ≤ members }
+        requires out { 1 ≤ members → self.old.out ≤ members }
         requires room { vec_len leave.old + length self.old.passes ≤ vec_capacity leave.old }
-        ensures rest { (self.new.word ≡ self.old.word) × (self.new.kept ≡ self.old.kept) × (self.new.out ≡ self.old.out) }
+        ensures word { self.new.word ≡ self.old.word }
+        ensures tokens { KeepsTokens members self.old self.new }
         ensures held { length self.new.passes + self.new.out ≡ members }
         ensures left { vec_len leave.new + length self.new.passes ≡ vec_len leave.old + length self.old.passes }
         ensures given { GivesUp leave.old.items leave.new.items (λ f. weight f self.old.passes) (λ f. weight f self.new.passes) }
         ensures capacity { vec_capacity leave.new ≡ vec_capacity leave.old }
     {
+        if members == 0 {
+            self.kept = 0;
+            self.out = 0;
+        }
         let wanted = members - self.out;
+        self.give_up(wanted, leave);
+    }
+
+    // Passes go until so many are held. They are to be left.
+    fn give_up(&mut self, wanted: usize, leave: &mut Vec<Pass<J>>)
+        requires enough { wanted ≤ length self.old.passes }
+        requires room { vec_len leave.old + length self.old.passes ≤ vec_capacity leave.old }
+        ensures rest { (self.new.word ≡ self.old.word) × (self.new.kept ≡ self.old.kept) × (self.new.out ≡ self.old.out) }
+        ensures held { length self.new.passes ≡ wanted }
+        ensures left { vec_len leave.new + length self.new.passes ≡ vec_len leave.old + length self.old.passes }
+        ensures given { GivesUp leave.old.items leave.new.items (λ f. weight f self.old.passes) (λ f. weight f self.new.passes) }
+        ensures capacity { vec_capacity leave.new ≡ vec_capacity leave.old }
+    {
         while self.passes.len() > wanted {
             let Some(pass) = self.passes.pop() else {
                 unreachable!()
@@ -173,18 +191,7 @@ pub(crate) fn set_out<J: Naming>(posts: &mut Vec<Post<J>>, number: u32, out: usi
     }
 }
 
-/// No token of a group is kept or out any more.
-pub(crate) fn clear_at<J: Naming>(posts: &mut Vec<Post<J>>, number: u32)
-    requires there { number < length posts.old.items }
-    ensures { (p : Hold) × Becomes posts.old.items number p (record p { kept = 0; out = 0 }) posts.new.items }
-{
-    if let Some(post) = posts.get_mut(number as usize) {
-        post.set_kept(0);
-        post.set_out(0);
-    }
-}
-
-/// The passes of a group that are too many go: they are to be left.
+/// Nobody is kept or out of a group without members, and the passes of a group that are too many go: they are to be left.
 pub(crate) fn settle_at<J: Naming>(
     posts: &mut Vec<Post<J>>,
     number: u32,
@@ -193,13 +200,30 @@ pub(crate) fn settle_at<J: Naming>(
 )
     requires there { number < length posts.old.items }
     requires enough { members ≤ held_at posts.old.items number + out_at posts.old.items number }
-    requires out { out_at posts.old.items number ≤ members }
+    requires out { 1 ≤ members → out_at posts.old.items number ≤ members }
     requires room { vec_len leave.old + held_at posts.old.items number ≤ vec_capacity leave.old }
-    ensures post { (p : Hold) × (q : Hold) × Becomes posts.old.items number p q posts.new.items × (q.word ≡ p.word) × (q.kept ≡ p.kept) × (q.out ≡ p.out) × (length q.passes + q.out ≡ members) × (vec_len leave.new + length q.passes ≡ vec_len leave.old + length p.passes) × GivesUp leave.old.items leave.new.items (λ f. weight f p.passes) (λ f. weight f q.passes) }
+    ensures post { (p : Hold) × (q : Hold) × Becomes posts.old.items number p q posts.new.items × (q.word ≡ p.word) × KeepsTokens members p q × (length q.passes + q.out ≡ members) × (vec_len leave.new + length q.passes ≡ vec_len leave.old + length p.passes) × GivesUp leave.old.items leave.new.items (λ f. weight f p.passes) (λ f. weight f q.passes) }
     ensures capacity { vec_capacity leave.new ≡ vec_capacity leave.old }
 {
     if let Some(post) = posts.get_mut(number as usize) {
         post.settle(members, leave);
+    }
+}
+
+/// Whether a group has members, so many, and a pass of each but the tokens that are out is held.
+#[inline(always)]
+pub(crate) fn is_settled_at<J: Naming>(
+    posts: &Vec<Post<J>>,
+    number: u32,
+    members: usize,
+) -> bool
+    ensures { result ≡ true → (1 ≤ members) × (held_at posts.now.items number + out_at posts.now.items number ≡ members) }
+{
+    match posts.get(number as usize) {
+        Some(post) => {
+            members > 0 && post.out() <= members && post.held() == members - post.out()
+        }
+        None => false,
     }
 }
 
@@ -365,7 +389,7 @@ pub(crate) fn spare_at<J: Naming>(
 {
     let held = held_in(posts, number);
     let out = out_in(posts, number);
-    if out <= members && members - out < held {
+    if members.saturating_sub(out) < held {
         take_at(posts, number)
     } else {
         None
@@ -379,17 +403,6 @@ pub(crate) fn held_in<J: Naming>(posts: &Vec<Post<J>>, number: u32) -> usize
     match posts.get(number as usize) {
         Some(post) => post.held(),
         None => 0,
-    }
-}
-
-/// Whether more tokens of a group are kept and out than so many.
-pub(crate) fn is_over<J: Naming>(posts: &Vec<Post<J>>, number: u32, members: usize) -> bool
-    ensures over { result ≡ true → members < kept_at posts.now.items number + out_at posts.now.items number }
-    ensures within { result ≡ false → kept_at posts.now.items number + out_at posts.now.items number ≤ members }
-{
-    match posts.get(number as usize) {
-        Some(post) => post.out() > members || members - post.out() < post.kept(),
-        None => false,
     }
 }
 

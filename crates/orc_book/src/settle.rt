@@ -1,14 +1,14 @@
 //! What a book has of groups that the ledger has no more goes.
-ghost use Rattle.std.specs.Prelude.{◌≡◌, ◌+◌, ◌≤◌, ℕ, true, false, length, vec_len, vec_capacity};
+ghost use Rattle.std.specs.Prelude.{◌≡◌, ◌+◌, ◌≤◌, ◌<◌, ℕ, true, false, length, vec_len, vec_capacity};
 ghost use Rattle.orc_rules.specs.declared.limits.TheConstants.{MOST_GROUPS};
 ghost use Rattle.orc_indexes.specs.Same.{weight};
-ghost use Rattle.orc_book.specs.Held.{AreHeld, AreLoose, IsLoose, IsThere, IsMissing, bag};
+ghost use Rattle.orc_book.specs.Held.{AreBurying, AreHeld, AreLoose, IsMissing, IsSettled, IsThere, bag, word_at};
 ghost use Rattle.orc_book.specs.Passes.{GivesUp, in_posts, in_words};
 ghost use Rattle.orc_book.specs.Words.{AreThere, HaveDied, kind_at};
 ghost use Rattle.orc_ledger_spec.specs.Next.{members, numbers_of};
 ghost use Rattle.orc_word.specs.declared.view.View.{View};
 
-use crate::post::{Post, clear_at, is_over, parent_in, settle_at, spare_at, word_in};
+use crate::post::{Post, is_settled_at, parent_in, settle_at, spare_at, word_in};
 use crate::word_table::{Kind, WordTable};
 use orc_ledger::Ledger;
 use orc_log::Program;
@@ -28,51 +28,27 @@ fn is_there<P: Program>(ledger: &Ledger<P>, number: u32) -> bool
     }
 }
 
-// Nobody is kept or out of a group that is there no more.
-pub(crate) fn clear_missing<P: Program, J: Naming>(ledger: &Ledger<P>, posts: &mut Vec<Post<J>>)
-    requires few { length posts.old.items ≤ MOST_GROUPS }
-    requires loose { AreLoose posts.old.items ledger.now }
-    ensures loose { (i : ℕ) → IsLoose ledger.now posts.new.items i }
-    ensures bags { weight bag posts.new.items ≡ weight bag posts.old.items }
-    ensures held { (f : View → ℕ) → in_posts f posts.new.items ≡ in_posts f posts.old.items }
-    ensures count { length posts.new.items ≡ length posts.old.items }
-{
-    let count = posts.len();
-    for number in 0..count {
-        let number = number as u32;
-        // Of a group that is there are no more tokens kept and out than it has members.
-        let members = ledger.member_count(number) as usize;
-        if is_over(posts, number, members) {
-            clear_at(posts, number);
-        }
-    }
-}
-
-// Where a word stands for an open group that is there no more, it stands for a killed one, with a pass of the group that was round it.
+// The word of a group that is there no more stands for a killed one, with a pass of the group that was round it.
 fn bury_one<P: Program, J: Naming>(
     ledger: &Ledger<P>,
     posts: &mut Vec<Post<J>>,
     words: &mut WordTable<J>,
-    word: u32,
+    number: u32,
 )
-    requires loose { (i : ℕ) → IsLoose ledger.now posts.old.items i }
-    requires missing { (i : ℕ) → IsMissing ledger.now i → members (numbers_of ledger.now) ledger.now i ≡ 0 }
-    ensures loose { (i : ℕ) → IsLoose ledger.now posts.new.items i }
-    ensures bags { weight bag posts.new.items ≤ weight bag posts.old.items }
-    ensures count { length posts.new.items ≡ length posts.old.items }
+    requires loose { AreLoose posts.old.items ledger.now }
+    ensures buried { AreBurying ledger.now posts.old.items posts.new.items }
     ensures held { (f : View → ℕ) → in_posts f posts.new.items + in_words f words.new.stands ≡ in_posts f posts.old.items + in_words f words.old.stands }
     ensures died { HaveDied ledger.now words.old.stands words.new.stands }
-    ensures there { (number : ℕ) → kind_at words.new.stands word ≡ Kind.Open number → IsThere ledger.now number }
+    ensures gone { IsMissing ledger.now number → kind_at words.new.stands (word_at posts.old.items number) ≡ Kind.Open number → ⊥ }
 {
-    let Kind::Open(number) = words.kind(word) else {
-        return;
-    };
-    // A group that has members is there; to ask that first is faster.
-    let count = ledger.member_count(number);
-    if count > 0 {
+    if is_there(ledger, number) {
         return;
     }
-    if is_there(ledger, number) {
+    let word = word_in(posts, number);
+    let Kind::Open(stood) = words.kind(word) else {
+        return;
+    };
+    if stood != number {
         return;
     }
     let parent = parent_in(posts, number);
@@ -81,45 +57,83 @@ fn bury_one<P: Program, J: Naming>(
     words.bury(word, above, pass);
 }
 
-// The words whose groups are there no more stand for killed ones.
+// The first number from `from` on, under `to`, of which nobody is a member, or else `to`.
+fn next_empty<P: Program>(ledger: &Ledger<P>, from: u32, to: u32) -> u32
+    requires { from ≤ to }
+    ensures within { (from ≤ result) × (result ≤ to) }
+    ensures some { (i : ℕ) → from ≤ i → i < result → 1 ≤ members (numbers_of ledger.now) ledger.now i }
+{
+    for number in from..to {
+        if ledger.member_count(number) == 0 {
+            return number;
+        }
+    }
+    to
+}
+
+// The words of groups that are there no more stand for killed ones. A group that has members is there; to ask that first is faster.
 pub(crate) fn bury_missing<P: Program, J: Naming>(
     ledger: &Ledger<P>,
     posts: &mut Vec<Post<J>>,
     words: &mut WordTable<J>,
 )
     requires few { length posts.old.items ≤ MOST_GROUPS }
-    requires loose { (i : ℕ) → IsLoose ledger.now posts.old.items i }
-    requires missing { (i : ℕ) → IsMissing ledger.now i → members (numbers_of ledger.now) ledger.now i ≡ 0 }
-    ensures loose { (i : ℕ) → IsLoose ledger.now posts.new.items i }
-    ensures bags { weight bag posts.new.items ≤ weight bag posts.old.items }
-    ensures count { length posts.new.items ≡ length posts.old.items }
+    requires loose { AreLoose posts.old.items ledger.now }
+    requires root { kind_at words.old.stands 0 ≡ Kind.Open 0 }
+    requires named { (w i : ℕ) → kind_at words.old.stands w ≡ Kind.Open i → word_at posts.old.items i ≡ w }
+    ensures buried { AreBurying ledger.now posts.old.items posts.new.items }
     ensures held { (f : View → ℕ) → in_posts f posts.new.items + in_words f words.new.stands ≡ in_posts f posts.old.items + in_words f words.old.stands }
     ensures died { HaveDied ledger.now words.old.stands words.new.stands }
     ensures there { AreThere ledger.now words.new.stands }
 {
-    for word in 0..words.high() {
-        bury_one(ledger, posts, words, word);
+    let count = posts.len() as u32;
+    let mut number = next_empty(ledger, 0, count);
+    while number < count {
+        bury_one(ledger, posts, words, number);
+        number = next_empty(ledger, number + 1, count);
     }
 }
 
-// Each group's passes that are too many are to be left.
+// The first number from `from` on, under `to`, whose post may have passes that are too many or tokens that are gone, or else `to`.
+fn next_unsettled<P: Program, J: Naming>(
+    ledger: &Ledger<P>,
+    posts: &Vec<Post<J>>,
+    from: u32,
+    to: u32,
+) -> u32
+    requires { from ≤ to }
+    ensures within { (from ≤ result) × (result ≤ to) }
+    ensures settled { (i : ℕ) → from ≤ i → i < result → IsSettled ledger.now posts.now.items i }
+{
+    for number in from..to {
+        let members = ledger.member_count(number) as usize;
+        if !is_settled_at(posts, number, members) {
+            return number;
+        }
+    }
+    to
+}
+
+// Nobody is kept or out of a group without members, and each group's passes that are too many are to be left.
 pub(crate) fn settle_all<P: Program, J: Naming>(
     ledger: &Ledger<P>,
     posts: &mut Vec<Post<J>>,
     leave: &mut Vec<Pass<J>>,
 )
     requires few { length posts.old.items ≤ MOST_GROUPS }
-    requires loose { (i : ℕ) → IsLoose ledger.now posts.old.items i }
+    requires loose { AreLoose posts.old.items ledger.now }
     requires room { vec_len leave.old + weight bag posts.old.items ≤ vec_capacity leave.old }
     ensures held { AreHeld posts.new.items ledger.now }
+    ensures words { (i : ℕ) → word_at posts.new.items i ≡ word_at posts.old.items i }
     ensures given { GivesUp leave.old.items leave.new.items (λ f. in_posts f posts.old.items) (λ f. in_posts f posts.new.items) }
     ensures room { vec_len leave.new + weight bag posts.new.items ≤ vec_len leave.old + weight bag posts.old.items }
     ensures capacity { vec_capacity leave.new ≡ vec_capacity leave.old }
 {
-    let count = posts.len();
-    for number in 0..count {
-        let number = number as u32;
+    let count = posts.len() as u32;
+    let mut number = next_unsettled(ledger, posts, 0, count);
+    while number < count {
         let members = ledger.member_count(number) as usize;
         settle_at(posts, number, members, leave);
+        number = next_unsettled(ledger, posts, number + 1, count);
     }
 }

@@ -38,21 +38,18 @@ pub(crate) enum Kind {
 pub(crate) struct WordTable<P: Naming> {
     stands: Slab<Stand<P>>,
     count: u32,
-    // This word and all above it are free.
-    high: u32,
     dying: usize,
 }
 
 impl<P: Naming> Model for WordTable<P> {
-    ghost use Rattle.std.specs.Prelude.{◌≡◌, ◌≤◌, ℕ, count_by, map};
-    ghost use Rattle.orc_book.specs.declared.word_table.Kind.TheVariants.{Free};
-    ghost use Rattle.orc_book.specs.Words.{Shown, is_dying, kind_at, stood_of};
+    ghost use Rattle.std.specs.Prelude.{◌≡◌, ◌≤◌, count_by, map};
+    ghost use Rattle.orc_book.specs.Words.{Shown, is_dying, stood_of};
 
     ghost Value = { Shown };
 
     ghost view = { λ t. record { stands = map stood_of t.stands.slots; next = t.stands.vacant_key } };
 
-    ghost invariant = { λ t. (t.count ≡ P.table.words) × (t.count ≤ t.stands.capacity) × ((w : ℕ) → t.high ≤ w → kind_at (map stood_of t.stands.slots) w ≡ Free) × (t.dying ≡ count_by is_dying (map stood_of t.stands.slots)) };
+    ghost invariant = { λ t. (t.count ≡ P.table.words) × (t.count ≤ t.stands.capacity) × (t.dying ≡ count_by is_dying (map stood_of t.stands.slots)) };
 }
 
 impl<P: Naming> WordTable<P> {
@@ -74,7 +71,6 @@ impl<P: Naming> WordTable<P> {
         Ok(WordTable {
             stands,
             count,
-            high: 1,
             dying: 0,
         })
     }
@@ -104,17 +100,7 @@ impl<P: Naming> WordTable<P> {
     {
         let _room = self.stands.capacity();
         let _key = self.stands.vacant_key();
-        let word = self.stands.insert_reserved(Stand::Open(number)) as u32;
-        if word >= self.high {
-            self.high = word + 1;
-        }
-    }
-
-    /// This word and all above it are free.
-    pub(crate) fn high(&self) -> u32
-        ensures { (w : ℕ) → result ≤ w → kind_at self.now.stands w ≡ Kind.Free }
-    {
-        self.high
+        let _word = self.stands.insert_reserved(Stand::Open(number));
     }
 
     /// What a word stands for.
@@ -159,6 +145,15 @@ impl<P: Naming> WordTable<P> {
             Some(Stand::Open(_number)) => None,
             None => None,
         }
+    }
+
+    /// A word that holds no pass is free again.
+    pub(crate) fn close(&mut self, word: u32)
+        requires bare { owed_at self.old.stands word ≡ None }
+        ensures freed { Turns self.old.stands word unused self.new.stands }
+        ensures held { (f : View → ℕ) → in_words f self.new.stands ≡ in_words f self.old.stands }
+    {
+        let _none = self.free(word);
     }
 
     /// How many words stand for killed groups.

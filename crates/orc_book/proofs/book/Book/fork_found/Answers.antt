@@ -7,6 +7,7 @@ use Rattle.orc_book.specs.Held.{Hold, Becomes, out_of, out_at, word_at}
 use Rattle.orc_book.proofs.Ones.{forked-fits, forked-held}
 use Rattle.orc_book.proofs.Posts.{word-kept}
 use Rattle.orc_book.proofs.Reading.{forked}
+use Rattle.orc_book.proofs.Named.{named-kept, none-came}
 use Rattle.orc_book.proofs.book.Book.fork_found.Goals as goal
 
 pub invariant_of-self : goal.invariant_of-self
@@ -24,7 +25,10 @@ invariant_of-self g c =
     let q : Hold = record p { out = (c.args.found.out + 1) } in
     let B : Becomes b.posts.items n p q c.set_out.new.posts.items = d.1 in
     let out : c.args.found.out ≡ out_at b.posts.items n = rw (← c.self.view_is) at c.requires.found.out in
-    forked-held b.ledger c.advance.new.self c.stands.ensures.lawful.sound t i _ _ refl refl [] [] _ F.done b.posts.items c.self.invariant c.set_out.new.posts.items p q (subst (λ z. Becomes b.posts.items z p q c.set_out.new.posts.items) at B) refl (omega (arith, out, ap out_of B.0)) refl
+    (
+      forked-held b.ledger c.advance.new.self c.stands.ensures.lawful.sound t i _ _ refl refl [] [] _ F.done b.posts.items c.self.invariant.0 c.set_out.new.posts.items p q (subst (λ z. Becomes b.posts.items z p q c.set_out.new.posts.items) at B) refl (omega (arith, out, ap out_of B.0)) refl,
+      named-kept b.ledger c.advance.new.self b.posts.items c.set_out.new.posts.items b.words.stands (none-came b.ledger c.advance.new.self F.done.groups) (word-kept b.posts.items c.set_out.new.posts.items n p q B refl) c.self.invariant.1,
+    )
 
 pub born-one-requires : goal.born-one-requires
 born-one-requires g c =
@@ -51,4 +55,4 @@ overflow_add-found g c =
     let n : ℕ = c.args.found.group in
     let at : n ≡ group_at b.ledger.steps t.step = rw (← c.self.view_is) at c.requires.found.group in
     let out : c.args.found.out ≡ out_at b.posts.items n = rw (← c.self.view_is) at c.requires.found.out in
-    omega (arith, out, ap (out_at b.posts.items) at, forked-fits b.ledger c.advance.new.self c.stands.ensures.lawful.sound t i _ _ refl refl [] [] _ F.done b.posts.items c.self.invariant, c.token_count-tokens.ensures, c.token_count-tokens.type_inv)
+    omega (arith, out, ap (out_at b.posts.items) at, forked-fits b.ledger c.advance.new.self c.stands.ensures.lawful.sound t i _ _ refl refl [] [] _ F.done b.posts.items c.self.invariant.0, c.token_count-tokens.ensures, c.token_count-tokens.type_inv)

@@ -1,4 +1,4 @@
-use Rattle.std.proofs.Common.{◌≡◌, ◌⊎◌, ap, sym, ◌∙◌, subst, Some}
+use Rattle.std.proofs.Common.{◌≡◌, ◌⊎◌, refl, ap, sym, ◌∙◌, subst, Some}
 use Rattle.orc_rules.specs.Timed.{IsIn}
 use Rattle.orc_ledger_spec.specs.Moves.{Moves}
 use Rattle.orc_frames.specs.declared.action.Action.TheVariants as what
@@ -8,6 +8,7 @@ use Rattle.orc_word.specs.Views.{group_of}
 use Rattle.orc_book.specs.Held.{word_at}
 use Rattle.orc_book.proofs.Onwards.{went, went-group}
 use Rattle.orc_book.proofs.Moving.{went-held}
+use Rattle.orc_book.proofs.Named.{named-kept, none-came}
 use Rattle.orc_book.proofs.book.Book.go_on_found.Goals as goal
 
 pub invariant_of-self : goal.invariant_of-self
@@ -18,7 +19,10 @@ invariant_of-self g c =
     let i : IsIn t b.ledger.tokens = rw (← c.self.view_is) at c.requires.found.there in
     let m = subst (λ m. Moves l b.ledger c.args.token.slot t m c.advance.new.cancelled.items c.advance.new.self) c.in-Ok-On.field-0-is c.in-Ok-On.ensures.done in
     let W = went l b.ledger c.args.token.slot t c.advance.new.self _ (subst (λ a. (a ≡ what.Seq) ⊎ (a ≡ what.Def)) (rw (← c.self.view_is) at c.requires.found.what) c.requires.next) m in
-    went-held b.ledger c.advance.new.self c.stands.ensures.lawful.sound t i W.token W.scopes W.steps W.cells W.entry W.turns W.same b.posts.items c.self.invariant
+    (
+      went-held b.ledger c.advance.new.self c.stands.ensures.lawful.sound t i W.token W.scopes W.steps W.cells W.entry W.turns W.same b.posts.items c.self.invariant.0,
+      named-kept b.ledger c.advance.new.self b.posts.items b.posts.items b.words.stands (none-came b.ledger c.advance.new.self W.turns.groups) (λ i. refl) c.self.invariant.1,
+    )
 
 pub unreachable-requires : goal.unreachable-requires
 unreachable-requires g c =

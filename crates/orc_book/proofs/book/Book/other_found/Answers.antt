@@ -14,9 +14,12 @@ use Rattle.orc_book.proofs.Ones.{roomy-held, one-slot}
 use Rattle.orc_book.proofs.Moving.{tried-held}
 use Rattle.orc_book.proofs.Grown.{grown-held, stayed-grown}
 use Rattle.orc_book.proofs.Free.{free-none, free-apart}
-use Rattle.orc_book.proofs.Posts.{stayed, other-at, mine-at, length-becomes}
+use Rattle.orc_book.proofs.Posts.{stayed, other-at, mine-at, length-becomes, word-kept}
 use Rattle.orc_book.proofs.Standing.{opens-word}
 use Rattle.orc_book.proofs.Reading.{tried}
+use Rattle.orc_ledger_spec.specs.Records.{Records}
+use Rattle.orc_book.specs.Words.{IsOpened}
+use Rattle.orc_book.proofs.Named.{named-opened, named-same-words}
 use Rattle.orc_book.proofs.book.Book.other_found.Goals as goal
 
 pub invariant_of-self : goal.invariant_of-self
@@ -25,7 +28,8 @@ invariant_of-self g c =
     let s = b.ledger in
     let ps = b.posts.items in
     let ps1 = c.reserve_opening.new.posts.items in
-    roomy-held s ps ps1 _ c.reserve_opening.ensures.same c.self.invariant
+    let C = c.reserve_opening.ensures.same in
+    (roomy-held s ps ps1 _ C c.self.invariant.0, named-same-words s s ps ps1 b.words.stands refl (word-kept ps ps1 _ C.0 C.1 C.2 C.3) c.self.invariant.1)
 
 pub returns-then-is_err-clause-refused : goal.returns-then-is_err-clause-refused
 returns-then-is_err-clause-refused g c =
@@ -42,7 +46,8 @@ invariant_of-self-in-Err-open_word g c =
     let s = b.ledger in
     let ps = b.posts.items in
     let ps1 = c.reserve_opening.new.posts.items in
-    roomy-held s ps ps1 _ c.reserve_opening.ensures.same c.self.invariant
+    let C = c.reserve_opening.ensures.same in
+    (roomy-held s ps ps1 _ C c.self.invariant.0, named-same-words s s ps ps1 b.words.stands refl (word-kept ps ps1 _ C.0 C.1 C.2 C.3) c.self.invariant.1)
 
 pub returns-in-Err-open_word-clause-refused : goal.returns-in-Err-open_word-clause-refused
 returns-in-Err-open_word-clause-refused g c =
@@ -59,7 +64,8 @@ invariant_of-self-in-Err-advance g c =
     let s = b.ledger in
     let ps = b.posts.items in
     let ps1 = c.reserve_opening.new.posts.items in
-    subst (AreHeld ps1) (sym c.in-Err-advance.ensures.refused) (roomy-held s ps ps1 _ c.reserve_opening.ensures.same c.self.invariant)
+    let C = c.reserve_opening.ensures.same in
+    (subst (AreHeld ps1) (sym c.in-Err-advance.ensures.refused) (roomy-held s ps ps1 _ C c.self.invariant.0), named-same-words s c.advance.new.self ps ps1 b.words.stands (ap (λ (z : Records). z.groups) c.in-Err-advance.ensures.refused) (word-kept ps ps1 _ C.0 C.1 C.2 C.3) c.self.invariant.1)
 
 pub returns-in-Err-advance-clause-refused : goal.returns-in-Err-advance-clause-refused
 returns-in-Err-advance-clause-refused g c =
@@ -142,7 +148,7 @@ raise_at-requires-clause-empty g c =
     let inner : Token = c.in-Some.inner in
     let step : inner.step ≡ length s.steps + 1 = ap (λ (z : Token). z.step) (one-slot inner _ (sym (c.in-Some.ensures.held.0).0 ∙ (O.held).0)) in
     let its : c.group_of_token-number.result ≡ number = c.group_of_token-number.ensures ∙ ap (group_at s'.steps) step ∙ ap (λ z. group_at z (length s.steps + 1)) T.steps ∙ group-end s.steps _ in
-    let H : AreHeld ps1 s = grown-held s ps0 ps1 c.grow_to.ensures.grown c.grow_to.ensures.few (roomy-held s ps ps0 n c.reserve_opening.ensures.same c.self.invariant) in
+    let H : AreHeld ps1 s = grown-held s ps0 ps1 c.grow_to.ensures.grown c.grow_to.ensures.few (roomy-held s ps ps0 n c.reserve_opening.ensures.same c.self.invariant.0) in
     let C = c.bring_at.ensures.more in
     let none = free-none l sites s L G number F ps1 H in
     let off : n ≡ number → ⊥ = λ e. free-apart l sites s L G number F t i (sym at ∙ e) in
@@ -173,7 +179,7 @@ invariant_of-self-in-Ok-On g c =
     let inner : Token = c.in-Some.inner in
     let step : inner.step ≡ length s.steps + 1 = ap (λ (z : Token). z.step) (one-slot inner _ (sym (c.in-Some.ensures.held.0).0 ∙ (O.held).0)) in
     let its : c.group_of_token-number.result ≡ number = c.group_of_token-number.ensures ∙ ap (group_at s'.steps) step ∙ ap (λ z. group_at z (length s.steps + 1)) T.steps ∙ group-end s.steps _ in
-    let H : AreHeld ps1 s = grown-held s ps0 ps1 c.grow_to.ensures.grown c.grow_to.ensures.few (roomy-held s ps ps0 n c.reserve_opening.ensures.same c.self.invariant) in
+    let H : AreHeld ps1 s = grown-held s ps0 ps1 c.grow_to.ensures.grown c.grow_to.ensures.few (roomy-held s ps ps0 n c.reserve_opening.ensures.same c.self.invariant.0) in
     let C = c.bring_at.ensures.more in
     let none = free-none l sites s L G number F ps1 H in
     let off : n ≡ number → ⊥ = λ e. free-apart l sites s L G number F t i (sym at ∙ e) in
@@ -184,7 +190,13 @@ invariant_of-self-in-Ok-On g c =
     let before : out_at ps2 number ≡ 0 = other-at out_of ps1 ps2 n C.0 C.1 C.2 number (λ e. off (sym e)) ∙ none.1 in
     let B : Becomes ps2 number D.0 D.1 ps3 = subst (λ z. Becomes ps2 z D.0 D.1 ps3) its D.2 in
     let fewer : (C.1).out + 1 ≡ (C.0).out = omega (arith, (C.4).2, out, k.out n, ap out_of (C.2).0, c.requires.found.some) in
-    tried-held s s' L.sound t i _ _ _ number T ps1 ps2 ps3 H (C.0, C.1, subst (λ z. Becomes ps1 z C.0 C.1 ps2) at C.2, C.3, ((C.4).0, (C.4).1, fewer)) D.0 D.1 B D.4 D.5 (omega (arith, D.6, before, ap out_of B.0))
+    (
+      tried-held s s' L.sound t i _ _ _ number T ps1 ps2 ps3 H (C.0, C.1, subst (λ z. Becomes ps1 z C.0 C.1 ps2) at C.2, C.3, ((C.4).0, (C.4).1, fewer)) D.0 D.1 B D.4 D.5 (omega (arith, D.6, before, ap out_of B.0)),
+      named-opened s s' ps ps3 b.words.stands c.open.new.self.stands number b.words.next F _ refl T.groups
+      (λ i other. other-at word_of ps2 ps3 _ D.0 D.1 D.2 i (λ e. other (e ∙ its)) ∙ word-kept ps1 ps2 n C.0 C.1 C.2 C.3 i ∙ k.words i)
+      (ap (word_at ps3) (sym its) ∙ mine-at word_of ps2 ps3 _ D.0 D.1 D.2 ∙ D.3 ∙ c.in-Ok.ensures.next)
+      (subst (λ z. IsOpened b.words.stands b.words.next z c.open.new.self.stands) its c.open.ensures) c.self.invariant.1,
+    )
 
 pub born-requires : goal.born-requires
 born-requires g c =
@@ -211,7 +223,7 @@ born-requires g c =
     let inner : Token = c.in-Some.inner in
     let step : inner.step ≡ length s.steps + 1 = ap (λ (z : Token). z.step) (one-slot inner _ (sym (c.in-Some.ensures.held.0).0 ∙ (O.held).0)) in
     let its : c.group_of_token-number.result ≡ number = c.group_of_token-number.ensures ∙ ap (group_at s'.steps) step ∙ ap (λ z. group_at z (length s.steps + 1)) T.steps ∙ group-end s.steps _ in
-    let H : AreHeld ps1 s = grown-held s ps0 ps1 c.grow_to.ensures.grown c.grow_to.ensures.few (roomy-held s ps ps0 n c.reserve_opening.ensures.same c.self.invariant) in
+    let H : AreHeld ps1 s = grown-held s ps0 ps1 c.grow_to.ensures.grown c.grow_to.ensures.few (roomy-held s ps ps0 n c.reserve_opening.ensures.same c.self.invariant.0) in
     let C = c.bring_at.ensures.more in
     let none = free-none l sites s L G number F ps1 H in
     let off : n ≡ number → ⊥ = λ e. free-apart l sites s L G number F t i (sym at ∙ e) in
@@ -241,12 +253,12 @@ unreachable-requires g c =
     c.in_default-held.ensures.none _ O.held
 
 pub reserve_opening-requires-clause-few : goal.reserve_opening-requires-clause-few
-reserve_opening-requires-clause-few g c = c.self.invariant.few
+reserve_opening-requires-clause-few g c = c.self.invariant.0.few
 
 pub grow_to-requires-clause-few : goal.grow_to-requires-clause-few
 grow_to-requires-clause-few g c =
     let C = c.reserve_opening.ensures.same in
-    omega (arith, length-becomes c.self.inside.posts.items c.reserve_opening.new.posts.items _ C.0 C.1 C.2, c.self.invariant.few)
+    omega (arith, length-becomes c.self.inside.posts.items c.reserve_opening.new.posts.items _ C.0 C.1 C.2, c.self.invariant.0.few)
 
 pub returns-in-Some-clause-word : goal.returns-in-Some-clause-word
 returns-in-Some-clause-word g c =

@@ -10,6 +10,8 @@ use Rattle.orc_book.proofs.Around.{round-pass}
 use Rattle.orc_book.proofs.Feeding.{fed-form, fed-moves}
 use Rattle.orc_book.proofs.Moving.{sent-fits, sent-held}
 use Rattle.orc_book.proofs.Posts.{other-at, same-at, word-kept}
+use Rattle.orc_indexes.specs.Same.{weight}
+use Rattle.orc_book.proofs.Named.{named-kept}
 use Rattle.orc_book.proofs.book.Book.send_across.Goals as goal
 
 pub send-requires-clause-form : goal.send-requires-clause-form
@@ -33,7 +35,7 @@ unreachable-requires g c =
     let to : c.args.round ≡ group_at b.ledger.steps c.args.fed.outer = rw (← c.self.view_is) at c.requires.round in
     let F : IsFedBy l b.ledger t c.args.fed = rw (← c.self.view_is) at c.requires.fed in
     let d = c.set_out.ensures in
-    let p : 1 ≤ held_at ps (group_at b.ledger.steps c.args.fed.outer) = round-pass l g.P.Program.sites b.ledger c.stands.ensures.lawful c.stands.ensures.grouped t i (F.2).0 c.args.fed.outer (F.2).1 (λ e. c.requires.other (to ∙ e ∙ sym at)) ps c.self.invariant in
+    let p : 1 ≤ held_at ps (group_at b.ledger.steps c.args.fed.outer) = round-pass l g.P.Program.sites b.ledger c.stands.ensures.lawful c.stands.ensures.grouped t i (F.2).0 c.args.fed.outer (F.2).1 (λ e. c.requires.other (to ∙ e ∙ sym at)) ps c.self.invariant.0 in
     omega (arith, p, ap (held_at ps) to, same-at passes_of ps ps1 n d.0 _ d.1 c.args.round refl, c.in_default-enter_at.ensures.1)
 
 pub invariant_of-self : goal.invariant_of-self
@@ -50,9 +52,12 @@ invariant_of-self g c =
     let q : Hold = record d.0 { out = c.args.found.out - 1 } in
     let out : c.args.found.out ≡ out_at ps n = rw (← c.self.view_is) at c.requires.found.out in
     let D = c.in-Ok-enter_at.ensures.1 in
-    sent-held b.ledger c.send.new.self t _ _ _ _ c.in-Ok.ensures.done ps ps1 ps2 c.self.invariant
-    (d.0, q, subst (λ z. Becomes ps z d.0 q ps1) at d.1, refl, (refl, refl, omega (arith, out, ap out_of (d.1).0, c.requires.found.some)))
-    (D.0, D.1, subst (λ z. Becomes ps1 z D.0 D.1 ps2) to D.2, D.3, ((D.4).0, (D.4).1, omega (arith, (D.4).2, c.out_in-out_there.ensures.out, ap out_of (D.2).0)))
+    (
+      sent-held b.ledger c.send.new.self t _ _ _ _ c.in-Ok.ensures.done ps ps1 ps2 c.self.invariant.0
+      (d.0, q, subst (λ z. Becomes ps z d.0 q ps1) at d.1, refl, (refl, refl, omega (arith, out, ap out_of (d.1).0, c.requires.found.some)))
+      (D.0, D.1, subst (λ z. Becomes ps1 z D.0 D.1 ps2) to D.2, D.3, ((D.4).0, (D.4).1, omega (arith, (D.4).2, c.out_in-out_there.ensures.out, ap out_of (D.2).0))),
+      named-kept b.ledger c.send.new.self ps ps2 b.words.stands (λ w. ap (weight w) c.in-Ok.ensures.done.groups) (λ i. word-kept ps1 ps2 _ D.0 D.1 D.2 D.3 i ∙ word-kept ps ps1 n d.0 q d.1 refl i) c.self.invariant.1,
+    )
 
 pub born-born-requires : goal.born-born-requires
 born-born-requires g c =
@@ -87,4 +92,4 @@ overflow_add-out_there g c =
     let d = c.set_out.ensures in
     let q : Hold = record d.0 { out = c.args.found.out - 1 } in
     let before : out_at ps1 c.args.round ≡ out_at ps c.args.round = other-at out_of ps ps1 n d.0 q d.1 c.args.round c.requires.other in
-    omega (arith, c.out_in-out_there.ensures.out, before, ap (out_at ps) to, sent-fits b.ledger c.send.new.self t _ _ _ _ c.in-Ok.ensures.done (λ e. c.requires.other (to ∙ e ∙ sym at)) ps c.self.invariant, c.token_count-tokens.ensures, c.token_count-tokens.type_inv)
+    omega (arith, c.out_in-out_there.ensures.out, before, ap (out_at ps) to, sent-fits b.ledger c.send.new.self t _ _ _ _ c.in-Ok.ensures.done (λ e. c.requires.other (to ∙ e ∙ sym at)) ps c.self.invariant.0, c.token_count-tokens.ensures, c.token_count-tokens.type_inv)

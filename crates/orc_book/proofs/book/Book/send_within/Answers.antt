@@ -7,6 +7,7 @@ use Rattle.orc_book.specs.Held.{word_at}
 use Rattle.orc_book.specs.Stepping.{IsFedBy}
 use Rattle.orc_book.proofs.Feeding.{fed-form, fed-moves}
 use Rattle.orc_book.proofs.Moving.{sent-within-held}
+use Rattle.orc_book.proofs.Named.{named-same}
 use Rattle.orc_book.proofs.book.Book.send_within.Goals as goal
 
 pub send-requires-clause-form : goal.send-requires-clause-form
@@ -23,7 +24,7 @@ invariant_of-self g c =
     let l = g.P.Program.listing in
     let t = c.args.found.its in
     let same : group_at b.ledger.steps c.args.fed.outer ≡ group_at b.ledger.steps t.step = (rw (← c.self.view_is) at c.requires.round) ∙ (rw (← c.self.view_is) at c.requires.found.group) in
-    sent-within-held b.ledger c.send.new.self t _ _ _ _ c.in-Ok.ensures.done same b.posts.items c.self.invariant
+    (sent-within-held b.ledger c.send.new.self t _ _ _ _ c.in-Ok.ensures.done same b.posts.items c.self.invariant.0, named-same b.ledger c.send.new.self b.posts.items b.words.stands c.in-Ok.ensures.done.groups c.self.invariant.1)
 
 pub born-born-requires : goal.born-born-requires
 born-born-requires g c =

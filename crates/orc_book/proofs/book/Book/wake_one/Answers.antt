@@ -4,6 +4,7 @@ use Rattle.orc_word.specs.Views.{group_of}
 use Rattle.orc_book.specs.Held.{kept_of, out_of, word_at}
 use Rattle.orc_book.proofs.Moving.{woken-held}
 use Rattle.orc_book.proofs.Posts.{word-kept}
+use Rattle.orc_book.proofs.Named.{named-same-words}
 use Rattle.orc_book.proofs.book.Book.wake_one.Goals as goal
 
 pub invariant_of-self-2 : goal.invariant_of-self-2
@@ -12,7 +13,10 @@ invariant_of-self-2 g c =
     let ps = b.posts.items in
     let n : ℕ = c.group_of_token-group.result in
     let D = c.in_ok-pass.ensures.1 in
-    woken-held b.ledger ps c.wake_at.new.posts.items n (D.0, D.1, D.2, D.3, ((D.4).0, omega (arith, (D.4).1, c.in_ok-kept.ensures, c.kept_in.ensures, ap kept_of (D.2).0), omega (arith, (D.4).2, c.in_ok-out.ensures, c.out_in.ensures.out, ap out_of (D.2).0))) c.self.invariant
+    (
+      woken-held b.ledger ps c.wake_at.new.posts.items n (D.0, D.1, D.2, D.3, ((D.4).0, omega (arith, (D.4).1, c.in_ok-kept.ensures, c.kept_in.ensures, ap kept_of (D.2).0), omega (arith, (D.4).2, c.in_ok-out.ensures, c.out_in.ensures.out, ap out_of (D.2).0))) c.self.invariant.0,
+      named-same-words b.ledger b.ledger ps c.wake_at.new.posts.items b.words.stands refl (word-kept ps c.wake_at.new.posts.items n D.0 D.1 D.2 D.3) c.self.invariant.1,
+    )
 
 pub born-requires : goal.born-requires
 born-requires g c =

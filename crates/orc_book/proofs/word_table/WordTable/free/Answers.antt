@@ -1,23 +1,23 @@
-use Rattle.std.proofs.Common.{None, Some, ap, arith, map, refl}
-use Rattle.orc_book.specs.Words.{stood_of, unused}
+use Rattle.std.proofs.Common.{None, Some, ap, arith}
+use Rattle.orc_book.specs.Words.{stood_of}
 use Rattle.orc_book.proofs.Entries.{turned}
-use Rattle.orc_book.proofs.Dying.{one_dying, free-still, updated-dying}
+use Rattle.orc_book.proofs.Dying.{one_dying, updated-dying}
 use Rattle.orc_book.proofs.word_table.WordTable.free.Goals as goal
 
 pub overflow_sub-self : goal.overflow_sub-self
 overflow_sub-self g c =
     let s = c.self.inside.stands in
-    omega (arith, c.self.invariant.3, updated-dying s c.try_remove.new.self c.args.word None c.try_remove.ensures.updates, ap (λ o. one_dying (stood_of o)) c.in-Some-Dying.ensures.value, ap (λ x. one_dying (stood_of (Some x))) c.in-Some-Dying.field-0-is)
+    omega (arith, c.self.invariant.2, updated-dying s c.try_remove.new.self c.args.word None c.try_remove.ensures.updates, ap (λ o. one_dying (stood_of o)) c.in-Some-Dying.ensures.value, ap (λ x. one_dying (stood_of (Some x))) c.in-Some-Dying.field-0-is)
 
 pub invariant_of-self : goal.invariant_of-self
 invariant_of-self g c =
     let s = c.self.inside.stands in
-    (c.self.invariant.0, omega (arith, c.self.invariant.1, c.try_remove.ensures.capacity), free-still (map stood_of s.slots) (map stood_of c.try_remove.new.self.slots) c.args.word c.self.inside.high unused (turned s c.try_remove.new.self c.args.word None c.try_remove.ensures.updates) (λ v le e. refl) c.self.invariant.2, omega (arith, c.self.invariant.3, updated-dying s c.try_remove.new.self c.args.word None c.try_remove.ensures.updates, ap (λ o. one_dying (stood_of o)) c.in-Some-Dying.ensures.value, ap (λ x. one_dying (stood_of (Some x))) c.in-Some-Dying.field-0-is))
+    (c.self.invariant.0, omega (arith, c.self.invariant.1, c.try_remove.ensures.capacity), omega (arith, c.self.invariant.2, updated-dying s c.try_remove.new.self c.args.word None c.try_remove.ensures.updates, ap (λ o. one_dying (stood_of o)) c.in-Some-Dying.ensures.value, ap (λ x. one_dying (stood_of (Some x))) c.in-Some-Dying.field-0-is))
 
 pub invariant_of-self-in-Some-Open : goal.invariant_of-self-in-Some-Open
 invariant_of-self-in-Some-Open g c =
     let s = c.self.inside.stands in
-    (c.self.invariant.0, omega (arith, c.self.invariant.1, c.try_remove.ensures.capacity), free-still (map stood_of s.slots) (map stood_of c.try_remove.new.self.slots) c.args.word c.self.inside.high unused (turned s c.try_remove.new.self c.args.word None c.try_remove.ensures.updates) (λ v le e. refl) c.self.invariant.2, omega (arith, c.self.invariant.3, updated-dying s c.try_remove.new.self c.args.word None c.try_remove.ensures.updates, ap (λ o. one_dying (stood_of o)) c.in-Some-Open.ensures.value, ap (λ x. one_dying (stood_of (Some x))) c.in-Some-Open.field-0-is))
+    (c.self.invariant.0, omega (arith, c.self.invariant.1, c.try_remove.ensures.capacity), omega (arith, c.self.invariant.2, updated-dying s c.try_remove.new.self c.args.word None c.try_remove.ensures.updates, ap (λ o. one_dying (stood_of o)) c.in-Some-Open.ensures.value, ap (λ x. one_dying (stood_of (Some x))) c.in-Some-Open.field-0-is))
 
 pub returns-in-Some-Dying-clause-freed : goal.returns-in-Some-Dying-clause-freed
 returns-in-Some-Dying-clause-freed g c = rw (← c.self.view_is) (turned c.self.inside.stands c.try_remove.new.self c.args.word None c.try_remove.ensures.updates)

@@ -1,7 +1,7 @@
 use Rattle.std.proofs.Common.{None, [], refl, ◌∙◌, ap, arith, count_by, map}
 use Rattle.std.specs.Prelude.{slice_index_or}
 use Rattle.orc_book.specs.Words.{is_dying, stood_of}
-use Rattle.orc_book.proofs.Dying.{one_dying, free-beyond, updated-dying}
+use Rattle.orc_book.proofs.Dying.{one_dying, updated-dying}
 use Rattle.orc_book.proofs.Entries.{turned-first}
 use Rattle.orc_book.proofs.word_table.WordTable.new.Goals as goal
 
@@ -11,7 +11,6 @@ invariant_of-result g c =
     let E = c.in-Ok.ensures in (
       c.requires,
       omega (arith, c.in_ok-stands.ensures.capacity, E.capacity),
-      free-beyond [] (map stood_of c.insert.new.self.slots) 0 0 1 _ (turned-first s c.insert.new.self c.in-Ok._first _ c.in_ok-stands.ensures.empty (E.key ∙ c.in_ok-stands.ensures.first_key) E.updates) (omega arith) (omega arith) (λ v le. refl),
       omega (arith, updated-dying s c.insert.new.self _ _ E.updates, ap (λ z. count_by is_dying (map stood_of z)) c.in_ok-stands.ensures.empty, ap (λ z. one_dying (stood_of (slice_index_or z c.in-Ok._first None))) c.in_ok-stands.ensures.empty),
     )
 

@@ -2,7 +2,7 @@ use Rattle.std.proofs.Common.{rules, ◌≡◌, Some}
 use Rattle.orc_word.specs.declared.view.View.{View}
 use Rattle.orc_word.specs.Views.{group_of}
 use Rattle.orc_book.proofs.Given.{all-front, given-on, given-one, taken-last}
-use Rattle.orc_book.proofs.post.Post.settle.Goals as goal
+use Rattle.orc_book.proofs.post.Post.give_up.Goals as goal
 
 pub loop-self-preserved : goal.loop-self-preserved
 loop-self-preserved g c = (
