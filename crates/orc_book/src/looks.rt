@@ -1,5 +1,6 @@
 //! What a book answers without a move.
-ghost use Rattle.std.specs.Prelude.{◌≡◌, ◌≤◌, ℕ, Some, true, IfSome, IfNone, MatchOption};
+ghost use Rattle.std.specs.Prelude.{◌≡◌, ◌≤◌, ℕ, All, Some, true, IfSome, IfNone, MatchOption};
+ghost use Rattle.orc_word.specs.Views.{group_of};
 ghost use Rattle.orc_rules.specs.Timed.{IsIn};
 ghost use Rattle.orc_tables.specs.PendingCalls.{due_of};
 ghost use Rattle.orc_tables.specs.declared.records.Call.{Call as ItsCall};
@@ -12,7 +13,7 @@ ghost use Rattle.orc_tables.specs.PendingCalls.{IsDueBeyond, IsLeastBeyond, has_
 ghost use Rattle.orc_tables.specs.Steps.{group_at};
 ghost use Rattle.orc_tables.specs.Tokens.{IsHeld};
 ghost use Rattle.orc_tables.specs.declared.records.Token.{Token as Its};
-ghost use Rattle.orc_book.specs.Held.{AreHeld, word_at};
+ghost use Rattle.orc_book.specs.Held.{AreHeld, passes_at, word_at};
 ghost use Rattle.orc_book.specs.Looks.{needs_of};
 ghost use Rattle.orc_book.specs.Words.{AreNamed};
 
@@ -79,6 +80,15 @@ impl<P: Program + Naming> Book<P> {
         ensures words { AreNamed self.now.ledger self.now.posts self.now.stands }
     {
         let _posts = &self.posts;
+    }
+
+    /// Each pass that the book holds for a group names the group's word, as a law.
+    pub fn names(&self)
+        ensures { (i : ℕ) → All (λ v. group_of v ≡ Some (word_at self.now.posts i)) (passes_at self.now.posts i) }
+    {
+        for post in self.posts.as_slice() {
+            post.names();
+        }
     }
 
     /// How many entries the journal has, the cancels left out.

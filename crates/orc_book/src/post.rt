@@ -1,5 +1,5 @@
 //! What a book has of a group.
-ghost use Rattle.std.specs.Prelude.{◌≡◌, ◌+◌, ◌-◌, ◌<◌, ◌≤◌, ◌^◌, ◌∷◌, ◌++◌, [], Some, None, true, false, length, vec_len, vec_capacity, IfOk, OnOk, MatchOption, MatchResult};
+ghost use Rattle.std.specs.Prelude.{◌≡◌, ◌+◌, ◌-◌, ◌<◌, ◌≤◌, ◌^◌, ◌∷◌, ◌++◌, [], Some, None, true, false, length, vec_len, vec_capacity, All, IfOk, OnOk, MatchOption, MatchResult};
 ghost use Rattle.orc_indexes.specs.Same.{weight};
 ghost use Rattle.orc_word.specs.Views.{group_of};
 ghost use Rattle.orc_rules.specs.declared.limits.TheConstants.{MOST_GROUPS};
@@ -68,6 +68,13 @@ impl<J: Naming> Post<J> {
         self.word = word;
         self.parent = parent;
         self.out = 1;
+    }
+
+    /// Each pass names the group's word, as a law.
+    pub(crate) fn names(&self)
+        ensures { All (λ v. group_of v ≡ Some self.now.word) self.now.passes }
+    {
+        let _passes = &self.passes;
     }
 
     /// How many passes the book holds.
