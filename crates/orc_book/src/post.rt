@@ -219,11 +219,7 @@ pub(crate) fn settle_at<J: Naming>(
 
 /// Whether a group has members, so many, and a pass of each but the tokens that are out is held.
 #[inline(always)]
-pub(crate) fn is_settled_at<J: Naming>(
-    posts: &Vec<Post<J>>,
-    number: u32,
-    members: usize,
-) -> bool
+pub(crate) fn is_settled_at<J: Naming>(posts: &Vec<Post<J>>, number: u32, members: usize) -> bool
     ensures { result ≡ true → (1 ≤ members) × (held_at posts.now.items number + out_at posts.now.items number ≡ members) }
 {
     match posts.get(number as usize) {

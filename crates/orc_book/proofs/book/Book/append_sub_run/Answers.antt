@@ -13,8 +13,7 @@ pub invariant_of-self-then-has_value : goal.invariant_of-self-then-has_value
 invariant_of-self-then-has_value g c =
     let b = c.self.inside in
     let y = some-left c.args.part.now.left c.has_value.result c.has_value.ensures c.if-has_value.true in
-    let T = c.in-Ok-append_sub_run.ensures.done in
-    (
+    let T = c.in-Ok-append_sub_run.ensures.done in (
       taken-on-held b.ledger c.append_sub_run.new.self c.in-Ok.found.its c.args.part.now y.0 y.1 T b.posts.items c.self.invariant.0,
       named-kept b.ledger c.append_sub_run.new.self b.posts.items b.posts.items b.words.stands T.groups (λ i. refl) c.self.invariant.1,
     )
@@ -42,9 +41,8 @@ invariant_of-self-2 g c =
     let out : c.in-Ok.found.out ≡ out_at ps n = rw (← c.self.view_is) at c.in-Ok.ensures.found.out in
     let d = c.set_out.ensures in
     let q : Hold = record d.0 { out = c.in-Ok.found.out - 1 } in
-    let T = c.in-Ok-append_sub_run.ensures.done in
-    (
+    let T = c.in-Ok-append_sub_run.ensures.done in (
       taken-out-held b.ledger c.append_sub_run.new.self t c.args.part.now none T ps ps' c.self.invariant.0
-      (d.0, q, subst (λ z. Becomes ps z d.0 q ps') at d.1, refl, (refl, refl, omega (arith, out, ap out_of (d.1).0, c.in-Ok.ensures.found.some))),
+          (d.0, q, subst (λ z. Becomes ps z d.0 q ps') at d.1, refl, (refl, refl, omega (arith, out, ap out_of (d.1).0, c.in-Ok.ensures.found.some))),
       named-kept b.ledger c.append_sub_run.new.self ps ps' b.words.stands T.groups (word-kept ps ps' n d.0 q d.1 refl) c.self.invariant.1,
     )

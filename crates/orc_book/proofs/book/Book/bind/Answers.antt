@@ -49,7 +49,7 @@ invariant_of-self g c =
     let D = drops l b.ledger c.args.token.slot t s' _ c.in-Bind._cell c.in-Bind._value c.in-Ok-advance._bound does c.in-Ok-advance.ensures.done in (
       c.settle_all.ensures.held,
       named-dropped b.ledger s' b.posts.items c.settle_all.new.posts.items b.words.stands c.bury_missing.new.words.stands (λ w. omega (arith, D.groups w, weight-but (group_goes (code l) c.in-Bind._cell b.ledger) w b.ledger.groups))
-      (λ i. c.settle_all.ensures.words i ∙ c.bury_missing.ensures.buried.words i) c.bury_missing.ensures.died c.bury_missing.ensures.there c.self.invariant.1,
+          (λ i. c.settle_all.ensures.words i ∙ c.bury_missing.ensures.buried.words i) c.bury_missing.ensures.died c.bury_missing.ensures.there c.self.invariant.1,
     )
 
 pub settle_all-requires-clause-room : goal.settle_all-requires-clause-room

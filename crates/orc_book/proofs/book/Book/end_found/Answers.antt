@@ -19,8 +19,7 @@ invariant_of-self g c =
     let at : n ≡ group_at b.ledger.steps t.step = rw (← c.self.view_is) at c.requires.found.group in
     let p : Hold = c.set_out.ensures.0 in
     let B : Becomes b.posts.items n p (record p { out = c.args.found.out - 1 }) c.set_out.new.posts.items = c.set_out.ensures.1 in
-    let out : c.args.found.out ≡ out_at b.posts.items n = rw (← c.self.view_is) at c.requires.found.out in
-    (
+    let out : c.args.found.out ≡ out_at b.posts.items n = rw (← c.self.view_is) at c.requires.found.out in (
       left-held b.ledger c.advance.new.self c.stands.ensures.lawful.sound t i T b.posts.items c.set_out.new.posts.items c.self.invariant.0 p (record p { out = c.args.found.out - 1 }) (subst (λ z. Becomes b.posts.items z p (record p { out = c.args.found.out - 1 }) c.set_out.new.posts.items) at B) refl refl (omega (arith, out, ap out_of B.0, c.requires.found.some)),
       named-kept b.ledger c.advance.new.self b.posts.items c.set_out.new.posts.items b.words.stands (none-came b.ledger c.advance.new.self T.turns.groups) (word-kept b.posts.items c.set_out.new.posts.items n p (record p { out = c.args.found.out - 1 }) B refl) c.self.invariant.1,
     )

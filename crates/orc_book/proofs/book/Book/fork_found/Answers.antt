@@ -24,8 +24,7 @@ invariant_of-self g c =
     let p : Hold = d.0 in
     let q : Hold = record p { out = (c.args.found.out + 1) } in
     let B : Becomes b.posts.items n p q c.set_out.new.posts.items = d.1 in
-    let out : c.args.found.out ≡ out_at b.posts.items n = rw (← c.self.view_is) at c.requires.found.out in
-    (
+    let out : c.args.found.out ≡ out_at b.posts.items n = rw (← c.self.view_is) at c.requires.found.out in (
       forked-held b.ledger c.advance.new.self c.stands.ensures.lawful.sound t i _ _ refl refl [] [] _ F.done b.posts.items c.self.invariant.0 c.set_out.new.posts.items p q (subst (λ z. Becomes b.posts.items z p q c.set_out.new.posts.items) at B) refl (omega (arith, out, ap out_of B.0)) refl,
       named-kept b.ledger c.advance.new.self b.posts.items c.set_out.new.posts.items b.words.stands (none-came b.ledger c.advance.new.self F.done.groups) (word-kept b.posts.items c.set_out.new.posts.items n p q B refl) c.self.invariant.1,
     )

@@ -18,8 +18,7 @@ invariant_of-self g c =
     let t = c.args.found.its in
     let i : IsIn t b.ledger.tokens = rw (← c.self.view_is) at c.requires.found.there in
     let m = subst (λ m. Moves l b.ledger c.args.token.slot t m c.advance.new.cancelled.items c.advance.new.self) c.in-Ok-On.field-0-is c.in-Ok-On.ensures.done in
-    let W = went l b.ledger c.args.token.slot t c.advance.new.self _ (subst (λ a. (a ≡ what.Seq) ⊎ (a ≡ what.Def)) (rw (← c.self.view_is) at c.requires.found.what) c.requires.next) m in
-    (
+    let W = went l b.ledger c.args.token.slot t c.advance.new.self _ (subst (λ a. (a ≡ what.Seq) ⊎ (a ≡ what.Def)) (rw (← c.self.view_is) at c.requires.found.what) c.requires.next) m in (
       went-held b.ledger c.advance.new.self c.stands.ensures.lawful.sound t i W.token W.scopes W.steps W.cells W.entry W.turns W.same b.posts.items c.self.invariant.0,
       named-kept b.ledger c.advance.new.self b.posts.items b.posts.items b.words.stands (none-came b.ledger c.advance.new.self W.turns.groups) (λ i. refl) c.self.invariant.1,
     )

@@ -189,13 +189,12 @@ invariant_of-self-in-Ok-On g c =
     let out : c.args.found.out ≡ out_at ps n = rw (← c.self.view_is) at c.requires.found.out in
     let before : out_at ps2 number ≡ 0 = other-at out_of ps1 ps2 n C.0 C.1 C.2 number (λ e. off (sym e)) ∙ none.1 in
     let B : Becomes ps2 number D.0 D.1 ps3 = subst (λ z. Becomes ps2 z D.0 D.1 ps3) its D.2 in
-    let fewer : (C.1).out + 1 ≡ (C.0).out = omega (arith, (C.4).2, out, k.out n, ap out_of (C.2).0, c.requires.found.some) in
-    (
+    let fewer : (C.1).out + 1 ≡ (C.0).out = omega (arith, (C.4).2, out, k.out n, ap out_of (C.2).0, c.requires.found.some) in (
       tried-held s s' L.sound t i _ _ _ number T ps1 ps2 ps3 H (C.0, C.1, subst (λ z. Becomes ps1 z C.0 C.1 ps2) at C.2, C.3, ((C.4).0, (C.4).1, fewer)) D.0 D.1 B D.4 D.5 (omega (arith, D.6, before, ap out_of B.0)),
       named-opened s s' ps ps3 b.words.stands c.open.new.self.stands number b.words.next F _ refl T.groups
-      (λ i other. other-at word_of ps2 ps3 _ D.0 D.1 D.2 i (λ e. other (e ∙ its)) ∙ word-kept ps1 ps2 n C.0 C.1 C.2 C.3 i ∙ k.words i)
-      (ap (word_at ps3) (sym its) ∙ mine-at word_of ps2 ps3 _ D.0 D.1 D.2 ∙ D.3 ∙ c.in-Ok.ensures.next)
-      (subst (λ z. IsOpened b.words.stands b.words.next z c.open.new.self.stands) its c.open.ensures) c.self.invariant.1,
+          (λ i other. other-at word_of ps2 ps3 _ D.0 D.1 D.2 i (λ e. other (e ∙ its)) ∙ word-kept ps1 ps2 n C.0 C.1 C.2 C.3 i ∙ k.words i)
+          (ap (word_at ps3) (sym its) ∙ mine-at word_of ps2 ps3 _ D.0 D.1 D.2 ∙ D.3 ∙ c.in-Ok.ensures.next)
+          (subst (λ z. IsOpened b.words.stands b.words.next z c.open.new.self.stands) its c.open.ensures) c.self.invariant.1,
     )
 
 pub born-requires : goal.born-requires

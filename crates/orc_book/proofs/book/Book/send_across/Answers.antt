@@ -51,11 +51,10 @@ invariant_of-self g c =
     let d = c.set_out.ensures in
     let q : Hold = record d.0 { out = c.args.found.out - 1 } in
     let out : c.args.found.out ≡ out_at ps n = rw (← c.self.view_is) at c.requires.found.out in
-    let D = c.in-Ok-enter_at.ensures.1 in
-    (
+    let D = c.in-Ok-enter_at.ensures.1 in (
       sent-held b.ledger c.send.new.self t _ _ _ _ c.in-Ok.ensures.done ps ps1 ps2 c.self.invariant.0
-      (d.0, q, subst (λ z. Becomes ps z d.0 q ps1) at d.1, refl, (refl, refl, omega (arith, out, ap out_of (d.1).0, c.requires.found.some)))
-      (D.0, D.1, subst (λ z. Becomes ps1 z D.0 D.1 ps2) to D.2, D.3, ((D.4).0, (D.4).1, omega (arith, (D.4).2, c.out_in-out_there.ensures.out, ap out_of (D.2).0))),
+          (d.0, q, subst (λ z. Becomes ps z d.0 q ps1) at d.1, refl, (refl, refl, omega (arith, out, ap out_of (d.1).0, c.requires.found.some)))
+          (D.0, D.1, subst (λ z. Becomes ps1 z D.0 D.1 ps2) to D.2, D.3, ((D.4).0, (D.4).1, omega (arith, (D.4).2, c.out_in-out_there.ensures.out, ap out_of (D.2).0))),
       named-kept b.ledger c.send.new.self ps ps2 b.words.stands (λ w. ap (weight w) c.in-Ok.ensures.done.groups) (λ i. word-kept ps1 ps2 _ D.0 D.1 D.2 D.3 i ∙ word-kept ps ps1 n d.0 q d.1 refl i) c.self.invariant.1,
     )
 

@@ -12,8 +12,7 @@ invariant_of-self-2 g c =
     let b = c.self.inside in
     let ps = b.posts.items in
     let n : ℕ = c.group_of_token-group.result in
-    let D = c.in_ok-pass.ensures.1 in
-    (
+    let D = c.in_ok-pass.ensures.1 in (
       woken-held b.ledger ps c.wake_at.new.posts.items n (D.0, D.1, D.2, D.3, ((D.4).0, omega (arith, (D.4).1, c.in_ok-kept.ensures, c.kept_in.ensures, ap kept_of (D.2).0), omega (arith, (D.4).2, c.in_ok-out.ensures, c.out_in.ensures.out, ap out_of (D.2).0))) c.self.invariant.0,
       named-same-words b.ledger b.ledger ps c.wake_at.new.posts.items b.words.stands refl (word-kept ps c.wake_at.new.posts.items n D.0 D.1 D.2 D.3) c.self.invariant.1,
     )
