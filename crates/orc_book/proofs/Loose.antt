@@ -15,7 +15,7 @@ use Rattle.orc_tables.specs.Steps.{group_at}
 use Rattle.orc_tables.specs.declared.records.Token.{Token}
 use Rattle.orc_tables.specs.declared.records.Call.{Call}
 use Rattle.orc_tables.specs.declared.records.Group.{Group}
-use Rattle.orc_book.specs.Held.{Hold, word_at, Becomes, Changes, KeepsTokens, TakesOne, AreHeld, AreLoose, IsLoose, IsSettled, IsThere, IsMissing, AreBurying, bag, records_in, held_at, kept_at, out_at, passes_of, kept_of, out_of}
+use Rattle.orc_book.specs.Held.{Hold, word_at, Becomes, Changes, KeepsTokens, TakesOne, AreHeld, AreLoose, IsLoose, IsSettled, IsThere, IsMissing, StayLoose, bag, records_in, held_at, kept_at, out_at, passes_of, kept_of, out_of}
 use Rattle.orc_book.specs.Passes.{in_posts, of_owed}
 use Rattle.orc_book.proofs.Posts.{length-becomes, word-kept}
 use Rattle.orc_book.proofs.Given.{taken-posts}
@@ -261,6 +261,6 @@ module _ (s : Records) (ps : List Hold) (all : AreLoose ps s) (k : ℕ) (ps' : L
   pub spare-count : length ps' ≡ length ps
   spare-count = length-becomes ps ps' k C.0 C.1 C.2
 
-pub spared : (s : Records) (ps : List Hold) → AreLoose ps s → (k : ℕ) (ps' : List Hold) (o : Option View) → MatchOption o (ps' ≡ ps) (λ v. (group_of v ≡ Some (word_at ps k)) × (members (numbers_of s) s k + 1 ≤ held_at ps k + out_at ps k) × Changes ps k ps' (TakesOne v)) → AreBurying s ps ps' × ((f : View → ℕ) → in_posts f ps' + of_owed f o ≡ in_posts f ps)
-spared s ps all k ps' Nothing same = (subst (AreBurying s ps) (sym same) (record { loose = all; bags = omega arith; count = refl; words = λ i. refl }), λ f. omega (arith, ap (in_posts f) same))
+pub spared : (s : Records) (ps : List Hold) → AreLoose ps s → (k : ℕ) (ps' : List Hold) (o : Option View) → MatchOption o (ps' ≡ ps) (λ v. (group_of v ≡ Some (word_at ps k)) × (members (numbers_of s) s k + 1 ≤ held_at ps k + out_at ps k) × Changes ps k ps' (TakesOne v)) → StayLoose s ps ps' × ((f : View → ℕ) → in_posts f ps' + of_owed f o ≡ in_posts f ps)
+spared s ps all k ps' Nothing same = (subst (StayLoose s ps) (sym same) (record { loose = all; bags = omega arith; count = refl; words = λ i. refl }), λ f. omega (arith, ap (in_posts f) same))
 spared s ps all k ps' (Some v) x = (record { loose = spare-loose s ps all k ps' x.1 v x.2; bags = spare-bags s ps all k ps' x.1 v x.2; count = spare-count s ps all k ps' x.1 v x.2; words = word-kept ps ps' k (x.2).0 (x.2).1 (x.2).2 (x.2).3 }, spare-held s ps all k ps' x.1 v x.2)

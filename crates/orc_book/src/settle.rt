@@ -2,7 +2,7 @@
 ghost use Rattle.std.specs.Prelude.{◌≡◌, ◌+◌, ◌≤◌, ◌<◌, ℕ, true, false, length, vec_len, vec_capacity};
 ghost use Rattle.orc_rules.specs.declared.limits.TheConstants.{MOST_GROUPS};
 ghost use Rattle.orc_indexes.specs.Same.{weight};
-ghost use Rattle.orc_book.specs.Held.{AreBurying, AreHeld, AreLoose, IsMissing, IsSettled, IsThere, bag, word_at};
+ghost use Rattle.orc_book.specs.Held.{AreHeld, AreLoose, IsMissing, IsSettled, IsThere, StayLoose, bag, word_at};
 ghost use Rattle.orc_book.specs.Passes.{GivesUp, in_posts, in_words};
 ghost use Rattle.orc_book.specs.Words.{AreThere, HaveDied, kind_at};
 ghost use Rattle.orc_ledger_spec.specs.Next.{members, numbers_of};
@@ -36,7 +36,7 @@ fn bury_one<P: Program, J: Naming>(
     number: u32,
 )
     requires loose { AreLoose posts.old.items ledger.now }
-    ensures buried { AreBurying ledger.now posts.old.items posts.new.items }
+    ensures buried { StayLoose ledger.now posts.old.items posts.new.items }
     ensures held { (f : View → ℕ) → in_posts f posts.new.items + in_words f words.new.stands ≡ in_posts f posts.old.items + in_words f words.old.stands }
     ensures died { HaveDied ledger.now words.old.stands words.new.stands }
     ensures gone { IsMissing ledger.now number → kind_at words.new.stands (word_at posts.old.items number) ≡ Kind.Open number → ⊥ }
@@ -81,7 +81,7 @@ pub(crate) fn bury_missing<P: Program, J: Naming>(
     requires loose { AreLoose posts.old.items ledger.now }
     requires root { kind_at words.old.stands 0 ≡ Kind.Open 0 }
     requires named { (w i : ℕ) → kind_at words.old.stands w ≡ Kind.Open i → word_at posts.old.items i ≡ w }
-    ensures buried { AreBurying ledger.now posts.old.items posts.new.items }
+    ensures buried { StayLoose ledger.now posts.old.items posts.new.items }
     ensures held { (f : View → ℕ) → in_posts f posts.new.items + in_words f words.new.stands ≡ in_posts f posts.old.items + in_words f words.old.stands }
     ensures died { HaveDied ledger.now words.old.stands words.new.stands }
     ensures there { AreThere ledger.now words.new.stands }
