@@ -1,5 +1,5 @@
 -- A list of lanes, read and changed at one place.
-use Rattle.std.proofs.Common.{◌≡◌, ℕ, zero, suc, ◌+◌, ◌<◌, Bool, true, false, true≢false, List, [], ◌∷◌, ◌++◌, map, length, take, replicate, set, get_or, Option, Some, None, is_some, MatchOption, slice_get, sym, refl, ap, ◌∙◌, arith}
+use Rattle.std.proofs.Common.{◌≡◌, ℕ, zero, suc, ◌+◌, ◌<◌, Bool, true, false, true≢false, List, [], ◌∷◌, ◌++◌, map, length, take, replicate, set, get_or, Option, Some, None, is_some, MatchOption, slice_get, sym, refl, ap, subst, ◌∙◌, arith}
 use Rattle.std.proofs.lemmas.List.{map-set, map-append}
 use Rattle.std.proofs.lemmas.Grind.{replicate_next}
 use Rattle.crossbeam_deque.specs.Handles.{stealer_deque}
@@ -33,6 +33,12 @@ take_more [] i x e = grind arith
 take_more (y ∷ ys) zero x e = ap (λ z. z ∷ []) (some_eq y x e)
 take_more (y ∷ ys) (suc i) x e = ap (λ zs. y ∷ zs) (take_more ys i x e)
 
+each_at : {A : Type 0} (P : A → Type 0) (l : List A) (x : A) → ((i : ℕ) (y : A) → slice_get l i ≡ Some y → P y) → P x → (i : ℕ) (y : A) → slice_get (l ++ x ∷ []) i ≡ Some y → P y
+each_at P [] x each its zero y at = subst P (some_eq x y at) its
+each_at P [] x each its (suc i) y at = grind arith
+each_at P (z ∷ zs) x each its zero y at = each zero y at
+each_at P (z ∷ zs) x each its (suc i) y at = each_at P zs x (λ k. each (suc k)) its i y at
+
 -- one more at the end
 module _ {A B : Type 0} (f : A → B) (l m : List A) (x : A) (more : m ≡ l ++ x ∷ []) where
   pub map_more : map f m ≡ map f l ++ f x ∷ []
@@ -45,6 +51,10 @@ module _ {A B : Type 0} (f : A → B) (l m : List A) (x : A) (more : m ≡ l ++ 
   taken_more ys n are is =
       let next : suc n ≡ n + 1 = omega arith in
       map_more ∙ ap (λ zs. zs ++ f x ∷ []) are ∙ sym (take_more ys n (f x) is) ∙ ap (λ k. take k ys) next
+
+-- what holds of each item holds of each with one more
+pub each_more : {A : Type 0} (P : A → Type 0) (l m : List A) (x : A) → m ≡ l ++ x ∷ [] → ((i : ℕ) (y : A) → slice_get l i ≡ Some y → P y) → P x → (i : ℕ) (y : A) → slice_get m i ≡ Some y → P y
+each_more P l m x more each its i y at = each_at P l x each its i y (ap (λ zs. slice_get zs i) (sym more) ∙ at)
 
 pub get_at : {A : Type 0} (l : List A) (i : ℕ) (x : A) → i < length l → x ≡ get_or l i x → slice_get l i ≡ Some x
 get_at [] i x h e = absurd (omega arith)

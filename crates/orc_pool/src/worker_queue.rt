@@ -1,7 +1,7 @@
 //! A worker's side of the queues: the end of its own one, and the rights to steal from all of them.
-ghost use Rattle.std.specs.Prelude.{◌≡◌, [], ◌∷◌, length, map, IfOk, MatchResult, MatchOption};
+ghost use Rattle.std.specs.Prelude.{◌≡◌, ◌≤◌, ◌+◌, [], ◌∷◌, length, map, IfOk, MatchResult, MatchOption};
 ghost use Rattle.orc_pool.specs.History.{IsPush, WasEmpty};
-ghost use Rattle.orc_pool.specs.Words.{own_view, names, theft_name};
+ghost use Rattle.orc_pool.specs.Words.{own_view, names, pushed, slots, theft_name};
 ghost use Rattle.orc_pool.specs.WorkerQueues.{AreDealt, IsStolen, IsTaken, stolen_views};
 
 use crate::own::Own;
@@ -20,9 +20,11 @@ pub struct WorkerQueue<T: Drop> {
 }
 
 impl<T: Drop> WorkerQueue<T> {
-    /// Pushes a task to its own queue. Gives it back where the queue could not grow.
+    /// Pushes a task to its own queue. Gives it back, and changes nothing, where the queue could not grow: so only where its slots are used up.
     pub fn push(&mut self, task: T) -> Result<(), T>
         ensures rule { MatchResult result (λ _. IsPush (own_view self.old.own) (task ∷ []) (own_view self.new.own)) (λ back. (back ≡ task) × (own_view self.new.own ≡ own_view self.old.own)) }
+        ensures counted { MatchResult result (λ _. pushed self.new.own ≡ pushed self.old.own + 1) (λ _. (slots self.old.own ≤ pushed self.old.own) × (pushed self.new.own ≡ pushed self.old.own)) }
+        ensures slots { slots self.old.own ≤ slots self.new.own }
         ensures others { self.new.thefts ≡ self.old.thefts }
     {
         self.own.push(task)
@@ -45,7 +47,8 @@ impl<T: Drop> WorkerQueue<T> {
     /// The next task: the one that was pushed last of those in its own queue, or else the first one of another queue, of which the next one is asked first.
     /// None only where its own queue was empty at one moment of the call.
     pub fn next(&mut self) -> Option<T>
-        ensures { MatchOption result (WasEmpty (own_view self.old.own) × (own_view self.new.own ≡ own_view self.old.own) × (stolen_views self.new ≡ stolen_views self.old)) (λ task. IsTaken self.old task self.new) }
+        ensures rule { MatchOption result (WasEmpty (own_view self.old.own) × (own_view self.new.own ≡ own_view self.old.own) × (stolen_views self.new ≡ stolen_views self.old)) (λ task. IsTaken self.old task self.new) }
+        ensures slots { (pushed self.new.own ≤ pushed self.old.own) × (slots self.old.own ≤ slots self.new.own) }
     {
         if let Some(task) = self.own.pop() {
             return Some(task);
@@ -60,7 +63,7 @@ impl<T: Drop> WorkerQueue<T> {
     }
 }
 
-/// A worker queue for each of so many workers, all empty. The error is refused memory.
+/// A worker queue for each of so many workers, all empty, with room for 64 tasks each. The error is refused memory.
 pub fn worker_queues<T: Drop>(
     alloc: Global,
     count: usize,

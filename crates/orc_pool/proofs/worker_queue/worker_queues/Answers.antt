@@ -1,7 +1,7 @@
 use Rattle.std.proofs.Common.{◌≡◌, ◌≤◌, ◌<◌, ◌+◌, [], ℕ, true, Some, slice_get, length, map, take, replicate, arith, sym, ap, ◌∙◌}
 use Rattle.orc_pool.specs.History.{view_of}
-use Rattle.orc_pool.specs.Words.{names, free, own_name, own_view, theft_name}
-use Rattle.orc_pool.proofs.Lanes.{replicate_more, taken_more, get_set_other}
+use Rattle.orc_pool.specs.Words.{names, free, own_name, own_view, pushed, slots, theft_name}
+use Rattle.orc_pool.proofs.Lanes.{each_more, map_more, replicate_more, taken_more, get_set_other}
 use Rattle.orc_pool.proofs.worker_queue.worker_queues.Goals as goal
 
 pub loop-at-preserved : goal.loop-at-preserved
@@ -21,4 +21,6 @@ loop-at-preserved g c =
       taken_more (λ h. own_name h.own) worker_queues c.push.new.self.items _ more (names before) at kept.2 took.2 ∙ ap (take (at + 1)) (sym same),
       replicate_more (λ h. own_view h.own) worker_queues c.push.new.self.items _ more at (view_of true [] []) kept.3 took.3,
       replicate_more (λ h. map theft_name h.thefts.items) worker_queues c.push.new.self.items _ more at (names before) kept.4 c.in_ok-thefts.ensures ∙ ap (replicate (at + 1)) (sym same),
+      replicate_more (λ h. pushed h.own) worker_queues c.push.new.self.items _ more at 0 kept.5 c.in-Some.ensures.room.1,
+      each_more (λ n. 64 ≤ n) (map (λ h. slots h.own) worker_queues) (map (λ h. slots h.own) c.push.new.self.items) _ (map_more (λ h. slots h.own) worker_queues c.push.new.self.items _ more) kept.6 c.in-Some.ensures.room.0,
     )

@@ -11,8 +11,8 @@ is_one turn step count n some are =
     let below : turn % count < count = mod-lt turn {m = count} (omega (arith, some)) in
     omega (arith, below, are)
 
-pub returns-in-Some-steal : goal.returns-in-Some-steal
-returns-in-Some-steal g c =
+pub returns-in-Some-steal-clause-rule : goal.returns-in-Some-steal-clause-rule
+returns-in-Some-steal-clause-rule g c =
     let kept = c.loop-step.invariant in
     let thefts = c.loop-step.self.thefts.items in
     let turn = c.loop-step.self.at % c.len-count.result + c.loop-step.step in
@@ -26,4 +26,4 @@ loop-step-preserved g c =
     let thefts = c.loop-step.self.thefts.items in
     let turn = c.loop-step.self.at % c.len-count.result + c.loop-step.step in
     let there = get_at thefts (turn % c.len-count.result) c.index_mut.result.now (is_one turn c.loop-step.step c.len-count.result (length thefts) c.loop-step-test.true kept.3) c.index_mut.ensures.value in
-    (kept.0, kept.1, map_set_same theft_view thefts (turn % c.len-count.result) c.index_mut.result.now c.steal.new.self there c.in_default-steal.ensures ∙ kept.2, kept.3 ∙ sym (length-set thefts (turn % c.len-count.result) c.steal.new.self))
+    (kept.0, kept.1, map_set_same theft_view thefts (turn % c.len-count.result) c.index_mut.result.now c.steal.new.self there c.in_default-steal.ensures ∙ kept.2, kept.3 ∙ sym (length-set thefts (turn % c.len-count.result) c.steal.new.self), kept.4, kept.5)
