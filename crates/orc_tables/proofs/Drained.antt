@@ -1,15 +1,17 @@
 -- Tokens and calls that are dropped: what is looked at, one after another.
 use Rattle.std.proofs.Common.{◌≡◌, ◌≤◌, ◌<◌, ℕ, zero, suc, ◌+◌, List, [], ◌∷◌, ◌++◌, refl, sym, ap, ◌∙◌, subst, arith, length, get_or, take, append-nil, length-set, Bool, true, false, cond, Some}
 use Rattle.std.proofs.lemmas.Bool.{ltb-true}
+use Rattle.std.proofs.Math.Decide.{ℕ_discrete}
 use Rattle.std.proofs.Math.Numerals.{add-one}
 use Rattle.std.proofs.Math.Seq.{take-suc}
 use Rattle.std.specs.Prelude.{slice_get, slice_set, nat_lt, ◌&&◌}
 use Rattle.orc_indexes.specs.Same.{weight, only, but, None}
-use Rattle.orc_tables.specs.Inside.{stands_inside, held_inside, numbers_inside}
+use Rattle.orc_tables.specs.Inside.{stands_inside, held_inside, numbers_inside, StayOutside}
 use Rattle.orc_tables.specs.Tokens.{live, is_live, IsHeld}
 use Rattle.orc_tables.specs.declared.records.Token.{Token}
 use Rattle.orc_tables.specs.declared.records.Call.{Call}
 use Rattle.orc_tables.specs.declared.records.Step.{Step}
+use Rattle.orc_indexes.proofs.Lists.{set-elsewhere}
 use Rattle.orc_indexes.proofs.Weight.{none-alike}
 use Rattle.orc_tables.proofs.Slots.{weight-live, removed}
 
@@ -76,14 +78,15 @@ live-outside c ss ts k le none w =
     by_live true b n f = ap (λ z. cond z 0 n) (sym f)
     by_live false b n f = refl
 
--- so many slots were looked at, and of what stands outside all is there
+-- so many slots were looked at, and of what stands outside all is there, each token in its slot
 pub record IsDrained (c : ℕ) (ss : List Step) (old now : List Token) (k count : ℕ) : Type 0 where
   pub len : length now ≡ count
   pub done : None (held_inside c ss) (take k now)
   pub rest : (w : Token → ℕ) → weight (but (λ (t : Token). stands_inside c ss t.step) w) (live now) ≡ weight (but (λ (t : Token). stands_inside c ss t.step) w) (live old)
+  pub others : StayOutside c ss old now
 
 pub drained-none : (c : ℕ) (ss : List Step) (ts : List Token) (count : ℕ) → length ts ≡ count → IsDrained c ss ts ts 0 count
-drained-none c ss ts count len = record { len = len; done = nobody ts; rest = λ w. refl }
+drained-none c ss ts count len = record { len = len; done = nobody ts; rest = λ w. refl; others = λ k t h out. h }
   where
     nobody : (ts : List Token) → None (held_inside c ss) (take 0 ts)
     nobody [] = refl
@@ -95,6 +98,22 @@ both_so false b h = cc h
 
 pub drained-held : (c : ℕ) (ss : List Step) (now : List Token) (k : ℕ) (t : Token) → slice_get now k ≡ Some t → held_inside c ss t ≡ true → IsHeld now k t
 drained-held c ss now k t got inn = (got, ltb-true 0 t.serial (both_so (is_live t) (stands_inside c ss t.step) inn).0)
+
+-- a slot is written over in which a token inside stands
+pub outside-set : (c : ℕ) (ss : List Step) (old now : List Token) (k : ℕ) (t u : Token) → StayOutside c ss old now → slice_get now k ≡ Some t → stands_inside c ss t.step ≡ true → StayOutside c ss old (slice_set now k u)
+outside-set c ss old now k t u stay got inn j v h out = at (ℕ_discrete j k)
+  where
+    same_token : (a b : Token) → Some a ≡ Some b → a ≡ b
+    same_token a b e = cc e
+
+    here : IsHeld now j v
+    here = stay j v h out
+
+    at : Dec (j ≡ k) → IsHeld (slice_set now k u) j v
+    at (yes e) =
+        let same : t ≡ v = same_token t v (sym got ∙ ap (slice_get now) (sym e) ∙ here.0) in
+        cc (sym inn ∙ ap (λ (z : Token). stands_inside c ss z.step) same ∙ out)
+    at (no off) = (set-elsewhere now k j u off ∙ here.0, here.1)
 
 pub drained-gone : (c : ℕ) (ss : List Step) (old now next : List Token) (k count : ℕ) (t u : Token) → IsDrained c ss old now k count → slice_get now k ≡ Some t → held_inside c ss t ≡ true → u.serial ≡ 0 → next ≡ slice_set now k u → IsDrained c ss old next (k + 1) count
 drained-gone c ss old now next k count t u D got inn free is =
@@ -111,6 +130,7 @@ drained-gone c ss old now next k count t u D got inn free is =
             ap {B = ℕ} (λ z. cond z 0 (w t)) b.1,
             D.rest w,
           );
+      others = subst (StayOutside c ss old) (sym is) (outside-set c ss old now k t u D.others got b.1);
     }
 
 pub drained-kept : (c : ℕ) (ss : List Step) (old now : List Token) (k count : ℕ) (t : Token) → IsDrained c ss old now k count → slice_get now k ≡ Some t → held_inside c ss t ≡ false → IsDrained c ss old now (k + 1) count
@@ -119,6 +139,7 @@ drained-kept c ss old now k count t D got out =
       len = D.len;
       done = subst (λ n. None (held_inside c ss) (take n now)) (let e : suc k ≡ k + 1 = omega arith in e) (none-next (held_inside c ss) now k t D.done got out);
       rest = D.rest;
+      others = D.others;
     }
 
 pub drained-all : (c : ℕ) (ss : List Step) (old now : List Token) (k count : ℕ) → IsDrained c ss old now k count → count ≤ k → (w : Token → ℕ) → weight w (live now) ≡ weight (but (λ (t : Token). stands_inside c ss t.step) w) (live old)

@@ -9,7 +9,7 @@ use Rattle.orc_rules.specs.Timed.{IsIn, IsRising}
 use Rattle.orc_indexes.specs.Same.{weight, only, but, None, is_this}
 use Rattle.orc_tables.specs.PendingCalls.{has_number, is_numbered}
 use Rattle.orc_tables.specs.Crowd.{is_listed}
-use Rattle.orc_tables.specs.Inside.{stands_inside, held_inside}
+use Rattle.orc_tables.specs.Inside.{stands_inside, held_inside, StayOutside}
 use Rattle.orc_tables.specs.Tokens.{live, is_live, IsHeld}
 use Rattle.orc_tables.specs.declared.records.Token.{Token}
 use Rattle.orc_tables.specs.declared.records.Call.{Call}
@@ -18,7 +18,7 @@ use Rattle.orc_tables.specs.declared.records.Group.{Group}
 use Rattle.orc_indexes.proofs.Weight.{weight-same, weight-parts, weight-none, weight-in, none-alike, in-got}
 use Rattle.orc_indexes.proofs.Lists.{set-elsewhere, set-there}
 use Rattle.orc_tables.proofs.Slots.{removed}
-use Rattle.orc_tables.proofs.Drained.{live-outside}
+use Rattle.orc_tables.proofs.Drained.{live-outside, outside-set}
 use Rattle.orc_tables.proofs.Crowded.{in-append, listed-in}
 
 pub they-rise : (xs : List ℕ) → ((k : ℕ) → suc k < length xs → get_or xs k 0 < get_or xs (suc k) 0) → IsRising xs
@@ -109,14 +109,15 @@ named-gone n now next g i is few left w = omega (arith, left w, weight-parts (λ
 
 -- ---- tokens by their slots
 
--- of the tokens inside those in these slots are gone, and all others are there
+-- of the tokens inside those in these slots are gone, and all others are there, in their slots those outside
 pub record IsThinned (c : ℕ) (ss : List Step) (old now : List Token) (slots : List ℕ) : Type 0 where
   pub rest : (w : Token → ℕ) → weight (but (λ (t : Token). stands_inside c ss t.step) w) (live now) ≡ weight (but (λ (t : Token). stands_inside c ss t.step) w) (live old)
   pub kept : (k : ℕ) (t : Token) → IsHeld now k t → IsHeld old k t
   pub gone : (k : ℕ) (t : Token) → IsIn k slots → IsHeld now k t → ⊥
+  pub others : StayOutside c ss old now
 
 pub thinned-none : (c : ℕ) (ss : List Step) (ts : List Token) (slots : List ℕ) → IsThinned c ss ts ts (take 0 slots)
-thinned-none c ss ts slots = record { rest = λ w. refl; kept = λ k t h. h; gone = λ k t i h. none slots k i }
+thinned-none c ss ts slots = record { rest = λ w. refl; kept = λ k t h. h; gone = λ k t i h. none slots k i; others = λ k t h out. h }
   where
     none : (xs : List ℕ) (k : ℕ) → IsIn k (take 0 xs) → ⊥
     none [] k i = i
@@ -134,7 +135,7 @@ some_token t u e = cc e
 
 module _ (c : ℕ) (ss : List Step) (old now : List Token) (slots slots' : List ℕ) (k : ℕ) (is : slots' ≡ slots ++ k ∷ []) (T : IsThinned c ss old now slots) where
   pub thinned-kept : ((t : Token) → IsHeld now k t → ⊥) → IsThinned c ss old now slots'
-  thinned-kept none = record { rest = T.rest; kept = T.kept; gone = λ j t i h. ⊎_elim (λ a. T.gone j t a h) (λ e. none t (subst (λ z. IsHeld now z t) e h)) (in-end slots k j (subst (λ z. IsIn j z) is i)) }
+  thinned-kept none = record { rest = T.rest; kept = T.kept; gone = λ j t i h. ⊎_elim (λ a. T.gone j t a h) (λ e. none t (subst (λ z. IsHeld now z t) e h)) (in-end slots k j (subst (λ z. IsIn j z) is i)); others = T.others }
 
   pub thinned-gone : (next : List Token) (t free : Token) → IsHeld now k t → free.serial ≡ 0 → next ≡ slice_set now k free → stands_inside c ss t.step ≡ true → IsThinned c ss old next slots'
   thinned-gone next t free held zero_ new inn =
@@ -142,6 +143,7 @@ module _ (c : ℕ) (ss : List Step) (old now : List Token) (slots slots' : List 
         rest = λ w. omega (arith, ap (λ z. weight (but (λ (u : Token). stands_inside c ss u.step) w) (live z)) new, removed (but (λ (u : Token). stands_inside c ss u.step) w) now k t free held zero_, ap {B = ℕ} (λ b. cond b 0 (w t)) inn, T.rest w);
         kept = λ j u h. T.kept j u (before j u h (ℕ_discrete j k));
         gone = λ j u i h. ⊎_elim (λ a. T.gone j u a (before j u h (ℕ_discrete j k))) (λ e. at_k u (subst (λ z. IsHeld next z u) e h)) (in-end slots k j (subst (λ z. IsIn j z) is i));
+        others = subst (StayOutside c ss old) (sym new) (outside-set c ss old now k t free T.others held.0 inn);
       }
     where
       at_k : (u : Token) → IsHeld next k u → ⊥

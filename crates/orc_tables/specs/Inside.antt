@@ -1,9 +1,9 @@
 -- What stands inside the right side of a cell, by the steps alone.
-use Rattle.std.specs.Prelude.{ℕ, zero, suc, List, Bool, false, nat_eq, ◌||◌, Option, Some, [], ◌∷◌, cond, ◌&&◌, None}
+use Rattle.std.specs.Prelude.{◌≡◌, ℕ, zero, suc, List, Bool, false, nat_eq, ◌||◌, Option, Some, [], ◌∷◌, cond, ◌&&◌, None}
 use Rattle.orc_tables.specs.declared.records.Frame.{Frame}
 use Rattle.orc_tables.specs.declared.records.Frame.TheVariants.{SeqLeft, PruneRight, OtherwiseLeft}
 use Rattle.orc_tables.specs.declared.records.Step.{Step}
-use Rattle.orc_tables.specs.Tokens.{is_live}
+use Rattle.orc_tables.specs.Tokens.{is_live, IsHeld}
 use Rattle.orc_tables.specs.declared.records.Token.{Token}
 use Rattle.orc_tables.specs.declared.records.Call.{Call}
 use Rattle.orc_tables.specs.declared.records.Side.{Side}
@@ -35,6 +35,10 @@ module _ (c : ℕ) (ss : List Step) where
   -- a token in its slot that stands inside
   abbrev pub held_inside : Token → Bool
   held_inside t = is_live t && stands_inside t.step
+
+  -- each token that stands outside is still in its slot
+  abbrev pub StayOutside : List Token → List Token → Type 0
+  StayOutside slots slots' = (k : ℕ) (t : Token) → IsHeld slots k t → stands_inside t.step ≡ false → IsHeld slots' k t
 
   -- the numbers of the calls that pend inside
   abbrev pub numbers_inside : List Call → List ℕ
