@@ -22,7 +22,7 @@ use Rattle.orc_tables.specs.Steps.{group_at}
 use Rattle.orc_tables.specs.Tokens.{IsHeld}
 use Rattle.orc_tables.specs.declared.records.Token.{Token}
 use Rattle.orc_ledger_spec.proofs.Advancing.{moves-by}
-use Rattle.orc_book.specs.Stepping.{IsFedBy}
+use Rattle.orc_book.specs.Feeding.{IsFedBy}
 use Rattle.orc_book.specs.declared.send.Fed.{Fed}
 
 -- what publishes into a `>x>` is a value

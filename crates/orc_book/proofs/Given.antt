@@ -6,7 +6,8 @@ use Rattle.orc_indexes.proofs.Weight.{weight-append}
 use Rattle.orc_indexes.proofs.Lists.{weight-set}
 use Rattle.orc_word.specs.declared.view.View.{View}
 use Rattle.orc_book.specs.Held.{Hold, Becomes}
-use Rattle.orc_book.specs.Passes.{GivesUp, in_posts}
+use Rattle.orc_book.specs.declared.token.Token.{Token as Out}
+use Rattle.orc_book.specs.Passes.{GivesUp, in_posts, in_tokens}
 
 -- none has gone
 pub given-none : (before after : List View) (had has : (View → ℕ) → ℕ) → after ≡ before → ((f : View → ℕ) → has f ≡ had f) → GivesUp before after had has
@@ -50,3 +51,7 @@ pub given-posts : (before after : List View) (ps ps' : List Hold) (n : ℕ) (p q
 given-posts before after ps ps' n p q B G =
     given-as before after (λ f. weight f p.passes) (λ f. weight f q.passes) (λ f. in_posts f ps) (λ f. in_posts f ps') G
     (λ f. omega (arith, ap (in_posts f) B.1, weight-set (λ (h : Hold). weight f h.passes) ps n p q B.0))
+
+-- one token more is out
+pub token-added : {X : Type 0} (ks js : List (Out X)) (k : Out X) → js ≡ ks ++ k ∷ [] → (f : View → ℕ) → in_tokens f js ≡ in_tokens f ks + f k.pass
+token-added {X} ks js k e f = omega (arith, ap (in_tokens f) e, weight-append (λ (j : Out X). f j.pass) ks (k ∷ []))

@@ -1,7 +1,6 @@
 -- What words stand for after a change.
 use Rattle.std.proofs.Common.{◌≡◌, ◌⊎◌, ◌≤◌, ◌<◌, ◌+◌, inl, inr, ℕ, zero, suc, List, [], ◌∷◌, length, Option, arith, Bool, true, false, nat_eq, eq-eqb, sym, ap, ◌∙◌, subst, refl}
 use Rattle.std.proofs.lemmas.Bool.{eqb-true}
-use Rattle.orc_rules.specs.Term.{Term}
 use Rattle.orc_ledger_spec.specs.Next.{members, numbers_of}
 use Rattle.orc_ledger_spec.specs.Records.{Records}
 use Rattle.orc_tables.specs.Steps.{group_at}
@@ -9,26 +8,11 @@ use Rattle.orc_tables.specs.Tokens.{IsHeld}
 use Rattle.orc_tables.specs.declared.records.Token.{Token}
 use Rattle.orc_word.specs.declared.view.View.{View}
 use Rattle.orc_book.specs.declared.token.Token.{Token as Out}
-use Rattle.orc_book.specs.declared.word_table.Kind.{Kind}
-use Rattle.orc_book.specs.declared.word_table.Kind.TheVariants.{Free, Open, Dying}
+use Rattle.orc_book.specs.declared.word_table.Kind.TheVariants.{Open, Dying}
 use Rattle.orc_book.specs.Held.{Held, Hold, Stood, IsMissing, IsOut, IsThere, word_at}
-use Rattle.orc_book.specs.Ends.{FreesWord}
-use Rattle.orc_book.specs.Words.{AreThere, HaveDied, HaveOpened, IsOpened, OpensWord, Turns, kind_at, killed, stood_at}
+use Rattle.orc_book.specs.Words.{AreThere, HaveDied, IsOpened, OpensWord, Turns, kind_at, killed, stood_at}
 use Rattle.orc_book.proofs.Loose.{either, there-or}
 use Rattle.orc_book.proofs.Ones.{one-slot}
-
-pub none-opened : (ws ws' : List Stood) → ws' ≡ ws → HaveOpened ws ws'
-none-opened ws ws' e = λ w. inl (ap (λ z. stood_at z w) e)
-
-pub word-opened : {X : Type 0} (b b' : Held) (k : Out X) → OpensWord b k b' → HaveOpened b.stands b'.stands
-word-opened b b' k O =
-    let t : Token = O.0 in
-    let v = word_at b'.posts (group_at b'.ledger.steps t.step) in
-    λ w. by w (nat_eq w v) refl
-  where
-    by : (w : ℕ) (b1 : Bool) → nat_eq w (word_at b'.posts (group_at b'.ledger.steps (Token.step O.0))) ≡ b1 → (stood_at b'.stands w ≡ stood_at b.stands w) ⊎ (kind_at b.stands w ≡ Free)
-    by w true e = inr (ap (kind_at b.stands) (eqb-true w _ e) ∙ (O.2).0)
-    by w false e = inl (Turns.others (O.2).1 w (λ same. cc (eq-eqb w (word_at b'.posts (group_at b'.ledger.steps (Token.step O.0))) same, e)))
 
 pub none-died : (s : Records) (ws : List Stood) → HaveDied s ws ws
 none-died s ws = λ w. inl refl
@@ -103,7 +87,3 @@ opens-word b b' k inner slot number word next out in_slot held at named is O mar
     let word_is : word_at b'.posts (group_at b'.ledger.steps t.step) ≡ next = ap (word_at b'.posts) (sym group) ∙ named ∙ is in
     let here : IsOpened b.stands next (group_at b'.ledger.steps t.step) b'.stands = subst (λ z. IsOpened b.stands next z b'.stands) group O in
     (t, out.1, subst (λ z. IsOpened b.stands z (group_at b'.ledger.steps t.step) b'.stands) (sym word_is) here, marks)
-
--- what is said of a word that stands for this is said of the word that was left last
-pub frees-as : (code : ℕ → Term) (b b' : Held) (w v : ℕ) → w ≡ v → (k : Kind) → kind_at b.stands w ≡ k → FreesWord code b w k b' → FreesWord code b v (kind_at b.stands v) b'
-frees-as code b b' w v e k is F = subst (λ z. FreesWord code b z (kind_at b.stands z) b') e (subst (λ z. FreesWord code b w z b') (sym is) F)

@@ -4,11 +4,13 @@ use Rattle.orc_word.specs.declared.view.View.{View}
 use Rattle.orc_rules.specs.Term.{Term}
 use Rattle.orc_ledger_spec.specs.Halting.{HasHalted}
 use Rattle.orc_ledger_spec.specs.declared.results.Halted.{Halted}
+use Rattle.orc_ledger_spec.specs.declared.results.Halted.TheVariants as halted
 use Rattle.orc_book.specs.Words.{Turns, unused}
 use Rattle.orc_book.specs.declared.word_table.Kind.{Kind}
 use Rattle.orc_book.specs.declared.word_table.Kind.TheVariants.{Free, Open, Dying}
 use Rattle.orc_book.specs.declared.halt.Ended.{Ended}
 use Rattle.orc_book.specs.declared.halt.Ended.TheVariants.{Run, Token, Lost, Group}
+use Rattle.orc_book.specs.declared.token.Token.{Token as Out}
 use Rattle.orc_book.specs.Held.{Held, IsOut}
 
 -- a token that has come out has its record
@@ -25,8 +27,14 @@ in_ended f (Token k) = f k.pass
 in_ended f (Lost cell) = 0
 in_ended f Group = 0
 
--- word w, which stands for this, was left last: it is free again, and no other word has changed, but the program's own group keeps its word. A killed group changes no record
-abbrev pub FreesWord : (ℕ → Term) → Held → ℕ → Kind → Held → Type 0
-FreesWord code b w Free b' = ⊥
-FreesWord code b w (Open number) b' = ((number ≡ 0) × (b' ≡ b)) ⊎ ((h : Halted) × HasHalted code b.ledger b'.ledger number h × Turns b.stands w unused b'.stands)
-FreesWord code b w Dying b' = (b'.ledger ≡ b.ledger) × (b'.posts ≡ b.posts) × Turns b.stands w unused b'.stands
+-- what is told of a group that has halted so: the cell that is lost, a token in the slot of the one that has come, or no more than that it is gone
+abbrev pub Told : {X : Type 0} → Halted → Ended X → Type 0
+Told {X} (halted.Lost cell parent) e = e ≡ Lost cell
+Told {X} (halted.Resumed slot) e = (k : Out X) × (e ≡ Token k) × (k.slot ≡ slot)
+Told {X} (halted.Closed parent) e = e ≡ Group
+
+-- word w, which stands for this, was left last, and this is told of it. The program's own group keeps its word. Else the word is free again, and no other word has changed: an open group has halted, and a killed one changes no record
+abbrev pub FreesWord : {X : Type 0} → (ℕ → Term) → Held → ℕ → Kind → Ended X → Held → Type 0
+FreesWord code b w Free e b' = ⊥
+FreesWord code b w (Open number) e b' = ((number ≡ 0) × (e ≡ Run) × (b' ≡ b)) ⊎ ((number ≡ 0 → ⊥) × (h : Halted) × HasHalted code b.ledger b'.ledger number h × Told h e × Turns b.stands w unused b'.stands)
+FreesWord code b w Dying e b' = (e ≡ Group) × (b'.ledger ≡ b.ledger) × (b'.posts ≡ b.posts) × Turns b.stands w unused b'.stands

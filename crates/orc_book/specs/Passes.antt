@@ -6,6 +6,7 @@ use Rattle.orc_word.specs.Views.{group_of, deeds_of, won_of, Marks}
 use Rattle.orc_word.specs.Words.{has}
 use Rattle.orc_word.specs.declared.bits.Bit.TheVariants.{Killed}
 use Rattle.orc_book.specs.Held.{Held, Hold, Stood}
+use Rattle.orc_book.specs.declared.token.Token.{Token as Out}
 
 -- what the passes of all posts weigh
 abbrev pub in_posts : (View → ℕ) → List Hold → ℕ
@@ -21,6 +22,10 @@ in_words f ws = weight (λ (s : Stood). of_owed f s.owed) ws
 
 abbrev pub in_book : (View → ℕ) → Held → ℕ
 in_book f b = in_posts f b.posts + in_words f b.stands
+
+-- what the passes of tokens weigh that are out
+abbrev pub in_tokens : {X : Type 0} → (View → ℕ) → List (Out X) → ℕ
+in_tokens {X} f ks = weight (λ (k : Out X). f k.pass) ks
 
 -- passes have been added to those that are to be left. They are all that went: whatever each weighs, they weigh with those that there are what those did that there were
 pub record GivesUp (before after : List View) (had has : (View → ℕ) → ℕ) : Type 0 where

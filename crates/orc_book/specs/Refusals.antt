@@ -21,10 +21,13 @@ use Rattle.orc_ledger_spec.specs.declared.faults.LedgerFault.TheVariants as ledg
 use Rattle.orc_ledger_spec.specs.declared.faults.ReturnFault.TheVariants as answer
 use Rattle.orc_ledger_spec.specs.declared.faults.HaltFault.TheVariants as halting
 use Rattle.orc_word.specs.declared.view.View.{View}
-use Rattle.orc_word.specs.Views.{group_of, deeds_of, Marks}
+use Rattle.orc_word.specs.Views.{group_of, deeds_of, seen_of, Marks}
+use Rattle.orc_word.specs.Words.{has}
 use Rattle.orc_word.specs.declared.bits.Bit.TheVariants.{Killed}
 use Rattle.orc_book.specs.Held.{Held, IsUnkept, IsGone, out_at}
 use Rattle.orc_book.specs.Words.{HasNoWord}
+use Rattle.orc_book.specs.Feeding.{IsFedBy}
+use Rattle.orc_book.specs.declared.send.Fed.{Fed}
 use Rattle.orc_book.specs.declared.lookup.Found.{Found}
 use Rattle.orc_book.specs.declared.token.Token.{Token as Out}
 use Rattle.orc_book.specs.declared.word_table.Kind.{Kind}
@@ -163,24 +166,28 @@ module _ {X : Type 0} (l : Listing) (b : Held) (k : Out X) where
   abbrev pub IsRefusedOpening : ℕ → (Action → Bool) → BookFault → Type 0
   IsRefusedOpening words takes why = IsUnopened words takes why ⊎ IsRefusedMove takes (IsHindered l b.ledger) why
 
-  -- why no cell is bound, where this pass comes back: if the group's mark was set, the pass hasn't won it
+  -- why no cell is bound, where this pass comes back: if the group's mark was set, the pass has seen that, and hasn't won it
   abbrev pub IsRefusedBind : View → BookFault → Type 0
-  IsRefusedBind back Gone = IsGone b k.slot k.serial k.pass ⊎ ((t : Token) × IsTaken is_bind t × Marks (group_of k.pass) Killed false (deeds_of k.pass) (deeds_of back))
+  IsRefusedBind back Gone = IsGone b k.slot k.serial k.pass ⊎ ((t : Token) × IsTaken is_bind t × Marks (group_of k.pass) Killed false (deeds_of k.pass) (deeds_of back) × (has Killed (seen_of back) ≡ true))
   IsRefusedBind back why = IsRefusedMove is_bind (IsHindered l b.ledger) why
 
+  -- the `>x>` that takes what the token publishes stands in another group
+  abbrev pub IsSentOut : Token → Type 0
+  IsSentOut t = (f : Fed) × IsFedBy l b.ledger t f × (group_at b.ledger.steps f.outer ≡ group_at b.ledger.steps t.step → ⊥)
+
   -- passes that were lent don't do for the move
-  abbrev pub IsShort : List View → List View → Action → Type 0
-  IsShort same idle does.Fork = HasNone same (group_of k.pass)
-  IsShort same idle (does.Send v) = HasNone idle None
-  IsShort same idle does.Prune = HasNone same (group_of k.pass) ⊎ HasNone idle None
-  IsShort same idle does.Other = HasNone idle None
-  IsShort same idle _ = ⊥
+  abbrev pub IsShort : List View → List View → Token → Action → Type 0
+  IsShort same idle t does.Fork = HasNone same (group_of k.pass)
+  IsShort same idle t (does.Send v) = HasNone idle None × IsSentOut t
+  IsShort same idle t does.Prune = HasNone same (group_of k.pass) ⊎ HasNone idle None
+  IsShort same idle t does.Other = HasNone idle None
+  IsShort same idle t _ = ⊥
 
   -- why a step is refused, but for want of a word
   abbrev pub IsRefusedStep : List View → List View → BookFault → Type 0
   IsRefusedStep same idle Gone = IsGone b k.slot k.serial k.pass
   IsRefusedStep same idle Wrong = (t : Token) × (IsOther is_step t ⊎ IsMisfit t)
-  IsRefusedStep same idle Short = (t : Token) × IsFound t × IsShort same idle (does_next t)
+  IsRefusedStep same idle Short = (t : Token) × IsFound t × IsShort same idle t (does_next t)
   IsRefusedStep same idle Full = (t : Token) × IsTaken is_step t × IsHindered l b.ledger t ledger.Full
   IsRefusedStep same idle Limit = (t : Token) × IsTaken is_step t × IsHindered l b.ledger t ledger.Limit
   IsRefusedStep same idle Memory = (t : Token) × IsFound t

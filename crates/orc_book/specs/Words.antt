@@ -74,10 +74,6 @@ pub record Turns (ws : List Stood) (w : ℕ) (to : Stood) (ws' : List Stood) : T
 abbrev pub IsOpened : List Stood → ℕ → ℕ → List Stood → Type 0
 IsOpened ws w number ws' = (kind_at ws w ≡ Free) × Turns ws w (named number) ws'
 
--- each word stands for what it did, or it was free
-abbrev pub HaveOpened : List Stood → List Stood → Type 0
-HaveOpened ws ws' = (w : ℕ) → (stood_at ws' w ≡ stood_at ws w) ⊎ (kind_at ws w ≡ Free)
-
 -- each word stands for what it did, but those of open groups that the records have no more stand for killed ones
 abbrev pub HaveDied : Records → List Stood → List Stood → Type 0
 HaveDied s ws ws' = (w : ℕ) → (stood_at ws' w ≡ stood_at ws w) ⊎ ((number : ℕ) × (kind_at ws w ≡ kind.Open number) × IsMissing s number × (kind_at ws' w ≡ kind.Dying))

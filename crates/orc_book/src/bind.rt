@@ -5,7 +5,7 @@ ghost use Rattle.orc_tables.specs.declared.records.Token.{Token as Its};
 ghost use Rattle.orc_ledger_spec.specs.Moves.{Moves};
 ghost use Rattle.orc_ledger_spec.specs.declared.results.Moved.TheVariants as moved;
 ghost use Rattle.orc_word.specs.declared.view.View.{View};
-ghost use Rattle.orc_word.specs.Views.{group_of};
+ghost use Rattle.orc_word.specs.Views.{deeds_of, group_of};
 ghost use Rattle.orc_book.specs.Held.{IsUnkept, HasWinner, records_in};
 ghost use Rattle.orc_book.specs.Passes.{GivesUp, HasWon, in_book};
 ghost use Rattle.orc_book.specs.Refusals.{is_bind, IsRefusedBind};
@@ -14,14 +14,13 @@ ghost use Rattle.orc_book.specs.Words.{AreThere, HaveDied};
 use crate::book::Book;
 use crate::settle::{bury_missing, settle_all};
 use crate::token::{BookFault, Refused, Token, fault_of};
-use orc_graph::Graph;
-use orc_ledger::{Action, Ledger, stands};
-use orc_log::Program;
+use orc_ledger::{Action, Inputs, Ledger, stands};
+use orc_log::Run;
 use orc_word::{Bit, Groups, Naming, Pass};
 use std::alloc::AllocError;
 
 // How many records there are.
-fn count_records<P: Program>(ledger: &Ledger<P>) -> Option<usize>
+fn count_records<P: Run>(ledger: &Ledger<P>) -> Option<usize>
     ensures { IfSome result (λ count. count ≡ records_in ledger.now) }
 {
     let count = ledger.token_count().checked_add(ledger.pending_count())?;
@@ -29,7 +28,7 @@ fn count_records<P: Program>(ledger: &Ledger<P>) -> Option<usize>
 }
 
 // Makes room for a pass of each record, so for all that are held, and one more.
-fn reserve_all<P: Program, J: Naming>(
+fn reserve_all<P: Run, J: Naming>(
     ledger: &Ledger<P>,
     leave: &mut Vec<Pass<J>>,
 ) -> Result<(), AllocError>
@@ -45,20 +44,20 @@ fn reserve_all<P: Program, J: Naming>(
     leave.try_reserve(count)
 }
 
-impl<P: Program + Naming> Book<P> {
+impl<P: Run + Naming> Book<P> {
     /// A cell takes what the token publishes: all that stands inside its right side goes. The token's pass has won the mark that its group is killed, and
     /// is to be left with those of all records that went. Refused as Gone where the token isn't out or the mark was set already, as Wrong where it does something
-    /// else next, as Full, Limit or Memory where the ledger refuses the entry for that or memory is refused. `cancelled` is lent: where the bind is Ok it then
-    /// holds the numbers of the calls that went, in rising order, and else any numbers.
+    /// else next, as Full, Limit or Memory where the ledger refuses the entry for that or memory is refused. Of a refused token the pass has won the mark only
+    /// where the fault is Memory. `cancelled` is lent: where the bind is Ok it then holds the numbers of the calls that went, in rising order, and else any
+    /// numbers.
     pub fn bind(
         &mut self,
         groups: &Groups<P>,
-        graph: &Graph,
+        inputs: &Inputs<'_, P>,
         token: Token<P>,
         leave: &mut Vec<Pass<P>>,
         cancelled: &mut Vec<u64>,
     ) -> Result<(), Refused<Token<P>>>
-        requires graph { graph.now ≡ P.listing }
         ensures done { OnOk result ((t : Its) × (c : ℕ) × (g : ℕ) × IsUnkept self.old token.slot token.serial token.pass t × Moves P.listing self.old.ledger token.slot t (moved.Bound c g) cancelled.new.items self.new.ledger) }
         ensures stands { OnOk result (HaveDied self.new.ledger self.old.stands self.new.stands) }
         ensures there { OnOk result (AreThere self.new.ledger self.new.stands) }
@@ -67,9 +66,10 @@ impl<P: Program + Naming> Book<P> {
         ensures lent { OnErr result (leave.new.items ≡ leave.old.items) }
         ensures won { OnOk result (HasWinner leave.new.items (group_of token.pass)) }
         ensures refused { IfErr result (λ r. (self.new ≡ self.old) × (r.back.serial ≡ token.serial) × (r.back.slot ≡ token.slot) × (group_of r.back.pass ≡ group_of token.pass)) }
+        ensures mark { IfErr result (λ r. (deeds_of r.back.pass ≡ deeds_of token.pass) ⊎ ((r.why ≡ BookFault.Memory) × HasWon token.pass r.back.pass)) }
         ensures why { IfErr result (λ r. IsRefusedBind P.listing self.old token r.back.pass r.why) }
     {
-        let found = match self.find(graph, &token) {
+        let found = match self.find(inputs, &token) {
             Ok(found) => found,
             Err(why) => return Err(Refused { why, back: token }),
         };
@@ -103,7 +103,7 @@ impl<P: Program + Naming> Book<P> {
         stands(&self.ledger);
         match self
             .ledger
-            .advance(graph, slot, found.its, &mut self.scopes, cancelled)
+            .advance(inputs, slot, found.its, &mut self.scopes, cancelled)
         {
             Ok(_bound) => {
                 stands(&self.ledger);

@@ -13,16 +13,15 @@ use crate::post::{Post, first_posts, set_out};
 use crate::token::{BookFault, Refused, Token};
 use crate::word_table::WordTable;
 use orc_env::StoredScope;
-use orc_graph::Graph;
 use orc_journal::Journal;
-use orc_ledger::Ledger;
-use orc_log::Program;
+use orc_ledger::{Inputs, Ledger};
+use orc_log::Run;
 use orc_word::{Naming, Pass};
 use std::alloc::Global;
 use std::marker::Model;
 
 /// The records of a run, and of each record that is not out with a worker a pass to its group.
-pub struct Book<P: Program + Naming> {
+pub struct Book<P: Run + Naming> {
     pub(crate) ledger: Ledger<P>,
     // For the posts of groups that are opened.
     pub(crate) alloc: Global,
@@ -36,7 +35,7 @@ pub struct Book<P: Program + Naming> {
     pub(crate) cells: Vec<u64>,
 }
 
-impl<P: Program + Naming> Model for Book<P> {
+impl<P: Run + Naming> Model for Book<P> {
     ghost use Rattle.orc_book.specs.Held.{Held, AreHeld};
     ghost use Rattle.orc_book.specs.Words.{AreNamed};
 
@@ -48,7 +47,7 @@ impl<P: Program + Naming> Model for Book<P> {
 }
 
 // Written out, so that each exit of a function that has a book drops it by one call.
-impl<P: Program + Naming> Drop for Book<P> {
+impl<P: Run + Naming> Drop for Book<P> {
     fn drop(self) {
         let Book {
             ledger,
@@ -70,12 +69,12 @@ impl<P: Program + Naming> Drop for Book<P> {
     }
 }
 
-impl<P: Program + Naming> Book<P> {
+impl<P: Run + Naming> Book<P> {
     /// A new run, whose words are as many as are said: token 1 is out, at the program's main term, with this pass, which names group 0. The journal is to have
     /// at most `limit` entries beside the cancels, and is held where the run `keeps` it. The only fault is `Memory`.
     pub fn new(
         alloc: Global,
-        graph: &Graph,
+        inputs: &Inputs<'_, P>,
         keeps: bool,
         limit: usize,
         words: u32,
@@ -84,7 +83,6 @@ impl<P: Program + Naming> Book<P> {
         requires keeps { keeps ≡ P.keeps }
         requires limit { (1 ≤ limit) × (limit ≤ MOST_ENTRIES) }
         requires named { limit ≡ P.limit }
-        requires graph { graph.now ≡ P.listing }
         requires words { words ≡ P.table.words }
         requires pass { group_of pass ≡ Some 0 }
         ensures begun { IfOk result (λ r. r.0.ledger ≡ begun limit P.listing.root) }
@@ -92,6 +90,7 @@ impl<P: Program + Naming> Book<P> {
         ensures stands { IfOk result (λ r. IsOpened [] 0 0 r.0.stands) }
         ensures marks { IfOk result (λ r. r.0.marks ≡ []) }
         ensures refused { IfErr result (λ r. r.back ≡ pass) }
+        ensures why { IfErr result (λ r. r.why ≡ BookFault.Memory) }
     {
         let Ok(mut posts) = first_posts(alloc) else {
             return Err(Refused {
@@ -105,7 +104,7 @@ impl<P: Program + Naming> Book<P> {
                 back: pass,
             });
         };
-        let Ok(ledger) = Ledger::<P>::begin(alloc, keeps, limit, graph.root()) else {
+        let Ok(ledger) = Ledger::<P>::begin(alloc, keeps, limit, inputs.graph.root()) else {
             return Err(Refused {
                 why: BookFault::Memory,
                 back: pass,
@@ -132,22 +131,7 @@ impl<P: Program + Naming> Book<P> {
         ensures entries { result.entries ≡ self.ledger.journal }
         ensures whole { IsWhole P.listing P.sites self.ledger }
     {
-        let Book {
-            ledger,
-            alloc: _,
-            posts,
-            words,
-            keeping,
-            scopes,
-            cancelled,
-            cells,
-        } = self;
-        drop(posts);
-        drop(words);
-        drop(keeping);
-        drop(scopes);
-        drop(cancelled);
-        drop(cells);
+        let ledger = self.into_ledger();
         ledger.is_whole();
         ledger.into_journal()
     }

@@ -1,23 +1,24 @@
 //! Calls of sites: a token makes one, and it is answered.
-ghost use Rattle.std.specs.Prelude.{◌≡◌, ◌≤◌, ◌<◌, ◌+◌, ◌⊎◌, ℕ, List, length, true, Some, Option, IfOk, IfErr, IfSome, MatchOption, OnOk, OnErr};
+ghost use Rattle.std.specs.Prelude.{◌≡◌, ◌≤◌, ◌<◌, ◌+◌, ◌⊎◌, ℕ, List, length, true, Some, IfOk, IfErr, IfSome, MatchOption, OnOk, OnErr};
 ghost use Rattle.orc_rules.specs.Timed.{IsIn};
 ghost use Rattle.orc_tables.specs.declared.records.Token.{Token as Its};
 ghost use Rattle.orc_tables.specs.declared.records.Call.{Call as ItsCall};
 ghost use Rattle.orc_tables.specs.Steps.{group_at};
-ghost use Rattle.orc_ledger_spec.specs.Answers.{IsReturned, Pends};
+ghost use Rattle.orc_ledger_spec.specs.Answers.{Pends};
 ghost use Rattle.orc_ledger_spec.specs.Requests.{IsMade};
+ghost use Rattle.orc_word.specs.declared.view.View.{View};
 ghost use Rattle.orc_word.specs.Views.{group_of};
 ghost use Rattle.orc_book.specs.Held.{IsUnkept, KeepsWords, HasStayed, word_at};
+ghost use Rattle.orc_book.specs.Answered.{IsAnswered, in_answered};
+ghost use Rattle.orc_book.specs.Passes.{in_book};
 ghost use Rattle.orc_book.specs.Refusals.{IsRefusedCall, IsRefusedAnswer};
 
 use crate::book::Book;
 use crate::post::{bring_at, out_in, reserve_at, send_at, take_at};
 use crate::token::{BookFault, Refused, Token, fault_of};
-use orc_graph::Graph;
-use orc_ledger::{Action, stands};
+use orc_ledger::{Action, Inputs, stands};
 use orc_ledger_spec::ReturnFault;
-use orc_log::Program;
-use orc_rules::answers::Answers;
+use orc_log::Run;
 use orc_rules::value::{Answer, Args};
 use orc_word::{Naming, Pass};
 
@@ -30,24 +31,21 @@ pub enum Answered<P: Naming> {
     Halted(Pass<P>),
 }
 
-impl<P: Program + Naming> Book<P> {
+impl<P: Run + Naming> Book<P> {
     /// A call of a site with values: it pends where the token was, and the book holds its pass. Gives its number. `args` is lent for the arguments.
     /// Refused as Gone where the token isn't out, as Wrong where it does something else next, as Full or Limit where the entry is over one, else as Memory.
     pub fn call(
         &mut self,
-        graph: &Graph,
-        answers: &Answers,
+        inputs: &Inputs<'_, P>,
         token: Token<P>,
         args: &mut Args,
     ) -> Result<u64, Refused<Token<P>>>
-        requires graph { graph.now ≡ P.listing }
-        requires answers { answers.now.sites ≡ P.sites }
         ensures done { IfOk result (λ k. (t : Its) × (c : ItsCall) × IsUnkept self.old token.slot token.serial token.pass t × (c.number ≡ k) × IsMade P.listing P.sites self.old.ledger t c self.new.ledger) }
         ensures stands { KeepsWords self.old self.new }
         ensures refused { IfErr result (λ r. HasStayed self.old self.new × (r.back ≡ token)) }
         ensures why { IfErr result (λ r. IsRefusedCall P.listing self.old token r.why) }
     {
-        let found = match self.find(graph, &token) {
+        let found = match self.find(inputs, &token) {
             Ok(found) => found,
             Err(why) => return Err(Refused { why, back: token }),
         };
@@ -68,10 +66,7 @@ impl<P: Program + Naming> Book<P> {
             });
         }
         stands(&self.ledger);
-        match self
-            .ledger
-            .call(graph, answers, token.slot, found.its, args)
-        {
+        match self.ledger.call(inputs, token.slot, found.its, args) {
             Ok(call) => {
                 bring_at(&mut self.posts, found.group, found.out - 1, token.pass);
                 Ok(call.number)
@@ -84,13 +79,14 @@ impl<P: Program + Naming> Book<P> {
     }
 }
 
-impl<P: Program + Naming> Book<P> {
+impl<P: Run + Naming> Book<P> {
     /// A call that pends is answered, where the table of sites gives this answer and it is due now. With a value a token on it is out, with the call's pass;
     /// else that is to be left. Refused as Gone where no call pends with the number, as Wrong where the answer isn't due now, as Limit where the journal has as
     /// many entries as the limit, else as Memory.
     pub fn returned(&mut self, number: u64, answer: Answer) -> Result<Answered<P>, BookFault>
-        ensures done { IfOk result (λ a. (c : ItsCall) × (slot : Option ℕ) × Pends self.old.ledger number c × IsReturned self.old.ledger c answer slot self.new.ledger) }
+        ensures done { IfOk result (λ a. (c : ItsCall) × Pends self.old.ledger number c × IsAnswered self.old c answer a self.new) }
         ensures stands { KeepsWords self.old self.new }
+        ensures passes { IfOk result (λ a. (f : View → ℕ) → in_answered f a + in_book f self.new ≡ in_book f self.old) }
         ensures refused { OnErr result (self.new ≡ self.old) }
         ensures why { IfErr result (λ why. IsRefusedAnswer P.listing P.sites self.old.ledger number answer why) }
     {

@@ -8,9 +8,8 @@ ghost use Rattle.orc_book.specs.Refusals.{IsRefusedNext, IsRefusedTick};
 
 use crate::book::Book;
 use crate::token::{BookFault, fault_of};
-use orc_graph::Graph;
-use orc_ledger::Next as Comes;
-use orc_log::Program;
+use orc_ledger::{Inputs, Next as Comes};
+use orc_log::Run;
 use orc_word::Naming;
 
 /// What comes next of a run.
@@ -24,18 +23,17 @@ pub enum Next {
     Quiet,
 }
 
-impl<P: Program + Naming> Book<P> {
+impl<P: Run + Naming> Book<P> {
     /// What comes next, tokens that are out and kept alike. Where that is a tick it is made. The faults are Limit, where the
     /// journal has as many entries as the limit, and Memory, both of a tick alone.
-    pub fn next(&mut self, graph: &Graph) -> Result<Next, BookFault>
-        requires graph { graph.now ≡ P.listing }
+    pub fn next(&mut self, inputs: &Inputs<'_, P>) -> Result<Next, BookFault>
         ensures says { IfOk result (λ n. SaysNext P.listing P.sites self.old.ledger n self.new.ledger) }
         ensures posts { self.new.posts ≡ self.old.posts }
         ensures stands { KeepsWords self.old self.new }
         ensures refused { OnErr result (self.new ≡ self.old) }
         ensures why { IfErr result (λ why. IsRefusedNext P.listing self.old.ledger why) }
     {
-        let next = self.ledger.next(graph);
+        let next = self.ledger.next(inputs);
         self.ledger.is_whole();
         match next {
             Comes::Work => Ok(Next::Work),

@@ -9,30 +9,33 @@ ghost use Rattle.orc_book.specs.Refusals.{HasFound, IsRefusedOn};
 use crate::book::Book;
 use crate::lookup::Found;
 use crate::token::{BookFault, Refused, Token, fault_of};
-use orc_graph::Graph;
-use orc_ledger::{Action, Moved, stands};
-use orc_log::Program;
+use orc_ledger::{Action, Inputs, Moved, stands};
+use orc_log::Run;
 use orc_word::Naming;
 
-impl<P: Program + Naming> Book<P> {
+impl<P: Run + Naming> Book<P> {
     /// A token at `f >x> g` or at a call of a definition: one on the left side, or on the body, is out in its place with its pass. Refused as Gone where
     /// the token isn't out, as Wrong where it does something else next, or the call's operands don't fit, which no checked program has, and as Full, Limit or
     /// Memory where the ledger refuses the entry for that.
-    pub fn go_on(&mut self, graph: &Graph, token: Token<P>) -> Result<Token<P>, Refused<Token<P>>>
-        requires graph { graph.now ≡ P.listing }
+    pub fn go_on(
+        &mut self,
+        inputs: &Inputs<'_, P>,
+        token: Token<P>,
+    ) -> Result<Token<P>, Refused<Token<P>>>
         ensures done { IfOk result (λ _. (t : Its) × (ks : List ℕ) × IsUnkept self.old token.slot token.serial token.pass t × Moves P.listing self.old.ledger token.slot t moved.On ks self.new.ledger) }
         ensures stands { KeepsWords self.old self.new }
+        ensures posts { self.new.posts ≡ self.old.posts }
         ensures born { IfOk result (λ b. (t : Its) × IsToken self.new b.slot b.serial b.pass t) }
         ensures same { IfOk result (λ b. (b.slot ≡ token.slot) × (b.pass ≡ token.pass)) }
         ensures refused { IfErr result (λ r. (self.new ≡ self.old) × (r.back ≡ token)) }
         ensures why { IfErr result (λ r. IsRefusedOn P.listing self.old token r.why) }
     {
-        let found = match self.find(graph, &token) {
+        let found = match self.find(inputs, &token) {
             Ok(found) => found,
             Err(why) => return Err(Refused { why, back: token }),
         };
         match found.what {
-            Action::Seq | Action::Def => self.go_on_found(graph, token, found),
+            Action::Seq | Action::Def => self.go_on_found(inputs, token, found),
             _ => Err(Refused {
                 why: BookFault::Wrong,
                 back: token,
@@ -44,15 +47,15 @@ impl<P: Program + Naming> Book<P> {
     #[inline(always)]
     pub(crate) fn go_on_found(
         &mut self,
-        graph: &Graph,
+        inputs: &Inputs<'_, P>,
         token: Token<P>,
         found: Found,
     ) -> Result<Token<P>, Refused<Token<P>>>
-        requires graph { graph.now ≡ P.listing }
         requires found { HasFound P.listing self.old token found }
         requires next { (found.what ≡ Action.Seq) ⊎ (found.what ≡ Action.Def) }
         ensures done { IfOk result (λ _. (t : Its) × (ks : List ℕ) × IsUnkept self.old token.slot token.serial token.pass t × Moves P.listing self.old.ledger token.slot t moved.On ks self.new.ledger) }
         ensures stands { KeepsWords self.old self.new }
+        ensures posts { self.new.posts ≡ self.old.posts }
         ensures born { IfOk result (λ b. (t : Its) × IsToken self.new b.slot b.serial b.pass t) }
         ensures same { IfOk result (λ b. (b.slot ≡ token.slot) × (b.pass ≡ token.pass)) }
         ensures refused { IfErr result (λ r. (self.new ≡ self.old) × (r.back ≡ token)) }
@@ -60,7 +63,7 @@ impl<P: Program + Naming> Book<P> {
     {
         stands(&self.ledger);
         match self.ledger.advance(
-            graph,
+            inputs,
             token.slot,
             found.its,
             &mut self.scopes,

@@ -7,7 +7,7 @@ ghost use Rattle.orc_rules.specs.Journal.{Place};
 ghost use Rattle.orc_ledger_spec.specs.Answers.{IsAt};
 ghost use Rattle.orc_ledger_spec.specs.Halting.{HasHalted};
 ghost use Rattle.orc_ledger_spec.specs.declared.results.Halted.{Halted as ItsHalted};
-ghost use Rattle.orc_book.specs.Ends.{FreesWord, HasEnded, in_ended};
+ghost use Rattle.orc_book.specs.Ends.{FreesWord, HasEnded, Told, in_ended};
 ghost use Rattle.orc_book.specs.Passes.{GivesUp, in_book};
 ghost use Rattle.orc_book.specs.Refusals.{IsRefusedGroup, IsRefusedHalt};
 ghost use Rattle.orc_book.specs.Words.{Turns, kind_at, owed_at, unused};
@@ -18,7 +18,7 @@ use crate::token::{BookFault, Refused, Token, fault_of};
 use crate::word_table::Kind;
 use orc_ledger::stands;
 use orc_ledger_spec::{HaltFault, Halted};
-use orc_log::Program;
+use orc_log::Run;
 use orc_word::{Last, Naming, Pass};
 
 /// What has become of a group that was left last.
@@ -34,7 +34,7 @@ pub enum Ended<P: Naming> {
     Group,
 }
 
-impl<P: Program + Naming> Book<P> {
+impl<P: Run + Naming> Book<P> {
     /// A group that was left last is closed. Its word is free again, and its pass to the group round it is to be left, if it had one. Refused as Gone where the
     /// word stands for no group that is there, as Live where somebody is in that still, as Full or Limit where the ledger refuses the entry for that, else as
     /// Memory.
@@ -44,7 +44,7 @@ impl<P: Program + Naming> Book<P> {
         leave: &mut Vec<Pass<P>>,
     ) -> Result<Ended<P>, Refused<Last<P>>>
         ensures done { IfOk result (λ e. (self.new.ledger ≡ self.old.ledger) ⊎ ((n : ℕ) × (h : ItsHalted) × HasHalted (code P.listing) self.old.ledger self.new.ledger n h)) }
-        ensures word { OnOk result (FreesWord (code P.listing) self.old last.group (kind_at self.old.stands last.group) self.new) }
+        ensures word { IfOk result (λ e. FreesWord (code P.listing) self.old last.group (kind_at self.old.stands last.group) e self.new) }
         ensures marks { self.new.marks ≡ self.old.marks }
         ensures left { IfOk result (λ e. GivesUp leave.old.items leave.new.items (λ f. in_book f self.old) (λ f. in_ended f e + in_book f self.new)) }
         ensures lent { OnErr result (leave.new.items ≡ leave.old.items) }
@@ -98,7 +98,7 @@ impl<P: Program + Naming> Book<P> {
     ) -> Result<Ended<P>, BookFault>
         requires stood { kind_at self.old.stands word ≡ Kind.Open number }
         requires bare { owed_at self.old.stands word ≡ None }
-        ensures done { IfOk result (λ _. (h : ItsHalted) × HasHalted (code P.listing) self.old.ledger self.new.ledger number h) }
+        ensures done { IfOk result (λ e. (h : ItsHalted) × HasHalted (code P.listing) self.old.ledger self.new.ledger number h × Told h e) }
         ensures word { OnOk result (Turns self.old.stands word unused self.new.stands) }
         ensures marks { self.new.marks ≡ self.old.marks }
         ensures left { IfOk result (λ e. GivesUp leave.old.items leave.new.items (λ f. in_book f self.old) (λ f. in_ended f e + in_book f self.new)) }

@@ -8,7 +8,10 @@ ghost use Rattle.orc_indexes.specs.Same.{weight};
 ghost use Rattle.orc_rules.specs.Nodes.{code, definitions};
 ghost use Rattle.orc_ledger_spec.specs.Answers.{IsDueNow, Pends};
 ghost use Rattle.orc_ledger_spec.specs.Doing.{what_of};
+ghost use Rattle.orc_ledger_spec.specs.Offered.{NothingIsLost};
 ghost use Rattle.orc_ledger_spec.specs.Requests.{IsAsked};
+ghost use Rattle.orc_ledger_spec.specs.Whole.{IsWhole};
+ghost use Rattle.orc_ledger.specs.Stood.{Stands};
 ghost use Rattle.orc_tables.specs.PendingCalls.{IsDueBeyond, IsLeastBeyond, has_number};
 ghost use Rattle.orc_tables.specs.Steps.{group_at};
 ghost use Rattle.orc_tables.specs.Tokens.{IsHeld};
@@ -19,9 +22,8 @@ ghost use Rattle.orc_book.specs.Words.{AreNamed};
 
 use crate::book::Book;
 use crate::post::word_in;
-use orc_graph::Graph;
-use orc_ledger::{Action, Request};
-use orc_log::Program;
+use orc_ledger::{Action, Inputs, Request, offered, stands};
+use orc_log::Run;
 use orc_rules::value::Answer;
 use orc_tables::Call;
 use orc_word::Naming;
@@ -53,10 +55,9 @@ pub struct TokenView {
     pub needs: Needs,
 }
 
-impl<P: Program + Naming> Book<P> {
+impl<P: Run + Naming> Book<P> {
     /// What the token with this serial does next, if it is in this slot, kept or out. Serials begin with 1.
-    pub fn view(&self, graph: &Graph, slot: usize, serial: u64) -> Option<TokenView>
-        requires graph { graph.now ≡ P.listing }
+    pub fn view(&self, inputs: &Inputs<'_, P>, slot: usize, serial: u64) -> Option<TokenView>
         ensures there { IfSome result (λ v. (t : Its) × IsHeld self.now.ledger.slots slot t × (t.serial ≡ serial) × (v.what ≡ what_of (code P.listing) (definitions P.listing) self.now.ledger t) × (v.word ≡ word_at self.now.posts (group_at self.now.ledger.steps t.step)) × (v.needs ≡ needs_of v.what)) }
         ensures gone { IfNone result ((t : Its) → IsHeld self.now.ledger.slots slot t → t.serial ≡ serial → ⊥) }
     {
@@ -64,7 +65,7 @@ impl<P: Program + Naming> Book<P> {
             return None;
         }
         let its = self.ledger.token(slot, serial)?;
-        let what = self.ledger.what(graph, &its);
+        let what = self.ledger.what(inputs, &its);
         let group = self.ledger.group_of_token(&its);
         Some(TokenView {
             what,
@@ -89,6 +90,18 @@ impl<P: Program + Naming> Book<P> {
         for post in self.posts.as_slice() {
             post.names();
         }
+    }
+
+    /// The journal is a timed run of Orc's rules, as a law: it leads from the program's term to a place that the records spell, and nothing is lost of how it may
+    /// go on.
+    pub fn is_run(&self)
+        ensures whole { IsWhole P.listing P.sites self.now.ledger }
+        ensures spelt { Stands P.listing P.sites self.now.ledger }
+        ensures offered { NothingIsLost P.listing P.sites self.now.ledger }
+    {
+        self.ledger.is_whole();
+        stands(&self.ledger);
+        offered(&self.ledger);
     }
 
     /// How many entries the journal has, the cancels left out.

@@ -5,9 +5,8 @@ ghost use Rattle.orc_book.specs.Refusals.{HasFound};
 
 use crate::book::Book;
 use crate::token::{BookFault, Token};
-use orc_graph::Graph;
-use orc_ledger::Action;
-use orc_log::Program;
+use orc_ledger::{Action, Inputs};
+use orc_log::Run;
 use orc_tables::Token as Record;
 use orc_word::Naming;
 
@@ -20,12 +19,11 @@ pub(crate) struct Found {
     pub out: usize,
 }
 
-impl<P: Program + Naming> Book<P> {
+impl<P: Run + Naming> Book<P> {
     /// A token that may be out: its record is there, its pass names its group's word, the book doesn't keep it, and some token of the group is out. The fault
     /// is Gone.
     #[inline(always)]
-    pub(crate) fn find(&self, graph: &Graph, token: &Token<P>) -> Result<Found, BookFault>
-        requires graph { graph.now ≡ P.listing }
+    pub(crate) fn find(&self, inputs: &Inputs<'_, P>, token: &Token<P>) -> Result<Found, BookFault>
         ensures found { IfOk result (HasFound P.listing self.now token.now) }
         ensures why { IfErr result (λ why. (why ≡ BookFault.Gone) × IsGone self.now token.now.slot token.now.serial token.now.pass) }
     {
@@ -46,7 +44,7 @@ impl<P: Program + Naming> Book<P> {
         if out < 1 || token.pass.group() != Some(post.word()) {
             return Err(BookFault::Gone);
         }
-        let what = self.ledger.what(graph, &its);
+        let what = self.ledger.what(inputs, &its);
         Ok(Found {
             its,
             what,

@@ -1,5 +1,5 @@
 //! Moves of tokens that are out.
-ghost use Rattle.std.specs.Prelude.{◌≡◌, ◌⊎◌, ℕ, List, Some, IfOk, IfErr};
+ghost use Rattle.std.specs.Prelude.{◌≡◌, ◌⊎◌, ℕ, List, Some, IfOk, IfErr, OnOk};
 ghost use Rattle.orc_tables.specs.declared.records.Token.{Token as Its};
 ghost use Rattle.orc_ledger_spec.specs.Moves.{Moves, IsHindered};
 ghost use Rattle.orc_ledger_spec.specs.declared.results.Moved.TheVariants as moved;
@@ -7,34 +7,38 @@ ghost use Rattle.orc_book.specs.Held.{IsToken, IsUnkept, IsOut, KeepsWords, word
 ghost use Rattle.orc_tables.specs.Tokens.{IsHeld};
 ghost use Rattle.orc_tables.specs.Steps.{group_at};
 ghost use Rattle.orc_word.specs.Views.{group_of};
+ghost use Rattle.orc_book.specs.Stepping.{ChangesOwn, LosesOne, AddsOne};
 ghost use Rattle.orc_book.specs.Refusals.{is_end, is_fork, is_publication, HasFound, IsRefusedMove};
 
 use crate::book::Book;
 use crate::lookup::Found;
 use crate::post::set_out;
 use crate::token::{BookFault, Refused, Token, fault_of};
-use orc_graph::Graph;
-use orc_ledger::{Action, Moved, stands};
-use orc_log::Program;
+use orc_ledger::{Action, Inputs, Moved, stands};
+use orc_log::Run;
 use orc_word::{Naming, Pass};
 
-impl<P: Program + Naming> Book<P> {
+impl<P: Run + Naming> Book<P> {
     /// A token that ends, at `stop` or where it is void. Its pass is to be left. Refused as Gone where the token isn't out, as Wrong where it does something
     /// else next, as Full, Limit or Memory where the ledger refuses the entry for that.
-    pub fn end(&mut self, graph: &Graph, token: Token<P>) -> Result<Pass<P>, Refused<Token<P>>>
-        requires graph { graph.now ≡ P.listing }
+    pub fn end(
+        &mut self,
+        inputs: &Inputs<'_, P>,
+        token: Token<P>,
+    ) -> Result<Pass<P>, Refused<Token<P>>>
         ensures done { IfOk result (λ pass. (t : Its) × (g : ℕ) × (ks : List ℕ) × IsUnkept self.old token.slot token.serial token.pass t × Moves P.listing self.old.ledger token.slot t (moved.Gone g) ks self.new.ledger) }
         ensures stands { KeepsWords self.old self.new }
+        ensures posts { OnOk result (ChangesOwn self.old token self.new.posts LosesOne) }
         ensures pass { IfOk result (λ pass. pass ≡ token.pass) }
         ensures refused { IfErr result (λ r. (self.new ≡ self.old) × (r.back ≡ token)) }
         ensures why { IfErr result (λ r. IsRefusedMove P.listing self.old token is_end (IsHindered P.listing self.old.ledger) r.why) }
     {
-        let found = match self.find(graph, &token) {
+        let found = match self.find(inputs, &token) {
             Ok(found) => found,
             Err(why) => return Err(Refused { why, back: token }),
         };
         match found.what {
-            Action::Halt | Action::Void => self.end_found(graph, token, found),
+            Action::Halt | Action::Void => self.end_found(inputs, token, found),
             _ => Err(Refused {
                 why: BookFault::Wrong,
                 back: token,
@@ -46,22 +50,22 @@ impl<P: Program + Naming> Book<P> {
     #[inline(always)]
     pub(crate) fn end_found(
         &mut self,
-        graph: &Graph,
+        inputs: &Inputs<'_, P>,
         token: Token<P>,
         found: Found,
     ) -> Result<Pass<P>, Refused<Token<P>>>
-        requires graph { graph.now ≡ P.listing }
         requires found { HasFound P.listing self.old token found }
         requires next { (found.what ≡ Action.Halt) ⊎ (found.what ≡ Action.Void) }
         ensures done { IfOk result (λ pass. (t : Its) × (g : ℕ) × (ks : List ℕ) × IsUnkept self.old token.slot token.serial token.pass t × Moves P.listing self.old.ledger token.slot t (moved.Gone g) ks self.new.ledger) }
         ensures stands { KeepsWords self.old self.new }
+        ensures posts { OnOk result (ChangesOwn self.old token self.new.posts LosesOne) }
         ensures pass { IfOk result (λ pass. pass ≡ token.pass) }
         ensures refused { IfErr result (λ r. (self.new ≡ self.old) × (r.back ≡ token)) }
         ensures why { IfErr result (λ r. IsRefusedMove P.listing self.old token is_end (IsHindered P.listing self.old.ledger) r.why) }
     {
         stands(&self.ledger);
         match self.ledger.advance(
-            graph,
+            inputs,
             token.slot,
             found.its,
             &mut self.scopes,
@@ -79,7 +83,7 @@ impl<P: Program + Naming> Book<P> {
     }
 }
 
-impl<P: Program + Naming> Book<P> {
+impl<P: Run + Naming> Book<P> {
     // The token in a slot, which goes out with this pass.
     pub(crate) fn born(&self, slot: usize, pass: Pass<P>) -> Token<P>
         requires held { (t : Its) × IsHeld self.now.ledger.slots slot t × (group_of pass ≡ Some (word_at self.now.posts (group_at self.now.ledger.steps t.step))) }
@@ -101,19 +105,20 @@ impl<P: Program + Naming> Book<P> {
     /// Memory where the ledger refuses the entry for that.
     pub fn fork(
         &mut self,
-        graph: &Graph,
+        inputs: &Inputs<'_, P>,
         token: Token<P>,
         same: Pass<P>,
     ) -> Result<(Token<P>, Token<P>), Refused<(Token<P>, Pass<P>)>>
-        requires graph { graph.now ≡ P.listing }
         requires same { group_of same ≡ group_of token.pass }
         ensures done { IfOk result (λ two. (t : Its) × (ks : List ℕ) × IsUnkept self.old token.slot token.serial token.pass t × Moves P.listing self.old.ledger token.slot t (moved.Forked two.1.slot) ks self.new.ledger) }
         ensures stands { KeepsWords self.old self.new }
+        ensures posts { OnOk result (ChangesOwn self.old token self.new.posts AddsOne) }
         ensures born { IfOk result (λ two. IsOut self.new two.0 × IsOut self.new two.1) }
+        ensures same { IfOk result (λ two. (two.0.slot ≡ token.slot) × (two.0.pass ≡ token.pass) × (two.1.pass ≡ same)) }
         ensures refused { IfErr result (λ r. (self.new ≡ self.old) × (r.back.0 ≡ token) × (r.back.1 ≡ same)) }
         ensures why { IfErr result (λ r. IsRefusedMove P.listing self.old token is_fork (IsHindered P.listing self.old.ledger) r.why) }
     {
-        let found = match self.find(graph, &token) {
+        let found = match self.find(inputs, &token) {
             Ok(found) => found,
             Err(why) => {
                 let back = (token, same);
@@ -121,7 +126,7 @@ impl<P: Program + Naming> Book<P> {
             }
         };
         match found.what {
-            Action::Fork => self.fork_found(graph, token, found, same),
+            Action::Fork => self.fork_found(inputs, token, found, same),
             _ => {
                 let why = BookFault::Wrong;
                 let back = (token, same);
@@ -134,24 +139,25 @@ impl<P: Program + Naming> Book<P> {
     #[inline(always)]
     pub(crate) fn fork_found(
         &mut self,
-        graph: &Graph,
+        inputs: &Inputs<'_, P>,
         token: Token<P>,
         found: Found,
         same: Pass<P>,
     ) -> Result<(Token<P>, Token<P>), Refused<(Token<P>, Pass<P>)>>
-        requires graph { graph.now ≡ P.listing }
         requires found { HasFound P.listing self.old token found }
         requires next { found.what ≡ Action.Fork }
         requires same { group_of same ≡ group_of token.pass }
         ensures done { IfOk result (λ two. (t : Its) × (ks : List ℕ) × IsUnkept self.old token.slot token.serial token.pass t × Moves P.listing self.old.ledger token.slot t (moved.Forked two.1.slot) ks self.new.ledger) }
         ensures stands { KeepsWords self.old self.new }
+        ensures posts { OnOk result (ChangesOwn self.old token self.new.posts AddsOne) }
         ensures born { IfOk result (λ two. IsOut self.new two.0 × IsOut self.new two.1) }
+        ensures same { IfOk result (λ two. (two.0.slot ≡ token.slot) × (two.0.pass ≡ token.pass) × (two.1.pass ≡ same)) }
         ensures refused { IfErr result (λ r. (self.new ≡ self.old) × (r.back.0 ≡ token) × (r.back.1 ≡ same)) }
         ensures why { IfErr result (λ r. IsRefusedMove P.listing self.old token is_fork (IsHindered P.listing self.old.ledger) r.why) }
     {
         stands(&self.ledger);
         match self.ledger.advance(
-            graph,
+            inputs,
             token.slot,
             found.its,
             &mut self.scopes,
@@ -174,18 +180,22 @@ impl<P: Program + Naming> Book<P> {
     }
 }
 
-impl<P: Program + Naming> Book<P> {
+impl<P: Run + Naming> Book<P> {
     /// A publication of the program. The token's pass is to be left. Refused as Gone where the token isn't out, as Wrong where it does something else next, as
     /// Full, Limit or Memory where the ledger refuses the entry for that.
-    pub fn publish(&mut self, graph: &Graph, token: Token<P>) -> Result<Pass<P>, Refused<Token<P>>>
-        requires graph { graph.now ≡ P.listing }
+    pub fn publish(
+        &mut self,
+        inputs: &Inputs<'_, P>,
+        token: Token<P>,
+    ) -> Result<Pass<P>, Refused<Token<P>>>
         ensures done { IfOk result (λ pass. (t : Its) × (g : ℕ) × (ks : List ℕ) × IsUnkept self.old token.slot token.serial token.pass t × Moves P.listing self.old.ledger token.slot t (moved.Gone g) ks self.new.ledger) }
         ensures stands { KeepsWords self.old self.new }
+        ensures posts { OnOk result (ChangesOwn self.old token self.new.posts LosesOne) }
         ensures pass { IfOk result (λ pass. pass ≡ token.pass) }
         ensures refused { IfErr result (λ r. (self.new ≡ self.old) × (r.back ≡ token)) }
         ensures why { IfErr result (λ r. IsRefusedMove P.listing self.old token is_publication (IsHindered P.listing self.old.ledger) r.why) }
     {
-        let found = match self.find(graph, &token) {
+        let found = match self.find(inputs, &token) {
             Ok(found) => found,
             Err(why) => return Err(Refused { why, back: token }),
         };
@@ -194,7 +204,7 @@ impl<P: Program + Naming> Book<P> {
             return Err(Refused { why, back: token });
         };
         match self.ledger.advance(
-            graph,
+            inputs,
             token.slot,
             found.its,
             &mut self.scopes,

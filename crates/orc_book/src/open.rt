@@ -13,9 +13,8 @@ use crate::lookup::Found;
 use crate::post::{bring_at, grow_to, put_at, raise_at, reserve_opening};
 use crate::token::{BookFault, Refused, Token, fault_of};
 use crate::word_table::WordTable;
-use orc_graph::Graph;
-use orc_ledger::{Action, Moved, stands};
-use orc_log::Program;
+use orc_ledger::{Action, Inputs, Moved, stands};
+use orc_log::Run;
 use orc_word::{Groups, Naming, Pass};
 
 /// A word that is free, and the pass that opened it.
@@ -51,28 +50,28 @@ fn open_word<P: Naming>(
     }
 }
 
-impl<P: Program + Naming> Book<P> {
+impl<P: Run + Naming> Book<P> {
     /// A token at `f <x< g`: one on each side is out in its place, the left one with its pass, the right one with `idle`, which opens the new group's word.
     /// The book holds `same` for that group, which names the token's. Refused as Gone where the token isn't out, as Wrong where it does something else next, as
     /// Full or Limit where the ledger is at one, as Full too where no word is free, as Live where the free word is still named, else as Memory.
     pub fn prune(
         &mut self,
         groups: &Groups<P>,
-        graph: &Graph,
+        inputs: &Inputs<'_, P>,
         token: Token<P>,
         same: Pass<P>,
         idle: Pass<P>,
     ) -> Result<(Token<P>, Token<P>), Refused<(Token<P>, Pass<P>, Pass<P>)>>
-        requires graph { graph.now ≡ P.listing }
         requires same { group_of same ≡ group_of token.pass }
         requires idle { group_of idle ≡ None }
         ensures done { IfOk result (λ two. (t : Its) × (ks : List ℕ) × IsUnkept self.old token.slot token.serial token.pass t × Moves P.listing self.old.ledger token.slot t (moved.Forked two.1.slot) ks self.new.ledger) }
         ensures born { IfOk result (λ two. IsOut self.new two.0 × IsOut self.new two.1) }
+        ensures same { IfOk result (λ two. (two.0.slot ≡ token.slot) × (two.0.pass ≡ token.pass)) }
         ensures word { IfOk result (λ two. OpensWord self.old two.1 self.new) }
         ensures refused { IfErr result (λ r. HasStayed self.old self.new × (r.back.0 ≡ token) × (r.back.1 ≡ same) × (group_of r.back.2 ≡ None)) }
         ensures why { IfErr result (λ r. IsRefusedOpening P.listing self.old token P.table.words is_prune r.why) }
     {
-        let found = match self.find(graph, &token) {
+        let found = match self.find(inputs, &token) {
             Ok(found) => found,
             Err(why) => {
                 let back = (token, same, idle);
@@ -80,7 +79,7 @@ impl<P: Program + Naming> Book<P> {
             }
         };
         match found.what {
-            Action::Prune => self.prune_found(groups, graph, token, found, same, idle),
+            Action::Prune => self.prune_found(groups, inputs, token, found, same, idle),
             _ => {
                 let why = BookFault::Wrong;
                 let back = (token, same, idle);
@@ -93,19 +92,19 @@ impl<P: Program + Naming> Book<P> {
     pub(crate) fn prune_found(
         &mut self,
         groups: &Groups<P>,
-        graph: &Graph,
+        inputs: &Inputs<'_, P>,
         token: Token<P>,
         found: Found,
         same: Pass<P>,
         idle: Pass<P>,
     ) -> Result<(Token<P>, Token<P>), Refused<(Token<P>, Pass<P>, Pass<P>)>>
-        requires graph { graph.now ≡ P.listing }
         requires found { HasFound P.listing self.old token found }
         requires next { found.what ≡ Action.Prune }
         requires same { group_of same ≡ group_of token.pass }
         requires idle { group_of idle ≡ None }
         ensures done { IfOk result (λ two. (t : Its) × (ks : List ℕ) × IsUnkept self.old token.slot token.serial token.pass t × Moves P.listing self.old.ledger token.slot t (moved.Forked two.1.slot) ks self.new.ledger) }
         ensures born { IfOk result (λ two. IsOut self.new two.0 × IsOut self.new two.1) }
+        ensures same { IfOk result (λ two. (two.0.slot ≡ token.slot) × (two.0.pass ≡ token.pass)) }
         ensures word { IfOk result (λ two. OpensWord self.old two.1 self.new) }
         ensures refused { IfErr result (λ r. HasStayed self.old self.new × (r.back.0 ≡ token) × (r.back.1 ≡ same) × (group_of r.back.2 ≡ None)) }
         ensures why { IfErr result (λ r. IsRefusedOpening P.listing self.old token P.table.words is_prune r.why) }
@@ -136,7 +135,7 @@ impl<P: Program + Naming> Book<P> {
         };
         stands(&self.ledger);
         match self.ledger.advance(
-            graph,
+            inputs,
             token.slot,
             found.its,
             &mut self.scopes,
@@ -171,19 +170,19 @@ impl<P: Program + Naming> Book<P> {
     pub fn other(
         &mut self,
         groups: &Groups<P>,
-        graph: &Graph,
+        inputs: &Inputs<'_, P>,
         token: Token<P>,
         idle: Pass<P>,
     ) -> Result<Token<P>, Refused<(Token<P>, Pass<P>)>>
-        requires graph { graph.now ≡ P.listing }
         requires idle { group_of idle ≡ None }
         ensures done { IfOk result (λ _. (t : Its) × (ks : List ℕ) × IsUnkept self.old token.slot token.serial token.pass t × Moves P.listing self.old.ledger token.slot t moved.On ks self.new.ledger) }
         ensures born { IfOk result (λ b. IsOut self.new b) }
+        ensures same { IfOk result (λ b. b.slot ≡ token.slot) }
         ensures word { IfOk result (λ b. OpensWord self.old b self.new) }
         ensures refused { IfErr result (λ r. HasStayed self.old self.new × (r.back.0 ≡ token) × (group_of r.back.1 ≡ None)) }
         ensures why { IfErr result (λ r. IsRefusedOpening P.listing self.old token P.table.words is_other r.why) }
     {
-        let found = match self.find(graph, &token) {
+        let found = match self.find(inputs, &token) {
             Ok(found) => found,
             Err(why) => {
                 let back = (token, idle);
@@ -191,7 +190,7 @@ impl<P: Program + Naming> Book<P> {
             }
         };
         match found.what {
-            Action::Other => self.other_found(groups, graph, token, found, idle),
+            Action::Other => self.other_found(groups, inputs, token, found, idle),
             _ => {
                 let why = BookFault::Wrong;
                 let back = (token, idle);
@@ -204,17 +203,17 @@ impl<P: Program + Naming> Book<P> {
     pub(crate) fn other_found(
         &mut self,
         groups: &Groups<P>,
-        graph: &Graph,
+        inputs: &Inputs<'_, P>,
         token: Token<P>,
         found: Found,
         idle: Pass<P>,
     ) -> Result<Token<P>, Refused<(Token<P>, Pass<P>)>>
-        requires graph { graph.now ≡ P.listing }
         requires found { HasFound P.listing self.old token found }
         requires next { found.what ≡ Action.Other }
         requires idle { group_of idle ≡ None }
         ensures done { IfOk result (λ _. (t : Its) × (ks : List ℕ) × IsUnkept self.old token.slot token.serial token.pass t × Moves P.listing self.old.ledger token.slot t moved.On ks self.new.ledger) }
         ensures born { IfOk result (λ b. IsOut self.new b) }
+        ensures same { IfOk result (λ b. b.slot ≡ token.slot) }
         ensures word { IfOk result (λ b. OpensWord self.old b self.new) }
         ensures refused { IfErr result (λ r. HasStayed self.old self.new × (r.back.0 ≡ token) × (group_of r.back.1 ≡ None)) }
         ensures why { IfErr result (λ r. IsRefusedOpening P.listing self.old token P.table.words is_other r.why) }
@@ -245,7 +244,7 @@ impl<P: Program + Naming> Book<P> {
         };
         stands(&self.ledger);
         match self.ledger.advance(
-            graph,
+            inputs,
             token.slot,
             found.its,
             &mut self.scopes,

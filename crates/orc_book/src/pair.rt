@@ -4,15 +4,15 @@ ghost use Rattle.std.specs.Prelude.{◌≡◌};
 
 use crate::book::Book;
 use crate::token::Token;
-use orc_graph::Graph;
-use orc_log::Program;
+use orc_ledger::Inputs;
+use orc_log::Run;
 use orc_word::{Groups, Last, Naming, Pass};
 use std::alloc::Global;
 use std::sync::{Mutex, Wait};
 use std::thread::{Threads, join};
 
 // Leaves a pass outside the lock. The last one who does closes the group.
-fn leave_one<P: Program + Naming, R: Wait>(
+fn leave_one<P: Run + Naming, R: Wait>(
     rt: &R,
     groups: &Groups<P>,
     book: &Mutex<Book<P>>,
@@ -29,7 +29,7 @@ fn leave_one<P: Program + Naming, R: Wait>(
     }
 }
 
-fn close<P: Program + Naming, R: Wait>(
+fn close<P: Run + Naming, R: Wait>(
     rt: &R,
     book: &Mutex<Book<P>>,
     last: Last<P>,
@@ -39,21 +39,19 @@ fn close<P: Program + Naming, R: Wait>(
 }
 
 // Binds under the lock, and leaves the passes outside it.
-fn bind_one<P: Program + Naming, R: Wait>(
+fn bind_one<P: Run + Naming, R: Wait>(
     rt: &R,
     alloc: Global,
-    graph: &Graph,
+    inputs: &Inputs<'_, P>,
     groups: &Groups<P>,
     book: &Mutex<Book<P>>,
     token: Token<P>,
-) -> bool
-    requires { graph.now ≡ P.listing }
-{
+) -> bool {
     let mut leave = Vec::new(alloc);
     let mut cancelled = Vec::new(alloc);
     let bound = book
         .lock(rt)
-        .bind(groups, graph, token, &mut leave, &mut cancelled)
+        .bind(groups, inputs, token, &mut leave, &mut cancelled)
         .is_ok();
     let mut more = Vec::new(alloc);
     while let Some(pass) = leave.pop() {
@@ -66,24 +64,19 @@ fn bind_one<P: Program + Naming, R: Wait>(
 pub fn two_binds<P, R>(
     rt: &R,
     alloc: Global,
-    graph: &Graph,
+    inputs: &Inputs<'_, P>,
     groups: &Groups<P>,
     book: &Mutex<Book<P>>,
     one: Token<P>,
     two: Token<P>,
 ) -> (bool, bool)
 where
-    P: Program + Naming + Send + Sync,
+    P: Run + Naming + Send + Sync,
     R: Threads + Wait + Sync,
-    requires { graph.now ≡ P.listing }
 {
     join(
         rt,
-        move ||
-            requires { graph.now ≡ P.listing }
-        { bind_one(rt, alloc, graph, groups, book, one) },
-        move ||
-            requires { graph.now ≡ P.listing }
-        { bind_one(rt, alloc, graph, groups, book, two) },
+        move || { bind_one(rt, alloc, inputs, groups, book, one) },
+        move || { bind_one(rt, alloc, inputs, groups, book, two) },
     )
 }

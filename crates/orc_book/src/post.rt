@@ -345,7 +345,7 @@ pub(crate) fn wake_at<J: Naming>(
     out: usize,
     kept: usize,
 ) -> Option<Pass<J>>
-    ensures { MatchOption result (posts.new.items ≡ posts.old.items) (λ pass. (group_of pass ≡ Some (word_at posts.old.items number)) × Changes posts.old.items number posts.new.items (λ p q. (length q.passes + 1 ≡ length p.passes) × (q.kept ≡ kept) × (q.out ≡ out))) }
+    ensures { MatchOption result (posts.new.items ≡ posts.old.items) (λ pass. (group_of pass ≡ Some (word_at posts.old.items number)) × Changes posts.old.items number posts.new.items (λ p q. (length q.passes + 1 ≡ length p.passes) × (q.kept ≡ kept) × (q.out ≡ out) × (p.passes ≡ q.passes ++ pass ∷ []))) }
 {
     if held_in(posts, number) < 1 {
         return None;

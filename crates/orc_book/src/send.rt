@@ -7,7 +7,8 @@ ghost use Rattle.orc_tables.specs.Steps.{group_at};
 ghost use Rattle.orc_tables.specs.Tokens.{IsHeld};
 ghost use Rattle.orc_word.specs.declared.view.View.{View};
 ghost use Rattle.orc_book.specs.Held.{KeepsWords, HasStayed, AreBorn};
-ghost use Rattle.orc_book.specs.Stepping.{HasStepped, AreLeft, IsFedBy, SpendsIdle};
+ghost use Rattle.orc_book.specs.Feeding.{IsFedBy};
+ghost use Rattle.orc_book.specs.Stepping.{HasStepped, HaveCome, AreLeft, SpendsIdle};
 
 use crate::book::Book;
 use crate::lookup::Found;
@@ -15,7 +16,7 @@ use crate::out::{Births, StepOut};
 use crate::post::{enter_at, out_in, set_out};
 use crate::token::{BookFault, Refused, Token, fault_of};
 use orc_ledger::{Action, Taker, stands};
-use orc_log::Program;
+use orc_log::Run;
 use orc_rules::value::Value;
 use orc_tables::Token as Record;
 use orc_word::{Groups, Naming};
@@ -30,7 +31,7 @@ pub(crate) struct Fed {
     pub outer: usize,
 }
 
-impl<P: Program + Naming> Book<P> {
+impl<P: Run + Naming> Book<P> {
     // What a token publishes into a `>x>`.
     fn fed_by(&self, its: Record, value: Value) -> Fed
         requires held { (slot : ℕ) × IsHeld self.now.ledger.slots slot its }
@@ -65,12 +66,12 @@ impl<P: Program + Naming> Book<P> {
         requires next { found.what ≡ Action.Send value }
         requires tokens { vec_len out.old.born + 2 ≤ vec_capacity out.old.born }
         requires passes { vec_len out.old.leave + 1 ≤ vec_capacity out.old.leave }
-        ensures done { OnOk result (HasStepped P.listing self.old token.slot token.serial token.pass self.new) }
+        ensures done { OnOk result (HasStepped P.listing self.old token out.old.born.items out.new.born.items self.new) }
         ensures stands { KeepsWords self.old self.new }
         ensures born { OnOk result (AreBorn out.old.born.items out.new.born.items self.new) }
         ensures leave { OnOk result (AreLeft out.old.leave.items out.new.leave.items) }
         ensures same { births.new.same ≡ births.old.same }
-        ensures idle { MatchResult result (λ _. SpendsIdle token.pass births.old.idle.items births.new.idle.items out.old.leave.items out.new.leave.items) (λ _. births.new.idle.items ≡ births.old.idle.items) }
+        ensures idle { MatchResult result (λ _. SpendsIdle token.pass births.old.idle.items births.new.idle.items out.old.leave.items out.new.leave.items out.old.born.items out.new.born.items) (λ _. births.new.idle.items ≡ births.old.idle.items) }
         ensures cancelled { out.new.cancelled ≡ out.old.cancelled }
         ensures refused { IfErr result (λ r. HasStayed self.old self.new × (r.back ≡ token) × (out.new.born.items ≡ out.old.born.items) × (out.new.leave.items ≡ out.old.leave.items)) }
         ensures why { IfErr result (λ r. IsRefusedStep P.listing self.old token births.old.same.items births.old.idle.items r.why) }
@@ -96,9 +97,10 @@ impl<P: Program + Naming> Book<P> {
         requires fed { IsFedBy P.listing self.old.ledger found.its fed }
         requires round { group_at self.old.ledger.steps fed.outer ≡ found.group }
         requires tokens { vec_len out.old.born + 2 ≤ vec_capacity out.old.born }
-        ensures done { OnOk result (HasStepped P.listing self.old token.slot token.serial token.pass self.new) }
+        ensures done { OnOk result (HasStepped P.listing self.old token out.old.born.items out.new.born.items self.new) }
         ensures stands { KeepsWords self.old self.new }
         ensures born { OnOk result (AreBorn out.old.born.items out.new.born.items self.new) }
+        ensures come { OnOk result (HaveCome out.old.born.items out.new.born.items (token.pass ∷ [])) }
         ensures leave { out.new.leave ≡ out.old.leave }
         ensures cancelled { out.new.cancelled ≡ out.old.cancelled }
         ensures refused { IfErr result (λ r. (self.new ≡ self.old) × (r.back ≡ token) × (out.new.born ≡ out.old.born)) }
@@ -137,12 +139,12 @@ impl<P: Program + Naming> Book<P> {
         requires other { round ≡ found.group → ⊥ }
         requires tokens { vec_len out.old.born + 2 ≤ vec_capacity out.old.born }
         requires passes { vec_len out.old.leave + 1 ≤ vec_capacity out.old.leave }
-        ensures done { OnOk result (HasStepped P.listing self.old token.slot token.serial token.pass self.new) }
+        ensures done { OnOk result (HasStepped P.listing self.old token out.old.born.items out.new.born.items self.new) }
         ensures stands { KeepsWords self.old self.new }
         ensures born { OnOk result (AreBorn out.old.born.items out.new.born.items self.new) }
         ensures leave { OnOk result (AreLeft out.old.leave.items out.new.leave.items) }
         ensures same { births.new.same ≡ births.old.same }
-        ensures idle { MatchResult result (λ _. (v : View) × (births.old.idle.items ≡ births.new.idle.items ++ v ∷ []) × (out.new.leave.items ≡ out.old.leave.items ++ token.pass ∷ [])) (λ _. births.new.idle.items ≡ births.old.idle.items) }
+        ensures idle { MatchResult result (λ _. (v : View) × (births.old.idle.items ≡ births.new.idle.items ++ v ∷ []) × (out.new.leave.items ≡ out.old.leave.items ++ token.pass ∷ []) × ((w : View) × HaveCome out.old.born.items out.new.born.items (w ∷ []))) (λ _. births.new.idle.items ≡ births.old.idle.items) }
         ensures cancelled { out.new.cancelled ≡ out.old.cancelled }
         ensures refused { IfErr result (λ r. (self.new ≡ self.old) × (r.back ≡ token) × (out.new.born ≡ out.old.born) × (out.new.leave ≡ out.old.leave)) }
         ensures why { IfErr result (λ r. IsRefusedStep P.listing self.old token births.old.same.items births.old.idle.items r.why) }

@@ -11,11 +11,11 @@ ghost use Rattle.orc_word.specs.declared.view.View.{View};
 use crate::post::{Post, is_settled_at, parent_in, settle_at, spare_at, word_in};
 use crate::word_table::{Kind, WordTable};
 use orc_ledger::Ledger;
-use orc_log::Program;
+use orc_log::Run;
 use orc_word::{Naming, Pass};
 
 // Whether a number is that of an open group, or the program's own.
-fn is_there<P: Program>(ledger: &Ledger<P>, number: u32) -> bool
+fn is_there<P: Run>(ledger: &Ledger<P>, number: u32) -> bool
     ensures there { result ≡ true → IsThere ledger.now number }
     ensures missing { result ≡ false → IsMissing ledger.now number }
 {
@@ -29,7 +29,7 @@ fn is_there<P: Program>(ledger: &Ledger<P>, number: u32) -> bool
 }
 
 // The word of a group that is there no more stands for a killed one, with a pass of the group that was round it.
-fn bury_one<P: Program, J: Naming>(
+fn bury_one<P: Run, J: Naming>(
     ledger: &Ledger<P>,
     posts: &mut Vec<Post<J>>,
     words: &mut WordTable<J>,
@@ -58,7 +58,7 @@ fn bury_one<P: Program, J: Naming>(
 }
 
 // The first number from `from` on, under `to`, of which nobody is a member, or else `to`.
-fn next_empty<P: Program>(ledger: &Ledger<P>, from: u32, to: u32) -> u32
+fn next_empty<P: Run>(ledger: &Ledger<P>, from: u32, to: u32) -> u32
     requires { from ≤ to }
     ensures within { (from ≤ result) × (result ≤ to) }
     ensures some { (i : ℕ) → from ≤ i → i < result → 1 ≤ members (numbers_of ledger.now) ledger.now i }
@@ -72,7 +72,7 @@ fn next_empty<P: Program>(ledger: &Ledger<P>, from: u32, to: u32) -> u32
 }
 
 // The words of groups that are there no more stand for killed ones. A group that has members is there; to ask that first is faster.
-pub(crate) fn bury_missing<P: Program, J: Naming>(
+pub(crate) fn bury_missing<P: Run, J: Naming>(
     ledger: &Ledger<P>,
     posts: &mut Vec<Post<J>>,
     words: &mut WordTable<J>,
@@ -95,7 +95,7 @@ pub(crate) fn bury_missing<P: Program, J: Naming>(
 }
 
 // The first number from `from` on, under `to`, whose post may have passes that are too many or tokens that are gone, or else `to`.
-fn next_unsettled<P: Program, J: Naming>(
+fn next_unsettled<P: Run, J: Naming>(
     ledger: &Ledger<P>,
     posts: &Vec<Post<J>>,
     from: u32,
@@ -115,7 +115,7 @@ fn next_unsettled<P: Program, J: Naming>(
 }
 
 // Nobody is kept or out of a group without members, and each group's passes that are too many are to be left.
-pub(crate) fn settle_all<P: Program, J: Naming>(
+pub(crate) fn settle_all<P: Run, J: Naming>(
     ledger: &Ledger<P>,
     posts: &mut Vec<Post<J>>,
     leave: &mut Vec<Pass<J>>,

@@ -4,19 +4,17 @@ ghost use Rattle.orc_book.specs.Held.{HasStayed, KeepsWords, AreBorn};
 ghost use Rattle.orc_book.specs.Refusals.{is_end, is_opening, HasFound, IsRefusedMove, IsRefusedStep, IsUnopened};
 ghost use Rattle.orc_word.specs.declared.view.View.{View};
 ghost use Rattle.orc_ledger_spec.specs.Moves.{IsHindered};
-ghost use Rattle.orc_book.specs.Stepping.{HasSpent, HasStepped, AreBack, AreLeft};
-ghost use Rattle.orc_book.specs.Words.{HaveOpened};
+ghost use Rattle.orc_book.specs.Stepping.{HasSpent, HasStepped, HaveCome, HaveOpened, AreBack, AreLeft};
 
 use crate::book::Book;
 use crate::lookup::Found;
 use crate::out::{Births, StepOut};
 use crate::token::{BookFault, Refused, Token};
-use orc_graph::Graph;
-use orc_ledger::Action;
-use orc_log::Program;
+use orc_ledger::{Action, Inputs};
+use orc_log::Run;
 use orc_word::{Groups, Naming};
 
-impl<P: Program + Naming> Book<P> {
+impl<P: Run + Naming> Book<P> {
     /// A token that is out does what it does next, where that is Halt, Fork, Seq, Def, Void, Send, Prune or Other of `view`: its record goes, and those of the
     /// tokens that come in its place are out. `births` lends passes, as many as `view` says that the move needs at most; what isn't used stays there. Tokens
     /// and passes to leave are added to `out`.
@@ -27,24 +25,23 @@ impl<P: Program + Naming> Book<P> {
     pub fn step(
         &mut self,
         groups: &Groups<P>,
-        graph: &Graph,
+        inputs: &Inputs<'_, P>,
         token: Token<P>,
         births: &mut Births<P>,
         out: &mut StepOut<P>,
     ) -> Result<(), Refused<Token<P>>>
-        requires graph { graph.now ≡ P.listing }
-        ensures done { OnOk result (HasStepped P.listing self.old token.slot token.serial token.pass self.new) }
-        ensures stands { HaveOpened self.old.stands self.new.stands }
+        ensures done { OnOk result (HasStepped P.listing self.old token out.old.born.items out.new.born.items self.new) }
+        ensures stands { HaveOpened P.listing self.old token self.new.stands }
         ensures marks { self.new.marks ≡ self.old.marks }
         ensures born { OnOk result (AreBorn out.old.born.items out.new.born.items self.new) }
         ensures leave { OnOk result (AreLeft out.old.leave.items out.new.leave.items) }
-        ensures spent { OnOk result (HasSpent P.listing self.old token.slot token.serial token.pass (record { same = births.old.same.items; idle = births.old.idle.items; leave = out.old.leave.items }) (record { same = births.new.same.items; idle = births.new.idle.items; leave = out.new.leave.items })) }
+        ensures spent { OnOk result (HasSpent P.listing self.old token (record { same = births.old.same.items; idle = births.old.idle.items; leave = out.old.leave.items }) (record { same = births.new.same.items; idle = births.new.idle.items; leave = out.new.leave.items }) out.old.born.items out.new.born.items) }
         ensures back { OnErr result ((births.new.same.items ≡ births.old.same.items) × AreBack births.old.idle.items births.new.idle.items) }
         ensures cancelled { out.new.cancelled ≡ out.old.cancelled }
         ensures refused { IfErr result (λ r. HasStayed self.old self.new × (r.back ≡ token) × (out.new.born.items ≡ out.old.born.items) × (out.new.leave.items ≡ out.old.leave.items)) }
         ensures why { IfErr result (λ r. IsUnopened P.listing self.old token P.table.words is_opening r.why ⊎ IsRefusedStep P.listing self.old token births.old.same.items births.old.idle.items r.why) }
     {
-        let found = match self.find(graph, &token) {
+        let found = match self.find(inputs, &token) {
             Ok(found) => found,
             Err(why) => return Err(Refused { why, back: token }),
         };
@@ -53,11 +50,11 @@ impl<P: Program + Naming> Book<P> {
             return Err(Refused { why, back: token });
         };
         match found.what {
-            Action::Halt | Action::Void => self.step_end(graph, token, found, out),
-            Action::Seq | Action::Def => self.step_on(graph, token, found, out),
-            Action::Fork => self.step_fork(graph, token, found, births, out),
-            Action::Prune => self.step_prune(groups, graph, token, found, births, out),
-            Action::Other => self.step_other(groups, graph, token, found, births, out),
+            Action::Halt | Action::Void => self.step_end(inputs, token, found, out),
+            Action::Seq | Action::Def => self.step_on(inputs, token, found, out),
+            Action::Fork => self.step_fork(inputs, token, found, births, out),
+            Action::Prune => self.step_prune(groups, inputs, token, found, births, out),
+            Action::Other => self.step_other(groups, inputs, token, found, births, out),
             Action::Send(value) => self.send(groups, token, found, value, births, out),
             _ => {
                 let why = BookFault::Wrong;
@@ -68,16 +65,15 @@ impl<P: Program + Naming> Book<P> {
 
     fn step_end(
         &mut self,
-        graph: &Graph,
+        inputs: &Inputs<'_, P>,
         token: Token<P>,
         found: Found,
         out: &mut StepOut<P>,
     ) -> Result<(), Refused<Token<P>>>
-        requires graph { graph.now ≡ P.listing }
         requires found { HasFound P.listing self.old token found }
         requires next { (found.what ≡ Action.Halt) ⊎ (found.what ≡ Action.Void) }
         requires passes { vec_len out.old.leave + 1 ≤ vec_capacity out.old.leave }
-        ensures done { OnOk result (HasStepped P.listing self.old token.slot token.serial token.pass self.new) }
+        ensures done { OnOk result (HasStepped P.listing self.old token out.old.born.items out.new.born.items self.new) }
         ensures stands { KeepsWords self.old self.new }
         ensures born { out.new.born ≡ out.old.born }
         ensures leave { OnOk result (AreLeft out.old.leave.items out.new.leave.items) }
@@ -86,7 +82,7 @@ impl<P: Program + Naming> Book<P> {
         ensures refused { IfErr result (λ r. (self.new ≡ self.old) × (r.back ≡ token) × (out.new.leave ≡ out.old.leave)) }
         ensures why { IfErr result (λ r. IsRefusedMove P.listing self.old token is_end (IsHindered P.listing self.old.ledger) r.why) }
     {
-        match self.end_found(graph, token, found) {
+        match self.end_found(inputs, token, found) {
             Ok(pass) => {
                 out.leave.push_reserved(pass);
                 Ok(())
@@ -97,24 +93,24 @@ impl<P: Program + Naming> Book<P> {
 
     fn step_on(
         &mut self,
-        graph: &Graph,
+        inputs: &Inputs<'_, P>,
         token: Token<P>,
         found: Found,
         out: &mut StepOut<P>,
     ) -> Result<(), Refused<Token<P>>>
-        requires graph { graph.now ≡ P.listing }
         requires found { HasFound P.listing self.old token found }
         requires next { (found.what ≡ Action.Seq) ⊎ (found.what ≡ Action.Def) }
         requires tokens { vec_len out.old.born + 2 ≤ vec_capacity out.old.born }
-        ensures done { OnOk result (HasStepped P.listing self.old token.slot token.serial token.pass self.new) }
+        ensures done { OnOk result (HasStepped P.listing self.old token out.old.born.items out.new.born.items self.new) }
         ensures stands { KeepsWords self.old self.new }
         ensures born { OnOk result (AreBorn out.old.born.items out.new.born.items self.new) }
+        ensures come { OnOk result (HaveCome out.old.born.items out.new.born.items (token.pass ∷ [])) }
         ensures leave { out.new.leave ≡ out.old.leave }
         ensures cancelled { out.new.cancelled ≡ out.old.cancelled }
         ensures refused { IfErr result (λ r. (self.new ≡ self.old) × (r.back ≡ token) × (out.new.born ≡ out.old.born)) }
         ensures why { (same : List View) → (idle : List View) → IfErr result (λ r. IsRefusedStep P.listing self.old token same idle r.why) }
     {
-        match self.go_on_found(graph, token, found) {
+        match self.go_on_found(inputs, token, found) {
             Ok(born) => {
                 out.born.push_reserved(born);
                 Ok(())
@@ -125,21 +121,20 @@ impl<P: Program + Naming> Book<P> {
 
     fn step_fork(
         &mut self,
-        graph: &Graph,
+        inputs: &Inputs<'_, P>,
         token: Token<P>,
         found: Found,
         births: &mut Births<P>,
         out: &mut StepOut<P>,
     ) -> Result<(), Refused<Token<P>>>
-        requires graph { graph.now ≡ P.listing }
         requires found { HasFound P.listing self.old token found }
         requires next { found.what ≡ Action.Fork }
         requires tokens { vec_len out.old.born + 2 ≤ vec_capacity out.old.born }
-        ensures done { OnOk result (HasStepped P.listing self.old token.slot token.serial token.pass self.new) }
+        ensures done { OnOk result (HasStepped P.listing self.old token out.old.born.items out.new.born.items self.new) }
         ensures stands { KeepsWords self.old self.new }
         ensures born { OnOk result (AreBorn out.old.born.items out.new.born.items self.new) }
         ensures leave { out.new.leave ≡ out.old.leave }
-        ensures same { MatchResult result (λ _. (v : View) × (births.old.same.items ≡ births.new.same.items ++ v ∷ [])) (λ _. births.new.same.items ≡ births.old.same.items) }
+        ensures same { MatchResult result (λ _. (v : View) × (births.old.same.items ≡ births.new.same.items ++ v ∷ []) × HaveCome out.old.born.items out.new.born.items (token.pass ∷ v ∷ [])) (λ _. births.new.same.items ≡ births.old.same.items) }
         ensures idle { births.new.idle ≡ births.old.idle }
         ensures cancelled { out.new.cancelled ≡ out.old.cancelled }
         ensures refused { IfErr result (λ r. (self.new ≡ self.old) × (r.back ≡ token) × (out.new.born ≡ out.old.born)) }
@@ -149,7 +144,7 @@ impl<P: Program + Naming> Book<P> {
             let why = BookFault::Short;
             return Err(Refused { why, back: token });
         };
-        match self.fork_found(graph, token, found, same) {
+        match self.fork_found(inputs, token, found, same) {
             Ok((one, two)) => {
                 out.born.push_reserved(one);
                 out.born.push_reserved(two);
@@ -169,20 +164,20 @@ impl<P: Program + Naming> Book<P> {
     fn step_prune(
         &mut self,
         groups: &Groups<P>,
-        graph: &Graph,
+        inputs: &Inputs<'_, P>,
         token: Token<P>,
         found: Found,
         births: &mut Births<P>,
         out: &mut StepOut<P>,
     ) -> Result<(), Refused<Token<P>>>
-        requires graph { graph.now ≡ P.listing }
         requires found { HasFound P.listing self.old token found }
         requires next { found.what ≡ Action.Prune }
         requires tokens { vec_len out.old.born + 2 ≤ vec_capacity out.old.born }
-        ensures done { OnOk result (HasStepped P.listing self.old token.slot token.serial token.pass self.new) }
-        ensures stands { HaveOpened self.old.stands self.new.stands }
+        ensures done { OnOk result (HasStepped P.listing self.old token out.old.born.items out.new.born.items self.new) }
+        ensures stands { HaveOpened P.listing self.old token self.new.stands }
         ensures marks { self.new.marks ≡ self.old.marks }
         ensures born { OnOk result (AreBorn out.old.born.items out.new.born.items self.new) }
+        ensures come { OnOk result ((v : View) × HaveCome out.old.born.items out.new.born.items (token.pass ∷ v ∷ [])) }
         ensures leave { out.new.leave ≡ out.old.leave }
         ensures same { MatchResult result (λ _. (v : View) × (births.old.same.items ≡ births.new.same.items ++ v ∷ [])) (λ _. births.new.same.items ≡ births.old.same.items) }
         ensures idle { MatchResult result (λ _. (v : View) × (births.old.idle.items ≡ births.new.idle.items ++ v ∷ [])) (λ _. AreBack births.old.idle.items births.new.idle.items) }
@@ -199,7 +194,7 @@ impl<P: Program + Naming> Book<P> {
             let why = BookFault::Short;
             return Err(Refused { why, back: token });
         };
-        match self.prune_found(groups, graph, token, found, same, idle) {
+        match self.prune_found(groups, inputs, token, found, same, idle) {
             Ok((one, two)) => {
                 out.born.push_reserved(one);
                 out.born.push_reserved(two);
@@ -220,20 +215,20 @@ impl<P: Program + Naming> Book<P> {
     fn step_other(
         &mut self,
         groups: &Groups<P>,
-        graph: &Graph,
+        inputs: &Inputs<'_, P>,
         token: Token<P>,
         found: Found,
         births: &mut Births<P>,
         out: &mut StepOut<P>,
     ) -> Result<(), Refused<Token<P>>>
-        requires graph { graph.now ≡ P.listing }
         requires found { HasFound P.listing self.old token found }
         requires next { found.what ≡ Action.Other }
         requires tokens { vec_len out.old.born + 2 ≤ vec_capacity out.old.born }
-        ensures done { OnOk result (HasStepped P.listing self.old token.slot token.serial token.pass self.new) }
-        ensures stands { HaveOpened self.old.stands self.new.stands }
+        ensures done { OnOk result (HasStepped P.listing self.old token out.old.born.items out.new.born.items self.new) }
+        ensures stands { HaveOpened P.listing self.old token self.new.stands }
         ensures marks { self.new.marks ≡ self.old.marks }
         ensures born { OnOk result (AreBorn out.old.born.items out.new.born.items self.new) }
+        ensures come { OnOk result ((v : View) × HaveCome out.old.born.items out.new.born.items (v ∷ [])) }
         ensures leave { out.new.leave ≡ out.old.leave }
         ensures same { births.new.same ≡ births.old.same }
         ensures idle { MatchResult result (λ _. (v : View) × (births.old.idle.items ≡ births.new.idle.items ++ v ∷ [])) (λ _. AreBack births.old.idle.items births.new.idle.items) }
@@ -245,7 +240,7 @@ impl<P: Program + Naming> Book<P> {
             let why = BookFault::Short;
             return Err(Refused { why, back: token });
         };
-        match self.other_found(groups, graph, token, found, idle) {
+        match self.other_found(groups, inputs, token, found, idle) {
             Ok(born) => {
                 out.born.push_reserved(born);
                 Ok(())

@@ -3,15 +3,14 @@ ghost use Rattle.std.specs.Prelude.{◌≡◌, IfOk, OnOk, IfErr};
 ghost use Rattle.orc_tables.specs.declared.records.Token.{Token as Its};
 ghost use Rattle.orc_ledger_spec.specs.Parts.{StandsFor, TakesIn};
 ghost use Rattle.orc_book.specs.Held.{IsUnkept, KeepsWords};
-ghost use Rattle.orc_book.specs.SubRuns.{HasComer, IsKeptOut};
+ghost use Rattle.orc_book.specs.SubRuns.{HasComer, HasKept, IsKeptOut};
 
 use crate::book::Book;
 use crate::post::set_out;
 use crate::token::{BookFault, Refused, Token};
-use orc_graph::Graph;
-use orc_ledger::SubRun;
+use orc_ledger::{Inputs, SubRun};
 use orc_ledger_spec::LedgerFault;
-use orc_log::Program;
+use orc_log::Run;
 use orc_word::{Naming, Pass};
 
 /// What a sub-run has left where its token stood.
@@ -23,7 +22,7 @@ pub enum Comer<P: Naming> {
     Nobody(Pass<P>),
 }
 
-impl<P: Program + Naming> Book<P> {
+impl<P: Run + Naming> Book<P> {
     /// A token at a call of a definition with values is replaced by what a run of that call has come to. The run was made apart; its entries stand behind the
     /// journal at once. If the call has come to a value, a token on that is out in the token's place, with its pass; else the pass is to be left.
     ///
@@ -31,22 +30,22 @@ impl<P: Program + Naming> Book<P> {
     /// the token isn't the program's outermost, as Limit where the limit has no room for all of the entries, and as Memory. Then nothing has changed.
     pub fn append_sub_run(
         &mut self,
-        graph: &Graph,
+        inputs: &Inputs<'_, P>,
         token: Token<P>,
         part: &SubRun<P>,
     ) -> Result<Comer<P>, Refused<Token<P>>>
-        requires graph { graph.now ≡ P.listing }
         ensures done { OnOk result ((t : Its) × IsUnkept self.old token.slot token.serial token.pass t × StandsFor P.listing self.old.ledger t part.now.definition part.now.args × TakesIn self.old.ledger self.new.ledger t part.now) }
         ensures stands { KeepsWords self.old self.new }
+        ensures posts { IfOk result (HasKept self.old token self.new.posts) }
         ensures born { IfOk result (HasComer self.new token.slot token.pass part.now.left) }
         ensures refused { IfErr result (λ r. (self.new ≡ self.old) × (r.back ≡ token)) }
-        ensures why { IfErr result (λ r. IsKeptOut self.old token.slot token.serial token.pass part.now r.why) }
+        ensures why { IfErr result (λ r. IsKeptOut P.listing self.old token part.now r.why) }
     {
-        let found = match self.find(graph, &token) {
+        let found = match self.find(inputs, &token) {
             Ok(found) => found,
             Err(why) => return Err(Refused { why, back: token }),
         };
-        let Some(task) = self.ledger.task(graph, &found.its) else {
+        let Some(task) = self.ledger.task(inputs, &found.its) else {
             let why = BookFault::Wrong;
             return Err(Refused { why, back: token });
         };

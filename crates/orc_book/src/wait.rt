@@ -5,6 +5,8 @@ ghost use Rattle.orc_frames.specs.Doing.{is_wait};
 ghost use Rattle.orc_ledger_spec.specs.Doing.{what_of};
 ghost use Rattle.orc_tables.specs.Steps.{group_at};
 ghost use Rattle.orc_tables.specs.declared.records.Token.{Token as Its};
+ghost use Rattle.orc_word.specs.declared.view.View.{View};
+ghost use Rattle.orc_book.specs.Passes.{in_book, in_tokens};
 ghost use Rattle.orc_book.specs.Refusals.{IsRefusedWait};
 ghost use Rattle.orc_book.specs.Held.{Changes, IsUnkept, IsOut, IsMarked, HasStayed, HaveStayed, HaveWoken, AreBorn, AreUnmarked, KeepsOne, mark_at};
 
@@ -12,17 +14,15 @@ use crate::book::Book;
 use crate::kept_tokens::Handle;
 use crate::post::{keep_at, kept_in, out_in, reserve_at, wake_at};
 use crate::token::{BookFault, Refused, Token, fault_of};
-use orc_graph::Graph;
-use orc_ledger::Action;
-use orc_log::Program;
+use orc_ledger::{Action, Inputs};
+use orc_log::Run;
 use orc_word::Naming;
 use std::alloc::AllocError;
 
-impl<P: Program + Naming> Book<P> {
+impl<P: Run + Naming> Book<P> {
     /// A token that waits comes into the book with its pass, until `wake` is told of a cell for which it waits. Refused as Gone where
     /// the token isn't out, as Wrong where it does something else next, else as Memory.
-    pub fn wait(&mut self, graph: &Graph, token: Token<P>) -> Result<(), Refused<Token<P>>>
-        requires graph { graph.now ≡ P.listing }
+    pub fn wait(&mut self, inputs: &Inputs<'_, P>, token: Token<P>) -> Result<(), Refused<Token<P>>>
         ensures done { OnOk result ((t : Its) × IsUnkept self.old token.slot token.serial token.pass t × (is_wait (what_of (code P.listing) (definitions P.listing) self.old.ledger t) ≡ true) × Changes self.old.posts (group_at self.old.ledger.steps t.step) self.new.posts KeepsOne) }
         ensures ledger { self.new.ledger ≡ self.old.ledger }
         ensures marks { OnOk result (IsMarked self.old.marks token.slot token.serial self.new.marks) }
@@ -30,7 +30,7 @@ impl<P: Program + Naming> Book<P> {
         ensures refused { IfErr result (λ r. HasStayed self.old self.new × (r.back ≡ token)) }
         ensures why { IfErr result (λ r. IsRefusedWait P.listing self.old token r.why) }
     {
-        let found = match self.find(graph, &token) {
+        let found = match self.find(inputs, &token) {
             Ok(found) => found,
             Err(why) => return Err(Refused { why, back: token }),
         };
@@ -46,7 +46,7 @@ impl<P: Program + Naming> Book<P> {
         };
         if let Err(fault) = self
             .ledger
-            .park(graph, token.slot, found.its, &mut self.cells)
+            .park(inputs, token.slot, found.its, &mut self.cells)
         {
             let why = fault_of(fault);
             return Err(Refused { why, back: token });
@@ -73,6 +73,7 @@ impl<P: Program + Naming> Book<P> {
     fn wake_one(&mut self, handle: Handle) -> Option<Token<P>>
         ensures same { HaveStayed self.old self.new }
         ensures born { IfSome result (IsOut self.new) }
+        ensures passes { (f : View → ℕ) → MatchOption result (in_book f self.new ≡ in_book f self.old) (λ k. f k.pass + in_book f self.new ≡ in_book f self.old) }
         ensures woken { MatchOption result (AreUnmarked self.old.marks self.new.marks) (λ k. (1 ≤ k.serial) × (mark_at self.old.marks k.slot ≡ k.serial) × IsMarked self.old.marks k.slot 0 self.new.marks) }
     {
         if handle.serial < 1 || !self.keeping.release(handle) {
@@ -92,6 +93,7 @@ impl<P: Program + Naming> Book<P> {
         ensures same { HaveStayed self.old self.new }
         ensures born { AreBorn born.old.items born.new.items self.new }
         ensures once { HaveWoken self.old.marks self.new.marks born.old.items born.new.items }
+        ensures passes { (f : View → ℕ) → in_tokens f born.new.items + in_book f self.new ≡ in_tokens f born.old.items + in_book f self.old }
     {
         for _link in 0..self.keeping.len() {
             born.try_reserve(1)?;

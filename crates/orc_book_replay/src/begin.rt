@@ -3,11 +3,11 @@
 ghost use Rattle.std.specs.Prelude.{◌≡◌, ◌≤◌, true};
 ghost use Rattle.orc_rules.specs.declared.limits.TheConstants.{MOST_ENTRIES};
 
-use crate::inputs::Inputs;
 use crate::passes::Passes;
 use crate::replay::Replay;
+use crate::setup::Setup;
 use orc_book::Book;
-use orc_log::Program;
+use orc_log::Run;
 use orc_rules::limits::{MOST_ENTRIES, MOST_GROUPS};
 use orc_word::{Naming, Supply};
 use std::alloc::Global;
@@ -19,9 +19,9 @@ pub(crate) const WORDS: u32 = 2 * MOST_GROUPS as u32;
 pub(crate) const PASSES: u32 = 4 * MOST_ENTRIES as u32;
 
 /// A run whose first token is out, with these words, and passes out of this supply. None where memory is refused, or the supply is empty.
-pub(crate) fn begin<P: Program + Naming>(
+pub(crate) fn begin<P: Run + Naming>(
     alloc: Global,
-    inputs: &Inputs<'_, P>,
+    setup: &Setup<'_, P>,
     mut supply: Supply<P>,
     words: u32,
     limit: usize,
@@ -31,9 +31,9 @@ pub(crate) fn begin<P: Program + Naming>(
     requires keeps { P.keeps ≡ true }
     requires words { words ≡ P.table.words }
 {
-    let idle = supply.take(inputs.groups)?;
-    let pass = inputs.groups.open(idle, 0).ok()?;
-    let (book, token) = Book::<P>::new(alloc, inputs.graph, true, limit, words, pass).ok()?;
+    let idle = supply.take(setup.groups)?;
+    let pass = setup.groups.open(idle, 0).ok()?;
+    let (book, token) = Book::<P>::new(alloc, setup.inputs, true, limit, words, pass).ok()?;
     let passes = Passes::new(alloc, supply);
     Replay::begin(alloc, book, token, passes, words).ok()
 }

@@ -4,14 +4,14 @@ ghost use Rattle.std.specs.Prelude.{◌≡◌, ◌*◌, true};
 ghost use Rattle.orc_rules.specs.declared.limits.TheConstants.{MOST_ENTRIES, MOST_GROUPS};
 
 use crate::begin::{PASSES, WORDS, begin};
-use crate::inputs::Inputs;
 use crate::replay::{Odd, Replay};
+use crate::setup::Setup;
 use orc_graph::Graph;
 use orc_journal::{Journal, Version};
 use orc_journal_text::{read_journal, write_journal};
-use orc_ledger::{Ledger, Next};
+use orc_ledger::{Inputs, Ledger, Next};
 use orc_load::load;
-use orc_log::Program;
+use orc_log::Run;
 use orc_rules::answers::Answers;
 use orc_rules::entry::{Entry, State};
 use orc_rules::limits::MOST_ENTRIES;
@@ -76,7 +76,7 @@ fn replay_graph(
     replay_named::<Brand>(alloc, words, graph, answers, journal)
 }
 
-fn replay_named<P: Program + Naming>(
+fn replay_named<P: Run + Naming>(
     alloc: Global,
     words: Unnamed,
     graph: &Graph,
@@ -91,26 +91,26 @@ fn replay_named<P: Program + Naming>(
     requires words { words.table.shared.table_id.words ≡ 2 * MOST_GROUPS }
 {
     let (groups, supply) = words.named::<P>();
-    let inputs = Inputs {
-        graph,
-        answers,
+    let inputs = Inputs::new(graph, answers);
+    let setup = Setup {
+        inputs: &inputs,
         groups: &groups,
     };
-    let Some(mut replay) = begin(alloc, &inputs, supply, WORDS, MOST_ENTRIES as usize) else {
+    let Some(mut replay) = begin(alloc, &setup, supply, WORDS, MOST_ENTRIES as usize) else {
         return Err(UNREAD);
     };
     replay.passes.keep_warm(MOST_WARM);
-    follow(&inputs, &mut replay, journal)?;
+    follow(&setup, &mut replay, journal)?;
     let entries = journal.len();
-    match state_of(alloc, &inputs, replay, journal) {
+    match state_of(alloc, &setup, replay, journal) {
         Ok(state) => Ok(Replayed { entries, state }),
         Err(why) => Err(Stop { at: entries, why }),
     }
 }
 
 // Has the book do what the entries say.
-fn follow<P: Program + Naming>(
-    inputs: &Inputs<'_, P>,
+fn follow<P: Run + Naming>(
+    setup: &Setup<'_, P>,
     replay: &mut Replay<P>,
     journal: &Journal,
 ) -> Result<(), Stop> {
@@ -119,7 +119,7 @@ fn follow<P: Program + Naming>(
         if !journal.read(at, &mut entry) {
             break;
         }
-        if let Err(why) = replay.enter(inputs, &entry) {
+        if let Err(why) = replay.enter(setup, &entry) {
             return Err(Stop {
                 at: at.saturating_add(1),
                 why,
@@ -130,25 +130,25 @@ fn follow<P: Program + Naming>(
 }
 
 // Where the entries have led, if the book has written this journal. It closes the program's own group exactly where the term has halted.
-fn state_of<P: Program + Naming>(
+fn state_of<P: Run + Naming>(
     alloc: Global,
-    inputs: &Inputs<'_, P>,
+    setup: &Setup<'_, P>,
     mut replay: Replay<P>,
     journal: &Journal,
 ) -> Result<State, Odd>
     requires keeps { P.keeps ≡ true }
 {
-    let has_ended = replay.close_run(inputs)?;
+    let has_ended = replay.close_run(setup)?;
     let mut ledger = replay.into_ledger();
-    match are_same(alloc, inputs.answers, ledger.journal(), journal) {
-        Some(true) => state_after(inputs, &mut ledger, has_ended),
+    match are_same(alloc, setup.inputs.answers, ledger.journal(), journal) {
+        Some(true) => state_after(setup, &mut ledger, has_ended),
         Some(false) => Err(Odd::Other),
         None => Err(Odd::Memory),
     }
 }
 
-fn state_after<P: Program + Naming>(
-    inputs: &Inputs<'_, P>,
+fn state_after<P: Run + Naming>(
+    setup: &Setup<'_, P>,
     ledger: &mut Ledger<P>,
     has_ended: bool,
 ) -> Result<State, Odd> {
@@ -158,7 +158,7 @@ fn state_after<P: Program + Naming>(
     if has_ended {
         return Ok(State::Halted);
     }
-    match ledger.next(inputs.graph) {
+    match ledger.next(setup.inputs) {
         Next::Quiet => Ok(State::Quiet),
         Next::Work | Next::Ticks(_) => Ok(State::Running),
     }

@@ -2,32 +2,32 @@
 
 ghost use Rattle.std.specs.Prelude.{◌≡◌, ◌≤◌, true};
 
-use crate::inputs::Inputs;
 use crate::replay::Replay;
 use crate::rows::{enter_all, has_written, so};
+use crate::setup::Setup;
 use orc_book::{BookFault, Ended, Token};
-use orc_log::Program;
+use orc_log::Run;
 use orc_rules::value::{Answer, Value};
 use orc_word::{Bit, Naming, Pass};
 use std::alloc::Global;
 
 // A pass is left that isn't the last one to its group.
-fn leave_one<P: Program + Naming>(
-    inputs: &Inputs<'_, P>,
+fn leave_one<P: Run + Naming>(
+    setup: &Setup<'_, P>,
     replay: &mut Replay<P>,
     pass: Pass<P>,
 ) -> Option<()> {
-    so(!replay.passes.leave(inputs.groups, pass).ok()?)
+    so(!replay.passes.leave(setup.groups, pass).ok()?)
 }
 
 /// A pass is left that is the last one to its group, and the book closes that. It has added no entry then. Tells what has become of the group.
-pub(crate) fn leave_last<P: Program + Naming>(
-    inputs: &Inputs<'_, P>,
+pub(crate) fn leave_last<P: Run + Naming>(
+    setup: &Setup<'_, P>,
     replay: &mut Replay<P>,
     pass: Pass<P>,
     leave: &mut Vec<Pass<P>>,
 ) -> Option<Ended<P>> {
-    so(replay.passes.leave(inputs.groups, pass).ok()?)?;
+    so(replay.passes.leave(setup.groups, pass).ok()?)?;
     let last = replay.passes.lasts.pop()?;
     let entries = replay.book.entries();
     let ended = replay.book.halt(last, leave).ok()?;
@@ -36,18 +36,18 @@ pub(crate) fn leave_last<P: Program + Naming>(
 }
 
 // The right side of cell 1 is bound by its second token while its first one's call pends: two passes are to be left, and the call is gone.
-fn kill<P: Program + Naming>(
-    inputs: &Inputs<'_, P>,
+fn kill<P: Run + Naming>(
+    setup: &Setup<'_, P>,
     replay: &mut Replay<P>,
     leave: &mut Vec<Pass<P>>,
 ) -> Option<()> {
     enter_all(
-        inputs,
+        setup,
         replay,
         "open 1 1 2 3\nfork 3 4 5\ncall 4 1 Rwait(0)\n",
     )?;
     let token = replay.take_token(5)?;
-    replay.bind_only(inputs, token, leave).ok()?;
+    replay.bind_only(setup, token, leave).ok()?;
     so(leave.len() == 2)?;
     so(replay.cancelled.as_slice() == [1].as_slice())?;
     so(replay.book.dying() == 1)?;
@@ -59,18 +59,18 @@ fn kill<P: Program + Naming>(
 
 /// The second pass that is left after a kill says that the group was left last: closing it adds no entry, and gives the pass to the group round it. When
 /// that is left, and the one of the token that publishes, the run has halted.
-pub(crate) fn ends_after_a_kill<P: Program + Naming>(
+pub(crate) fn ends_after_a_kill<P: Run + Naming>(
     alloc: Global,
-    inputs: &Inputs<'_, P>,
+    setup: &Setup<'_, P>,
     mut replay: Replay<P>,
 ) -> Option<()>
     requires { P.keeps ≡ true }
 {
     let mut leave = Vec::new(alloc);
-    kill(inputs, &mut replay, &mut leave)?;
-    leave_one(inputs, &mut replay, leave.pop()?)?;
+    kill(setup, &mut replay, &mut leave)?;
+    leave_one(setup, &mut replay, leave.pop()?)?;
     let pass = leave.pop()?;
-    match leave_last(inputs, &mut replay, pass, &mut leave)? {
+    match leave_last(setup, &mut replay, pass, &mut leave)? {
         Ended::Group => {}
         _ => return None,
     }
@@ -79,138 +79,138 @@ pub(crate) fn ends_after_a_kill<P: Program + Naming>(
     so(owed.group() == Some(0))?;
     replay.wake(1).ok()?;
     let token = replay.take_token(2)?;
-    let own = replay.book.publish(inputs.graph, token).ok()?;
-    leave_one(inputs, &mut replay, owed)?;
-    match leave_last(inputs, &mut replay, own, &mut leave)? {
+    let own = replay.book.publish(setup.inputs, token).ok()?;
+    leave_one(setup, &mut replay, owed)?;
+    match leave_last(setup, &mut replay, own, &mut leave)? {
         Ended::Run => {}
         _ => return None,
     }
     so(leave.is_empty())?;
     has_written(
         alloc,
-        inputs,
+        setup,
         replay,
         "open 1 1 2 3\nfork 3 4 5\ncall 4 1 Rwait(0)\nbind 5 1 1\ncancel 1\npublish 2 1\n",
     )
 }
 
 // A token whose pass wins the mark that its group is killed, outside the book.
-fn won<P: Program + Naming>(inputs: &Inputs<'_, P>, token: Token<P>) -> Option<Token<P>> {
+fn won<P: Run + Naming>(setup: &Setup<'_, P>, token: Token<P>) -> Option<Token<P>> {
     let Token {
         serial,
         slot,
         mut pass,
     } = token;
     pass.group()?;
-    so(inputs.groups.mark(&mut pass, Bit::Killed))?;
+    so(setup.groups.mark(&mut pass, Bit::Killed))?;
     Some(Token { serial, slot, pass })
 }
 
 /// A bind whose mark was won before is Gone: nothing is added, and the token comes back.
-pub(crate) fn gives_a_lost_mark_back<P: Program + Naming>(
+pub(crate) fn gives_a_lost_mark_back<P: Run + Naming>(
     alloc: Global,
-    inputs: &Inputs<'_, P>,
+    setup: &Setup<'_, P>,
     mut replay: Replay<P>,
 ) -> Option<()>
     requires { P.keeps ≡ true }
 {
-    enter_all(inputs, &mut replay, "open 1 1 2 3\n")?;
+    enter_all(setup, &mut replay, "open 1 1 2 3\n")?;
     let token = replay.take_token(3)?;
     let word = token.pass.group();
-    let token = won(inputs, token)?;
+    let token = won(setup, token)?;
     let mut leave = Vec::new(alloc);
-    let refused = match replay.bind_only(inputs, token, &mut leave) {
+    let refused = match replay.bind_only(setup, token, &mut leave) {
         Ok(()) => return None,
         Err(refused) => refused,
     };
     so(refused.why == BookFault::Gone && leave.is_empty())?;
     so(refused.back.serial == 3 && refused.back.pass.group() == word)?;
-    has_written(alloc, inputs, replay, "open 1 1 2 3\n")
+    has_written(alloc, setup, replay, "open 1 1 2 3\n")
 }
 
 /// With two words, one of which a killed group has: a pruning is Full until that group's last pass was left and the book has closed it.
-pub(crate) fn keeps_words_of_the_killed<P: Program + Naming>(
+pub(crate) fn keeps_words_of_the_killed<P: Run + Naming>(
     alloc: Global,
-    inputs: &Inputs<'_, P>,
+    setup: &Setup<'_, P>,
     mut replay: Replay<P>,
 ) -> Option<()>
     requires { P.keeps ≡ true }
 {
     let mut leave = Vec::new(alloc);
-    enter_all(inputs, &mut replay, "seq 1 2\nopen 2 1 3 4\n")?;
+    enter_all(setup, &mut replay, "seq 1 2\nopen 2 1 3 4\n")?;
     let token = replay.take_token(4)?;
-    replay.bind_only(inputs, token, &mut leave).ok()?;
+    replay.bind_only(setup, token, &mut leave).ok()?;
     replay.wake(1).ok()?;
-    enter_all(inputs, &mut replay, "send 3 5 1\n")?;
+    enter_all(setup, &mut replay, "send 3 5 1\n")?;
     let token = replay.take_token(5)?;
-    let token = is_full(inputs, &mut replay, token)?;
+    let token = is_full(setup, &mut replay, token)?;
     so(replay.book.dying() == 1 && leave.len() == 1)?;
     let pass = leave.pop()?;
-    match leave_last(inputs, &mut replay, pass, &mut leave)? {
+    match leave_last(setup, &mut replay, pass, &mut leave)? {
         Ended::Group => {}
         _ => return None,
     }
     so(replay.book.dying() == 0)?;
     replay.hold(token).ok()?;
-    enter_all(inputs, &mut replay, "open 5 2 6 7\n")?;
+    enter_all(setup, &mut replay, "open 5 2 6 7\n")?;
     let lines = "seq 1 2\nopen 2 1 3 4\nbind 4 1 1\nsend 3 5 1\nopen 5 2 6 7\n";
-    has_written(alloc, inputs, replay, lines)
+    has_written(alloc, setup, replay, lines)
 }
 
 // A token's pruning is refused as Full. Gives the token.
-fn is_full<P: Program + Naming>(
-    inputs: &Inputs<'_, P>,
+fn is_full<P: Run + Naming>(
+    setup: &Setup<'_, P>,
     replay: &mut Replay<P>,
     token: Token<P>,
 ) -> Option<Token<P>> {
-    let same = replay.passes.same(inputs.groups, &token.pass)?;
-    let idle = replay.passes.idle(inputs.groups)?;
+    let same = replay.passes.same(setup.groups, &token.pass)?;
+    let idle = replay.passes.idle(setup.groups)?;
     match replay
         .book
-        .prune(inputs.groups, inputs.graph, token, same, idle)
+        .prune(setup.groups, setup.inputs, token, same, idle)
     {
         Ok(_) => None,
         Err(refused) => {
             let (token, same, idle) = refused.back;
             so(refused.why == BookFault::Full)?;
-            leave_one(inputs, replay, same)?;
-            leave_one(inputs, replay, idle)?;
+            leave_one(setup, replay, same)?;
+            leave_one(setup, replay, idle)?;
             Some(token)
         }
     }
 }
 
 /// A token that was out in a killed group is answered Gone, and comes back with its pass, whose group's word is taken until that is left.
-pub(crate) fn tells_killed_tokens<P: Program + Naming>(
+pub(crate) fn tells_killed_tokens<P: Run + Naming>(
     alloc: Global,
-    inputs: &Inputs<'_, P>,
+    setup: &Setup<'_, P>,
     mut replay: Replay<P>,
 ) -> Option<()>
     requires { P.keeps ≡ true }
 {
     let mut leave = Vec::new(alloc);
-    enter_all(inputs, &mut replay, "open 1 1 2 3\nfork 3 4 5\n")?;
+    enter_all(setup, &mut replay, "open 1 1 2 3\nfork 3 4 5\n")?;
     let token = replay.take_token(5)?;
-    enter_all(inputs, &mut replay, "bind 4 1 1\n")?;
+    enter_all(setup, &mut replay, "bind 4 1 1\n")?;
     so(
         replay
             .book
-            .view(inputs.graph, token.slot, token.serial)
+            .view(setup.inputs, token.slot, token.serial)
             .is_none(),
     )?;
-    let refused = match replay.bind_only(inputs, token, &mut leave) {
+    let refused = match replay.bind_only(setup, token, &mut leave) {
         Ok(()) => return None,
         Err(refused) => refused,
     };
     so(refused.why == BookFault::Gone && replay.book.dying() == 1)?;
-    match leave_last(inputs, &mut replay, refused.back.pass, &mut leave)? {
+    match leave_last(setup, &mut replay, refused.back.pass, &mut leave)? {
         Ended::Group => {}
         _ => return None,
     }
     so(replay.book.dying() == 0)?;
     has_written(
         alloc,
-        inputs,
+        setup,
         replay,
         "open 1 1 2 3\nfork 3 4 5\nbind 4 1 1\n",
     )

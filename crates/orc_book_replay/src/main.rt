@@ -6,7 +6,6 @@
 #![tactic(auto)]
 
 mod begin;
-mod inputs;
 mod journals;
 mod kills;
 mod passes;
@@ -14,6 +13,7 @@ mod passes_alone;
 mod refusals;
 mod replay;
 mod rows;
+mod setup;
 mod sides;
 mod steps;
 mod table;

@@ -3,40 +3,40 @@
 ghost use Rattle.std.specs.Prelude.{◌≤◌, IsSome};
 ghost use Rattle.orc_word.specs.Views.{group_of};
 
-use crate::inputs::Inputs;
 use crate::replay::Replay;
 use crate::rows::so;
-use orc_log::Program;
+use crate::setup::Setup;
+use orc_log::Run;
 use orc_word::{Bit, Groups, Naming, Pass};
 
 /// With a supply that had three passes, one of which is the first token's: two are there, and one that came back.
-pub(crate) fn gives_passes_again<P: Program + Naming>(
-    inputs: &Inputs<'_, P>,
+pub(crate) fn gives_passes_again<P: Run + Naming>(
+    setup: &Setup<'_, P>,
     mut replay: Replay<P>,
 ) -> Option<()> {
     let passes = &mut replay.passes;
-    let one = passes.idle(inputs.groups)?;
-    let _two = passes.idle(inputs.groups)?;
-    so(passes.idle(inputs.groups).is_none())?;
-    passes.leave(inputs.groups, one).ok()?;
-    let _again = passes.idle(inputs.groups)?;
-    so(passes.idle(inputs.groups).is_none())
+    let one = passes.idle(setup.groups)?;
+    let _two = passes.idle(setup.groups)?;
+    so(passes.idle(setup.groups).is_none())?;
+    passes.leave(setup.groups, one).ok()?;
+    let _again = passes.idle(setup.groups)?;
+    so(passes.idle(setup.groups).is_none())
 }
 
 // Of two passes to a group, one wins the mark that it is killed, and only once. The second one that is left is the last.
-fn one_wins<P: Program + Naming>(
-    inputs: &Inputs<'_, P>,
+fn one_wins<P: Run + Naming>(
+    setup: &Setup<'_, P>,
     replay: &mut Replay<P>,
     mut one: Pass<P>,
 ) -> Option<()> {
-    let mut two = replay.passes.same(inputs.groups, &one)?;
-    so(!is_killed(inputs.groups, &mut two)?)?;
-    so(wins(inputs.groups, &mut one)?)?;
-    so(!wins(inputs.groups, &mut two)?)?;
-    so(!wins(inputs.groups, &mut one)?)?;
-    so(is_killed(inputs.groups, &mut two)?)?;
-    so(!replay.passes.leave(inputs.groups, one).ok()?)?;
-    so(replay.passes.leave(inputs.groups, two).ok()?)
+    let mut two = replay.passes.same(setup.groups, &one)?;
+    so(!is_killed(setup.groups, &mut two)?)?;
+    so(wins(setup.groups, &mut one)?)?;
+    so(!wins(setup.groups, &mut two)?)?;
+    so(!wins(setup.groups, &mut one)?)?;
+    so(is_killed(setup.groups, &mut two)?)?;
+    so(!replay.passes.leave(setup.groups, one).ok()?)?;
+    so(replay.passes.leave(setup.groups, two).ok()?)
 }
 
 // Whether a pass wins the mark that its group is killed.
@@ -51,16 +51,16 @@ fn is_killed<P: Naming>(groups: &Groups<P>, pass: &mut Pass<P>) -> Option<bool> 
 }
 
 /// A group is marked as killed once, and once again when its word was opened anew.
-pub(crate) fn is_killed_once<P: Program + Naming>(
-    inputs: &Inputs<'_, P>,
+pub(crate) fn is_killed_once<P: Run + Naming>(
+    setup: &Setup<'_, P>,
     mut replay: Replay<P>,
 ) -> Option<()>
     requires { 2 ≤ P.table.words }
 {
     for _opening in 0..2 {
-        let idle = replay.passes.idle(inputs.groups)?;
-        let one = inputs.groups.open(idle, 1).ok()?;
-        one_wins(inputs, &mut replay, one)?;
+        let idle = replay.passes.idle(setup.groups)?;
+        let one = setup.groups.open(idle, 1).ok()?;
+        one_wins(setup, &mut replay, one)?;
         so(replay.passes.lasts.pop()?.group() == 1)?;
     }
     Some(())

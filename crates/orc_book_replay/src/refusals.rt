@@ -2,20 +2,20 @@
 
 ghost use Rattle.std.specs.Prelude.{◌≡◌, ◌≤◌, true};
 
-use crate::inputs::Inputs;
 use crate::kills::leave_last;
 use crate::replay::Replay;
 use crate::rows::{enter_all, has_written, so};
+use crate::setup::Setup;
 use orc_book::{BookFault, Ended, Token};
-use orc_log::Program;
+use orc_log::Run;
 use orc_rules::value::Args;
 use orc_word::{Naming, Pass};
 use std::alloc::Global;
 
 // A token that is out leaves its group without a move, which is the program's own and has no other pass: the book doesn't close that. Gives the token,
 // with a pass that opens the group's word anew.
-fn leaves_early<P: Program + Naming>(
-    inputs: &Inputs<'_, P>,
+fn leaves_early<P: Run + Naming>(
+    setup: &Setup<'_, P>,
     replay: &mut Replay<P>,
     token: Token<P>,
     leave: &mut Vec<Pass<P>>,
@@ -23,7 +23,7 @@ fn leaves_early<P: Program + Naming>(
     requires { 2 ≤ P.table.words }
 {
     let Token { serial, slot, pass } = token;
-    so(replay.passes.leave(inputs.groups, pass).ok()?)?;
+    so(replay.passes.leave(setup.groups, pass).ok()?)?;
     let last = replay.passes.lasts.pop()?;
     let entries = replay.book.entries();
     match replay.book.halt(last, leave) {
@@ -33,162 +33,159 @@ fn leaves_early<P: Program + Naming>(
         }
     }
     so(replay.book.entries() == entries && leave.is_empty())?;
-    let idle = replay.passes.idle(inputs.groups)?;
-    let pass = inputs.groups.open(idle, 0).ok()?;
+    let idle = replay.passes.idle(setup.groups)?;
+    let pass = setup.groups.open(idle, 0).ok()?;
     Some(Token { serial, slot, pass })
 }
 
 /// The left side of an otherwise comes to nothing, since its cell is lost. The program's own group isn't closed while a token is in it, and is once the
 /// token has published.
-pub(crate) fn is_live<P: Program + Naming>(
+pub(crate) fn is_live<P: Run + Naming>(
     alloc: Global,
-    inputs: &Inputs<'_, P>,
+    setup: &Setup<'_, P>,
     mut replay: Replay<P>,
 ) -> Option<()>
     requires keeps { P.keeps ≡ true }
     requires words { 2 ≤ P.table.words }
 {
-    enter_all(inputs, &mut replay, "other 1 2\nopen 2 1 3 4\n")?;
-    so(replay.keeps(inputs, 3))?;
-    enter_all(inputs, &mut replay, "end 4\n")?;
-    so(replay.keeps(inputs, 3))?;
-    enter_all(inputs, &mut replay, "lost 1\n")?;
+    enter_all(setup, &mut replay, "other 1 2\nopen 2 1 3 4\n")?;
+    so(replay.keeps(setup, 3))?;
+    enter_all(setup, &mut replay, "end 4\n")?;
+    so(replay.keeps(setup, 3))?;
+    enter_all(setup, &mut replay, "lost 1\n")?;
     so(replay.is_out(3))?;
-    enter_all(inputs, &mut replay, "void 3\nright 1 5\n")?;
+    enter_all(setup, &mut replay, "void 3\nright 1 5\n")?;
     let token = replay.take_token(5)?;
     let mut leave = Vec::new(alloc);
-    let token = leaves_early(inputs, &mut replay, token, &mut leave)?;
-    let pass = replay.book.publish(inputs.graph, token).ok()?;
-    match leave_last(inputs, &mut replay, pass, &mut leave)? {
+    let token = leaves_early(setup, &mut replay, token, &mut leave)?;
+    let pass = replay.book.publish(setup.inputs, token).ok()?;
+    match leave_last(setup, &mut replay, pass, &mut leave)? {
         Ended::Run => {}
         _ => return None,
     }
     let lines = "other 1 2\nopen 2 1 3 4\nend 4\nlost 1\nvoid 3\nright 1 5\npublish 5 7\n";
-    has_written(alloc, inputs, replay, lines)
+    has_written(alloc, setup, replay, lines)
 }
 
 // The token of a refused call, if it was refused as Wrong.
-fn wrong<P: Program + Naming>(why: BookFault, token: Token<P>) -> Option<Token<P>> {
+fn wrong<P: Run + Naming>(why: BookFault, token: Token<P>) -> Option<Token<P>> {
     so(why == BookFault::Wrong && token.serial == 1)?;
     Some(token)
 }
 
-fn ends_not<P: Program + Naming>(
-    inputs: &Inputs<'_, P>,
+fn ends_not<P: Run + Naming>(
+    setup: &Setup<'_, P>,
     replay: &mut Replay<P>,
     token: Token<P>,
 ) -> Option<Token<P>> {
-    match replay.book.end(inputs.graph, token) {
+    match replay.book.end(setup.inputs, token) {
         Ok(_) => None,
         Err(refused) => wrong(refused.why, refused.back),
     }
 }
 
-fn publishes_not<P: Program + Naming>(
-    inputs: &Inputs<'_, P>,
+fn publishes_not<P: Run + Naming>(
+    setup: &Setup<'_, P>,
     replay: &mut Replay<P>,
     token: Token<P>,
 ) -> Option<Token<P>> {
-    match replay.book.publish(inputs.graph, token) {
+    match replay.book.publish(setup.inputs, token) {
         Ok(_) => None,
         Err(refused) => wrong(refused.why, refused.back),
     }
 }
 
-fn calls_not<P: Program + Naming>(
-    inputs: &Inputs<'_, P>,
+fn calls_not<P: Run + Naming>(
+    setup: &Setup<'_, P>,
     replay: &mut Replay<P>,
     token: Token<P>,
 ) -> Option<Token<P>> {
     let mut args = Args::new();
-    match replay
-        .book
-        .call(inputs.graph, inputs.answers, token, &mut args)
-    {
+    match replay.book.call(setup.inputs, token, &mut args) {
         Ok(_) => None,
         Err(refused) => wrong(refused.why, refused.back),
     }
 }
 
-fn waits_not<P: Program + Naming>(
-    inputs: &Inputs<'_, P>,
+fn waits_not<P: Run + Naming>(
+    setup: &Setup<'_, P>,
     replay: &mut Replay<P>,
     token: Token<P>,
 ) -> Option<Token<P>> {
-    match replay.book.wait(inputs.graph, token) {
+    match replay.book.wait(setup.inputs, token) {
         Ok(()) => None,
         Err(refused) => wrong(refused.why, refused.back),
     }
 }
 
-fn binds_not<P: Program + Naming>(
-    inputs: &Inputs<'_, P>,
+fn binds_not<P: Run + Naming>(
+    setup: &Setup<'_, P>,
     replay: &mut Replay<P>,
     token: Token<P>,
     leave: &mut Vec<Pass<P>>,
 ) -> Option<Token<P>> {
-    match replay.bind_only(inputs, token, leave) {
+    match replay.bind_only(setup, token, leave) {
         Ok(()) => None,
         Err(refused) => wrong(refused.why, refused.back),
     }
 }
 
-fn forks_not<P: Program + Naming>(
-    inputs: &Inputs<'_, P>,
+fn forks_not<P: Run + Naming>(
+    setup: &Setup<'_, P>,
     replay: &mut Replay<P>,
     token: Token<P>,
 ) -> Option<Token<P>> {
-    let same = replay.passes.same(inputs.groups, &token.pass)?;
-    match replay.book.fork(inputs.graph, token, same) {
+    let same = replay.passes.same(setup.groups, &token.pass)?;
+    match replay.book.fork(setup.inputs, token, same) {
         Ok(_) => None,
         Err(refused) => {
             let (token, same) = refused.back;
-            so(!replay.passes.leave(inputs.groups, same).ok()?)?;
+            so(!replay.passes.leave(setup.groups, same).ok()?)?;
             wrong(refused.why, token)
         }
     }
 }
 
 /// A token at a `>x>` does nothing else: each other call is Wrong, adds nothing, and gives it back. It goes on then.
-pub(crate) fn refuses_other_moves<P: Program + Naming>(
+pub(crate) fn refuses_other_moves<P: Run + Naming>(
     alloc: Global,
-    inputs: &Inputs<'_, P>,
+    setup: &Setup<'_, P>,
     mut replay: Replay<P>,
 ) -> Option<()>
     requires { P.keeps ≡ true }
 {
     let mut leave = Vec::new(alloc);
     let token = replay.take_token(1)?;
-    let token = ends_not(inputs, &mut replay, token)?;
-    let token = publishes_not(inputs, &mut replay, token)?;
-    let token = calls_not(inputs, &mut replay, token)?;
-    let token = waits_not(inputs, &mut replay, token)?;
-    let token = binds_not(inputs, &mut replay, token, &mut leave)?;
-    let token = forks_not(inputs, &mut replay, token)?;
+    let token = ends_not(setup, &mut replay, token)?;
+    let token = publishes_not(setup, &mut replay, token)?;
+    let token = calls_not(setup, &mut replay, token)?;
+    let token = waits_not(setup, &mut replay, token)?;
+    let token = binds_not(setup, &mut replay, token, &mut leave)?;
+    let token = forks_not(setup, &mut replay, token)?;
     so(replay.book.entries() == 0 && leave.is_empty())?;
     replay.hold(token).ok()?;
-    enter_all(inputs, &mut replay, "seq 1 2\n")?;
-    has_written(alloc, inputs, replay, "seq 1 2\n")
+    enter_all(setup, &mut replay, "seq 1 2\n")?;
+    has_written(alloc, setup, replay, "seq 1 2\n")
 }
 
 // A pruning whose word a stranger names is refused as Live. Gives the token.
-fn is_named<P: Program + Naming>(
-    inputs: &Inputs<'_, P>,
+fn is_named<P: Run + Naming>(
+    setup: &Setup<'_, P>,
     replay: &mut Replay<P>,
     token: Token<P>,
 ) -> Option<Token<P>> {
-    let same = replay.passes.same(inputs.groups, &token.pass)?;
-    let idle = replay.passes.idle(inputs.groups)?;
+    let same = replay.passes.same(setup.groups, &token.pass)?;
+    let idle = replay.passes.idle(setup.groups)?;
     match replay
         .book
-        .prune(inputs.groups, inputs.graph, token, same, idle)
+        .prune(setup.groups, setup.inputs, token, same, idle)
     {
         Ok(_) => None,
         Err(refused) => {
             let (token, same, idle) = refused.back;
             so(refused.why == BookFault::Live && idle.group().is_none())?;
-            so(!replay.passes.leave(inputs.groups, same).ok()?)?;
-            so(!replay.passes.leave(inputs.groups, idle).ok()?)?;
+            so(!replay.passes.leave(setup.groups, same).ok()?)?;
+            so(!replay.passes.leave(setup.groups, idle).ok()?)?;
             Some(token)
         }
     }
@@ -196,26 +193,26 @@ fn is_named<P: Program + Naming>(
 
 /// A pass that no record has names the next free word: a pruning is Live then, and done once that pass was left. That the word was left last is Gone,
 /// since it stands for no group.
-pub(crate) fn refuses_words_that_are_named<P: Program + Naming>(
+pub(crate) fn refuses_words_that_are_named<P: Run + Naming>(
     alloc: Global,
-    inputs: &Inputs<'_, P>,
+    setup: &Setup<'_, P>,
     mut replay: Replay<P>,
 ) -> Option<()>
     requires keeps { P.keeps ≡ true }
     requires words { 2 ≤ P.table.words }
 {
-    let idle = replay.passes.idle(inputs.groups)?;
-    let stranger = inputs.groups.open(idle, 1).ok()?;
+    let idle = replay.passes.idle(setup.groups)?;
+    let stranger = setup.groups.open(idle, 1).ok()?;
     let token = replay.take_token(1)?;
-    let token = is_named(inputs, &mut replay, token)?;
+    let token = is_named(setup, &mut replay, token)?;
     so(replay.book.entries() == 0)?;
-    so(replay.passes.leave(inputs.groups, stranger).ok()?)?;
+    so(replay.passes.leave(setup.groups, stranger).ok()?)?;
     let mut leave = Vec::new(alloc);
     match replay.book.halt(replay.passes.lasts.pop()?, &mut leave) {
         Ok(_) => return None,
         Err(refused) => so(refused.why == BookFault::Gone)?,
     }
     replay.hold(token).ok()?;
-    enter_all(inputs, &mut replay, "open 1 1 2 3\n")?;
-    has_written(alloc, inputs, replay, "open 1 1 2 3\n")
+    enter_all(setup, &mut replay, "open 1 1 2 3\n")?;
+    has_written(alloc, setup, replay, "open 1 1 2 3\n")
 }

@@ -2,12 +2,12 @@
 
 ghost use Rattle.std.specs.Prelude.{◌≡◌, ◌<◌, IfSome, vec_len};
 
-use crate::inputs::Inputs;
 use crate::passes::Passes;
+use crate::setup::Setup;
 use crate::sides::{Side, Sides};
 use orc_book::{Answered, Births, Book, BookFault, Ended, Next, Refused, StepOut, Token};
 use orc_ledger::{Action, Ledger};
-use orc_log::Program;
+use orc_log::Run;
 use orc_rules::entry::Entry;
 use orc_rules::value::{Answer, Args};
 use orc_word::{Last, Naming, Pass};
@@ -58,7 +58,7 @@ struct Place<P: Naming> {
 }
 
 /// A run whose entries are told one after another.
-pub(crate) struct Replay<P: Program + Naming> {
+pub(crate) struct Replay<P: Run + Naming> {
     pub book: Book<P>,
     pub passes: Passes<P>,
     sides: Sides,
@@ -78,7 +78,7 @@ pub(crate) struct Replay<P: Program + Naming> {
 }
 
 // Written out, so that each exit of a function that has a run drops it by one call.
-impl<P: Program + Naming> Drop for Replay<P> {
+impl<P: Run + Naming> Drop for Replay<P> {
     fn drop(self) {
         let Replay {
             book,
@@ -108,7 +108,7 @@ impl<P: Program + Naming> Drop for Replay<P> {
     }
 }
 
-impl<P: Program + Naming> Replay<P> {
+impl<P: Run + Naming> Replay<P> {
     /// A run that has begun, whose first token is out. Its words are as many as are said.
     pub(crate) fn begin(
         alloc: Global,
@@ -143,7 +143,7 @@ impl<P: Program + Naming> Replay<P> {
     }
 
     /// Has the book do what an entry says, by the call for its kind. A `cancel` has come with its bind, and is compared.
-    pub(crate) fn enter(&mut self, inputs: &Inputs<'_, P>, entry: &Entry) -> Result<(), Odd> {
+    pub(crate) fn enter(&mut self, setup: &Setup<'_, P>, entry: &Entry) -> Result<(), Odd> {
         if let Entry::Cancel(number) = entry {
             return self.cancel(*number);
         }
@@ -153,52 +153,52 @@ impl<P: Program + Naming> Replay<P> {
         match entry {
             Entry::Return(number, _, value) => self.answer(*number, Answer::Value(*value))?,
             Entry::ReturnHalt(number) => self.answer(*number, Answer::Halt)?,
-            Entry::Lost(cell) => self.halt(inputs, Side::Right(*cell))?,
-            Entry::Right(mark, _) => self.halt(inputs, Side::Left(*mark))?,
-            Entry::Tick(time) => self.tick(inputs, *time)?,
-            _ => self.advance(inputs, entry)?,
+            Entry::Lost(cell) => self.halt(setup, Side::Right(*cell))?,
+            Entry::Right(mark, _) => self.halt(setup, Side::Left(*mark))?,
+            Entry::Tick(time) => self.tick(setup, *time)?,
+            _ => self.advance(setup, entry)?,
         }
-        self.settle(inputs)
+        self.settle(setup)
     }
 
     // A token does what the entry says.
-    fn advance(&mut self, inputs: &Inputs<'_, P>, entry: &Entry) -> Result<(), Odd> {
+    fn advance(&mut self, setup: &Setup<'_, P>, entry: &Entry) -> Result<(), Odd> {
         match entry {
             Entry::End(mark) | Entry::Void(mark) => {
                 let token = self.take(*mark)?;
-                self.end(inputs, token)
+                self.end(setup, token)
             }
             Entry::Fork(mark, _, _) => {
                 let token = self.take(*mark)?;
-                self.fork(inputs, token)
+                self.fork(setup, token)
             }
             Entry::Seq(mark, _) | Entry::Def(mark, _) => {
                 let token = self.take(*mark)?;
-                self.go_on(inputs, token)
+                self.go_on(setup, token)
             }
             Entry::Open(mark, cell, _, _) => {
                 let token = self.take(*mark)?;
-                self.prune(inputs, token, *cell)
+                self.prune(setup, token, *cell)
             }
             Entry::Other(mark, _) => {
                 let token = self.take(*mark)?;
-                self.other(inputs, token, *mark)
+                self.other(setup, token, *mark)
             }
             Entry::Send(mark, _, _) => {
                 let token = self.take(*mark)?;
-                self.send(inputs, token)
+                self.send(setup, token)
             }
             Entry::Call(mark, number, _, _) => {
                 let token = self.take(*mark)?;
-                self.call(inputs, token, *number)
+                self.call(setup, token, *number)
             }
             Entry::Bind(mark, cell, _) => {
                 let token = self.take(*mark)?;
-                self.bind(inputs, token, *cell)
+                self.bind(setup, token, *cell)
             }
             Entry::Publish(mark, _) => {
                 let token = self.take(*mark)?;
-                self.publish(inputs, token)
+                self.publish(setup, token)
             }
             _ => Err(Odd::Other),
         }
@@ -271,33 +271,33 @@ impl<P: Program + Naming> Replay<P> {
     }
 
     /// The book keeps the tokens that are out and wait, as it has to before time goes on.
-    pub(crate) fn keep_waiting(&mut self, inputs: &Inputs<'_, P>) -> Result<(), Odd> {
+    pub(crate) fn keep_waiting(&mut self, setup: &Setup<'_, P>) -> Result<(), Odd> {
         for _ in 0..u64::MAX {
             let Some(slot) = self.listed.pop() else { break };
             if let Some(place) = self.out.get_mut(slot) {
                 place.is_listed = false;
             }
-            self.look_at(inputs, slot)?;
+            self.look_at(setup, slot)?;
         }
         Ok(())
     }
 
     // Looks at the token that is out in a slot. Where that is gone its pass is to be left, and the book keeps it where it waits.
-    fn look_at(&mut self, inputs: &Inputs<'_, P>, slot: usize) -> Result<(), Odd> {
+    fn look_at(&mut self, setup: &Setup<'_, P>, slot: usize) -> Result<(), Odd> {
         let Some(place) = self.out.get_mut(slot) else {
             return Ok(());
         };
         let Some(token) = place.token.take() else {
             return Ok(());
         };
-        let Some(view) = self.book.view(inputs.graph, token.slot, token.serial) else {
+        let Some(view) = self.book.view(setup.inputs, token.slot, token.serial) else {
             return self.drop_pass(token.pass);
         };
         if !matches!(view.what, Action::Wait(_)) {
             place.token = Some(token);
             return Ok(());
         }
-        match self.book.wait(inputs.graph, token) {
+        match self.book.wait(setup.inputs, token) {
             Ok(()) => Ok(()),
             Err(refused) => Err(Odd::from(refused.why)),
         }
@@ -311,25 +311,25 @@ impl<P: Program + Naming> Replay<P> {
         }
     }
 
-    fn end(&mut self, inputs: &Inputs<'_, P>, token: Token<P>) -> Result<(), Odd> {
-        match self.book.end(inputs.graph, token) {
+    fn end(&mut self, setup: &Setup<'_, P>, token: Token<P>) -> Result<(), Odd> {
+        match self.book.end(setup.inputs, token) {
             Ok(pass) => self.drop_pass(pass),
             Err(refused) => Err(Odd::from(refused.why)),
         }
     }
 
-    fn go_on(&mut self, inputs: &Inputs<'_, P>, token: Token<P>) -> Result<(), Odd> {
-        match self.book.go_on(inputs.graph, token) {
+    fn go_on(&mut self, setup: &Setup<'_, P>, token: Token<P>) -> Result<(), Odd> {
+        match self.book.go_on(setup.inputs, token) {
             Ok(token) => self.stand(token),
             Err(refused) => Err(Odd::from(refused.why)),
         }
     }
 
-    fn fork(&mut self, inputs: &Inputs<'_, P>, token: Token<P>) -> Result<(), Odd> {
-        let Some(same) = self.passes.same(inputs.groups, &token.pass) else {
+    fn fork(&mut self, setup: &Setup<'_, P>, token: Token<P>) -> Result<(), Odd> {
+        let Some(same) = self.passes.same(setup.groups, &token.pass) else {
             return Err(Odd::Memory);
         };
-        match self.book.fork(inputs.graph, token, same) {
+        match self.book.fork(setup.inputs, token, same) {
             Ok((left, right)) => {
                 self.stand(left)?;
                 self.stand(right)
@@ -338,17 +338,17 @@ impl<P: Program + Naming> Replay<P> {
         }
     }
 
-    fn prune(&mut self, inputs: &Inputs<'_, P>, token: Token<P>, cell: u64) -> Result<(), Odd> {
+    fn prune(&mut self, setup: &Setup<'_, P>, token: Token<P>, cell: u64) -> Result<(), Odd> {
         let around = token.pass.group();
-        let Some(same) = self.passes.same(inputs.groups, &token.pass) else {
+        let Some(same) = self.passes.same(setup.groups, &token.pass) else {
             return Err(Odd::Memory);
         };
-        let Some(idle) = self.passes.idle(inputs.groups) else {
+        let Some(idle) = self.passes.idle(setup.groups) else {
             return Err(Odd::Memory);
         };
         match self
             .book
-            .prune(inputs.groups, inputs.graph, token, same, idle)
+            .prune(setup.groups, setup.inputs, token, same, idle)
         {
             Ok((left, right)) => {
                 self.enter_side(right.pass.group(), Side::Right(cell), around)?;
@@ -359,12 +359,12 @@ impl<P: Program + Naming> Replay<P> {
         }
     }
 
-    fn other(&mut self, inputs: &Inputs<'_, P>, token: Token<P>, mark: u64) -> Result<(), Odd> {
+    fn other(&mut self, setup: &Setup<'_, P>, token: Token<P>, mark: u64) -> Result<(), Odd> {
         let around = token.pass.group();
-        let Some(idle) = self.passes.idle(inputs.groups) else {
+        let Some(idle) = self.passes.idle(setup.groups) else {
             return Err(Odd::Memory);
         };
-        match self.book.other(inputs.groups, inputs.graph, token, idle) {
+        match self.book.other(setup.groups, setup.inputs, token, idle) {
             Ok(token) => {
                 self.enter_side(token.pass.group(), Side::Left(mark), around)?;
                 self.stand(token)
@@ -396,17 +396,17 @@ impl<P: Program + Naming> Replay<P> {
         }
     }
 
-    fn send(&mut self, inputs: &Inputs<'_, P>, token: Token<P>) -> Result<(), Odd> {
+    fn send(&mut self, setup: &Setup<'_, P>, token: Token<P>) -> Result<(), Odd> {
         let inside = token.pass.group();
         if self.births.idle.is_empty()
-            && let Some(idle) = self.passes.idle(inputs.groups)
+            && let Some(idle) = self.passes.idle(setup.groups)
             && self.births.idle.push(idle).is_err()
         {
             return Err(Odd::Memory);
         }
         match self.book.step(
-            inputs.groups,
-            inputs.graph,
+            setup.groups,
+            setup.inputs,
             token,
             &mut self.births,
             &mut self.step,
@@ -428,19 +428,16 @@ impl<P: Program + Naming> Replay<P> {
         self.stand(token)
     }
 
-    fn publish(&mut self, inputs: &Inputs<'_, P>, token: Token<P>) -> Result<(), Odd> {
+    fn publish(&mut self, setup: &Setup<'_, P>, token: Token<P>) -> Result<(), Odd> {
         self.leave_sides(token.pass.group(), Some(0))?;
-        match self.book.publish(inputs.graph, token) {
+        match self.book.publish(setup.inputs, token) {
             Ok(pass) => self.drop_pass(pass),
             Err(refused) => Err(Odd::from(refused.why)),
         }
     }
 
-    fn call(&mut self, inputs: &Inputs<'_, P>, token: Token<P>, wanted: u64) -> Result<(), Odd> {
-        match self
-            .book
-            .call(inputs.graph, inputs.answers, token, &mut self.args)
-        {
+    fn call(&mut self, setup: &Setup<'_, P>, token: Token<P>, wanted: u64) -> Result<(), Odd> {
+        match self.book.call(setup.inputs, token, &mut self.args) {
             Ok(number) if number == wanted => Ok(()),
             Ok(_) => Err(Odd::Other),
             Err(refused) => Err(Odd::from(refused.why)),
@@ -456,7 +453,7 @@ impl<P: Program + Naming> Replay<P> {
     }
 
     // What stood inside the cell's right side is gone; those that wait for the cell go on.
-    fn bind(&mut self, inputs: &Inputs<'_, P>, token: Token<P>, cell: u64) -> Result<(), Odd> {
+    fn bind(&mut self, setup: &Setup<'_, P>, token: Token<P>, cell: u64) -> Result<(), Odd> {
         let Some(inside) = token.pass.group() else {
             return Err(Odd::Other);
         };
@@ -467,7 +464,7 @@ impl<P: Program + Naming> Replay<P> {
         let cancelled = &mut self.cancelled;
         if let Err(refused) = self
             .book
-            .bind(inputs.groups, inputs.graph, token, leave, cancelled)
+            .bind(setup.groups, setup.inputs, token, leave, cancelled)
         {
             return Err(Odd::from(refused.why));
         }
@@ -477,19 +474,19 @@ impl<P: Program + Naming> Replay<P> {
         if self.book.dying() < self.most_dying() {
             return Ok(());
         }
-        self.sweep(inputs)
+        self.sweep(setup)
     }
 
     /// The book alone is told of a token that binds. The passes that are to be left are added to a list.
     pub(crate) fn bind_only(
         &mut self,
-        inputs: &Inputs<'_, P>,
+        setup: &Setup<'_, P>,
         token: Token<P>,
         leave: &mut Vec<Pass<P>>,
     ) -> Result<(), Refused<Token<P>>> {
         let cancelled = &mut self.cancelled;
         self.book
-            .bind(inputs.groups, inputs.graph, token, leave, cancelled)
+            .bind(setup.groups, setup.inputs, token, leave, cancelled)
     }
 
     fn most_dying(&self) -> usize {
@@ -530,19 +527,19 @@ impl<P: Program + Naming> Replay<P> {
     }
 
     // The passes of tokens that went with a killed group are left.
-    fn sweep(&mut self, inputs: &Inputs<'_, P>) -> Result<(), Odd> {
+    fn sweep(&mut self, setup: &Setup<'_, P>) -> Result<(), Odd> {
         for slot in 0..self.out.len() {
-            self.look_at(inputs, slot)?;
+            self.look_at(setup, slot)?;
         }
-        self.settle(inputs)
+        self.settle(setup)
     }
 
     // The passes that are to be left are left, and groups that go without an entry are closed once nobody is in them.
-    fn settle(&mut self, inputs: &Inputs<'_, P>) -> Result<(), Odd> {
+    fn settle(&mut self, setup: &Setup<'_, P>) -> Result<(), Odd> {
         for _ in 0..u64::MAX {
             if self
                 .passes
-                .leave_all(inputs.groups, &mut self.leave)
+                .leave_all(setup.groups, &mut self.leave)
                 .is_err()
             {
                 return Err(Odd::Memory);
@@ -582,11 +579,11 @@ impl<P: Program + Naming> Replay<P> {
     }
 
     // A side halts: a cell is lost, or a right side starts.
-    fn halt(&mut self, inputs: &Inputs<'_, P>, side: Side) -> Result<(), Odd> {
+    fn halt(&mut self, setup: &Setup<'_, P>, side: Side) -> Result<(), Odd> {
         if let Some(last) = self.last_of(side) {
             return self.close(last);
         }
-        self.sweep(inputs)?;
+        self.sweep(setup)?;
         match self.last_of(side) {
             Some(last) => self.close(last),
             None => Err(Odd::Live),
@@ -603,21 +600,21 @@ impl<P: Program + Naming> Replay<P> {
     }
 
     // Time goes on. Where something else comes next, that may be a group which goes without an entry, once passes of tokens that are gone are left.
-    fn tick(&mut self, inputs: &Inputs<'_, P>, time: u64) -> Result<(), Odd> {
-        self.keep_waiting(inputs)?;
-        if self.ticks(inputs, time)? {
+    fn tick(&mut self, setup: &Setup<'_, P>, time: u64) -> Result<(), Odd> {
+        self.keep_waiting(setup)?;
+        if self.ticks(setup, time)? {
             return Ok(());
         }
-        self.sweep(inputs)?;
-        if self.ticks(inputs, time)? {
+        self.sweep(setup)?;
+        if self.ticks(setup, time)? {
             return Ok(());
         }
         Err(Odd::Time)
     }
 
     // Whether what comes next is a tick, which is to this time then.
-    fn ticks(&mut self, inputs: &Inputs<'_, P>, time: u64) -> Result<bool, Odd> {
-        match self.book.next(inputs.graph) {
+    fn ticks(&mut self, setup: &Setup<'_, P>, time: u64) -> Result<bool, Odd> {
+        match self.book.next(setup.inputs) {
             Ok(Next::Ticked) if self.book.now() == time => Ok(true),
             Ok(Next::Ticked) => Err(Odd::Time),
             Ok(_) => Ok(false),
@@ -627,9 +624,9 @@ impl<P: Program + Naming> Replay<P> {
 
     /// Leaves what can be left, and closes the program's own group if the last pass to it is among that. Answers whether the run has halted
     /// so.
-    pub(crate) fn close_run(&mut self, inputs: &Inputs<'_, P>) -> Result<bool, Odd> {
-        self.sweep(inputs)?;
-        if self.passes.leave_warm(inputs.groups).is_err() {
+    pub(crate) fn close_run(&mut self, setup: &Setup<'_, P>) -> Result<bool, Odd> {
+        self.sweep(setup)?;
+        if self.passes.leave_warm(setup.groups).is_err() {
             return Err(Odd::Memory);
         }
         let Some(last) = self.last_of(Side::Whole) else {
@@ -643,11 +640,11 @@ impl<P: Program + Naming> Replay<P> {
     }
 
     /// Whether the book keeps the token with this mark, which waits.
-    pub(crate) fn keeps(&self, inputs: &Inputs<'_, P>, mark: u64) -> bool {
+    pub(crate) fn keeps(&self, setup: &Setup<'_, P>, mark: u64) -> bool {
         let Some(slot) = self.slots.get(mark as usize) else {
             return false;
         };
-        match self.book.view(inputs.graph, *slot, mark) {
+        match self.book.view(setup.inputs, *slot, mark) {
             Some(view) => matches!(view.what, Action::Wait(_)) && !self.is_out(mark),
             None => false,
         }

@@ -4,19 +4,20 @@ ghost use Rattle.std.specs.Prelude.{◌≡◌, ◌≤◌, true};
 ghost use Rattle.orc_rules.specs.declared.limits.TheConstants.{MOST_ENTRIES};
 
 use crate::begin::begin;
-use crate::inputs::Inputs;
 use crate::kills::{
     ends_after_a_kill, gives_a_lost_mark_back, keeps_words_of_the_killed, tells_killed_tokens,
 };
 use crate::passes_alone::{gives_passes_again, is_killed_once};
 use crate::refusals::{is_live, refuses_other_moves, refuses_words_that_are_named};
 use crate::replay::Replay;
+use crate::setup::Setup;
 use crate::steps::{goes_on_until_full, makes_moves};
 use orc_book::{BookFault, Next};
 use orc_graph::Graph;
 use orc_journal_text::{read_entry, write_journal};
+use orc_ledger::Inputs;
 use orc_load::load;
-use orc_log::Program;
+use orc_log::Run;
 use orc_rules::answers::Answers;
 use orc_rules::entry::Entry;
 use orc_rules::limits::MOST_ENTRIES;
@@ -85,8 +86,8 @@ pub(crate) fn so(holds: bool) -> Option<()> {
 }
 
 /// The book does these entries, a line each, and keeps the tokens that wait then.
-pub(crate) fn enter_all<P: Program + Naming>(
-    inputs: &Inputs<'_, P>,
+pub(crate) fn enter_all<P: Run + Naming>(
+    setup: &Setup<'_, P>,
     replay: &mut Replay<P>,
     lines: &str,
 ) -> Option<()> {
@@ -96,17 +97,17 @@ pub(crate) fn enter_all<P: Program + Naming>(
         if rest.is_empty() {
             break;
         }
-        rest = read_entry(rest, inputs.answers, &mut entry)?;
-        replay.enter(inputs, &entry).ok()?;
+        rest = read_entry(rest, setup.inputs.answers, &mut entry)?;
+        replay.enter(setup, &entry).ok()?;
     }
-    replay.keep_waiting(inputs).ok()?;
+    replay.keep_waiting(setup).ok()?;
     so(rest.is_empty())
 }
 
 /// The book has written these entries, a line each, and no other.
-pub(crate) fn has_written<P: Program + Naming>(
+pub(crate) fn has_written<P: Run + Naming>(
     alloc: Global,
-    inputs: &Inputs<'_, P>,
+    setup: &Setup<'_, P>,
     replay: Replay<P>,
     lines: &str,
 ) -> Option<()>
@@ -116,7 +117,7 @@ pub(crate) fn has_written<P: Program + Naming>(
     wanted.extend_from_slice(lines.as_bytes()).ok()?;
     let journal = replay.into_ledger().into_journal();
     let mut text = Vec::new(alloc);
-    let is_whole = write_journal(&journal, inputs.answers, &mut text).ok()?;
+    let is_whole = write_journal(&journal, setup.inputs.answers, &mut text).ok()?;
     so(is_whole && text.as_slice() == wanted.as_slice())
 }
 
@@ -130,16 +131,12 @@ fn is_next(one: Next, other: Next) -> bool {
     }
 }
 
-fn is_so<P: Program + Naming>(
-    inputs: &Inputs<'_, P>,
-    replay: &mut Replay<P>,
-    step: &Step,
-) -> Option<()> {
+fn is_so<P: Run + Naming>(setup: &Setup<'_, P>, replay: &mut Replay<P>, step: &Step) -> Option<()> {
     match *step {
-        Step::Does(lines) => enter_all(inputs, replay, lines),
-        Step::Keeps(mark) => so(replay.keeps(inputs, mark)),
+        Step::Does(lines) => enter_all(setup, replay, lines),
+        Step::Keeps(mark) => so(replay.keeps(setup, mark)),
         Step::IsOut(mark) => so(replay.is_out(mark)),
-        Step::Next(next) => so(is_next(replay.book.next(inputs.graph).ok()?, next)),
+        Step::Next(next) => so(is_next(replay.book.next(setup.inputs).ok()?, next)),
         Step::Now(time) => so(replay.book.now() == time),
         Step::Due(wanted) => so(replay.book.due_beyond(0) == wanted),
         Step::Refuses(call, answer, fault) => match replay.book.returned(call, answer) {
@@ -147,13 +144,13 @@ fn is_so<P: Program + Naming>(
             Err(why) => so(why == fault),
         },
         Step::Entries(entries) => so(replay.book.entries() == entries),
-        Step::HasEnded(ended) => so(replay.close_run(inputs).ok()? == ended),
+        Step::HasEnded(ended) => so(replay.close_run(setup).ok()? == ended),
     }
 }
 
-fn are_so<P: Program + Naming>(
+fn are_so<P: Run + Naming>(
     alloc: Global,
-    inputs: &Inputs<'_, P>,
+    setup: &Setup<'_, P>,
     mut replay: Replay<P>,
     steps: &[Step],
 ) -> Option<()>
@@ -161,17 +158,17 @@ fn are_so<P: Program + Naming>(
 {
     let mut lines = String::new(alloc);
     for step in steps {
-        is_so(inputs, &mut replay, step)?;
+        is_so(setup, &mut replay, step)?;
         if let Step::Does(entries) = step {
             lines.push_str(entries).ok()?;
         }
     }
-    has_written(alloc, inputs, replay, lines.as_str())
+    has_written(alloc, setup, replay, lines.as_str())
 }
 
-fn show_with<P: Program + Naming>(
+fn show_with<P: Run + Naming>(
     alloc: Global,
-    inputs: &Inputs<'_, P>,
+    setup: &Setup<'_, P>,
     replay: Replay<P>,
     shows: Shows,
 ) -> Option<()>
@@ -179,24 +176,24 @@ fn show_with<P: Program + Naming>(
     requires words { 2 ≤ P.table.words }
 {
     match shows {
-        Shows::Steps(steps) => are_so(alloc, inputs, replay, steps),
-        Shows::GivesPassesAgain => gives_passes_again(inputs, replay),
-        Shows::IsKilledOnce => is_killed_once(inputs, replay),
-        Shows::EndsAfterAKill => ends_after_a_kill(alloc, inputs, replay),
-        Shows::GivesALostMarkBack => gives_a_lost_mark_back(alloc, inputs, replay),
-        Shows::KeepsWordsOfTheKilled => keeps_words_of_the_killed(alloc, inputs, replay),
-        Shows::TellsKilledTokens => tells_killed_tokens(alloc, inputs, replay),
-        Shows::IsLive => is_live(alloc, inputs, replay),
-        Shows::RefusesOtherMoves => refuses_other_moves(alloc, inputs, replay),
-        Shows::RefusesWordsThatAreNamed => refuses_words_that_are_named(alloc, inputs, replay),
+        Shows::Steps(steps) => are_so(alloc, setup, replay, steps),
+        Shows::GivesPassesAgain => gives_passes_again(setup, replay),
+        Shows::IsKilledOnce => is_killed_once(setup, replay),
+        Shows::EndsAfterAKill => ends_after_a_kill(alloc, setup, replay),
+        Shows::GivesALostMarkBack => gives_a_lost_mark_back(alloc, setup, replay),
+        Shows::KeepsWordsOfTheKilled => keeps_words_of_the_killed(alloc, setup, replay),
+        Shows::TellsKilledTokens => tells_killed_tokens(alloc, setup, replay),
+        Shows::IsLive => is_live(alloc, setup, replay),
+        Shows::RefusesOtherMoves => refuses_other_moves(alloc, setup, replay),
+        Shows::RefusesWordsThatAreNamed => refuses_words_that_are_named(alloc, setup, replay),
         Shows::MakesMoves(entries, why, left) => {
-            makes_moves(alloc, inputs, replay, entries, why, left)
+            makes_moves(alloc, setup, replay, entries, why, left)
         }
-        Shows::IsFullAfter(entries) => goes_on_until_full(alloc, inputs, replay, entries),
+        Shows::IsFullAfter(entries) => goes_on_until_full(alloc, setup, replay, entries),
     }
 }
 
-fn show_named<P: Program + Naming>(
+fn show_named<P: Run + Naming>(
     alloc: Global,
     words: Unnamed,
     graph: &Graph,
@@ -215,13 +212,13 @@ fn show_named<P: Program + Naming>(
     requires count { 2 ≤ count }
 {
     let (groups, supply) = words.named::<P>();
-    let inputs = Inputs {
-        graph,
-        answers,
+    let inputs = Inputs::new(graph, answers);
+    let setup = Setup {
+        inputs: &inputs,
         groups: &groups,
     };
-    let replay = begin(alloc, &inputs, supply, count, limit)?;
-    show_with(alloc, &inputs, replay, row.shows)
+    let replay = begin(alloc, &setup, supply, count, limit)?;
+    show_with(alloc, &setup, replay, row.shows)
 }
 
 /// Whether a book does what a row shows.

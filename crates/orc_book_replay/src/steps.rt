@@ -2,12 +2,12 @@
 
 ghost use Rattle.std.specs.Prelude.{◌≡◌, true};
 
-use crate::inputs::Inputs;
 use crate::replay::Replay;
 use crate::rows::{has_written, so};
+use crate::setup::Setup;
 use orc_book::{Births, BookFault, StepOut, Token};
 use orc_ledger::Action;
-use orc_log::Program;
+use orc_log::Run;
 use orc_word::Naming;
 use std::alloc::Global;
 
@@ -21,8 +21,8 @@ const MOVES: [&str; 5] = [
 ];
 
 // The token that has stood longest moves by `step`, as often as the book takes it. Tells why it takes no more.
-fn move_in_line<P: Program + Naming>(
-    inputs: &Inputs<'_, P>,
+fn move_in_line<P: Run + Naming>(
+    setup: &Setup<'_, P>,
     replay: &mut Replay<P>,
     births: &mut Births<P>,
     out: &mut StepOut<P>,
@@ -34,7 +34,7 @@ fn move_in_line<P: Program + Naming>(
         let token = out.born.remove(0);
         if let Err(refused) = replay
             .book
-            .step(inputs.groups, inputs.graph, token, births, out)
+            .step(setup.groups, setup.inputs, token, births, out)
         {
             return Some(refused.why);
         }
@@ -43,20 +43,20 @@ fn move_in_line<P: Program + Naming>(
 }
 
 // The first token needs no pass to enter a `>x>`, and is gone after that. Gives the token that came in its place.
-fn moves_once<P: Program + Naming>(
-    inputs: &Inputs<'_, P>,
+fn moves_once<P: Run + Naming>(
+    setup: &Setup<'_, P>,
     replay: &mut Replay<P>,
     births: &mut Births<P>,
     out: &mut StepOut<P>,
 ) -> Option<()> {
     let token = replay.take_token(1)?;
-    let view = replay.book.view(inputs.graph, token.slot, token.serial)?;
+    let view = replay.book.view(setup.inputs, token.slot, token.serial)?;
     so(matches!(view.what, Action::Seq) && view.needs.same == 0 && view.needs.idle == 0)?;
     let slot = token.slot;
-    let double = replay.passes.same(inputs.groups, &token.pass)?;
+    let double = replay.passes.same(setup.groups, &token.pass)?;
     replay
         .book
-        .step(inputs.groups, inputs.graph, token, births, out)
+        .step(setup.groups, setup.inputs, token, births, out)
         .ok()?;
     let again = Token {
         serial: 1,
@@ -65,32 +65,32 @@ fn moves_once<P: Program + Naming>(
     };
     match replay
         .book
-        .step(inputs.groups, inputs.graph, again, births, out)
+        .step(setup.groups, setup.inputs, again, births, out)
     {
         Ok(()) => None,
         Err(refused) => {
             so(refused.why == BookFault::Gone && out.born.len() == 1)?;
-            so(!replay.passes.leave(inputs.groups, refused.back.pass).ok()?)
+            so(!replay.passes.leave(setup.groups, refused.back.pass).ok()?)
         }
     }
 }
 
 // The second token needs one pass to its own group.
-fn needs_one<P: Program + Naming>(
-    inputs: &Inputs<'_, P>,
+fn needs_one<P: Run + Naming>(
+    setup: &Setup<'_, P>,
     replay: &Replay<P>,
     out: &StepOut<P>,
 ) -> Option<()> {
     let token = out.born.first()?;
-    let view = replay.book.view(inputs.graph, token.slot, token.serial)?;
+    let view = replay.book.view(setup.inputs, token.slot, token.serial)?;
     so(matches!(view.what, Action::Fork) && view.needs.same == 1 && view.needs.idle == 0)
 }
 
 /// The tokens of `(1 | 2) >x> Add(x, 10)` move in the order in which they came, with one pass lent for the fork and an idle one, which no publication needs
 /// here. The book takes so many moves and refuses the next for this reason; so many of the passes to the tokens' group are left then.
-pub(crate) fn makes_moves<P: Program + Naming>(
+pub(crate) fn makes_moves<P: Run + Naming>(
     alloc: Global,
-    inputs: &Inputs<'_, P>,
+    setup: &Setup<'_, P>,
     mut replay: Replay<P>,
     entries: usize,
     why: BookFault,
@@ -100,22 +100,22 @@ pub(crate) fn makes_moves<P: Program + Naming>(
 {
     let mut births = Births::new(alloc);
     let mut out = StepOut::new(alloc);
-    moves_once(inputs, &mut replay, &mut births, &mut out)?;
-    needs_one(inputs, &replay, &out)?;
-    let same = replay.passes.same(inputs.groups, &out.born.first()?.pass)?;
+    moves_once(setup, &mut replay, &mut births, &mut out)?;
+    needs_one(setup, &replay, &out)?;
+    let same = replay.passes.same(setup.groups, &out.born.first()?.pass)?;
     births.same.push(same).ok()?;
-    let idle = replay.passes.idle(inputs.groups)?;
+    let idle = replay.passes.idle(setup.groups)?;
     births.idle.push(idle).ok()?;
-    so(move_in_line(inputs, &mut replay, &mut births, &mut out)? == why)?;
+    so(move_in_line(setup, &mut replay, &mut births, &mut out)? == why)?;
     so(replay.book.entries() == entries)?;
     so(births.same.len() == left && births.idle.len() == 1 && out.leave.is_empty())?;
-    has_written(alloc, inputs, replay, MOVES.get(entries)?)
+    has_written(alloc, setup, replay, MOVES.get(entries)?)
 }
 
 /// A single token moves by `step` until the book is full. There are so many entries then.
-pub(crate) fn goes_on_until_full<P: Program + Naming>(
+pub(crate) fn goes_on_until_full<P: Run + Naming>(
     alloc: Global,
-    inputs: &Inputs<'_, P>,
+    setup: &Setup<'_, P>,
     mut replay: Replay<P>,
     entries: usize,
 ) -> Option<()> {
@@ -124,24 +124,24 @@ pub(crate) fn goes_on_until_full<P: Program + Naming>(
     let first = replay.take_token(1)?;
     out.born.push(first).ok()?;
     for _move in 0..entries {
-        move_one(inputs, &mut replay, &mut births, &mut out).ok()?;
+        move_one(setup, &mut replay, &mut births, &mut out).ok()?;
     }
     so(replay.book.entries() == entries)?;
-    match move_one(inputs, &mut replay, &mut births, &mut out) {
+    match move_one(setup, &mut replay, &mut births, &mut out) {
         Ok(()) => None,
         Err(why) => so(why == BookFault::Full && replay.book.entries() == entries),
     }
 }
 
 // The token that came last moves, with an idle pass where it needs one.
-fn move_one<P: Program + Naming>(
-    inputs: &Inputs<'_, P>,
+fn move_one<P: Run + Naming>(
+    setup: &Setup<'_, P>,
     replay: &mut Replay<P>,
     births: &mut Births<P>,
     out: &mut StepOut<P>,
 ) -> Result<(), BookFault> {
     if births.idle.is_empty()
-        && let Some(idle) = replay.passes.idle(inputs.groups)
+        && let Some(idle) = replay.passes.idle(setup.groups)
         && births.idle.push(idle).is_err()
     {
         return Err(BookFault::Memory);
@@ -151,7 +151,7 @@ fn move_one<P: Program + Naming>(
     };
     match replay
         .book
-        .step(inputs.groups, inputs.graph, token, births, out)
+        .step(setup.groups, setup.inputs, token, births, out)
     {
         Ok(()) => Ok(()),
         Err(refused) => Err(refused.why),

@@ -10,7 +10,7 @@ ghost use Rattle.orc_engine.specs.Ranges.{IsInRange};
 ghost use Rattle.orc_scheduler.specs.Stops.{Stops};
 
 use orc_graph::Graph;
-use orc_ledger::{Ledger, Program as Naming};
+use orc_ledger::{Inputs, Ledger, Run};
 use orc_outcome::Played;
 use orc_rules::answers::Answers;
 use orc_rules::limits::MOST_ENTRIES;
@@ -62,7 +62,7 @@ pub fn run_alone(
 }
 
 // Runs a program whose graph is built, with a limit in range. None where the journal isn't kept, and how the run ends can't be told without it.
-fn run_graph<P: Naming>(
+fn run_graph<P: Run>(
     alloc: Global,
     program: &Program,
     graph: &Graph,
@@ -89,21 +89,20 @@ fn run_graph<P: Naming>(
     if let Some(number) = order {
         scheduler.follow(number);
     }
-    let stop = play(&mut scheduler, graph, answers);
-    scheduler.finish(program, graph, answers, stop)
+    let inputs = Inputs::new(graph, answers);
+    let stop = play(&mut scheduler, &inputs);
+    scheduler.finish(program, &inputs, stop)
 }
 
 // Turns until the run stops.
-fn play<P: Naming>(scheduler: &mut Scheduler<P>, graph: &Graph, answers: &Answers) -> Stop
-    requires graph { graph.now ≡ P.listing }
-    requires answers { answers.now.sites ≡ P.sites }
+fn play<P: Run>(scheduler: &mut Scheduler<P>, inputs: &Inputs<'_, P>) -> Stop
     ensures stops { Stops P.listing scheduler.new.ledger result }
 {
     if let Err(stop) = scheduler.begin() {
         return stop;
     }
     loop {
-        if let Err(stop) = scheduler.go(graph, answers) {
+        if let Err(stop) = scheduler.go(inputs) {
             return stop;
         }
     }

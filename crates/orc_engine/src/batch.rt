@@ -1,6 +1,6 @@
 //! A batch of jobs, dealt out to the threads of a crew: each has a queue of them, and takes from those of the others when its own is empty.
 
-use orc_ledger::Program as Naming;
+use orc_ledger::Run;
 use orc_pool::{WorkerQueue, worker_queues};
 use orc_scheduler::SubRunJob;
 use std::alloc::{AllocError, Global};
@@ -8,14 +8,14 @@ use std::sync::atomic::{AtomicUsize, Ordering};
 
 /// A job that was dealt out, and its place in the batch.
 #[derive(Drop)]
-pub(crate) struct Dealt<'j, P: Naming> {
+pub(crate) struct Dealt<'j, P: Run> {
     pub place: usize,
     pub job: &'j mut SubRunJob<P>,
 }
 
 /// Deals jobs out in turn to the queues of as many workers as there are, or as jobs where there are fewer; each queue begins with its first one. A job for which there
 /// is no room is dealt to nobody. The error is refused memory.
-pub(crate) fn deal<'j, P: Naming>(
+pub(crate) fn deal<'j, P: Run>(
     alloc: Global,
     jobs: &'j mut [SubRunJob<P>],
     workers: usize,
@@ -58,7 +58,7 @@ impl Won {
 }
 
 /// What came of jobs that stand behind a winner is forgotten: which of them were done depends on the threads.
-pub(crate) fn forget_losers<P: Naming>(jobs: &mut [SubRunJob<P>]) {
+pub(crate) fn forget_losers<P: Run>(jobs: &mut [SubRunJob<P>]) {
     let mut is_won = false;
     for job in jobs {
         if is_won {

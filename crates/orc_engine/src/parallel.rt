@@ -13,7 +13,7 @@ ghost use Rattle.orc_scheduler.specs.Stops.{HasSpread, IsNearer, Stops};
 
 use crate::batch::{Dealt, Won, deal, forget_losers};
 use orc_graph::Graph;
-use orc_ledger::{Ledger, Program as Naming};
+use orc_ledger::{Inputs, Ledger, Run};
 use orc_outcome::Played;
 use orc_pool::WorkerQueue;
 use orc_rules::answers::Answers;
@@ -21,7 +21,7 @@ use orc_rules::limits::{MOST_ENTRIES, MOST_WORKERS};
 use orc_rules::program::Program;
 use orc_scheduler::{Came, EngineFault, Scheduler, Stop, SubRunJob};
 use std::alloc::Global;
-use std::marker::{Brand, PhantomData};
+use std::marker::Brand;
 use std::thread;
 use std::thread::Threads;
 
@@ -30,10 +30,10 @@ use std::thread::Threads;
 const PATIENCE: usize = 5_000;
 
 /// So many tokens are to stand at calls before the calls are run side by side.
-const MANY: usize = 128;
+const READY_TOKENS: usize = 128;
 
 /// And so many where the runs of those are too long.
-const MORE: usize = 1_000;
+const READY_TOKENS_IF_LONG: usize = 1_000;
 
 /// So many calls show what the others' runs are like.
 const SAMPLES: usize = 16;
@@ -42,19 +42,19 @@ const SAMPLES: usize = 16;
 const RACERS: usize = 4;
 
 /// The most entries of a sample's run. The tables of a run of so many entries fit a processor's own cache.
-const SHORT: usize = 20_000;
+const MOST_SAMPLE_ENTRIES: usize = 20_000;
 
 /// Runs have so many entries on average, or no more of them are made apart: to begin one costs as much as a hundred entries.
-const WORTH: usize = 512;
+const LEAST_MEAN_ENTRIES: usize = 512;
 
 /// So many calls are run side by side before what came of them is taken in. A thread that begins may wait some milliseconds for a processor, so a batch is
 /// to be worth more than that.
 const BATCH: usize = 256;
 
-/// A run may have so many times as many entries as those before it had on average, but no more than `LONGEST`.
-const LONGER: usize = 8;
+/// A run may have so many times as many entries as those before it had on average, but no more than `MOST_RUN_ENTRIES`.
+const TIMES_MEAN: usize = 8;
 
-const LONGEST: usize = 1_000_000;
+const MOST_RUN_ENTRIES: usize = 1_000_000;
 
 /// What calls of definitions came to that were run side by side.
 #[derive(Clone, Copy)]
@@ -179,7 +179,7 @@ fn run_named<P, R>(
     limit: usize,
 ) -> Result<Option<Played>, EngineFault>
 where
-    P: Naming + Send + Sync,
+    P: Run + Send + Sync,
     R: Threads + Sync,
     requires workers { 1 ≤ workers }
     requires limit { (1 ≤ limit) × (limit ≤ MOST_ENTRIES) }
@@ -197,40 +197,34 @@ where
         return Err(EngineFault::Memory);
     };
     let mut scheduler = Scheduler::new(alloc, ledger, keeps);
+    let inputs = Inputs::new(graph, answers);
     let crew = ParallelRun::<P, R> {
         rt,
         alloc,
-        graph,
-        answers,
+        inputs: &inputs,
         workers,
         keeps,
-        naming: PhantomData,
     };
     let stop = crew.play(&mut scheduler);
-    scheduler.finish(program, graph, answers, stop)
+    scheduler.finish(program, &inputs, stop)
 }
 
-// The threads that run one program, the program's graph and what its sites answer.
+// The threads that run one program, and what its run goes by.
 #[derive(Drop)]
-struct ParallelRun<'c, P: Naming, R> {
+struct ParallelRun<'c, P: Run, R> {
     rt: &'c R,
     alloc: Global,
-    graph: &'c Graph,
-    answers: &'c Answers,
+    inputs: &'c Inputs<'c, P>,
     workers: usize,
     // Whether the run's journal is kept, and so those of the parts.
     keeps: bool,
-    // Whose program, sites and limit the run's records name.
-    naming: PhantomData<P>,
-    ghost its_graph: { graph.now ≡ P.listing },
-    ghost its_sites: { answers.now.sites ≡ P.sites },
     ghost its_keeping: { keeps ≡ P.keeps },
     ghost has_some: { 1 ≤ workers },
 }
 
 impl<P, R> ParallelRun<'_, P, R>
 where
-    P: Naming + Send + Sync,
+    P: Run + Send + Sync,
     R: Threads + Sync,
 {
     // Turns until the run stops.
@@ -260,7 +254,7 @@ where
         ensures stops { IfErr result (λ stop. Stops P.listing scheduler.new.ledger stop) }
     {
         let next = self.share(scheduler, plan)?;
-        match scheduler.go(self.graph, self.answers) {
+        match scheduler.go(self.inputs) {
             Ok(()) => Ok(next),
             Err(stop) => Err(stop),
         }
@@ -276,9 +270,9 @@ where
         if scheduler.entries() < plan.entries {
             return Ok(plan);
         }
-        let mut trial = self.attempt(scheduler, MANY, plan.mean)?;
+        let mut trial = self.attempt(scheduler, READY_TOKENS, plan.mean)?;
         if matches!(trial, Trial::Long) {
-            trial = self.attempt(scheduler, MORE, 0)?;
+            trial = self.attempt(scheduler, READY_TOKENS_IF_LONG, 0)?;
         }
         let now = scheduler.entries();
         let (entries, mean) = match trial {
@@ -299,7 +293,7 @@ where
         ensures spread { IfOk result (λ _. HasSpread scheduler.old.ledger (deque_len scheduler.old.ready.handles) scheduler.new.ledger (deque_len scheduler.new.ready.handles)) }
         ensures stops { IfErr result (λ stop. Stops P.listing scheduler.new.ledger stop) }
     {
-        scheduler.spread(self.graph, self.answers, wanted)?;
+        scheduler.spread(self.inputs, wanted)?;
         if scheduler.ready() < wanted {
             return Ok(Trial::Few);
         }
@@ -313,13 +307,13 @@ where
         ensures spread { IfOk result (λ _. HasSpread scheduler.old.ledger (deque_len scheduler.old.ready.handles) scheduler.new.ledger (deque_len scheduler.new.ready.handles)) }
         ensures stops { IfErr result (λ stop. Stops P.listing scheduler.new.ledger stop) }
     {
-        let Ok(mut jobs) = scheduler.jobs(self.graph, false) else {
+        let Ok(mut jobs) = scheduler.jobs(self.inputs, false) else {
             return Ok(Trial::Vain);
         };
         if jobs.len() >= SAMPLES {
             return self.run_jobs(scheduler, mean, SAMPLES, &mut jobs);
         }
-        let Ok(mut jobs) = scheduler.jobs(self.graph, true) else {
+        let Ok(mut jobs) = scheduler.jobs(self.inputs, true) else {
             return Ok(Trial::Vain);
         };
         if jobs.len() >= SAMPLES {
@@ -347,9 +341,9 @@ where
         if mean > 0 {
             return self.run_batches(scheduler, mean, 0, jobs);
         }
-        let tally = self.run_samples(SHORT.min(room), first, jobs);
+        let tally = self.run_samples(MOST_SAMPLE_ENTRIES.min(room), first, jobs);
         if tally.is_won {
-            take_all(self.graph, scheduler, jobs)?;
+            take_all(self.inputs, scheduler, jobs)?;
             return Ok(Trial::Few);
         }
         match self.trial_of(tally) {
@@ -378,7 +372,7 @@ where
         let mean = tally.mean();
         if tally.long > tally.over {
             Trial::Long
-        } else if tally.over < tally.count / 2 || mean < WORTH.max(self.graph.len()) {
+        } else if tally.over < tally.count / 2 || mean < LEAST_MEAN_ENTRIES.max(self.inputs.graph.len()) {
             // A run begins with a copy of the program's graph.
             Trial::Vain
         } else {
@@ -408,7 +402,7 @@ where
             if count == 0 || room == 0 || room / count < mean {
                 break;
             }
-            let limit = mean.saturating_mul(LONGER).clamp(1, LONGEST).min(room);
+            let limit = mean.saturating_mul(TIMES_MEAN).clamp(1, MOST_RUN_ENTRIES).min(room);
             let batch = &mut behind[..count];
             self.run_beside(scheduler, limit, before, batch)?;
             let tally = tally_of(batch);
@@ -421,7 +415,7 @@ where
             };
             mean = next;
         }
-        take_all(self.graph, scheduler, jobs)?;
+        take_all(self.inputs, scheduler, jobs)?;
         Ok(trial)
     }
 
@@ -437,9 +431,9 @@ where
         ensures spread { IfOk result (λ _. HasSpread scheduler.old.ledger (deque_len scheduler.old.ready.handles) scheduler.new.ledger (deque_len scheduler.new.ready.handles)) }
         ensures stops { IfErr result (λ stop. Stops P.listing scheduler.new.ledger stop) }
     {
-        let graph = self.graph;
+        let inputs = self.inputs;
         if self.workers == 1 || before.len() <= SAMPLES {
-            take_all(graph, scheduler, before)?;
+            take_all(inputs, scheduler, before)?;
             self.run_all(limit, batch);
             return Ok(());
         }
@@ -448,7 +442,7 @@ where
             &mut ||
                 requires { (1 ≤ limit) × (limit ≤ MOST_ENTRIES) }
             { self.run_all(limit, batch) },
-            &mut || take_all(graph, scheduler, before),
+            &mut || take_all(inputs, scheduler, before),
         );
         taken
     }
@@ -486,7 +480,7 @@ where
             if won.is_before(place) {
                 continue;
             }
-            job.run(self.alloc, self.graph, self.answers, self.keeps, limit);
+            job.run(self.alloc, self.inputs, self.keeps, limit);
             if job.has_won() {
                 won.note(place);
             }
@@ -495,7 +489,7 @@ where
 }
 
 // What came of the jobs.
-fn tally_of<P: Naming>(jobs: &[SubRunJob<P>]) -> Tally {
+fn tally_of<P: Run>(jobs: &[SubRunJob<P>]) -> Tally {
     let mut tally = Tally {
         count: jobs.len(),
         over: 0,
@@ -518,28 +512,26 @@ fn tally_of<P: Naming>(jobs: &[SubRunJob<P>]) -> Tally {
 }
 
 // Takes in, one after another, what came of those jobs that still have it.
-fn take_all<P: Naming>(
-    graph: &Graph,
+fn take_all<P: Run>(
+    inputs: &Inputs<'_, P>,
     scheduler: &mut Scheduler<P>,
     jobs: &mut [SubRunJob<P>],
 ) -> Result<(), Stop>
-    requires graph { graph.now ≡ P.listing }
     ensures spread { IfOk result (λ _. HasSpread scheduler.old.ledger (deque_len scheduler.old.ready.handles) scheduler.new.ledger (deque_len scheduler.new.ready.handles)) }
     ensures stops { IfErr result (λ stop. Stops P.listing scheduler.new.ledger stop) }
 {
     for job in jobs {
-        take_one(graph, scheduler, job)?;
+        take_one(inputs, scheduler, job)?;
     }
     Ok(())
 }
 
 // Takes in what came of a job, if the job still has it.
-fn take_one<P: Naming>(
-    graph: &Graph,
+fn take_one<P: Run>(
+    inputs: &Inputs<'_, P>,
     scheduler: &mut Scheduler<P>,
     job: &mut SubRunJob<P>,
 ) -> Result<(), Stop>
-    requires graph { graph.now ≡ P.listing }
     ensures spread { IfOk result (λ _. HasSpread scheduler.old.ledger (deque_len scheduler.old.ready.handles) scheduler.new.ledger (deque_len scheduler.new.ready.handles)) }
     ensures stops { IfErr result (λ stop. Stops P.listing scheduler.new.ledger stop) }
 {
@@ -547,6 +539,6 @@ fn take_one<P: Naming>(
         return Ok(());
     };
     // What isn't taken in goes on in its place.
-    let _taken = scheduler.append_sub_run(graph, job.handle(), &part)?;
+    let _taken = scheduler.append_sub_run(inputs, job.handle(), &part)?;
     Ok(())
 }

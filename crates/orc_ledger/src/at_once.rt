@@ -14,14 +14,14 @@ ghost use Rattle.orc_frames.specs.Doing.{IsCall};
 ghost use Rattle.orc_ledger_spec.specs.Doing.{term_of, what_of};
 ghost use Rattle.orc_ledger_spec.specs.Moves.{StandsAt};
 ghost use Rattle.orc_tables.specs.Tokens.{IsHeld};
+ghost use Rattle.orc_ledger.specs.Others.{KeepsOthers};
 
+use crate::inputs::Inputs;
 use crate::ledger::Ledger;
 use orc_calls::Counts;
 use orc_frames::Action;
-use orc_graph::Graph;
 use orc_ledger_spec::{Called, Halted, LedgerFault};
-use orc_log::{Log, Program};
-use orc_rules::answers::Answers;
+use orc_log::{Log, Run};
 use orc_rules::entry::Entry;
 use orc_rules::value::{Answer, Args, Found};
 use orc_tables::{Call, Standing, Token};
@@ -38,26 +38,25 @@ fn answer_at_once(found: Found) -> Option<Answer>
 
 // Writes a call, which is counted, and its answer. Where memory is refused nothing changes.
 #[inline(always)]
-fn write_answered<P: Program>(
+fn write_answered<P: Run>(
     journal: &mut Log<P>,
     counts: &mut Counts,
-    answers: &Answers,
+    inputs: &Inputs<'_, P>,
     token: u64,
     call: u64,
     site: u32,
     args: &Args,
     answer: &Entry,
 ) -> Result<(), LedgerFault>
-    requires answers { answers.now.sites ≡ P.sites }
     requires silent { IsSilent answer.now }
     ensures added { OnOk result (journal.new ≡ log_with (log_with journal.old (Calls token call site args.now ∷ [])) (answer.now ∷ [])) }
-    ensures counted { OnOk result (CountsCall answers.now.sites site args.now counts.old counts.new) }
+    ensures counted { OnOk result (CountsCall inputs.now.answers.now.sites site args.now counts.old counts.new) }
     ensures refused { OnErr result ((journal.new ≡ journal.old) × (counts.new ≡ counts.old)) }
     ensures why { IfErr result (λ fault. fault ≡ LedgerFault.Memory) }
 {
     let entries = journal.len();
     if journal
-        .push_call(answers, token, call, site, args.as_slice())
+        .push_call(inputs.answers, token, call, site, args.as_slice())
         .is_err()
     {
         return Err(LedgerFault::Memory);
@@ -67,7 +66,7 @@ fn write_answered<P: Program>(
         journal.truncate(entries);
         return Err(LedgerFault::Memory);
     }
-    match counts.add(answers, site, args) {
+    match counts.add(inputs.answers, site, args) {
         Ok(()) => Ok(()),
         Err(_) => {
             journal.truncate(called);
@@ -77,27 +76,25 @@ fn write_answered<P: Program>(
     }
 }
 
-impl<P: Program> Ledger<P> {
+impl<P: Run> Ledger<P> {
     /// A call of a site with values, as `call` makes it; where the table answers it at once its answer is recorded too, if the journal may have
     /// both entries. `args` is lent for the arguments.
     pub fn call_through(
         &mut self,
-        graph: &Graph,
-        answers: &Answers,
+        inputs: &Inputs<'_, P>,
         slot: usize,
         token: Token,
         args: &mut Args,
     ) -> Result<Called, LedgerFault>
-        requires graph { graph.now ≡ P.listing }
-        requires answers { answers.now.sites ≡ P.sites }
         requires held { IsHeld self.old.slots slot token }
         requires calls { what_of (code P.listing) (definitions P.listing) self.old token ≡ Action.Call }
         ensures done { IfOk result (λ called. IsCalled P.listing P.sites self.old slot token called self.new) }
+        ensures others { OnOk result (KeepsOthers self.old.slots slot self.new.slots) }
         ensures refused { OnErr result (self.new ≡ self.old) }
         ensures why { IfErr result (λ fault. IsRefused self.old 0 0 0 fault) }
     {
-        let site = self.ask(graph, token, args);
-        self.answer_through(answers, slot, token, site, args)
+        let site = self.ask(inputs, token, args);
+        self.answer_through(inputs, slot, token, site, args)
     }
 
     /// The same of a token that stands at a call of this site with these operands, by one look at them. None, which changes nothing, where an operand has
@@ -105,8 +102,7 @@ impl<P: Program> Ledger<P> {
     #[inline(always)]
     pub fn call_at(
         &mut self,
-        graph: &Graph,
-        answers: &Answers,
+        inputs: &Inputs<'_, P>,
         slot: usize,
         token: Token,
         scope: usize,
@@ -114,17 +110,16 @@ impl<P: Program> Ledger<P> {
         list: u32,
         args: &mut Args,
     ) -> Result<Option<Called>, LedgerFault>
-        requires graph { graph.now ≡ P.listing }
-        requires answers { answers.now.sites ≡ P.sites }
         requires held { IsHeld self.old.slots slot token }
         requires at { StandsAt P.listing token scope (calls_site site (map param_of (slice_index_or P.listing.lists list []))) }
         ensures done { IfOk result (λ called. IfSome called (λ c. IsCalled P.listing P.sites self.old slot token c self.new)) }
         ensures none { IfOk result (λ called. IfNone called (self.new ≡ self.old)) }
+        ensures others { OnOk result (KeepsOthers self.old.slots slot self.new.slots) }
         ensures refused { OnErr result (self.new ≡ self.old) }
         ensures why { IfErr result (λ fault. IsRefused self.old 0 0 0 fault) }
     {
-        if self.take_values(graph.operands(list as usize), scope, args) {
-            return match self.answer_through(answers, slot, token, site, args) {
+        if self.take_values(inputs.graph.operands(list as usize), scope, args) {
+            return match self.answer_through(inputs, slot, token, site, args) {
                 Ok(called) => Ok(Some(called)),
                 Err(fault) => Err(fault),
             };
@@ -136,25 +131,25 @@ impl<P: Program> Ledger<P> {
     #[inline(always)]
     pub(crate) fn answer_through(
         &mut self,
-        answers: &Answers,
+        inputs: &Inputs<'_, P>,
         slot: usize,
         token: Token,
         site: u32,
         args: &Args,
     ) -> Result<Called, LedgerFault>
-        requires answers { answers.now.sites ≡ P.sites }
         requires held { IsHeld self.old.slots slot token }
         requires asks { IsCall site args.now (term_of (code P.listing) self.old token) }
         ensures done { IfOk result (λ called. IsCalled P.listing P.sites self.old slot token called self.new) }
+        ensures others { OnOk result (KeepsOthers self.old.slots slot self.new.slots) }
         ensures refused { OnErr result (self.new ≡ self.old) }
         ensures why { IfErr result (λ fault. IsRefused self.old 0 0 0 fault) }
     {
         self.within(0, 0, 0)?;
-        let call = self.next_call(answers, token, site, args);
+        let call = self.next_call(inputs, token, site, args);
         let answer = match answer_at_once(call.found) {
             Some(answer) if self.limit - self.entries >= 2 => answer,
             _ => {
-                self.pend(answers, slot, token, site, args, call)?;
+                self.pend(inputs, slot, token, site, args, call)?;
                 return Ok(Called::Pends(call.number));
             }
         };
@@ -170,7 +165,7 @@ impl<P: Program> Ledger<P> {
                 write_answered(
                     &mut self.journal,
                     &mut self.counts,
-                    answers,
+                    inputs,
                     token.serial,
                     number,
                     site,
@@ -195,7 +190,7 @@ impl<P: Program> Ledger<P> {
                 write_answered(
                     &mut self.journal,
                     &mut self.counts,
-                    answers,
+                    inputs,
                     token.serial,
                     number,
                     site,

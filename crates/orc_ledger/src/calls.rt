@@ -1,25 +1,27 @@
 //! The answers of calls.
 
-ghost use Rattle.std.specs.Prelude.{◌≡◌, ◌<◌, Some, None, IfOk, IfErr, OnErr};
+ghost use Rattle.std.specs.Prelude.{◌≡◌, ◌<◌, Some, None, IfOk, IfErr, OnOk, OnErr};
 ghost use Rattle.orc_rules.specs.Timed.{IsIn};
 ghost use Rattle.orc_rules.specs.declared.value.Answer.TheVariants.{Value as Gives, Halt};
 ghost use Rattle.orc_calls.specs.Due.{DueNow};
 ghost use Rattle.orc_ledger_spec.specs.Answers.{IsReturned, IsUnanswered, Pends};
 ghost use Rattle.orc_tables.specs.declared.records.Call.{Call as Its};
+ghost use Rattle.orc_ledger.specs.Others.{KeepsAll};
 
 use crate::ledger::{Ledger, write};
 use orc_calls::check_due;
 use orc_ledger_spec::{LedgerFault, ReturnFault};
-use orc_log::Program;
+use orc_log::Run;
 use orc_rules::entry::Entry;
 use orc_rules::value::{Answer, Value};
 use orc_tables::{Call, Standing, Token};
 
-impl<P: Program> Ledger<P> {
+impl<P: Run> Ledger<P> {
     /// A call that pends is answered, where the table of sites gives this answer and it is due now. With a value a token comes in its place,
     /// whose slot is given. A call whose answer is never due is never answered.
     pub fn returned(&mut self, number: u64, answer: Answer) -> Result<Option<usize>, ReturnFault>
         ensures done { IfOk result (λ slot. (c : Its) × Pends self.old number c × IsReturned self.old c answer slot self.new) }
+        ensures others { OnOk result (KeepsAll self.old.slots self.new.slots) }
         ensures refused { OnErr result (self.new ≡ self.old) }
         ensures why { IfErr result (λ fault. IsUnanswered P.listing P.sites self.old number answer fault) }
     {
@@ -52,6 +54,7 @@ impl<P: Program> Ledger<P> {
         requires due { DueNow call.made_at call.found (Gives value) self.old.now }
         requires room { self.old.entries < self.old.limit }
         ensures done { IfOk result (λ slot. IsReturned self.old call (Gives value) (Some slot) self.new) }
+        ensures others { OnOk result (KeepsAll self.old.slots self.new.slots) }
         ensures refused { OnErr result (self.new ≡ self.old) }
     {
         self.tokens.reserve()?;
@@ -78,6 +81,7 @@ impl<P: Program> Ledger<P> {
         requires due { DueNow call.made_at call.found Halt self.old.now }
         requires room { self.old.entries < self.old.limit }
         ensures done { IfOk result (λ _. IsReturned self.old call Halt None self.new) }
+        ensures others { OnOk result (KeepsAll self.old.slots self.new.slots) }
         ensures refused { OnErr result (self.new ≡ self.old) }
     {
         let group = self.steps.group_at(call.step);

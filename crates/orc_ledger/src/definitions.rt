@@ -8,13 +8,14 @@ ghost use Rattle.orc_tables.specs.Tokens.{IsHeld};
 ghost use Rattle.orc_ledger_spec.specs.Parameters.{IsCalled, IsUndone};
 ghost use Rattle.orc_tables.specs.declared.records.Standing.TheVariants.{At};
 ghost use Rattle.orc_tables.specs.declared.records.Token.{Token as Its};
+ghost use Rattle.orc_ledger.specs.Others.{KeepsOthers};
 
+use crate::inputs::Inputs;
 use crate::ledger::{Ledger, write};
 use orc_env::StoredScope;
 use orc_frames::parameter_scopes;
-use orc_graph::Graph;
 use orc_ledger_spec::LedgerFault;
-use orc_log::Program;
+use orc_log::Run;
 use orc_rules::entry::Entry;
 use orc_tables::{Standing, Token};
 
@@ -42,14 +43,14 @@ fn extend_within(scopes: &mut Vec<StoredScope>, more: &[StoredScope])
     prove!(added.is_ok());
 }
 
-impl<P: Program> Ledger<P> {
+impl<P: Run> Ledger<P> {
     /// A call of a definition: a token on its body in the same slot, in scopes for its parameters. `added` is lent for these scopes, and what it
     /// held is lost. Ok(false), which changes nothing, where there is no such definition, where the operands are not as many as the
     /// parameters, or where one of them isn't bound: no checked program has such a call.
     #[inline(always)]
     pub fn def(
         &mut self,
-        graph: &Graph,
+        inputs: &Inputs<'_, P>,
         slot: usize,
         token: Token,
         scope: usize,
@@ -57,22 +58,22 @@ impl<P: Program> Ledger<P> {
         list: u32,
         added: &mut Vec<StoredScope>,
     ) -> Result<bool, LedgerFault>
-        requires graph { graph.now ≡ P.listing }
         requires held { IsHeld self.old.slots slot token }
         requires at { (node : ℕ) × (token.standing ≡ At node scope) × (code P.listing node ≡ call definition (map param_of (slice_index_or P.listing.lists list []))) }
         ensures done { IfOk result (λ done. done ≡ true → IsCalled P.listing self.old token scope definition list self.new) }
         ensures held { IfOk result (λ done. done ≡ true → (t : Its) × IsHeld self.new.slots slot t × (t.serial ≡ self.old.next_mark)) }
         ensures undone { IfOk result (λ done. done ≡ false → IsUndone P.listing self.old scope definition list) }
         ensures same { IfOk result (λ done. done ≡ false → self.new ≡ self.old) }
+        ensures others { OnOk result (KeepsOthers self.old.slots slot self.new.slots) }
         ensures refused { OnErr result (self.new ≡ self.old) }
         ensures why { IfErr result (λ fault. IsRefused self.old 0 0 0 fault) }
     {
         self.within(0, 0, 0)?;
-        let Some(body) = graph.body(definition as usize) else {
+        let Some(body) = inputs.graph.body(definition as usize) else {
             return Ok(false);
         };
-        let params = graph.params(definition as usize);
-        let operands = graph.operands(list as usize);
+        let params = inputs.graph.params(definition as usize);
+        let operands = inputs.graph.operands(list as usize);
         let fitted = parameter_scopes(&self.scopes, &self.cells, params, operands, scope, added)?;
         let Some(newest) = fitted else {
             return Ok(false);

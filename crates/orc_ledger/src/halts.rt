@@ -1,20 +1,21 @@
 //! Groups that halt: nobody is in them any more.
 
-ghost use Rattle.std.specs.Prelude.{◌≡◌, Some, IfOk, OnErr, IfErr, MatchOption};
+ghost use Rattle.std.specs.Prelude.{◌≡◌, Some, IfOk, OnOk, OnErr, IfErr, MatchOption};
 ghost use Rattle.orc_rules.specs.Nodes.{code};
 ghost use Rattle.orc_rules.specs.Timed.{IsIn};
 ghost use Rattle.orc_tables.specs.Steps.{group_at};
 ghost use Rattle.orc_frames.specs.Paths.{has_left};
 ghost use Rattle.orc_ledger_spec.specs.Halting.{HasHalted, IsHinderedAt};
 ghost use Rattle.orc_tables.specs.declared.records.Group.{Group as Its};
+ghost use Rattle.orc_ledger.specs.Others.{KeepsAll};
 
 use crate::ledger::Ledger;
 use orc_frames::{has_left, left_at};
-use orc_ledger_spec::{HaltFault, Halted, LedgerFault};
-use orc_log::Program;
+use orc_ledger_spec::{HaltFault, Halted};
+use orc_log::Run;
 use orc_tables::{Call, Group, Side, Token};
 
-impl<P: Program> Ledger<P> {
+impl<P: Run> Ledger<P> {
     /// The open group with this number.
     pub fn group_with(&self, number: u32) -> Option<Group>
         ensures { MatchOption result ((g : Its) → IsIn g self.now.groups → g.number ≡ number → ⊥) (λ g. IsIn g self.now.groups × (g.number ≡ number)) }
@@ -44,6 +45,7 @@ impl<P: Program> Ledger<P> {
     /// starts the right side, unless a publication has left it: its group goes then, and no entry says so.
     pub fn halt(&mut self, number: u32) -> Result<Halted, HaltFault>
         ensures done { IfOk result (λ h. HasHalted (code P.listing) self.old self.new number h) }
+        ensures others { OnOk result (KeepsAll self.old.slots self.new.slots) }
         ensures refused { OnErr result (self.new ≡ self.old) }
         ensures why { IfErr result (λ fault. IsHinderedAt self.old number fault) }
     {

@@ -5,7 +5,7 @@ ghost use Rattle.orc_ledger_spec.specs.Offered.{NothingIsLost};
 ghost use Rattle.orc_ledger.specs.Stood.{Stands};
 
 use crate::ledger::Ledger;
-use orc_log::Program;
+use orc_log::Run;
 
 /// Nothing of Orc is lost, in one statement. Of each entry with which the ledger's journal may go on by the rules:
 ///
@@ -17,7 +17,7 @@ use orc_log::Program;
 /// - it is no cancel.
 ///
 /// And where the run is quiet by the rules, `next` says that, with the same exceptions.
-pub fn offered<P: Program>(ledger: &Ledger<P>)
+pub fn offered<P: Run>(ledger: &Ledger<P>)
     ensures { NothingIsLost P.listing P.sites ledger.now }
 {
     let _journal = &ledger.journal;
@@ -25,14 +25,14 @@ pub fn offered<P: Program>(ledger: &Ledger<P>)
 
 /// In a program that the scope check took each call of a definition that a token makes has its arguments. So [`Ledger::advance`] leaves no token as it
 /// is but those that wait or call a site.
-pub fn calls_fit<P: Program>(ledger: &Ledger<P>)
+pub fn calls_fit<P: Run>(ledger: &Ledger<P>)
     ensures { CallsFit P.listing ledger.now }
 {
     let _journal = &ledger.journal;
 }
 
 /// The journal leads to a place that the records spell, and their groups are nested as their sides.
-pub fn stands<P: Program>(ledger: &Ledger<P>)
+pub fn stands<P: Run>(ledger: &Ledger<P>)
     ensures { Stands P.listing P.sites ledger.now }
 {
     let _journal = &ledger.journal;

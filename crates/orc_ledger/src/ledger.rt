@@ -21,8 +21,7 @@ use orc_env::{Bound, StoredScope};
 use orc_indexes::{push_within, reserve};
 use orc_journal::Journal;
 use orc_ledger_spec::LedgerFault;
-use orc_log::{Log, Program};
-use orc_rules::answers::Answers;
+use orc_log::{Log, Run};
 use orc_rules::entry::Entry;
 use orc_rules::limits::{MOST_FRAMES, MOST_GROUPS, MOST_TOKENS};
 use orc_rules::value::Value;
@@ -31,7 +30,7 @@ use std::alloc::{AllocError, Global};
 use std::marker::{Model, PhantomData};
 
 /// The records of a run, with its journal.
-pub struct Ledger<P: Program> {
+pub struct Ledger<P: Run> {
     pub(crate) limit: usize,
     pub(crate) journal: Log<P>,
     pub(crate) entries: usize,
@@ -49,7 +48,7 @@ pub struct Ledger<P: Program> {
     pub(crate) program: PhantomData<P>,
 }
 
-impl<P: Program> Model for Ledger<P> {
+impl<P: Run> Model for Ledger<P> {
     ghost use Rattle.orc_ledger_spec.specs.Records.{Records};
     ghost use Rattle.orc_ledger_spec.specs.Kept.{IsKept};
     ghost use Rattle.orc_tables.specs.Tokens.{live};
@@ -62,7 +61,7 @@ impl<P: Program> Model for Ledger<P> {
 }
 
 // Written out, so that each exit of a function that has a ledger drops it by one call.
-impl<P: Program> Drop for Ledger<P> {
+impl<P: Run> Drop for Ledger<P> {
     fn drop(self) {
         let Ledger {
             limit: _,
@@ -94,7 +93,7 @@ impl<P: Program> Drop for Ledger<P> {
 
 // Writes an entry. Where memory is refused nothing changes.
 #[inline(always)]
-pub(crate) fn write<P: Program>(journal: &mut Log<P>, entry: &Entry) -> Result<(), LedgerFault>
+pub(crate) fn write<P: Run>(journal: &mut Log<P>, entry: &Entry) -> Result<(), LedgerFault>
     ensures added { OnOk result (journal.new ≡ log_with journal.old (entry.now ∷ [])) }
     ensures refused { OnErr result (journal.new ≡ journal.old) }
     ensures why { IfErr result (λ fault. fault ≡ LedgerFault.Memory) }
@@ -107,7 +106,7 @@ pub(crate) fn write<P: Program>(journal: &mut Log<P>, entry: &Entry) -> Result<(
 
 // Writes an entry that publishes nothing, and asks the claim then. Where memory is refused, or the claim is lost, the journal stays as it was.
 #[inline(always)]
-pub(crate) fn write_claimed<P: Program, C: Claim>(
+pub(crate) fn write_claimed<P: Run, C: Claim>(
     journal: &mut Log<P>,
     entry: &Entry,
     claim: &mut C,
@@ -127,7 +126,7 @@ pub(crate) fn write_claimed<P: Program, C: Claim>(
     Err(LedgerFault::Unclaimed)
 }
 
-impl<P: Program> Ledger<P> {
+impl<P: Run> Ledger<P> {
     /// A new run: token 1 stands at the program's main term, whose node is `root`, in slot 0. The journal is to have at most `limit` entries beside
     /// the cancels, and is held where the run `keeps` it. The only fault is `Memory`.
     pub fn begin(

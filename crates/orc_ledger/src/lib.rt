@@ -6,6 +6,7 @@ mod calls;
 mod claim;
 mod definitions;
 mod halts;
+mod inputs;
 mod laws;
 mod ledger;
 mod marks;
@@ -22,12 +23,13 @@ mod view;
 mod waits;
 
 pub use claim::{Always, Claim};
+pub use inputs::Inputs;
 pub use laws::{calls_fit, offered, stands};
 pub use ledger::Ledger;
 pub use orc_frames::{Action, Taker};
 pub use orc_ledger_spec::{
     Called, HaltFault, Halted, LedgerFault, Moved, Next, Passed, Request, ReturnFault,
 };
-pub use orc_log::Program;
+pub use orc_log::Run;
 pub use orc_tables::{Call, Frame, Group, Side, Standing, Step, Token};
 pub use sub_runs::{SubRun, SubRunTask};

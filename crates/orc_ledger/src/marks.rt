@@ -11,23 +11,25 @@ ghost use Rattle.orc_tables.specs.Tokens.{IsHeld};
 ghost use Rattle.orc_ledger_spec.specs.Claims.{IsBarred};
 ghost use Rattle.orc_ledger_spec.specs.Calls.{IsRefused, IsFree, IsEnded, IsVoided, IsForked, IsFed, IsTried, IsOpened, born};
 ghost use Rattle.orc_tables.specs.declared.records.Standing.TheVariants.{At};
+ghost use Rattle.orc_ledger.specs.Others.{KeepsOthers};
 
 use crate::claim::Claim;
 use crate::ledger::{Ledger, write, write_claimed};
 use orc_env::{Bound, Scope, StoredScope, outer_number};
 use orc_indexes::{push_within, reserve};
 use orc_ledger_spec::LedgerFault;
-use orc_log::Program;
+use orc_log::Run;
 use orc_rules::entry::Entry;
 use orc_rules::limits::MOST_FRAMES;
 use orc_tables::{Frame, Side, Standing, Step, Token};
 
-impl<P: Program> Ledger<P> {
+impl<P: Run> Ledger<P> {
     /// `stop`: the token goes.
     pub fn end(&mut self, slot: usize, token: Token) -> Result<(), LedgerFault>
         requires held { IsHeld self.old.slots slot token }
         requires at { (node : ℕ) × (scope : ℕ) × (token.standing ≡ At node scope) × (code P.listing node ≡ stop) }
         ensures done { IfOk result (λ _. IsEnded self.old token self.new) }
+        ensures others { OnOk result (KeepsOthers self.old.slots slot self.new.slots) }
         ensures refused { OnErr result (self.new ≡ self.old) }
         ensures why { IfErr result (λ fault. IsRefused self.old 0 0 0 fault) }
     {
@@ -45,6 +47,7 @@ impl<P: Program> Ledger<P> {
         requires held { IsHeld self.old.slots slot token }
         requires void { IsVoid (standing (code P.listing) (its_env (code P.listing) self.old) token.standing) }
         ensures done { IfOk result (λ _. IsVoided self.old token self.new) }
+        ensures others { OnOk result (KeepsOthers self.old.slots slot self.new.slots) }
         ensures refused { OnErr result (self.new ≡ self.old) }
         ensures why { IfErr result (λ fault. IsRefused self.old 0 0 0 fault) }
     {
@@ -72,6 +75,7 @@ impl<P: Program> Ledger<P> {
         ensures done { IfOk result (λ _. IsForked self.old token scope left right self.new) }
         ensures left { IfOk result (λ _. IsHeld self.new.slots slot (born self.old token self.old.next_mark left scope token.step)) }
         ensures right { IfOk result (λ other. IsHeld self.new.slots other (born self.old token (self.old.next_mark + 1) right scope token.step)) }
+        ensures others { OnOk result (KeepsOthers self.old.slots slot self.new.slots) }
         ensures refused { OnErr result (self.new ≡ self.old) }
         ensures why { IfErr result (λ fault. IsRefused self.old 1 0 0 fault) }
     {
@@ -121,6 +125,7 @@ impl<P: Program> Ledger<P> {
         requires at { (node : ℕ) × (token.standing ≡ At node scope) × (code P.listing node ≡ seq (code P.listing left) name (code P.listing right)) }
         ensures done { IfOk result (λ _. IsFed self.old token scope left name right self.new) }
         ensures left { IfOk result (λ _. IsHeld self.new.slots slot (born self.old token self.old.next_mark left scope (length self.old.steps + 1))) }
+        ensures others { OnOk result (KeepsOthers self.old.slots slot self.new.slots) }
         ensures refused { OnErr result (self.new ≡ self.old) }
         ensures why { IfErr result (λ fault. IsRefused self.old 0 0 (depth_at self.old.steps token.step + 1) fault) }
     {
@@ -170,6 +175,7 @@ impl<P: Program> Ledger<P> {
         ensures done { IfOk result (λ _. (number : ℕ) × IsFree self.old number × IsTried self.old token scope left right number self.new) }
         ensures left { IfOk result (λ _. IsHeld self.new.slots slot (born self.old token self.old.next_mark left scope (length self.old.steps + 1))) }
         ensures got { OnOk result (C.got claim.old claim.new) }
+        ensures others { OnOk result (KeepsOthers self.old.slots slot self.new.slots) }
         ensures refused { OnErr result (self.new ≡ self.old) }
         ensures why { IfErr result (λ fault. IsBarred (claim.new ≡ claim.old) (C.lost claim.old claim.new) (IsRefused self.old 0 1 0) fault) }
     {
@@ -228,6 +234,7 @@ impl<P: Program> Ledger<P> {
         ensures left { IfOk result (λ _. IsHeld self.new.slots slot (born self.old token self.old.next_mark left (length self.old.scopes + 1) token.step)) }
         ensures right { IfOk result (λ other. IsHeld self.new.slots other (born self.old token (self.old.next_mark + 1) right scope (length self.old.steps + 1))) }
         ensures got { OnOk result (C.got claim.old claim.new) }
+        ensures others { OnOk result (KeepsOthers self.old.slots slot self.new.slots) }
         ensures refused { OnErr result (self.new ≡ self.old) }
         ensures why { IfErr result (λ fault. IsBarred (claim.new ≡ claim.old) (C.lost claim.old claim.new) (IsRefused self.old 1 1 0) fault) }
     {

@@ -20,19 +20,21 @@ ghost use Rattle.orc_tables.specs.declared.records.Frame.TheVariants.{PruneRight
 ghost use Rattle.orc_tables.specs.declared.records.Standing.TheVariants.{On};
 ghost use Rattle.orc_ledger_spec.specs.Claims.{HasAsked, IsBarredAt};
 ghost use Rattle.orc_ledger_spec.specs.Moves.{StandsAt, IsThere, Moves, IsHindered};
+ghost use Rattle.orc_ledger.specs.Others.{KeepsBy};
 
 use crate::claim::{Always, Claim};
+use crate::inputs::Inputs;
 use crate::ledger::Ledger;
 use orc_env::{Bound, StoredScope, meaning};
 use orc_frames::{Action, Taker, are_values, call_with, find_taker, take_values};
-use orc_graph::{Graph, Node};
+use orc_graph::Node;
 use orc_ledger_spec::{LedgerFault, Moved};
-use orc_log::Program;
+use orc_log::Run;
 use orc_rules::param::Operand;
 use orc_rules::value::{Args, Value};
 use orc_tables::{Standing, Token};
 
-impl<P: Program> Ledger<P> {
+impl<P: Run> Ledger<P> {
     /// The number of the group of a token that took this step last.
     pub fn group_of(&self, step: usize) -> u32
         ensures { result ≡ group_at self.now.steps step }
@@ -89,6 +91,7 @@ impl<P: Program> Ledger<P> {
         requires held { IsHeld self.old.slots slot token }
         requires at { (scope : ℕ) × StandsAt P.listing token scope stop }
         ensures done { (ks : List ℕ) → IfOk result (λ m. Moves P.listing self.old slot token m ks self.new) }
+        ensures others { IfOk result (λ m. KeepsBy (code P.listing) self.old slot m self.new) }
         ensures refused { OnErr result (self.new ≡ self.old) }
         ensures why { IfErr result (λ fault. IsHindered P.listing self.old token fault) }
     {
@@ -101,6 +104,7 @@ impl<P: Program> Ledger<P> {
         requires held { IsHeld self.old.slots slot token }
         requires void { IsVoid (standing (code P.listing) (its_env (code P.listing) self.old) token.standing) }
         ensures done { (ks : List ℕ) → IfOk result (λ m. Moves P.listing self.old slot token m ks self.new) }
+        ensures others { IfOk result (λ m. KeepsBy (code P.listing) self.old slot m self.new) }
         ensures refused { OnErr result (self.new ≡ self.old) }
         ensures why { IfErr result (λ fault. IsHindered P.listing self.old token fault) }
     {
@@ -121,6 +125,7 @@ impl<P: Program> Ledger<P> {
         requires held { IsHeld self.old.slots slot token }
         requires at { StandsAt P.listing token scope (par (code P.listing left) (code P.listing right)) }
         ensures done { (ks : List ℕ) → IfOk result (λ m. Moves P.listing self.old slot token m ks self.new) }
+        ensures others { IfOk result (λ m. KeepsBy (code P.listing) self.old slot m self.new) }
         ensures refused { OnErr result (self.new ≡ self.old) }
         ensures why { IfErr result (λ fault. IsHindered P.listing self.old token fault) }
     {
@@ -140,6 +145,7 @@ impl<P: Program> Ledger<P> {
         requires held { IsHeld self.old.slots slot token }
         requires at { StandsAt P.listing token scope (seq (code P.listing left) name (code P.listing right)) }
         ensures done { (ks : List ℕ) → IfOk result (λ m. Moves P.listing self.old slot token m ks self.new) }
+        ensures others { IfOk result (λ m. KeepsBy (code P.listing) self.old slot m self.new) }
         ensures refused { OnErr result (self.new ≡ self.old) }
         ensures why { IfErr result (λ fault. IsHindered P.listing self.old token fault) }
     {
@@ -160,6 +166,7 @@ impl<P: Program> Ledger<P> {
         requires at { StandsAt P.listing token scope (other (code P.listing left) (code P.listing right)) }
         ensures done { (ks : List ℕ) → IfOk result (λ m. Moves P.listing self.old slot token m ks self.new) }
         ensures asked { OnOk result (HasAsked P.listing self.old token (claim.new ≡ claim.old) (C.got claim.old claim.new)) }
+        ensures others { IfOk result (λ m. KeepsBy (code P.listing) self.old slot m self.new) }
         ensures refused { OnErr result (self.new ≡ self.old) }
         ensures why { IfErr result (λ fault. IsBarredAt P.listing self.old token (claim.new ≡ claim.old) (C.lost claim.old claim.new) fault) }
     {
@@ -181,6 +188,7 @@ impl<P: Program> Ledger<P> {
         requires at { StandsAt P.listing token scope (prune (code P.listing left) name (code P.listing right)) }
         ensures done { (ks : List ℕ) → IfOk result (λ m. Moves P.listing self.old slot token m ks self.new) }
         ensures asked { OnOk result (HasAsked P.listing self.old token (claim.new ≡ claim.old) (C.got claim.old claim.new)) }
+        ensures others { IfOk result (λ m. KeepsBy (code P.listing) self.old slot m self.new) }
         ensures refused { OnErr result (self.new ≡ self.old) }
         ensures why { IfErr result (λ fault. IsBarredAt P.listing self.old token (claim.new ≡ claim.old) (C.lost claim.old claim.new) fault) }
     {
@@ -191,7 +199,7 @@ impl<P: Program> Ledger<P> {
     #[inline(always)]
     fn move_def(
         &mut self,
-        graph: &Graph,
+        inputs: &Inputs<'_, P>,
         slot: usize,
         token: Token,
         scope: usize,
@@ -199,18 +207,18 @@ impl<P: Program> Ledger<P> {
         list: u32,
         added: &mut Vec<StoredScope>,
     ) -> Result<Moved, LedgerFault>
-        requires graph { graph.now ≡ P.listing }
         requires held { IsHeld self.old.slots slot token }
         requires at { StandsAt P.listing token scope (call definition (map param_of (slice_index_or P.listing.lists list []))) }
         ensures done { (ks : List ℕ) → IfOk result (λ m. Moves P.listing self.old slot token m ks self.new) }
+        ensures others { IfOk result (λ m. KeepsBy (code P.listing) self.old slot m self.new) }
         ensures refused { OnErr result (self.new ≡ self.old) }
         ensures why { IfErr result (λ fault. IsHindered P.listing self.old token fault) }
     {
-        match graph.body(definition as usize) {
+        match inputs.graph.body(definition as usize) {
             // No limit refuses what can't be done.
             None => Ok(Moved::Waits),
             Some(_) => {
-                if self.def(graph, slot, token, scope, definition, list, added)? {
+                if self.def(inputs, slot, token, scope, definition, list, added)? {
                     Ok(Moved::On)
                 } else {
                     Ok(Moved::Waits)
@@ -230,6 +238,7 @@ impl<P: Program> Ledger<P> {
         requires form { standing (code P.listing) (its_env (code P.listing) self.old) token.standing ≡ param (Is value) }
         requires takes { taker (its_path (code P.listing) self.old token.step) ≡ whole }
         ensures done { (ks : List ℕ) → IfOk result (λ m. Moves P.listing self.old slot token m ks self.new) }
+        ensures others { IfOk result (λ m. KeepsBy (code P.listing) self.old slot m self.new) }
         ensures refused { OnErr result (self.new ≡ self.old) }
         ensures why { IfErr result (λ fault. IsHindered P.listing self.old token fault) }
     {
@@ -255,6 +264,7 @@ impl<P: Program> Ledger<P> {
         requires way { (n : ℕ) × (reach self.old.steps n token.step ≡ outer) }
         requires fits { (scope ≤ length self.old.scopes) × (outer ≤ length self.old.steps) }
         ensures done { (ks : List ℕ) → IfOk result (λ m. Moves P.listing self.old slot token m ks self.new) }
+        ensures others { IfOk result (λ m. KeepsBy (code P.listing) self.old slot m self.new) }
         ensures refused { OnErr result (self.new ≡ self.old) }
         ensures why { IfErr result (λ fault. IsHindered P.listing self.old token fault) }
     {
@@ -279,6 +289,7 @@ impl<P: Program> Ledger<P> {
         requires side { HasStep self.old.steps (PruneRight cell) outer }
         ensures done { IfOk result (λ m. Moves P.listing self.old slot token m cancelled.new.items self.new) }
         ensures asked { OnOk result (HasAsked P.listing self.old token (claim.new ≡ claim.old) (C.got claim.old claim.new)) }
+        ensures others { IfOk result (λ m. KeepsBy (code P.listing) self.old slot m self.new) }
         ensures refused { OnErr result (self.new ≡ self.old) }
         ensures why { IfErr result (λ fault. IsBarredAt P.listing self.old token (claim.new ≡ claim.old) (C.lost claim.old claim.new) fault) }
     {
@@ -301,6 +312,7 @@ impl<P: Program> Ledger<P> {
         requires form { standing (code P.listing) (its_env (code P.listing) self.old) token.standing ≡ param (Is value) }
         ensures done { IfOk result (λ m. Moves P.listing self.old slot token m cancelled.new.items self.new) }
         ensures asked { OnOk result (HasAsked P.listing self.old token (claim.new ≡ claim.old) (C.got claim.old claim.new)) }
+        ensures others { IfOk result (λ m. KeepsBy (code P.listing) self.old slot m self.new) }
         ensures refused { OnErr result (self.new ≡ self.old) }
         ensures why { IfErr result (λ fault. IsBarredAt P.listing self.old token (claim.new ≡ claim.old) (C.lost claim.old claim.new) fault) }
     {
@@ -329,6 +341,7 @@ impl<P: Program> Ledger<P> {
         requires at { StandsAt P.listing token scope (param (Name name)) }
         ensures done { IfOk result (λ m. Moves P.listing self.old slot token m cancelled.new.items self.new) }
         ensures asked { OnOk result (HasAsked P.listing self.old token (claim.new ≡ claim.old) (C.got claim.old claim.new)) }
+        ensures others { IfOk result (λ m. KeepsBy (code P.listing) self.old slot m self.new) }
         ensures refused { OnErr result (self.new ≡ self.old) }
         ensures why { IfErr result (λ fault. IsBarredAt P.listing self.old token (claim.new ≡ claim.old) (C.lost claim.old claim.new) fault) }
     {
@@ -344,20 +357,20 @@ impl<P: Program> Ledger<P> {
     #[inline(always)]
     fn move_site(
         &mut self,
-        graph: &Graph,
+        inputs: &Inputs<'_, P>,
         slot: usize,
         token: Token,
         scope: usize,
         list: u32,
     ) -> Result<Moved, LedgerFault>
-        requires graph { graph.now ≡ P.listing }
         requires held { IsHeld self.old.slots slot token }
         requires at { (m : ℕ) × StandsAt P.listing token scope (site m (map param_of (slice_index_or P.listing.lists list []))) }
         ensures done { (ks : List ℕ) → IfOk result (λ m. Moves P.listing self.old slot token m ks self.new) }
+        ensures others { IfOk result (λ m. KeepsBy (code P.listing) self.old slot m self.new) }
         ensures refused { OnErr result (self.new ≡ self.old) }
         ensures why { IfErr result (λ fault. IsHindered P.listing self.old token fault) }
     {
-        let operands = graph.operands(list as usize);
+        let operands = inputs.graph.operands(list as usize);
         if self.have_values(operands, scope) {
             return Ok(Moved::Calls);
         }
@@ -372,7 +385,7 @@ impl<P: Program> Ledger<P> {
     #[inline(always)]
     pub(crate) fn move_at<C: Claim>(
         &mut self,
-        graph: &Graph,
+        inputs: &Inputs<'_, P>,
         slot: usize,
         token: Token,
         scope: usize,
@@ -381,11 +394,11 @@ impl<P: Program> Ledger<P> {
         added: &mut Vec<StoredScope>,
         cancelled: &mut Vec<u64>,
     ) -> Result<Moved, LedgerFault>
-        requires graph { graph.now ≡ P.listing }
         requires held { IsHeld self.old.slots slot token }
         requires at { StandsAt P.listing token scope (unfold_node (code P.listing) P.listing.lists (term_node node)) }
         ensures done { IfOk result (λ m. Moves P.listing self.old slot token m cancelled.new.items self.new) }
         ensures asked { OnOk result (HasAsked P.listing self.old token (claim.new ≡ claim.old) (C.got claim.old claim.new)) }
+        ensures others { IfOk result (λ m. KeepsBy (code P.listing) self.old slot m self.new) }
         ensures refused { OnErr result (self.new ≡ self.old) }
         ensures why { IfErr result (λ fault. IsBarredAt P.listing self.old token (claim.new ≡ claim.old) (C.lost claim.old claim.new) fault) }
     {
@@ -393,9 +406,9 @@ impl<P: Program> Ledger<P> {
             Node::Stop => self.move_end(slot, token),
             Node::Name(name) => self.move_name(slot, token, scope, name, claim, cancelled),
             Node::Is(value) => self.move_value(slot, token, value, claim, cancelled),
-            Node::Site(_, list) => self.move_site(graph, slot, token, scope, list),
+            Node::Site(_, list) => self.move_site(inputs, slot, token, scope, list),
             Node::Call(definition, list) => {
-                self.move_def(graph, slot, token, scope, definition, list, added)
+                self.move_def(inputs, slot, token, scope, definition, list, added)
             }
             Node::Par(left, right) => self.move_fork(slot, token, scope, left, right),
             Node::Seq(left, name, right) => self.move_feed(slot, token, scope, left, name, right),
@@ -412,25 +425,25 @@ impl<P: Program> Ledger<P> {
     /// cell is bound `cancelled` then holds the numbers of the calls that are cancelled, in rising order.
     pub fn advance_by<C: Claim>(
         &mut self,
-        graph: &Graph,
+        inputs: &Inputs<'_, P>,
         slot: usize,
         token: Token,
         claim: &mut C,
         added: &mut Vec<StoredScope>,
         cancelled: &mut Vec<u64>,
     ) -> Result<Moved, LedgerFault>
-        requires graph { graph.now ≡ P.listing }
         requires held { IsHeld self.old.slots slot token }
         ensures done { IfOk result (λ m. Moves P.listing self.old slot token m cancelled.new.items self.new) }
         ensures asked { OnOk result (HasAsked P.listing self.old token (claim.new ≡ claim.old) (C.got claim.old claim.new)) }
+        ensures others { IfOk result (λ m. KeepsBy (code P.listing) self.old slot m self.new) }
         ensures refused { OnErr result (self.new ≡ self.old) }
         ensures why { IfErr result (λ fault. IsBarredAt P.listing self.old token (claim.new ≡ claim.old) (C.lost claim.old claim.new) fault) }
     {
         match token.standing {
             Standing::On(value) => self.move_value(slot, token, value, claim, cancelled),
             Standing::At(node, scope) => {
-                let node = graph.node(node as usize);
-                self.move_at(graph, slot, token, scope, node, claim, added, cancelled)
+                let node = inputs.graph.node(node as usize);
+                self.move_at(inputs, slot, token, scope, node, claim, added, cancelled)
             }
         }
     }
@@ -438,20 +451,20 @@ impl<P: Program> Ledger<P> {
     /// The same where there is nobody to lose a claim to.
     pub fn advance(
         &mut self,
-        graph: &Graph,
+        inputs: &Inputs<'_, P>,
         slot: usize,
         token: Token,
         added: &mut Vec<StoredScope>,
         cancelled: &mut Vec<u64>,
     ) -> Result<Moved, LedgerFault>
-        requires graph { graph.now ≡ P.listing }
         requires held { IsHeld self.old.slots slot token }
         ensures done { IfOk result (λ m. Moves P.listing self.old slot token m cancelled.new.items self.new) }
+        ensures others { IfOk result (λ m. KeepsBy (code P.listing) self.old slot m self.new) }
         ensures refused { OnErr result (self.new ≡ self.old) }
         ensures why { IfErr result (λ fault. IsHindered P.listing self.old token fault) }
     {
         let mut claim = Always;
-        self.advance_by(graph, slot, token, &mut claim, added, cancelled)
+        self.advance_by(inputs, slot, token, &mut claim, added, cancelled)
     }
 
     /// The same of a token that stands on this value.
@@ -466,6 +479,7 @@ impl<P: Program> Ledger<P> {
         requires held { IsHeld self.old.slots slot token }
         requires on { token.standing ≡ On value }
         ensures done { IfOk result (λ m. Moves P.listing self.old slot token m cancelled.new.items self.new) }
+        ensures others { IfOk result (λ m. KeepsBy (code P.listing) self.old slot m self.new) }
         ensures refused { OnErr result (self.new ≡ self.old) }
         ensures why { IfErr result (λ fault. IsHindered P.listing self.old token fault) }
     {

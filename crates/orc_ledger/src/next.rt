@@ -11,17 +11,16 @@ ghost use Rattle.orc_ledger_spec.specs.Halting.{IsGroup};
 ghost use Rattle.orc_ledger_spec.specs.Next.{numbers_of, ready, ready_one, empty_groups, open_empty, members, next_of};
 ghost use Rattle.orc_ledger_spec.specs.Spoken.{spoken, IsRight};
 
+use crate::inputs::Inputs;
 use crate::ledger::Ledger;
 use orc_frames::Action;
-use orc_graph::Graph;
 use orc_ledger_spec::Next;
-use orc_log::Program;
+use orc_log::Run;
 use orc_tables::Token;
 
-impl<P: Program> Ledger<P> {
+impl<P: Run> Ledger<P> {
     // Whether a slot holds a token that doesn't wait.
-    fn can_move(&self, graph: &Graph, slot: &Token) -> bool
-        requires { graph.now ≡ P.listing }
+    fn can_move(&self, inputs: &Inputs<'_, P>, slot: &Token) -> bool
         ensures held { result ≡ true → 1 ≤ slot.now.serial }
         ensures moves { result ≡ true → is_wait (what_of (code P.listing) (definitions P.listing) self.now slot.now) ≡ false }
         ensures none { result ≡ false → only is_live (ready_one (code P.listing) (definitions P.listing) self.now) slot.now ≡ 0 }
@@ -29,22 +28,21 @@ impl<P: Program> Ledger<P> {
         if slot.serial == 0 {
             return false;
         }
-        match self.what(graph, slot) {
+        match self.what(inputs, slot) {
             Action::Wait(_) => false,
             _ => true,
         }
     }
 
     /// A token that doesn't wait, with its slot. It looks at one after another, and at none where all are parked.
-    pub fn movable(&self, graph: &Graph) -> Option<(usize, Token)>
-        requires { graph.now ≡ P.listing }
+    pub fn movable(&self, inputs: &Inputs<'_, P>) -> Option<(usize, Token)>
         ensures { MatchOption result (ready (code P.listing) (definitions P.listing) self.now ≡ 0) (λ m. IsHeld self.now.slots m.0 m.1 × (is_wait (what_of (code P.listing) (definitions P.listing) self.now m.1) ≡ false)) }
     {
         if self.tokens.all_wait() {
             return None;
         }
         for (slot, token) in self.tokens.slots().iter().enumerate() {
-            if self.can_move(graph, token) {
+            if self.can_move(inputs, token) {
                 return Some((slot, *token));
             }
         }
@@ -52,13 +50,12 @@ impl<P: Program> Ledger<P> {
     }
 
     // Whether some token doesn't wait.
-    fn any_moves(&self, graph: &Graph) -> bool
-        requires { graph.now ≡ P.listing }
+    fn any_moves(&self, inputs: &Inputs<'_, P>) -> bool
         ensures some { result ≡ true → 1 ≤ ready (code P.listing) (definitions P.listing) self.now }
         ensures none { result ≡ false → ready (code P.listing) (definitions P.listing) self.now ≡ 0 }
     {
         let _tokens = &self.tokens;
-        self.movable(graph).is_some()
+        self.movable(inputs).is_some()
     }
 
     /// How many tokens, pending calls and open groups are in the group of that number: its live count. That of the program is 0; where no group has
@@ -100,12 +97,11 @@ impl<P: Program> Ledger<P> {
     }
 
     // What comes next, as an equation alone.
-    fn find_next(&mut self, graph: &Graph) -> Next
-        requires { graph.now ≡ P.listing }
+    fn find_next(&mut self, inputs: &Inputs<'_, P>) -> Next
         ensures is { spoken result ≡ next_of (code P.listing) (definitions P.listing) (numbers_of self.old) self.old }
         ensures same { self.new ≡ self.old }
     {
-        if self.any_moves(graph) || self.any_empty() {
+        if self.any_moves(inputs) || self.any_empty() {
             return Next::Work;
         }
         match self.next_due() {
@@ -122,13 +118,12 @@ impl<P: Program> Ledger<P> {
 
     /// What comes next. Work where a token can move, a group has no members, or a call is due; else a tick to the least due time of the
     /// pending calls; else nothing, the run is quiet. It looks at each token unless all are parked, and at each group.
-    pub fn next(&mut self, graph: &Graph) -> Next
-        requires { graph.now ≡ P.listing }
+    pub fn next(&mut self, inputs: &Inputs<'_, P>) -> Next
         ensures is { spoken result ≡ next_of (code P.listing) (definitions P.listing) (numbers_of self.old) self.old }
         ensures right { IsRight P.listing P.sites self.old result }
         ensures same { self.new ≡ self.old }
     {
         let _time = &self.time;
-        self.find_next(graph)
+        self.find_next(inputs)
     }
 }

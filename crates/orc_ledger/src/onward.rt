@@ -1,6 +1,6 @@
 //! Moves in one go: a token enters the left side of a `>x>`, the call there is made and answered at once, and the `>x>` takes the answer.
 
-ghost use Rattle.std.specs.Prelude.{◌≡◌, ℕ, List, [], map, true, false, slice_index_or, IfOk, IfErr, OnErr};
+ghost use Rattle.std.specs.Prelude.{◌≡◌, ℕ, List, [], map, true, false, slice_index_or, IfOk, IfErr, OnOk, OnErr};
 ghost use Rattle.orc_rules.specs.Nodes.{code, param_of};
 ghost use Rattle.orc_rules.specs.Term.{seq, site as calls};
 ghost use Rattle.orc_ledger_spec.specs.Moves.{StandsAt, Moves, IsHindered};
@@ -9,17 +9,18 @@ ghost use Rattle.orc_ledger_spec.specs.Vacant.{IsVacant, Sheds};
 ghost use Rattle.orc_ledger_spec.specs.declared.results.Moved.TheVariants.{Sent};
 ghost use Rattle.orc_tables.specs.Tokens.{IsHeld};
 ghost use Rattle.orc_tables.specs.declared.records.Standing.TheVariants.{On};
+ghost use Rattle.orc_ledger.specs.Others.{KeepsOthers};
 
+use crate::inputs::Inputs;
 use crate::ledger::Ledger;
 use orc_frames::Taker;
-use orc_graph::{Graph, Node};
+use orc_graph::Node;
 use orc_ledger_spec::{Called, LedgerFault, Passed};
-use orc_log::Program;
-use orc_rules::answers::Answers;
+use orc_log::Run;
 use orc_rules::value::{Args, Value};
 use orc_tables::{Standing, Token};
 
-impl<P: Program> Ledger<P> {
+impl<P: Run> Ledger<P> {
     // A `>x>` takes the value on which a token stands, if it is what takes it and memory isn't refused. Whether it did.
     #[inline(always)]
     fn send_on(&mut self, slot: usize, token: Token, value: Value) -> bool
@@ -27,6 +28,7 @@ impl<P: Program> Ledger<P> {
         requires on { token.standing ≡ On value }
         ensures sent { result ≡ true → (g : ℕ) × Moves P.listing self.old slot token (Sent g) [] self.new }
         ensures not { result ≡ false → self.new ≡ self.old }
+        ensures others { KeepsOthers self.old.slots slot self.new.slots }
     {
         match self.taker_of(token) {
             Taker::SeqLeft(name, right, scope, outer) => {
@@ -44,8 +46,7 @@ impl<P: Program> Ledger<P> {
     #[inline(always)]
     fn call_on(
         &mut self,
-        graph: &Graph,
-        answers: &Answers,
+        inputs: &Inputs<'_, P>,
         slot: usize,
         token: Token,
         scope: usize,
@@ -53,15 +54,14 @@ impl<P: Program> Ledger<P> {
         list: u32,
         args: &mut Args,
     ) -> Passed
-        requires graph { graph.now ≡ P.listing }
-        requires answers { answers.now.sites ≡ P.sites }
         requires held { IsHeld self.old.slots slot token }
         requires at { StandsAt P.listing token scope (calls site (map param_of (slice_index_or P.listing.lists list []))) }
-        ensures { GoesOn P.listing P.sites self.old slot token result self.new }
+        ensures goes { GoesOn P.listing P.sites self.old slot token result self.new }
+        ensures others { KeepsOthers self.old.slots slot self.new.slots }
     {
-        if self.take_values(graph.operands(list as usize), scope, args) {
+        if self.take_values(inputs.graph.operands(list as usize), scope, args) {
             let mark = self.next_mark;
-            return match self.answer_through(answers, slot, token, site, args) {
+            return match self.answer_through(inputs, slot, token, site, args) {
                 Ok(Called::Answered(value)) => {
                     let answered = Token {
                         serial: mark,
@@ -97,8 +97,7 @@ impl<P: Program> Ledger<P> {
     /// the next time. Where it comes through, or halts, the step on which it entered goes again. `args` is lent for the arguments.
     pub fn feed_through(
         &mut self,
-        graph: &Graph,
-        answers: &Answers,
+        inputs: &Inputs<'_, P>,
         slot: usize,
         token: Token,
         scope: usize,
@@ -107,17 +106,16 @@ impl<P: Program> Ledger<P> {
         right: u32,
         args: &mut Args,
     ) -> Result<Passed, LedgerFault>
-        requires graph { graph.now ≡ P.listing }
-        requires answers { answers.now.sites ≡ P.sites }
         requires held { IsHeld self.old.slots slot token }
         requires at { StandsAt P.listing token scope (seq (code P.listing left) name (code P.listing right)) }
         ensures done { (ks : List ℕ) → IfOk result (λ p. Passes P.listing P.sites self.old slot token p ks self.new) }
+        ensures others { OnOk result (KeepsOthers self.old.slots slot self.new.slots) }
         ensures refused { OnErr result (self.new ≡ self.old) }
         ensures why { IfErr result (λ fault. IsHindered P.listing self.old token fault) }
     {
         let mark = self.next_mark;
         self.feed(slot, token, scope, left, name, right)?;
-        let Node::Site(site, list) = graph.node(left as usize) else {
+        let Node::Site(site, list) = inputs.graph.node(left as usize) else {
             return Ok(Passed::On);
         };
         let first = Token {
@@ -125,7 +123,7 @@ impl<P: Program> Ledger<P> {
             standing: Standing::At(left, scope),
             step: self.steps.len(),
         };
-        match self.call_on(graph, answers, slot, first, scope, site, list, args) {
+        match self.call_on(inputs, slot, first, scope, site, list, args) {
             Passed::Through => {
                 self.shed();
                 Ok(Passed::Through)

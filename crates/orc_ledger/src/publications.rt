@@ -1,6 +1,6 @@
 //! What a token publishes: a publication of the program, or what a `>x>` takes.
 
-ghost use Rattle.std.specs.Prelude.{◌≡◌, ◌+◌, ◌<◌, ◌≤◌, ◌∷◌, [], ℕ, length, IfOk, IfErr, OnErr};
+ghost use Rattle.std.specs.Prelude.{◌≡◌, ◌+◌, ◌<◌, ◌≤◌, ◌∷◌, [], ℕ, length, IfOk, IfErr, OnOk, OnErr};
 ghost use Rattle.orc_rules.specs.Nodes.{code};
 ghost use Rattle.orc_rules.specs.Term.{param};
 ghost use Rattle.orc_rules.specs.declared.param.Param.TheVariants.{Is};
@@ -13,18 +13,19 @@ ghost use Rattle.orc_ledger_spec.specs.Records.{its_env, its_path};
 ghost use Rattle.orc_frames.specs.Paths.{standing};
 ghost use Rattle.orc_ledger_spec.specs.Calls.{Crosses, IsRefused};
 ghost use Rattle.orc_tables.specs.declared.records.Standing.TheVariants.{At};
+ghost use Rattle.orc_ledger.specs.Others.{KeepsOthers};
 
 use crate::ledger::{Ledger, write};
 use orc_env::{Bound, Scope, StoredScope, outer_number};
 use orc_frames::leave_others;
 use orc_indexes::{push_within, reserve};
 use orc_ledger_spec::LedgerFault;
-use orc_log::Program;
+use orc_log::Run;
 use orc_rules::entry::Entry;
 use orc_rules::value::Value;
 use orc_tables::{Standing, Token};
 
-impl<P: Program> Ledger<P> {
+impl<P: Run> Ledger<P> {
     /// A publication of the program: nothing round the token takes it.
     #[inline(always)]
     pub fn publish(&mut self, slot: usize, token: Token, value: Value) -> Result<(), LedgerFault>
@@ -32,6 +33,7 @@ impl<P: Program> Ledger<P> {
         requires form { standing (code P.listing) (its_env (code P.listing) self.old) token.standing ≡ param (Is value) }
         requires takes { taker (its_path (code P.listing) self.old token.step) ≡ whole }
         ensures done { IfOk result (λ _. Crosses self.old self.new token [] [] (crossed (its_path (code P.listing) self.old token.step)) (Publish token.serial value)) }
+        ensures others { OnOk result (KeepsOthers self.old.slots slot self.new.slots) }
         ensures refused { OnErr result (self.new ≡ self.old) }
         ensures why { IfErr result (λ fault. IsRefused self.old 0 0 0 fault) }
     {
@@ -64,6 +66,7 @@ impl<P: Program> Ledger<P> {
         requires fits { (scope ≤ length self.old.scopes) × (outer ≤ length self.old.steps) }
         ensures done { IfOk result (λ _. Crosses self.old self.new token (record { serial = self.old.next_mark; standing = At right (length self.old.scopes + 1); step = outer } ∷ []) (record { name = name; bound = Bound.Is value; outer = scope } ∷ []) (crossed (its_path (code P.listing) self.old token.step)) (Send token.serial self.old.next_mark value)) }
         ensures right { IfOk result (λ _. IsHeld self.new.slots slot (record { serial = self.old.next_mark; standing = At right (length self.old.scopes + 1); step = outer })) }
+        ensures others { OnOk result (KeepsOthers self.old.slots slot self.new.slots) }
         ensures refused { OnErr result (self.new ≡ self.old) }
         ensures why { IfErr result (λ fault. IsRefused self.old 0 0 0 fault) }
     {

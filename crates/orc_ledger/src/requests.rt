@@ -13,40 +13,40 @@ ghost use Rattle.orc_ledger_spec.specs.Doing.{term_of, what_of};
 ghost use Rattle.orc_ledger_spec.specs.Requests.{IsAsked, IsMade, IsNextCall};
 ghost use Rattle.orc_indexes.specs.Same.{weight};
 ghost use Rattle.orc_tables.specs.Tokens.{IsHeld};
+ghost use Rattle.orc_ledger.specs.Others.{KeepsOthers};
 
+use crate::inputs::Inputs;
 use crate::ledger::Ledger;
 use orc_calls::Counts;
 use orc_frames::Action;
-use orc_graph::{Graph, Node};
+use orc_graph::Node;
 use orc_ledger_spec::{LedgerFault, Request};
-use orc_log::{Log, Program};
-use orc_rules::answers::Answers;
+use orc_log::{Log, Run};
 use orc_rules::entry::Entry;
 use orc_rules::value::Args;
 use orc_tables::{Call, Standing, Token};
 
 // Writes a call and counts it. Where memory is refused nothing changes.
-fn write_call<P: Program>(
+fn write_call<P: Run>(
     journal: &mut Log<P>,
     counts: &mut Counts,
-    answers: &Answers,
+    inputs: &Inputs<'_, P>,
     token: u64,
     call: u64,
     site: u32,
     args: &Args,
 ) -> Result<(), LedgerFault>
-    requires answers { answers.now.sites ≡ P.sites }
     ensures added { OnOk result (journal.new ≡ log_with journal.old (Calls token call site args.now ∷ [])) }
-    ensures counted { OnOk result (CountsCall answers.now.sites site args.now counts.old counts.new) }
+    ensures counted { OnOk result (CountsCall inputs.now.answers.now.sites site args.now counts.old counts.new) }
     ensures refused { OnErr result ((journal.new ≡ journal.old) × (counts.new ≡ counts.old)) }
     ensures why { IfErr result (λ fault. fault ≡ LedgerFault.Memory) }
 {
     let entries = journal.len();
-    match journal.push_call(answers, token, call, site, args.as_slice()) {
+    match journal.push_call(inputs.answers, token, call, site, args.as_slice()) {
         Ok(()) => {}
         Err(_) => return Err(LedgerFault::Memory),
     }
-    match counts.add(answers, site, args) {
+    match counts.add(inputs.answers, site, args) {
         Ok(()) => Ok(()),
         Err(_) => {
             journal.truncate(entries);
@@ -55,21 +55,20 @@ fn write_call<P: Program>(
     }
 }
 
-impl<P: Program> Ledger<P> {
+impl<P: Run> Ledger<P> {
     // The site that a token calls. Its arguments are put into `args`.
     #[inline(always)]
-    pub(crate) fn ask(&self, graph: &Graph, token: Token, args: &mut Args) -> u32
-        requires graph { graph.now ≡ P.listing }
+    pub(crate) fn ask(&self, inputs: &Inputs<'_, P>, token: Token, args: &mut Args) -> u32
         requires calls { what_of (code P.listing) (definitions P.listing) self.now token ≡ Action.Call }
         ensures { IsCall result args.new (term_of (code P.listing) self.now token) }
     {
         let Standing::At(node, scope) = token.standing else {
             unreachable!()
         };
-        let Node::Site(site, list) = graph.node(node as usize) else {
+        let Node::Site(site, list) = inputs.graph.node(node as usize) else {
             unreachable!()
         };
-        if !self.take_values(graph.operands(list as usize), scope, args) {
+        if !self.take_values(inputs.graph.operands(list as usize), scope, args) {
             unreachable!()
         }
         site
@@ -77,11 +76,16 @@ impl<P: Program> Ledger<P> {
 
     // The call that a token makes next of a site with these arguments, by one look into the counts.
     #[inline(always)]
-    pub(crate) fn next_call(&self, answers: &Answers, token: Token, site: u32, args: &Args) -> Call
-        requires { answers.now.sites ≡ P.sites }
+    pub(crate) fn next_call(
+        &self,
+        inputs: &Inputs<'_, P>,
+        token: Token,
+        site: u32,
+        args: &Args,
+    ) -> Call
         ensures { IsNextCall P.listing P.sites self.now token site args.now result }
     {
-        let next = self.counts.next_call(answers, site, args);
+        let next = self.counts.next_call(inputs.answers, site, args);
         Call {
             number: self.calls.next_number(),
             found: next.found,
@@ -95,19 +99,19 @@ impl<P: Program> Ledger<P> {
     // Enters the call that a token makes next: it pends where the token was. Where memory is refused nothing changes.
     pub(crate) fn pend(
         &mut self,
-        answers: &Answers,
+        inputs: &Inputs<'_, P>,
         slot: usize,
         token: Token,
         site: u32,
         args: &Args,
         call: Call,
     ) -> Result<(), LedgerFault>
-        requires answers { answers.now.sites ≡ P.sites }
         requires held { IsHeld self.old.slots slot token }
         requires asks { IsCall site args.now (term_of (code P.listing) self.old token) }
         requires room { self.old.entries < self.old.limit }
         requires next { IsNextCall P.listing P.sites self.old token site args.now call }
         ensures done { OnOk result (IsMade P.listing P.sites self.old token call self.new) }
+        ensures others { OnOk result (KeepsOthers self.old.slots slot self.new.slots) }
         ensures refused { OnErr result (self.new ≡ self.old) }
         ensures why { IfErr result (λ fault. fault ≡ LedgerFault.Memory) }
     {
@@ -118,7 +122,7 @@ impl<P: Program> Ledger<P> {
         write_call(
             &mut self.journal,
             &mut self.counts,
-            answers,
+            inputs,
             token.serial,
             call.number,
             site,
@@ -135,25 +139,23 @@ impl<P: Program> Ledger<P> {
     /// what it held is lost.
     pub fn call(
         &mut self,
-        graph: &Graph,
-        answers: &Answers,
+        inputs: &Inputs<'_, P>,
         slot: usize,
         token: Token,
         args: &mut Args,
     ) -> Result<Call, LedgerFault>
-        requires graph { graph.now ≡ P.listing }
-        requires answers { answers.now.sites ≡ P.sites }
         requires held { IsHeld self.old.slots slot token }
         requires calls { what_of (code P.listing) (definitions P.listing) self.old token ≡ Action.Call }
         ensures done { IfOk result (λ c. IsMade P.listing P.sites self.old token c self.new) }
         ensures args { IfOk result (λ _. (m : ℕ) × IsCall m args.new (term_of (code P.listing) self.old token)) }
+        ensures others { OnOk result (KeepsOthers self.old.slots slot self.new.slots) }
         ensures refused { OnErr result (self.new ≡ self.old) }
         ensures why { IfErr result (λ fault. IsRefused self.old 0 0 0 fault) }
     {
         self.within(0, 0, 0)?;
-        let site = self.ask(graph, token, args);
-        let call = self.next_call(answers, token, site, args);
-        self.pend(answers, slot, token, site, args, call)?;
+        let site = self.ask(inputs, token, args);
+        let call = self.next_call(inputs, token, site, args);
+        self.pend(inputs, slot, token, site, args, call)?;
         Ok(call)
     }
 

@@ -13,20 +13,20 @@ ghost use Rattle.orc_ledger_spec.specs.Doing.{term_of, what_of};
 ghost use Rattle.orc_ledger_spec.specs.Next.{members, numbers_of};
 ghost use Rattle.orc_ledger_spec.specs.Whole.{is_rule};
 
+use crate::inputs::Inputs;
 use crate::ledger::Ledger;
 use orc_frames::Action;
-use orc_graph::{Graph, Node};
-use orc_log::Program;
+use orc_graph::Node;
+use orc_log::Run;
 use orc_rules::limits::MOST_FRAMES;
 use orc_tables::{Standing, Token};
 
-impl<P: Program> Ledger<P> {
+impl<P: Run> Ledger<P> {
     // Whether a token uses a rule next: it neither waits nor makes a move of marks alone.
-    fn is_at_rule(&self, graph: &Graph, token: &Token) -> bool
-        requires { graph.now ≡ P.listing }
+    fn is_at_rule(&self, inputs: &Inputs<'_, P>, token: &Token) -> bool
         ensures { result ≡ true → is_rule (what_of (code P.listing) (definitions P.listing) self.now token.now) ≡ true }
     {
-        match self.what(graph, token) {
+        match self.what(inputs, token) {
             Action::Halt | Action::Fork | Action::Seq | Action::Other | Action::Wait(_) => false,
             Action::Prune
             | Action::Def
@@ -39,14 +39,13 @@ impl<P: Program> Ledger<P> {
     }
 
     // A token on the first part of a term that can use a rule where that part can; none where the term has no such part.
-    fn first_part(&self, graph: &Graph, token: Token) -> Option<Token>
-        requires { graph.now ≡ P.listing }
+    fn first_part(&self, inputs: &Inputs<'_, P>, token: Token) -> Option<Token>
         ensures { IfSome result (λ part. can_move (definitions P.listing) (term_of (code P.listing) self.now part) ≡ true → can_move (definitions P.listing) (term_of (code P.listing) self.now token) ≡ true) }
     {
         let Standing::At(node, scope) = token.standing else {
             return None;
         };
-        match graph.node(node as usize) {
+        match inputs.graph.node(node as usize) {
             Node::Par(first, _) | Node::Seq(first, _, _) | Node::Other(first, _) => Some(Token {
                 serial: token.serial,
                 standing: Standing::At(first, scope),
@@ -57,8 +56,7 @@ impl<P: Program> Ledger<P> {
     }
 
     // Whether a token, if the slot holds one, can use a rule now, or could after moves of marks into the first parts of its term.
-    fn uses_rule(&self, graph: &Graph, token: &Token) -> bool
-        requires { graph.now ≡ P.listing }
+    fn uses_rule(&self, inputs: &Inputs<'_, P>, token: &Token) -> bool
         ensures there { result ≡ true → 1 ≤ token.now.serial }
         ensures rule { result ≡ true → can_move (definitions P.listing) (term_of (code P.listing) self.now token.now) ≡ true }
     {
@@ -68,22 +66,21 @@ impl<P: Program> Ledger<P> {
         let mut inner = *token;
         // Where parts are nested deeper it isn't known.
         for _inwards in 0..MOST_FRAMES {
-            match self.first_part(graph, inner) {
+            match self.first_part(inputs, inner) {
                 Some(part) => inner = part,
                 None => break,
             }
         }
-        self.is_at_rule(graph, &inner)
+        self.is_at_rule(inputs, &inner)
     }
 
     /// Whether a token can use a rule now, if need be after moves of marks alone. Where one can the run isn't quiet. It looks at each token, and of the term
     /// on which it stands at the first parts.
-    pub fn can_use_rule(&self, graph: &Graph) -> bool
-        requires { graph.now ≡ P.listing }
+    pub fn can_use_rule(&self, inputs: &Inputs<'_, P>) -> bool
         ensures { result ≡ true → (p : Place) → IsAt P.listing P.sites self.now p → IsQuiet (context P.listing P.sites) (moment p) → ⊥ }
     {
         for token in self.tokens.slots() {
-            if self.uses_rule(graph, token) {
+            if self.uses_rule(inputs, token) {
                 return true;
             }
         }

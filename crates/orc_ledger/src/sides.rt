@@ -18,12 +18,13 @@ ghost use Rattle.orc_tables.specs.Steps.{group_at};
 ghost use Rattle.orc_ledger_spec.specs.Claims.{IsBarred};
 ghost use Rattle.orc_ledger_spec.specs.Calls.{Drops, GoesAlone, Closes, Resumes, AreCancelled, IsRefused};
 ghost use Rattle.orc_log.specs.Logs.{log_with};
+ghost use Rattle.orc_ledger.specs.Others.{KeepsAll, KeepsOutside};
 
 use crate::claim::Claim;
 use crate::ledger::{Ledger, write};
 use orc_env::Bound;
 use orc_ledger_spec::LedgerFault;
-use orc_log::{Log, Program};
+use orc_log::{Log, Run};
 use orc_rules::entry::Entry;
 use orc_rules::value::Value;
 use orc_tables::{
@@ -41,7 +42,7 @@ fn settle(cells: &mut Vec<Bound>, cell: u64, bound: Bound)
 }
 
 // Writes a bind and the cancels of these calls, and asks the claim then. Where memory is refused, or the claim is lost, the journal stays as it was.
-fn write_bind<P: Program, C: Claim>(
+fn write_bind<P: Run, C: Claim>(
     journal: &mut Log<P>,
     token: u64,
     cell: u64,
@@ -66,7 +67,7 @@ fn write_bind<P: Program, C: Claim>(
     Err(LedgerFault::Unclaimed)
 }
 
-impl<P: Program> Ledger<P> {
+impl<P: Run> Ledger<P> {
     /// How many sides are open.
     pub fn side_count(&self) -> usize
         ensures { result ≡ length self.now.groups }
@@ -92,6 +93,7 @@ impl<P: Program> Ledger<P> {
         ensures journal { OnOk result (self.new.journal ≡ self.old.journal ++ Bind token.serial cell value ∷ map Cancel cancelled.new.items) }
         ensures cancelled { OnOk result (AreCancelled (code P.listing) cell self.old cancelled.new.items) }
         ensures got { OnOk result (C.got claim.old claim.new) }
+        ensures others { OnOk result (KeepsOutside (code P.listing) cell self.old self.new) }
         ensures refused { OnErr result (self.new ≡ self.old) }
         ensures why { IfErr result (λ fault. IsBarred (claim.new ≡ claim.old) (C.lost claim.old claim.new) (IsRefused self.old 0 0 0) fault) }
     {
@@ -151,6 +153,7 @@ impl<P: Program> Ledger<P> {
         ensures done { OnOk result (Drops (code P.listing) cell Bound.Void self.old self.new) }
         ensures alone { OnOk result (GoesAlone self.old self.new group) }
         ensures journal { OnOk result (self.new.journal ≡ self.old.journal ++ Lost cell ∷ []) }
+        ensures others { OnOk result (KeepsAll self.old.slots self.new.slots) }
         ensures refused { OnErr result (self.new ≡ self.old) }
         ensures why { IfErr result (λ fault. IsRefused self.old 0 0 0 fault) }
     {
@@ -168,7 +171,8 @@ impl<P: Program> Ledger<P> {
         requires there { IsIn group self.old.groups }
         requires over { is_over (code P.listing) self.old group.side ≡ true }
         requires empty { members (numbers_of self.old) self.old group.number ≡ 0 }
-        ensures { Closes self.old self.new group }
+        ensures done { Closes self.old self.new group }
+        ensures others { KeepsAll self.old.slots self.new.slots }
     {
         take_out(&mut self.groups, &self.steps, group);
     }
@@ -187,6 +191,7 @@ impl<P: Program> Ledger<P> {
         requires empty { members (numbers_of self.old) self.old group.number ≡ 0 }
         ensures done { IfOk result (λ _. Resumes self.old self.new group number node scope) }
         ensures held { IfOk result (λ slot. IsHeld self.new.slots slot (record { serial = self.old.next_mark; standing = At node scope; step = group.outer })) }
+        ensures others { OnOk result (KeepsAll self.old.slots self.new.slots) }
         ensures refused { OnErr result (self.new ≡ self.old) }
         ensures why { IfErr result (λ fault. IsRefused self.old 1 0 0 fault) }
     {

@@ -12,14 +12,15 @@ ghost use Rattle.orc_tables.specs.Tokens.{live, IsHeld, StayParked};
 ghost use Rattle.orc_tables.specs.declared.records.Token.{Token as Its};
 ghost use Rattle.orc_ledger_spec.specs.Doing.{what_of};
 ghost use Rattle.orc_ledger_spec.specs.Parts.{call_of, cells_from, comers, numbering, Fits, IsOver, StandsFor, TakesIn, IsUntaken};
+ghost use Rattle.orc_ledger.specs.Others.{KeepsOthers};
 
+use crate::inputs::Inputs;
 use crate::ledger::Ledger;
 use orc_env::Bound;
 use orc_frames::Action;
-use orc_graph::{Graph, Node};
+use orc_graph::Node;
 use orc_ledger_spec::{LedgerFault, Yield};
-use orc_log::{Log, Program};
-use orc_rules::answers::Answers;
+use orc_log::{Log, Run};
 use orc_rules::value::{Args, Value};
 use orc_subrun::Numbering;
 use orc_tables::{Groups, Standing, Token, Tokens};
@@ -50,7 +51,7 @@ impl SubRunTask {
 
 /// What came of a call of a definition with values, whose run was made apart: its entries, its next mark, how many calls of sites it has made and
 /// cells it has opened, by its own numbers. Its run is over, or all that is left of it is a token on a value, and it has published nothing.
-pub struct SubRun<P: Program> {
+pub struct SubRun<P: Run> {
     definition: u32,
     args: Args,
     journal: Log<P>,
@@ -63,7 +64,7 @@ pub struct SubRun<P: Program> {
     program: PhantomData<P>,
 }
 
-impl<P: Program> Model for SubRun<P> {
+impl<P: Run> Model for SubRun<P> {
     ghost use Rattle.std.specs.Prelude.{◌≡◌, true};
     ghost use Rattle.orc_subrun.specs.Moved.{AreSilent};
     ghost use Rattle.orc_ledger_spec.specs.Parts.{Apart, IsOver};
@@ -76,7 +77,7 @@ impl<P: Program> Model for SubRun<P> {
 }
 
 // Written out, so that each exit of a function that has a part drops it by one call.
-impl<P: Program> Drop for SubRun<P> {
+impl<P: Run> Drop for SubRun<P> {
     fn drop(self) {
         let SubRun {
             definition: _,
@@ -93,7 +94,7 @@ impl<P: Program> Drop for SubRun<P> {
     }
 }
 
-impl<P: Program> SubRun<P> {
+impl<P: Run> SubRun<P> {
     /// How many entries it has.
     pub fn len(&self) -> usize
         ensures { result ≡ length self.now.entries }
@@ -185,6 +186,7 @@ fn exchange(
     requires serial { IfSome comer (λ t. 1 ≤ t.serial) }
     ensures tokens { (w : Its → ℕ) → weight w (live tokens.new.items) + w token ≡ weight w (live tokens.old.items) + weight w (option_to_list comer) }
     ensures comer { IfSome comer (IsHeld tokens.new.items slot) }
+    ensures others { KeepsOthers tokens.old.items slot tokens.new.items }
     ensures parked { StayParked tokens.old tokens.new }
     ensures groups { groups.new.items ≡ groups.old.items }
     ensures sizes { (j : ℕ) → size_of groups.new.sizes j ≡ size_of groups.old.sizes j + weight (λ (t : Its). is_this j group) (option_to_list comer) - is_this j group }
@@ -199,21 +201,20 @@ fn exchange(
     }
 }
 
-impl<P: Program> Ledger<P> {
+impl<P: Run> Ledger<P> {
     /// The call of a definition with values at which a token stands.
-    pub fn task(&self, graph: &Graph, token: &Token) -> Option<SubRunTask>
-        requires graph { graph.now ≡ P.listing }
+    pub fn task(&self, inputs: &Inputs<'_, P>, token: &Token) -> Option<SubRunTask>
         ensures stands { IfSome result (λ task. StandsFor P.listing self.now token.now task.definition task.args) }
         ensures outermost { IfSome result (λ task. task.is_outermost ≡ true → token.now.step ≡ 0) }
     {
         let Standing::At(node, scope) = token.standing else {
             return None;
         };
-        let Node::Call(definition, list) = graph.node(node as usize) else {
+        let Node::Call(definition, list) = inputs.graph.node(node as usize) else {
             return None;
         };
         let mut args = Args::new();
-        if !self.take_values(graph.operands(list as usize), scope, &mut args) {
+        if !self.take_values(inputs.graph.operands(list as usize), scope, &mut args) {
             return None;
         }
         Some(SubRunTask {
@@ -234,8 +235,7 @@ impl<P: Program> Ledger<P> {
     }
 
     // The value of the token in this slot and its mark, if the run would publish the value next and nothing else is left of it.
-    fn yielded(&self, graph: &Graph, slot: usize) -> Option<Yield>
-        requires graph { graph.now ≡ P.listing }
+    fn yielded(&self, inputs: &Inputs<'_, P>, slot: usize) -> Option<Yield>
         ensures alone { IfSome result (λ _. (length self.now.tokens ≡ 1) × (length self.now.calls ≡ 0) × (length self.now.groups ≡ 0) × (2 ≤ self.now.next_mark)) }
         ensures token { IfSome result (λ y. (t : Its) × IsHeld self.now.slots slot t × (t.step ≡ 0) × (t.serial ≡ y.mark) × (2 ≤ y.mark) × (what_of (code P.listing) (definitions P.listing) self.now t ≡ Publish y.value)) }
     {
@@ -250,7 +250,7 @@ impl<P: Program> Ledger<P> {
         if token.step > 0 || token.serial < 2 {
             return None;
         }
-        match self.what(graph, &token) {
+        match self.what(inputs, &token) {
             Action::Publish(value) => Some(Yield {
                 mark: token.serial,
                 value,
@@ -260,12 +260,7 @@ impl<P: Program> Ledger<P> {
     }
 
     // The part that the run of a task is, of which no more is left than this.
-    fn part_of<W: Program>(
-        self,
-        task: SubRunTask,
-        is_silent: bool,
-        left: Option<Yield>,
-    ) -> SubRun<W>
+    fn part_of<W: Run>(self, task: SubRunTask, is_silent: bool, left: Option<Yield>) -> SubRun<W>
         requires silent { is_silent ≡ true → AreSilent self.journal }
         requires sites { P.sites ≡ W.sites }
         requires keeps { P.keeps ≡ W.keeps }
@@ -296,22 +291,20 @@ impl<P: Program> Ledger<P> {
     /// What came of a task whose run this was, for the run of `W` that has it to do. None where what is round it could bear on an entry, since it has passed
     /// time, cancelled a call or called a site that a script answers; and where something of it is left, but for a token in the slot `last` on a value that
     /// the run would publish next, if it has published nothing.
-    pub fn into_sub_run<W: Program>(
+    pub fn into_sub_run<W: Run>(
         self,
-        graph: &Graph,
-        answers: &Answers,
+        inputs: &Inputs<'_, P>,
         task: SubRunTask,
         last: Option<usize>,
     ) -> Option<SubRun<W>>
-        requires graph { graph.now ≡ P.listing }
-        requires answers { answers.now.sites ≡ W.sites }
+        requires answers { inputs.now.answers.now.sites ≡ W.sites }
         requires sites { P.sites ≡ W.sites }
         requires keeps { P.keeps ≡ W.keeps }
         requires definitions { definitions P.listing ≡ definitions W.listing }
         requires call { source P.listing ≡ call_of task.definition task.args }
         ensures { IfSome result (λ part. (part.definition ≡ task.definition) × (part.args ≡ task.args)) }
     {
-        if !self.journal.are_local(answers) {
+        if !self.journal.are_local(inputs.answers) {
             return None;
         }
         let is_silent = self.journal.is_silent();
@@ -321,7 +314,7 @@ impl<P: Program> Ledger<P> {
         if !is_silent {
             return None;
         }
-        let last = self.yielded(graph, last?)?;
+        let last = self.yielded(inputs, last?)?;
         Some(self.part_of(task, true, Some(last)))
     }
 
@@ -339,6 +332,7 @@ impl<P: Program> Ledger<P> {
         requires fits { Fits part.now token }
         ensures done { IfOk result (λ _. TakesIn self.old self.new token part.now) }
         ensures comer { OnOk result ((t : Its) → IsIn t (comers (numbering self.old token) token part.now.left) → IsHeld self.new.slots slot t) }
+        ensures others { OnOk result (KeepsOthers self.old.slots slot self.new.slots) }
         ensures refused { OnErr result (self.new ≡ self.old) }
         ensures why { IfErr result (λ fault. IsUntaken self.old part.now fault) }
     {

@@ -10,12 +10,12 @@ ghost use Rattle.orc_ledger_spec.specs.Answers.{IsDueNow, MayTick, IsStopped, Pe
 
 use crate::ledger::{Ledger, write};
 use orc_ledger_spec::LedgerFault;
-use orc_log::Program;
+use orc_log::Run;
 use orc_rules::entry::Entry;
 use orc_rules::value::{Answer, Found};
 use orc_tables::Call;
 
-impl<P: Program> Ledger<P> {
+impl<P: Run> Ledger<P> {
     /// The least number over this one of a pending call that is due now.
     pub fn due_beyond(&mut self, number: u64) -> Option<u64>
         ensures due { MatchOption result ((k : ℕ) → IsDueBeyond self.old.calls number self.old.now k → ⊥) (IsLeastBeyond self.old.calls number self.old.now) }

@@ -4,23 +4,22 @@ ghost use Rattle.std.specs.Prelude.{◌≡◌};
 ghost use Rattle.orc_rules.specs.Nodes.{code, definitions};
 ghost use Rattle.orc_ledger_spec.specs.Doing.{what_of};
 
+use crate::inputs::Inputs;
 use crate::ledger::Ledger;
 use orc_frames::{Action, stand_at, taken_from};
-use orc_graph::Graph;
-use orc_log::Program;
+use orc_log::Run;
 use orc_tables::{Standing, Token};
 
-impl<P: Program> Ledger<P> {
+impl<P: Run> Ledger<P> {
     /// What a token does next: a move of marks, an entry of its own, or to wait. It looks at the token's node and, for a call or a variable, at
     /// the scopes in which its names lie; for a value at the steps out to what takes it. Nothing is allocated.
-    pub fn what(&self, graph: &Graph, token: &Token) -> Action
-        requires { graph.now ≡ P.listing }
+    pub fn what(&self, inputs: &Inputs<'_, P>, token: &Token) -> Action
         ensures { result ≡ what_of (code P.listing) (definitions P.listing) self.now token.now }
     {
         match token.standing {
             Standing::On(value) => taken_from(&self.steps, token.step, value),
             Standing::At(node, scope) => stand_at(
-                graph,
+                inputs.graph,
                 &self.scopes,
                 &self.cells,
                 &self.steps,

@@ -8,15 +8,16 @@ ghost use Rattle.orc_ledger_spec.specs.Doing.{term_of};
 ghost use Rattle.orc_ledger_spec.specs.Records.{its_env};
 ghost use Rattle.orc_tables.specs.Tokens.{IsHeld};
 
+use crate::inputs::Inputs;
 use crate::ledger::Ledger;
 use orc_frames::{Action, list_cells};
-use orc_graph::{Graph, Node};
+use orc_graph::Node;
 use orc_ledger_spec::LedgerFault;
-use orc_log::Program;
+use orc_log::Run;
 use orc_rules::param::Operand;
 use orc_tables::{Standing, Token};
 
-impl<P: Program> Ledger<P> {
+impl<P: Run> Ledger<P> {
     // The same in a scope of the ledger.
     fn list_awaited(
         &self,
@@ -34,21 +35,20 @@ impl<P: Program> Ledger<P> {
     /// order, as often as it stands there. A token that waits for no cell has none. The only fault is `Memory`, and what is listed is then not known.
     pub fn awaited(
         &self,
-        graph: &Graph,
+        inputs: &Inputs<'_, P>,
         token: &Token,
         listed: &mut Vec<u64>,
     ) -> Result<(), LedgerFault>
-        requires { graph.now ≡ P.listing }
         ensures listed { OnOk result (listed.new.items ≡ cells_of (term_of (code P.listing) self.now token.now)) }
         ensures why { IfErr result (λ fault. fault ≡ LedgerFault.Memory) }
     {
         if let Standing::At(node, scope) = token.standing {
-            match graph.node(node as usize) {
+            match inputs.graph.node(node as usize) {
                 Node::Name(name) => {
                     return self.list_awaited(&[Operand::Name(name)], scope, listed);
                 }
                 Node::Site(_, list) => {
-                    return self.list_awaited(graph.operands(list as usize), scope, listed);
+                    return self.list_awaited(inputs.graph.operands(list as usize), scope, listed);
                 }
                 _ => {}
             }
@@ -61,19 +61,18 @@ impl<P: Program> Ledger<P> {
     /// lost. A token that can move isn't parked. The only fault is `Memory`; what is listed is then not known, and the token isn't parked.
     pub fn park(
         &mut self,
-        graph: &Graph,
+        inputs: &Inputs<'_, P>,
         slot: usize,
         token: Token,
         listed: &mut Vec<u64>,
     ) -> Result<(), LedgerFault>
-        requires graph { graph.now ≡ P.listing }
         requires held { IsHeld self.old.slots slot token }
         ensures listed { OnOk result (listed.new.items ≡ cells_of (term_of (code P.listing) self.old token)) }
         ensures same { self.new ≡ self.old }
         ensures why { IfErr result (λ fault. fault ≡ LedgerFault.Memory) }
     {
-        self.awaited(graph, &token, listed)?;
-        match self.what(graph, &token) {
+        self.awaited(inputs, &token, listed)?;
+        match self.what(inputs, &token) {
             Action::Wait(_) => Ok(self.tokens.park(slot, token.serial, listed)?),
             _ => Ok(()),
         }

@@ -3,8 +3,8 @@
 
 mod ghost_list;
 mod log;
-mod program;
+mod run;
 
 pub use ghost_list::{GhostList, ghost_list_of};
 pub use log::Log;
-pub use program::Program;
+pub use run::Run;

@@ -12,7 +12,7 @@ ghost use Rattle.orc_subrun.specs.Moved.{moved, IsLocal, AreLocal, AreSilent};
 ghost use Rattle.orc_log.specs.Logs.{log_with};
 
 use crate::ghost_list::{GhostList, ghost_list_of};
-use crate::program::Program;
+use crate::run::Run;
 use orc_journal::{Journal, Version};
 use orc_rules::answers::Answers;
 use orc_rules::entry::Entry;
@@ -27,7 +27,7 @@ const MOST: usize = 1 << 62;
 
 /// The journal of a run. Where the run keeps it, it holds all entries; else none.
 #[derive(Drop)]
-pub struct Log<P: Program> {
+pub struct Log<P: Run> {
     alloc: Global,
     keeps: bool,
     // The entries, where they are held.
@@ -40,7 +40,7 @@ pub struct Log<P: Program> {
     program: PhantomData<P>,
 }
 
-impl<P: Program> Model for Log<P> {
+impl<P: Run> Model for Log<P> {
     ghost use Rattle.std.specs.Prelude.{◌≡◌, length, ◌++◌};
     ghost use Rattle.orc_log.specs.Logs.{Logged, IsKnown};
 
@@ -107,7 +107,7 @@ fn first_of_past(past: &GhostList<Entry>, len: usize) -> GhostList<Entry>
 }
 
 // The same with a part's entries under these numbers.
-fn past_with_part<P: Program>(
+fn past_with_part<P: Run>(
     past: &GhostList<Entry>,
     part: &Log<P>,
     numbering: Numbering,
@@ -198,7 +198,7 @@ fn append_held(
     passed
 }
 
-impl<P: Program> Log<P> {
+impl<P: Run> Log<P> {
     /// No entries. Those that come are held where the run `keeps` its journal.
     pub fn new(alloc: Global, keeps: bool) -> Log<P>
         requires { keeps ≡ P.keeps }
@@ -427,7 +427,7 @@ impl<P: Program> Log<P> {
     }
 
     /// The same journal as that of another run, of the same sites, which keeps as much.
-    pub fn named<W: Program>(self) -> Log<W>
+    pub fn named<W: Run>(self) -> Log<W>
         requires sites { P.sites ≡ W.sites }
         requires keeps { P.keeps ≡ W.keeps }
         ensures { result ≡ self }

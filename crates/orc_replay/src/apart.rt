@@ -7,9 +7,7 @@ ghost use Rattle.orc_ledger_spec.specs.Parts.{call_of};
 
 use orc_graph::Graph;
 use orc_journal_text::write_journal;
-use orc_ledger::{
-    Action, Called, Ledger, LedgerFault, Moved, Program as Naming, SubRun, SubRunTask,
-};
+use orc_ledger::{Action, Called, Inputs, Ledger, LedgerFault, Moved, Run, SubRun, SubRunTask};
 use orc_load::load;
 use orc_rules::answers::Answers;
 use orc_rules::value::{Args, Value};
@@ -21,7 +19,7 @@ const SLOTS: usize = 4;
 
 // What a call's own run comes to, in which each token moves in turn, if it is over within so many rounds, or comes to one value where the call's publications
 // are not the run's. Where entries aren't kept each is forgotten at once.
-fn run_apart<Q: Naming, P: Naming>(
+fn run_apart<Q: Run, P: Run>(
     alloc: Global,
     graph: &Graph,
     answers: &Answers,
@@ -39,6 +37,7 @@ fn run_apart<Q: Naming, P: Naming>(
     requires definitions { definitions Q.listing ≡ definitions P.listing }
     requires call { source Q.listing ≡ call_of task.definition task.args }
 {
+    let inputs = Inputs::new(graph, answers);
     let mut ledger = Ledger::<Q>::begin(alloc, keeps, limit, graph.root()).ok()?;
     let mut last = None;
     for _round in 0..limit {
@@ -46,36 +45,32 @@ fn run_apart<Q: Naming, P: Naming>(
             let Some(token) = ledger.held(slot) else {
                 continue;
             };
-            if !task.is_outermost && matches!(ledger.what(graph, &token), Action::Publish(_)) {
+            if !task.is_outermost && matches!(ledger.what(&inputs, &token), Action::Publish(_)) {
                 last = Some(slot);
-            } else if !move_on(alloc, &mut ledger, graph, answers, slot) {
+            } else if !move_on(alloc, &mut ledger, &inputs, slot) {
                 return None;
             }
         }
     }
-    ledger.into_sub_run::<P>(graph, answers, task, last)
+    ledger.into_sub_run::<P>(&inputs, task, last)
 }
 
 // Whether the token in a slot could move, or waits, or there is none.
-fn move_on<Q: Naming>(
+fn move_on<Q: Run>(
     alloc: Global,
     ledger: &mut Ledger<Q>,
-    graph: &Graph,
-    answers: &Answers,
+    inputs: &Inputs<'_, Q>,
     slot: usize,
-) -> bool
-    requires graph { graph.now ≡ Q.listing }
-    requires answers { answers.now.sites ≡ Q.sites }
-{
+) -> bool {
     let Some(token) = ledger.held(slot) else {
         return true;
     };
     let mut scopes = Vec::new(alloc);
     let mut cancelled = Vec::new(alloc);
     let mut args = Args::new();
-    match ledger.advance(graph, slot, token, &mut scopes, &mut cancelled) {
+    match ledger.advance(inputs, slot, token, &mut scopes, &mut cancelled) {
         Ok(Moved::Calls) => matches!(
-            ledger.call_through(graph, answers, slot, token, &mut args),
+            ledger.call_through(inputs, slot, token, &mut args),
             Ok(Called::Answered(_))
         ),
         Ok(_) => true,
@@ -84,42 +79,32 @@ fn move_on<Q: Naming>(
 }
 
 // What comes of a task's own run, if it is over within a hundred entries.
-fn part_of<P: Naming>(
+fn part_of<P: Run>(
     alloc: Global,
-    graph: &Graph,
-    answers: &Answers,
+    inputs: &Inputs<'_, P>,
     keeps: bool,
     task: SubRunTask,
 ) -> Option<SubRun<P>>
     requires keeps { keeps ≡ P.keeps }
-    requires graph { graph.now ≡ P.listing }
-    requires answers { answers.now.sites ≡ P.sites }
 {
-    let own = graph
+    let own = inputs
+        .graph
         .for_call(alloc, task.definition, task.args.as_slice())
         .ok()?;
-    run_apart::<Brand, P>(alloc, &own, answers, keeps, task, 100)
+    run_apart::<Brand, P>(alloc, &own, inputs.answers, keeps, task, 100)
 }
 
 // The slot of the first token that stands at a call of a definition with values, once each token has moved as often as it takes.
-fn at_call<P: Naming>(
-    alloc: Global,
-    ledger: &mut Ledger<P>,
-    graph: &Graph,
-    answers: &Answers,
-) -> Option<usize>
-    requires graph { graph.now ≡ P.listing }
-    requires answers { answers.now.sites ≡ P.sites }
-{
+fn at_call<P: Run>(alloc: Global, ledger: &mut Ledger<P>, inputs: &Inputs<'_, P>) -> Option<usize> {
     for _round in 0..10_usize {
         for slot in 0..SLOTS {
             let Some(token) = ledger.held(slot) else {
                 continue;
             };
-            if ledger.task(graph, &token).is_some() {
+            if ledger.task(inputs, &token).is_some() {
                 return Some(slot);
             }
-            if !move_on(alloc, ledger, graph, answers, slot) {
+            if !move_on(alloc, ledger, inputs, slot) {
                 return None;
             }
         }
@@ -128,24 +113,21 @@ fn at_call<P: Naming>(
 }
 
 // A token stands at a call of a definition, which is run apart and taken in, where the limit has room for so many entries.
-fn taken<P: Naming>(
+fn taken<P: Run>(
     alloc: Global,
-    graph: &Graph,
-    answers: &Answers,
+    inputs: &Inputs<'_, P>,
     keeps: bool,
     limit: usize,
 ) -> Option<Result<Ledger<P>, LedgerFault>>
     requires keeps { keeps ≡ P.keeps }
     requires limit { (1 ≤ limit) × (limit ≤ MOST_ENTRIES) }
     requires named { limit ≡ P.limit }
-    requires graph { graph.now ≡ P.listing }
-    requires answers { answers.now.sites ≡ P.sites }
 {
-    let mut ledger = Ledger::<P>::begin(alloc, keeps, limit, graph.root()).ok()?;
-    let slot = at_call(alloc, &mut ledger, graph, answers)?;
+    let mut ledger = Ledger::<P>::begin(alloc, keeps, limit, inputs.graph.root()).ok()?;
+    let slot = at_call(alloc, &mut ledger, inputs)?;
     let token = ledger.held(slot)?;
-    let task = ledger.task(graph, &token)?;
-    let part = part_of::<P>(alloc, graph, answers, keeps, task.copied())?;
+    let task = ledger.task(inputs, &token)?;
+    let part = part_of::<P>(alloc, inputs, keeps, task.copied())?;
     if !part.is_of(&task) {
         return None;
     }
@@ -156,7 +138,7 @@ fn taken<P: Naming>(
 }
 
 // The text of the journal then.
-fn text_named<P: Naming>(
+fn text_named<P: Run>(
     alloc: Global,
     graph: &Graph,
     answers: &Answers,
@@ -168,7 +150,8 @@ fn text_named<P: Naming>(
     requires graph { graph.now ≡ P.listing }
     requires answers { answers.now.sites ≡ P.sites }
 {
-    let ledger = match taken::<P>(alloc, graph, answers, true, limit)? {
+    let inputs = Inputs::new(graph, answers);
+    let ledger = match taken::<P>(alloc, &inputs, true, limit)? {
         Ok(ledger) => ledger,
         Err(fault) => return Some(Err(fault)),
     };
@@ -187,7 +170,7 @@ struct Known {
 }
 
 // The same of a journal that isn't kept.
-fn known_named<P: Naming>(
+fn known_named<P: Run>(
     alloc: Global,
     graph: &Graph,
     answers: &Answers,
@@ -199,7 +182,8 @@ fn known_named<P: Naming>(
     requires graph { graph.now ≡ P.listing }
     requires answers { answers.now.sites ≡ P.sites }
 {
-    let Ok(ledger) = taken::<P>(alloc, graph, answers, false, limit)? else {
+    let inputs = Inputs::new(graph, answers);
+    let Ok(ledger) = taken::<P>(alloc, &inputs, false, limit)? else {
         return None;
     };
     let entries = ledger.journal_len();

@@ -7,7 +7,7 @@ use orc_graph::Graph;
 use orc_journal::{Journal, Version};
 use orc_journal_text::write_journal;
 use orc_ledger::{
-    Action, HaltFault, Halted, Ledger, LedgerFault, Moved, Next, Program as Naming, ReturnFault,
+    Action, HaltFault, Halted, Inputs, Ledger, LedgerFault, Moved, Next, ReturnFault, Run,
 };
 use orc_rules::answers::Answers;
 use orc_rules::entry::{Entry, State};
@@ -61,7 +61,7 @@ struct Open {
 }
 
 /// A run whose entries are told one after another.
-pub struct Replay<P: Naming> {
+pub struct Replay<P: Run> {
     pub ledger: Ledger<P>,
     // The slot of each token by its serial; there is no serial 0.
     slots: Vec<usize>,
@@ -73,7 +73,7 @@ pub struct Replay<P: Naming> {
 }
 
 // Written out, so that each exit of a function that has a run drops it by one call.
-impl<P: Naming> Drop for Replay<P> {
+impl<P: Run> Drop for Replay<P> {
     fn drop(self) {
         let Replay {
             ledger,
@@ -121,7 +121,7 @@ fn says(what: Action, entry: &Entry) -> bool {
     }
 }
 
-impl<P: Naming> Replay<P> {
+impl<P: Run> Replay<P> {
     /// Token 1 stands at the program's main term.
     pub fn begin(alloc: Global, graph: &Graph) -> Result<Replay<P>, Odd>
         requires keeps { P.keeps ≡ true }
@@ -146,10 +146,7 @@ impl<P: Naming> Replay<P> {
     }
 
     /// Has the ledger do what an entry says, by the call for its kind. A `cancel` comes with its bind. Where memory is refused nothing has changed.
-    pub fn enter(&mut self, graph: &Graph, answers: &Answers, entry: &Entry) -> Result<(), Odd>
-        requires graph { graph.now ≡ P.listing }
-        requires answers { answers.now.sites ≡ P.sites }
-    {
+    pub fn enter(&mut self, inputs: &Inputs<'_, P>, entry: &Entry) -> Result<(), Odd> {
         self.make_room()?;
         match entry {
             Entry::End(serial)
@@ -162,12 +159,12 @@ impl<P: Naming> Replay<P> {
             | Entry::Send(serial, _, _)
             | Entry::Call(serial, _, _, _)
             | Entry::Bind(serial, _, _)
-            | Entry::Publish(serial, _) => self.advance(graph, answers, *serial, entry)?,
+            | Entry::Publish(serial, _) => self.advance(inputs, *serial, entry)?,
             Entry::Return(number, _, value) => self.answer(*number, Answer::Value(*value))?,
             Entry::ReturnHalt(number) => self.answer(*number, Answer::Halt)?,
             Entry::Lost(cell) => self.halt(Side::Right(*cell))?,
             Entry::Right(number, _) => self.halt(Side::Left(*number))?,
-            Entry::Tick(time) => self.tick(graph, *time)?,
+            Entry::Tick(time) => self.tick(inputs, *time)?,
             Entry::Cancel(_) => return Err(Odd::Other),
         }
         self.close_left()
@@ -182,27 +179,15 @@ impl<P: Naming> Replay<P> {
     }
 
     // Has the ledger do what an entry says, and once more where it was refused memory: it has changed nothing then.
-    fn enter_again(&mut self, graph: &Graph, answers: &Answers, entry: &Entry) -> Result<(), Odd>
-        requires graph { graph.now ≡ P.listing }
-        requires answers { answers.now.sites ≡ P.sites }
-    {
-        match self.enter(graph, answers, entry) {
-            Err(Odd::Memory) => self.enter(graph, answers, entry),
+    fn enter_again(&mut self, inputs: &Inputs<'_, P>, entry: &Entry) -> Result<(), Odd> {
+        match self.enter(inputs, entry) {
+            Err(Odd::Memory) => self.enter(inputs, entry),
             entered => entered,
         }
     }
 
     // A token does what its word says, which is the entry.
-    fn advance(
-        &mut self,
-        graph: &Graph,
-        answers: &Answers,
-        serial: u64,
-        entry: &Entry,
-    ) -> Result<(), Odd>
-        requires graph { graph.now ≡ P.listing }
-        requires answers { answers.now.sites ≡ P.sites }
-    {
+    fn advance(&mut self, inputs: &Inputs<'_, P>, serial: u64, entry: &Entry) -> Result<(), Odd> {
         let Some(slot) = self.slots.get(serial as usize).copied() else {
             return Err(Odd::Gone);
         };
@@ -212,17 +197,16 @@ impl<P: Naming> Replay<P> {
         if token.serial != serial {
             return Err(Odd::Gone);
         }
-        if !says(self.ledger.what(graph, &token), entry) {
+        if !says(self.ledger.what(inputs, &token), entry) {
             return Err(Odd::Word);
         }
         let group = self.ledger.group_of_token(&token);
         let moved = self
             .ledger
-            .advance(graph, slot, token, &mut self.scopes, &mut self.cancelled)?;
+            .advance(inputs, slot, token, &mut self.scopes, &mut self.cancelled)?;
         match moved {
             Moved::Calls => {
-                self.ledger
-                    .call(graph, answers, slot, token, &mut self.args)?;
+                self.ledger.call(inputs, slot, token, &mut self.args)?;
                 Ok(())
             }
             moved => self.follow(entry, slot, group, moved),
@@ -399,10 +383,8 @@ impl<P: Naming> Replay<P> {
         }
     }
 
-    fn tick(&mut self, graph: &Graph, wanted: u64) -> Result<(), Odd>
-        requires { graph.now ≡ P.listing }
-    {
-        let next = self.ledger.next(graph);
+    fn tick(&mut self, inputs: &Inputs<'_, P>, wanted: u64) -> Result<(), Odd> {
+        let next = self.ledger.next(inputs);
         self.ledger.is_whole();
         match next {
             Next::Ticks(time) if time == wanted => {
@@ -414,34 +396,24 @@ impl<P: Naming> Replay<P> {
     }
 
     /// Where the entries have led, as the ledger says it.
-    pub fn state(&mut self, graph: &Graph) -> State
-        requires { graph.now ≡ P.listing }
-    {
+    pub fn state(&mut self, inputs: &Inputs<'_, P>) -> State {
         if self.ledger.has_halted() {
             return State::Halted;
         }
-        match self.ledger.next(graph) {
+        match self.ledger.next(inputs) {
             Next::Quiet => State::Quiet,
             Next::Work | Next::Ticks(_) => State::Running,
         }
     }
 
     // Has the ledger do what the entries say, but for those that it has written already: the cancels behind a bind.
-    fn follow_journal(
-        &mut self,
-        graph: &Graph,
-        answers: &Answers,
-        journal: &Journal,
-    ) -> Result<(), Stop>
-        requires graph { graph.now ≡ P.listing }
-        requires answers { answers.now.sites ≡ P.sites }
-    {
+    fn follow_journal(&mut self, inputs: &Inputs<'_, P>, journal: &Journal) -> Result<(), Stop> {
         for at in 0..journal.len() {
             let Some(entry) = journal.get(at) else {
                 return Ok(());
             };
             if self.ledger.journal_len() <= at
-                && let Err(why) = self.enter_again(graph, answers, &entry)
+                && let Err(why) = self.enter_again(inputs, &entry)
             {
                 return Err(Stop {
                     at: at.saturating_add(1),
@@ -462,7 +434,7 @@ fn are_same(alloc: Global, answers: &Answers, one: &Journal, other: &Journal) ->
     Some(whole && other_whole && text.as_slice() == other_text.as_slice())
 }
 
-fn replay_named<P: Naming>(
+fn replay_named<P: Run>(
     alloc: Global,
     graph: &Graph,
     answers: &Answers,
@@ -473,14 +445,15 @@ fn replay_named<P: Naming>(
     requires limit { P.limit ≡ MOST_ENTRIES }
     requires keeps { P.keeps ≡ true }
 {
+    let inputs = Inputs::new(graph, answers);
     let mut replay = match Replay::<P>::begin(alloc, graph) {
         Ok(replay) => replay,
         Err(why) => return Err(Stop { at: 0, why }),
     };
-    replay.follow_journal(graph, answers, journal)?;
+    replay.follow_journal(&inputs, journal)?;
     let at = journal.len();
     match are_same(alloc, answers, replay.ledger.journal(), journal) {
-        Some(true) => Ok(replay.state(graph)),
+        Some(true) => Ok(replay.state(&inputs)),
         Some(false) => Err(Stop {
             at,
             why: Odd::Other,

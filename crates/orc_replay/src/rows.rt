@@ -7,7 +7,7 @@ use crate::replay::{Odd, Replay, Stop};
 use crate::replay_text;
 use orc_graph::Graph;
 use orc_journal_text::{read_entry, write_journal};
-use orc_ledger::{Action, Ledger, LedgerFault, Next, Program as Naming, ReturnFault};
+use orc_ledger::{Action, Inputs, Ledger, LedgerFault, Next, ReturnFault, Run};
 use orc_load::load;
 use orc_rules::answers::Answers;
 use orc_rules::entry::{Entry, State};
@@ -45,32 +45,26 @@ pub(crate) struct Row {
 const SIGNAL: Answer = Answer::Value(Value::Signal);
 
 // What the token with this mark does next.
-fn word<P: Naming>(ledger: &Ledger<P>, graph: &Graph, serial: u64) -> Option<Action>
-    requires { graph.now ≡ P.listing }
-{
+fn word<P: Run>(ledger: &Ledger<P>, inputs: &Inputs<'_, P>, serial: u64) -> Option<Action> {
     for slot in 0..100_usize {
         if let Some(token) = ledger.held(slot)
             && token.serial == serial
         {
-            return Some(ledger.what(graph, &token));
+            return Some(ledger.what(inputs, &token));
         }
     }
     None
 }
 
 // Whether the lines are entries, and the ledger has done them.
-fn does<P: Naming>(replay: &mut Replay<P>, graph: &Graph, answers: &Answers, lines: &str) -> bool
-    requires graph { graph.now ≡ P.listing }
-    requires answers { answers.now.sites ≡ P.sites }
-{
+fn does<P: Run>(replay: &mut Replay<P>, inputs: &Inputs<'_, P>, lines: &str) -> bool {
     let mut entry = Entry::Tick(0);
     let mut rest = lines.as_bytes();
     for _line in 0..lines.len() {
-        let Some(behind) = read_entry(rest, answers, &mut entry) else {
+        let Some(behind) = read_entry(rest, inputs.answers, &mut entry) else {
             return rest.is_empty();
         };
-        let is_done = matches!(entry, Entry::Cancel(_))
-            || replay.enter(graph, answers, &entry).is_ok();
+        let is_done = matches!(entry, Entry::Cancel(_)) || replay.enter(inputs, &entry).is_ok();
         if !is_done {
             return false;
         }
@@ -79,16 +73,13 @@ fn does<P: Naming>(replay: &mut Replay<P>, graph: &Graph, answers: &Answers, lin
     rest.is_empty()
 }
 
-fn is_so<P: Naming>(replay: &mut Replay<P>, graph: &Graph, answers: &Answers, step: &Step) -> bool
-    requires graph { graph.now ≡ P.listing }
-    requires answers { answers.now.sites ≡ P.sites }
-{
+fn is_so<P: Run>(replay: &mut Replay<P>, inputs: &Inputs<'_, P>, step: &Step) -> bool {
     match *step {
-        Step::Does(lines) => does(replay, graph, answers, lines),
+        Step::Does(lines) => does(replay, inputs, lines),
         Step::Waits(serial) => {
-            matches!(word(&replay.ledger, graph, serial), Some(Action::Wait(_)))
+            matches!(word(&replay.ledger, inputs, serial), Some(Action::Wait(_)))
         }
-        Step::Next(next) => replay.ledger.next(graph) == next,
+        Step::Next(next) => replay.ledger.next(inputs) == next,
         Step::Due(number) => replay.ledger.due_beyond(0) == number,
         Step::Refuses(call, answer, fault) => { replay.ledger.returned(call, answer) == Err(fault) }
         Step::Asked(call, made_at, nth) => match replay.ledger.request(call) {
@@ -100,7 +91,7 @@ fn is_so<P: Naming>(replay: &mut Replay<P>, graph: &Graph, answers: &Answers, st
 }
 
 // Whether the journal has exactly the lines of the steps.
-fn has_lines<P: Naming>(
+fn has_lines<P: Run>(
     alloc: Global,
     ledger: &Ledger<P>,
     answers: &Answers,
@@ -120,7 +111,7 @@ fn has_lines<P: Naming>(
 }
 
 // The first step that isn't so, from 0; their number where the journal has other lines.
-fn wrong_step<P: Naming>(
+fn wrong_step<P: Run>(
     alloc: Global,
     graph: &Graph,
     answers: &Answers,
@@ -131,11 +122,12 @@ fn wrong_step<P: Naming>(
     requires limit { P.limit ≡ MOST_ENTRIES }
     requires keeps { P.keeps ≡ true }
 {
+    let inputs = Inputs::new(graph, answers);
     let Ok(mut replay) = Replay::<P>::begin(alloc, graph) else {
         return Some(0);
     };
     for (at, step) in steps.iter().enumerate() {
-        if !is_so(&mut replay, graph, answers, step) {
+        if !is_so(&mut replay, &inputs, step) {
             return Some(at);
         }
     }
@@ -291,11 +283,18 @@ pub(crate) const CALLS: [Row; 6] = [
 ];
 
 // Where the first token and those after it in its slot have moved until one is refused: how many entries there are, and why.
-fn refused_at<P: Naming>(alloc: Global, graph: &Graph, limit: usize) -> Option<(usize, LedgerFault)>
+fn refused_at<P: Run>(
+    alloc: Global,
+    graph: &Graph,
+    answers: &Answers,
+    limit: usize,
+) -> Option<(usize, LedgerFault)>
     requires keeps { P.keeps ≡ true }
     requires graph { graph.now ≡ P.listing }
+    requires answers { answers.now.sites ≡ P.sites }
     requires limit { limit ≡ P.limit }
 {
+    let inputs = Inputs::new(graph, answers);
     if limit < 1 || limit > 10_000_000 {
         return None;
     }
@@ -304,7 +303,7 @@ fn refused_at<P: Naming>(alloc: Global, graph: &Graph, limit: usize) -> Option<(
     let mut cancelled = Vec::new(alloc);
     for _entry in 0..limit {
         let token = ledger.held(0)?;
-        if let Err(fault) = ledger.advance(graph, 0, token, &mut scopes, &mut cancelled) {
+        if let Err(fault) = ledger.advance(&inputs, 0, token, &mut scopes, &mut cancelled) {
             return Some((ledger.entries(), fault));
         }
     }
@@ -314,7 +313,7 @@ fn refused_at<P: Naming>(alloc: Global, graph: &Graph, limit: usize) -> Option<(
 fn refused(alloc: Global, source: &[u8], limit: usize) -> Option<(usize, LedgerFault)> {
     let loaded = load(alloc, source, b"").ok()?;
     let graph = Graph::build(alloc, &loaded.program).ok()?;
-    refused_at::<Brand>(alloc, &graph, limit)
+    refused_at::<Brand>(alloc, &graph, &loaded.answers, limit)
 }
 
 // Programs, their limits, and how many entries there are when a token is refused, and why.

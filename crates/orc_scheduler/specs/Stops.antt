@@ -71,9 +71,10 @@ NoneIsDue s = (c : Call) (t : ℕ) → IsIn c s.calls → due_of c ≡ Some t �
 abbrev pub IsAtWork : Listing → Records → Type 0
 IsAtWork l s = (next_of (code l) (definitions l) (numbers_of s) s ≡ work) × (members (numbers_of s) s 0 ≡ 0 → ⊥)
 
--- a run that stops for this reason has cause to: where it rests nothing comes next, or the program's own group has no members; where it is full one of the engine's numbers can have been reached; where it is cut its journal has as many entries as the limit; and where it is broken the program isn't one that the scope check takes
+-- a run that stops for this reason has cause to: where it has halted the program's own group has no members; where it is quiet nothing comes next; where it is full one of the engine's numbers can have been reached; where it is cut its journal has as many entries as the limit; and where it is broken the program isn't one that the scope check takes
 abbrev pub Stops : Listing → Records → Stop → Type 0
-Stops l s stop.Rests = (next_of (code l) (definitions l) (numbers_of s) s ≡ quiet) ⊎ (members (numbers_of s) s 0 ≡ 0)
+Stops l s stop.Halted = members (numbers_of s) s 0 ≡ 0
+Stops l s stop.Quiet = next_of (code l) (definitions l) (numbers_of s) s ≡ quiet
 Stops l s (stop.Refused fault.Full) = IsCrowded s.journal
 Stops l s (stop.Refused fault.Limit) = s.limit ≤ s.entries
 Stops l s (stop.Refused fault.Memory) = Unit {0}

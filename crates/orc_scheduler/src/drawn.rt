@@ -10,7 +10,7 @@ ghost use Rattle.orc_scheduler.specs.Stops.{Advances, HasTurned, Stops};
 use crate::ready::Drawn;
 use crate::scheduler::{Scheduler, Step, Stop, Turn};
 use orc_graph::{Graph, Node};
-use orc_ledger::{Action, Call, LedgerFault, Program as Naming, ReturnFault, Standing, Token};
+use orc_ledger::{Action, Call, Inputs, LedgerFault, ReturnFault, Run, Standing, Token};
 use orc_rules::answers::Answers;
 use orc_rules::limits::MOST_TOKENS;
 use orc_rules::value::Found;
@@ -26,21 +26,19 @@ pub(crate) fn is_at_script(graph: &Graph, answers: &Answers, token: &Token) -> b
     }
 }
 
-impl<P: Naming> Scheduler<P> {
+impl<P: Run> Scheduler<P> {
     /// The turn that the order draws.
     #[cold]
     #[inline(never)]
-    pub(crate) fn drawn_turn(&mut self, graph: &Graph, answers: &Answers) -> Result<Turn, Stop>
-        requires graph { graph.now ≡ P.listing }
-        requires answers { answers.now.sites ≡ P.sites }
+    pub(crate) fn drawn_turn(&mut self, inputs: &Inputs<'_, P>) -> Result<Turn, Stop>
         ensures turned { IfOk result (λ turn. HasTurned self.old.ledger (deque_len self.old.ready.handles) self.new.ledger (deque_len self.new.ready.handles) turn) }
         ensures stops { IfErr result (λ stop. Stops P.listing self.new.ledger stop) }
     {
-        self.settle(graph, answers);
+        self.settle(inputs);
         for _ in 0..self.ready.call_count().saturating_add(1) {
             match self.ready.draw(&self.ledger) {
                 Some(Drawn::Token(handle)) => {
-                    self.move_on(graph, answers, handle)?;
+                    self.move_on(inputs, handle)?;
                     return Ok(Turn::Went);
                 }
                 Some(Drawn::Call(number)) => {
@@ -55,8 +53,7 @@ impl<P: Naming> Scheduler<P> {
     }
 
     // Tokens whose next step somebody outside sees wait until they are drawn, as far as they came last.
-    fn settle(&mut self, graph: &Graph, answers: &Answers)
-        requires graph { graph.now ≡ P.listing }
+    fn settle(&mut self, inputs: &Inputs<'_, P>)
         ensures same { self.new.ledger ≡ self.old.ledger }
         ensures as_many { deque_len self.new.ready.handles ≡ deque_len self.old.ready.handles }
     {
@@ -65,19 +62,17 @@ impl<P: Naming> Scheduler<P> {
                 return;
             };
             match self.token_of(handle) {
-                Some(token) if self.is_seen(graph, answers, &token) => self.ready.settle_newest(),
+                Some(token) if self.is_seen(inputs, &token) => self.ready.settle_newest(),
                 _ => return,
             }
         }
     }
 
     /// Whether somebody outside sees what a token does next: it publishes, binds, or calls a site whose calls a script answers.
-    pub(crate) fn is_seen(&self, graph: &Graph, answers: &Answers, token: &Token) -> bool
-        requires graph { graph.now ≡ P.listing }
-    {
-        match self.ledger.what(graph, token) {
+    pub(crate) fn is_seen(&self, inputs: &Inputs<'_, P>, token: &Token) -> bool {
+        match self.ledger.what(inputs, token) {
             Action::Publish(_) | Action::Bind(_, _) => true,
-            Action::Call => is_at_script(graph, answers, token),
+            Action::Call => is_at_script(inputs.graph, inputs.answers, token),
             _ => false,
         }
     }
@@ -113,22 +108,16 @@ impl<P: Naming> Scheduler<P> {
     #[inline(never)]
     pub(crate) fn call_apart(
         &mut self,
-        graph: &Graph,
-        answers: &Answers,
+        inputs: &Inputs<'_, P>,
         slot: usize,
         token: Token,
     ) -> Result<Step, Stop>
-        requires graph { graph.now ≡ P.listing }
-        requires answers { answers.now.sites ≡ P.sites }
         requires held { IsHeld self.old.ledger.slots slot token }
         requires calls { what_of (code P.listing) (definitions P.listing) self.old.ledger token ≡ Action.Call }
         ensures moved { IfOk result (λ step. Advances self.old.ledger self.new.ledger × (step ≡ Step.Waits → ⊥)) }
         ensures stops { IfErr result (λ stop. Stops P.listing self.new.ledger stop) }
     {
-        match self
-            .ledger
-            .call(graph, answers, slot, token, &mut self.args)
-        {
+        match self.ledger.call(inputs, slot, token, &mut self.args) {
             Ok(call) => {
                 self.note_made(&call)?;
                 Ok(Step::Done)

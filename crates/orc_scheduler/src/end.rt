@@ -13,35 +13,30 @@ use crate::quiet::is_quiet_at;
 use crate::scheduler::{Scheduler, Stop};
 use crate::sizes::is_crowded;
 use crate::summary::played;
-use orc_graph::Graph;
-use orc_ledger::{LedgerFault, Next, Program as Naming};
+use orc_ledger::{Inputs, LedgerFault, Next, Run};
 use orc_outcome::{End, Played};
-use orc_rules::answers::Answers;
 use orc_rules::program::Program;
 
-impl<P: Naming> Scheduler<P> {
+impl<P: Run> Scheduler<P> {
     /// What is told of the run, which stops so. None where that can't be told without its journal, which isn't kept.
     pub fn finish(
         mut self,
         program: &Program,
-        graph: &Graph,
-        answers: &Answers,
+        inputs: &Inputs<'_, P>,
         stop: Stop,
     ) -> Result<Option<Played>, EngineFault>
         requires program { program.now ≡ P.listing }
-        requires graph { graph.now ≡ P.listing }
-        requires answers { answers.now.sites ≡ P.sites }
-        ensures played { IfOk result (λ played. IfSome played (λ p. IsPlayed P.listing answers.now P.limit p.summary p.published.items p.journal)) }
+        ensures played { IfOk result (λ played. IfSome played (λ p. IsPlayed P.listing inputs.now.answers.now P.limit p.summary p.published.items p.journal)) }
         ensures kept { IfOk result (λ played. P.keeps ≡ true → MatchOption played ⊥ (λ p. is_some p.journal ≡ true)) }
         ensures range { IfErr result (λ fault. fault ≡ EngineFault.Range → ⊥) }
         ensures sound { IfErr result (λ fault. IsOwn fault → Stops P.listing self.ledger stop → IsProgram (definitions P.listing) (source P.listing) → ⊥) }
     {
-        let Some(end) = self.end(program, graph, answers, stop)? else {
+        let Some(end) = self.end(program, inputs, stop)? else {
             return Ok(None);
         };
         let alloc = self.alloc;
         let keeps = self.keeps;
-        match played(alloc, self.into_ledger(), answers, keeps, end) {
+        match played(alloc, self.into_ledger(), inputs, keeps, end) {
             Ok(played) => Ok(Some(played)),
             Err(_) => Err(EngineFault::Memory),
         }
@@ -51,22 +46,20 @@ impl<P: Naming> Scheduler<P> {
     fn end(
         &mut self,
         program: &Program,
-        graph: &Graph,
-        answers: &Answers,
+        inputs: &Inputs<'_, P>,
         stop: Stop,
     ) -> Result<Option<End>, EngineFault>
         requires program { program.now ≡ P.listing }
-        requires graph { graph.now ≡ P.listing }
-        requires answers { answers.now.sites ≡ P.sites }
-        ensures ended { IfOk result (λ end. MatchOption end (P.keeps ≡ false) (HasEnded P.listing answers.now self.new.ledger)) }
+        ensures ended { IfOk result (λ end. MatchOption end (P.keeps ≡ false) (HasEnded P.listing inputs.now.answers.now self.new.ledger)) }
         ensures range { IfErr result (λ fault. fault ≡ EngineFault.Range → ⊥) }
         ensures sound { IfErr result (λ fault. IsOwn fault → Stops P.listing self.old.ledger stop → IsProgram (definitions P.listing) (source P.listing) → ⊥) }
     {
         match stop {
-            Stop::Rests => self.rested(graph, answers),
+            Stop::Halted => self.halted(inputs),
+            Stop::Quiet => self.quiet(inputs),
             Stop::Refused(LedgerFault::Memory) => Ok(Some(End::Memory)),
-            Stop::Refused(LedgerFault::Full) => self.crowded(answers),
-            Stop::Refused(LedgerFault::Limit) => self.cut(program, graph, answers),
+            Stop::Refused(LedgerFault::Full) => self.crowded(inputs),
+            Stop::Refused(LedgerFault::Limit) => self.cut(program, inputs),
             // A scheduler's claims are always got.
             Stop::Refused(LedgerFault::Unclaimed) => Err(EngineFault::Broken),
             Stop::Broken => Err(EngineFault::Broken),
@@ -74,25 +67,34 @@ impl<P: Naming> Scheduler<P> {
         }
     }
 
-    // How a run ends in which nothing can come next.
-    fn rested(&mut self, graph: &Graph, answers: &Answers) -> Result<Option<End>, EngineFault>
-        requires graph { graph.now ≡ P.listing }
-        requires answers { answers.now.sites ≡ P.sites }
-        ensures ended { IfOk result (λ end. MatchOption end (P.keeps ≡ false) (HasEnded P.listing answers.now self.new.ledger)) }
+    // How a run ends whose term is said to have halted. The fault is Broken where it hasn't.
+    fn halted(&self, inputs: &Inputs<'_, P>) -> Result<Option<End>, EngineFault>
+        ensures ended { IfOk result (λ end. MatchOption end (P.keeps ≡ false) (HasEnded P.listing inputs.now.answers.now self.now.ledger)) }
         ensures range { IfErr result (λ fault. fault ≡ EngineFault.Range → ⊥) }
-        ensures sound { IfErr result (λ _. Stops P.listing self.old.ledger Stop.Rests → ⊥) }
+        ensures sound { IfErr result (λ _. Stops P.listing self.now.ledger Stop.Halted → ⊥) }
     {
-        match self.ledger.next(graph) {
+        if self.ledger.has_halted() {
+            Ok(Some(End::Halted))
+        } else {
+            Err(EngineFault::Broken)
+        }
+    }
+
+    // How a run ends of which it is said that nothing can come next. The fault is Broken where something can.
+    fn quiet(&mut self, inputs: &Inputs<'_, P>) -> Result<Option<End>, EngineFault>
+        ensures ended { IfOk result (λ end. MatchOption end (P.keeps ≡ false) (HasEnded P.listing inputs.now.answers.now self.new.ledger)) }
+        ensures range { IfErr result (λ fault. fault ≡ EngineFault.Range → ⊥) }
+        ensures sound { IfErr result (λ _. Stops P.listing self.old.ledger Stop.Quiet → ⊥) }
+    {
+        match self.ledger.next(inputs) {
             Next::Quiet => Ok(Some(End::Quiet)),
-            Next::Work if self.ledger.has_halted() => Ok(Some(End::Halted)),
             Next::Work | Next::Ticks(_) => Err(EngineFault::Broken),
         }
     }
 
     // How a run ends for which one of the engine's limits is reached. The fault is Broken where none can have been.
-    fn crowded(&mut self, answers: &Answers) -> Result<Option<End>, EngineFault>
-        requires answers { answers.now.sites ≡ P.sites }
-        ensures ended { IfOk result (λ end. MatchOption end (P.keeps ≡ false) (HasEnded P.listing answers.now self.new.ledger)) }
+    fn crowded(&mut self, inputs: &Inputs<'_, P>) -> Result<Option<End>, EngineFault>
+        ensures ended { IfOk result (λ end. MatchOption end (P.keeps ≡ false) (HasEnded P.listing inputs.now.answers.now self.new.ledger)) }
         ensures range { IfErr result (λ fault. fault ≡ EngineFault.Range → ⊥) }
         ensures sound { IfErr result (λ _. Stops P.listing self.old.ledger (Stop.Refused LedgerFault.Full) → ⊥) }
     {
@@ -108,20 +110,13 @@ impl<P: Naming> Scheduler<P> {
 
     // How a run ends whose journal has as many entries as the limit. Mostly the ledger knows whether it is quiet then; where only moves of marks
     // are left, the rules are asked.
-    fn cut(
-        &mut self,
-        program: &Program,
-        graph: &Graph,
-        answers: &Answers,
-    ) -> Result<Option<End>, EngineFault>
+    fn cut(&mut self, program: &Program, inputs: &Inputs<'_, P>) -> Result<Option<End>, EngineFault>
         requires program { program.now ≡ P.listing }
-        requires graph { graph.now ≡ P.listing }
-        requires answers { answers.now.sites ≡ P.sites }
-        ensures ended { IfOk result (λ end. MatchOption end (P.keeps ≡ false) (HasEnded P.listing answers.now self.new.ledger)) }
+        ensures ended { IfOk result (λ end. MatchOption end (P.keeps ≡ false) (HasEnded P.listing inputs.now.answers.now self.new.ledger)) }
         ensures range { IfErr result (λ fault. fault ≡ EngineFault.Range → ⊥) }
         ensures sound { IfErr result (λ _. Stops P.listing self.old.ledger (Stop.Refused LedgerFault.Limit) → ⊥) }
     {
-        let next = self.ledger.next(graph);
+        let next = self.ledger.next(inputs);
         if self.ledger.entries() < self.ledger.limit() {
             return Err(EngineFault::Broken);
         }
@@ -131,13 +126,13 @@ impl<P: Naming> Scheduler<P> {
             Next::Ticks(_) => return Ok(Some(End::Limit)),
             Next::Work => {}
         }
-        if self.ledger.can_use_rule(graph) {
+        if self.ledger.can_use_rule(inputs) {
             return Ok(Some(End::Limit));
         }
         if !self.keeps {
             return Ok(None);
         }
-        match is_quiet_at(self.alloc, program, answers, self.ledger.journal()) {
+        match is_quiet_at(self.alloc, program, inputs.answers, self.ledger.journal()) {
             Some(true) => Ok(Some(End::Quiet)),
             Some(false) => Ok(Some(End::Limit)),
             None => Ok(Some(End::Memory)),

@@ -10,44 +10,38 @@ ghost use Rattle.orc_ledger_spec.specs.Doing.{what_of};
 ghost use Rattle.orc_scheduler.specs.Stops.{Advances, NoneIsDue, IsAtWork, Stops};
 
 use crate::scheduler::{Scheduler, Step, Stop};
-use orc_graph::Graph;
-use orc_ledger::{Call, LedgerFault, Next, Program as Naming, ReturnFault, Token};
-use orc_rules::answers::Answers;
+use orc_ledger::{Call, Inputs, LedgerFault, Next, ReturnFault, Run, Token};
 use orc_rules::value::Answer;
 
-impl<P: Naming> Scheduler<P> {
+impl<P: Run> Scheduler<P> {
     /// No token's turn comes: an answer that is due, by the table, else a tick, else what the ledger finds. It stops where nothing can come next.
-    pub(crate) fn rest(&mut self, graph: &Graph, answers: &Answers) -> Result<(), Stop>
-        requires graph { graph.now ≡ P.listing }
-        requires answers { answers.now.sites ≡ P.sites }
+    pub(crate) fn rest(&mut self, inputs: &Inputs<'_, P>) -> Result<(), Stop>
         ensures advances { IfOk result (λ _. Advances self.old.ledger self.new.ledger) }
         ensures stops { IfErr result (λ stop. Stops P.listing self.new.ledger stop) }
     {
         if self.answer_due()? {
             return Ok(());
         }
-        if self.pass_time(graph)? {
+        if self.pass_time(inputs)? {
             // Where there is an order it draws which of the calls that are due now is answered first.
             if !self.ready.is_ordered() {
                 self.answer_due()?;
             }
             return Ok(());
         }
-        self.recover(graph, answers)
+        self.recover(inputs)
     }
 
     // Work is left of which no turn tells. No run has come here yet, but nothing else promises that whoever can move has a turn that comes.
     #[inline(never)]
-    fn recover(&mut self, graph: &Graph, answers: &Answers) -> Result<(), Stop>
-        requires graph { graph.now ≡ P.listing }
-        requires answers { answers.now.sites ≡ P.sites }
+    fn recover(&mut self, inputs: &Inputs<'_, P>) -> Result<(), Stop>
         requires due { NoneIsDue self.old.ledger }
         requires work { IsAtWork P.listing self.old.ledger }
         ensures advances { IfOk result (λ _. Advances self.old.ledger self.new.ledger) }
         ensures stops { IfErr result (λ stop. Stops P.listing self.new.ledger stop) }
     {
-        if let Some((slot, token)) = self.ledger.movable(graph) {
-            return self.set_going(graph, answers, slot, token);
+        if let Some((slot, token)) = self.ledger.movable(inputs) {
+            return self.set_going(inputs, slot, token);
         }
         match self.ledger.empty_group() {
             Some(group) => self.close_from(group),
@@ -56,21 +50,13 @@ impl<P: Naming> Scheduler<P> {
     }
 
     // A token that doesn't wait moves, and its turn comes again.
-    fn set_going(
-        &mut self,
-        graph: &Graph,
-        answers: &Answers,
-        slot: usize,
-        token: Token,
-    ) -> Result<(), Stop>
-        requires graph { graph.now ≡ P.listing }
-        requires answers { answers.now.sites ≡ P.sites }
+    fn set_going(&mut self, inputs: &Inputs<'_, P>, slot: usize, token: Token) -> Result<(), Stop>
         requires held { IsHeld self.old.ledger.slots slot token }
         requires moves { is_wait (what_of (code P.listing) (definitions P.listing) self.old.ledger token) ≡ false }
         ensures advances { IfOk result (λ _. Advances self.old.ledger self.new.ledger) }
         ensures stops { IfErr result (λ stop. Stops P.listing self.new.ledger stop) }
     {
-        match self.step(graph, answers, slot, token)? {
+        match self.step(inputs, slot, token)? {
             Step::On(next) => self.join_held(next),
             Step::Done => Ok(()),
             // In a program that the scope check took each call of a definition has its arguments.
@@ -124,13 +110,12 @@ impl<P: Naming> Scheduler<P> {
 
     /// No token can move and no call is due: a tick to the time at which the next one is. False where another entry comes next. It stops where
     /// nothing can come next.
-    pub(crate) fn pass_time(&mut self, graph: &Graph) -> Result<bool, Stop>
-        requires graph { graph.now ≡ P.listing }
+    pub(crate) fn pass_time(&mut self, inputs: &Inputs<'_, P>) -> Result<bool, Stop>
         ensures advances { IfOk result (λ passed. passed ≡ true → Advances self.old.ledger self.new.ledger) }
         ensures work { IfOk result (λ passed. passed ≡ false → (self.new.ledger ≡ self.old.ledger) × IsAtWork P.listing self.old.ledger) }
         ensures stops { IfErr result (λ stop. Stops P.listing self.new.ledger stop) }
     {
-        let next = self.ledger.next(graph);
+        let next = self.ledger.next(inputs);
         self.ledger.is_whole();
         match next {
             Next::Ticks(time) => match self.ledger.tick(time) {
@@ -140,8 +125,8 @@ impl<P: Naming> Scheduler<P> {
                 }
                 Err(fault) => Err(Stop::Refused(fault)),
             },
-            Next::Quiet => Err(Stop::Rests),
-            Next::Work if self.ledger.has_halted() => Err(Stop::Rests),
+            Next::Quiet => Err(Stop::Quiet),
+            Next::Work if self.ledger.has_halted() => Err(Stop::Halted),
             Next::Work => Ok(false),
         }
     }

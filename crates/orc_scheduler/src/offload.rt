@@ -8,8 +8,7 @@ use crate::ready::Handle;
 use crate::scheduler::{Scheduler, Stop, is_at_call};
 use crate::sub_runs::SubRunJob;
 use orc_graph::Graph;
-use orc_ledger::{Program as Naming, SubRun, SubRunTask, Token};
-use orc_rules::answers::Answers;
+use orc_ledger::{Inputs, Run, SubRun, SubRunTask, Token};
 use orc_rules::limits::MOST_GROUPS;
 use std::alloc::AllocError;
 
@@ -31,14 +30,13 @@ const NEAR: u32 = 2;
 /// So many more turns, from one call of a definition to the next, have the tokens that come of one.
 const BETWEEN: usize = 4;
 
-/// Of how many tokens one stands beside another whose calls are put side by side, and with which of so many one begins each time. So each row of these calls,
-/// and the samples are the first of them, has some of tokens that came early, whose runs are mostly the longest, and some of tokens that came late. As many
-/// samples are taken of calls that race.
+/// Jobs are listed by every 16th token: from the oldest one first, then from the 9th oldest, from the 5th, and so on, by `ORDER`. So each stretch of the
+/// list, and the samples are its first ones, mixes tokens that came early, whose runs are mostly the longest, with some that came late.
 const STRIDE: usize = 16;
 
 const ORDER: [usize; STRIDE] = [0, 8, 4, 12, 2, 10, 6, 14, 1, 9, 5, 13, 3, 11, 7, 15];
 
-impl<P: Naming> Scheduler<P> {
+impl<P: Run> Scheduler<P> {
     /// How many entries more the limit has room for.
     pub fn room(&self) -> usize {
         self.ledger.limit().saturating_sub(self.ledger.entries())
@@ -46,9 +44,7 @@ impl<P: Naming> Scheduler<P> {
 
     /// Tokens go on to their next calls of definitions, until `wanted` of them stand ready or `EACH` entries were made for each of these. Those go first to
     /// which the fewest moves have led: of a tree of calls all that stand ready then are about as deep, and have runs much of one length.
-    pub fn spread(&mut self, graph: &Graph, answers: &Answers, wanted: usize) -> Result<(), Stop>
-        requires graph { graph.now ≡ P.listing }
-        requires answers { answers.now.sites ≡ P.sites }
+    pub fn spread(&mut self, inputs: &Inputs<'_, P>, wanted: usize) -> Result<(), Stop>
         ensures spread { IfOk result (λ _. HasSpread self.old.ledger (deque_len self.old.ready.handles) self.new.ledger (deque_len self.new.ready.handles)) }
         ensures stops { IfErr result (λ stop. Stops P.listing self.new.ledger stop) }
     {
@@ -59,29 +55,27 @@ impl<P: Naming> Scheduler<P> {
                 break;
             }
             let fewest = self.ready.fewest_moves();
-            self.spread_once(graph, answers, fewest.saturating_add(NEAR))?;
+            self.spread_once(inputs, fewest.saturating_add(NEAR))?;
         }
         for _turn in 0..BETWEEN {
-            self.spread_once(graph, answers, 0)?;
+            self.spread_once(inputs, 0)?;
         }
         Ok(())
     }
 
     // Each token to which so many moves have led at most goes on to its next call of a definition, and each that doesn't stand at one, as long as few sides
     // are open.
-    fn spread_once(&mut self, graph: &Graph, answers: &Answers, moves: u32) -> Result<(), Stop>
-        requires graph { graph.now ≡ P.listing }
-        requires answers { answers.now.sites ≡ P.sites }
+    fn spread_once(&mut self, inputs: &Inputs<'_, P>, moves: u32) -> Result<(), Stop>
         ensures spread { IfOk result (λ _. HasSpread self.old.ledger (deque_len self.old.ready.handles) self.new.ledger (deque_len self.new.ready.handles)) }
         ensures stops { IfErr result (λ stop. Stops P.listing self.new.ledger stop) }
     {
         self.spreads = true;
         for _token in 0..self.ready() {
             let is_full = self.ledger.side_count() >= MOST_SIDES;
-            if is_full || self.is_oldest_settled(graph, moves) {
+            if is_full || self.is_oldest_settled(inputs.graph, moves) {
                 self.ready.pass_oldest();
             } else {
-                self.turn(graph, answers)?;
+                self.turn(inputs)?;
             }
         }
         self.spreads = false;
@@ -102,25 +96,27 @@ impl<P: Naming> Scheduler<P> {
     /// The calls of definitions with values at which tokens stand whose turn comes, of those that race each other or of the others, `MOST_JOBS` of them at
     /// most, in a fixed order, in which the first ones are samples of all. Behind these, of those that race that stands first which would have its turn first:
     /// the others may be in vain. Else tokens that came one after another stand apart. The error is refused memory.
-    pub fn jobs(&self, graph: &Graph, races: bool) -> Result<Vec<SubRunJob<P>>, AllocError>
-        requires graph { graph.now ≡ P.listing }
-    {
+    pub fn jobs(
+        &self,
+        inputs: &Inputs<'_, P>,
+        races: bool,
+    ) -> Result<Vec<SubRunJob<P>>, AllocError> {
         let mut jobs = Vec::new(self.alloc);
         let len = self.ready.len();
         if races {
             let step = len.div_ceil(STRIDE).max(1);
             for at in (0..len).step_by(step) {
-                self.add_job(graph, at, races, &mut jobs)?;
+                self.add_job(inputs, at, races, &mut jobs)?;
             }
             for at in (0..len).rev() {
                 if at % step != 0 {
-                    self.add_job(graph, at, races, &mut jobs)?;
+                    self.add_job(inputs, at, races, &mut jobs)?;
                 }
             }
         } else {
             for first in ORDER {
                 for at in (first..len).step_by(STRIDE) {
-                    self.add_job(graph, at, races, &mut jobs)?;
+                    self.add_job(inputs, at, races, &mut jobs)?;
                 }
             }
         }
@@ -130,31 +126,27 @@ impl<P: Naming> Scheduler<P> {
     // Adds the call at which the token in that place stands, from the one that has waited longest, if it is one of those that are asked for, and there is room.
     fn add_job(
         &self,
-        graph: &Graph,
+        inputs: &Inputs<'_, P>,
         at: usize,
         races: bool,
         jobs: &mut Vec<SubRunJob<P>>,
-    ) -> Result<(), AllocError>
-        requires graph { graph.now ≡ P.listing }
-    {
+    ) -> Result<(), AllocError> {
         if jobs.len() >= MOST_JOBS {
             return Ok(());
         }
         let Some(handle) = self.ready.get(at) else {
             return Ok(());
         };
-        if let Some(task) = self.task_of(graph, handle, races) {
+        if let Some(task) = self.task_of(inputs, handle, races) {
             jobs.push(SubRunJob::new(handle, task, races))?;
         }
         Ok(())
     }
 
     // The call at which a token stands, if it is there, and races others or doesn't as is asked for.
-    fn task_of(&self, graph: &Graph, handle: Handle, races: bool) -> Option<SubRunTask>
-        requires graph { graph.now ≡ P.listing }
-    {
+    fn task_of(&self, inputs: &Inputs<'_, P>, handle: Handle, races: bool) -> Option<SubRunTask> {
         let token = self.token_of(handle)?;
-        let task = self.ledger.task(graph, &token)?;
+        let task = self.ledger.task(inputs, &token)?;
         let is_racing = !task.is_outermost && !self.is_alone(&token);
         if is_racing == races { Some(task) } else { None }
     }
@@ -169,11 +161,10 @@ impl<P: Naming> Scheduler<P> {
     /// nothing, and nobody else is in the token's side, that halts. Whether it was taken in.
     pub fn append_sub_run(
         &mut self,
-        graph: &Graph,
+        inputs: &Inputs<'_, P>,
         handle: Handle,
         part: &SubRun<P>,
     ) -> Result<bool, Stop>
-        requires graph { graph.now ≡ P.listing }
         ensures taken { IfOk result (λ taken. taken ≡ true → Advances self.old.ledger self.new.ledger) }
         ensures refused { IfOk result (λ taken. taken ≡ false → (self.new.ledger ≡ self.old.ledger) × (self.new.ready ≡ self.old.ready)) }
         ensures spread { IfOk result (λ _. HasSpread self.old.ledger (deque_len self.old.ready.handles) self.new.ledger (deque_len self.new.ready.handles)) }
@@ -182,7 +173,7 @@ impl<P: Naming> Scheduler<P> {
         let Some(token) = self.token_of(handle) else {
             return Ok(false);
         };
-        let Some(task) = self.ledger.task(graph, &token) else {
+        let Some(task) = self.ledger.task(inputs, &token) else {
             return Ok(false);
         };
         let group = self.ledger.group_of_token(&token);

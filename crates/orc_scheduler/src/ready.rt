@@ -5,7 +5,7 @@ ghost use Rattle.std.specs.VecDeque.{deque_len};
 ghost use Rattle.orc_scheduler.specs.Stops.{HasDrawn};
 
 use crate::order::Order;
-use orc_ledger::{Ledger, Program as Naming};
+use orc_ledger::{Ledger, Run};
 use std::alloc::{AllocError, Global};
 use std::collections::VecDeque;
 
@@ -42,7 +42,7 @@ pub(crate) enum Drawn {
 }
 
 // The rank of what stands in a place: tokens come first, then calls.
-fn rank_at<P: Naming>(
+fn rank_at<P: Run>(
     handles: &VecDeque<Handle>,
     ledger: &Ledger<P>,
     order: &Order,
@@ -198,7 +198,7 @@ impl Ready {
     }
 
     /// Whose turn the order draws: that of a token, which is taken, or of a call.
-    pub(crate) fn draw<P: Naming>(&mut self, ledger: &Ledger<P>) -> Option<Drawn>
+    pub(crate) fn draw<P: Run>(&mut self, ledger: &Ledger<P>) -> Option<Drawn>
         ensures { HasDrawn result (deque_len self.old.handles) (deque_len self.new.handles) }
     {
         let Some(order) = &mut self.order else {

@@ -22,10 +22,9 @@ use crate::wait_list::Waiting;
 use orc_env::StoredScope;
 use orc_graph::{Graph, Node};
 use orc_ledger::{
-    Action, Called, HaltFault, Halted, Ledger, LedgerFault, Moved, Passed, Program as Naming,
-    Standing, Token, calls_fit,
+    Action, Called, HaltFault, Halted, Inputs, Ledger, LedgerFault, Moved, Passed, Run, Standing,
+    Token, calls_fit,
 };
-use orc_rules::answers::Answers;
 use orc_rules::limits::MOST_GROUPS;
 use orc_rules::value::Args;
 use std::alloc::Global;
@@ -41,8 +40,10 @@ pub(crate) enum Turn {
 /// Why a run stops.
 #[derive(Clone, Copy)]
 pub enum Stop {
-    /// Nothing can come next.
-    Rests,
+    /// Its term has halted.
+    Halted,
+    /// Its term hasn't halted, and nothing can come next.
+    Quiet,
     /// An entry was refused, or memory for what is noted of it.
     Refused(LedgerFault),
     Broken,
@@ -71,7 +72,7 @@ pub(crate) enum Step {
 }
 
 /// A run: its ledger, the tokens whose turn comes, and those that wait.
-pub struct Scheduler<P: Naming> {
+pub struct Scheduler<P: Run> {
     pub(crate) alloc: Global,
     pub ledger: Ledger<P>,
     // Whether the ledger keeps its journal.
@@ -95,7 +96,7 @@ pub struct Scheduler<P: Naming> {
 }
 
 // Written out, so that each exit of a function that has a run drops it by one call.
-impl<P: Naming> Drop for Scheduler<P> {
+impl<P: Run> Drop for Scheduler<P> {
     fn drop(self) {
         let Scheduler {
             alloc: _,
@@ -122,7 +123,7 @@ impl<P: Naming> Drop for Scheduler<P> {
     }
 }
 
-impl<P: Naming> Scheduler<P> {
+impl<P: Run> Scheduler<P> {
     /// A run that begins, whose ledger `keeps` its journal or doesn't. The table answers its calls.
     pub fn new(alloc: Global, ledger: Ledger<P>, keeps: bool) -> Scheduler<P>
         requires { keeps ≡ P.keeps }
@@ -205,17 +206,15 @@ impl<P: Naming> Scheduler<P> {
 
     /// A token's turn or, where no token's turn comes, what else comes next. So a run is nearer its end each time: its entries are more, or as many and its
     /// groups fewer, or as many and the turns that come fewer.
-    pub fn go(&mut self, graph: &Graph, answers: &Answers) -> Result<(), Stop>
-        requires graph { graph.now ≡ P.listing }
-        requires answers { answers.now.sites ≡ P.sites }
+    pub fn go(&mut self, inputs: &Inputs<'_, P>) -> Result<(), Stop>
         ensures nearer { IfOk result (λ _. IsNearer self.old.ledger (deque_len self.old.ready.handles) self.new.ledger (deque_len self.new.ready.handles)) }
         ensures within { self.new.ledger.entries ≤ self.new.ledger.limit }
         ensures few { deque_len self.new.ready.handles < 2 ^ 64 }
         ensures stops { IfErr result (λ stop. Stops P.listing self.new.ledger stop) }
     {
-        let went = match self.turn(graph, answers) {
+        let went = match self.turn(inputs) {
             Ok(Turn::Went) => Ok(()),
-            Ok(Turn::Rests) => self.rest(graph, answers),
+            Ok(Turn::Rests) => self.rest(inputs),
             Err(stop) => Err(stop),
         };
         self.ledger.is_whole();
@@ -224,14 +223,12 @@ impl<P: Naming> Scheduler<P> {
     }
 
     /// A token's turn, or an answer that is due. False where there is neither.
-    pub(crate) fn go_now(&mut self, graph: &Graph, answers: &Answers) -> Result<bool, Stop>
-        requires graph { graph.now ≡ P.listing }
-        requires answers { answers.now.sites ≡ P.sites }
+    pub(crate) fn go_now(&mut self, inputs: &Inputs<'_, P>) -> Result<bool, Stop>
         ensures nearer { IfOk result (λ went. went ≡ true → IsNearer self.old.ledger (deque_len self.old.ready.handles) self.new.ledger (deque_len self.new.ready.handles)) }
         ensures within { self.new.ledger.entries ≤ self.new.ledger.limit }
         ensures few { deque_len self.new.ready.handles < 2 ^ 64 }
     {
-        let went = match self.turn(graph, answers) {
+        let went = match self.turn(inputs) {
             Ok(Turn::Went) => Ok(true),
             Ok(Turn::Rests) => Ok(false),
             Err(stop) => Err(stop),
@@ -243,14 +240,12 @@ impl<P: Naming> Scheduler<P> {
 
     /// The turn of a token: it moves until it is gone, waits, or has made its moves. Between two rounds that of a call which is due: else tokens that move
     /// on and on would starve it.
-    pub(crate) fn turn(&mut self, graph: &Graph, answers: &Answers) -> Result<Turn, Stop>
-        requires graph { graph.now ≡ P.listing }
-        requires answers { answers.now.sites ≡ P.sites }
+    pub(crate) fn turn(&mut self, inputs: &Inputs<'_, P>) -> Result<Turn, Stop>
         ensures turned { IfOk result (λ turn. HasTurned self.old.ledger (deque_len self.old.ready.handles) self.new.ledger (deque_len self.new.ready.handles) turn) }
         ensures stops { IfErr result (λ stop. Stops P.listing self.new.ledger stop) }
     {
         if self.ready.is_ordered() {
-            return self.drawn_turn(graph, answers);
+            return self.drawn_turn(inputs);
         }
         if self.ready.is_between() {
             self.sweep();
@@ -261,19 +256,12 @@ impl<P: Naming> Scheduler<P> {
         let Some(handle) = self.ready.take(self.spreads) else {
             return Ok(Turn::Rests);
         };
-        self.move_on(graph, answers, handle)?;
+        self.move_on(inputs, handle)?;
         Ok(Turn::Went)
     }
 
     /// The token of a handle that was taken moves until it is gone, waits, or has made its moves, and then its turn comes again.
-    pub(crate) fn move_on(
-        &mut self,
-        graph: &Graph,
-        answers: &Answers,
-        handle: Handle,
-    ) -> Result<(), Stop>
-        requires graph { graph.now ≡ P.listing }
-        requires answers { answers.now.sites ≡ P.sites }
+    pub(crate) fn move_on(&mut self, inputs: &Inputs<'_, P>, handle: Handle) -> Result<(), Stop>
         ensures nearer { IfOk result (λ _. IsNearer self.old.ledger (deque_len self.old.ready.handles + 1) self.new.ledger (deque_len self.new.ready.handles)) }
         ensures stops { IfErr result (λ stop. Stops P.listing self.new.ledger stop) }
     {
@@ -283,14 +271,14 @@ impl<P: Naming> Scheduler<P> {
         let mut slot = handle.slot;
         for moved in 0..MOVES {
             self.moves = handle.moves.saturating_add(moved);
-            if moved > 0 && self.is_turn_over(graph, answers, &token) {
+            if moved > 0 && self.is_turn_over(inputs, &token) {
                 break;
             }
-            if self.is_held_back(graph, &token) {
+            if self.is_held_back(inputs, &token) {
                 self.holding.keep(slot);
                 return Ok(());
             }
-            match self.step(graph, answers, slot, token)? {
+            match self.step(inputs, slot, token)? {
                 Step::On(next) => slot = next,
                 Step::Done | Step::Waits => return Ok(()),
             }
@@ -305,24 +293,20 @@ impl<P: Naming> Scheduler<P> {
     // Whether a token that has moved goes on in a later turn: where tokens spread at the next call of a definition, and in an order at the next step that
     // somebody outside sees.
     #[inline(always)]
-    fn is_turn_over(&self, graph: &Graph, answers: &Answers, token: &Token) -> bool
-        requires graph { graph.now ≡ P.listing }
-    {
+    fn is_turn_over(&self, inputs: &Inputs<'_, P>, token: &Token) -> bool {
         if self.spreads {
-            is_at_call(graph, token)
+            is_at_call(inputs.graph, token)
         } else {
-            self.ready.is_ordered() && self.is_seen(graph, answers, token)
+            self.ready.is_ordered() && self.is_seen(inputs, token)
         }
     }
 
     // Whether the token would publish a value of the run next, which is held back.
     #[inline(always)]
-    fn is_held_back(&self, graph: &Graph, token: &Token) -> bool
-        requires graph { graph.now ≡ P.listing }
-    {
+    fn is_held_back(&self, inputs: &Inputs<'_, P>, token: &Token) -> bool {
         self.holding.is_on()
             && token.step == 0
-            && matches!(self.ledger.what(graph, token), Action::Publish(_))
+            && matches!(self.ledger.what(inputs, token), Action::Publish(_))
     }
 
     // Tokens that are gone wait no more before the one that has waited longest: many may go at once, and their turns would take all rounds.
@@ -379,13 +363,10 @@ impl<P: Naming> Scheduler<P> {
     #[inline(always)]
     pub(crate) fn step(
         &mut self,
-        graph: &Graph,
-        answers: &Answers,
+        inputs: &Inputs<'_, P>,
         slot: usize,
         token: Token,
     ) -> Result<Step, Stop>
-        requires graph { graph.now ≡ P.listing }
-        requires answers { answers.now.sites ≡ P.sites }
         requires held { IsHeld self.old.ledger.slots slot token }
         ensures moved { IfOk result (λ step. HasMoved self.old.ledger (deque_len self.old.ready.handles) self.new.ledger (deque_len self.new.ready.handles) step) }
         ensures waits { IfOk result (λ step. step ≡ Step.Waits → IsProgram (definitions P.listing) (source P.listing) → is_wait (what_of (code P.listing) (definitions P.listing) self.old.ledger token) ≡ true) }
@@ -396,32 +377,24 @@ impl<P: Naming> Scheduler<P> {
             return Err(Stop::Refused(LedgerFault::Memory));
         }
         if let Standing::At(node, scope) = token.standing {
-            let node = graph.node(node as usize);
-            if let Some(step) = self.step_at(graph, answers, slot, token, scope, node)? {
+            let node = inputs.graph.node(node as usize);
+            if let Some(step) = self.step_at(inputs, slot, token, scope, node)? {
                 return Ok(step);
             }
         }
-        self.pass_on(graph, answers, slot, token)
+        self.pass_on(inputs, slot, token)
     }
 
     // One move of a token, of any kind.
     #[inline(always)]
-    fn pass_on(
-        &mut self,
-        graph: &Graph,
-        answers: &Answers,
-        slot: usize,
-        token: Token,
-    ) -> Result<Step, Stop>
-        requires graph { graph.now ≡ P.listing }
-        requires answers { answers.now.sites ≡ P.sites }
+    fn pass_on(&mut self, inputs: &Inputs<'_, P>, slot: usize, token: Token) -> Result<Step, Stop>
         requires held { IsHeld self.old.ledger.slots slot token }
         ensures moved { IfOk result (λ step. HasMoved self.old.ledger (deque_len self.old.ready.handles) self.new.ledger (deque_len self.new.ready.handles) step) }
         ensures waits { IfOk result (λ step. step ≡ Step.Waits → IsProgram (definitions P.listing) (source P.listing) → is_wait (what_of (code P.listing) (definitions P.listing) self.old.ledger token) ≡ true) }
         ensures stops { IfErr result (λ stop. Stops P.listing self.new.ledger stop) }
     {
         calls_fit(&self.ledger);
-        match self.pass(graph, slot, token) {
+        match self.pass(inputs, slot, token) {
             Ok(Moved::On) => Ok(Step::On(slot)),
             Ok(Moved::Forked(right)) => self.part(slot, right),
             Ok(Moved::Sent(group)) => {
@@ -437,9 +410,9 @@ impl<P: Naming> Scheduler<P> {
                 self.close(group)?;
                 Ok(Step::Done)
             }
-            Ok(Moved::Calls) => self.call(graph, answers, slot, token),
+            Ok(Moved::Calls) => self.call(inputs, slot, token),
             Ok(Moved::Waits) => {
-                self.wait(graph, slot)?;
+                self.wait(inputs, slot)?;
                 Ok(Step::Waits)
             }
             Err(fault) => {
@@ -455,15 +428,12 @@ impl<P: Naming> Scheduler<P> {
     #[inline(always)]
     fn step_at(
         &mut self,
-        graph: &Graph,
-        answers: &Answers,
+        inputs: &Inputs<'_, P>,
         slot: usize,
         token: Token,
         scope: usize,
         node: Node,
     ) -> Result<Option<Step>, Stop>
-        requires graph { graph.now ≡ P.listing }
-        requires answers { answers.now.sites ≡ P.sites }
         requires held { IsHeld self.old.ledger.slots slot token }
         requires at { StandsAt P.listing token scope (unfold_node (code P.listing) P.listing.lists (term_node node)) }
         ensures moved { IfOk result (λ moved. IfSome moved (λ step. Advances self.old.ledger self.new.ledger × (step ≡ Step.Waits → ⊥))) }
@@ -475,7 +445,7 @@ impl<P: Naming> Scheduler<P> {
                 let args = &mut self.args;
                 match self
                     .ledger
-                    .call_at(graph, answers, slot, token, scope, site, list, args)
+                    .call_at(inputs, slot, token, scope, site, list, args)
                 {
                     Ok(Some(called)) => match self.after_call(slot, called) {
                         Ok(step) => Ok(Some(step)),
@@ -492,7 +462,7 @@ impl<P: Naming> Scheduler<P> {
                 let scopes = &mut self.scopes;
                 match self
                     .ledger
-                    .def(graph, slot, token, scope, definition, list, scopes)
+                    .def(inputs, slot, token, scope, definition, list, scopes)
                 {
                     Ok(true) => Ok(Some(Step::On(slot))),
                     Ok(false) => Ok(None),
@@ -520,9 +490,10 @@ impl<P: Naming> Scheduler<P> {
             }
             Node::Seq(left, name, right) if self.goes_through => {
                 let args = &mut self.args;
-                match self.ledger.feed_through(
-                    graph, answers, slot, token, scope, left, name, right, args,
-                ) {
+                match self
+                    .ledger
+                    .feed_through(inputs, slot, token, scope, left, name, right, args)
+                {
                     Ok(passed) => match passed {
                         Passed::Halted(group) => {
                             self.close(group)?;
@@ -562,8 +533,12 @@ impl<P: Naming> Scheduler<P> {
 
     // A token moves once.
     #[inline(always)]
-    fn pass(&mut self, graph: &Graph, slot: usize, token: Token) -> Result<Moved, LedgerFault>
-        requires graph { graph.now ≡ P.listing }
+    fn pass(
+        &mut self,
+        inputs: &Inputs<'_, P>,
+        slot: usize,
+        token: Token,
+    ) -> Result<Moved, LedgerFault>
         requires held { IsHeld self.old.ledger.slots slot token }
         ensures done { IfOk result (λ m. Moves P.listing self.old.ledger slot token m self.new.cancelled.items self.new.ledger) }
         ensures refused { OnErr result (self.new.ledger ≡ self.old.ledger) }
@@ -576,7 +551,7 @@ impl<P: Naming> Scheduler<P> {
                 .advance_value(slot, token, value, &mut self.cancelled);
         }
         self.ledger
-            .advance(graph, slot, token, &mut self.scopes, &mut self.cancelled)
+            .advance(inputs, slot, token, &mut self.scopes, &mut self.cancelled)
     }
 
     // The tokens of a pruning's sides stand in these slots: the right one goes on, so that its group may be gone before the left side opens more, and
@@ -593,26 +568,18 @@ impl<P: Naming> Scheduler<P> {
 
     // A call of a site. Where the table answers it at once, the token on its answer goes on; but in an order a script's answer has a turn of its own.
     #[inline(always)]
-    fn call(
-        &mut self,
-        graph: &Graph,
-        answers: &Answers,
-        slot: usize,
-        token: Token,
-    ) -> Result<Step, Stop>
-        requires graph { graph.now ≡ P.listing }
-        requires answers { answers.now.sites ≡ P.sites }
+    fn call(&mut self, inputs: &Inputs<'_, P>, slot: usize, token: Token) -> Result<Step, Stop>
         requires held { IsHeld self.old.ledger.slots slot token }
         requires calls { what_of (code P.listing) (definitions P.listing) self.old.ledger token ≡ Action.Call }
         ensures moved { IfOk result (λ step. Advances self.old.ledger self.new.ledger × (step ≡ Step.Waits → ⊥)) }
         ensures stops { IfErr result (λ stop. Stops P.listing self.new.ledger stop) }
     {
-        if self.ready.is_ordered() && is_at_script(graph, answers, &token) {
-            return self.call_apart(graph, answers, slot, token);
+        if self.ready.is_ordered() && is_at_script(inputs.graph, inputs.answers, &token) {
+            return self.call_apart(inputs, slot, token);
         }
         match self
             .ledger
-            .call_through(graph, answers, slot, token, &mut self.args)
+            .call_through(inputs, slot, token, &mut self.args)
         {
             Ok(called) => self.after_call(slot, called),
             Err(fault) => {
@@ -642,8 +609,7 @@ impl<P: Naming> Scheduler<P> {
     }
 
     // The token in a slot waits for each of its cells.
-    fn wait(&mut self, graph: &Graph, slot: usize) -> Result<(), Stop>
-        requires graph { graph.now ≡ P.listing }
+    fn wait(&mut self, inputs: &Inputs<'_, P>, slot: usize) -> Result<(), Stop>
         ensures same { self.new.ledger ≡ self.old.ledger }
         ensures fewer { deque_len self.new.ready.handles ≤ deque_len self.old.ready.handles }
         ensures memory { IfErr result (λ stop. stop ≡ Stop.Refused LedgerFault.Memory) }
@@ -653,7 +619,7 @@ impl<P: Naming> Scheduler<P> {
         };
         if self
             .ledger
-            .park(graph, slot, token, &mut self.cells)
+            .park(inputs, slot, token, &mut self.cells)
             .is_err()
         {
             return Err(Stop::Refused(LedgerFault::Memory));

@@ -8,7 +8,7 @@ ghost use Rattle.orc_ledger_spec.specs.Parts.{call_of};
 use crate::ready::Handle;
 use crate::scheduler::{Scheduler, Stop};
 use orc_graph::Graph;
-use orc_ledger::{Ledger, LedgerFault, Program as Naming, SubRun, SubRunTask};
+use orc_ledger::{Inputs, Ledger, LedgerFault, Run, SubRun, SubRunTask};
 use orc_rules::answers::Answers;
 use std::alloc::Global;
 use std::marker::Brand;
@@ -16,7 +16,7 @@ use std::mem;
 
 /// What came of a call's run.
 #[derive(Drop)]
-pub enum Came<P: Naming> {
+pub enum Came<P: Run> {
     /// Nothing: nobody has run it, it can't stand for the call, or memory was refused.
     Nothing,
     /// It has more entries than it may have.
@@ -27,7 +27,7 @@ pub enum Came<P: Naming> {
 
 /// A call at which a token stands, and what came of its run.
 #[derive(Drop)]
-pub struct SubRunJob<P: Naming> {
+pub struct SubRunJob<P: Run> {
     handle: Handle,
     task: SubRunTask,
     // Whether it races others.
@@ -35,7 +35,7 @@ pub struct SubRunJob<P: Naming> {
     came: Came<P>,
 }
 
-impl<P: Naming> SubRunJob<P> {
+impl<P: Run> SubRunJob<P> {
     /// A job that nobody has done.
     pub(crate) fn new(handle: Handle, task: SubRunTask, races: bool) -> SubRunJob<P> {
         SubRunJob {
@@ -56,7 +56,7 @@ impl<P: Naming> SubRunJob<P> {
         &self.came
     }
 
-    /// Whether it races others, and has come to something: they may be in vain then.
+    /// Whether it races others, and those behind it may be in vain: it has yielded a value, or it can't be run apart, so that nobody knows.
     pub fn has_won(&self) -> bool {
         self.races
             && match &self.came {
@@ -72,44 +72,35 @@ impl<P: Naming> SubRunJob<P> {
     }
 
     /// Runs it apart, with at most so many entries; its journal is kept where that of the run is.
-    pub fn run(
-        &mut self,
-        alloc: Global,
-        graph: &Graph,
-        answers: &Answers,
-        keeps: bool,
-        limit: usize,
-    )
+    pub fn run(&mut self, alloc: Global, inputs: &Inputs<'_, P>, keeps: bool, limit: usize)
         requires keeps { keeps ≡ P.keeps }
         requires limit { (1 ≤ limit) × (limit ≤ MOST_ENTRIES) }
-        requires graph { graph.now ≡ P.listing }
-        requires answers { answers.now.sites ≡ P.sites }
     {
-        self.came = came_of(alloc, graph, answers, keeps, self.task.copied(), limit);
+        self.came = came_of(alloc, inputs, keeps, self.task.copied(), limit);
     }
 }
 
 // What comes of a task's run.
-fn came_of<P: Naming>(
+fn came_of<P: Run>(
     alloc: Global,
-    graph: &Graph,
-    answers: &Answers,
+    inputs: &Inputs<'_, P>,
     keeps: bool,
     task: SubRunTask,
     limit: usize,
 ) -> Came<P>
     requires keeps { keeps ≡ P.keeps }
     requires limit { (1 ≤ limit) × (limit ≤ MOST_ENTRIES) }
-    requires graph { graph.now ≡ P.listing }
-    requires answers { answers.now.sites ≡ P.sites }
 {
-    let Ok(own) = graph.for_call(alloc, task.definition, task.args.as_slice()) else {
+    let Ok(own) = inputs
+        .graph
+        .for_call(alloc, task.definition, task.args.as_slice())
+    else {
         return Came::Nothing;
     };
-    run_apart::<Brand, P>(alloc, &own, answers, keeps, task, limit)
+    run_apart::<Brand, P>(alloc, &own, inputs.answers, keeps, task, limit)
 }
 
-fn run_apart<Q: Naming, P: Naming>(
+fn run_apart<Q: Run, P: Run>(
     alloc: Global,
     graph: &Graph,
     answers: &Answers,
@@ -134,13 +125,14 @@ fn run_apart<Q: Naming, P: Naming>(
     if !task.is_outermost {
         scheduler.holding.begin();
     }
-    if run_until_cut(&mut scheduler, graph, answers) {
+    let inputs = Inputs::new(graph, answers);
+    if run_until_cut(&mut scheduler, &inputs) {
         return Came::Long;
     }
     let last = scheduler.holding.last();
     match scheduler
         .into_ledger()
-        .into_sub_run::<P>(graph, answers, task, last)
+        .into_sub_run::<P>(&inputs, task, last)
     {
         Some(part) => Came::Over(part),
         None => Came::Nothing,
@@ -148,15 +140,12 @@ fn run_apart<Q: Naming, P: Naming>(
 }
 
 // Turns until nothing can be done at once, the run stops, or nothing can come of it. Whether its limit has stopped it.
-fn run_until_cut<Q: Naming>(scheduler: &mut Scheduler<Q>, graph: &Graph, answers: &Answers) -> bool
-    requires graph { graph.now ≡ Q.listing }
-    requires answers { answers.now.sites ≡ Q.sites }
-{
+fn run_until_cut<Q: Run>(scheduler: &mut Scheduler<Q>, inputs: &Inputs<'_, Q>) -> bool {
     if scheduler.begin().is_err() {
         return false;
     }
     loop {
-        match scheduler.go_now(graph, answers) {
+        match scheduler.go_now(inputs) {
             Ok(true) if !scheduler.holding.is_vain() => {}
             Err(Stop::Refused(LedgerFault::Limit)) => return true,
             Ok(_) | Err(_) => return false,

@@ -7,14 +7,13 @@ ghost use Rattle.orc_outcome.specs.Outcome.{IsPlayed};
 ghost use Rattle.orc_scheduler.specs.Ends.{HasEnded};
 
 use orc_journal::Journal;
-use orc_ledger::{Ledger, Program as Naming};
+use orc_ledger::{Inputs, Ledger, Run};
 use orc_outcome::{End, Played, Summary};
-use orc_rules::answers::Answers;
 use orc_rules::value::Value;
 use std::alloc::{AllocError, Global};
 
 // What the run has published, in order, and its journal where it `keeps` one. The error is refused memory.
-fn kept<P: Naming>(
+fn kept<P: Run>(
     alloc: Global,
     ledger: Ledger<P>,
     keeps: bool,
@@ -33,17 +32,16 @@ fn kept<P: Naming>(
 }
 
 /// What is told of a run that has ended so, with its journal where it `keeps` one. The error is refused memory.
-pub(crate) fn played<P: Naming>(
+pub(crate) fn played<P: Run>(
     alloc: Global,
     ledger: Ledger<P>,
-    answers: &Answers,
+    inputs: &Inputs<'_, P>,
     keeps: bool,
     end: End,
 ) -> Result<Played, AllocError>
-    requires sites { answers.now.sites ≡ P.sites }
-    requires ended { HasEnded P.listing answers.now ledger end }
+    requires ended { HasEnded P.listing inputs.now.answers.now ledger end }
     requires keeps { keeps ≡ P.keeps }
-    ensures played { IfOk result (λ p. IsPlayed P.listing answers.now P.limit p.summary p.published.items p.journal) }
+    ensures played { IfOk result (λ p. IsPlayed P.listing inputs.now.answers.now P.limit p.summary p.published.items p.journal) }
     ensures kept { IfOk result (λ p. P.keeps ≡ true → is_some p.journal ≡ true) }
 {
     let now = ledger.time();

@@ -1,9 +1,9 @@
 //! What each worker knows of the others and of the run.
 
-use crate::inputs::Inputs;
+use crate::setup::Setup;
 use crate::shared::{OutsideWork, Shared};
 use orc_cell::Cell;
-use orc_log::Program;
+use orc_log::Run;
 use orc_scheduler::Stop;
 use orc_site::{Gate, Sites};
 use orc_word::Naming;
@@ -13,9 +13,9 @@ use std::sync::{Condvar, Mutex, Wait};
 
 /// The run under its lock, the condition variable that wakes workers at rest, and whom the workers ask.
 #[derive(Drop)]
-pub(crate) struct Context<'h, P: Program + Naming, S: Sites, G: Gate> {
+pub(crate) struct Context<'h, P: Run + Naming, S: Sites, G: Gate> {
     pub alloc: Global,
-    pub inputs: Inputs<'h, P>,
+    pub setup: Setup<'h, P>,
     pub shared: &'h Mutex<Shared<P, S::Call>>,
     // Why the run stops. It is bound under the lock, and read without it.
     pub why: &'h Cell<Stop>,
@@ -28,7 +28,7 @@ pub(crate) struct Context<'h, P: Program + Naming, S: Sites, G: Gate> {
     pub may_wait: bool,
 }
 
-impl<P: Program + Naming, S: Sites, G: Gate> Context<'_, P, S, G> {
+impl<P: Run + Naming, S: Sites, G: Gate> Context<'_, P, S, G> {
     /// One worker more.
     pub(crate) fn join<R: Wait>(&self, rt: &R) {
         let mut shared = self.shared.lock(rt);
@@ -69,7 +69,7 @@ impl<P: Program + Naming, S: Sites, G: Gate> Context<'_, P, S, G> {
     /// What there is for a worker without a token, and how often something had been offered by then.
     pub(crate) fn look<R: Wait>(&self, rt: &R) -> (OutsideWork<S::Call>, u64) {
         let mut shared = self.shared.lock(rt);
-        let work = shared.look(self.inputs.graph);
+        let work = shared.look(self.setup.inputs);
         self.tell(&mut shared, &work);
         (work, shared.offers)
     }
@@ -98,7 +98,7 @@ impl<P: Program + Naming, S: Sites, G: Gate> Context<'_, P, S, G> {
             return OutsideWork::None;
         }
         if shared.is_alone() {
-            let work = shared.look_last(self.inputs.graph);
+            let work = shared.look_last(self.setup.inputs);
             self.tell(&mut shared, &work);
             return work;
         }

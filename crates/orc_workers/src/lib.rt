@@ -5,12 +5,12 @@
 #![tactic(auto)]
 
 mod context;
-mod inputs;
 mod local;
 mod moves;
 mod poller;
 mod pool;
 mod rest;
+mod setup;
 mod shared;
 mod shift;
 mod stopper;

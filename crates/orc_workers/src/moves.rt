@@ -2,12 +2,12 @@
 
 ghost use Rattle.std.specs.Prelude.{◌≡◌};
 
-use crate::inputs::Inputs;
 use crate::local::Local;
+use crate::setup::Setup;
 use crate::shared::{Shared, stop_of};
 use orc_book::{Answered, BookFault, Token};
 use orc_ledger::Action;
-use orc_log::Program;
+use orc_log::Run;
 use orc_rules::limits::MOST_GROUPS;
 use orc_rules::value::Answer;
 use orc_scheduler::Stop;
@@ -24,32 +24,32 @@ pub(crate) enum Step {
     Full,
 }
 
-impl<P: Program + Naming, C: Drop> Shared<P, C> {
+impl<P: Run + Naming, C: Drop> Shared<P, C> {
     /// One move of a token that is out with a worker: what comes of it is with the worker then.
     pub(crate) fn step(
         &mut self,
-        inputs: &Inputs<'_, P>,
+        setup: &Setup<'_, P>,
         local: &mut Local<P>,
         token: Token<P>,
     ) -> Step {
-        let view = self.book.view(inputs.graph, token.slot, token.serial);
+        let view = self.book.view(setup.inputs, token.slot, token.serial);
         let Some(view) = view else {
             local.put(token.pass);
             return Step::On;
         };
         local.go_to(token.pass.group());
         match view.what {
-            Action::Publish(_) => self.publish(inputs, local, token),
-            Action::Bind(cell, _) => self.bind(inputs, local, token, cell),
-            Action::Call => self.call(inputs, local, token),
-            Action::Wait(_) => self.wait(inputs, local, token),
+            Action::Publish(_) => self.publish(setup, local, token),
+            Action::Bind(cell, _) => self.bind(setup, local, token, cell),
+            Action::Call => self.call(setup, local, token),
+            Action::Wait(_) => self.wait(setup, local, token),
             what => {
-                local.prepare(inputs.groups, view.needs, &token.pass);
+                local.prepare(setup.groups, view.needs, &token.pass);
                 if local.has_lost() {
                     self.run_short();
                     return Step::On;
                 }
-                let step = self.move_on(inputs, local, token);
+                let step = self.move_on(setup, local, token);
                 if let Action::Fork = what {
                     turn_last_two(local);
                 }
@@ -59,10 +59,10 @@ impl<P: Program + Naming, C: Drop> Shared<P, C> {
     }
 
     // A move that makes no call, and after which no cell is bound.
-    fn move_on(&mut self, inputs: &Inputs<'_, P>, local: &mut Local<P>, token: Token<P>) -> Step {
+    fn move_on(&mut self, setup: &Setup<'_, P>, local: &mut Local<P>, token: Token<P>) -> Step {
         match self.book.step(
-            inputs.groups,
-            inputs.graph,
+            setup.groups,
+            setup.inputs,
             token,
             &mut local.births,
             &mut local.out,
@@ -91,8 +91,8 @@ impl<P: Program + Naming, C: Drop> Shared<P, C> {
         }
     }
 
-    fn publish(&mut self, inputs: &Inputs<'_, P>, local: &mut Local<P>, token: Token<P>) -> Step {
-        match self.book.publish(inputs.graph, token) {
+    fn publish(&mut self, setup: &Setup<'_, P>, local: &mut Local<P>, token: Token<P>) -> Step {
+        match self.book.publish(setup.inputs, token) {
             Ok(pass) => {
                 local.put(pass);
                 Step::On
@@ -104,7 +104,7 @@ impl<P: Program + Naming, C: Drop> Shared<P, C> {
     // What stood inside the cell's right side goes, its calls among it; those that wait for the cell go on.
     fn bind(
         &mut self,
-        inputs: &Inputs<'_, P>,
+        setup: &Setup<'_, P>,
         local: &mut Local<P>,
         token: Token<P>,
         cell: u64,
@@ -113,7 +113,7 @@ impl<P: Program + Naming, C: Drop> Shared<P, C> {
         let cancelled = &mut self.cancelled;
         match self
             .book
-            .bind(inputs.groups, inputs.graph, token, leave, cancelled)
+            .bind(setup.groups, setup.inputs, token, leave, cancelled)
         {
             Ok(()) => {
                 self.drop_cancelled(local);
@@ -142,16 +142,16 @@ impl<P: Program + Naming, C: Drop> Shared<P, C> {
         }
     }
 
-    fn call(&mut self, inputs: &Inputs<'_, P>, local: &mut Local<P>, token: Token<P>) -> Step {
+    fn call(&mut self, setup: &Setup<'_, P>, local: &mut Local<P>, token: Token<P>) -> Step {
         let args = &mut self.args;
-        match self.book.call(inputs.graph, inputs.answers, token, args) {
+        match self.book.call(setup.inputs, token, args) {
             Ok(number) => Step::Calls(number),
             Err(refused) => self.refused(local, refused.why, refused.back),
         }
     }
 
-    fn wait(&mut self, inputs: &Inputs<'_, P>, local: &mut Local<P>, token: Token<P>) -> Step {
-        match self.book.wait(inputs.graph, token) {
+    fn wait(&mut self, setup: &Setup<'_, P>, local: &mut Local<P>, token: Token<P>) -> Step {
+        match self.book.wait(setup.inputs, token) {
             Ok(()) => Step::On,
             Err(refused) => self.refused(local, refused.why, refused.back),
         }

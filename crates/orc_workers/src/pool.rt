@@ -9,8 +9,8 @@ ghost use Rattle.orc_scheduler.specs.Faults.{IsOwn};
 ghost use Rattle.orc_engine.specs.Ranges.{IsInRange};
 
 use crate::context::Context;
-use crate::inputs::Inputs;
 use crate::local::Local;
+use crate::setup::Setup;
 use crate::shared::Shared;
 use crate::stopper::Stopper;
 use crate::worker::Worker;
@@ -18,7 +18,8 @@ use orc_book::{Book, Token};
 use orc_cell::Cell;
 use orc_engine::run_parallel;
 use orc_graph::Graph;
-use orc_log::Program as Run;
+use orc_ledger::Inputs;
+use orc_log::Run;
 use orc_outcome::Played;
 use orc_pool::{WorkerQueue, worker_queues};
 use orc_rules::answers::Answers;
@@ -154,12 +155,12 @@ where
     let Ok(pass) = groups.open(idle, 0) else {
         return Err(EngineFault::Broken);
     };
-    let Ok((book, token)) = Book::<P>::new(alloc, graph, true, limit, WORDS, pass) else {
+    let inputs = Inputs::new(graph, answers);
+    let Ok((book, token)) = Book::<P>::new(alloc, &inputs, true, limit, WORDS, pass) else {
         return Err(EngineFault::Memory);
     };
-    let inputs = Inputs {
-        graph,
-        answers,
+    let setup = Setup {
+        inputs: &inputs,
         groups: &groups,
     };
     let Ok(why) = Cell::new(alloc) else {
@@ -170,11 +171,11 @@ where
     };
     let shared = Mutex::new(Shared::new(alloc, book, stopper));
     play(
-        rt, alloc, inputs, supply, token, &shared, &why, sites, gate, workers,
+        rt, alloc, setup, supply, token, &shared, &why, sites, gate, workers,
     )?;
     let (book, stop) = shared.into_inner().into_book();
     let scheduler = Scheduler::new(alloc, book.into_ledger(), true);
-    match scheduler.finish(program, graph, answers, stop) {
+    match scheduler.finish(program, &inputs, stop) {
         Ok(Some(played)) => Ok(played),
         Ok(None) => unreachable!(),
         Err(fault) => Err(fault),
@@ -185,7 +186,7 @@ where
 fn play<'x, P, R, S, G>(
     rt: &'x R,
     alloc: Global,
-    inputs: Inputs<'x, P>,
+    setup: Setup<'x, P>,
     supply: Supply<P>,
     token: Token<P>,
     shared: &'x Mutex<Shared<P, S::Call>>,
@@ -209,14 +210,14 @@ where
         return Err(EngineFault::Broken);
     };
     let mut supply = supply;
-    let mut local = local_of(alloc, inputs.groups, &mut supply)?;
+    let mut local = local_of(alloc, setup.groups, &mut supply)?;
     local.hold(token);
     let wakeups = Condvar::new();
     let idle = AtomicU64::new(0);
     let may_wait = sites.may_wait() || gate.may_wait();
     let context = Context {
         alloc,
-        inputs,
+        setup,
         shared,
         why,
         wakeups: &wakeups,
@@ -262,7 +263,7 @@ fn others_of<'h, P: Run + Naming, R: Wait, S: Sites, G: Gate>(
 {
     let mut others = Vec::new(context.alloc);
     for queue in queues {
-        let local = local_of(context.alloc, context.inputs.groups, supply)?;
+        let local = local_of(context.alloc, context.setup.groups, supply)?;
         let worker = Worker {
             rt,
             context,

@@ -4,29 +4,27 @@ ghost use Rattle.std.specs.Prelude.{◌≡◌};
 
 use crate::shared::{OutsideWork, Shared, stop_of};
 use orc_book::Next;
-use orc_graph::Graph;
-use orc_log::Program;
+use orc_ledger::Inputs;
+use orc_log::Run;
 use orc_scheduler::Stop;
 use orc_word::Naming;
 
-impl<P: Program + Naming, C: Drop> Shared<P, C> {
+impl<P: Run + Naming, C: Drop> Shared<P, C> {
     /// What there is for a worker that has no token, no pass to leave and no group to close: a call that is due, else a tick. Rest where others have all that is
     /// left.
-    pub(crate) fn look(&mut self, graph: &Graph) -> OutsideWork<C>
-        requires graph { graph.now ≡ P.listing }
-    {
+    pub(crate) fn look(&mut self, inputs: &Inputs<'_, P>) -> OutsideWork<C> {
         if self.is_over() {
             return OutsideWork::Over;
         }
         if let Some(work) = self.take_due() {
             return work;
         }
-        match self.book.next(graph) {
+        match self.book.next(inputs) {
             // The call that is due now is taken by another look.
             Ok(Next::Ticked) => OutsideWork::None,
             Ok(Next::Work) => OutsideWork::Rest,
             Ok(Next::Quiet) => {
-                self.stop(Stop::Rests);
+                self.stop(Stop::Quiet);
                 OutsideWork::Over
             }
             Err(why) => {
@@ -37,12 +35,10 @@ impl<P: Program + Naming, C: Drop> Shared<P, C> {
     }
 
     /// What there is for the last worker that isn't at rest. Where there is nothing, nobody has what is left: the run stops.
-    pub(crate) fn look_last(&mut self, graph: &Graph) -> OutsideWork<C>
-        requires graph { graph.now ≡ P.listing }
-    {
-        match self.look(graph) {
+    pub(crate) fn look_last(&mut self, inputs: &Inputs<'_, P>) -> OutsideWork<C> {
+        match self.look(inputs) {
             OutsideWork::Rest => {
-                self.stop(Stop::Rests);
+                self.stop(Stop::Halted);
                 OutsideWork::Over
             }
             work => work,

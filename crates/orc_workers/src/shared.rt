@@ -1,12 +1,12 @@
 //! What the workers share under their one lock.
 
-use crate::inputs::Inputs;
 use crate::local::Local;
 use crate::moves::Step;
+use crate::setup::Setup;
 use crate::stopper::Stopper;
 use orc_book::{Book, BookFault, Ended};
 use orc_ledger_spec::LedgerFault;
-use orc_log::Program;
+use orc_log::Run;
 use orc_rules::answers::Answers;
 use orc_rules::value::{Answer, Args};
 use orc_scheduler::Stop;
@@ -51,7 +51,7 @@ pub(crate) enum OutsideWork<C: Drop> {
 }
 
 /// The book of a run, the calls that wait until they are due, what ends the run, and where the workers are.
-pub(crate) struct Shared<P: Program + Naming, C: Drop> {
+pub(crate) struct Shared<P: Run + Naming, C: Drop> {
     pub(crate) book: Book<P>,
     pub(crate) pending: BTreeMap<u64, Box<C>>,
     // Lent to the book: for the arguments of a call, and for the numbers of the calls that a bind has cancelled.
@@ -66,7 +66,7 @@ pub(crate) struct Shared<P: Program + Naming, C: Drop> {
 }
 
 // Written out, so that each exit of a function that has one drops it by one call.
-impl<P: Program + Naming, C: Drop> Drop for Shared<P, C> {
+impl<P: Run + Naming, C: Drop> Drop for Shared<P, C> {
     fn drop(self) {
         let Shared {
             book,
@@ -86,7 +86,7 @@ impl<P: Program + Naming, C: Drop> Drop for Shared<P, C> {
     }
 }
 
-impl<P: Program + Naming, C: Drop> Shared<P, C> {
+impl<P: Run + Naming, C: Drop> Shared<P, C> {
     /// A run at its beginning. The first worker, with the first token, is at work.
     pub(crate) fn new(alloc: Global, book: Book<P>, stopper: Stopper) -> Shared<P, C> {
         Shared {
@@ -142,12 +142,12 @@ impl<P: Program + Naming, C: Drop> Shared<P, C> {
     /// outside or has made its moves. Where a round begins, a call that is due goes first.
     pub(crate) fn work(
         &mut self,
-        inputs: &Inputs<'_, P>,
+        setup: &Setup<'_, P>,
         local: &mut Local<P>,
         event: CallEvent<C>,
         begins_round: bool,
     ) -> OutsideWork<C> {
-        self.hear(inputs.answers, local, event);
+        self.hear(setup.inputs.answers, local, event);
         self.close_groups(local);
         if begins_round
             && !self.is_over()
@@ -166,7 +166,7 @@ impl<P: Program + Naming, C: Drop> Shared<P, C> {
             let Some(token) = local.take_token() else {
                 return OutsideWork::None;
             };
-            match self.step(inputs, local, token) {
+            match self.step(setup, local, token) {
                 Step::On => {}
                 Step::Calls(number) => return self.make(number),
                 Step::Full => return OutsideWork::MakeRoom,
@@ -250,7 +250,7 @@ impl<P: Program + Naming, C: Drop> Shared<P, C> {
 
     fn close(&mut self, local: &mut Local<P>, last: Last<P>) {
         match self.book.halt(last, &mut local.out.leave) {
-            Ok(Ended::Run) => self.stop(Stop::Rests),
+            Ok(Ended::Run) => self.stop(Stop::Halted),
             Ok(Ended::Token(token)) => local.hold(token),
             Ok(Ended::Lost(cell)) => self.wake(local, cell),
             Ok(Ended::Group) => {}
@@ -259,15 +259,10 @@ impl<P: Program + Naming, C: Drop> Shared<P, C> {
     }
 
     /// Those of a worker's tokens that are there no more go, and their passes are to be left.
-    pub(crate) fn drop_gone(
-        &mut self,
-        alloc: Global,
-        inputs: &Inputs<'_, P>,
-        local: &mut Local<P>,
-    ) {
+    pub(crate) fn drop_gone(&mut self, alloc: Global, setup: &Setup<'_, P>, local: &mut Local<P>) {
         let tokens = mem::replace(&mut local.out.born, Vec::new(alloc));
         for token in tokens {
-            match self.book.view(inputs.graph, token.slot, token.serial) {
+            match self.book.view(setup.inputs, token.slot, token.serial) {
                 Some(_) => local.hold(token),
                 None => local.put(token.pass),
             }

@@ -10,7 +10,7 @@ use crate::shared::{CallEvent, OutsideWork};
 use orc_book::Token;
 use orc_cell::Reader;
 use orc_ledger_spec::LedgerFault;
-use orc_log::Program;
+use orc_log::Run;
 use orc_pool::WorkerQueue;
 use orc_rules::limits::MOST_TOKENS;
 use orc_scheduler::Stop;
@@ -30,7 +30,7 @@ const PATIENCE: u32 = 16;
 const SPARE: usize = 4;
 
 /// A worker at work.
-pub(crate) struct Shift<'h, P: Program + Naming, R: Wait, S: Sites, G: Gate> {
+pub(crate) struct Shift<'h, P: Run + Naming, R: Wait, S: Sites, G: Gate> {
     rt: &'h R,
     context: &'h Context<'h, P, S, G>,
     // What it has read of why the run stops.
@@ -48,7 +48,7 @@ pub(crate) struct Shift<'h, P: Program + Naming, R: Wait, S: Sites, G: Gate> {
 }
 
 // Written out, so that each exit of a function that has one drops it by one call.
-impl<P: Program + Naming, R: Wait, S: Sites, G: Gate> Drop for Shift<'_, P, R, S, G> {
+impl<P: Run + Naming, R: Wait, S: Sites, G: Gate> Drop for Shift<'_, P, R, S, G> {
     fn drop(self) {
         let Shift {
             rt: _,
@@ -70,7 +70,7 @@ impl<P: Program + Naming, R: Wait, S: Sites, G: Gate> Drop for Shift<'_, P, R, S
     }
 }
 
-impl<'h, P: Program + Naming, R: Wait, S: Sites, G: Gate> Shift<'h, P, R, S, G> {
+impl<'h, P: Run + Naming, R: Wait, S: Sites, G: Gate> Shift<'h, P, R, S, G> {
     pub(crate) fn new(
         rt: &'h R,
         context: &'h Context<'h, P, S, G>,
@@ -140,7 +140,7 @@ impl<'h, P: Program + Naming, R: Wait, S: Sites, G: Gate> Shift<'h, P, R, S, G> 
         let event = mem::replace(&mut self.event, CallEvent::None);
         let context = self.context;
         let mut shared = context.shared.lock(self.rt);
-        let work = shared.work(&context.inputs, &mut self.local, event, begins_round);
+        let work = shared.work(&context.setup, &mut self.local, event, begins_round);
         context.tell(&mut shared, &work);
         work
     }
@@ -182,7 +182,7 @@ impl<'h, P: Program + Naming, R: Wait, S: Sites, G: Gate> Shift<'h, P, R, S, G> 
     // Leaves what is to be left.
     fn settle(&mut self) {
         let context = self.context;
-        let groups = context.inputs.groups;
+        let groups = context.setup.groups;
         self.local.settle(groups);
     }
 
@@ -288,7 +288,7 @@ impl<'h, P: Program + Naming, R: Wait, S: Sites, G: Gate> Shift<'h, P, R, S, G> 
     fn drop_gone(&mut self) {
         let context = self.context;
         let mut shared = context.shared.lock(self.rt);
-        shared.drop_gone(context.alloc, &context.inputs, &mut self.local);
+        shared.drop_gone(context.alloc, &context.setup, &mut self.local);
     }
 
     // Makes a call, and asks for its answer. A call that was recorded is made even if the run has stopped meanwhile: the journal has it.

@@ -6,7 +6,7 @@ use crate::poller::Poller;
 use crate::shift::Shift;
 use orc_book::Token;
 use orc_ledger_spec::LedgerFault;
-use orc_log::Program;
+use orc_log::Run;
 use orc_pool::WorkerQueue;
 use orc_scheduler::Stop;
 use orc_site::{Gate, Sites};
@@ -15,7 +15,7 @@ use std::sync::Wait;
 
 /// A worker before its work begins.
 #[derive(Drop)]
-pub(crate) struct Worker<'h, P: Program + Naming, R: Wait, S: Sites, G: Gate> {
+pub(crate) struct Worker<'h, P: Run + Naming, R: Wait, S: Sites, G: Gate> {
     pub rt: &'h R,
     pub context: &'h Context<'h, P, S, G>,
     pub queue: WorkerQueue<Token<P>>,
@@ -23,7 +23,7 @@ pub(crate) struct Worker<'h, P: Program + Naming, R: Wait, S: Sites, G: Gate> {
     pub is_first: bool,
 }
 
-impl<P: Program + Naming, R: Wait, S: Sites, G: Gate> Worker<'_, P, R, S, G> {
+impl<P: Run + Naming, R: Wait, S: Sites, G: Gate> Worker<'_, P, R, S, G> {
     /// Works until the run is over. Where memory is refused before it begins another worker is left out, and with the first one the run stops.
     pub(crate) fn work(self) {
         let Worker {

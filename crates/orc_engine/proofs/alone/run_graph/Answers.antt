@@ -8,7 +8,7 @@ use Rattle.orc_engine.proofs.alone.run_graph.Goals as goal
 
 pub returns-clause-sound : goal.returns-clause-sound
 returns-clause-sound g c =
-    let l = g.P.Program.listing in
+    let l = g.P.Run.listing in
     let stop = c.play-stop.result in
     let s = c.play-stop.new.scheduler.ledger in
     subst (λ p. IfErr c.finish.result (λ f. IsOwn f → IsProgram (definitions p) (source p) → ⊥)) (sym c.requires.program)

@@ -3,6 +3,7 @@ use Rattle.std.specs.Prelude.{option_to_list}
 use Rattle.orc_indexes.specs.Same.{weight}
 use Rattle.orc_tables.specs.Tokens.{live}
 use Rattle.orc_tables.proofs.Slots.{removed, replaced}
+use Rattle.orc_ledger.proofs.Others.{set-others}
 use Rattle.orc_ledger.proofs.sub_runs.exchange.Goals as goal
 
 pub returns-in-Some-clause-tokens : goal.returns-in-Some-clause-tokens
@@ -22,3 +23,9 @@ returns-in-None-clause-tokens g w =
       removed w g.args.tokens.now.items g.args.slot g.args.token free.0 g.requires.held free.1,
       ap (λ o. weight w (option_to_list o)) g.in-None.is,
     )
+
+pub returns-in-Some-clause-others : goal.returns-in-Some-clause-others
+returns-in-Some-clause-others g = set-others g.args.tokens.now.items g.replace.new.self.items g.args.slot g.in-Some.comer g.replace.ensures.items
+
+pub returns-in-None-clause-others : goal.returns-in-None-clause-others
+returns-in-None-clause-others g = set-others g.args.tokens.now.items g.remove.new.self.items g.args.slot g.remove.ensures.items.0 g.remove.ensures.items.2

@@ -5,11 +5,11 @@ use Rattle.orc_scheduler.proofs.summary.played.Goals as goal
 
 pub returns-clause-played : goal.returns-clause-played
 returns-clause-played g c =
-    let l = g.P.Program.listing in
-    let t = c.args.answers.now in
+    let l = g.P.Run.listing in
+    let t = c.args.inputs.now.answers.now in
     let s = c.args.ledger in
-    let whole : IsWhole l t.sites s = subst (λ z. IsWhole l z s) (sym c.requires.sites) c.is_whole.ensures in
-    let limit : s.limit ≡ g.P.Program.limit = c.keeps_limit.ensures in
+    let whole : IsWhole l t.sites s = subst (λ z. IsWhole l z s) (sym c.args.inputs.now.its_sites) c.is_whole.ensures in
+    let limit : s.limit ≡ g.P.Run.limit = c.keeps_limit.ensures in
     record {
       outcome = record { journal = s.journal; end = c.args.end; now = c.time-now.result };
       is_run = record {

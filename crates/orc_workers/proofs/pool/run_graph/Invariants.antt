@@ -2,8 +2,8 @@
 use Rattle.std.proofs.Common.{true}
 use Rattle.orc_workers.proofs.pool.run_graph.Given as goal
 
-abbrev pub ghosts-run_named-P-Program : goal.ghosts-run_named-P-Program
-ghosts-run_named-P-Program g a = record { listing = a.program.now; sites = a.answers.now.sites; limit = a.limit; keeps = true }
+abbrev pub ghosts-run_named-P-Run : goal.ghosts-run_named-P-Run
+ghosts-run_named-P-Run g a = record { listing = a.program.now; sites = a.answers.now.sites; limit = a.limit; keeps = true }
 
 abbrev pub ghosts-run_named-P-Naming : goal.ghosts-run_named-P-Naming
 ghosts-run_named-P-Naming g a = record { table = a.words.table.shared.table_id }

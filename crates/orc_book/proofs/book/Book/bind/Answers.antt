@@ -19,11 +19,11 @@ use Rattle.orc_book.proofs.book.Book.bind.Goals as goal
 pub bury_missing-requires-clause-loose : goal.bury_missing-requires-clause-loose
 bury_missing-requires-clause-loose g c =
     let b = c.self.inside in
-    let l = g.P.Program.listing in
+    let l = g.P.Run.listing in
     let t = c.in-Ok.found.its in
     let does = sym (rw (← c.self.view_is) at c.in-Ok.ensures.found.what) ∙ c.in-Bind.is in
     let D = drops l b.ledger c.args.token.slot t c.advance.new.self _ c.in-Bind._cell c.in-Bind._value c.in-Ok-advance._bound does c.in-Ok-advance.ensures.done in
-    dropped-loose l g.P.Program.sites b.ledger c.stands.ensures.lawful c.stands.ensures.grouped c.in-Bind._cell (bound.Is c.in-Bind._value) c.advance.new.self D c.stands-in-Ok-advance.ensures.lawful c.stands-in-Ok-advance.ensures.grouped b.posts.items c.self.invariant.0
+    dropped-loose l g.P.Run.sites b.ledger c.stands.ensures.lawful c.stands.ensures.grouped c.in-Bind._cell (bound.Is c.in-Bind._value) c.advance.new.self D c.stands-in-Ok-advance.ensures.lawful c.stands-in-Ok-advance.ensures.grouped b.posts.items c.self.invariant.0
 
 pub bury_missing-requires-clause-root : goal.bury_missing-requires-clause-root
 bury_missing-requires-clause-root g c =
@@ -42,7 +42,7 @@ settle_all-requires-clause-few g c = omega (arith, c.bury_missing.ensures.buried
 pub invariant_of-self : goal.invariant_of-self
 invariant_of-self g c =
     let b = c.self.inside in
-    let l = g.P.Program.listing in
+    let l = g.P.Run.listing in
     let t = c.in-Ok.found.its in
     let s' = c.advance.new.self in
     let does = sym (rw (← c.self.view_is) at c.in-Ok.ensures.found.what) ∙ c.in-Bind.is in

@@ -6,6 +6,7 @@ use Rattle.orc_word.specs.Views.{group_of}
 use Rattle.orc_book.specs.Held.{Hold, Becomes, out_of, out_at, word_at}
 use Rattle.orc_book.proofs.Ones.{forked-fits, forked-held}
 use Rattle.orc_book.proofs.Posts.{word-kept}
+use Rattle.orc_book.proofs.Outs.{adds-one}
 use Rattle.orc_book.proofs.Reading.{forked}
 use Rattle.orc_book.proofs.Named.{named-kept, none-came}
 use Rattle.orc_book.proofs.book.Book.fork_found.Goals as goal
@@ -13,7 +14,7 @@ use Rattle.orc_book.proofs.book.Book.fork_found.Goals as goal
 pub invariant_of-self : goal.invariant_of-self
 invariant_of-self g c =
     let b = c.self.inside in
-    let l = g.P.Program.listing in
+    let l = g.P.Run.listing in
     let t = c.args.found.its in
     let i : IsIn t b.ledger.tokens = rw (← c.self.view_is) at c.requires.found.there in
     let m = subst (λ m. Moves l b.ledger c.args.token.slot t m c.advance.new.cancelled.items c.advance.new.self) c.in-Ok-Forked.field-0-is c.in-Ok-Forked.ensures.done in
@@ -32,7 +33,7 @@ invariant_of-self g c =
 pub born-one-requires : goal.born-one-requires
 born-one-requires g c =
     let b = c.self.inside in
-    let l = g.P.Program.listing in
+    let l = g.P.Run.listing in
     let t = c.args.found.its in
     let m = subst (λ m. Moves l b.ledger c.args.token.slot t m c.advance.new.cancelled.items c.advance.new.self) c.in-Ok-Forked.field-0-is c.in-Ok-Forked.ensures.done in
     let F = forked l b.ledger c.args.token.slot t c.advance.new.self _ c.in-Ok-Forked.other (sym (rw (← c.self.view_is) at c.requires.found.what) ∙ c.requires.next) m in
@@ -46,7 +47,7 @@ born-one-requires g c =
 pub overflow_add-found : goal.overflow_add-found
 overflow_add-found g c =
     let b = c.self.inside in
-    let l = g.P.Program.listing in
+    let l = g.P.Run.listing in
     let t = c.args.found.its in
     let i : IsIn t b.ledger.tokens = rw (← c.self.view_is) at c.requires.found.there in
     let m = subst (λ m. Moves l b.ledger c.args.token.slot t m c.advance.new.cancelled.items c.advance.new.self) c.in-Ok-Forked.field-0-is c.in-Ok-Forked.ensures.done in
@@ -55,3 +56,12 @@ overflow_add-found g c =
     let at : n ≡ group_at b.ledger.steps t.step = rw (← c.self.view_is) at c.requires.found.group in
     let out : c.args.found.out ≡ out_at b.posts.items n = rw (← c.self.view_is) at c.requires.found.out in
     omega (arith, out, ap (out_at b.posts.items) at, forked-fits b.ledger c.advance.new.self c.stands.ensures.lawful.sound t i _ _ refl refl [] [] _ F.done b.posts.items c.self.invariant.0, c.token_count-tokens.ensures, c.token_count-tokens.type_inv)
+
+pub returns-in-Ok-Forked-clause-posts : goal.returns-in-Ok-Forked-clause-posts
+returns-in-Ok-Forked-clause-posts g c =
+    let b = c.self.inside in
+    let t = c.args.found.its in
+    let n : ℕ = c.args.found.group in
+    let at : n ≡ group_at b.ledger.steps t.step = rw (← c.self.view_is) at c.requires.found.group in
+    let out : c.args.found.out ≡ out_at b.posts.items n = rw (← c.self.view_is) at c.requires.found.out in
+    (t, c.requires.found.unkept, rw (← c.self.view_is) (adds-one b.posts.items c.set_out.new.posts.items n _ _ at c.set_out.ensures (ap (λ z. z + 1) out)))

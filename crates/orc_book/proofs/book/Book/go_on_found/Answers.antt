@@ -14,7 +14,7 @@ use Rattle.orc_book.proofs.book.Book.go_on_found.Goals as goal
 pub invariant_of-self : goal.invariant_of-self
 invariant_of-self g c =
     let b = c.self.inside in
-    let l = g.P.Program.listing in
+    let l = g.P.Run.listing in
     let t = c.args.found.its in
     let i : IsIn t b.ledger.tokens = rw (← c.self.view_is) at c.requires.found.there in
     let m = subst (λ m. Moves l b.ledger c.args.token.slot t m c.advance.new.cancelled.items c.advance.new.self) c.in-Ok-On.field-0-is c.in-Ok-On.ensures.done in
@@ -26,7 +26,7 @@ invariant_of-self g c =
 pub unreachable-requires : goal.unreachable-requires
 unreachable-requires g c =
     let b = c.self.inside in
-    let l = g.P.Program.listing in
+    let l = g.P.Run.listing in
     let t = c.args.found.its in
     let m = subst (λ m. Moves l b.ledger c.args.token.slot t m c.advance.new.cancelled.items c.advance.new.self) c.in-Ok-On.field-0-is c.in-Ok-On.ensures.done in
     let W = went l b.ledger c.args.token.slot t c.advance.new.self _ (subst (λ a. (a ≡ what.Seq) ⊎ (a ≡ what.Def)) (rw (← c.self.view_is) at c.requires.found.what) c.requires.next) m in
@@ -37,12 +37,12 @@ born-requires g c =
     let b = c.self.inside in
     let s' = c.advance.new.self in
     let ps = b.posts.items in
-    let l = g.P.Program.listing in
+    let l = g.P.Run.listing in
     let t = c.args.found.its in
     let m = subst (λ m. Moves l b.ledger c.args.token.slot t m c.advance.new.cancelled.items s') c.in-Ok-On.field-0-is c.in-Ok-On.ensures.done in
     let W = went l b.ledger c.args.token.slot t s' _ (subst (λ a. (a ≡ what.Seq) ⊎ (a ≡ what.Def)) (rw (← c.self.view_is) at c.requires.found.what) c.requires.next) m in
     let its : Token = c.in-Some._its in
     let h = c.in-Some.ensures.held in
-    let group : group_at s'.steps its.step ≡ group_at b.ledger.steps t.step = went-group l g.P.Program.sites b.ledger s' c.stands.ensures.lawful c.args.token.slot t W its h.0 h.1 in
+    let group : group_at s'.steps its.step ≡ group_at b.ledger.steps t.step = went-group l g.P.Run.sites b.ledger s' c.stands.ensures.lawful c.args.token.slot t W its h.0 h.1 in
     let named : group_of c.args.token.pass ≡ Some (word_at ps (group_at b.ledger.steps t.step)) = rw (← c.self.view_is) at c.requires.found.unkept.0.2 in
     record { held = (its, h.0, named ∙ ap (λ z. Some (word_at ps z)) (sym group)) }

@@ -1,11 +1,11 @@
-use Rattle.std.proofs.Common.{◌≡◌, ◌≤◌, ◌-◌, ℕ, [], arith, refl, ap, sym, ◌∙◌, subst, Some}
+use Rattle.std.proofs.Common.{◌≡◌, ◌≤◌, ◌-◌, ℕ, [], ◌∷◌, arith, refl, ap, sym, ◌∙◌, subst, Some}
 use Rattle.orc_rules.specs.Timed.{IsIn}
 use Rattle.orc_ledger_spec.specs.declared.results.Moved.TheVariants as moved
 use Rattle.orc_ledger_spec.proofs.Nests.{alike-group}
 use Rattle.orc_tables.specs.Steps.{group_at}
 use Rattle.orc_word.specs.Views.{group_of}
 use Rattle.orc_book.specs.Held.{Hold, Becomes, held_at, out_at, word_at, out_of, passes_of}
-use Rattle.orc_book.specs.Stepping.{IsFedBy}
+use Rattle.orc_book.specs.Feeding.{IsFedBy}
 use Rattle.orc_book.proofs.Around.{round-pass}
 use Rattle.orc_book.proofs.Feeding.{fed-form, fed-moves}
 use Rattle.orc_book.proofs.Moving.{sent-fits, sent-held}
@@ -17,7 +17,7 @@ use Rattle.orc_book.proofs.book.Book.send_across.Goals as goal
 pub send-requires-clause-form : goal.send-requires-clause-form
 send-requires-clause-form g c =
     let b = c.self.inside in
-    let l = g.P.Program.listing in
+    let l = g.P.Run.listing in
     let t = c.args.found.its in
     let F : IsFedBy l b.ledger t c.args.fed = rw (← c.self.view_is) at c.requires.fed in
     fed-form l b.ledger t c.args.fed F
@@ -25,7 +25,7 @@ send-requires-clause-form g c =
 pub unreachable-requires : goal.unreachable-requires
 unreachable-requires g c =
     let b = c.self.inside in
-    let l = g.P.Program.listing in
+    let l = g.P.Run.listing in
     let t = c.args.found.its in
     let ps = b.posts.items in
     let ps1 = c.set_out.new.posts.items in
@@ -35,7 +35,7 @@ unreachable-requires g c =
     let to : c.args.round ≡ group_at b.ledger.steps c.args.fed.outer = rw (← c.self.view_is) at c.requires.round in
     let F : IsFedBy l b.ledger t c.args.fed = rw (← c.self.view_is) at c.requires.fed in
     let d = c.set_out.ensures in
-    let p : 1 ≤ held_at ps (group_at b.ledger.steps c.args.fed.outer) = round-pass l g.P.Program.sites b.ledger c.stands.ensures.lawful c.stands.ensures.grouped t i (F.2).0 c.args.fed.outer (F.2).1 (λ e. c.requires.other (to ∙ e ∙ sym at)) ps c.self.invariant.0 in
+    let p : 1 ≤ held_at ps (group_at b.ledger.steps c.args.fed.outer) = round-pass l g.P.Run.sites b.ledger c.stands.ensures.lawful c.stands.ensures.grouped t i (F.2).0 c.args.fed.outer (F.2).1 (λ e. c.requires.other (to ∙ e ∙ sym at)) ps c.self.invariant.0 in
     omega (arith, p, ap (held_at ps) to, same-at passes_of ps ps1 n d.0 _ d.1 c.args.round refl, c.in_default-enter_at.ensures.1)
 
 pub invariant_of-self : goal.invariant_of-self
@@ -74,10 +74,10 @@ born-born-requires g c =
 pub returns-in-Ok-enter_at-clause-done : goal.returns-in-Ok-enter_at-clause-done
 returns-in-Ok-enter_at-clause-done g c =
     let b = c.self.inside in
-    let l = g.P.Program.listing in
+    let l = g.P.Run.listing in
     let t = c.args.found.its in
     let F : IsFedBy l b.ledger t c.args.fed = rw (← c.self.view_is) at c.requires.fed in
-    (t, moved.Sent (group_at b.ledger.steps t.step), [], c.requires.found.unkept, rw (← c.self.view_is) (fed-moves l b.ledger t c.args.fed F c.args.token.slot c.send.new.self [] c.in-Ok.ensures.done c.in-Ok.ensures.right))
+    (t, moved.Sent (group_at b.ledger.steps t.step), [], c.born-born.result ∷ [], c.requires.found.unkept, rw (← c.self.view_is) (fed-moves l b.ledger t c.args.fed F c.args.token.slot c.send.new.self [] c.in-Ok.ensures.done c.in-Ok.ensures.right), c.push_reserved.ensures.items, ap (λ z. z ∷ []) c.born-born.ensures.same.0)
 
 pub overflow_add-out_there : goal.overflow_add-out_there
 overflow_add-out_there g c =

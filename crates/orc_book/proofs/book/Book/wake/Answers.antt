@@ -1,5 +1,7 @@
-use Rattle.std.proofs.Common.{◌++◌, ◌∷◌, [], ap, sym, ◌∙◌, subst}
+use Rattle.std.proofs.Common.{◌++◌, ◌∷◌, [], ap, sym, ◌∙◌, subst, arith}
 use Rattle.orc_book.specs.Held.{Held, AreBorn, HaveWoken}
+use Rattle.orc_book.specs.Passes.{in_tokens}
+use Rattle.orc_book.proofs.Given.{token-added}
 use Rattle.orc_book.proofs.Woken.{stay-on, born-on, born-more, woken-more, woken-on}
 use Rattle.orc_book.proofs.book.Book.wake.Goals.{in-Some-wake_one, in_default-wake_one}
 use Rattle.orc_book.proofs.book.Book.wake.Goals as goal
@@ -27,6 +29,12 @@ loop-link-preserved g c =
             subst (λ z. HaveWoken first.marks b'.marks before z) (ap (λ z. z.items) (sym w.born-is))
             (woken-more first.marks before popped.marks b'.marks c.loop-link.born.items W _ w.in-Some-wake_one.token M.0 M.1 M.2 (w.push_reserved.ensures.items ∙ ap (λ z. z ++ w.in-Some-wake_one.token ∷ []) c.try_reserve.ensures.items))
         | in_default-wake_one w ↦ subst (λ z. HaveWoken first.marks b'.marks before z) (ap (λ z. z.items) (sym w.born-is)) (subst (λ z. HaveWoken first.marks b'.marks before z) (sym c.try_reserve.ensures.items) (woken-on first.marks before popped.marks b'.marks c.loop-link.born.items W w.in_default-wake_one.ensures.woken))
+      ],
+      λ f. elim c.match-wake_one.branch [
+        | in-Some-wake_one w ↦
+            omega (arith, I.3 f, w.in-Some-wake_one.ensures.passes f, ap (λ z. in_tokens f z.items) w.born-is, token-added c.loop-link.born.items _ w.in-Some-wake_one.token (w.push_reserved.ensures.items ∙ ap (λ z. z ++ w.in-Some-wake_one.token ∷ []) c.try_reserve.ensures.items) f)
+        | in_default-wake_one w ↦
+            omega (arith, I.3 f, w.in_default-wake_one.ensures.passes f, ap (λ z. in_tokens f z.items) w.born-is, ap (in_tokens f) c.try_reserve.ensures.items)
       ],
     )
 

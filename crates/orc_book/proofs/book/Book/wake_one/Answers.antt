@@ -1,6 +1,10 @@
-use Rattle.std.proofs.Common.{◌≡◌, ℕ, arith, refl, ap, sym, ◌∙◌, Some}
+use Rattle.std.proofs.Common.{◌≡◌, ◌+◌, ℕ, arith, refl, ap, sym, ◌∙◌, Some}
 use Rattle.orc_tables.specs.Steps.{group_at}
+use Rattle.orc_word.specs.declared.view.View.{View}
 use Rattle.orc_word.specs.Views.{group_of}
+use Rattle.orc_book.specs.declared.token.Token.{Token as Out}
+use Rattle.orc_book.specs.Passes.{in_posts, in_words}
+use Rattle.orc_book.proofs.Given.{taken-posts}
 use Rattle.orc_book.specs.Held.{kept_of, out_of, word_at}
 use Rattle.orc_book.proofs.Moving.{woken-held}
 use Rattle.orc_book.proofs.Posts.{word-kept}
@@ -32,3 +36,15 @@ returns-clause-same g c =
     let ps = c.self.inside.posts.items in
     let D = c.in_ok-pass.ensures.1 in
     rw (← c.self.view_is) (refl, λ i. word-kept ps c.wake_at.new.posts.items _ D.0 D.1 D.2 D.3 i, refl)
+
+pub returns-clause-passes : goal.returns-clause-passes
+returns-clause-passes g c =
+    let b = c.self.inside in
+    let ps = b.posts.items in
+    let ps' = c.wake_at.new.posts.items in
+    let ws = b.words.stands in
+    let D = c.in_ok-pass.ensures.1 in
+    let pass = Out.pass c.born.result in
+    let all : (f : View → ℕ) → f pass + (in_posts f ps' + in_words f ws) ≡ in_posts f ps + in_words f ws =
+    λ f. omega (arith, taken-posts ps ps' _ D.0 D.1 c.in_ok-pass.pass D.2 (D.4).3 f, ap f c.born.ensures.same.1) in
+    rw (← c.self.view_is) all

@@ -22,13 +22,14 @@ use Rattle.orc_ledger_spec.proofs.Asked.{word-there, called-kept}
 use Rattle.orc_ledger_spec.proofs.Keeping.{from_one}
 use Rattle.orc_indexes.proofs.Lists.{set-there}
 use Rattle.orc_tables.proofs.Slots.{live-in, removed, replaced}
+use Rattle.orc_ledger.proofs.Others.{set-others}
 use Rattle.orc_ledger.proofs.ledger.Ledger.answer_through.Goals as goal
 
 pub replace-requires-clause-serial : goal.replace-requires-clause-serial
 replace-requires-clause-serial g c =
     let b = c.self.inside in
     let s : Records = record { limit = b.limit; journal = b.journal.entries; entries = b.entries; next_mark = b.next_mark; now = b.time; made = b.calls.made; tokens = live b.tokens.items; slots = b.tokens.items; calls = b.calls.items; scopes = b.scopes.items; steps = b.steps.items; groups = b.groups.items; cells = b.cells.items } in
-    from_one g.P.Program.listing g.P.Program.sites s c.self.invariant.kept.lawful
+    from_one g.P.Run.listing g.P.Run.sites s c.self.invariant.kept.lawful
 
 pub replace-requires-clause-held : goal.replace-requires-clause-held
 replace-requires-clause-held g c =
@@ -44,8 +45,8 @@ pub invariant_of-self-in-Value : goal.invariant_of-self-in-Value
 invariant_of-self-in-Value g c =
     let b = c.self.inside in
     let a = c.args in
-    let l = g.P.Program.listing in
-    let sites = g.P.Program.sites in
+    let l = g.P.Run.listing in
+    let sites = g.P.Run.sites in
     let K = c.self.invariant.kept in
     let s : Records = record { limit = b.limit; journal = b.journal.entries; entries = b.entries; next_mark = b.next_mark; now = b.time; made = b.calls.made; tokens = live b.tokens.items; slots = b.tokens.items; calls = b.calls.items; scopes = b.scopes.items; steps = b.steps.items; groups = b.groups.items; cells = b.cells.items } in
     let held : IsHeld s.slots a.slot a.token = rw (← c.self.view_is) at c.requires.held in
@@ -61,7 +62,7 @@ invariant_of-self-in-Value g c =
     let s1 = between s a.slot a.token m args (Gives v) nth in
     let making = made-between s a.slot a.token m args (Gives v) nth refl held in
     let room : s.entries + 1 < s.limit = omega (arith, c.if-self-ge2.true) in
-    let kept_between = called-kept l sites b.counts b.groups.sizes s K a.answers.now.sites c.requires.answers m args a.token (live-in s.slots a.slot a.token held) asks (omega (arith, room)) k refl found (λ o. refl) s1 refl refl refl making c.write_answered.new.counts c.in_ok-write_answered-in-Value.ensures.counted in
+    let kept_between = called-kept l sites b.counts b.groups.sizes s K a.inputs.now.answers.now.sites c.args.inputs.now.its_sites m args a.token (live-in s.slots a.slot a.token held) asks (omega (arith, room)) k refl found (λ o. refl) s1 refl refl refl making c.write_answered.new.counts c.in_ok-write_answered-in-Value.ensures.counted in
     let u : Token = record { serial = s.next_mark; standing = On v; step = a.token.step } in
     let s' : Records = record { limit = b.limit; journal = c.write_answered.new.journal.entries; entries = b.entries + 2; next_mark = b.next_mark + 1; now = b.time; made = c.pass_number.new.self.made; tokens = live c.replace.new.self.items; slots = c.replace.new.self.items; calls = c.pass_number.new.self.items; scopes = b.scopes.items; steps = b.steps.items; groups = b.groups.items; cells = b.cells.items } in
     let answering : Exchanges s1 s' [] (u ∷ []) (k ∷ []) [] 0 (Return (s.made + 1) s.next_mark v) = record {
@@ -89,8 +90,8 @@ pub invariant_of-self-in-Halt : goal.invariant_of-self-in-Halt
 invariant_of-self-in-Halt g c =
     let b = c.self.inside in
     let a = c.args in
-    let l = g.P.Program.listing in
-    let sites = g.P.Program.sites in
+    let l = g.P.Run.listing in
+    let sites = g.P.Run.sites in
     let K = c.self.invariant.kept in
     let s : Records = record { limit = b.limit; journal = b.journal.entries; entries = b.entries; next_mark = b.next_mark; now = b.time; made = b.calls.made; tokens = live b.tokens.items; slots = b.tokens.items; calls = b.calls.items; scopes = b.scopes.items; steps = b.steps.items; groups = b.groups.items; cells = b.cells.items } in
     let held : IsHeld s.slots a.slot a.token = rw (← c.self.view_is) at c.requires.held in
@@ -105,7 +106,7 @@ invariant_of-self-in-Halt g c =
     let s1 = between s a.slot a.token m args Halt nth in
     let making = made-between s a.slot a.token m args Halt nth refl held in
     let room : s.entries + 1 < s.limit = omega (arith, c.if-self-ge2.true) in
-    let kept_between = called-kept l sites b.counts b.groups.sizes s K a.answers.now.sites c.requires.answers m args a.token (live-in s.slots a.slot a.token held) asks (omega (arith, room)) k refl found (λ o. refl) s1 refl refl refl making c.write_answered-in-Halt.new.counts c.in_ok-write_answered-in-Halt.ensures.counted in
+    let kept_between = called-kept l sites b.counts b.groups.sizes s K a.inputs.now.answers.now.sites c.args.inputs.now.its_sites m args a.token (live-in s.slots a.slot a.token held) asks (omega (arith, room)) k refl found (λ o. refl) s1 refl refl refl making c.write_answered-in-Halt.new.counts c.in_ok-write_answered-in-Halt.ensures.counted in
     let s' : Records = record { limit = b.limit; journal = c.write_answered-in-Halt.new.journal.entries; entries = b.entries + 2; next_mark = b.next_mark; now = b.time; made = c.pass_number-in-Halt.new.self.made; tokens = live c.remove.new.self.items; slots = c.remove.new.self.items; calls = c.pass_number-in-Halt.new.self.items; scopes = b.scopes.items; steps = b.steps.items; groups = c.leave.new.self.items; cells = b.cells.items } in
     let answering : Exchanges s1 s' [] [] (k ∷ []) [] 0 (ReturnHalt (s.made + 1)) = record {
       limit = refl;
@@ -132,8 +133,8 @@ pub returns-in_ok-write_answered-in-Value-clause-done : goal.returns-in_ok-write
 returns-in_ok-write_answered-in-Value-clause-done g c =
     let b = c.self.inside in
     let a = c.args in
-    let l = g.P.Program.listing in
-    let sites = g.P.Program.sites in
+    let l = g.P.Run.listing in
+    let sites = g.P.Run.sites in
     let K = c.self.invariant.kept in
     let s : Records = record { limit = b.limit; journal = b.journal.entries; entries = b.entries; next_mark = b.next_mark; now = b.time; made = b.calls.made; tokens = live b.tokens.items; slots = b.tokens.items; calls = b.calls.items; scopes = b.scopes.items; steps = b.steps.items; groups = b.groups.items; cells = b.cells.items } in
     let held : IsHeld s.slots a.slot a.token = rw (← c.self.view_is) at c.requires.held in
@@ -172,8 +173,8 @@ pub returns-in_ok-write_answered-in-Halt-clause-done : goal.returns-in_ok-write_
 returns-in_ok-write_answered-in-Halt-clause-done g c =
     let b = c.self.inside in
     let a = c.args in
-    let l = g.P.Program.listing in
-    let sites = g.P.Program.sites in
+    let l = g.P.Run.listing in
+    let sites = g.P.Run.sites in
     let K = c.self.invariant.kept in
     let s : Records = record { limit = b.limit; journal = b.journal.entries; entries = b.entries; next_mark = b.next_mark; now = b.time; made = b.calls.made; tokens = live b.tokens.items; slots = b.tokens.items; calls = b.calls.items; scopes = b.scopes.items; steps = b.steps.items; groups = b.groups.items; cells = b.cells.items } in
     let held : IsHeld s.slots a.slot a.token = rw (← c.self.view_is) at c.requires.held in
@@ -204,3 +205,15 @@ returns-in_ok-write_answered-in-Halt-clause-done g c =
     } in
     let is_made : IsMade l sites s a.token k s1 = record { site = m; args = args; asks = asks; number = refl; step = refl; made_at = refl; place = K.lawful.place; at = K.lawful.leads; found = found; nth = λ o. refl; row = refl; exchanges = making } in
     rw (← c.self.view_is) (k, s1, refl, c.group_at-group.ensures, is_made, answering)
+
+pub returns-in_ok-write_answered-in-Value-clause-others : goal.returns-in_ok-write_answered-in-Value-clause-others
+returns-in_ok-write_answered-in-Value-clause-others g c =
+    let b = c.self.inside in
+    let a = c.args in
+    rw (← c.self.view_is) (set-others b.tokens.items c.replace.new.self.items a.slot _ c.replace.ensures.items)
+
+pub returns-in_ok-write_answered-in-Halt-clause-others : goal.returns-in_ok-write_answered-in-Halt-clause-others
+returns-in_ok-write_answered-in-Halt-clause-others g c =
+    let b = c.self.inside in
+    let a = c.args in
+    rw (← c.self.view_is) (set-others b.tokens.items c.remove.new.self.items a.slot c.remove.ensures.items.0 c.remove.ensures.items.2)

@@ -14,7 +14,7 @@ use Rattle.orc_ledger.proofs.ledger.Ledger.any_moves.Goals as goal
 pub returns-clause-some : goal.returns-clause-some
 returns-clause-some g c e =
     let s : Records = c.args.self.now in
-    let l = g.P.Program.listing in
+    let l = g.P.Run.listing in
     let w : Token → ℕ = ready_one (code l) (definitions l) s in
     let f = the-found _ _ c.movable.result c.movable.ensures (sym c.is_some.ensures ∙ e) in
     let slots : c.self.inside.tokens.items ≡ s.slots = ap (λ (z : Records). z.slots) c.self.view_is in

@@ -22,8 +22,8 @@ pub invariant_of-self-2 : goal.invariant_of-self-2
 invariant_of-self-2 g c =
     let b = c.self.inside in
     let a = c.args in
-    let l = g.P.Program.listing in
-    let sites = g.P.Program.sites in
+    let l = g.P.Run.listing in
+    let sites = g.P.Run.sites in
     let K = c.self.invariant.kept in
     let s : Records = record { limit = b.limit; journal = b.journal.entries; entries = b.entries; next_mark = b.next_mark; now = b.time; made = b.calls.made; tokens = live b.tokens.items; slots = b.tokens.items; calls = b.calls.items; scopes = b.scopes.items; steps = b.steps.items; groups = b.groups.items; cells = b.cells.items } in
     let p : Apart = record { definition = c.part.inside.definition; args = c.part.inside.args; entries = c.part.inside.journal.entries; mark = c.part.inside.next_mark; calls = c.part.inside.calls; cells = c.part.inside.cells; left = c.part.inside.left } in
@@ -66,8 +66,8 @@ pub returns-clause-done : goal.returns-clause-done
 returns-clause-done g c =
     let b = c.self.inside in
     let a = c.args in
-    let l = g.P.Program.listing in
-    let sites = g.P.Program.sites in
+    let l = g.P.Run.listing in
+    let sites = g.P.Run.sites in
     let s : Records = record { limit = b.limit; journal = b.journal.entries; entries = b.entries; next_mark = b.next_mark; now = b.time; made = b.calls.made; tokens = live b.tokens.items; slots = b.tokens.items; calls = b.calls.items; scopes = b.scopes.items; steps = b.steps.items; groups = b.groups.items; cells = b.cells.items } in
     let p : Apart = record { definition = c.part.inside.definition; args = c.part.inside.args; entries = c.part.inside.journal.entries; mark = c.part.inside.next_mark; calls = c.part.inside.calls; cells = c.part.inside.cells; left = c.part.inside.left } in
     let s' : Records = record { limit = b.limit; journal = c.append.new.self.entries; entries = b.entries + c.len-entries.result; next_mark = b.next_mark + p.mark - 2; now = b.time; made = c.append.new.calls.made; tokens = live c.exchange.new.tokens.items; slots = c.exchange.new.tokens.items; calls = c.append.new.calls.items; scopes = b.scopes.items; steps = b.steps.items; groups = c.exchange.new.groups.items; cells = c.add_cells.new.cells.items } in
@@ -103,4 +103,7 @@ comer_of-comer-requires-clause-next g c =
     let a = c.args in
     let s : Records = record { limit = b.limit; journal = b.journal.entries; entries = b.entries; next_mark = b.next_mark; now = b.time; made = b.calls.made; tokens = live b.tokens.items; slots = b.tokens.items; calls = b.calls.items; scopes = b.scopes.items; steps = b.steps.items; groups = b.groups.items; cells = b.cells.items } in
     let held : IsHeld s.slots a.slot a.token = rw (← c.self.view_is) at c.requires.held in
-    omega (arith, given g.P.Program.listing g.P.Program.sites s c.self.invariant.kept.lawful a.token (live-in s.slots a.slot a.token held))
+    omega (arith, given g.P.Run.listing g.P.Run.sites s c.self.invariant.kept.lawful a.token (live-in s.slots a.slot a.token held))
+
+pub returns-clause-others : goal.returns-clause-others
+returns-clause-others g c = rw (← c.self.view_is) c.exchange.ensures.others

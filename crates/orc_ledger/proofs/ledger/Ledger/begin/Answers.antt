@@ -27,8 +27,8 @@ same limit root made js ts cs ss ps gs bs m j t c s p g b = λ i. record { limit
 pub invariant_of-result : goal.invariant_of-result
 invariant_of-result g c =
     let a = c.args in
-    let l = g.P.Program.listing in
-    let sites = g.P.Program.sites in
+    let l = g.P.Run.listing in
+    let sites = g.P.Run.sites in
     let L = begun-lawful l sites a.limit c.requires.limit.1 in
     let sizes = c.join.new.self.sizes in
     let kept : Kept l sites [] sizes (begun a.limit l.root) = record {

@@ -12,11 +12,11 @@ use Rattle.orc_ledger.proofs.ledger.Ledger.call_at.Goals as goal
 
 pub answer_through-requires-clause-asks : goal.answer_through-requires-clause-asks
 answer_through-requires-clause-asks g c =
-    let l = g.P.Program.listing in
+    let l = g.P.Run.listing in
     let a = c.args in
     let ops : List Operand = slice_index_or l.lists a.list [] in
     let env = its_env (code l) a.self.now a.scope in
-    let same : c.operands.result.now ≡ ops = c.operands.ensures.value ∙ ap (λ (z : Listing). slice_index_or z.lists a.list []) c.requires.graph in
+    let same : c.operands.result.now ≡ ops = c.operands.ensures.value ∙ ap (λ (z : Listing). slice_index_or z.lists a.list []) c.args.inputs.now.its_graph in
     let at = c.requires.at in (
       closed env ops,
       sym (ap (λ (z : List Operand). values_of (closed env z)) same) ∙ c.if-take_values.ensures.values refl,

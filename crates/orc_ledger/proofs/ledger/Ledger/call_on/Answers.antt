@@ -17,23 +17,23 @@ use Rattle.orc_ledger.proofs.ledger.Ledger.call_on.Goals as goal
 
 pub answer_through-requires-clause-asks : goal.answer_through-requires-clause-asks
 answer_through-requires-clause-asks g c =
-    let l = g.P.Program.listing in
+    let l = g.P.Run.listing in
     let a = c.args in
     let ops : List Operand = slice_index_or l.lists a.list [] in
     let env = its_env (code l) a.self.now a.scope in
-    let same : c.operands.result.now ≡ ops = c.operands.ensures.value ∙ ap (λ (z : Listing). slice_index_or z.lists a.list []) c.requires.graph in
+    let same : c.operands.result.now ≡ ops = c.operands.ensures.value ∙ ap (λ (z : Listing). slice_index_or z.lists a.list []) c.args.inputs.now.its_graph in
     let at = c.requires.at in (
       closed env ops,
       sym (ap (λ (z : List Operand). values_of (closed env z)) same) ∙ c.if-take_values.ensures.values refl,
       ap (standing (code l) (its_env (code l) a.self.now)) at.1 ∙ ap (close env) at.2 ∙ close-site env a.site (map param_of ops),
     )
 
-pub returns-then-send_on : goal.returns-then-send_on
-returns-then-send_on g c =
+pub returns-then-send_on-clause-goes : goal.returns-then-send_on-clause-goes
+returns-then-send_on-clause-goes g c =
     let b = c.self.inside in
     let a = c.args in
-    let l = g.P.Program.listing in
-    let sites = g.P.Program.sites in
+    let l = g.P.Run.listing in
+    let sites = g.P.Run.sites in
     let s : Records = record { limit = b.limit; journal = b.journal.entries; entries = b.entries; next_mark = b.next_mark; now = b.time; made = b.calls.made; tokens = live b.tokens.items; slots = b.tokens.items; calls = b.calls.items; scopes = b.scopes.items; steps = b.steps.items; groups = b.groups.items; cells = b.cells.items } in
     let v = c.in-Ok-Answered.value in
     let s2 = c.answer_through.new.self in

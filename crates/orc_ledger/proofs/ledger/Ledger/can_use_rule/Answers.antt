@@ -14,8 +14,8 @@ use Rattle.orc_ledger.proofs.ledger.Ledger.can_use_rule.Goals as goal
 
 pub returns-then-uses_rule : goal.returns-then-uses_rule
 returns-then-uses_rule g c e p at quiet =
-    let l = g.P.Program.listing in
-    let sites = g.P.Program.sites in
+    let l = g.P.Run.listing in
+    let sites = g.P.Run.sites in
     let s : Records = c.args.self.now in
     let K = subst (λ (z : Records). Kept l sites c.self.inside.counts c.self.inside.groups.sizes z) c.self.view_is c.self.invariant.kept in
     let L = K.lawful in

@@ -26,6 +26,7 @@ use Rattle.orc_indexes.specs.Same.{is_this}
 use Rattle.orc_ledger_spec.proofs.Nests.{group-kept}
 use Rattle.orc_ledger_spec.proofs.Sizes.{turned-members}
 use Rattle.orc_ledger_spec.proofs.Brought.{turned-flat}
+use Rattle.orc_ledger.proofs.Others.{set-others}
 use Rattle.orc_ledger.proofs.ledger.Ledger.def.Goals as goal
 
 -- a definition of the listing is one of the program
@@ -36,15 +37,15 @@ pub invariant_of-self-2 : goal.invariant_of-self-2
 invariant_of-self-2 g c =
     let b = c.self.inside in
     let a = c.args in
-    let l = g.P.Program.listing in
-    let sites = g.P.Program.sites in
+    let l = g.P.Run.listing in
+    let sites = g.P.Run.sites in
     let s : Records = record { limit = b.limit; journal = b.journal.entries; entries = b.entries; next_mark = b.next_mark; now = b.time; made = b.calls.made; tokens = live b.tokens.items; slots = b.tokens.items; calls = b.calls.items; scopes = b.scopes.items; steps = b.steps.items; groups = b.groups.items; cells = b.cells.items } in
     let L = c.self.invariant.kept.lawful in
     let G = c.self.invariant.kept.grouped in
     let held : IsHeld s.slots a.slot a.token = rw (← c.self.view_is) at c.requires.held in
     let i : IsIn a.token s.tokens = live-in s.slots a.slot a.token held in
-    let same_routines : c.args.graph.now.routines ≡ l.routines = ap (λ (z : Listing). z.routines) c.requires.graph in
-    let same_lists : c.args.graph.now.lists ≡ l.lists = ap (λ (z : Listing). z.lists) c.requires.graph in
+    let same_routines : c.args.inputs.now.graph.now.routines ≡ l.routines = ap (λ (z : Listing). z.routines) c.args.inputs.now.its_graph in
+    let same_lists : c.args.inputs.now.graph.now.lists ≡ l.lists = ap (λ (z : Listing). z.lists) c.args.inputs.now.its_graph in
     let got = routine_there l.routines a.definition c.in-Some.body (ap (λ (z : List Routine). option_map (λ (r : Routine). r.body) (slice_get z a.definition)) (sym same_routines) ∙ sym c.in-Some.ensures) in
     let r : Routine = got.0 in
     let params : c.params-params.result.now ≡ r.params = c.params-params.ensures ∙ ap (λ (z : List Routine). params_at z a.definition) same_routines ∙ got.3 in
@@ -84,15 +85,15 @@ pub returns-clause-done : goal.returns-clause-done
 returns-clause-done g c e =
     let b = c.self.inside in
     let a = c.args in
-    let l = g.P.Program.listing in
-    let sites = g.P.Program.sites in
+    let l = g.P.Run.listing in
+    let sites = g.P.Run.sites in
     let s : Records = record { limit = b.limit; journal = b.journal.entries; entries = b.entries; next_mark = b.next_mark; now = b.time; made = b.calls.made; tokens = live b.tokens.items; slots = b.tokens.items; calls = b.calls.items; scopes = b.scopes.items; steps = b.steps.items; groups = b.groups.items; cells = b.cells.items } in
     let L = c.self.invariant.kept.lawful in
     let G = c.self.invariant.kept.grouped in
     let held : IsHeld s.slots a.slot a.token = rw (← c.self.view_is) at c.requires.held in
     let i : IsIn a.token s.tokens = live-in s.slots a.slot a.token held in
-    let same_routines : c.args.graph.now.routines ≡ l.routines = ap (λ (z : Listing). z.routines) c.requires.graph in
-    let same_lists : c.args.graph.now.lists ≡ l.lists = ap (λ (z : Listing). z.lists) c.requires.graph in
+    let same_routines : c.args.inputs.now.graph.now.routines ≡ l.routines = ap (λ (z : Listing). z.routines) c.args.inputs.now.its_graph in
+    let same_lists : c.args.inputs.now.graph.now.lists ≡ l.lists = ap (λ (z : Listing). z.lists) c.args.inputs.now.its_graph in
     let got = routine_there l.routines a.definition c.in-Some.body (ap (λ (z : List Routine). option_map (λ (r : Routine). r.body) (slice_get z a.definition)) (sym same_routines) ∙ sym c.in-Some.ensures) in
     let r : Routine = got.0 in
     let params : c.params-params.result.now ≡ r.params = c.params-params.ensures ∙ ap (λ (z : List Routine). params_at z a.definition) same_routines ∙ got.3 in
@@ -119,15 +120,15 @@ pub returns-clause-held : goal.returns-clause-held
 returns-clause-held g c e =
     let b = c.self.inside in
     let a = c.args in
-    let l = g.P.Program.listing in
-    let sites = g.P.Program.sites in
+    let l = g.P.Run.listing in
+    let sites = g.P.Run.sites in
     let s : Records = record { limit = b.limit; journal = b.journal.entries; entries = b.entries; next_mark = b.next_mark; now = b.time; made = b.calls.made; tokens = live b.tokens.items; slots = b.tokens.items; calls = b.calls.items; scopes = b.scopes.items; steps = b.steps.items; groups = b.groups.items; cells = b.cells.items } in
     let L = c.self.invariant.kept.lawful in
     let G = c.self.invariant.kept.grouped in
     let held : IsHeld s.slots a.slot a.token = rw (← c.self.view_is) at c.requires.held in
     let i : IsIn a.token s.tokens = live-in s.slots a.slot a.token held in
-    let same_routines : c.args.graph.now.routines ≡ l.routines = ap (λ (z : Listing). z.routines) c.requires.graph in
-    let same_lists : c.args.graph.now.lists ≡ l.lists = ap (λ (z : Listing). z.lists) c.requires.graph in
+    let same_routines : c.args.inputs.now.graph.now.routines ≡ l.routines = ap (λ (z : Listing). z.routines) c.args.inputs.now.its_graph in
+    let same_lists : c.args.inputs.now.graph.now.lists ≡ l.lists = ap (λ (z : Listing). z.lists) c.args.inputs.now.its_graph in
     let got = routine_there l.routines a.definition c.in-Some.body (ap (λ (z : List Routine). option_map (λ (r : Routine). r.body) (slice_get z a.definition)) (sym same_routines) ∙ sym c.in-Some.ensures) in
     let r : Routine = got.0 in
     let params : c.params-params.result.now ≡ r.params = c.params-params.ensures ∙ ap (λ (z : List Routine). params_at z a.definition) same_routines ∙ got.3 in
@@ -154,9 +155,15 @@ pub replace-requires-clause-serial : goal.replace-requires-clause-serial
 replace-requires-clause-serial g c =
     let b = c.self.inside in
     let a = c.args in
-    let l = g.P.Program.listing in
-    let sites = g.P.Program.sites in
+    let l = g.P.Run.listing in
+    let sites = g.P.Run.sites in
     let s : Records = record { limit = b.limit; journal = b.journal.entries; entries = b.entries; next_mark = b.next_mark; now = b.time; made = b.calls.made; tokens = live b.tokens.items; slots = b.tokens.items; calls = b.calls.items; scopes = b.scopes.items; steps = b.steps.items; groups = b.groups.items; cells = b.cells.items } in
     let L = c.self.invariant.kept.lawful in
     let held : IsHeld s.slots a.slot a.token = rw (← c.self.view_is) at c.requires.held in
     later_mark l sites s L a.token (live-in s.slots a.slot a.token held)
+
+pub returns-clause-others : goal.returns-clause-others
+returns-clause-others g c =
+    let b = c.self.inside in
+    let a = c.args in
+    rw (← c.self.view_is) (set-others b.tokens.items c.replace.new.self.items a.slot _ c.replace.ensures.items)

@@ -9,8 +9,8 @@ use Rattle.orc_ledger.proofs.ledger.Ledger.due.Goals as goal
 
 pub returns-in_default-clause-due : goal.returns-in_default-clause-due
 returns-in_default-clause-due g c =
-    let l = g.P.Program.listing in
-    let sites = g.P.Program.sites in
+    let l = g.P.Run.listing in
+    let sites = g.P.Run.sites in
     let K = subst (λ (z : Records). Kept l sites c.self.inside.counts c.self.inside.groups.sizes z) c.self.view_is c.self.invariant.kept in
     λ call t i due le. none-owed l sites c.self.inside.counts c.self.inside.groups.sizes c.args.self.now K c.in_default.ensures.due call t i due le
 
@@ -22,8 +22,8 @@ unreachable-requires g c =
 
 pub unreachable-requires-in_default-found : goal.unreachable-requires-in_default-found
 unreachable-requires-in_default-found g c =
-    let l = g.P.Program.listing in
-    let sites = g.P.Program.sites in
+    let l = g.P.Run.listing in
+    let sites = g.P.Run.sites in
     let K = subst (λ (z : Records). Kept l sites c.self.inside.counts c.self.inside.groups.sizes z) c.self.view_is c.self.invariant.kept in
     let its : IsIn c.in-Some-pending.call c.args.self.now.calls = subst (λ (z : Records). IsIn c.in-Some-pending.call z.calls) c.in-Some.ensures.same c.in-Some-pending.ensures.0 in
     let o = owed l sites c.self.inside.counts c.self.inside.groups.sizes c.args.self.now K c.in-Some.number c.in-Some.ensures.due.0 c.in-Some-pending.call its c.in-Some-pending.ensures.1 in
@@ -31,8 +31,8 @@ unreachable-requires-in_default-found g c =
 
 pub returns-clause-due : goal.returns-clause-due
 returns-clause-due g c =
-    let l = g.P.Program.listing in
-    let sites = g.P.Program.sites in
+    let l = g.P.Run.listing in
+    let sites = g.P.Run.sites in
     let K = subst (λ (z : Records). Kept l sites c.self.inside.counts c.self.inside.groups.sizes z) c.self.view_is c.self.invariant.kept in
     let its : IsIn c.in-Some-pending.call c.args.self.now.calls = subst (λ (z : Records). IsIn c.in-Some-pending.call z.calls) c.in-Some.ensures.same c.in-Some-pending.ensures.0 in
     ((its, refl), owed-so l sites c.self.inside.counts c.self.inside.groups.sizes c.args.self.now K c.in-Some.number c.in-Some.ensures.due.0 c.in-Some-pending.call its c.in-Some-pending.ensures.1 c.in-After.answer _ c.in-After.is, subst (λ n. IsLeastBeyond c.args.self.now.calls 0 c.args.self.now.now n) (sym c.in-Some-pending.ensures.1) c.in-Some.ensures.due)

@@ -22,14 +22,15 @@ use Rattle.orc_tables.specs.OpenGroups.{IsOpen}
 use Rattle.orc_ledger_spec.proofs.Nests.{group-kept}
 use Rattle.orc_ledger_spec.proofs.Sizes.{turned-members, open-token, size-few}
 use Rattle.orc_ledger_spec.proofs.Brought.{turned-flat}
+use Rattle.orc_ledger.proofs.Others.{same-all, set-others, from-all, on-all}
 use Rattle.orc_ledger.proofs.ledger.Ledger.fork.Goals as goal
 
 pub invariant_of-self-2 : goal.invariant_of-self-2
 invariant_of-self-2 g c =
     let b = c.self.inside in
     let a = c.args in
-    let l = g.P.Program.listing in
-    let sites = g.P.Program.sites in
+    let l = g.P.Run.listing in
+    let sites = g.P.Run.sites in
     let cd = code l in
     let s : Records = record { limit = b.limit; journal = b.journal.entries; entries = b.entries; next_mark = b.next_mark; now = b.time; made = b.calls.made; tokens = live b.tokens.items; slots = b.tokens.items; calls = b.calls.items; scopes = b.scopes.items; steps = b.steps.items; groups = b.groups.items; cells = b.cells.items } in
     let L = c.self.invariant.kept.lawful in
@@ -63,8 +64,8 @@ pub returns-clause-done : goal.returns-clause-done
 returns-clause-done g c =
     let b = c.self.inside in
     let a = c.args in
-    let l = g.P.Program.listing in
-    let sites = g.P.Program.sites in
+    let l = g.P.Run.listing in
+    let sites = g.P.Run.sites in
     let cd = code l in
     let s : Records = record { limit = b.limit; journal = b.journal.entries; entries = b.entries; next_mark = b.next_mark; now = b.time; made = b.calls.made; tokens = live b.tokens.items; slots = b.tokens.items; calls = b.calls.items; scopes = b.scopes.items; steps = b.steps.items; groups = b.groups.items; cells = b.cells.items } in
     let L = c.self.invariant.kept.lawful in
@@ -85,8 +86,8 @@ pub replace-requires-clause-serial : goal.replace-requires-clause-serial
 replace-requires-clause-serial g c =
     let b = c.self.inside in
     let a = c.args in
-    let l = g.P.Program.listing in
-    let sites = g.P.Program.sites in
+    let l = g.P.Run.listing in
+    let sites = g.P.Run.sites in
     let cd = code l in
     let s : Records = record { limit = b.limit; journal = b.journal.entries; entries = b.entries; next_mark = b.next_mark; now = b.time; made = b.calls.made; tokens = live b.tokens.items; slots = b.tokens.items; calls = b.calls.items; scopes = b.scopes.items; steps = b.steps.items; groups = b.groups.items; cells = b.cells.items } in
     let L = c.self.invariant.kept.lawful in
@@ -99,8 +100,8 @@ pub returns-clause-left : goal.returns-clause-left
 returns-clause-left g c =
     let b = c.self.inside in
     let a = c.args in
-    let l = g.P.Program.listing in
-    let sites = g.P.Program.sites in
+    let l = g.P.Run.listing in
+    let sites = g.P.Run.sites in
     let cd = code l in
     let s : Records = record { limit = b.limit; journal = b.journal.entries; entries = b.entries; next_mark = b.next_mark; now = b.time; made = b.calls.made; tokens = live b.tokens.items; slots = b.tokens.items; calls = b.calls.items; scopes = b.scopes.items; steps = b.steps.items; groups = b.groups.items; cells = b.cells.items } in
     let L = c.self.invariant.kept.lawful in
@@ -116,8 +117,8 @@ pub join-requires-clause-open : goal.join-requires-clause-open
 join-requires-clause-open g c =
     let b = c.self.inside in
     let a = c.args in
-    let l = g.P.Program.listing in
-    let sites = g.P.Program.sites in
+    let l = g.P.Run.listing in
+    let sites = g.P.Run.sites in
     let cd = code l in
     let s : Records = record { limit = b.limit; journal = b.journal.entries; entries = b.entries; next_mark = b.next_mark; now = b.time; made = b.calls.made; tokens = live b.tokens.items; slots = b.tokens.items; calls = b.calls.items; scopes = b.scopes.items; steps = b.steps.items; groups = b.groups.items; cells = b.cells.items } in
     let L = c.self.invariant.kept.lawful in
@@ -130,8 +131,8 @@ pub join-requires-clause-fits : goal.join-requires-clause-fits
 join-requires-clause-fits g c =
     let b = c.self.inside in
     let a = c.args in
-    let l = g.P.Program.listing in
-    let sites = g.P.Program.sites in
+    let l = g.P.Run.listing in
+    let sites = g.P.Run.sites in
     let cd = code l in
     let s : Records = record { limit = b.limit; journal = b.journal.entries; entries = b.entries; next_mark = b.next_mark; now = b.time; made = b.calls.made; tokens = live b.tokens.items; slots = b.tokens.items; calls = b.calls.items; scopes = b.scopes.items; steps = b.steps.items; groups = b.groups.items; cells = b.cells.items } in
     let L = c.self.invariant.kept.lawful in
@@ -140,3 +141,9 @@ join-requires-clause-fits g c =
     let i : IsIn a.token s.tokens = live-in s.slots a.slot a.token held in
     let places : HasRoom s 1 0 0 = rw (← c.self.view_is) at c.in_ok-within.ensures.places in
     omega (arith, size-few s b.groups.sizes 1 0 0 c.self.invariant.kept.sized places c.group_at-group.result)
+
+pub returns-clause-others : goal.returns-clause-others
+returns-clause-others g c =
+    let b = c.self.inside in
+    let a = c.args in
+    rw (← c.self.view_is) (on-all b.tokens.items c.replace.new.self.items c.add-other.new.self.items a.slot (from-all b.tokens.items c.reserve.new.self.items c.replace.new.self.items a.slot (same-all b.tokens.items c.reserve.new.self.items c.in_ok-reserve.ensures.items) (set-others c.reserve.new.self.items c.replace.new.self.items a.slot _ c.replace.ensures.items)) c.add-other.ensures.others)

@@ -20,14 +20,15 @@ use Rattle.orc_ledger_spec.proofs.Keeping.{counted-kept, from_one}
 use Rattle.orc_ledger_spec.proofs.Sizes.{exchanged-members}
 use Rattle.orc_tables.proofs.Slots.{live-in}
 use Rattle.orc_ledger_spec.proofs.Brought.{exchanged-brought}
+use Rattle.orc_ledger.proofs.Others.{same-all, then-all}
 use Rattle.orc_ledger.proofs.ledger.Ledger.give.Goals as goal
 
 pub invariant_of-self-2 : goal.invariant_of-self-2
 invariant_of-self-2 g c =
     let b = c.self.inside in
     let a = c.args in
-    let l = g.P.Program.listing in
-    let sites = g.P.Program.sites in
+    let l = g.P.Run.listing in
+    let sites = g.P.Run.sites in
     let K = c.self.invariant.kept in
     let s : Records = record { limit = b.limit; journal = b.journal.entries; entries = b.entries; next_mark = b.next_mark; now = b.time; made = b.calls.made; tokens = live b.tokens.items; slots = b.tokens.items; calls = b.calls.items; scopes = b.scopes.items; steps = b.steps.items; groups = b.groups.items; cells = b.cells.items } in
     let pends : IsIn a.call s.calls = rw (← c.self.view_is) at c.requires.pends in
@@ -71,8 +72,8 @@ pub returns-clause-done : goal.returns-clause-done
 returns-clause-done g c =
     let b = c.self.inside in
     let a = c.args in
-    let l = g.P.Program.listing in
-    let sites = g.P.Program.sites in
+    let l = g.P.Run.listing in
+    let sites = g.P.Run.sites in
     let K = c.self.invariant.kept in
     let s : Records = record { limit = b.limit; journal = b.journal.entries; entries = b.entries; next_mark = b.next_mark; now = b.time; made = b.calls.made; tokens = live b.tokens.items; slots = b.tokens.items; calls = b.calls.items; scopes = b.scopes.items; steps = b.steps.items; groups = b.groups.items; cells = b.cells.items } in
     let pends : IsIn a.call s.calls = rw (← c.self.view_is) at c.requires.pends in
@@ -103,4 +104,10 @@ pub add-slot-requires-clause-serial : goal.add-slot-requires-clause-serial
 add-slot-requires-clause-serial g c =
     let b = c.self.inside in
     let s : Records = record { limit = b.limit; journal = b.journal.entries; entries = b.entries; next_mark = b.next_mark; now = b.time; made = b.calls.made; tokens = live b.tokens.items; slots = b.tokens.items; calls = b.calls.items; scopes = b.scopes.items; steps = b.steps.items; groups = b.groups.items; cells = b.cells.items } in
-    from_one g.P.Program.listing g.P.Program.sites s c.self.invariant.kept.lawful
+    from_one g.P.Run.listing g.P.Run.sites s c.self.invariant.kept.lawful
+
+pub returns-clause-others : goal.returns-clause-others
+returns-clause-others g c =
+    let b = c.self.inside in
+    let a = c.args in
+    rw (← c.self.view_is) (then-all b.tokens.items c.reserve.new.self.items c.add-slot.new.self.items (same-all b.tokens.items c.reserve.new.self.items c.in_ok-reserve.ensures.items) c.add-slot.ensures.others)

@@ -10,5 +10,5 @@ returns g c =
     let b = c.self.inside in
     let s : Records = record { limit = b.limit; journal = b.journal.entries; entries = b.entries; next_mark = b.next_mark; now = b.time; made = b.calls.made; tokens = live b.tokens.items; slots = b.tokens.items; calls = b.calls.items; scopes = b.scopes.items; steps = b.steps.items; groups = b.groups.items; cells = b.cells.items } in
     let L = c.self.invariant.kept.lawful in
-    let whole : IsWhole g.P.Program.listing g.P.Program.sites s = record { place = L.place; leads = L.leads; paid = L.spells.none_due; now = L.spells.now; entries = sym (counted-so s.journal) ∙ sym L.entries; within = L.within } in
+    let whole : IsWhole g.P.Run.listing g.P.Run.sites s = record { place = L.place; leads = L.leads; paid = L.spells.none_due; now = L.spells.now; entries = sym (counted-so s.journal) ∙ sym L.entries; within = L.within } in
     rw (← c.self.view_is) whole

@@ -20,14 +20,15 @@ use Rattle.orc_ledger_spec.proofs.Keeping.{counted-kept}
 use Rattle.orc_ledger_spec.proofs.Grouped.{dropped-grouped}
 use Rattle.orc_ledger_spec.proofs.Dropped.{drops-empty}
 use Rattle.orc_ledger_spec.proofs.Brought.{dropped-brought}
+use Rattle.orc_ledger.proofs.Others.{same-all}
 use Rattle.orc_ledger.proofs.ledger.Ledger.lost.Goals as goal
 
 pub invariant_of-self-2 : goal.invariant_of-self-2
 invariant_of-self-2 g c =
     let b = c.self.inside in
     let a = c.args in
-    let l = g.P.Program.listing in
-    let sites = g.P.Program.sites in
+    let l = g.P.Run.listing in
+    let sites = g.P.Run.sites in
     let L = c.self.invariant.kept.lawful in
     let G = c.self.invariant.kept.grouped in
     let s : Records = record { limit = b.limit; journal = b.journal.entries; entries = b.entries; next_mark = b.next_mark; now = b.time; made = b.calls.made; tokens = live b.tokens.items; slots = b.tokens.items; calls = b.calls.items; scopes = b.scopes.items; steps = b.steps.items; groups = b.groups.items; cells = b.cells.items } in
@@ -58,8 +59,8 @@ pub returns-clause-done : goal.returns-clause-done
 returns-clause-done g c =
     let b = c.self.inside in
     let a = c.args in
-    let l = g.P.Program.listing in
-    let sites = g.P.Program.sites in
+    let l = g.P.Run.listing in
+    let sites = g.P.Run.sites in
     let L = c.self.invariant.kept.lawful in
     let G = c.self.invariant.kept.grouped in
     let s : Records = record { limit = b.limit; journal = b.journal.entries; entries = b.entries; next_mark = b.next_mark; now = b.time; made = b.calls.made; tokens = live b.tokens.items; slots = b.tokens.items; calls = b.calls.items; scopes = b.scopes.items; steps = b.steps.items; groups = b.groups.items; cells = b.cells.items } in
@@ -78,3 +79,9 @@ returns-clause-alone g c =
     let s' : Records = record { limit = b.limit; journal = c.write.new.journal.entries; entries = b.entries + 1; next_mark = b.next_mark; now = b.time; made = b.calls.made; tokens = live c.wake.new.self.items; slots = c.wake.new.self.items; calls = b.calls.items; scopes = b.scopes.items; steps = b.steps.items; groups = c.take_out.new.groups.items; cells = c.settle.new.cells.items } in
     let A : GoesAlone s s' c.args.group = record { tokens = ap live c.wake.ensures.items; calls = refl; groups = c.take_out.ensures.rest; steps = refl } in
     rw (← c.self.view_is) A
+
+pub returns-clause-others : goal.returns-clause-others
+returns-clause-others g c =
+    let b = c.self.inside in
+    let a = c.args in
+    rw (← c.self.view_is) (same-all b.tokens.items c.wake.new.self.items c.wake.ensures.items)

@@ -14,7 +14,7 @@ use Rattle.orc_ledger.proofs.ledger.Ledger.movable.Goals as goal
 pub returns-then-all_wait : goal.returns-then-all_wait
 returns-then-all_wait g c =
     let b = c.self.inside in
-    let l = g.P.Program.listing in
+    let l = g.P.Run.listing in
     let s : Records = record { limit = b.limit; journal = b.journal.entries; entries = b.entries; next_mark = b.next_mark; now = b.time; made = b.calls.made; tokens = live b.tokens.items; slots = b.tokens.items; calls = b.calls.items; scopes = b.scopes.items; steps = b.steps.items; groups = b.groups.items; cells = b.cells.items } in
     rw (← c.self.view_is) (none-ready (code l) (definitions l) s b.tokens.parked c.self.invariant.rest refl (c.all_wait.ensures c.if-all_wait.true))
 
@@ -28,14 +28,14 @@ returns-then-can_move g c =
 
 pub loop-slot-preserved : goal.loop-slot-preserved
 loop-slot-preserved g c =
-    let w : Token → ℕ = ready_one (code g.P.Program.listing) (definitions g.P.Program.listing) c.args.self.now in
+    let w : Token → ℕ = ready_one (code g.P.Run.listing) (definitions g.P.Run.listing) c.args.self.now in
     let lt : c.loop-slot.slot < length c.slots-token-items.result.now = omega (arith, c.loop-slot-test.true) in
     none-so-far (only is_live w) c.slots-token-items.result.now c.loop-slot.slot _ lt c.loop-slot.invariant (c.can_move.ensures.none c.if-can_move.false)
 
 pub returns : goal.returns
 returns g c =
     let s : Records = c.args.self.now in
-    let w : Token → ℕ = ready_one (code g.P.Program.listing) (definitions g.P.Program.listing) s in
+    let w : Token → ℕ = ready_one (code g.P.Run.listing) (definitions g.P.Run.listing) s in
     let xs = c.slots-token-items.result.now in
     let past : length xs ≤ c.loop-slot.slot = omega (arith, c.loop-slot-test.false) in
     let tokens : live xs ≡ s.tokens = ap live c.slots-token-items.ensures ∙ ap (λ (z : Records). z.tokens) c.self.view_is in

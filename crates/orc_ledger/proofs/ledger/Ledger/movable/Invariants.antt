@@ -6,4 +6,4 @@ use Rattle.orc_ledger_spec.specs.Next.{ready_one}
 use Rattle.orc_ledger.proofs.ledger.Ledger.movable.Given as goal
 
 abbrev pub invariant-loop-slot : goal.invariant-loop-slot
-invariant-loop-slot g l = weight (only is_live (ready_one (code g.P.Program.listing) (definitions g.P.Program.listing) l.self)) (take l.slot l.token-items) ≡ 0
+invariant-loop-slot g l = weight (only is_live (ready_one (code g.P.Run.listing) (definitions g.P.Run.listing) l.self)) (take l.slot l.token-items) ≡ 0

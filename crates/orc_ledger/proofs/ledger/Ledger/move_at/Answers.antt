@@ -14,20 +14,20 @@ use Rattle.orc_ledger.proofs.ledger.Ledger.move_at.Goals as goal
 
 pub move_value-requires-clause-form : goal.move_value-requires-clause-form
 move_value-requires-clause-form g c =
-    let l = g.P.Program.listing in
+    let l = g.P.Run.listing in
     let a = c.args in
     let v = c.in-Is.value in
     stands-param l a.self.now a.token a.scope (is.Is v) (is.Is v) (rw c.in-Is.is at c.requires.at) (close-given (its_env (code l) a.self.now a.scope) (bound.Is v))
 
 pub returns-in-Stop-clause-asked : goal.returns-in-Stop-clause-asked
 returns-in-Stop-clause-asked g c =
-    let l = g.P.Program.listing in
+    let l = g.P.Run.listing in
     let a = c.args in
     asked-none l a.self.now a.token (a.claim.now ≡ a.claim.now) (g.C.Claim.got a.claim.now a.claim.now) c.move_end.result Halt (word-stop l a.self.now a.token a.scope (rw c.in-Stop.is at c.requires.at)) refl
 
 pub returns-in-Site-clause-asked : goal.returns-in-Site-clause-asked
 returns-in-Site-clause-asked g c =
-    let l = g.P.Program.listing in
+    let l = g.P.Run.listing in
     let a = c.args in
     let ops : List Operand = slice_index_or l.lists c.in-Site.list [] in
     let ps = closed (its_env (code l) a.self.now a.scope) ops in
@@ -35,19 +35,19 @@ returns-in-Site-clause-asked g c =
 
 pub returns-in-Call-clause-asked : goal.returns-in-Call-clause-asked
 returns-in-Call-clause-asked g c =
-    let l = g.P.Program.listing in
+    let l = g.P.Run.listing in
     let a = c.args in
     let d = slice_get (definitions l) c.in-Call.definition in
     asked-none l a.self.now a.token (a.claim.now ≡ a.claim.now) (g.C.Claim.got a.claim.now a.claim.now) c.move_def.result (what_def d) (word-call l a.self.now a.token a.scope c.in-Call.definition _ (rw c.in-Call.is at c.requires.at)) (def-claims (a.claim.now ≡ a.claim.now) (g.C.Claim.got a.claim.now a.claim.now) d refl)
 
 pub returns-in-Par-clause-asked : goal.returns-in-Par-clause-asked
 returns-in-Par-clause-asked g c =
-    let l = g.P.Program.listing in
+    let l = g.P.Run.listing in
     let a = c.args in
     asked-none l a.self.now a.token (a.claim.now ≡ a.claim.now) (g.C.Claim.got a.claim.now a.claim.now) c.move_fork.result Fork (word-par l a.self.now a.token a.scope (code l c.in-Par.left) (code l c.in-Par.right) (rw c.in-Par.is at c.requires.at)) refl
 
 pub returns-in-Seq-clause-asked : goal.returns-in-Seq-clause-asked
 returns-in-Seq-clause-asked g c =
-    let l = g.P.Program.listing in
+    let l = g.P.Run.listing in
     let a = c.args in
     asked-none l a.self.now a.token (a.claim.now ≡ a.claim.now) (g.C.Claim.got a.claim.now a.claim.now) c.move_feed.result Seq (word-seq l a.self.now a.token a.scope (code l c.in-Seq.left) c.in-Seq.name (code l c.in-Seq.right) (rw c.in-Seq.is at c.requires.at)) refl

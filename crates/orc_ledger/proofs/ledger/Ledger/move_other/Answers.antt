@@ -8,19 +8,19 @@ use Rattle.orc_ledger.proofs.ledger.Ledger.move_other.Goals as goal
 
 pub returns-clause-done : goal.returns-clause-done
 returns-clause-done g c ks =
-    let l = g.P.Program.listing in
+    let l = g.P.Run.listing in
     let a = c.args in
     moves-by l a.self.now a.token a.slot _ _ ks Other (word-other l a.self.now a.token a.scope (code l a.left) (code l a.right) c.requires.at) (record { scope = a.scope; left = a.left; right = a.right; number = c.in_ok-other.ensures.done.0; at = c.requires.at; free = c.in_ok-other.ensures.done.1; done = c.in_ok-other.ensures.done.2; held = c.in_ok-other.ensures.left })
 
 pub returns-clause-asked : goal.returns-clause-asked
 returns-clause-asked g c =
-    let l = g.P.Program.listing in
+    let l = g.P.Run.listing in
     let a = c.args in
     asked-by l a.self.now a.token (c.other.new.claim ≡ a.claim.now) (g.C.Claim.got a.claim.now c.other.new.claim) Other (word-other l a.self.now a.token a.scope (code l a.left) (code l a.right) c.requires.at) c.in_ok-other.ensures.got
 
 pub returns-in_err-other-clause-why : goal.returns-in_err-other-clause-why
 returns-in_err-other-clause-why g c =
-    let l = g.P.Program.listing in
+    let l = g.P.Run.listing in
     let a = c.args in
     let p = err_from_is_err_and c.from_residual.result c.from_residual.ensures.1 in
     rw (p.1, p.2) (barred-by l a.self.now a.token (c.other.new.claim ≡ a.claim.now) (g.C.Claim.lost a.claim.now c.other.new.claim) _ Other (word-other l a.self.now a.token a.scope (code l a.left) (code l a.right) c.requires.at) c.in_err-other.ensures.why)

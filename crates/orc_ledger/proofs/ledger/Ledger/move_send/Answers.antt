@@ -7,13 +7,13 @@ use Rattle.orc_ledger.proofs.ledger.Ledger.move_send.Goals as goal
 
 pub returns-clause-done : goal.returns-clause-done
 returns-clause-done g c ks =
-    let l = g.P.Program.listing in
+    let l = g.P.Run.listing in
     let a = c.args in
     moves-by l a.self.now a.token a.slot _ _ ks (Send a.value) (word-value l a.self.now a.token a.value c.requires.form ∙ ap (taken a.value) c.requires.takes) (record { name = a.name; right = a.right; scope = a.scope; outer = a.outer; takes = c.requires.takes; done = c.in_ok-send.ensures.done; held = c.in_ok-send.ensures.right }, c.group_of-group.ensures)
 
 pub returns-in_err-send-clause-why : goal.returns-in_err-send-clause-why
 returns-in_err-send-clause-why g c =
-    let l = g.P.Program.listing in
+    let l = g.P.Run.listing in
     let a = c.args in
     let p = err_from_is_err_and c.from_residual.result c.from_residual.ensures.1 in
     rw (p.1, p.2) (hindered-by l a.self.now a.token _ (Send a.value) (word-value l a.self.now a.token a.value c.requires.form ∙ ap (taken a.value) c.requires.takes) c.in_err-send.ensures.why)

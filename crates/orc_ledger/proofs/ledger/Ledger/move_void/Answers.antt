@@ -5,13 +5,13 @@ use Rattle.orc_ledger.proofs.ledger.Ledger.move_void.Goals as goal
 
 pub returns-clause-done : goal.returns-clause-done
 returns-clause-done g c ks =
-    let l = g.P.Program.listing in
+    let l = g.P.Run.listing in
     let a = c.args in
     moves-by l a.self.now a.token a.slot _ _ ks Void (word-void l a.self.now a.token c.requires.void) (c.in_ok-void.ensures.done, c.group_of-group.ensures)
 
 pub returns-in_err-void-clause-why : goal.returns-in_err-void-clause-why
 returns-in_err-void-clause-why g c =
-    let l = g.P.Program.listing in
+    let l = g.P.Run.listing in
     let a = c.args in
     let p = err_from_is_err_and c.from_residual.result c.from_residual.ensures.1 in
     rw (p.1, p.2) (hindered-by l a.self.now a.token _ Void (word-void l a.self.now a.token c.requires.void) c.in_err-void.ensures.why)

@@ -11,14 +11,15 @@ use Rattle.orc_tables.specs.Tokens.{live, IsHeld}
 use Rattle.orc_ledger_spec.proofs.AtRest.{rest-kept, same-terms}
 use Rattle.orc_ledger_spec.proofs.Asked.{word-there, which-there, called-kept}
 use Rattle.orc_tables.proofs.Slots.{live-in, removed}
+use Rattle.orc_ledger.proofs.Others.{set-others}
 use Rattle.orc_ledger.proofs.ledger.Ledger.pend.Goals as goal
 
 pub invariant_of-self-2 : goal.invariant_of-self-2
 invariant_of-self-2 g c =
     let b = c.self.inside in
     let a = c.args in
-    let l = g.P.Program.listing in
-    let sites = g.P.Program.sites in
+    let l = g.P.Run.listing in
+    let sites = g.P.Run.sites in
     let K = c.self.invariant.kept in
     let s : Records = record { limit = b.limit; journal = b.journal.entries; entries = b.entries; next_mark = b.next_mark; now = b.time; made = b.calls.made; tokens = live b.tokens.items; slots = b.tokens.items; calls = b.calls.items; scopes = b.scopes.items; steps = b.steps.items; groups = b.groups.items; cells = b.cells.items } in
     let held : IsHeld s.slots a.slot a.token = rw (← c.self.view_is) at c.requires.held in
@@ -46,14 +47,14 @@ invariant_of-self-2 g c =
       cells = refl;
     } in
     let room : s.entries < s.limit = rw (← c.self.view_is) at c.requires.room in
-    record { kept = called-kept l sites b.counts b.groups.sizes s K a.answers.now.sites c.requires.answers m args a.token (live-in s.slots a.slot a.token held) asks room made next.number found which s' next.step next.made_at next.row T c.write_call.new.counts c.in_ok-write_call.ensures.counted; rest = rest-kept (code l) (definitions l) s s' b.tokens c.remove.new.self refl refl c.self.invariant.rest (live-in b.tokens.items) (c.remove.ensures.parked) (same-terms (code l) s s' refl refl); version = ap (λ j. j.version) c.in_ok-write_call.ensures.added ∙ c.self.invariant.version; limited = c.self.invariant.limited }
+    record { kept = called-kept l sites b.counts b.groups.sizes s K a.inputs.now.answers.now.sites c.args.inputs.now.its_sites m args a.token (live-in s.slots a.slot a.token held) asks room made next.number found which s' next.step next.made_at next.row T c.write_call.new.counts c.in_ok-write_call.ensures.counted; rest = rest-kept (code l) (definitions l) s s' b.tokens c.remove.new.self refl refl c.self.invariant.rest (live-in b.tokens.items) (c.remove.ensures.parked) (same-terms (code l) s s' refl refl); version = ap (λ j. j.version) c.in_ok-write_call.ensures.added ∙ c.self.invariant.version; limited = c.self.invariant.limited }
 
 pub returns-clause-done : goal.returns-clause-done
 returns-clause-done g c =
     let b = c.self.inside in
     let a = c.args in
-    let l = g.P.Program.listing in
-    let sites = g.P.Program.sites in
+    let l = g.P.Run.listing in
+    let sites = g.P.Run.sites in
     let K = c.self.invariant.kept in
     let s : Records = record { limit = b.limit; journal = b.journal.entries; entries = b.entries; next_mark = b.next_mark; now = b.time; made = b.calls.made; tokens = live b.tokens.items; slots = b.tokens.items; calls = b.calls.items; scopes = b.scopes.items; steps = b.steps.items; groups = b.groups.items; cells = b.cells.items } in
     let held : IsHeld s.slots a.slot a.token = rw (← c.self.view_is) at c.requires.held in
@@ -80,3 +81,9 @@ returns-clause-done g c =
     } in
     let is_made : IsMade l sites s a.token made s' = record { site = m; args = args; asks = asks; number = next.number; step = next.step; made_at = next.made_at; place = next.place; at = next.at; found = next.found; nth = next.nth; row = next.row; exchanges = T } in
     rw (← c.self.view_is) is_made
+
+pub returns-clause-others : goal.returns-clause-others
+returns-clause-others g c =
+    let b = c.self.inside in
+    let a = c.args in
+    rw (← c.self.view_is) (set-others b.tokens.items c.remove.new.self.items a.slot c.remove.ensures.items.0 c.remove.ensures.items.2)

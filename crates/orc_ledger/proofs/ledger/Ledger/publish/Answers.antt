@@ -23,14 +23,15 @@ use Rattle.orc_ledger_spec.proofs.Grouped.{published-grouped}
 use Rattle.orc_indexes.specs.Same.{is_this}
 use Rattle.orc_ledger_spec.proofs.Sizes.{crossed-members}
 use Rattle.orc_ledger_spec.proofs.Brought.{crossed-brought}
+use Rattle.orc_ledger.proofs.Others.{set-others}
 use Rattle.orc_ledger.proofs.ledger.Ledger.publish.Goals as goal
 
 pub leave_others-requires-clause-within : goal.leave_others-requires-clause-within
 leave_others-requires-clause-within g c =
     let b = c.self.inside in
     let a = c.args in
-    let l = g.P.Program.listing in
-    let sites = g.P.Program.sites in
+    let l = g.P.Run.listing in
+    let sites = g.P.Run.sites in
     let cd = code l in
     let s : Records = record { limit = b.limit; journal = b.journal.entries; entries = b.entries; next_mark = b.next_mark; now = b.time; made = b.calls.made; tokens = live b.tokens.items; slots = b.tokens.items; calls = b.calls.items; scopes = b.scopes.items; steps = b.steps.items; groups = b.groups.items; cells = b.cells.items } in
     let L = c.self.invariant.kept.lawful in
@@ -43,8 +44,8 @@ pub invariant_of-self-2 : goal.invariant_of-self-2
 invariant_of-self-2 g c =
     let b = c.self.inside in
     let a = c.args in
-    let l = g.P.Program.listing in
-    let sites = g.P.Program.sites in
+    let l = g.P.Run.listing in
+    let sites = g.P.Run.sites in
     let cd = code l in
     let s : Records = record { limit = b.limit; journal = b.journal.entries; entries = b.entries; next_mark = b.next_mark; now = b.time; made = b.calls.made; tokens = live b.tokens.items; slots = b.tokens.items; calls = b.calls.items; scopes = b.scopes.items; steps = b.steps.items; groups = b.groups.items; cells = b.cells.items } in
     let L = c.self.invariant.kept.lawful in
@@ -79,8 +80,8 @@ pub returns-clause-done : goal.returns-clause-done
 returns-clause-done g c =
     let b = c.self.inside in
     let a = c.args in
-    let l = g.P.Program.listing in
-    let sites = g.P.Program.sites in
+    let l = g.P.Run.listing in
+    let sites = g.P.Run.sites in
     let cd = code l in
     let s : Records = record { limit = b.limit; journal = b.journal.entries; entries = b.entries; next_mark = b.next_mark; now = b.time; made = b.calls.made; tokens = live b.tokens.items; slots = b.tokens.items; calls = b.calls.items; scopes = b.scopes.items; steps = b.steps.items; groups = b.groups.items; cells = b.cells.items } in
     let L = c.self.invariant.kept.lawful in
@@ -97,3 +98,9 @@ returns-clause-done g c =
     let tokens : (w : Token → ℕ) → weight w s'.tokens + w a.token ≡ weight w s.tokens + 0 = λ w. omega (arith, ap (λ z. weight w (live z)) c.remove.ensures.items.2, removed w s.slots a.slot a.token c.remove.ensures.items.0 held c.remove.ensures.items.1) in
     let T : Crosses s s' a.token [] [] ns (Publish a.token.serial a.value) = crosses s s' a.token [] [] ns (Publish a.token.serial a.value) refl journal refl (omega arith) refl refl tokens refl (sym (append-nil s.scopes)) marks c.leave.ensures.items refl in
     rw (← c.self.view_is) T
+
+pub returns-clause-others : goal.returns-clause-others
+returns-clause-others g c =
+    let b = c.self.inside in
+    let a = c.args in
+    rw (← c.self.view_is) (set-others b.tokens.items c.remove.new.self.items a.slot c.remove.ensures.items.0 c.remove.ensures.items.2)

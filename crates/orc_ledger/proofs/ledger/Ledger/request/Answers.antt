@@ -11,8 +11,8 @@ use Rattle.orc_ledger.proofs.ledger.Ledger.request.Goals as goal
 pub unreachable-requires : goal.unreachable-requires
 unreachable-requires g c =
     let b = c.self.inside in
-    let l = g.P.Program.listing in
-    let sites = g.P.Program.sites in
+    let l = g.P.Run.listing in
+    let sites = g.P.Run.sites in
     let s : Records = record { limit = b.limit; journal = b.journal.entries; entries = b.entries; next_mark = b.next_mark; now = b.time; made = b.calls.made; tokens = live b.tokens.items; slots = b.tokens.items; calls = b.calls.items; scopes = b.scopes.items; steps = b.steps.items; groups = b.groups.items; cells = b.cells.items } in
     let call = c.in-Some.call in
     let i : IsIn call s.calls = c.in-Some.ensures.0 in
@@ -21,8 +21,8 @@ unreachable-requires g c =
 pub returns : goal.returns
 returns g c =
     let b = c.self.inside in
-    let l = g.P.Program.listing in
-    let sites = g.P.Program.sites in
+    let l = g.P.Run.listing in
+    let sites = g.P.Run.sites in
     let s : Records = record { limit = b.limit; journal = b.journal.entries; entries = b.entries; next_mark = b.next_mark; now = b.time; made = b.calls.made; tokens = live b.tokens.items; slots = b.tokens.items; calls = b.calls.items; scopes = b.scopes.items; steps = b.steps.items; groups = b.groups.items; cells = b.cells.items } in
     let call = c.in-Some.call in
     let i : IsIn call s.calls = c.in-Some.ensures.0 in
@@ -32,8 +32,8 @@ returns g c =
 pub returns-in_default-get : goal.returns-in_default-get
 returns-in_default-get g c = λ kept.
     let b = c.self.inside in
-    let l = g.P.Program.listing in
-    let sites = g.P.Program.sites in
+    let l = g.P.Run.listing in
+    let sites = g.P.Run.sites in
     let s : Records = record { limit = b.limit; journal = b.journal.entries; entries = b.entries; next_mark = b.next_mark; now = b.time; made = b.calls.made; tokens = live b.tokens.items; slots = b.tokens.items; calls = b.calls.items; scopes = b.scopes.items; steps = b.steps.items; groups = b.groups.items; cells = b.cells.items } in
     let call = c.in-Some.call in
     absurd (some-only call.number (slice_get s.journal call.row) (entry-there l sites b.counts b.groups.sizes s c.self.invariant.kept call c.in-Some.ensures.0) (slice_get_past s.journal call.row (c.in_default-get.ensures.none kept)))

@@ -22,14 +22,15 @@ use Rattle.orc_tables.specs.OpenGroups.{size_of}
 use Rattle.orc_ledger_spec.proofs.Sizes.{resumed-members}
 use Rattle.orc_tables.proofs.Slots.{live-in}
 use Rattle.orc_ledger_spec.proofs.Brought.{resumed-brought}
+use Rattle.orc_ledger.proofs.Others.{same-all, then-all}
 use Rattle.orc_ledger.proofs.ledger.Ledger.right.Goals as goal
 
 pub add-slot-requires-clause-serial : goal.add-slot-requires-clause-serial
 add-slot-requires-clause-serial g c =
     let b = c.self.inside in
     let a = c.args in
-    let l = g.P.Program.listing in
-    let sites = g.P.Program.sites in
+    let l = g.P.Run.listing in
+    let sites = g.P.Run.sites in
     let L = c.self.invariant.kept.lawful in
     let G = c.self.invariant.kept.grouped in
     let s : Records = record { limit = b.limit; journal = b.journal.entries; entries = b.entries; next_mark = b.next_mark; now = b.time; made = b.calls.made; tokens = live b.tokens.items; slots = b.tokens.items; calls = b.calls.items; scopes = b.scopes.items; steps = b.steps.items; groups = b.groups.items; cells = b.cells.items } in
@@ -40,8 +41,8 @@ pub invariant_of-self-2 : goal.invariant_of-self-2
 invariant_of-self-2 g c =
     let b = c.self.inside in
     let a = c.args in
-    let l = g.P.Program.listing in
-    let sites = g.P.Program.sites in
+    let l = g.P.Run.listing in
+    let sites = g.P.Run.sites in
     let L = c.self.invariant.kept.lawful in
     let G = c.self.invariant.kept.grouped in
     let s : Records = record { limit = b.limit; journal = b.journal.entries; entries = b.entries; next_mark = b.next_mark; now = b.time; made = b.calls.made; tokens = live b.tokens.items; slots = b.tokens.items; calls = b.calls.items; scopes = b.scopes.items; steps = b.steps.items; groups = b.groups.items; cells = b.cells.items } in
@@ -74,8 +75,8 @@ pub returns-clause-done : goal.returns-clause-done
 returns-clause-done g c =
     let b = c.self.inside in
     let a = c.args in
-    let l = g.P.Program.listing in
-    let sites = g.P.Program.sites in
+    let l = g.P.Run.listing in
+    let sites = g.P.Run.sites in
     let L = c.self.invariant.kept.lawful in
     let G = c.self.invariant.kept.grouped in
     let s : Records = record { limit = b.limit; journal = b.journal.entries; entries = b.entries; next_mark = b.next_mark; now = b.time; made = b.calls.made; tokens = live b.tokens.items; slots = b.tokens.items; calls = b.calls.items; scopes = b.scopes.items; steps = b.steps.items; groups = b.groups.items; cells = b.cells.items } in
@@ -86,3 +87,9 @@ returns-clause-done g c =
     let journal : s'.journal ≡ s.journal ++ Right a.number s.next_mark ∷ [] = ap (λ j. j.entries) c.in_ok-write.ensures.added in
     let T : Resumes s s' a.group a.number a.node a.scope = record { limit = refl; journal = journal; entries = refl; mark = refl; now = refl; made = refl; tokens = tokens; calls = refl; groups = λ w. c.take-left.ensures.one a.group i refl w; scopes = refl; steps = refl; cells = refl } in
     rw (← c.self.view_is) T
+
+pub returns-clause-others : goal.returns-clause-others
+returns-clause-others g c =
+    let b = c.self.inside in
+    let a = c.args in
+    rw (← c.self.view_is) (then-all b.tokens.items c.reserve.new.self.items c.add-slot.new.self.items (same-all b.tokens.items c.reserve.new.self.items c.in_ok-reserve.ensures.items) c.add-slot.ensures.others)

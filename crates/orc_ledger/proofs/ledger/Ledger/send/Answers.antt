@@ -30,14 +30,15 @@ use Rattle.orc_indexes.specs.Same.{is_this}
 use Rattle.orc_tables.specs.OpenGroups.{IsOpen}
 use Rattle.orc_ledger_spec.proofs.Sizes.{crossed-members, open-reach, size-few}
 use Rattle.orc_ledger_spec.proofs.Brought.{crossed-brought}
+use Rattle.orc_ledger.proofs.Others.{set-others}
 use Rattle.orc_ledger.proofs.ledger.Ledger.send.Goals as goal
 
 pub leave_others-requires-clause-within : goal.leave_others-requires-clause-within
 leave_others-requires-clause-within g c =
     let b = c.self.inside in
     let a = c.args in
-    let l = g.P.Program.listing in
-    let sites = g.P.Program.sites in
+    let l = g.P.Run.listing in
+    let sites = g.P.Run.sites in
     let cd = code l in
     let s : Records = record { limit = b.limit; journal = b.journal.entries; entries = b.entries; next_mark = b.next_mark; now = b.time; made = b.calls.made; tokens = live b.tokens.items; slots = b.tokens.items; calls = b.calls.items; scopes = b.scopes.items; steps = b.steps.items; groups = b.groups.items; cells = b.cells.items } in
     let L = c.self.invariant.kept.lawful in
@@ -50,8 +51,8 @@ pub invariant_of-self-2 : goal.invariant_of-self-2
 invariant_of-self-2 g c =
     let b = c.self.inside in
     let a = c.args in
-    let l = g.P.Program.listing in
-    let sites = g.P.Program.sites in
+    let l = g.P.Run.listing in
+    let sites = g.P.Run.sites in
     let cd = code l in
     let s : Records = record { limit = b.limit; journal = b.journal.entries; entries = b.entries; next_mark = b.next_mark; now = b.time; made = b.calls.made; tokens = live b.tokens.items; slots = b.tokens.items; calls = b.calls.items; scopes = b.scopes.items; steps = b.steps.items; groups = b.groups.items; cells = b.cells.items } in
     let L = c.self.invariant.kept.lawful in
@@ -93,8 +94,8 @@ pub returns-clause-done : goal.returns-clause-done
 returns-clause-done g c =
     let b = c.self.inside in
     let a = c.args in
-    let l = g.P.Program.listing in
-    let sites = g.P.Program.sites in
+    let l = g.P.Run.listing in
+    let sites = g.P.Run.sites in
     let cd = code l in
     let s : Records = record { limit = b.limit; journal = b.journal.entries; entries = b.entries; next_mark = b.next_mark; now = b.time; made = b.calls.made; tokens = live b.tokens.items; slots = b.tokens.items; calls = b.calls.items; scopes = b.scopes.items; steps = b.steps.items; groups = b.groups.items; cells = b.cells.items } in
     let L = c.self.invariant.kept.lawful in
@@ -123,8 +124,8 @@ pub replace-requires-clause-serial : goal.replace-requires-clause-serial
 replace-requires-clause-serial g c =
     let b = c.self.inside in
     let a = c.args in
-    let l = g.P.Program.listing in
-    let sites = g.P.Program.sites in
+    let l = g.P.Run.listing in
+    let sites = g.P.Run.sites in
     let cd = code l in
     let s : Records = record { limit = b.limit; journal = b.journal.entries; entries = b.entries; next_mark = b.next_mark; now = b.time; made = b.calls.made; tokens = live b.tokens.items; slots = b.tokens.items; calls = b.calls.items; scopes = b.scopes.items; steps = b.steps.items; groups = b.groups.items; cells = b.cells.items } in
     let L = c.self.invariant.kept.lawful in
@@ -137,8 +138,8 @@ pub returns-clause-right : goal.returns-clause-right
 returns-clause-right g c =
     let b = c.self.inside in
     let a = c.args in
-    let l = g.P.Program.listing in
-    let sites = g.P.Program.sites in
+    let l = g.P.Run.listing in
+    let sites = g.P.Run.sites in
     let cd = code l in
     let s : Records = record { limit = b.limit; journal = b.journal.entries; entries = b.entries; next_mark = b.next_mark; now = b.time; made = b.calls.made; tokens = live b.tokens.items; slots = b.tokens.items; calls = b.calls.items; scopes = b.scopes.items; steps = b.steps.items; groups = b.groups.items; cells = b.cells.items } in
     let L = c.self.invariant.kept.lawful in
@@ -154,8 +155,8 @@ pub join-requires-clause-open : goal.join-requires-clause-open
 join-requires-clause-open g c =
     let b = c.self.inside in
     let a = c.args in
-    let l = g.P.Program.listing in
-    let sites = g.P.Program.sites in
+    let l = g.P.Run.listing in
+    let sites = g.P.Run.sites in
     let cd = code l in
     let s : Records = record { limit = b.limit; journal = b.journal.entries; entries = b.entries; next_mark = b.next_mark; now = b.time; made = b.calls.made; tokens = live b.tokens.items; slots = b.tokens.items; calls = b.calls.items; scopes = b.scopes.items; steps = b.steps.items; groups = b.groups.items; cells = b.cells.items } in
     let L = c.self.invariant.kept.lawful in
@@ -169,8 +170,8 @@ pub join-requires-clause-fits : goal.join-requires-clause-fits
 join-requires-clause-fits g c =
     let b = c.self.inside in
     let a = c.args in
-    let l = g.P.Program.listing in
-    let sites = g.P.Program.sites in
+    let l = g.P.Run.listing in
+    let sites = g.P.Run.sites in
     let cd = code l in
     let s : Records = record { limit = b.limit; journal = b.journal.entries; entries = b.entries; next_mark = b.next_mark; now = b.time; made = b.calls.made; tokens = live b.tokens.items; slots = b.tokens.items; calls = b.calls.items; scopes = b.scopes.items; steps = b.steps.items; groups = b.groups.items; cells = b.cells.items } in
     let L = c.self.invariant.kept.lawful in
@@ -179,3 +180,9 @@ join-requires-clause-fits g c =
     let i : IsIn a.token s.tokens = live-in s.slots a.slot a.token held in
     let places : HasRoom s 0 0 0 = rw (← c.self.view_is) at c.in_ok-within.ensures.places in
     omega (arith, size-few s b.groups.sizes 0 0 0 c.self.invariant.kept.sized places c.group_at-joined.result)
+
+pub returns-clause-others : goal.returns-clause-others
+returns-clause-others g c =
+    let b = c.self.inside in
+    let a = c.args in
+    rw (← c.self.view_is) (set-others b.tokens.items c.replace.new.self.items a.slot _ c.replace.ensures.items)

@@ -12,7 +12,7 @@ use Rattle.orc_ledger.proofs.ledger.Ledger.send_on.Goals as goal
 
 pub returns-in-Ok-clause-sent : goal.returns-in-Ok-clause-sent
 returns-in-Ok-clause-sent g c _ =
-    let l = g.P.Program.listing in
+    let l = g.P.Run.listing in
     let a = c.args in
     let s = a.self.now in
     let f = c.in-SeqLeft in

@@ -12,7 +12,7 @@ pub find_taker-requires-clause-within : goal.find_taker-requires-clause-within
 find_taker-requires-clause-within g c =
     let b = c.self.inside in
     let a = c.args in
-    let l = g.P.Program.listing in
+    let l = g.P.Run.listing in
     let cd = code l in
     let s : Records = record { limit = b.limit; journal = b.journal.entries; entries = b.entries; next_mark = b.next_mark; now = b.time; made = b.calls.made; tokens = live b.tokens.items; slots = b.tokens.items; calls = b.calls.items; scopes = b.scopes.items; steps = b.steps.items; groups = b.groups.items; cells = b.cells.items } in
     let held : IsHeld s.slots c.requires.0 a.token = rw (← c.self.view_is) at c.requires.1 in
@@ -22,7 +22,7 @@ pub returns-clause-takes : goal.returns-clause-takes
 returns-clause-takes g c =
     let b = c.self.inside in
     let a = c.args in
-    let l = g.P.Program.listing in
+    let l = g.P.Run.listing in
     let cd = code l in
     let s : Records = record { limit = b.limit; journal = b.journal.entries; entries = b.entries; next_mark = b.next_mark; now = b.time; made = b.calls.made; tokens = live b.tokens.items; slots = b.tokens.items; calls = b.calls.items; scopes = b.scopes.items; steps = b.steps.items; groups = b.groups.items; cells = b.cells.items } in
     let went : Takes cd (its_env cd s) (has_left s.steps) s.steps a.token.step c.find_taker.result = c.find_taker.ensures.takes cd (its_env cd s) (has_left s.steps) in
@@ -32,7 +32,7 @@ pub returns-clause-way : goal.returns-clause-way
 returns-clause-way g c =
     let b = c.self.inside in
     let a = c.args in
-    let l = g.P.Program.listing in
+    let l = g.P.Run.listing in
     let cd = code l in
     let s : Records = record { limit = b.limit; journal = b.journal.entries; entries = b.entries; next_mark = b.next_mark; now = b.time; made = b.calls.made; tokens = live b.tokens.items; slots = b.tokens.items; calls = b.calls.items; scopes = b.scopes.items; steps = b.steps.items; groups = b.groups.items; cells = b.cells.items } in
     let went : IsOnWay s.steps a.token.step c.find_taker.result = c.find_taker.ensures.way in
@@ -42,7 +42,7 @@ pub returns-clause-there : goal.returns-clause-there
 returns-clause-there g c =
     let b = c.self.inside in
     let a = c.args in
-    let l = g.P.Program.listing in
+    let l = g.P.Run.listing in
     let cd = code l in
     let s : Records = record { limit = b.limit; journal = b.journal.entries; entries = b.entries; next_mark = b.next_mark; now = b.time; made = b.calls.made; tokens = live b.tokens.items; slots = b.tokens.items; calls = b.calls.items; scopes = b.scopes.items; steps = b.steps.items; groups = b.groups.items; cells = b.cells.items } in
     let entered : IsEntered s.steps c.find_taker.result = c.find_taker.ensures.entered in

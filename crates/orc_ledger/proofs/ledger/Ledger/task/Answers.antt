@@ -9,11 +9,11 @@ use Rattle.orc_ledger.proofs.ledger.Ledger.task.Goals as goal
 
 pub returns-clause-stands : goal.returns-clause-stands
 returns-clause-stands g c =
-    let l = g.P.Program.listing in
+    let l = g.P.Run.listing in
     let s = c.args.self.now in
     let t = c.args.token.now in
     let ops = c.operands.result.now in
     let node = c.in-At.node in
     let env = its_env (code l) s c.in-At.scope in
-    let form : code l node ≡ call c.in-Call.definition (map param_of ops) = ap (λ (z : Listing). code z node) (sym c.requires.graph) ∙ c.in-Call.ensures.term ∙ ap (λ (z : List Operand). call c.in-Call.definition (map param_of z)) (sym c.operands.ensures.value) in
+    let form : code l node ≡ call c.in-Call.definition (map param_of ops) = ap (λ (z : Listing). code z node) (sym c.args.inputs.now.its_graph) ∙ c.in-Call.ensures.term ∙ ap (λ (z : List Operand). call c.in-Call.definition (map param_of z)) (sym c.operands.ensures.value) in
     ap (standing (code l) (its_env (code l) s)) c.in-At.is ∙ called env (code l node) c.in-Call.definition ops c.take_values.new.args form (c.if-not-take_values.ensures.values refl)

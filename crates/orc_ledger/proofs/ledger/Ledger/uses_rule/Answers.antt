@@ -12,7 +12,7 @@ loop-inwards-preserved g c = λ h. c.loop-inwards.invariant (c.in-Some.ensures h
 
 pub returns-clause-rule : goal.returns-clause-rule
 returns-clause-rule g c h =
-    let l = g.P.Program.listing in
+    let l = g.P.Run.listing in
     let s = c.args.self.now in
     let t = c.loop-inwards.inner in
     c.loop-inwards.invariant (rule_moves (definitions l) (its_path (code l) s t.step) (term_of (code l) s t) (c.is_at_rule.ensures h))

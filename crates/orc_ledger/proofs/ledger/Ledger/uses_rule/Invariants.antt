@@ -5,4 +5,4 @@ use Rattle.orc_ledger_spec.specs.Doing.{term_of}
 use Rattle.orc_ledger.proofs.ledger.Ledger.uses_rule.Given as goal
 
 abbrev pub invariant-loop-inwards : goal.invariant-loop-inwards
-invariant-loop-inwards g l = can_move (definitions g.P.Program.listing) (term_of (code g.P.Program.listing) l.self l.inner) ≡ true → can_move (definitions g.P.Program.listing) (term_of (code g.P.Program.listing) l.self l.token) ≡ true
+invariant-loop-inwards g l = can_move (definitions g.P.Run.listing) (term_of (code g.P.Run.listing) l.self l.inner) ≡ true → can_move (definitions g.P.Run.listing) (term_of (code g.P.Run.listing) l.self l.token) ≡ true

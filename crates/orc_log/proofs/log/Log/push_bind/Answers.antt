@@ -21,6 +21,6 @@ invariant_of-self-2 g c =
     let len : length (bind ∷ map Cancel ks) ≡ length ks + 1 = omega (arith, length-map ks Cancel) in
     let none : b.published.items ≡ b.published.items ++ published (map Cancel ks) = sym (append-nil b.published.items) ∙ ap (λ vs. b.published.items ++ vs) (sym (cancels-publish-none ks)) in
     let nobody : c.is_empty.result ≡ true → ks ≡ [] = λ is. let e : (length ks == 0) ≡ true = sym c.is_empty.ensures ∙ is in nil_from_length ks (grind (arith, nat_tests)) in
-    let local : (b.is_local && c.is_empty.result) ≡ true → (b.is_local ≡ true) × AreLocal g.P.Program.sites (bind ∷ map Cancel ks) =
-    λ yes. let and = both b.is_local c.is_empty.result yes in (and.0, subst (λ zs. AreLocal g.P.Program.sites (bind ∷ map Cancel zs)) (sym (nobody and.1)) (tt, tt)) in
+    let local : (b.is_local && c.is_empty.result) ≡ true → (b.is_local ≡ true) × AreLocal g.P.Run.sites (bind ∷ map Cancel ks) =
+    λ yes. let and = both b.is_local c.is_empty.result yes in (and.0, subst (λ zs. AreLocal g.P.Run.sites (bind ∷ map Cancel zs)) (sym (nobody and.1)) (tt, tt)) in
     (c.self.invariant.0, known-more _ _ _ _ _ _ _ _ c.self.invariant.1 c.if-self.false (bind ∷ map Cancel ks) _ (length ks + 1) _ _ c.past_with_bind-self-inside.ensures len (omega (arith, c.in_ok-count_more.ensures.counted, c.saturating_add-more.ensures, c.type_inv.cancelled)) c.in_ok-count_more.ensures.few none local)

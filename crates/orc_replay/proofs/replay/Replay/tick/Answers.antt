@@ -6,5 +6,5 @@ use Rattle.orc_replay.proofs.replay.Replay.tick.Goals as goal
 pub tick-requires : goal.tick-requires
 tick-requires g c =
     let whole = c.is_whole.ensures in
-    let right = subst (λ z. IsRight g.P.Program.listing g.P.Program.sites z (Ticks c.in-Ticks.time)) (sym c.next-next.ensures.same) c.in-Ticks.ensures.right in
+    let right = subst (λ z. IsRight g.P.Run.listing g.P.Run.sites z (Ticks c.in-Ticks.time)) (sym c.next-next.ensures.same) c.in-Ticks.ensures.right in
     (whole.place, whole.leads, right whole.place whole.leads)

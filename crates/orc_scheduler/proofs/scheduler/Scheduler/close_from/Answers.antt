@@ -24,7 +24,7 @@ unreachable-requires g c =
 
 pub loop-nested-preserved : goal.loop-nested-preserved
 loop-nested-preserved g c =
-    let b : Advances c.loop-nested.self.ledger c.halt.new.self = halted-further (code g.P.Program.listing) _ _ _ _ c.in-Ok.ensures.done in
+    let b : Advances c.loop-nested.self.ledger c.halt.new.self = halted-further (code g.P.Run.listing) _ _ _ _ c.in-Ok.ensures.done in
     let a : Advances c.args.self.now.ledger c.halt.new.self = elim c.loop-nested.invariant [ inl x ↦ further-still _ _ _ x b | inr w ↦ subst (λ z. Advances z c.halt.new.self) w.0 b ] in
     elim c.match-halted.branch [
       | in-Lost+in_ok-wake-in-Lost w ↦ inl (subst (Advances c.args.self.now.ledger) (sym (ap (λ d. d.ledger) w.self-is ∙ w.wake.ensures.same)) a)
@@ -36,4 +36,4 @@ returns-in-Err-Refused-clause-stops g c =
     let h = c.in-Err-Refused in
     let n = c.loop-nested.number in
     let s = c.loop-nested.self.ledger in
-    unhalted g.P.Program.listing s c.halt.new.self n h.fault h.ensures.refused c.full_is_crowded.ensures (subst (λ f. IsHinderedAt s n f) h.field-0-is h.ensures.why)
+    unhalted g.P.Run.listing s c.halt.new.self n h.fault h.ensures.refused c.full_is_crowded.ensures (subst (λ f. IsHinderedAt s n f) h.field-0-is h.ensures.why)

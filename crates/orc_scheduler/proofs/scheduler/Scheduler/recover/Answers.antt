@@ -2,7 +2,7 @@ use Rattle.orc_scheduler.proofs.Stopping.{weaker, work-is-found}
 use Rattle.orc_scheduler.proofs.scheduler.Scheduler.recover.Goals as goal
 
 pub unreachable-requires : goal.unreachable-requires
-unreachable-requires g c = work-is-found g.P.Program.listing c.args.self.now.ledger c.requires.due c.requires.work c.in_default.ensures c.in-None.ensures
+unreachable-requires g c = work-is-found g.P.Run.listing c.args.self.now.ledger c.requires.due c.requires.work c.in_default.ensures c.in-None.ensures
 
 pub returns-clause-advances : goal.returns-clause-advances
 returns-clause-advances g c =

@@ -3,7 +3,7 @@
 use std::marker::Brand;
 
 /// The program that a run is of, its sites, the limit of its entries, and whether its journal is held whole.
-pub trait Program {
+pub trait Run {
     ghost use Rattle.orc_rules.specs.Nodes.{Listing};
     ghost use Rattle.orc_rules.specs.Sites.{Site};
     ghost use Rattle.std.specs.Prelude.{ℕ, Bool, List};
@@ -20,7 +20,7 @@ pub trait Program {
 }
 
 // A caller that picks a program names it by this.
-impl Program for Brand {
+impl Run for Brand {
     ghost use Rattle.std.specs.Prelude.{true, []};
 
     ghost listing = { record { nodes = []; lists = []; routines = []; root = 0 } };

@@ -1,0 +1,12 @@
+//! What a run goes by, and the words of its groups.
+
+use orc_ledger::Inputs;
+use orc_log::Run;
+use orc_word::{Groups, Naming};
+
+/// What a run goes by, and the words of its groups.
+#[derive(Drop)]
+pub(crate) struct Setup<'h, P: Run + Naming> {
+    pub inputs: &'h Inputs<'h, P>,
+    pub groups: &'h Groups<P>,
+}
