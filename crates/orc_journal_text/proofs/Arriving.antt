@@ -1,10 +1,11 @@
 -- The entries of a text that is read piece by piece, and its faults.
-use Rattle.std.proofs.Common.{◌≡◌, ℕ, ◌+◌, ◌<◌, ◌≤◌, Bool, true, false, List, [], ◌++◌, Option, None, Some, length, refl, sym, ap, subst, ◌∙◌, append_assoc, append-nil, length-append, arith, inl, inr}
+use Rattle.std.proofs.Common.{◌≡◌, ℕ, ◌+◌, ◌<◌, ◌≤◌, Bool, true, false, List, [], ◌++◌, Option, None, Some, length, drop, refl, sym, ap, subst, ◌∙◌, append_assoc, append-nil, length-append, arith, inl, inr}
 use Rattle.std.proofs.KnownBytes.{Consumes-trans}
 use Rattle.std.proofs.lemmas.Bool.{ltb-false, ltb-true}
 use Rattle.std.specs.Prelude.{nat_lt, option_map}
 use Rattle.std.specs.Io.KnownBytes.{Consumes, IsAtEnd}
 use Rattle.orc_rules.specs.declared.entry.Entry.{Entry}
+use Rattle.orc_rules.specs.Text.{line, Fits}
 use Rattle.orc_rules.specs.declared.limits.TheConstants.{LONGEST_JOURNAL, MOST_ENTRIES}
 use Rattle.orc_journal.specs.declared.journal.Version.{Version}
 use Rattle.orc_journal.specs.declared.journal.Version.TheVariants.{One, Two}
@@ -18,6 +19,15 @@ use Rattle.orc_journal_text.specs.Pieces.{MayCome}
 use Rattle.orc_journal_text.specs.Texts.{header, entry_lines, IsFault, IsJournal, NoLine}
 use Rattle.orc_journal_text.proofs.Codes.{after_again, after_takes, same_some}
 use Rattle.orc_journal_text.proofs.Coming.{all_has_come, may_come, some_may_come}
+use Rattle.orc_journal_text.proofs.Lengths.{front_of, no_line_with}
+
+-- where more has come, no more comes for the same reason
+pub unfilled_more : (came now : ℕ) (f : LinesFault) → came ≤ now → IsUnfilled came f → IsUnfilled now f
+unfilled_more came now (Text Header) more why = absurd why
+unfilled_more came now (Text (Line n)) more why = absurd why
+unfilled_more came now (Text Long) more why = omega (arith, more, why)
+unfilled_more came now (Text Memory) more why = tt
+unfilled_more came now Unread more why = tt
 
 module _ (names : List (List ℕ)) where
   front_with : (text : List ℕ) (v : Version) (es : List Entry) (rest piece : List ℕ) → text ≡ header v ++ (entry_lines names es ++ rest) → text ++ piece ≡ header v ++ (entry_lines names es ++ (rest ++ piece))
@@ -46,6 +56,14 @@ module _ (names : List (List ℕ)) where
       (piece ++ bytes, may_come a b piece bytes p may, tt)
   unfilled a b text piece came Unread p is why = tt
 
+  -- the whole text has come, or more than a text may have
+  pub unfilled_then : (a : Option (List ℕ)) (text more : List ℕ) (came : ℕ) (f : LinesFault) → MayCome a more → came ≡ length (text ++ more) → IsUnfilled came f → IsLinesFault names a text f
+  unfilled_then a text more came (Text Header) may is why = absurd why
+  unfilled_then a text more came (Text (Line n)) may is why = absurd why
+  unfilled_then a text more came (Text Long) may is why = (more, may, inl (omega (arith, why, is)))
+  unfilled_then a text more came (Text Memory) may is why = (more, may, tt)
+  unfilled_then a text more came Unread may is why = tt
+
   too_long : (text more : List ℕ) (v : Version) → HasTooMany names text v → IsFault names (text ++ more) Long
   too_long text more v (es, rest, front, each, many) = go (nat_lt LONGEST_JOURNAL (length (text ++ more))) refl where
     go : (b : Bool) → nat_lt LONGEST_JOURNAL (length (text ++ more)) ≡ b → IsFault names (text ++ more) Long
@@ -65,6 +83,16 @@ module _ (names : List (List ℕ)) where
     may,
     (l.version, es, l.coming.rest, record { front = read.front; each = read.each; size = omega (arith, read.came, fits) }, omega (arith, read.counts, few), omega (arith, read.number), some, none),
   )
+
+  -- and whatever still comes, where no line is longer than what is left
+  pub no_line_reached : (a b : Option (List ℕ)) (text piece more : List ℕ) (l : Left) (es : List Entry) → Consumes a b piece → MayCome b more → HasRead names (text ++ piece) l es → l.coming.came + length more ≤ LONGEST_JOURNAL → l.counted ≤ MOST_ENTRIES
+      → 0 < length l.coming.rest → ((e : Entry) → Fits names e → length (line names e) ≤ length l.coming.rest) → NoLine names l.version l.coming.rest → IsLinesFault names a text (Text (Line (l.read + 2)))
+  no_line_reached a b text piece more l es p may read fits few some longest none =
+      let whole = with_piece l more None in
+      let then : HasRead names (text ++ (piece ++ more)) whole es = subst (λ (t : List ℕ). HasRead names t whole es) (append_assoc text piece more) (read_with (text ++ piece) l es more None read) in
+      no_line_read a text (piece ++ more) whole es (may_come a b piece more p may) then fits few
+      (omega (arith, some, length-append l.coming.rest more))
+      (no_line_with names l.version l.coming.rest more longest none)
 
   -- the fault of a text with a piece more is that of the text before it
   pub fault_before : (a b : Option (List ℕ)) (text piece : List ℕ) (f : LinesFault) → Consumes a b piece → IsLinesFault names b (text ++ piece) f → IsLinesFault names a text f
@@ -110,6 +138,16 @@ header_is bytes v rest = go (after (header One) bytes) refl (after (header Two) 
 pub header_again : (v : Version) (rest : List ℕ) → header_at (header v ++ rest) ≡ None → ⊥
 header_again One rest e = absurd (let p = after_again (header One) rest in cc)
 header_again Two rest e = absurd (let p = after_again (header Two) rest in cc)
+
+-- nor where more has come
+pub no_header_with : (rest more : List ℕ) (v : Version) (behind : List ℕ) → 14 ≤ length rest → header_at rest ≡ None → rest ++ more ≡ header v ++ behind → ⊥
+no_header_with rest more v behind long none is =
+    let here = front_of (header v) behind rest more (omega (arith, long, header_length v)) is in
+    header_again v (drop (length (header v)) rest) (ap header_at (sym here) ∙ none)
+  where
+    header_length : (v : Version) → length (header v) ≡ 14
+    header_length One = refl
+    header_length Two = refl
 
 -- the end of a text has come
 pub whole_has_come : (a m b : Option (List ℕ)) (piece next : List ℕ) → Consumes a m piece → Consumes m b next → next ≡ [] → IsAtEnd b → MayCome a piece

@@ -31,6 +31,11 @@ none_may_come (Some x) end = sym end
 pub all_has_come : (a b : Option (List ℕ)) (piece : List ℕ) → Consumes a b piece → IsAtEnd b → MayCome a piece
 all_has_come a b piece p end = subst (MayCome a) (append-nil piece) (may_come a b piece [] p (none_may_come b end))
 
+-- the first byte of what isn't used stays the first
+pub still_first : (rest piece : List ℕ) → 0 < length rest → take 1 (take 1 rest ++ piece) ≡ take 1 rest
+still_first [] piece some = absurd (omega (arith, some))
+still_first (c ∷ cs) piece some = refl
+
 -- ---- the room
 
 -- what stands behind the first k of the bytes from start to end

@@ -6,6 +6,7 @@ pub mod Composing
 pub mod Digits
 pub mod Entries
 pub mod Few
+pub mod Lengths
 pub mod Loops
 pub mod Names
 pub mod Outputs

@@ -1,5 +1,5 @@
 -- A journal's text, as far as its entries were read.
-use Rattle.std.specs.Prelude.{◌≡◌, ◌<◌, ◌-◌, ◌^◌, ℕ, List, ◌++◌, length, ⊤}
+use Rattle.std.specs.Prelude.{◌≡◌, ◌<◌, ◌≤◌, ◌-◌, ◌^◌, ℕ, List, [], ◌++◌, length, slice_index_or, ⊤}
 use Rattle.std.specs.declared.option.Option.{Option}
 use Rattle.orc_rules.specs.declared.entry.Entry.{Entry}
 use Rattle.orc_rules.specs.declared.limits.TheConstants.{LONGEST_JOURNAL, MOST_ENTRIES}
@@ -49,3 +49,7 @@ HasTooMany names text v = (es : List Entry) × (rest : List ℕ) × (text ≡ he
 -- a piece more of the text has come
 abbrev pub with_piece : Left → List ℕ → Option (List ℕ) → Left
 with_piece l piece left = record { version = l.version; coming = comes_with l.coming piece left; read = l.read; counted = l.counted }
+
+-- no site has a longer name
+abbrev pub AreNamesWithin : List (List ℕ) → ℕ → Type 0
+AreNamesWithin names most = (m : ℕ) → m < length names → length (slice_index_or names m []) ≤ most

@@ -3,6 +3,7 @@
 
 mod fit;
 mod lines;
+mod longest;
 mod pieces;
 mod reader;
 mod tail;

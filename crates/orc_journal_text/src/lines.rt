@@ -11,8 +11,9 @@ ghost use Rattle.orc_journal_text.specs.Reading.{header_at};
 ghost use Rattle.orc_journal.specs.Written.{counts};
 ghost use Rattle.orc_journal_text.specs.Texts.{is_of, IsJournal, NoLine};
 ghost use Rattle.orc_journal_text.specs.declared.lines.LinesFault.TheVariants.{Text};
-ghost use Rattle.orc_journal_text.specs.declared.text.JournalFault.TheVariants.{Long};
+ghost use Rattle.orc_journal_text.specs.declared.text.JournalFault.TheVariants.{Line, Long};
 
+use crate::longest::is_longest;
 use crate::pieces::Pieces;
 use crate::reader::{after, read_entry};
 use crate::text::JournalFault;
@@ -24,6 +25,9 @@ use std::alloc::Global;
 use std::io::Read;
 use std::marker::Model;
 
+/// How many bytes the first line has.
+const HEADER: usize = 14;
+
 /// Why the entries of a text aren't read to its end.
 #[derive(Clone, Copy, PartialEq, Eq, Debug)]
 pub enum LinesFault {
@@ -33,7 +37,7 @@ pub enum LinesFault {
     Unread,
 }
 
-/// A journal's text as far as its entries were read. It is read piece by piece, and nothing of it is kept.
+/// A journal's text as far as its entries were read. It is read piece by piece, and of it no more is kept than a piece and the longest line.
 #[derive(Drop)]
 pub struct Lines<R: Read + Drop> {
     version: Version,
@@ -84,6 +88,14 @@ fn count_with(counted: u64, entry: &Entry) -> u64
     }
 }
 
+// The fault of the line behind the first one and those of so many entries.
+fn line_fault(read: usize) -> LinesFault
+    requires { read < 2 ^ 64 - 2 }
+    ensures { result ≡ Text (Line (read + 2)) }
+{
+    LinesFault::Text(JournalFault::Line(read + 2))
+}
+
 // Puts the entry of that version whose line stands first into `entry`, and gives the bytes behind the line.
 fn next_entry<'a>(
     version: Version,
@@ -121,6 +133,10 @@ impl<R: Read + Drop> Lines<R> {
                     read: 0,
                     counted: 0,
                 });
+            }
+            if pieces.rest().len() >= HEADER {
+                pieces.skip()?;
+                return Err(LinesFault::Text(JournalFault::Header));
             }
             if !pieces.fill()? {
                 return Err(LinesFault::Text(JournalFault::Header));
@@ -180,11 +196,15 @@ impl<R: Read + Drop> Lines<R> {
         ensures fault { IfErr result (λ f. (text : List ℕ) (es : List EntryOf) → HasRead answers.now.names text self.old es → IsLinesFault answers.now.names self.old.coming.left text f) }
     {
         while !self.take_line(answers, entry)? {
+            if is_longest(self.pieces.rest(), answers) {
+                self.pieces.skip()?;
+                return Err(line_fault(self.read));
+            }
             if !self.pieces.fill()? {
                 if self.pieces.rest().is_empty() {
                     return Ok(false);
                 }
-                return Err(LinesFault::Text(JournalFault::Line(self.read + 2)));
+                return Err(line_fault(self.read));
             }
         }
         Ok(true)

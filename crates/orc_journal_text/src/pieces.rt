@@ -4,7 +4,7 @@ ghost use Rattle.std.specs.Prelude.{◌≡◌, ◌<◌, ◌≤◌, ◌-◌, ◌+
 ghost use Rattle.std.specs.Io.KnownBytes.{Consumes, IsAtEnd};
 ghost use Rattle.orc_rules.specs.declared.limits.TheConstants.{LONGEST_JOURNAL};
 ghost use Rattle.orc_journal_text.specs.Lines.{IsUnfilled};
-ghost use Rattle.orc_journal_text.specs.Pieces.{comes_with, with_rest};
+ghost use Rattle.orc_journal_text.specs.Pieces.{comes_with, with_rest, MayCome};
 
 use crate::lines::LinesFault;
 use crate::text::JournalFault;
@@ -140,5 +140,29 @@ impl<R: Read + Drop> Pieces<R> {
         self.end += count;
         self.came += count;
         Ok(count > 0)
+    }
+    // Keeps the first of the bytes that aren't used, and no other.
+    fn keep_first(&mut self)
+        requires { 0 < length self.old.rest }
+        ensures { self.new ≡ with_rest self.old (take 1 self.old.rest) }
+    {
+        self.end = self.start + 1;
+    }
+
+    /// Has all of the text come and counts it. Of what isn't used the first byte alone is kept, so that the text isn't at its end. The fault is J3
+    /// where more comes than the longest text has, J4 where memory is refused, or that it can't be read.
+    pub(crate) fn skip(&mut self) -> Result<(), LinesFault>
+        requires { 0 < length self.old.rest }
+        ensures end { IfOk result (λ _. (more : List ℕ) × MayCome self.old.left more × (self.old.came + length more ≤ LONGEST_JOURNAL)) }
+        ensures fault { IfErr result (λ f. (more : List ℕ) × MayCome self.old.left more × IsUnfilled (self.old.came + length more) f) }
+        ensures first { self.new.rest ≡ take 1 self.old.rest }
+        ensures more { self.old.came ≤ self.new.came }
+        ensures few { self.new.came < LONGEST_JOURNAL + 2 ^ 63 }
+    {
+        self.keep_first();
+        while self.fill()? {
+            self.keep_first();
+        }
+        Ok(())
     }
 }

@@ -182,7 +182,7 @@ fn split_name(bytes: &[u8]) -> (&[u8], &[u8])
     bytes.split_at(end)
 }
 
-// The number of the built-in site that has this name, if one has it.
+// A guess at the built-in site by the first letters; `is_name_of` tests it. It follows `Builtin::ALL`.
 fn likely_site(name: &[u8]) -> u32 {
     match name {
         [b'A', ..] => 0,

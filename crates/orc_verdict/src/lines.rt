@@ -61,8 +61,8 @@ fn refused<R: Read + Drop>(lines: &mut Lines<R>, answers: &Answers, fault: Check
     }
 }
 
-/// The verdict on a text's journal of a program, as `read_journal` and `check_journal` tell it together. The text is read piece by piece, and nothing is
-/// kept of it nor of the entries, so that a check needs memory for the marked term alone. The fault is that of the text, else that of the journal;
+/// The verdict on a text's journal of a program, as `read_journal` and `check_journal` tell it together. The text is read piece by piece, and no more is
+/// kept of it than a piece and the longest line, and none of the entries, so that a check needs memory for the marked term and that piece alone. The fault is that of the text, else that of the journal;
 /// or the text couldn't be read.
 pub fn check_lines<R: Read + Drop>(
     alloc: Global,
