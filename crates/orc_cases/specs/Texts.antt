@@ -65,6 +65,12 @@ abbrev pub answers_text : List Found → List ℕ
 answers_text [] = codes "\n"
 answers_text (f ∷ fs) = codes " = " ++ (answer_text f ++ more_answers fs)
 
+-- the LF that a text lacks whose last line has none
+abbrev pub lacking_end : List ℕ → List ℕ
+lacking_end [] = []
+lacking_end (b ∷ []) = cond (nat_eq b 10) [] (codes "\n")
+lacking_end (b ∷ c ∷ bs) = lacking_end (c ∷ bs)
+
 -- a line for each name, with which its calls halt
 abbrev pub halts_text : List (List ℕ) → List ℕ
 halts_text [] = []

@@ -6,7 +6,7 @@ use Rattle.orc_ways.specs.Lines.{Service}
 use Rattle.orc_ways.specs.Drafts.{Test}
 use Rattle.orc_cases.specs.Services.{services_of, others_of}
 use Rattle.orc_cases.specs.Choices.{Choice, is_off, choices}
-use Rattle.orc_cases.specs.Texts.{call_text, answers_text, halts_text}
+use Rattle.orc_cases.specs.Texts.{call_text, answers_text, halts_text, lacking_end}
 
 -- what each line does
 abbrev pub Way : Type 0
@@ -87,8 +87,9 @@ abbrev pub lines_text : Bool → List Line → Way → List ℕ
 lines_text only_telling (l ∷ ls) (c ∷ w) = line_text only_telling l c ++ lines_text only_telling ls w
 lines_text only_telling _ _ = []
 
+-- the lines of a way, those that are handed in, and, last, so that they take no call from these, the lines of the test's other services
 abbrev pub script_text : CaseWays → List ℕ → Way → List ℕ
-script_text c behind w = lines_text false c.lines w ++ (c.halts ++ behind)
+script_text c behind w = lines_text false c.lines w ++ (behind ++ (lacking_end behind ++ c.halts))
 
 -- the scripts of the first ways, so many at most, with these lines behind each
 abbrev pub scripts : CaseWays → ℕ → List ℕ → List (List ℕ)

@@ -13,7 +13,7 @@ ghost use Rattle.orc_cases.specs.Ways.{combinations, is_shown, line_of, line_tex
 
 use crate::choices::{Choice, choices};
 use crate::lines::{other_names, service_at};
-use crate::text::{push_answers, push_call, push_halts};
+use crate::text::{push_answers, push_call, push_end, push_halts};
 use orc_ways::test::{Service, ServiceLine};
 use std::alloc::{AllocError, Global};
 
@@ -211,19 +211,20 @@ impl Frame {
         Ok(text)
     }
 
-    // The script of the way of this number, with these lines behind it.
+    // The script of the way of this number, with these lines behind those of its services.
     fn script(&self, alloc: Global, number: usize, behind: &[u8]) -> Result<Vec<u8>, AllocError>
         requires counted { IsCounted self.now }
         requires within { number < self.now.count }
         ensures { IfOk result (λ t. t.items ≡ script_text (ways_from self.now) behind.now (way_at (all_choices_of self.now.lines.items) number)) }
     {
         let mut text = self.way(alloc, number, false)?;
-        text.extend_from_slice(self.halts.as_slice())?;
         text.extend_from_slice(behind)?;
+        push_end(&mut text, behind)?;
+        text.extend_from_slice(self.halts.as_slice())?;
         Ok(text)
     }
 
-    /// The scripts of the ways of these numbers, each with these lines behind it. The error is refused memory.
+    /// The scripts of the ways of these numbers, each with these lines behind those of its services. The error is refused memory.
     pub(crate) fn scripts(
         &self,
         alloc: Global,

@@ -2,7 +2,7 @@
 
 ghost use Rattle.std.specs.Prelude.{◌≡◌, ◌++◌, OnOk, map, codes, decimal, true};
 ghost use Rattle.orc_rules.specs.Text.{value_text};
-ghost use Rattle.orc_cases.specs.Texts.{after_text, answer_text, answers_text, closing, halts_text, interval_text, intervals_text, mark, more_answers, pattern_text, patterns_text, reply_text};
+ghost use Rattle.orc_cases.specs.Texts.{after_text, answer_text, answers_text, closing, halts_text, interval_text, intervals_text, lacking_end, mark, more_answers, pattern_text, patterns_text, reply_text};
 
 use crate::intervals::Interval;
 use orc_claims::claim::Slot;
@@ -185,6 +185,25 @@ pub(crate) fn push_call(out: &mut Vec<u8>, name: &[u8], patterns: &[Slot]) -> Re
 {
     out.extend_from_slice(name)?;
     push_patterns(out, patterns)
+}
+
+/// Ends the last line of a text that was written, where that has no LF. The error is refused memory.
+pub(crate) fn push_end(out: &mut Vec<u8>, text: &[u8]) -> Result<(), AllocError>
+    ensures { OnOk result (out.new.items ≡ out.old.items ++ lacking_end text.now) }
+{
+    let mut rest = text;
+    loop {
+        match rest {
+            [] => return Ok(()),
+            [last] => {
+                if *last == b'\n' {
+                    return Ok(());
+                }
+                return out.extend_from_slice(b"\n");
+            }
+            [_, more @ ..] => rest = more,
+        }
+    }
 }
 
 /// Writes a line for each of these names, with which its calls without arguments halt. The error is refused memory.

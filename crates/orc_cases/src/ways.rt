@@ -89,8 +89,8 @@ impl Ways {
         self.numbers.as_slice().len() as u64
     }
 
-    /// The scripts of the first ways, so many at most: in each the lines of the case's services, a line for each other service of the test, and these lines
-    /// behind them. The error is refused memory.
+    /// The scripts of the first ways, so many at most: in each the lines of the case's services, then these lines, and last, so that they take no call from
+    /// these, a line for each other service of the test. The error is refused memory.
     pub fn scripts(
         &self,
         alloc: Global,
