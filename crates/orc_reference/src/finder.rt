@@ -3,7 +3,7 @@
 //! The search goes along one run as far as it shows no more than is wanted, and then back to the last choice. What it finds is played again, entry by
 //! entry, so nothing that is said of the run rests on the search.
 
-ghost use Rattle.std.specs.Prelude.{◌≡◌, IfOk, IfSome};
+ghost use Rattle.std.specs.Prelude.{◌≡◌, ◌⊎◌, IfOk, IfSome};
 ghost use Rattle.orc_outcome.specs.Outcome.{IsPlayed};
 
 use crate::form::{Forms, mix, mix_value};
@@ -417,8 +417,8 @@ fn way_to<W: Wanted>(
     Ok(way)
 }
 
-/// A run of a program that shows what is wanted, with its journal: looked for through so many places at most, at which a run may stand. None where no such
-/// run was found. A run has at most `limit` entries, cancels not counted.
+/// A run of a program that shows what is wanted, with its journal: looked for through so many places at most, at which a run may stand. It ends by itself.
+/// None where no such run was found, and where the one that was found has more than `limit` entries, cancels not counted.
 ///
 /// The fault is Memory where memory was refused; or Broken where the rules refuse an entry that was to come next.
 pub fn find<W: Wanted>(
@@ -429,7 +429,8 @@ pub fn find<W: Wanted>(
     most: usize,
     limit: u64,
 ) -> Result<Option<Played>, PlayFault>
-    ensures { IfOk result (λ found. IfSome found (λ p. IsPlayed program.now answers.now limit p.summary p.published.items p.journal)) }
+    ensures played { IfOk result (λ found. IfSome found (λ p. IsPlayed program.now answers.now limit p.summary p.published.items p.journal)) }
+    ensures ended { IfOk result (λ found. IfSome found (λ p. (p.summary.end ≡ End.Halted) ⊎ (p.summary.end ≡ End.Quiet))) }
 {
     let Ok(found) = way_to(alloc, program, answers, wanted, most) else {
         return Err(PlayFault::Memory);
@@ -443,8 +444,10 @@ pub fn find<W: Wanted>(
     };
     let mut steps = Steps { rest: way };
     let end = proceed(&mut history, &mut steps, program, answers, limit)?;
-    if end == End::Memory {
-        return Err(PlayFault::Memory);
+    match end {
+        End::Halted | End::Quiet => Ok(Some(history.played(end))),
+        // It has more entries than a run may have.
+        End::Limit | End::Full => Ok(None),
+        End::Memory => Err(PlayFault::Memory),
     }
-    Ok(Some(history.played(end)))
 }

@@ -108,7 +108,8 @@ impl History {
 
     /// What is told of the run, once it has ended so.
     pub fn played(self, end: End) -> Played
-        ensures { (l : Listing) (t : Table) (limit : ℕ) → HasEnded l t limit self end → IsPlayed l t limit result.summary result.published.items result.journal }
+        ensures played { (l : Listing) (t : Table) (limit : ℕ) → HasEnded l t limit self end → IsPlayed l t limit result.summary result.published.items result.journal }
+        ensures end { result.summary.end ≡ end }
     {
         let History {
             marked,

@@ -5,8 +5,8 @@ use Rattle.orc_reference.specs.Stories.{Story, IsStory}
 use Rattle.orc_reference.proofs.history.History.played.Goals as goal
 
 -- what is kept of a run tells of the journal that leads there
-pub returns : goal.returns
-returns c l t limit ended =
+pub returns-clause-played : goal.returns-clause-played
+returns-clause-played c l t limit ended =
     let reached = ended.reached in
     let place = reached.place in
     let told = subst (λ (s : Story). IsStory l t s reached.journal place) (sym c.self.view_is) reached.told in
