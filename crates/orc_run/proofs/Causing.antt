@@ -18,14 +18,14 @@ module _ (holds : List ℕ → Option (List ℕ)) where
   unread_run file script (failure.NoRun n) u = absurd u
   unread_run file script (failure.NoJournal n) u = absurd u
 
-  pub unread_show : (file : List ℕ) (script : Option (List ℕ)) (number : ℕ) (f : Failure) → IsUnread f → IsShowUndone holds file script number f
-  unread_show file script number (failure.Unread path f) u = tt
-  unread_show file script number (failure.Fault f) u = absurd u
-  unread_show file script number failure.Rows u = absurd u
-  unread_show file script number (failure.NoFailure n) u = absurd u
-  unread_show file script number (failure.NoOutcome n) u = absurd u
-  unread_show file script number (failure.NoRun n) u = absurd u
-  unread_show file script number (failure.NoJournal n) u = absurd u
+  pub unread_show : (file : List ℕ) (script : Option (List ℕ)) (orders limit number : ℕ) (f : Failure) → IsUnread f → IsShowUndone holds file script orders limit number f
+  unread_show file script orders limit number (failure.Unread path f) u = tt
+  unread_show file script orders limit number (failure.Fault f) u = absurd u
+  unread_show file script orders limit number failure.Rows u = absurd u
+  unread_show file script orders limit number (failure.NoFailure n) u = absurd u
+  unread_show file script orders limit number (failure.NoOutcome n) u = absurd u
+  unread_show file script orders limit number (failure.NoRun n) u = absurd u
+  unread_show file script orders limit number (failure.NoJournal n) u = absurd u
 
   pub unread_check : (file journal : List ℕ) (script : Option (List ℕ)) (f : Failure) → IsUnread f → IsCheckUndone holds file journal script f
   unread_check file journal script (failure.Unread path f) u = tt

@@ -70,15 +70,15 @@ unread_leaves source text script journal old new (fault.Check f) h keeps = keeps
 unread_leaves source text script journal old new (fault.Engine f) h keeps = keeps
 unread_leaves source text script journal old new (fault.Write w) h keeps = absurd h
 
-pub refused_for : (source text script journal : List ℕ) (f : RunFault) → IsRefusal source script journal f → IsUnclaimedFor source text script journal f
-refused_for source text script journal (fault.Syntax f) h = h
-refused_for source text script journal (fault.Scope f) h = h
-refused_for source text script journal (fault.Script f) h = h
-refused_for source text script journal (fault.Test f) h = absurd h
-refused_for source text script journal (fault.Journal f) h = h
-refused_for source text script journal (fault.Check f) h = h
-refused_for source text script journal (fault.Engine f) h = absurd h
-refused_for source text script journal (fault.Write w) h = absurd h
+pub refused_for : (source text script journal : List ℕ) (test : Test) (f : RunFault) → IsTestOf text script test → IsRefusal source script journal f → IsUnclaimedFor source text script journal f
+refused_for source text script journal test (fault.Syntax f) known h = h
+refused_for source text script journal test (fault.Scope f) (others, says, reads) h = ((others, test, says, reads), h)
+refused_for source text script journal test (fault.Script f) known h = h
+refused_for source text script journal test (fault.Test f) known h = absurd h
+refused_for source text script journal test (fault.Journal f) (others, says, reads) h = ((others, test, says, reads), h)
+refused_for source text script journal test (fault.Check f) (others, says, reads) h = ((others, test, says, reads), h)
+refused_for source text script journal test (fault.Engine f) known h = absurd h
+refused_for source text script journal test (fault.Write w) known h = absurd h
 
 pub refused_leaves : (source text script journal : List ℕ) (old new : Option (List ℕ)) (f : RunFault) → IsRefusal source script journal f → Keeps old new → LeavesUnclaimed source text script journal old new f
 refused_leaves source text script journal old new (fault.Syntax f) h keeps = keeps

@@ -1,8 +1,10 @@
 pub mod Accepting
 pub mod Causing
 pub mod Claiming
+pub mod Coming
 pub mod Detailing
 pub mod Drawing
+pub mod FailingRuns
 pub mod KnownFiles
 pub mod Listed
 pub mod LoadFaults

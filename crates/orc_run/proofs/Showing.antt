@@ -19,7 +19,7 @@ use Rattle.orc_orders.specs.Survey.{IsSurvey}
 use Rattle.orc_orders.specs.declared.seen.Seen.{Seen}
 use Rattle.orc_schedules.specs.declared.ended.Ended.{Ended}
 use Rattle.orc_run.specs.Searched.{IsUnseen, ended_of}
-use Rattle.orc_run.specs.Shown.{HasShown, HasWritten, IsJournalOf, IsNumbered, LeavesUnseen, LeavesUnshown, LeavesUnwritten, ShowsOutcome, WritesUnseen}
+use Rattle.orc_run.specs.Shown.{HasShown, HasWritten, IsJournalOf, IsNumbered, IsUnshownBy, IsUnshownFor, IsUnwrittenBy, LeavesUnseen, LeavesUnshown, LeavesUnwritten, ShowsOutcome, WritesUnseen}
 use Rattle.orc_run.specs.declared.faults.RunFault.TheVariants as fault
 use Rattle.orc_run.specs.declared.shown.Unshown.{Unshown}
 use Rattle.orc_run.specs.declared.shown.Unshown.TheVariants as unshown
@@ -123,3 +123,47 @@ module _ (source script : List ℕ) (orders limit number : ℕ) (l : Listing) (t
       go (unshown.Fault (fault.Engine f)) rest = rest
       go (unshown.NoOutcome n) rest = rest
       go (unshown.NoRun n) rest = rest
+
+  -- there is no outcome with the number where fewer came up,
+  pub none_with : (n : ℕ) → n ≡ number → length seen ≤ number - 1 → IsUnshownFor source script orders limit number (unshown.NoOutcome n)
+  none_with n is fewer = (is, (seen, (l, t, says, spells, survey), fewer))
+
+  -- and that, or why another one isn't shown, is why none is
+  pub unshown_for : (f : Unshown) → length seen ≤ number - 1 → IsUnshownBy number f → IsUnshownFor source script orders limit number f
+  unshown_for (unshown.NoOutcome n) fewer is = none_with n is fewer
+  unshown_for (unshown.NoRun n) fewer is = is
+  unshown_for (unshown.Fault (fault.Write w)) fewer is = tt
+  unshown_for (unshown.Fault (fault.Engine f)) fewer is = (l, t, says, spells)
+  unshown_for (unshown.Fault (fault.Syntax f)) fewer is = absurd is
+  unshown_for (unshown.Fault (fault.Scope f)) fewer is = absurd is
+  unshown_for (unshown.Fault (fault.Script f)) fewer is = absurd is
+  unshown_for (unshown.Fault (fault.Test f)) fewer is = absurd is
+  unshown_for (unshown.Fault (fault.Journal f)) fewer is = absurd is
+  unshown_for (unshown.Fault (fault.Check f)) fewer is = absurd is
+
+-- ---- a run that was played
+
+-- why its journal isn't written is why its outcome isn't shown
+pub unwritten_unshown : (number : ℕ) (f : Unshown) → IsUnwrittenBy number f → IsUnshownBy number f
+unwritten_unshown number (unshown.NoOutcome n) is = absurd is
+unwritten_unshown number (unshown.NoRun n) is = is
+unwritten_unshown number (unshown.Fault (fault.Write w)) is = tt
+unwritten_unshown number (unshown.Fault (fault.Engine f)) is = absurd is
+unwritten_unshown number (unshown.Fault (fault.Syntax f)) is = absurd is
+unwritten_unshown number (unshown.Fault (fault.Scope f)) is = absurd is
+unwritten_unshown number (unshown.Fault (fault.Script f)) is = absurd is
+unwritten_unshown number (unshown.Fault (fault.Test f)) is = absurd is
+unwritten_unshown number (unshown.Fault (fault.Journal f)) is = absurd is
+unwritten_unshown number (unshown.Fault (fault.Check f)) is = absurd is
+
+pub unwritten_for : (source script : List ℕ) (orders limit number : ℕ) (f : Unshown) → IsUnwrittenBy number f → IsUnshownFor source script orders limit number f
+unwritten_for source script orders limit number (unshown.NoOutcome n) is = absurd is
+unwritten_for source script orders limit number (unshown.NoRun n) is = is
+unwritten_for source script orders limit number (unshown.Fault (fault.Write w)) is = tt
+unwritten_for source script orders limit number (unshown.Fault (fault.Engine f)) is = absurd is
+unwritten_for source script orders limit number (unshown.Fault (fault.Syntax f)) is = absurd is
+unwritten_for source script orders limit number (unshown.Fault (fault.Scope f)) is = absurd is
+unwritten_for source script orders limit number (unshown.Fault (fault.Script f)) is = absurd is
+unwritten_for source script orders limit number (unshown.Fault (fault.Test f)) is = absurd is
+unwritten_for source script orders limit number (unshown.Fault (fault.Journal f)) is = absurd is
+unwritten_for source script orders limit number (unshown.Fault (fault.Check f)) is = absurd is

@@ -204,87 +204,91 @@ ended_cut holds (job.DrawRun file script run options) old new status (source, re
 ended_cut holds (job.Print file) old new status (source, held, prints, is) four = absurd (omega (arith, is, four))
 ended_cut holds (job.Test file test script options) old new status (source, text, read, explains, failing, held, held_too, said, tested, is) four = absurd (zero_or_one (nat_eq failing 0) 4 (omega arith) (sym is ∙ four))
 
--- no fault has the status of such an end
-module _ (n : ℕ) (not_one : n ≢ 1) (not_five : n ≢ 5) (not_six : n ≢ 6) (not_seven : n ≢ 7) where
-  not_syntax : (f : SyntaxFault) → syntax_status f ≢ n
-  not_syntax (syntax_fault.Encoding at) h = not_one (sym h)
-  not_syntax (syntax_fault.Character at) h = not_one (sym h)
-  not_syntax (syntax_fault.Number span) h = not_one (sym h)
-  not_syntax (syntax_fault.Expected at what) h = not_one (sym h)
-  not_syntax (syntax_fault.Deep at) h = not_one (sym h)
-  not_syntax syntax_fault.Long h = not_one (sym h)
-  not_syntax (syntax_fault.Comment at) h = not_one (sym h)
-  not_syntax syntax_fault.Memory h = not_five (sym h)
+-- what is so of 1, 5, 6 and 7 is so of the status of each failure
+module _ (P : ℕ → Type 0) (one : P 1) (five : P 5) (six : P 6) (seven : P 7) where
+  of_syntax : (f : SyntaxFault) → P (syntax_status f)
+  of_syntax (syntax_fault.Encoding at) = one
+  of_syntax (syntax_fault.Character at) = one
+  of_syntax (syntax_fault.Number span) = one
+  of_syntax (syntax_fault.Expected at what) = one
+  of_syntax (syntax_fault.Deep at) = one
+  of_syntax syntax_fault.Long = one
+  of_syntax (syntax_fault.Comment at) = one
+  of_syntax syntax_fault.Memory = five
 
-  not_scope : (k : FaultKind) → scope_status k ≢ n
-  not_scope kind.Unbound h = not_one (sym h)
-  not_scope kind.NotValue h = not_one (sym h)
-  not_scope (kind.Arity want got) h = not_one (sym h)
-  not_scope kind.DefinedTwice h = not_one (sym h)
-  not_scope kind.ParameterTwice h = not_one (sym h)
-  not_scope kind.CallOfVariable h = not_one (sym h)
-  not_scope kind.NoSite h = not_one (sym h)
-  not_scope kind.TooMany h = not_one (sym h)
-  not_scope kind.Memory h = not_five (sym h)
+  of_scope : (k : FaultKind) → P (scope_status k)
+  of_scope kind.Unbound = one
+  of_scope kind.NotValue = one
+  of_scope (kind.Arity want got) = one
+  of_scope kind.DefinedTwice = one
+  of_scope kind.ParameterTwice = one
+  of_scope kind.CallOfVariable = one
+  of_scope kind.NoSite = one
+  of_scope kind.TooMany = one
+  of_scope kind.Memory = five
 
-  not_script : (f : ScriptFault) → script_status f ≢ n
-  not_script (script.Line number) h = not_one (sym h)
-  not_script script.Memory h = not_five (sym h)
-  not_script script.Long h = not_one (sym h)
+  of_script : (f : ScriptFault) → P (script_status f)
+  of_script (script.Line number) = one
+  of_script script.Memory = five
+  of_script script.Long = one
 
-  not_test : (f : TestFault) → test_status f ≢ n
-  not_test (test_fault.Line number) h = not_one (sym h)
-  not_test test_fault.Memory h = not_five (sym h)
-  not_test test_fault.Long h = not_one (sym h)
-  not_test (test_fault.Place number) h = not_one (sym h)
-  not_test (test_fault.Unknown number) h = not_one (sym h)
-  not_test (test_fault.Ways number) h = not_one (sym h)
+  of_test : (f : TestFault) → P (test_status f)
+  of_test (test_fault.Line number) = one
+  of_test test_fault.Memory = five
+  of_test test_fault.Long = one
+  of_test (test_fault.Place number) = one
+  of_test (test_fault.Unknown number) = one
+  of_test (test_fault.Ways number) = one
 
-  not_journal : (f : JournalFault) → journal_status f ≢ n
-  not_journal journal.Header h = not_one (sym h)
-  not_journal (journal.Line number) h = not_one (sym h)
-  not_journal journal.Long h = not_one (sym h)
-  not_journal journal.Memory h = not_five (sym h)
+  of_journal : (f : JournalFault) → P (journal_status f)
+  of_journal journal.Header = one
+  of_journal (journal.Line number) = one
+  of_journal journal.Long = one
+  of_journal journal.Memory = five
 
-  not_reason : (r : RuleFault) → reason_status r ≢ n
-  not_reason reason.Cancel h = not_one (sym h)
-  not_reason reason.Mark h = not_one (sym h)
-  not_reason reason.Form h = not_one (sym h)
-  not_reason reason.Number h = not_one (sym h)
-  not_reason reason.Answer h = not_one (sym h)
-  not_reason reason.Time h = not_one (sym h)
-  not_reason reason.Halted h = not_one (sym h)
-  not_reason reason.Deep h = not_one (sym h)
-  not_reason reason.Memory h = not_five (sym h)
+  of_reason : (r : RuleFault) → P (reason_status r)
+  of_reason reason.Cancel = one
+  of_reason reason.Mark = one
+  of_reason reason.Form = one
+  of_reason reason.Number = one
+  of_reason reason.Answer = one
+  of_reason reason.Time = one
+  of_reason reason.Halted = one
+  of_reason reason.Deep = one
+  of_reason reason.Memory = five
 
-  not_engine : (f : EngineFault) → engine_status f ≢ n
-  not_engine engine.Range h = not_seven (sym h)
-  not_engine engine.Memory h = not_five (sym h)
-  not_engine engine.Broken h = not_seven (sym h)
-  not_engine (engine.Site number) h = not_seven (sym h)
+  of_engine : (f : EngineFault) → P (engine_status f)
+  of_engine engine.Range = seven
+  of_engine engine.Memory = five
+  of_engine engine.Broken = seven
+  of_engine (engine.Site number) = seven
 
-  not_read : (f : ReadFault) → read_status_of f ≢ n
-  not_read read.Memory h = not_five (sym h)
-  not_read (read.Failed why) h = not_six (sym h)
+  of_read : (f : ReadFault) → P (read_status_of f)
+  of_read read.Memory = five
+  of_read (read.Failed why) = six
 
-  not_failed : (f : Failure) → failure_status f ≢ n
-  not_failed (failure.Unread path f) h = not_read f h
-  not_failed (failure.Fault (fault.Syntax f)) h = not_syntax f h
-  not_failed (failure.Fault (fault.Scope f)) h = not_scope f.kind h
-  not_failed (failure.Fault (fault.Script f)) h = not_script f h
-  not_failed (failure.Fault (fault.Test f)) h = not_test f h
-  not_failed (failure.Fault (fault.Journal f)) h = not_journal f h
-  not_failed (failure.Fault (fault.Check f)) h = not_reason f.why h
-  not_failed (failure.Fault (fault.Engine f)) h = not_engine f h
-  not_failed (failure.Fault (fault.Write w)) h = not_six (sym h)
-  not_failed failure.Rows h = not_one (sym h)
-  not_failed (failure.NoFailure number) h = not_one (sym h)
-  not_failed (failure.NoOutcome number) h = not_one (sym h)
-  not_failed (failure.NoRun number) h = not_one (sym h)
-  not_failed (failure.NoJournal number) h = not_one (sym h)
+  of_failure : (f : Failure) → P (failure_status f)
+  of_failure (failure.Unread path f) = of_read f
+  of_failure (failure.Fault (fault.Syntax f)) = of_syntax f
+  of_failure (failure.Fault (fault.Scope f)) = of_scope f.kind
+  of_failure (failure.Fault (fault.Script f)) = of_script f
+  of_failure (failure.Fault (fault.Test f)) = of_test f
+  of_failure (failure.Fault (fault.Journal f)) = of_journal f
+  of_failure (failure.Fault (fault.Check f)) = of_reason f.why
+  of_failure (failure.Fault (fault.Engine f)) = of_engine f
+  of_failure (failure.Fault (fault.Write w)) = six
+  of_failure failure.Rows = one
+  of_failure (failure.NoFailure number) = one
+  of_failure (failure.NoOutcome number) = one
+  of_failure (failure.NoRun number) = one
+  of_failure (failure.NoJournal number) = one
 
+pub failure_below : (f : Failure) → failure_status f < 8
+failure_below f = of_failure (λ n. n < 8) (omega arith) (omega arith) (omega arith) (omega arith) f
+
+-- no failure has the status of such an end
 pub not_quiet : (f : Failure) → failure_status f ≢ 3
-not_quiet f = not_failed 3 (λ h. omega (arith, h)) (λ h. omega (arith, h)) (λ h. omega (arith, h)) (λ h. omega (arith, h)) f
+not_quiet f = of_failure (λ n. n ≢ 3) (λ h. omega (arith, h)) (λ h. omega (arith, h)) (λ h. omega (arith, h)) (λ h. omega (arith, h)) f
 
 pub not_cut : (f : Failure) → failure_status f ≢ 4
-not_cut f = not_failed 4 (λ h. omega (arith, h)) (λ h. omega (arith, h)) (λ h. omega (arith, h)) (λ h. omega (arith, h)) f
+not_cut f = of_failure (λ n. n ≢ 4) (λ h. omega (arith, h)) (λ h. omega (arith, h)) (λ h. omega (arith, h)) (λ h. omega (arith, h)) f

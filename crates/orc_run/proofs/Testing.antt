@@ -3,7 +3,6 @@ use Rattle.std.proofs.Common.{◌≡◌, ◌<◌, ◌∙◌, ◌++◌, ◌∷◌
 use Rattle.std.specs.Global.{Vec}
 use Rattle.std.specs.Prelude.{Bool, option_map}
 use Rattle.std.specs.List.{AllZip, slice_get}
-use Rattle.std.specs.Io.KnownBytes.{Keeps}
 use Rattle.std.proofs.KnownBytes.{Appends-nil, Keeps-refl}
 use Rattle.std.proofs.lemmas.List.{append-nil, append_assoc}
 use Rattle.std.proofs.lemmas.Option.{slice_get-get_or, slice_get-map}
@@ -14,7 +13,6 @@ use Rattle.orc_ways.specs.Drafting.{test_of}
 use Rattle.orc_ways.specs.Finishing.{Says as SaysTest}
 use Rattle.orc_ways.specs.declared.test.Test.{Test}
 use Rattle.orc_cases.specs.Ways.{CaseWays}
-use Rattle.orc_cli.specs.declared.job.Options.{Options}
 use Rattle.orc_cli.specs.declared.job.TestOptions.{TestOptions}
 use Rattle.orc_orders.specs.TrialFaults.{Breaks, IsTrialFault}
 use Rattle.orc_orders.specs.Trials.{Adds, Tells, texts}
@@ -25,9 +23,7 @@ use Rattle.orc_orders.specs.declared.ways.CaseTold.{CaseTold}
 use Rattle.orc_tally.specs.Table.{failing, rows}
 use Rattle.orc_tally.specs.declared.table.CaseReport.{CaseReport}
 use Rattle.orc_tally.specs.declared.table.Report.{Report}
-use Rattle.orc_outcome.specs.declared.end.Summary.{Summary}
-use Rattle.orc_run.specs.Running.{IsOwnOf, LeavesAtFault, Ran}
-use Rattle.orc_output.specs.declared.output.WriteFault.{WriteFault}
+use Rattle.orc_run.specs.Running.{IsOwnOf}
 use Rattle.orc_run.specs.Called.{Named}
 use Rattle.orc_run.specs.Tested.{AreScripts, AreWays, HasFailing, IsJudged, IsReport, IsTried, LeavesUntested, Writes, of_trial}
 use Rattle.orc_run.specs.Whole.{AreSaid, IsScriptAt}
@@ -37,7 +33,7 @@ use Rattle.orc_run.specs.declared.scripts.CaseScripts.{CaseScripts}
 use Rattle.orc_run.specs.declared.tests.Untested.{Untested}
 use Rattle.orc_run.specs.declared.tests.Untested.TheVariants as untested
 
--- where nothing was written the output is as it was,
+-- where nothing was written the output is as it was
 pub unwritten : (old : Option (List ℕ)) (f : Untested) → LeavesUntested old old f
 unwritten old (untested.NoFailure n) = Keeps-refl old
 unwritten old (untested.NoJournal n) = Keeps-refl old
@@ -49,21 +45,6 @@ unwritten old (untested.Fault (fault.Journal f)) = Keeps-refl old
 unwritten old (untested.Fault (fault.Check f)) = Keeps-refl old
 unwritten old (untested.Fault (fault.Engine f)) = Keeps-refl old
 unwritten old (untested.Fault (fault.Write w)) = ([], ([], [], refl, Appends-nil old))
-
--- and so it is where a run wrote nothing
-pub unrun_again : (source script : List ℕ) (o : Options) (old new : Option (List ℕ)) (f : RunFault) → LeavesAtFault source script o old new f → LeavesUntested old new (untested.Fault f)
-unrun_again source script o old new (fault.Syntax f) k = k
-unrun_again source script o old new (fault.Scope f) k = k
-unrun_again source script o old new (fault.Script f) k = k
-unrun_again source script o old new (fault.Test f) k = k
-unrun_again source script o old new (fault.Journal f) k = k
-unrun_again source script o old new (fault.Check f) k = k
-unrun_again source script o old new (fault.Engine f) k = k
-unrun_again source script o old new (fault.Write w) (l, t, outcome, says, spells, run, prefix) = (_, prefix)
-
--- a run that memory ends has written a front of what it would have written
-pub cut_written : (source script : List ℕ) (o : Options) (old new : Option (List ℕ)) (s : Summary) (w : WriteFault) → Ran source script o old new s → LeavesUntested old new (untested.Fault (fault.Write w))
-cut_written source script o old new s w (text, runs, appends) = (text, (text, [], sym (append-nil text), appends))
 
 -- what is told of no way, and then of these, is told of these
 pub all_told : (t : Trials) (vs ws : List (Vec ℕ)) (old new : CaseTold) → Tells t [] old → Adds t (texts vs) old new → vs ≡ ws → Tells t (texts ws) new

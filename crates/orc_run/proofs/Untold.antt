@@ -1,7 +1,7 @@
 -- Why nothing is told of a test: its causes, from those of its steps.
-use Rattle.std.proofs.Common.{◌≡◌, ◌≤◌, ◌<◌, ◌+◌, ◌-◌, ◌∙◌, ◌++◌, ◌∷◌, ℕ, zero, suc, List, [], Option, Some, None, Err, ap, arith, drop, get_or, inl, inr, length, refl, subst, sym, take}
+use Rattle.std.proofs.Common.{◌≡◌, ◌≤◌, ◌<◌, ◌+◌, ◌-◌, ◌∙◌, ◌++◌, ◌∷◌, ℕ, zero, suc, List, [], Some, None, Err, ap, arith, drop, get_or, inl, inr, length, refl, subst, sym, take}
 use Rattle.std.specs.Prelude.{Result, map, option_map}
-use Rattle.std.specs.List.{All, AllZip, flat_map, slice_get}
+use Rattle.std.specs.List.{All, AllZip, slice_get}
 use Rattle.std.specs.Global.{Vec}
 use Rattle.std.proofs.lemmas.List.{append_assoc, length-map, take_all}
 use Rattle.std.proofs.lemmas.List.Elements.{All-append, All-cons, All-head, All-nil, All-tail}
@@ -9,7 +9,7 @@ use Rattle.std.proofs.lemmas.Option.{slice_get-map}
 use Rattle.orc_rules.specs.Sites.{Table}
 use Rattle.orc_syntax.specs.Tree.{Source}
 use Rattle.orc_site.specs.Script.{Says}
-use Rattle.orc_load.specs.Loading.{IsLoadFault, Loads, SpellsTree}
+use Rattle.orc_load.specs.Loading.{Loads, SpellsTree}
 use Rattle.orc_load.specs.declared.fault.LoadFault.{LoadFault}
 use Rattle.orc_load.specs.declared.fault.LoadFault.TheVariants as load
 use Rattle.orc_scheduler.specs.Faults.{IsOwn}
@@ -17,14 +17,11 @@ use Rattle.orc_scheduler.specs.declared.fault.EngineFault.{EngineFault}
 use Rattle.orc_scheduler.specs.declared.fault.EngineFault.TheVariants as engine
 use Rattle.orc_engine.specs.Ranges.{IsInRange}
 use Rattle.orc_ways.specs.Drafting.{case_of, test_of}
-use Rattle.orc_ways.specs.Finishing.{Says as SaysTest}
-use Rattle.orc_ways.specs.declared.fault.TestFault.{TestFault}
 use Rattle.orc_ways.specs.declared.fault.TestFault.TheVariants as unread
 use Rattle.orc_ways.specs.declared.test.Case.{Case}
 use Rattle.orc_ways.specs.declared.test.Test.{Test}
 use Rattle.orc_ways.specs.Values.{sites_of}
 use Rattle.orc_cases.specs.Ways.{CaseWays, scripts, ways_of}
-use Rattle.orc_cli.specs.declared.job.Options.{Options}
 use Rattle.orc_cli.specs.declared.job.Shown.{Shown}
 use Rattle.orc_cli.specs.declared.job.Shown.TheVariants as shown
 use Rattle.orc_cli.specs.declared.job.TestOptions.{TestOptions}
@@ -41,11 +38,9 @@ use Rattle.orc_tally.specs.declared.table.Report.{Report}
 use Rattle.orc_tally.specs.declared.table.Row.{Row}
 use Rattle.orc_tally.specs.declared.table.Broken.{Broken}
 use Rattle.orc_tally.specs.declared.table.Counterexample.TheVariants.{Schedule}
-use Rattle.orc_tally.specs.declared.table.Shown.{Shown as Failing}
-use Rattle.orc_run.specs.Running.{IsFaultOf, IsOwnOf}
-use Rattle.orc_run.specs.Tested.{AreScripts, AreWays, IsJudged, IsTried, of_trial, options_of}
+use Rattle.orc_run.specs.Tested.{AreScripts, AreWays, IsJudged, IsTried, of_trial}
 use Rattle.orc_run.specs.Whole.{IsScriptAt}
-use Rattle.orc_run.specs.TestFaults.{all_scripts, all_texts, AreReported, AreUnshown, AreUntold, AreUntried, AreUnwritten, HasReport, HasUnloaded, IsAmong, IsCounted, IsEngineCause, IsFirstMany, IsKnown, IsNoMemory, IsNoScript, IsNoTest, IsNoText, IsToShow, IsUncounted, IsUnfound, IsUnshown, IsUntestedFor}
+use Rattle.orc_run.specs.TestFaults.{all_scripts, all_texts, AreReported, AreUnshown, AreUntold, AreUntried, AreUnwritten, HasReport, HasUnloaded, IsAmong, IsCounted, IsEngineCause, IsFirstMany, IsKnown, IsNoMemory, IsNoScript, IsNoTest, IsNoText, IsUncounted, IsUnfound, IsUnshown, IsUntestedFor}
 use Rattle.orc_run.specs.declared.faults.RunFault.{RunFault}
 use Rattle.orc_run.specs.declared.faults.RunFault.TheVariants as fault
 use Rattle.orc_run.specs.declared.scripts.CaseScripts.{CaseScripts}
@@ -243,17 +238,6 @@ again source script limit (trial.Engine f) is = engine_cause 1 limit f is.0 is.1
 pub unmade_again : (source script : List ℕ) (limit : ℕ) (f : TrialFault) (g : RunFault) → IsFaultOfWay source script limit f → g ≡ of_trial f → IsUnshown source 1 limit script (untested.Fault g)
 unmade_again source script limit f g is same = subst (λ x. IsUnshown source 1 limit script (untested.Fault x)) (sym same) (again source script limit f is)
 
--- of a run whose journal is written
-pub unrun : (source script : List ℕ) (workers limit : ℕ) (f : RunFault) → IsFaultOf source script f → (f ≡ fault.Engine engine.Range → IsInRange workers limit → ⊥) → (IsOwnOf f → ⊥) → IsUnshown source workers limit script (untested.Fault f)
-unrun source script workers limit (fault.Syntax f) is range own = is
-unrun source script workers limit (fault.Scope f) is range own = is
-unrun source script workers limit (fault.Script f) is range own = is
-unrun source script workers limit (fault.Test f) is range own = is
-unrun source script workers limit (fault.Journal f) is range own = is
-unrun source script workers limit (fault.Check f) is range own = is
-unrun source script workers limit (fault.Engine f) is range own = engine_cause workers limit f (λ e. range (ap fault.Engine e)) own
-unrun source script workers limit (fault.Write w) is range own = tt
-
 -- the place of a script among those of all cases
 listed : {X : Type 0} (xs : List X) (at : ℕ) (x : X) → slice_get xs at ≡ Some x → (front : List X) × (back : List X) × (xs ≡ front ++ x ∷ back)
 listed [] at x e = cc e
@@ -289,10 +273,6 @@ of_script source limit scripts text (untested.Fault (fault.Journal f)) there is 
 of_script source limit scripts text (untested.Fault (fault.Check f)) there is = is
 of_script source limit scripts text (untested.NoFailure n) there is = absurd is
 of_script source limit scripts text (untested.NoJournal n) there is = absurd is
-
--- and so of a run whose journal is wanted
-pub of_run : (source : List ℕ) (scripts : List (List ℕ)) (text : List ℕ) (o : Options) (p : TestOptions) (shown : Failing) (f : Untested) → o ≡ options_of p shown → IsAmong scripts text → IsUnshown source o.workers o.limit text f → AreUnshown source p.limit scripts f
-of_run source scripts text o p shown f same there is = of_script source p.limit scripts text f there (subst (λ x. IsUnshown source x.workers x.limit text f) same is)
 
 -- and isn't written
 pub unshown_unwritten : (source : List ℕ) (limit : ℕ) (scripts : List (List ℕ)) (s : Shown) (rs : List Row) (f : Untested) → AreUnshown source limit scripts f → AreUnwritten source limit scripts s rs f

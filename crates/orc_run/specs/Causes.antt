@@ -1,11 +1,12 @@
 -- Why a command line isn't done.
-use Rattle.std.specs.Prelude.{◌≡◌, ℕ, List, Option, option_map}
+use Rattle.std.specs.Prelude.{◌≡◌, ◌⊎◌, ℕ, List, Option, option_map}
 use Rattle.orc_cli.specs.declared.job.Job.{Job}
 use Rattle.orc_cli.specs.declared.job.Job.TheVariants as job
 use Rattle.orc_cli.specs.declared.job.Options.{Options}
 use Rattle.orc_cli.specs.declared.job.TestOptions.{TestOptions}
 use Rattle.orc_run.specs.Checked.{IsCheckFault}
 use Rattle.orc_run.specs.Claimed.{IsUnclaimedFor}
+use Rattle.orc_run.specs.Commands.{IsDone, LeavesUndone}
 use Rattle.orc_run.specs.Drawn.{IsRunUndrawnFor, IsUndrawnFor}
 use Rattle.orc_run.specs.Failures.{failure_status}
 use Rattle.orc_run.specs.Inputs.{IsHeld, IsRead}
@@ -45,15 +46,15 @@ IsRunUndone holds file script (failure.Fault f) = OfTwo holds file script (λ so
 IsRunUndone holds file script _ = ⊥
 
 -- the journal of an outcome
-abbrev pub HasShowCause : (List ℕ → Option (List ℕ)) → List ℕ → Option (List ℕ) → ℕ → Unshown → Type 0
-HasShowCause holds file script number u = OfTwo holds file script (λ source read. IsUnshownFor source read number u)
+abbrev pub HasShowCause : (List ℕ → Option (List ℕ)) → List ℕ → Option (List ℕ) → ℕ → ℕ → ℕ → Unshown → Type 0
+HasShowCause holds file script orders limit number u = OfTwo holds file script (λ source read. IsUnshownFor source read orders limit number u)
 
-abbrev pub IsShowUndone : (List ℕ → Option (List ℕ)) → List ℕ → Option (List ℕ) → ℕ → Failure → Type 0
-IsShowUndone holds file script number (failure.Unread path f) = Unit {0}
-IsShowUndone holds file script number (failure.Fault f) = HasShowCause holds file script number (unshown.Fault f)
-IsShowUndone holds file script number (failure.NoOutcome n) = HasShowCause holds file script number (unshown.NoOutcome n)
-IsShowUndone holds file script number (failure.NoRun n) = HasShowCause holds file script number (unshown.NoRun n)
-IsShowUndone holds file script number _ = ⊥
+abbrev pub IsShowUndone : (List ℕ → Option (List ℕ)) → List ℕ → Option (List ℕ) → ℕ → ℕ → ℕ → Failure → Type 0
+IsShowUndone holds file script orders limit number (failure.Unread path f) = Unit {0}
+IsShowUndone holds file script orders limit number (failure.Fault f) = HasShowCause holds file script orders limit number (unshown.Fault f)
+IsShowUndone holds file script orders limit number (failure.NoOutcome n) = HasShowCause holds file script orders limit number (unshown.NoOutcome n)
+IsShowUndone holds file script orders limit number (failure.NoRun n) = HasShowCause holds file script orders limit number (unshown.NoRun n)
+IsShowUndone holds file script orders limit number _ = ⊥
 
 -- a check
 abbrev pub IsCheckUndone : (List ℕ → Option (List ℕ)) → List ℕ → List ℕ → Option (List ℕ) → Failure → Type 0
@@ -111,13 +112,17 @@ abbrev pub IsUndone : (List ℕ → Option (List ℕ)) → Job → Failure → T
 IsUndone holds (job.Run file script options) f = IsRunUndone holds file.now (option_map (λ p. p.now) script) f
 IsUndone holds (job.Outcomes file script options) f = IsRunUndone holds file.now (option_map (λ p. p.now) script) f
 IsUndone holds (job.Search file script options states) f = IsRunUndone holds file.now (option_map (λ p. p.now) script) f
-IsUndone holds (job.Show file script options states number) f = IsShowUndone holds file.now (option_map (λ p. p.now) script) number f
+IsUndone holds (job.Show file script options states number) f = IsShowUndone holds file.now (option_map (λ p. p.now) script) options.orders options.limit number f
 IsUndone holds (job.Check file journal script) f = IsCheckUndone holds file.now journal.now (option_map (λ p. p.now) script) f
 IsUndone holds (job.Claims file journal script test) f = IsClaimUndone holds file.now journal.now (option_map (λ p. p.now) script) test.now f
 IsUndone holds (job.Draw file journal script options) f = IsDrawUndone holds file.now journal.now (option_map (λ p. p.now) script) f
 IsUndone holds (job.DrawRun file script run options) f = IsDrawRunUndone holds file.now (option_map (λ p. p.now) script) run f
 IsUndone holds (job.Print file) f = IsPrintUndone holds file.now f
 IsUndone holds (job.Test file test script options) f = IsTestUndone holds file.now test.now (option_map (λ p. p.now) script) options f
+
+-- a job comes to this status: it was done, and what was written and the status say what came of it; or it wasn't, and the status is that of the failure
+abbrev pub ComesTo : (List ℕ → Option (List ℕ)) → Job → Option (List ℕ) → Option (List ℕ) → ℕ → Type 0
+ComesTo holds j old new status = IsDone holds j old new status ⊎ ((f : Failure) × IsUndone holds j f × LeavesUndone f old new × (status ≡ failure_status f))
 
 -- some job isn't done, for a cause that has this status
 abbrev pub HasCause : (List ℕ → Option (List ℕ)) → ℕ → Type 0

@@ -54,7 +54,15 @@ IsUnreadTest source text script (fault.Script f) = IsUnloaded source script (fau
 IsUnreadTest source text script (fault.Test f) = ((s : Source) × SpellsTree source s) × ((others : Table) × Says script others × IsFault text others f)
 IsUnreadTest source text script _ = ⊥
 
--- why nothing is told: such a fault, or one of the check
+-- the text is a test, beside the sites that the script says
+abbrev pub IsTest : List ℕ → List ℕ → Type 0
+IsTest text script = (others : Table) × (test : Test) × Says script others × SaysTest text others (test_of test)
+
+-- why nothing is told: such a fault; or, where the text is a test, one of the source's names, of the journal's text or of one of its entries; or one of the
+-- output
 abbrev pub IsUnclaimedFor : List ℕ → List ℕ → List ℕ → List ℕ → RunFault → Type 0
 IsUnclaimedFor source text script journal (fault.Test f) = IsUnreadTest source text script (fault.Test f)
+IsUnclaimedFor source text script journal (fault.Scope f) = IsTest text script × IsCheckFault source script journal (fault.Scope f)
+IsUnclaimedFor source text script journal (fault.Journal f) = IsTest text script × IsCheckFault source script journal (fault.Journal f)
+IsUnclaimedFor source text script journal (fault.Check f) = IsTest text script × IsCheckFault source script journal (fault.Check f)
 IsUnclaimedFor source text script journal f = IsCheckFault source script journal f

@@ -5,6 +5,7 @@ pub mod Commands
 pub mod Causes
 pub mod Details
 pub mod Drawn
+pub mod FailingRuns
 pub mod Failures
 pub mod Faults
 pub mod Inputs

@@ -19,6 +19,7 @@ use Rattle.orc_schedules.specs.declared.ended.Ended.{Ended}
 use Rattle.orc_output.specs.Output.{AppendsPrefix}
 use Rattle.orc_run.specs.Running.{IsFaultOf, IsOwnOf, KeepsOr}
 use Rattle.orc_run.specs.Searched.{IsUnseen, ended_of}
+use Rattle.orc_run.specs.Surveyed.{CameTo}
 use Rattle.orc_scheduler.specs.declared.fault.EngineFault.TheVariants as engine
 use Rattle.orc_run.specs.declared.faults.RunFault.TheVariants as fault
 use Rattle.orc_run.specs.declared.shown.Unshown.{Unshown}
@@ -59,11 +60,15 @@ abbrev pub LeavesUnshown : List ℕ → List ℕ → ℕ → ℕ → ℕ → Opt
 LeavesUnshown source script orders limit number old new (unshown.Fault f) = KeepsOr ((text : List ℕ) × ShowsOutcome source script orders limit number text × AppendsPrefix old new text) old new f
 LeavesUnshown source script orders limit number old new _ = Keeps old new
 
--- why none is shown: a fault has the cause that it has of a run; the others name the number
-abbrev pub IsUnshownFor : List ℕ → List ℕ → ℕ → Unshown → Type 0
-IsUnshownFor source script number (unshown.Fault f) = IsFaultOf source script f
-IsUnshownFor source script number (unshown.NoOutcome n) = n ≡ number
-IsUnshownFor source script number (unshown.NoRun n) = n ≡ number
+-- in so many orders the source's program came to fewer outcomes than the number says
+abbrev pub HasFewer : List ℕ → List ℕ → ℕ → ℕ → ℕ → Type 0
+HasFewer source script orders limit number = (seen : List Seen) × CameTo source script orders limit seen × (length seen ≤ number - 1)
+
+-- why none is shown: a fault has the cause that it has of a run; or no order came to the outcome with this number; or no run was found that has it
+abbrev pub IsUnshownFor : List ℕ → List ℕ → ℕ → ℕ → ℕ → Unshown → Type 0
+IsUnshownFor source script orders limit number (unshown.Fault f) = IsFaultOf source script f
+IsUnshownFor source script orders limit number (unshown.NoOutcome n) = (n ≡ number) × HasFewer source script orders limit number
+IsUnshownFor source script orders limit number (unshown.NoRun n) = n ≡ number
 
 -- a fault for which the engine itself is to blame
 abbrev pub IsOwnUnshown : Unshown → Type 0
@@ -89,7 +94,13 @@ abbrev pub LeavesUnseen : Listing → Table → List Seen → Option (List ℕ) 
 LeavesUnseen l t seen old new (unshown.Fault f) = KeepsOr ((e : Ended) × IsUnseen seen e × ((text : List ℕ) × IsJournalOf l t e.end e.values.items text × AppendsPrefix old new text)) old new f
 LeavesUnseen l t seen old new _ = Keeps old new
 
--- once the program is loaded: there is no outcome with the number, or no run that has it was found, or memory was refused, or the output is at fault
+-- of a run that was played: it hasn't the outcome, or the output is at fault
+abbrev pub IsUnwrittenBy : ℕ → Unshown → Type 0
+IsUnwrittenBy number (unshown.NoRun n) = n ≡ number
+IsUnwrittenBy number (unshown.Fault (fault.Write w)) = Unit {0}
+IsUnwrittenBy number _ = ⊥
+
+-- once the program is loaded, of outcomes to which no order came: there is none with the number, or no run that has it was found, or memory was refused, or the output is at fault
 abbrev pub IsUnshownBy : ℕ → Unshown → Type 0
 IsUnshownBy number (unshown.NoOutcome n) = n ≡ number
 IsUnshownBy number (unshown.NoRun n) = n ≡ number

@@ -1,11 +1,9 @@
 -- What holding a test against a source's program does.
-use Rattle.std.specs.Prelude.{◌≡◌, ◌++◌, ℕ, suc, List, [], ◌∷◌, Bool, None, Some, length, map, slice_get, true}
+use Rattle.std.specs.Prelude.{◌≡◌, ◌++◌, ◌-◌, ℕ, suc, List, [], ◌∷◌, Bool, None, Some, cond, length, nat_eq, true}
 use Rattle.std.specs.List.{AllZip}
 use Rattle.std.specs.declared.option.Option.{Option}
-use Rattle.std.specs.declared.vec.Vec.{Vec}
 use Rattle.std.specs.Io.KnownBytes.{Keeps, Appends}
 use Rattle.orc_rules.specs.Sites.{Table}
-use Rattle.orc_outcome.specs.declared.end.Summary.{Summary}
 use Rattle.orc_site.specs.Script.{Says}
 use Rattle.orc_ways.specs.Drafting.{test_of}
 use Rattle.orc_ways.specs.Drafts.{Test as DraftedTest}
@@ -21,19 +19,17 @@ use Rattle.orc_orders.specs.declared.trials.Trials.{Trials}
 use Rattle.orc_tally.specs.Table.{case_of, failing, failure_at, rows, table, way_of}
 use Rattle.orc_tally.specs.declared.table.CaseReport.{CaseReport}
 use Rattle.orc_tally.specs.declared.table.Counterexample.{Counterexample}
-use Rattle.orc_tally.specs.declared.table.Counterexample.TheVariants as counterexample
 use Rattle.orc_tally.specs.declared.table.Report.{Report}
-use Rattle.orc_tally.specs.declared.table.Shown.{Shown as Failing}
-use Rattle.orc_cli.specs.declared.job.Options.{Options}
-use Rattle.orc_cli.specs.declared.job.Order.TheVariants as order
+use Rattle.orc_tally.specs.declared.table.Row.{Row}
+use Rattle.orc_tally.specs.declared.table.Row.TheVariants as row
 use Rattle.orc_cli.specs.declared.job.Shown.{Shown}
 use Rattle.orc_cli.specs.declared.job.Shown.TheVariants as shown
 use Rattle.orc_cli.specs.declared.job.TestOptions.{TestOptions}
-use Rattle.orc_cli.specs.declared.job.Wanted.TheVariants as wanted
 use Rattle.orc_run.specs.Called.{Named, options_text}
 use Rattle.orc_output.specs.Output.{AppendsPrefix}
 use Rattle.orc_run.specs.Details.{AreDetails}
-use Rattle.orc_run.specs.Running.{IsOwnOf, Ran, of_load, KeepsOr}
+use Rattle.orc_run.specs.FailingRuns.{HasShownFailure}
+use Rattle.orc_run.specs.Running.{IsOwnOf, of_load, KeepsOr}
 use Rattle.orc_run.specs.Whole.{AreSaid, IsScriptAt}
 use Rattle.orc_run.specs.declared.faults.RunFault.{RunFault}
 use Rattle.orc_run.specs.declared.faults.RunFault.TheVariants as fault
@@ -98,27 +94,22 @@ pub record IsReport (source text script : List ℕ) (o : TestOptions) (ways : Li
 abbrev pub IsScript : List CaseScripts → Counterexample → List ℕ → Type 0
 IsScript scripts x text = IsScriptAt scripts (case_of x) (way_of x) text
 
--- a run with that script, whose journal is wanted, in the order of the failure
-abbrev pub options_of : TestOptions → Failing → Options
-options_of o f = record { workers = 1; order = order.Numbered f.failure.order; limit = o.limit; wanted = wanted.Journal }
-
--- and one that is found for a schedule that no order showed
-abbrev pub witness_options : ℕ → Options
-witness_options limit = record { workers = 1; order = order.Fixed; limit = limit; wanted = wanted.Journal }
-
-abbrev pub options_for : TestOptions → Counterexample → Options
-options_for o (counterexample.Trial f) = options_of o f
-options_for o (counterexample.Schedule b) = witness_options o.limit
+-- the claim of the failure with this number, from 1
+abbrev pub failing_claim : ℕ → List Row → ℕ
+failing_claim n [] = 0
+failing_claim n (row.Fails c x ∷ rs) = cond (nat_eq n 1) c (failing_claim (n - 1) rs)
+failing_claim n (r ∷ rs) = failing_claim n rs
 
 -- its table, where a command line names the files so
 abbrev pub table_of : Named → TestOptions → Report → List (List ℕ) → List ℕ
 table_of names o r ds = table names.source names.test (options_text names.script o) r ds
 
--- what is written of it: its table, with the details below each failure; or the script or the journal that shows one failure
+-- what is written of it: its table, with the details below each failure; or the script of the way that shows one failure, or the journal of a run of that way
+-- in which its claim fails
 abbrev pub Writes : Trials → Bool → List CaseWays → Named → TestOptions → List CaseScripts → Report → Shown → Option (List ℕ) → Option (List ℕ) → Type 0
 Writes t explains ways names o scripts r shown.Table old new = (details : List (List ℕ)) × AreDetails t explains ways scripts 1 (rows r) details × Appends old new (table_of names o r details)
 Writes t explains ways names o scripts r (shown.Script n) old new = (x : Counterexample) × (text : List ℕ) × (failure_at n (rows r) ≡ Some x) × IsScript scripts x text × Appends old new text
-Writes t explains ways names o scripts r (shown.Journal n) old new = (x : Counterexample) × (text : List ℕ) × (s : Summary) × (failure_at n (rows r) ≡ Some x) × IsScript scripts x text × Ran t.source.now text (options_for o x) old new s
+Writes t explains ways names o scripts r (shown.Journal n) old new = (x : Counterexample) × (script : List ℕ) × (failure_at n (rows r) ≡ Some x) × IsScript scripts x script × HasShownFailure t script (failing_claim n (rows r)) old new
 
 -- so many claims of the test fail, and that was written, with what explains it where that is asked for
 abbrev pub HasFailing : List ℕ → List ℕ → List ℕ → Named → TestOptions → Bool → Option (List ℕ) → Option (List ℕ) → ℕ → Type 0

@@ -4,7 +4,7 @@ ghost use Rattle.std.specs.Prelude.{◌≡◌, ◌≢◌, ◌<◌, ◌⊎◌, �
 ghost use Rattle.std.specs.Io.KnownBytes.{Keeps};
 ghost use Rattle.orc_outcome.specs.declared.end.End.TheVariants as ends;
 ghost use Rattle.orc_run.specs.Inputs.{IsHeld, IsRead};
-ghost use Rattle.orc_run.specs.Causes.{HasCause, IsCheckUndone, IsClaimUndone, IsDrawRunUndone, IsDrawUndone, IsPrintUndone, IsRunUndone, IsShowUndone, IsTestUndone, IsUndone};
+ghost use Rattle.orc_run.specs.Causes.{ComesTo, HasCause, IsCheckUndone, IsClaimUndone, IsDrawRunUndone, IsDrawUndone, IsPrintUndone, IsRunUndone, IsShowUndone, IsTestUndone, IsUndone};
 ghost use Rattle.orc_run.specs.Commands.{HasDrawn, HasDrawnRun, HasEnded, HasHeld, HasJudged, HasPrinted, HasRun, HasShownOf, HasTested, HasTold, HasToldAll, IsDone, IsUnread, LeavesUndone, TellsNotAll, TellsOfFailures, WasCut};
 
 use crate::call::Names;
@@ -68,7 +68,7 @@ fn read<'a, F: Files>(path: &'a str, files: &mut F) -> Result<Vec<u8>, Failure<'
 }
 
 // The bytes of a script, none where there is no script.
-fn read_script<'a, F: Files>(
+fn read_script_text<'a, F: Files>(
     alloc: Global,
     path: Option<&'a str>,
     files: &mut F,
@@ -99,23 +99,23 @@ fn run_file<'a, R: Threads + Wait + Sync, F: Files, W: Write>(
     ensures cause { IfErr result (IsRunUndone (F.holds files.old) file.now (option_map (λ p. p.now) script.entry)) }
 {
     let source = read(file, files)?;
-    let answers = read_script(alloc, script, files)?;
+    let script_text = read_script_text(alloc, script, files)?;
     match run_source(
         rt,
         alloc,
         source.as_slice(),
-        answers.as_slice(),
+        script_text.as_slice(),
         options,
         explained.is_asked(),
         out,
     ) {
         Ok((loaded, played)) => {
-            let subject = subject_of(file, source.as_slice(), script, answers.as_slice());
+            let subject = subject_of(file, source.as_slice(), script, script_text.as_slice());
             explained.ended(alloc, &subject, &loaded, &played);
             Ok(played.summary.end.status())
         }
         Err(fault) => {
-            let subject = subject_of(file, source.as_slice(), script, answers.as_slice());
+            let subject = subject_of(file, source.as_slice(), script, script_text.as_slice());
             explained.fault(alloc, &subject, fault);
             Err(Failure::Fault(fault))
         }
@@ -139,18 +139,18 @@ fn survey_file<'a, R: Threads + Sync, F: Files, W: Write>(
     ensures cause { IfErr result (IsRunUndone (F.holds files.old) file.now (option_map (λ p. p.now) script.entry)) }
 {
     let source = read(file, files)?;
-    let answers = read_script(alloc, script, files)?;
+    let script_text = read_script_text(alloc, script, files)?;
     match survey_text(
         rt,
         alloc,
         source.as_slice(),
-        answers.as_slice(),
+        script_text.as_slice(),
         options,
         out,
     ) {
         Ok(()) => Ok(0),
         Err(fault) => {
-            let subject = subject_of(file, source.as_slice(), script, answers.as_slice());
+            let subject = subject_of(file, source.as_slice(), script, script_text.as_slice());
             explained.fault(alloc, &subject, fault);
             Err(Failure::Fault(fault))
         }
@@ -182,19 +182,19 @@ fn search_file<'a, R: Threads + Sync, F: Files, W: Write>(
     ensures cause { IfErr result (IsRunUndone (F.holds files.old) file.now (option_map (λ p. p.now) script.entry)) }
 {
     let source = read(file, files)?;
-    let answers = read_script(alloc, script, files)?;
+    let script_text = read_script_text(alloc, script, files)?;
     match search_text(
         rt,
         alloc,
         source.as_slice(),
-        answers.as_slice(),
+        script_text.as_slice(),
         options,
         states,
         out,
     ) {
         Ok(all) => Ok(search_status(all)),
         Err(fault) => {
-            let subject = subject_of(file, source.as_slice(), script, answers.as_slice());
+            let subject = subject_of(file, source.as_slice(), script, script_text.as_slice());
             explained.fault(alloc, &subject, fault);
             Err(Failure::Fault(fault))
         }
@@ -217,15 +217,15 @@ fn show_file<'a, R: Threads + Sync, F: Files, W: Write>(
 ) -> Result<u8, Failure<'a>>
     ensures done { IfOk result (HasShownOf (F.holds files.old) file.now (option_map (λ p. p.now) script.entry) options.now.orders options.now.limit number (W.contents out.old) (W.contents out.new)) }
     ensures undone { IfErr result (λ f. LeavesUndone f (W.contents out.old) (W.contents out.new)) }
-    ensures cause { IfErr result (IsShowUndone (F.holds files.old) file.now (option_map (λ p. p.now) script.entry) number) }
+    ensures cause { IfErr result (IsShowUndone (F.holds files.old) file.now (option_map (λ p. p.now) script.entry) options.now.orders options.now.limit number) }
 {
     let source = read(file, files)?;
-    let answers = read_script(alloc, script, files)?;
+    let script_text = read_script_text(alloc, script, files)?;
     match show_text(
         rt,
         alloc,
         source.as_slice(),
-        answers.as_slice(),
+        script_text.as_slice(),
         options,
         states,
         number,
@@ -233,7 +233,7 @@ fn show_file<'a, R: Threads + Sync, F: Files, W: Write>(
     ) {
         Ok(()) => Ok(0),
         Err(Unshown::Fault(fault)) => {
-            let subject = subject_of(file, source.as_slice(), script, answers.as_slice());
+            let subject = subject_of(file, source.as_slice(), script, script_text.as_slice());
             explained.fault(alloc, &subject, fault);
             Err(Failure::Fault(fault))
         }
@@ -264,8 +264,14 @@ fn check_file<'a, F: Files, W: Write>(
             Ok(reader) => reader,
             Err(fault) => return Err(Failure::Unread(journal, fault)),
         };
-        let answers = read_script(alloc, script, files)?;
-        return match check_read(alloc, source.as_slice(), answers.as_slice(), reader, out) {
+        let script_text = read_script_text(alloc, script, files)?;
+        return match check_read(
+            alloc,
+            source.as_slice(),
+            script_text.as_slice(),
+            reader,
+            out,
+        ) {
             Ok(()) => Ok(0),
             Err(Unchecked::Fault(fault)) => Err(Failure::Fault(fault)),
             // No explanation is asked for, and nothing else tells the cause.
@@ -275,11 +281,11 @@ fn check_file<'a, F: Files, W: Write>(
         };
     }
     let lines = read(journal, files)?;
-    let answers = read_script(alloc, script, files)?;
+    let script_text = read_script_text(alloc, script, files)?;
     match check_text(
         alloc,
         source.as_slice(),
-        answers.as_slice(),
+        script_text.as_slice(),
         lines.as_slice(),
         out,
     ) {
@@ -290,7 +296,7 @@ fn check_file<'a, F: Files, W: Write>(
                 file,
                 source.as_slice(),
                 script,
-                answers.as_slice(),
+                script_text.as_slice(),
                 journal,
                 lines,
             );
@@ -326,12 +332,12 @@ fn claims_file<'a, F: Files, W: Write>(
     let source = read(file, files)?;
     let lines = read(journal, files)?;
     let claims = read(test, files)?;
-    let answers = read_script(alloc, script, files)?;
+    let script_text = read_script_text(alloc, script, files)?;
     match claims_text(
         alloc,
         source.as_slice(),
         claims.as_slice(),
-        answers.as_slice(),
+        script_text.as_slice(),
         lines.as_slice(),
         out,
     ) {
@@ -341,7 +347,7 @@ fn claims_file<'a, F: Files, W: Write>(
                 name: title_of(test),
                 text: claims.as_slice(),
             };
-            explained.test(alloc, &document, answers.as_slice(), fault);
+            explained.test(alloc, &document, script_text.as_slice(), fault);
             Err(Failure::Fault(RunFault::Test(fault)))
         }
         Err(fault) => {
@@ -350,7 +356,7 @@ fn claims_file<'a, F: Files, W: Write>(
                 file,
                 source.as_slice(),
                 script,
-                answers.as_slice(),
+                script_text.as_slice(),
                 journal,
                 lines,
             );
@@ -384,12 +390,12 @@ fn draw_file<'a, F: Files, W: Write>(
 {
     let source = read(file, files)?;
     let text = read(journal, files)?;
-    let answers = read_script(alloc, script, files)?;
+    let script_text = read_script_text(alloc, script, files)?;
     match draw_text(
         alloc,
         name_of(file),
         source.as_slice(),
-        answers.as_slice(),
+        script_text.as_slice(),
         text.as_slice(),
         options,
         out,
@@ -401,7 +407,7 @@ fn draw_file<'a, F: Files, W: Write>(
                 file,
                 source.as_slice(),
                 script,
-                answers.as_slice(),
+                script_text.as_slice(),
                 journal,
                 text,
             );
@@ -430,20 +436,20 @@ fn draw_run_of<'a, R: Threads + Wait + Sync, F: Files, W: Write>(
     ensures cause { IfErr result (IsDrawRunUndone (F.holds files.old) file.now (option_map (λ p. p.now) script.entry) run.now) }
 {
     let source = read(file, files)?;
-    let answers = read_script(alloc, script, files)?;
+    let script_text = read_script_text(alloc, script, files)?;
     match draw_run(
         rt,
         alloc,
         name_of(file),
         source.as_slice(),
-        answers.as_slice(),
+        script_text.as_slice(),
         run,
         options,
         out,
     ) {
         Ok(()) => Ok(0),
         Err(Undrawn::Fault(fault)) => {
-            let subject = subject_of(file, source.as_slice(), script, answers.as_slice());
+            let subject = subject_of(file, source.as_slice(), script, script_text.as_slice());
             explained.fault(alloc, &subject, fault);
             Err(Failure::Fault(fault))
         }
@@ -477,7 +483,7 @@ fn print_file<'a, F: Files, W: Write>(
 
 // Holds the claims of a test against the program of a file: the status says whether all hold.
 #[tactic(auto, using(crate::proofs::Statuses::unread, crate::proofs::Causing::unread_test, crate::proofs::Statuses::cut_or_kept))]
-fn test_file<'a, R: Threads + Wait + Sync, F: Files, W: Write>(
+fn test_file<'a, R: Threads + Sync, F: Files, W: Write>(
     rt: &R,
     alloc: Global,
     file: &'a str,
@@ -494,7 +500,7 @@ fn test_file<'a, R: Threads + Wait + Sync, F: Files, W: Write>(
 {
     let source = read(file, files)?;
     let claims = read(test, files)?;
-    let answers = read_script(alloc, script, files)?;
+    let script_text = read_script_text(alloc, script, files)?;
     let names = Names {
         source: file,
         test,
@@ -506,7 +512,7 @@ fn test_file<'a, R: Threads + Wait + Sync, F: Files, W: Write>(
         &names,
         source.as_slice(),
         claims.as_slice(),
-        answers.as_slice(),
+        script_text.as_slice(),
         options,
         out,
         explained,
@@ -517,11 +523,11 @@ fn test_file<'a, R: Threads + Wait + Sync, F: Files, W: Write>(
                 name: title_of(test),
                 text: claims.as_slice(),
             };
-            explained.test(alloc, &document, answers.as_slice(), fault);
+            explained.test(alloc, &document, script_text.as_slice(), fault);
             Err(Failure::Fault(RunFault::Test(fault)))
         }
         Err(Untested::Fault(fault)) => {
-            let subject = subject_of(file, source.as_slice(), script, answers.as_slice());
+            let subject = subject_of(file, source.as_slice(), script, script_text.as_slice());
             explained.fault(alloc, &subject, fault);
             Err(Failure::Fault(fault))
         }
@@ -608,15 +614,49 @@ fn do_job<'a, R: Threads + Wait + Sync, F: Files, W: Write>(
     }
 }
 
-/// Does one command line, whose first word is the program's name, and gives the process's status.
+/// Does what a command line asks for, and gives the process's status.
 ///
 /// FILE, JOURNAL, TEST and the script are read in this order, before anything else; but where no explanation is asked for, a JOURNAL that is to be
 /// checked is only opened then, and read while it is checked. Standard output is `out`, standard error `err`; what standard error doesn't
-/// take changes no status. Where the status says that a file's text, the command line or the engine was at
+/// take changes no status. Either the job was done, and both what was written and the status say what came of it; or it wasn't, and the status is that of
+/// the failure. Then nothing was written to standard output, unless that was at fault itself.
+pub fn perform<R, F, W, V>(
+    rt: &R,
+    alloc: Global,
+    asked: Asked<'_>,
+    files: &mut F,
+    out: &mut W,
+    err: &mut V,
+) -> u8
+where
+    R: Threads + Wait + Sync,
+    F: Files,
+    W: Write,
+    V: Write,
+    ensures { ComesTo (F.holds files.old) asked.entry.job (W.contents out.old) (W.contents out.new) result }
+{
+    let Asked { job, explain } = asked;
+    let mut explained = Explained::new(explain);
+    match do_job(rt, alloc, job, files, out, &mut explained) {
+        Ok(status) => {
+            let _ = explained.write(err);
+            status
+        }
+        Err(failure) => {
+            explained.failure(alloc, &failure);
+            let _ = report(err, &failure, &explained);
+            failure.status()
+        }
+    }
+}
+
+/// Does one command line, whose first word is the program's name, and gives the process's status.
+///
+/// What a command line asks for is done as [`perform`] does it. Where the status says that a file's text, the command line or the engine was at
 /// fault, nothing was written to standard output. Where it says that a run ended quiet, or was cut by its limit or one of the
 /// engine's, the whole text of a run that ended so was; but that of a cut run is also the status of a search that doesn't say all, whose whole text
 /// was written then.
-#[tactic(auto, using(crate::proofs::Statuses::kept, crate::proofs::Statuses::untouched, crate::proofs::Statuses::faultless, crate::proofs::Statuses::ended_quiet, crate::proofs::Statuses::not_quiet, crate::proofs::Statuses::not_cut))]
+#[tactic(auto, using(crate::proofs::Coming::below_eight, crate::proofs::Coming::kept_at_two, crate::proofs::Coming::kept_at_seven, crate::proofs::Coming::failed_or_kept, crate::proofs::Coming::ended_quiet, crate::proofs::Coming::ended_cut))]
 pub fn command<R, S, F, W, V>(
     rt: &R,
     alloc: Global,
@@ -642,20 +682,8 @@ where
         Err(error) => return refuse(&clap::Error::from(error), out, err),
         Ok(ranges) => ranges,
     };
-    let Asked { job, explain } = match read_words(alloc, words, &ranges) {
-        Err(error) => return refuse(&error, out, err),
-        Ok(asked) => asked,
-    };
-    let mut explained = Explained::new(explain);
-    match do_job(rt, alloc, job, files, out, &mut explained) {
-        Ok(status) => {
-            let _ = explained.write(err);
-            status
-        }
-        Err(failure) => {
-            explained.failure(alloc, &failure);
-            let _ = report(err, &failure, &explained);
-            failure.status()
-        }
+    match read_words(alloc, words, &ranges) {
+        Err(error) => refuse(&error, out, err),
+        Ok(asked) => perform(rt, alloc, asked, files, out, err),
     }
 }

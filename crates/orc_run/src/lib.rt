@@ -8,6 +8,7 @@ mod commands;
 mod counterexample;
 mod details;
 mod explained;
+mod failing_run;
 mod failing_ways;
 mod failures;
 mod faults;
@@ -29,13 +30,15 @@ mod witness;
 
 pub use call::Names;
 pub use claims::claims_text;
-pub use commands::command;
+pub use commands::{command, perform};
 pub use explained::Explained;
 pub use failures::{Failure, report};
 pub use faults::RunFault;
 pub use inputs::{Files, ReadFault};
 pub use judge::{Unchecked, check_read, check_text};
-pub use orc_cli::{Options, Order, STANDARD_INPUT, Shown, SurveyOptions, TestOptions, Wanted};
+pub use orc_cli::{
+    Asked, Job, Options, Order, STANDARD_INPUT, Shown, SurveyOptions, TestOptions, Wanted,
+};
 pub use orc_explain_fault::Unread;
 pub use orc_outcome::{End, Summary};
 pub use orc_output::{WriteFault, write_text};

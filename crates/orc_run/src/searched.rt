@@ -1,44 +1,31 @@
 //! The search through all schedules of the ways in which a test's claims held.
 
-ghost use Rattle.std.specs.Prelude.{◌≡◌, ◌⊎◌, IfErr, IfOk, IfSome, OnOk, Some, false, suc, true};
-ghost use Rattle.std.specs.Io.KnownBytes.{Keeps};
+ghost use Rattle.std.specs.Prelude.{◌≡◌, ◌⊎◌, IfOk, IfSome, OnOk, Some, false, suc, true};
 ghost use Rattle.std.specs.List.{slice_get};
 ghost use Rattle.orc_claims.specs.declared.claim.Claim.{Claim as AClaim};
-ghost use Rattle.orc_outcome.specs.Outcome.{IsPlayed};
-ghost use Rattle.orc_outcome.specs.declared.end.Summary.{Summary};
 ghost use Rattle.orc_schedules.specs.Claimed.{IsClaimSearched};
 ghost use Rattle.orc_tally.specs.Table.{are_full, section_of};
 ghost use Rattle.orc_run.specs.Details.{IsSighted};
-ghost use Rattle.orc_run.specs.Running.{Ran};
-ghost use Rattle.orc_run.specs.Tested.{IsOwnFault, LeavesUntested, witness_options};
-ghost use Rattle.orc_run.specs.TestFaults.{IsUnshown};
 ghost use Rattle.orc_run.specs.Whole.{AreAfter, AreSaid, AreSoFar, Explores, IsAfter, IsUnwanted, IsWay, said_of};
 
-use crate::faults::RunFault;
-use crate::runner::write_run;
 use crate::scripts::CaseScripts;
-use crate::shown::PLACES_A_STATE;
-use crate::tests::{NO_MEMORY, Untested};
-use crate::witness::{Sighting, witness};
 use orc_claims::claim::Claim;
-use orc_cli::Wanted;
 use orc_load::{Loaded, load};
 use orc_orders::{Trials, claim_sites};
-use orc_outcome::Played;
 use orc_schedules::{ClaimSearched, Explorer, Seen, Watch, search_claim};
 use orc_tally::{Broken, CaseReport, ClaimSite, Searched, is_held, is_open};
 use orc_ways::test::Test;
 use std::alloc::{AllocError, Global};
-use std::io::Write;
 
 /// All searches of a command look at so many times as many states as one of them may.
 const SEARCHES: u64 = 20;
 
 /// A way whose program is loaded.
-struct Way<'w> {
-    script: &'w [u8],
-    loaded: Loaded,
-    sites: Vec<ClaimSite>,
+pub(crate) struct Way<'w> {
+    pub(crate) script: &'w [u8],
+    pub(crate) loaded: Loaded,
+    /// The sites that claims name, by their numbers in the program's table.
+    pub(crate) sites: Vec<ClaimSite>,
 }
 
 impl Drop for Way<'_> {
@@ -52,8 +39,12 @@ impl Drop for Way<'_> {
 }
 
 impl<'w> Way<'w> {
-    // The way of a script. Runs of it were made before, so the error is refused memory.
-    fn load(alloc: Global, trials: &Trials<'_, '_>, script: &'w [u8]) -> Result<Way<'w>, AllocError>
+    /// The way of a script. Runs of it were made before, so the error is refused memory.
+    pub(crate) fn load(
+        alloc: Global,
+        trials: &Trials<'_, '_>,
+        script: &'w [u8],
+    ) -> Result<Way<'w>, AllocError>
         ensures way { IfOk result (IsWay trials.now) }
         ensures script { IfOk result (λ w. w.script.now ≡ script.now) }
     {
@@ -85,8 +76,8 @@ impl<'w> Way<'w> {
         Ok(found)
     }
 
-    // The same by a search alone.
-    fn search(
+    /// The same by a search alone.
+    pub(crate) fn search(
         &self,
         alloc: Global,
         claim: &Claim,
@@ -392,69 +383,5 @@ impl Searcher<'_, '_> {
             })),
             _ => Ok(None),
         }
-    }
-}
-
-// A run that breaks a claim, in a way: a search says what the claim sees of it, and then it is looked for. None where none is found. The error is refused
-// memory.
-fn witness_in(
-    alloc: Global,
-    way: &Way<'_>,
-    claim: &Claim,
-    most: usize,
-    limit: u64,
-) -> Result<Option<Played>, AllocError>
-    ensures { IfOk result (λ found. IfSome found (λ p. IsPlayed way.now.loaded.program way.now.loaded.answers limit p.summary p.published.items p.journal)) }
-{
-    let ClaimSearched::Fails(seen) = way.search(alloc, claim, most, limit)? else {
-        return Ok(None);
-    };
-    let Some(watch) = Watch::of_claim(alloc, claim)? else {
-        return Ok(None);
-    };
-    let sighting = Sighting {
-        watch: &watch,
-        sites: way.sites.as_slice(),
-        seen: &seen,
-    };
-    let places = most.saturating_mul(PLACES_A_STATE);
-    witness(alloc, &way.loaded, &sighting, places, limit)
-}
-
-/// Writes the journal of a run that breaks a claim, in the way of this script: whether one was found. It searches through so many states at most, and a run has
-/// at most `limit` entries. Where none was found, nothing is written.
-pub(crate) fn write_witness<W: Write>(
-    alloc: Global,
-    trials: &Trials<'_, '_>,
-    most: u64,
-    limit: u64,
-    script: &[u8],
-    claim: usize,
-    out: &mut W,
-) -> Result<bool, Untested>
-    ensures found { IfOk result (λ found. found ≡ true → (s : Summary) × Ran trials.now.source.now script.now (witness_options limit) (W.contents out.old) (W.contents out.new) s) }
-    ensures none { IfOk result (λ found. found ≡ false → Keeps (W.contents out.old) (W.contents out.new)) }
-    ensures err { IfErr result (LeavesUntested (W.contents out.old) (W.contents out.new)) }
-    ensures cause { IfErr result (IsUnshown trials.now.source.now 1 limit script.now) }
-    ensures sound { IfErr result (λ f. IsOwnFault f → ⊥) }
-{
-    let Some(claim) = trials.claims.get(claim) else {
-        return Ok(false);
-    };
-    let Ok(way) = Way::load(alloc, trials, script) else {
-        return Err(NO_MEMORY);
-    };
-    let Ok(found) = witness_in(alloc, &way, claim, most as usize, limit) else {
-        return Err(NO_MEMORY);
-    };
-    let Some(played) = found else {
-        return Ok(false);
-    };
-    if played.journal.is_none() {
-        return Ok(false);
-    }
-    match write_run(alloc, &way.loaded.answers, &played, Wanted::Journal, out) {
-        Ok(()) => Ok(true),
-        Err(fault) => Err(Untested::Fault(RunFault::Write(fault))),
     }
 }

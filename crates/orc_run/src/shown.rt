@@ -7,7 +7,7 @@ ghost use Rattle.orc_rules.specs.Nodes.{definitions, source};
 ghost use Rattle.orc_rules.specs.Program.{IsProgram};
 ghost use Rattle.orc_run.specs.Running.{IsOther, IsOwnOf};
 ghost use Rattle.orc_run.specs.Searched.{IsUnseen};
-ghost use Rattle.orc_run.specs.Shown.{HasShown, HasWritten, IsOwnUnshown, IsUnshownBy, IsUnshownFor, LeavesUnseen, LeavesUnshown, LeavesUnwritten, WritesUnseen};
+ghost use Rattle.orc_run.specs.Shown.{HasShown, HasWritten, IsOwnUnshown, IsUnshownBy, IsUnshownFor, IsUnwrittenBy, LeavesUnseen, LeavesUnshown, LeavesUnwritten, WritesUnseen};
 
 use crate::faults::RunFault;
 use crate::outcomes::{found_of, surveyed};
@@ -126,7 +126,7 @@ fn write_shown<W: Write>(
 ) -> Result<(), Unshown>
     ensures ok { OnOk result (HasWritten loaded.now.program loaded.now.answers played.now outcome.entry.end outcome.entry.values.now (W.contents out.old) (W.contents out.new)) }
     ensures err { IfErr result (LeavesUnwritten loaded.now.program loaded.now.answers played.now outcome.entry.end outcome.entry.values.now (W.contents out.old) (W.contents out.new)) }
-    ensures cause { IfErr result (IsUnshownBy number) }
+    ensures cause { IfErr result (IsUnwrittenBy number) }
 {
     if !has(played, outcome) {
         return Err(Unshown::NoRun(number));
@@ -159,6 +159,7 @@ fn run_in_order(alloc: Global, loaded: &Loaded, order: u64, limit: u64) -> Resul
 }
 
 // Writes the journal of a run that has an outcome to which no order came: the one at this place among those that a search finds.
+#[tactic(auto, using(crate::proofs::Showing::unwritten_unshown))]
 fn show_unseen<W: Write>(
     alloc: Global,
     loaded: &Loaded,
@@ -199,6 +200,7 @@ fn show_unseen<W: Write>(
 ///
 /// The faults are those of `survey_text`; `Engine` comes also where memory is refused to a search. Without a fault there may be no outcome with this number, or
 /// no run may be found that has it. Nothing is written then, but at a fault of the output a prefix of the journal's text.
+#[tactic(auto, using(crate::proofs::Showing::unwritten_for))]
 pub fn show_text<R: Threads + Sync, W: Write>(
     rt: &R,
     alloc: Global,
@@ -211,7 +213,7 @@ pub fn show_text<R: Threads + Sync, W: Write>(
 ) -> Result<(), Unshown>
     ensures shown { OnOk result (HasShown source.now script.now options.now.orders options.now.limit number (W.contents out.old) (W.contents out.new)) }
     ensures fault { IfErr result (LeavesUnshown source.now script.now options.now.orders options.now.limit number (W.contents out.old) (W.contents out.new)) }
-    ensures cause { IfErr result (IsUnshownFor source.now script.now number) }
+    ensures cause { IfErr result (IsUnshownFor source.now script.now options.now.orders options.now.limit number) }
     ensures range { IfErr result (λ u. u ≡ Unshown.Fault (RunFault.Engine EngineFault.Range) → IsInRange options.now.workers options.now.limit → ⊥) }
     ensures sound { IfErr result (λ u. IsOwnUnshown u → ⊥) }
 {

@@ -3,12 +3,10 @@
 ghost use Rattle.std.specs.Prelude.{◌≡◌, List, ℕ, Some, IfOk, IfErr, OnOk, length};
 ghost use Rattle.std.specs.List.{AllZip};
 ghost use Rattle.std.specs.Io.KnownBytes.{Appends};
-ghost use Rattle.orc_outcome.specs.declared.end.Summary.{Summary};
 ghost use Rattle.orc_tally.specs.Table.{failing, failure_at, rows as rows_of};
 ghost use Rattle.orc_tally.specs.declared.table.Report.{Report};
 ghost use Rattle.orc_tally.specs.declared.table.Counterexample.{Counterexample as Example};
 ghost use Rattle.orc_tally.specs.declared.table.Counterexample.TheVariants as example;
-ghost use Rattle.orc_tally.specs.declared.table.Shown.{Shown as Failing};
 ghost use Rattle.orc_rules.specs.Sites.{Table};
 ghost use Rattle.orc_site.specs.Script.{Says};
 ghost use Rattle.orc_syntax.specs.Tree.{Source};
@@ -18,42 +16,38 @@ ghost use Rattle.orc_ways.specs.Drafting.{test_of};
 ghost use Rattle.orc_ways.specs.declared.test.Test.{Test as ATest};
 ghost use Rattle.orc_ways.specs.Finishing.{Says as SaysTest};
 ghost use Rattle.orc_cli.specs.declared.job.Shown.TheVariants as what;
-ghost use Rattle.orc_run.specs.Running.{Ran};
 ghost use Rattle.orc_run.specs.Whole.{AreSaid};
 ghost use Rattle.orc_run.specs.Called.{named_of};
 ghost use Rattle.orc_run.specs.Details.{AreDetails};
+ghost use Rattle.orc_run.specs.FailingRuns.{HasShownFailure};
 ghost use Rattle.orc_run.specs.Failures.{is_asked};
-ghost use Rattle.orc_run.specs.Tested.{AreWays, HasFailing, IsJudged, IsOwnFault, IsScript, IsTried, LeavesUntested, Writes, of_trial, options_for, options_of, table_of, witness_options};
+ghost use Rattle.orc_run.specs.Tested.{AreWays, HasFailing, IsJudged, IsOwnFault, IsScript, IsTried, LeavesUntested, Writes, failing_claim, of_trial, table_of};
 ghost use Rattle.orc_run.specs.TestFaults.{all_texts, AreUnshown, AreUntold, AreUntried, AreUnwritten, IsNoMemory, IsNoScript, IsNoTest, IsNoText, IsUnfound, IsUnshown, IsUntestedFor};
 
 use crate::asked::services_never_asked;
 use crate::call::{Names, options_text};
 use crate::explained::Explained;
+use crate::failing_run::{write_in_order, write_witness};
 use crate::faults::RunFault;
-use crate::runner::run_source;
 use crate::scripts::{CaseScripts, all_scripts, script_at, ways_of};
-use crate::searched::{Searcher, write_witness};
+use crate::searched::Searcher;
 use crate::unanswered::calls_never_answered;
 use orc_cases::Ways;
 use orc_claims::claim::{Claim, Plain};
-use orc_cli::{Options, Order, Shown, TestOptions, Wanted};
+use orc_cli::{Shown, TestOptions};
 use orc_engine::EngineFault;
 use orc_orders::{CaseTold, TrialFault, Trials, try_ways};
-use orc_outcome::End;
 use orc_output::{WriteFault, write_text};
 use orc_report::Page;
 use orc_rules::answers::Answers;
 use orc_site::read_script;
 use orc_syntax::parse;
-use orc_tally::{
-    Call, CaseReport, Counterexample, Report, Row, Searched, Shown as Failing, failing, failure_at,
-};
+use orc_tally::{Call, CaseReport, Counterexample, Report, Row, Searched, failing, failure_at};
 use orc_ways::fault::TestFault;
 use orc_ways::read_test;
 use orc_ways::test::Test;
 use std::alloc::{AllocError, Global};
 use std::io::Write;
-use std::sync::Wait;
 use std::thread::Threads;
 
 /// Why nothing is told of a test.
@@ -125,14 +119,14 @@ impl<R: Threads + Sync> Tester<'_, '_, R> {
         }
         let CaseTold {
             ways: tried,
-            told,
+            told: claims,
             cut,
         } = told;
         Ok(CaseReport {
             ways: scripts.count,
             tried,
             cut,
-            told,
+            told: claims,
         })
     }
 
@@ -198,33 +192,29 @@ fn write_whole<W: Write>(out: &mut W, text: &[u8]) -> Result<(), Untested>
     }
 }
 
-// The claim that fails, of the failure with this number.
-fn failing_claim(rows: &[Row], number: u64) -> usize {
-    let mut left = number;
-    for row in rows {
-        if let Row::Fails(claim, _) = row {
-            if left <= 1 {
-                return *claim;
+// The claim that fails, of the failure with this number, from 1.
+fn failing_claim(rows: &[Row], number: u64) -> usize
+    ensures { result ≡ failing_claim number rows.now }
+{
+    let mut number = number;
+    let mut rest = rows;
+    loop {
+        match rest {
+            [] => return 0,
+            [row, more @ ..] => {
+                if let Row::Fails(claim, _) = row {
+                    if number == 1 {
+                        return *claim;
+                    }
+                    number = number.saturating_sub(1);
+                }
+                rest = more;
             }
-            left -= 1;
         }
     }
-    0
 }
 
-// How the run is made that shows a failure, to write its journal.
-fn options_of(options: &TestOptions, shown: Failing) -> Options
-    ensures { result ≡ options_of options.now shown }
-{
-    Options {
-        workers: 1,
-        order: Order::Numbered(shown.failure.order),
-        limit: options.limit,
-        wanted: Wanted::Journal,
-    }
-}
-
-impl<R: Threads + Wait + Sync> Tester<'_, '_, R> {
+impl<R: Threads + Sync> Tester<'_, '_, R> {
     // Writes the table of a test.
     #[tactic(auto, using(crate::proofs::Testing::unwritten, crate::proofs::Untold::texts_unshown))]
     fn write_table<W: Write>(
@@ -257,39 +247,6 @@ impl<R: Threads + Wait + Sync> Tester<'_, '_, R> {
         write_whole(out, text.as_slice())
     }
 
-    // Writes the journal of a run that shows a failure.
-    #[tactic(auto, using(crate::proofs::Testing::unrun_again, crate::proofs::Testing::cut_written, crate::proofs::Untold::unrun))]
-    fn write_run<W: Write>(
-        &self,
-        script: &[u8],
-        options: &Options,
-        out: &mut W,
-    ) -> Result<(), Untested>
-        ensures ok { OnOk result ((s : Summary) × Ran self.now.trials.now.source.now script.now options.now (W.contents out.old) (W.contents out.new) s) }
-        ensures err { IfErr result (LeavesUntested (W.contents out.old) (W.contents out.new)) }
-        ensures cause { IfErr result (IsUnshown self.now.trials.now.source.now options.now.workers options.now.limit script.now) }
-        ensures sound { IfErr result (λ f. IsOwnFault f → ⊥) }
-    {
-        match run_source(
-            self.rt,
-            self.alloc,
-            self.trials.source,
-            script,
-            options,
-            false,
-            out,
-        ) {
-            Ok((_loaded, played)) => {
-                // Memory was refused in the run, and so for the rest of its journal.
-                if played.summary.end == End::Memory {
-                    return Err(NO_TEXT);
-                }
-                Ok(())
-            }
-            Err(fault) => Err(Untested::Fault(fault)),
-        }
-    }
-
     // Writes the script that shows the failure with this number.
     #[tactic(auto, using(crate::proofs::Testing::unwritten, crate::proofs::Untold::texts_unshown, crate::proofs::Untold::unshown_unwritten))]
     fn write_script<W: Write>(
@@ -318,16 +275,14 @@ impl<R: Threads + Wait + Sync> Tester<'_, '_, R> {
         script: &[u8],
         claim: usize,
         number: u64,
-        limit: u64,
         out: &mut W,
     ) -> Result<(), Untested>
-        ensures ok { OnOk result ((s : Summary) × Ran self.now.trials.now.source.now script.now (witness_options limit) (W.contents out.old) (W.contents out.new) s) }
+        ensures ok { OnOk result (HasShownFailure self.now.trials.now script.now claim (W.contents out.old) (W.contents out.new)) }
         ensures err { IfErr result (LeavesUntested (W.contents out.old) (W.contents out.new)) }
-        ensures cause { IfErr result (IsUnfound self.now.trials.now.source.now limit script.now number) }
+        ensures cause { IfErr result (IsUnfound self.now.trials.now.source.now self.now.trials.now.limit script.now number) }
         ensures sound { IfErr result (λ f. IsOwnFault f → ⊥) }
     {
-        let trials = self.trials;
-        if write_witness(self.alloc, trials, self.states, limit, script, claim, out)? {
+        if write_witness(self.alloc, self.trials, self.states, script, claim, out)? {
             Ok(())
         } else {
             Err(Untested::NoJournal(number))
@@ -335,32 +290,30 @@ impl<R: Threads + Wait + Sync> Tester<'_, '_, R> {
     }
 
     // Writes the journal of the run that shows the failure with this number.
-    #[tactic(auto, using(crate::proofs::Testing::unwritten, crate::proofs::Untold::of_run, crate::proofs::Untold::texts_unshown, crate::proofs::Untold::unshown_unwritten))]
+    #[tactic(auto, using(crate::proofs::Testing::unwritten, crate::proofs::Untold::of_script, crate::proofs::Untold::texts_unshown, crate::proofs::Untold::unshown_unwritten))]
     fn write_journal<W: Write>(
         &self,
         cases: &[CaseScripts],
         rows: &[Row],
         number: u64,
-        options: &TestOptions,
         out: &mut W,
     ) -> Result<(), Untested>
-        ensures ok { OnOk result ((x : Example) × (text : List ℕ) × (s : Summary) × (failure_at number rows.now ≡ Some x) × IsScript cases.now x text × Ran self.now.trials.now.source.now text (options_for options.now x) (W.contents out.old) (W.contents out.new) s) }
+        ensures ok { OnOk result ((x : Example) × (script : List ℕ) × (failure_at number rows.now ≡ Some x) × IsScript cases.now x script × HasShownFailure self.now.trials.now script (failing_claim number rows.now) (W.contents out.old) (W.contents out.new)) }
         ensures err { IfErr result (LeavesUntested (W.contents out.old) (W.contents out.new)) }
-        ensures cause { IfErr result (AreUnwritten self.now.trials.now.source.now options.now.limit (all_texts cases.now) (what.Journal number) rows.now) }
+        ensures cause { IfErr result (AreUnwritten self.now.trials.now.source.now self.now.trials.now.limit (all_texts cases.now) (what.Journal number) rows.now) }
         ensures sound { IfErr result (λ f. IsOwnFault f → ⊥) }
     {
         let Some(found) = failure_at(rows, number) else {
             return Err(Untested::NoFailure(number));
         };
         let script = script_at(cases, found)?;
+        let claim = failing_claim(rows, number);
         match found {
             Counterexample::Trial(shown) => {
-                self.write_run(script, &options_of(options, shown), out)
+                let order = shown.failure.order;
+                write_in_order(self.alloc, self.trials, order, script, claim, out)
             }
-            Counterexample::Schedule(_) => {
-                let claim = failing_claim(rows, number);
-                self.write_found(script, claim, number, options.limit, out)
-            }
+            Counterexample::Schedule(_) => self.write_found(script, claim, number, out),
         }
     }
 
@@ -375,7 +328,6 @@ impl<R: Threads + Wait + Sync> Tester<'_, '_, R> {
         options: &TestOptions,
         out: &mut W,
     ) -> Result<(), Untested>
-        requires limit { self.now.trials.now.limit ≡ options.now.limit }
         requires rows { rows.now ≡ rows_of report.now }
         ensures ok { OnOk result (Writes self.now.trials.now self.now.explains ways.now (named_of self.now.names.now) options.now cases.now report.now options.now.shown (W.contents out.old) (W.contents out.new)) }
         ensures err { IfErr result (LeavesUntested (W.contents out.old) (W.contents out.new)) }
@@ -385,7 +337,7 @@ impl<R: Threads + Wait + Sync> Tester<'_, '_, R> {
         match options.shown {
             Shown::Table => self.write_table(cases, ways, report, rows, options, out),
             Shown::Script(number) => self.write_script(cases, rows, number, out),
-            Shown::Journal(number) => self.write_journal(cases, rows, number, options, out),
+            Shown::Journal(number) => self.write_journal(cases, rows, number, out),
         }
     }
 
@@ -399,7 +351,6 @@ impl<R: Threads + Wait + Sync> Tester<'_, '_, R> {
         options: &TestOptions,
         out: &mut W,
     ) -> Result<usize, Untested>
-        requires limit { self.now.trials.now.limit ≡ options.now.limit }
         ensures ok { IfOk result (λ n. Writes self.now.trials.now self.now.explains ways.now (named_of self.now.names.now) options.now cases.now report.now options.now.shown (W.contents out.old) (W.contents out.new)) }
         ensures number { IfOk result (λ n. n ≡ failing (rows_of report.now)) }
         ensures err { IfErr result (LeavesUntested (W.contents out.old) (W.contents out.new)) }
@@ -453,7 +404,7 @@ fn tell_remarks<'t, 'a, R: Threads + Sync>(
 
 // Tries the ways of a test's cases, and writes what is wanted of it.
 #[tactic(auto, using(crate::proofs::Testing::unwritten, crate::proofs::Untold::untried_untold, crate::proofs::Untold::memory_untold))]
-fn try_and_write<'t, 'a, R: Threads + Wait + Sync, W: Write>(
+fn try_and_write<'t, 'a, R: Threads + Sync, W: Write>(
     rt: &'t R,
     alloc: Global,
     names: &'t Names<'t>,
@@ -509,7 +460,7 @@ fn add_end(alloc: Global, test: &mut Test<'_>) -> Result<(), AllocError>
 
 // Holds the claims of a test that was read, and that runs end by themselves, in these ways of its cases.
 #[tactic(auto, using(crate::proofs::Testing::unwritten))]
-fn hold<'t, 'a, R: Threads + Wait + Sync, W: Write>(
+fn hold<'t, 'a, R: Threads + Sync, W: Write>(
     rt: &R,
     alloc: Global,
     names: &'t Names<'t>,
@@ -578,7 +529,7 @@ fn known_of<'a>(alloc: Global, text: &'a [u8], others: &Answers) -> Result<Test<
 /// the limit is out of range, or memory is refused for what is tried; `Write` where memory for the text is refused or the output isn't taken whole; and
 /// `NoFailure` where one is to be shown that there isn't; and `NoJournal` where it is one that no order showed. Nothing is written then, but at a fault of the output a prefix of the text.
 #[tactic(auto, using(crate::proofs::Testing::unwritten, crate::proofs::Untold::unscripted_for, crate::proofs::Untold::unread_for))]
-pub fn test_text<R: Threads + Wait + Sync, W: Write>(
+pub fn test_text<R: Threads + Sync, W: Write>(
     rt: &R,
     alloc: Global,
     names: &Names<'_>,

@@ -2,7 +2,7 @@
 use Rattle.std.proofs.Common.{subst}
 use Rattle.std.specs.Io.KnownBytes.{Appends}
 use Rattle.orc_output.specs.Output.{AppendsPrefix}
-use Rattle.orc_run.proofs.Claiming.{is_told, is_untold}
+use Rattle.orc_run.proofs.Claiming.{is_told, is_untold, refused_for}
 use Rattle.orc_run.proofs.claims.claims_text.Goals as goal
 
 -- memory was refused for what is told
@@ -37,3 +37,7 @@ returns-clause-fault g c =
       is_told _ c.args.test.now c.args.script.now _ findings.text.items text.items findings.failing c.in-Ok.known judged.answers judged.journal judged.state judged.time c.in-Ok.ensures.says c.in-Ok-judge.ensures.judged c.in-Ok-findings_of.ensures.text c.in-Ok-text_of.ensures c.in-Ok-findings_of.ensures.failing,
       subst (AppendsPrefix (g.W.Write.contents c.args.out.now) (g.W.Write.contents c.write_text.new.out)) c.as_slice.ensures.value c.in-Err-write_text.ensures.err,
     )
+
+-- the test is one, and the journal was refused
+pub returns-in-Err-judge-clause-cause : goal.returns-in-Err-judge-clause-cause
+returns-in-Err-judge-clause-cause g c = refused_for c.args.source.now c.args.test.now c.args.script.now c.args.journal.now c.in-Ok.known c.in-Err-judge.fault c.in-Ok.ensures.says c.in-Err-judge.ensures.cause

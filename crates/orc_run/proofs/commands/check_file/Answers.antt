@@ -17,7 +17,7 @@ returns-then-not-is_asked-clause-done g c = elim c.match-check_read.branch [
         c.as_slice-then-not-is_asked.result.now,
         held_before _ _ _ _ refl c.as_slice.ensures.value c.in_ok-source.ensures.held,
         held_opened _ _ text (subst (λ o. Keeps o (g.F.Reader.Read.remaining c.in-Ok.reader)) (c.in_ok-source.ensures.same _) c.in-Ok.ensures.held) may,
-        read_before _ _ _ _ _ (λ at. c.in-Ok.ensures.same at ∙ c.in_ok-source.ensures.same at) c.as_slice-then-not-is_asked.ensures.value c.in_ok-answers.ensures.held,
+        read_before _ _ _ _ _ (λ at. c.in-Ok.ensures.same at ∙ c.in_ok-source.ensures.same at) c.as_slice-then-not-is_asked.ensures.value c.in_ok-script_text.ensures.held,
         judges,
         refl,
       )
@@ -28,7 +28,7 @@ returns-then-not-is_asked-clause-done g c = elim c.match-check_read.branch [
 pub returns-in-Ok-check_text-clause-done : goal.returns-in-Ok-check_text-clause-done
 returns-in-Ok-check_text-clause-done g c =
     let before = all_before _ _ _ _ _ _ _ _ _ _ _ _ c.in_ok-source.ensures.same c.in_ok-lines.ensures.same c.as_slice-2.ensures.value c.as_slice-4.ensures.value c.as_slice-3.ensures.value
-    c.in_ok-source.ensures.held c.in_ok-lines.ensures.held c.in_ok-answers-2.ensures.held in
+    c.in_ok-source.ensures.held c.in_ok-lines.ensures.held c.in_ok-script_text-2.ensures.held in
     (c.as_slice-2.result.now, c.as_slice-4.result.now, c.as_slice-3.result.now, before.0, before.1, before.2, c.in-Ok-check_text.ensures.judged, refl)
 
 pub returns-then-not-is_asked-clause-cause : goal.returns-then-not-is_asked-clause-cause
@@ -42,7 +42,7 @@ returns-then-not-is_asked-clause-cause g c = elim c.match-check_read.branch [
         c.as_slice-then-not-is_asked.result.now,
         held_before _ _ _ _ refl c.as_slice.ensures.value c.in_ok-source.ensures.held,
         held_opened _ _ text (subst (λ o. Keeps o (g.F.Reader.Read.remaining c.in-Ok.reader)) (c.in_ok-source.ensures.same _) c.in-Ok.ensures.held) may,
-        read_before _ _ _ _ _ (λ at. c.in-Ok.ensures.same at ∙ c.in_ok-source.ensures.same at) c.as_slice-then-not-is_asked.ensures.value c.in_ok-answers.ensures.held,
+        read_before _ _ _ _ _ (λ at. c.in-Ok.ensures.same at ∙ c.in_ok-source.ensures.same at) c.as_slice-then-not-is_asked.ensures.value c.in_ok-script_text.ensures.held,
         subst (IsUnchecked c.as_slice.result.now c.as_slice-then-not-is_asked.result.now text) w.in-Err-Fault.field-0-is cause,
       )
   | in-Err-Unread w ↦ rw w.result-is tt
@@ -51,5 +51,5 @@ returns-then-not-is_asked-clause-cause g c = elim c.match-check_read.branch [
 pub returns-clause-cause : goal.returns-clause-cause
 returns-clause-cause g c =
     let before = all_before _ _ _ _ _ _ _ _ _ _ _ _ c.in_ok-source.ensures.same c.in_ok-lines.ensures.same c.as_slice-2.ensures.value c.as_slice-4.ensures.value c.as_slice-3.ensures.value
-    c.in_ok-source.ensures.held c.in_ok-lines.ensures.held c.in_ok-answers-2.ensures.held in
+    c.in_ok-source.ensures.held c.in_ok-lines.ensures.held c.in_ok-script_text-2.ensures.held in
     (c.as_slice-2.result.now, c.as_slice-4.result.now, c.as_slice-3.result.now, before.0, before.1, before.2, c.in-Err-check_text.ensures.cause)

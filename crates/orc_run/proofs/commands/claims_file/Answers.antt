@@ -8,19 +8,19 @@ pub returns-in-Ok-clause-done : goal.returns-in-Ok-clause-done
 returns-in-Ok-clause-done g c =
     let before = four_before _ _ _ _ _ _ _ _ _ _ _ _ _ _ _ _ c.in_ok-source.ensures.same c.in_ok-lines.ensures.same c.in_ok-claims.ensures.same
     c.as_slice.ensures.value c.as_slice-4.ensures.value c.as_slice-2.ensures.value c.as_slice-3.ensures.value
-    c.in_ok-source.ensures.held c.in_ok-lines.ensures.held c.in_ok-claims.ensures.held c.in_ok-answers.ensures.held in
+    c.in_ok-source.ensures.held c.in_ok-lines.ensures.held c.in_ok-claims.ensures.held c.in_ok-script_text.ensures.held in
     (c.as_slice.result.now, c.as_slice-4.result.now, c.as_slice-2.result.now, c.as_slice-3.result.now, c.in-Ok.failing, before.0, before.1, before.2, before.3, c.in-Ok.ensures.claimed, c.claims_status.ensures)
 
 pub returns-in-Err-Test-clause-cause : goal.returns-in-Err-Test-clause-cause
 returns-in-Err-Test-clause-cause g c =
     let before = four_before _ _ _ _ _ _ _ _ _ _ _ _ _ _ _ _ c.in_ok-source.ensures.same c.in_ok-lines.ensures.same c.in_ok-claims.ensures.same
     c.as_slice.ensures.value c.as_slice-4.ensures.value c.as_slice-2.ensures.value c.as_slice-3.ensures.value
-    c.in_ok-source.ensures.held c.in_ok-lines.ensures.held c.in_ok-claims.ensures.held c.in_ok-answers.ensures.held in
+    c.in_ok-source.ensures.held c.in_ok-lines.ensures.held c.in_ok-claims.ensures.held c.in_ok-script_text.ensures.held in
     (c.as_slice.result.now, c.as_slice-4.result.now, c.as_slice-2.result.now, c.as_slice-3.result.now, before.0, before.1, before.2, before.3, subst (IsUnclaimedFor c.as_slice.result.now c.as_slice-2.result.now c.as_slice-3.result.now c.as_slice-4.result.now) c.in-Err-Test.field-0-is c.in-Err-Test.ensures.cause)
 
 pub returns-clause-cause : goal.returns-clause-cause
 returns-clause-cause g c =
     let before = four_before _ _ _ _ _ _ _ _ _ _ _ _ _ _ _ _ c.in_ok-source.ensures.same c.in_ok-lines.ensures.same c.in_ok-claims.ensures.same
     c.as_slice.ensures.value c.as_slice-4.ensures.value c.as_slice-2.ensures.value c.as_slice-3.ensures.value
-    c.in_ok-source.ensures.held c.in_ok-lines.ensures.held c.in_ok-claims.ensures.held c.in_ok-answers.ensures.held in
+    c.in_ok-source.ensures.held c.in_ok-lines.ensures.held c.in_ok-claims.ensures.held c.in_ok-script_text.ensures.held in
     (c.as_slice.result.now, c.as_slice-4.result.now, c.as_slice-2.result.now, c.as_slice-3.result.now, before.0, before.1, before.2, before.3, c.in-Err.ensures.cause)

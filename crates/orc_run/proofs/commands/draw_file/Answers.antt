@@ -7,17 +7,17 @@ use Rattle.orc_run.proofs.commands.draw_file.Goals as goal
 pub returns-in-Ok-clause-done : goal.returns-in-Ok-clause-done
 returns-in-Ok-clause-done g c =
     let before = all_before _ _ _ _ _ _ _ _ _ _ _ _ c.in_ok-source.ensures.same c.in_ok-text.ensures.same c.as_slice.ensures.value c.as_slice-3.ensures.value c.as_slice-2.ensures.value
-    c.in_ok-source.ensures.held c.in_ok-text.ensures.held c.in_ok-answers.ensures.held in
+    c.in_ok-source.ensures.held c.in_ok-text.ensures.held c.in_ok-script_text.ensures.held in
     (c.as_slice.result.now, c.as_slice-3.result.now, c.as_slice-2.result.now, before.0, before.1, before.2, c.in-Ok.ensures.drawn, refl)
 
 pub returns-in-Err-Fault-clause-cause : goal.returns-in-Err-Fault-clause-cause
 returns-in-Err-Fault-clause-cause g c =
     let before = all_before _ _ _ _ _ _ _ _ _ _ _ _ c.in_ok-source.ensures.same c.in_ok-text.ensures.same c.as_slice.ensures.value c.as_slice-3.ensures.value c.as_slice-2.ensures.value
-    c.in_ok-source.ensures.held c.in_ok-text.ensures.held c.in_ok-answers.ensures.held in
+    c.in_ok-source.ensures.held c.in_ok-text.ensures.held c.in_ok-script_text.ensures.held in
     (c.as_slice.result.now, c.as_slice-3.result.now, c.as_slice-2.result.now, before.0, before.1, before.2, subst (IsUndrawnFor c.as_slice.result.now c.as_slice-2.result.now c.as_slice-3.result.now) c.in-Err-Fault.field-0-is c.in-Err-Fault.ensures.cause)
 
 pub returns-clause-cause : goal.returns-clause-cause
 returns-clause-cause g c =
     let before = all_before _ _ _ _ _ _ _ _ _ _ _ _ c.in_ok-source.ensures.same c.in_ok-text.ensures.same c.as_slice.ensures.value c.as_slice-3.ensures.value c.as_slice-2.ensures.value
-    c.in_ok-source.ensures.held c.in_ok-text.ensures.held c.in_ok-answers.ensures.held in
+    c.in_ok-source.ensures.held c.in_ok-text.ensures.held c.in_ok-script_text.ensures.held in
     (c.as_slice.result.now, c.as_slice-3.result.now, c.as_slice-2.result.now, before.0, before.1, before.2, subst (IsUndrawnFor c.as_slice.result.now c.as_slice-2.result.now c.as_slice-3.result.now) c.in-Err-Rows.field-0-is c.in-Err-Rows.ensures.cause)

@@ -9,7 +9,7 @@ returns-in-Ok-clause-done g c = (
   c.as_slice.result.now,
   c.as_slice-2.result.now,
   held_before _ _ _ _ refl c.as_slice.ensures.value c.in_ok-source.ensures.held,
-  read_before _ _ _ _ _ c.in_ok-source.ensures.same c.as_slice-2.ensures.value c.in_ok-answers.ensures.held,
+  read_before _ _ _ _ _ c.in_ok-source.ensures.same c.as_slice-2.ensures.value c.in_ok-script_text.ensures.held,
   c.in-Ok.ensures.drawn,
   refl,
 )
@@ -19,7 +19,7 @@ returns-in-Err-Fault-clause-cause g c = (
   c.as_slice.result.now,
   c.as_slice-2.result.now,
   held_before _ _ _ _ refl c.as_slice.ensures.value c.in_ok-source.ensures.held,
-  read_before _ _ _ _ _ c.in_ok-source.ensures.same c.as_slice-2.ensures.value c.in_ok-answers.ensures.held,
+  read_before _ _ _ _ _ c.in_ok-source.ensures.same c.as_slice-2.ensures.value c.in_ok-script_text.ensures.held,
   subst (IsRunUndrawnFor c.as_slice.result.now c.as_slice-2.result.now c.args.run.now) c.in-Err-Fault.field-0-is c.in-Err-Fault.ensures.cause,
 )
 
@@ -28,6 +28,6 @@ returns-clause-cause g c = (
   c.as_slice.result.now,
   c.as_slice-2.result.now,
   held_before _ _ _ _ refl c.as_slice.ensures.value c.in_ok-source.ensures.held,
-  read_before _ _ _ _ _ c.in_ok-source.ensures.same c.as_slice-2.ensures.value c.in_ok-answers.ensures.held,
+  read_before _ _ _ _ _ c.in_ok-source.ensures.same c.as_slice-2.ensures.value c.in_ok-script_text.ensures.held,
   subst (IsRunUndrawnFor c.as_slice.result.now c.as_slice-2.result.now c.args.run.now) c.in-Err-Rows.field-0-is c.in-Err-Rows.ensures.cause,
 )

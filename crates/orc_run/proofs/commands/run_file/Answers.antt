@@ -9,7 +9,7 @@ returns-in-Ok-clause-done g c = (
   c.as_slice-2.result.now,
   c.in-Ok.played.summary,
   held_before _ _ _ _ refl c.as_slice.ensures.value c.in_ok-source.ensures.held,
-  read_before _ _ _ _ _ c.in_ok-source.ensures.same c.as_slice-2.ensures.value c.in_ok-answers.ensures.held,
+  read_before _ _ _ _ _ c.in_ok-source.ensures.same c.as_slice-2.ensures.value c.in_ok-script_text.ensures.held,
   c.in-Ok.ensures.ran,
   c.status.ensures,
 )

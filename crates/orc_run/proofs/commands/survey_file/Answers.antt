@@ -8,7 +8,7 @@ returns-in-Ok-clause-done g c = (
   c.as_slice.result.now,
   c.as_slice-2.result.now,
   held_before _ _ _ _ refl c.as_slice.ensures.value c.in_ok-source.ensures.held,
-  read_before _ _ _ _ _ c.in_ok-source.ensures.same c.as_slice-2.ensures.value c.in_ok-answers.ensures.held,
+  read_before _ _ _ _ _ c.in_ok-source.ensures.same c.as_slice-2.ensures.value c.in_ok-script_text.ensures.held,
   c.in-Ok.ensures.surveyed,
   refl,
 )

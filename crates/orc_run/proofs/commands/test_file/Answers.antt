@@ -8,23 +8,23 @@ use Rattle.orc_run.proofs.commands.test_file.Goals as goal
 pub returns-in-Ok-clause-done : goal.returns-in-Ok-clause-done
 returns-in-Ok-clause-done g c =
     let before = all_before _ _ _ _ _ _ _ _ _ _ _ _ c.in_ok-source.ensures.same c.in_ok-claims.ensures.same c.as_slice.ensures.value c.as_slice-2.ensures.value c.as_slice-3.ensures.value
-    c.in_ok-source.ensures.held c.in_ok-claims.ensures.held c.in_ok-answers.ensures.held in
+    c.in_ok-source.ensures.held c.in_ok-claims.ensures.held c.in_ok-script_text.ensures.held in
     (c.as_slice.result.now, c.as_slice-2.result.now, c.as_slice-3.result.now, is_asked c.args.explained.now, c.in-Ok.failing, before.0, before.1, before.2, c.in-Ok.ensures.tested, c.claims_status.ensures)
 
 pub returns-in-Err-Fault-Test-clause-cause : goal.returns-in-Err-Fault-Test-clause-cause
 returns-in-Err-Fault-Test-clause-cause g c =
     let before = all_before _ _ _ _ _ _ _ _ _ _ _ _ c.in_ok-source.ensures.same c.in_ok-claims.ensures.same c.as_slice.ensures.value c.as_slice-2.ensures.value c.as_slice-3.ensures.value
-    c.in_ok-source.ensures.held c.in_ok-claims.ensures.held c.in_ok-answers.ensures.held in
+    c.in_ok-source.ensures.held c.in_ok-claims.ensures.held c.in_ok-script_text.ensures.held in
     (c.as_slice.result.now, c.as_slice-2.result.now, c.as_slice-3.result.now, before.0, before.1, before.2, subst (IsTestFaultOf c.as_slice.result.now c.as_slice-2.result.now c.as_slice-3.result.now c.args.options.now) c.in-Err-Fault-Test.field-0-0-is (subst (IsUntestedFor c.as_slice.result.now c.as_slice-2.result.now c.as_slice-3.result.now c.args.options.now) c.in-Err-Fault-Test.field-0-is c.in-Err-Fault-Test.ensures.cause))
 
 pub returns-in-Err-Fault-clause-cause : goal.returns-in-Err-Fault-clause-cause
 returns-in-Err-Fault-clause-cause g c =
     let before = all_before _ _ _ _ _ _ _ _ _ _ _ _ c.in_ok-source.ensures.same c.in_ok-claims.ensures.same c.as_slice.ensures.value c.as_slice-2.ensures.value c.as_slice-3.ensures.value
-    c.in_ok-source.ensures.held c.in_ok-claims.ensures.held c.in_ok-answers.ensures.held in
+    c.in_ok-source.ensures.held c.in_ok-claims.ensures.held c.in_ok-script_text.ensures.held in
     (c.as_slice.result.now, c.as_slice-2.result.now, c.as_slice-3.result.now, before.0, before.1, before.2, subst (IsUntestedFor c.as_slice.result.now c.as_slice-2.result.now c.as_slice-3.result.now c.args.options.now) c.in-Err-Fault.field-0-is c.in-Err-Fault.ensures.cause)
 
 pub returns-in-Err-NoFailure-clause-cause : goal.returns-in-Err-NoFailure-clause-cause
 returns-in-Err-NoFailure-clause-cause g c =
     let before = all_before _ _ _ _ _ _ _ _ _ _ _ _ c.in_ok-source.ensures.same c.in_ok-claims.ensures.same c.as_slice.ensures.value c.as_slice-2.ensures.value c.as_slice-3.ensures.value
-    c.in_ok-source.ensures.held c.in_ok-claims.ensures.held c.in_ok-answers.ensures.held in
+    c.in_ok-source.ensures.held c.in_ok-claims.ensures.held c.in_ok-script_text.ensures.held in
     (c.as_slice.result.now, c.as_slice-2.result.now, c.as_slice-3.result.now, before.0, before.1, before.2, subst (IsUntestedFor c.as_slice.result.now c.as_slice-2.result.now c.as_slice-3.result.now c.args.options.now) c.in-Err-NoFailure.field-0-is c.in-Err-NoFailure.ensures.cause)

@@ -1,7 +1,10 @@
-use Rattle.std.proofs.Common.{arith, rules, subst, sym}
+use Rattle.std.proofs.Common.{arith, Err, Ok, refl, rules, subst, sym}
+use Rattle.std.specs.Prelude.{IfErr, Result}
 use Rattle.orc_orders.specs.Survey.{IsSurvey}
 use Rattle.orc_run.specs.Running.{IsOwnOf}
-use Rattle.orc_run.proofs.Showing.{other_left, other_written, seen_left, seen_written, there_is}
+use Rattle.orc_run.specs.Shown.{IsUnshownBy, IsUnshownFor}
+use Rattle.orc_run.specs.declared.shown.Unshown.{Unshown}
+use Rattle.orc_run.proofs.Showing.{none_with, other_left, other_written, seen_left, seen_written, there_is, unshown_for}
 use Rattle.orc_run.proofs.Told.{taken}
 use Rattle.orc_run.proofs.shown.show_text.Goals as goal
 
@@ -38,6 +41,26 @@ returns-clause-fault g c =
     let came = c.in_ok-loaded.ensures in
     other_left c.args.source.now c.args.script.now c.args.options.now.orders c.args.options.now.limit c.args.number loaded.program loaded.answers c.as_slice-seen.result.now came.says came.spells (subst (IsSurvey loaded.program loaded.answers c.args.options.now.limit c.args.options.now.orders) (sym c.as_slice-seen.ensures.value) came.survey)
     _ _ c.show_unseen.result (omega (arith, c.in_default.ensures.lookup.3, c.saturating_sub.ensures)) c.show_unseen.ensures.err
+
+-- fewer outcomes came up than the number says,
+pub returns-in-None-clause-cause : goal.returns-in-None-clause-cause
+returns-in-None-clause-cause g c =
+    let loaded = c.in_ok-loaded.loaded in
+    let came = c.in_ok-loaded.ensures in
+    none_with c.args.source.now c.args.script.now c.args.options.now.orders c.args.options.now.limit c.args.number loaded.program loaded.answers c.as_slice-seen.result.now came.says came.spells (subst (IsSurvey loaded.program loaded.answers c.args.options.now.limit c.args.options.now.orders) (sym c.as_slice-seen.ensures.value) came.survey)
+    c.args.number refl (omega (arith, c.in_default.ensures.lookup.3, c.saturating_sub.ensures))
+
+-- or a search found none to which no order came, or no run that has it
+pub returns-clause-cause : goal.returns-clause-cause
+returns-clause-cause g c = go c.show_unseen.result c.show_unseen.ensures.cause
+  where
+    go : (r : Result Unit Unshown) → IfErr r (IsUnshownBy c.args.number) → IfErr r (IsUnshownFor c.args.source.now c.args.script.now c.args.options.now.orders c.args.options.now.limit c.args.number)
+    go (Ok u) h = h
+    go (Err f) h =
+        let loaded = c.in_ok-loaded.loaded in
+        let came = c.in_ok-loaded.ensures in
+        unshown_for c.args.source.now c.args.script.now c.args.options.now.orders c.args.options.now.limit c.args.number loaded.program loaded.answers c.as_slice-seen.result.now came.says came.spells (subst (IsSurvey loaded.program loaded.answers c.args.options.now.limit c.args.options.now.orders) (sym c.as_slice-seen.ensures.value) came.survey)
+        f (omega (arith, c.in_default.ensures.lookup.3, c.saturating_sub.ensures)) h
 
 -- a fault of the engine's own comes of no program that was loaded
 pub returns-in_err-played-clause-sound : goal.returns-in_err-played-clause-sound
