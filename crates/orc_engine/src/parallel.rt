@@ -372,7 +372,9 @@ where
         let mean = tally.mean();
         if tally.long > tally.over {
             Trial::Long
-        } else if tally.over < tally.count / 2 || mean < LEAST_MEAN_ENTRIES.max(self.inputs.graph.len()) {
+        } else if tally.over < tally.count / 2
+            || mean < LEAST_MEAN_ENTRIES.max(self.inputs.graph.len())
+        {
             // A run begins with a copy of the program's graph.
             Trial::Vain
         } else {
@@ -402,7 +404,10 @@ where
             if count == 0 || room == 0 || room / count < mean {
                 break;
             }
-            let limit = mean.saturating_mul(TIMES_MEAN).clamp(1, MOST_RUN_ENTRIES).min(room);
+            let limit = mean
+                .saturating_mul(TIMES_MEAN)
+                .clamp(1, MOST_RUN_ENTRIES)
+                .min(room);
             let batch = &mut behind[..count];
             self.run_beside(scheduler, limit, before, batch)?;
             let tally = tally_of(batch);
